@@ -1,0 +1,26 @@
+-- The calls of an input or a sink in memory, some of which are to fail.
+use Rattle.std.specs.Prelude.{ℕ, ◌+◌, Bool, ◌&&◌, ◌==◌, nat_lt, min, List}
+use Rattle.std.specs.List.{list_any}
+use Rattle.inp_edge.specs.Count.{LAST, faults_after}
+
+-- the numbers of the calls that are to fail, from 0; how many were made; how many were at fault
+pub record Calls : Type 0 where
+  pub fails : List ℕ
+  pub made : ℕ
+  pub faults : ℕ
+
+-- the next call is to fail; a count that stands at its end is no call's number
+abbrev pub fails_next : Calls → Bool
+fails_next calls = nat_lt calls.made LAST && list_any (λ n. n == calls.made) calls.fails
+
+-- the calls after one more, which was at fault or was not
+abbrev pub one_more : Calls → Bool → Calls
+one_more calls at_fault = record {
+  fails = calls.fails;
+  made = min (calls.made + 1) LAST;
+  faults = faults_after calls.faults at_fault;
+}
+
+-- no call yet
+abbrev pub no_calls : List ℕ → Calls
+no_calls fails = record { fails = fails; made = 0; faults = 0 }

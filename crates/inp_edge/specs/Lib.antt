@@ -1,0 +1,9 @@
+pub mod Calls
+pub mod Count
+pub mod File
+pub mod FileInput
+pub mod Input
+pub mod MemInput
+pub mod MemSink
+pub mod ReadFault
+pub mod Sink

@@ -1,0 +1,60 @@
+// The calls of an input or a sink in memory, some of which are to fail.
+ghost use Rattle.std.specs.Prelude.{◌≡◌, ◌≤◌};
+ghost use Rattle.inp_edge.specs.Calls.{fails_next, one_more, no_calls};
+
+use crate::items::Items;
+use std::marker::Model;
+
+/// The numbers of the calls that are to fail, counted from 0. The greatest `u64`, at which the count
+/// of calls stays, is no call's number.
+pub type Fails = Items<u64>;
+
+// Which calls are to fail, and how many were made and were at fault.
+#[derive(Drop)]
+pub(crate) struct Calls {
+    fails: Fails,
+    made: u64,
+    faults: u64,
+}
+
+impl Model for Calls {
+    ghost use Rattle.inp_edge.specs.Calls.{Calls as CallsMade};
+
+    ghost Value = { CallsMade };
+
+    ghost view = { λ c. record { fails = c.fails; made = c.made; faults = c.faults } };
+}
+
+impl Calls {
+    pub(crate) fn new(fails: Fails) -> Calls
+        ensures { result ≡ no_calls fails }
+    {
+        Calls {
+            fails,
+            made: 0,
+            faults: 0,
+        }
+    }
+
+    pub(crate) fn fails_next(&self) -> bool
+        ensures { result ≡ fails_next self.now }
+    {
+        self.made < u64::MAX && self.fails.as_slice().contains(&self.made)
+    }
+
+    pub(crate) fn count(&mut self, at_fault: bool)
+        ensures after { self.new ≡ one_more self.old at_fault }
+        ensures never_falls { self.old.faults ≤ self.new.faults }
+    {
+        self.made = self.made.saturating_add(1);
+        if at_fault {
+            self.faults = self.faults.saturating_add(1);
+        }
+    }
+
+    pub(crate) fn faults(&self) -> u64
+        ensures { result ≡ self.now.faults }
+    {
+        self.faults
+    }
+}

@@ -1,0 +1,65 @@
+//! The edge of the program: where its bytes come from, where they go, and a gate before a job's
+//! calls.
+//!
+//! What stands above takes an [`Input`], a [`Sink`] and a [`Gate`], so that it can be proved of, and
+//! tested over, values in memory, and run over real files. The crate stands on std alone. Its rules
+//! are this project's own.
+//!
+//! # Reading
+//!
+//! An [`Input`] has files, which it reads by name, one at a time: [`Input::begin`] goes to the start
+//! of one, and [`Input::read`] takes the next bytes of it. [`read_all`] reads a whole file of at most
+//! [`INPUT_LIMIT`] bytes.
+//!
+//! - An input may tell contracts its files, and the bytes that are left. No call changes the files,
+//!   or what is told.
+//! - How many bytes were given since the last `begin` is always told.
+//! - A call answers [`Failed`] only where the input's count of faults rose, or where no file has the
+//!   name that was asked for. The count never falls.
+//!
+//! [`MemInput`] has its files in memory, tells all, and fails exactly at the calls that it was told
+//! to fail. [`FileInput`] reads real files and tells no bytes.
+//!
+//! # Writing
+//!
+//! A [`Sink`] takes bytes. It may tell contracts what was written. [`write_all`] writes all of a
+//! text; where it fails, what was written is a front part of it and not the whole. A call answers
+//! [`Failed`] only where the sink's count of faults rose. [`MemSink`] writes to memory and tells all;
+//! [`OutSink`] writes to the standard output and tells no bytes.
+//!
+//! # The gate
+//!
+//! A job calls its [`Gate`] before each of its calls, so that a test can order jobs. [`OpenGate`]
+//! lets each through at once.
+//!
+//! # What is not said
+//!
+//! Nothing is proved of real files or of the standard output beyond the count of faults. That
+//! `FileInput` and `OutSink` read and write at all is shown by tests alone.
+#![tactic(auto)]
+
+mod calls;
+mod fault;
+mod file_input;
+mod gate;
+mod input;
+mod items;
+mod mem_file;
+mod mem_input;
+mod mem_sink;
+mod out_sink;
+mod sink;
+#[cfg(test)]
+mod tests;
+
+pub use calls::Fails;
+pub use fault::{Failed, NoMemory, ReadFault};
+pub use file_input::FileInput;
+pub use gate::{Gate, OpenGate};
+pub use input::{INPUT_LIMIT, Input, read_all};
+pub use items::Items;
+pub use mem_file::{MemFile, MemFiles};
+pub use mem_input::MemInput;
+pub use mem_sink::MemSink;
+pub use out_sink::OutSink;
+pub use sink::{Sink, write_all};

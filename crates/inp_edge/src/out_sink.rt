@@ -1,0 +1,63 @@
+// A sink that is the standard output.
+ghost use Rattle.std.specs.Prelude.{◌≡◌, ◌≤◌, ◌<◌, None, length, is_err, IfOk};
+ghost use Rattle.inp_edge.specs.Count.{faults_after};
+
+use crate::fault::Failed;
+use crate::sink::Sink;
+use std::marker::Model;
+
+/// The standard output of a runtime, each call of which may fail.
+///
+/// It tells contracts no bytes: it is seen as its count of faults. Each error of the system is a fault,
+/// and so is a call that took nothing.
+#[derive(Drop)]
+pub struct OutSink<'a, R: Print> {
+    rt: &'a R,
+    faults: u64,
+}
+
+impl<'a, R: Print> Model for OutSink<'a, R> {
+    ghost use Rattle.std.specs.Prelude.{ℕ};
+
+    ghost Value = { ℕ };
+
+    ghost view = { λ s. s.faults };
+}
+
+impl<'a, R: Print> OutSink<'a, R> {
+    /// The standard output of this runtime.
+    pub fn new(rt: &'a R) -> OutSink<'a, R>
+        ensures { result ≡ 0 }
+    {
+        OutSink { rt, faults: 0 }
+    }
+
+    /// How many calls were at fault. It stays at the greatest `u64`.
+    pub fn faults(&self) -> u64
+        ensures { result ≡ self.now }
+    {
+        self.faults
+    }
+}
+
+impl<R: Print> Sink for OutSink<'_, R> {
+    ghost written = { λ _. None };
+
+    ghost faults = { λ s. s };
+
+    fn write(&mut self, buf: &[u8]) -> Result<usize, Failed>
+        requires { 0 < length buf.now }
+        ensures some { IfOk result (λ n. 0 < n) }
+        ensures fits { IfOk result (λ n. n ≤ length buf.now) }
+        ensures never_falls { self.old ≤ self.new }
+        ensures counts { self.new ≡ faults_after self.old (is_err result) }
+    {
+        match self.rt.write_some(buf) {
+            Ok(count) if count > 0 => Ok(count),
+            _ => {
+                self.faults = self.faults.saturating_add(1);
+                Err(Failed)
+            }
+        }
+    }
+}
