@@ -1,0 +1,5 @@
+pub mod BitsOf
+pub mod Differences
+pub mod FirstTrue
+pub mod Indices
+pub mod WordParts

@@ -1,0 +1,5 @@
+use Rattle.inp_bits.proofs.BitsOf.{bits_of-ones}
+use Rattle.inp_bits.proofs.bits.Bits.full.Goals as goal
+
+pub returns : goal.returns
+returns g c = bits_of-ones g.row.W
