@@ -1,0 +1,59 @@
+-- The laws of the tables, for the proofs of this crate and of those above it.
+use Rattle.std.proofs.Common.{◌≡◌, true, nat_eq, eqb-true, refl}
+use Rattle.std.specs.List.{list_all}
+use Rattle.inp_codes.specs.CodeNames.{code_entries, code_text, code_numbers, is_same_code, CodeTextsAreEntries, CodesAreOneToOne, CodeTextsAreWords}
+use Rattle.inp_codes.specs.KindNames.{kind_entries, kind_text, kind_number, KindTextsAreEntries, KindsAreOneToOne, KindTextsAreWords}
+use Rattle.inp_codes.specs.Table.{is_word}
+use Rattle.inp_codes.proofs.CodeNamesLemmas.{is_same_code-true}
+use Rattle.inp_codes.proofs.Computing.{event_codes}
+use Rattle.inp_codes.proofs.TableLemmas.{names_found, numbers_found, name_in-iff_entry, name_in-iff_number, is_word-name_in}
+
+-- the table of types finds the name and the number of each of its entries, and each name is a word
+kind_names_found : names_found nat_eq kind_entries kind_entries ≡ true
+unfolding event_codes
+kind_names_found = refl
+
+kind_numbers_found : numbers_found nat_eq kind_entries kind_entries ≡ true
+unfolding event_codes
+kind_numbers_found = refl
+
+kind_words : list_all (λ e. is_word e.1) kind_entries ≡ true
+unfolding event_codes
+kind_words = refl
+
+-- the table of codes does too
+code_names_found : names_found is_same_code code_entries code_entries ≡ true
+unfolding event_codes
+code_names_found = refl
+
+code_numbers_found : numbers_found is_same_code code_entries code_entries ≡ true
+unfolding event_codes
+code_numbers_found = refl
+
+code_words : list_all (λ e. is_word e.1) code_entries ≡ true
+unfolding event_codes
+code_words = refl
+
+pub kind_text-iff_entry : KindTextsAreEntries
+unfolding kind_text
+kind_text-iff_entry = name_in-iff_entry nat_eq eqb-true kind_entries kind_names_found
+
+pub kind_text-iff_kind_number : KindsAreOneToOne
+unfolding kind_text kind_number
+kind_text-iff_kind_number = name_in-iff_number nat_eq eqb-true kind_entries kind_names_found kind_numbers_found
+
+pub is_word-kind_text : KindTextsAreWords
+unfolding kind_text
+is_word-kind_text = is_word-name_in nat_eq eqb-true kind_entries kind_words
+
+pub code_text-iff_entry : CodeTextsAreEntries
+unfolding code_text
+code_text-iff_entry kind code = name_in-iff_entry is_same_code is_same_code-true code_entries code_names_found (kind, code)
+
+pub code_text-iff_code_numbers : CodesAreOneToOne
+unfolding code_text code_numbers
+code_text-iff_code_numbers kind code = name_in-iff_number is_same_code is_same_code-true code_entries code_names_found code_numbers_found (kind, code)
+
+pub is_word-code_text : CodeTextsAreWords
+unfolding code_text
+is_word-code_text kind code = is_word-name_in is_same_code is_same_code-true code_entries code_words (kind, code)

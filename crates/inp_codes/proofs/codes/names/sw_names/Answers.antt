@@ -1,0 +1,8 @@
+use Rattle.std.proofs.Common.{refl}
+use Rattle.inp_codes.proofs.Computing.{event_codes}
+use Rattle.inp_codes.proofs.codes.names.sw_names.Goals as goal
+
+-- the two lists compute to one
+pub returns : goal.returns
+unfolding event_codes
+returns c = refl

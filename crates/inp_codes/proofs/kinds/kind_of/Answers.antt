@@ -1,0 +1,7 @@
+use Rattle.std.proofs.Common.{◌∙◌}
+use Rattle.inp_codes.specs.KindNames.{kind_number}
+use Rattle.inp_codes.proofs.kinds.kind_of.Goals as goal
+
+pub returns : goal.returns
+unfolding kind_number
+returns c = c.find_number.ensures ∙ c.kind_rows.ensures.numbers c.args.text.now

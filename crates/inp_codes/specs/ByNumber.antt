@@ -1,0 +1,28 @@
+-- Names laid out so that a number is the index of its name.
+use Rattle.std.specs.Prelude.{ℕ, zero, suc, ◌+◌, ◌-◌, List, [], ◌∷◌, ◌++◌, map, replicate, Option, Some, None}
+use Rattle.std.specs.Borrow.{Bor}
+use Rattle.inp_codes.specs.Table.{Entry}
+
+-- the texts that references point to
+abbrev pub texts : List (Bor (List ℕ)) → List (List ℕ)
+texts names = map (λ name. name.now) names
+
+-- the names of entries whose numbers rise, from the number `first` on; an empty text stands for each number that has none
+unfoldable pub indexed_from : ℕ → List (Entry ℕ) → List (List ℕ)
+indexed_from first [] = []
+indexed_from first (e ∷ es) = replicate (e.0 - first) [] ++ e.1 ∷ indexed_from (e.0 + 1) es
+
+-- the same from 0 on, so that each name's index is its number
+abbrev pub indexed : List (Entry ℕ) → List (List ℕ)
+indexed = indexed_from 0
+
+-- a text, unless it is empty
+abbrev pub unless_empty : List ℕ → Option (List ℕ)
+unless_empty [] = None
+unless_empty (b ∷ bs) = Some (b ∷ bs)
+
+-- the name at an index, if one stands there
+unfoldable pub indexed_name : List (List ℕ) → ℕ → Option (List ℕ)
+indexed_name [] i = None
+indexed_name (t ∷ ts) zero = unless_empty t
+indexed_name (t ∷ ts) (suc i) = indexed_name ts i

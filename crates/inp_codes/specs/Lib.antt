@@ -1,0 +1,5 @@
+pub mod ByName
+pub mod ByNumber
+pub mod CodeNames
+pub mod KindNames
+pub mod Table

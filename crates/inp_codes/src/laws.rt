@@ -1,0 +1,21 @@
+//! What holds of the tables as a whole. Each function is a law: it does nothing, and its contract is
+//! proved of the definitions that the contracts of the look-ups name.
+ghost use Rattle.inp_codes.specs.CodeNames.{CodeTextsAreEntries, CodesAreOneToOne, CodeTextsAreWords};
+ghost use Rattle.inp_codes.specs.KindNames.{KindTextsAreEntries, KindsAreOneToOne, KindTextsAreWords};
+
+/// The law of event types: those that `kind_name` names are the entries of the table, `kind_of` is its
+/// inverse, and each name is a word of upper-case letters, digits and underscores that begins with a
+/// letter.
+pub fn kinds_are_one_to_one()
+    ensures entries { KindTextsAreEntries }
+    ensures one_to_one { KindsAreOneToOne }
+    ensures words { KindTextsAreWords }
+{}
+
+/// The law of codes: those that `name_of` names are the entries of the table, `code_of` is its inverse,
+/// and each name is a word of upper-case letters, digits and underscores that begins with a letter.
+pub fn codes_are_one_to_one()
+    ensures entries { CodeTextsAreEntries }
+    ensures one_to_one { CodesAreOneToOne }
+    ensures words { CodeTextsAreWords }
+{}
