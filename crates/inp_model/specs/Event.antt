@@ -1,0 +1,30 @@
+-- What an event is about.
+use Rattle.std.specs.Prelude.{ℕ, pos, Bool, ◌&&◌, not, nat_eq}
+use Rattle.std.specs.Ordering.{int_eq}
+use Rattle.inp_model.specs.declared.event.TheConstants.{EV_SYN, SYN_REPORT, SYN_DROPPED}
+use Rattle.inp_model.specs.declared.event.Event.{Event}
+use Rattle.inp_model.specs.Description.{Description, supports}
+
+-- it ends a frame
+abbrev pub is_report : Event → Bool
+is_report e = nat_eq e.kind EV_SYN && nat_eq e.code SYN_REPORT
+
+-- it is about this code of this type, which the device supports
+abbrev pub is_on : Description → ℕ → ℕ → Event → Bool
+is_on d kind code e = supports d kind code && (nat_eq e.kind kind && nat_eq e.code code)
+
+-- of a key: an autorepeat, which changes no state
+abbrev pub is_repeat : Event → Bool
+is_repeat e = int_eq e.value (pos 2)
+
+-- of a key and the like: down, on
+abbrev pub is_set : Event → Bool
+is_set e = not (int_eq e.value (pos 0))
+
+-- the report that ends a frame cut because it was full
+abbrev pub packet_report : Event
+packet_report = record { kind = EV_SYN; code = SYN_REPORT; value = pos 1 }
+
+-- what tells a client that it lost events
+abbrev pub loss : Event
+loss = record { kind = EV_SYN; code = SYN_DROPPED; value = pos 0 }

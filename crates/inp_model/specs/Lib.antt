@@ -1,0 +1,11 @@
+pub mod Description
+pub mod Event
+pub mod State
+pub mod Passed
+pub mod History
+pub mod Frame
+pub mod Queue
+pub mod Reply
+pub mod Run
+pub mod Log
+pub mod Examples

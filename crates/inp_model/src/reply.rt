@@ -1,0 +1,40 @@
+//! What a device answers to a step.
+ghost use Rattle.std.specs.Prelude.{◌≡◌};
+ghost use Rattle.inp_model.specs.Reply.{is_accepted};
+
+/// The answer to a step. In an accepted one `at` is the step's place in the history. In `Again` and `Refused` it is
+/// the history's length, and the step is not entered.
+#[derive(Clone, Copy, Debug, PartialEq, Eq)]
+pub enum Reply {
+    /// The step was done.
+    Done { at: u32 },
+    /// The client was opened: its number, and the number of places of its ring.
+    Opened { at: u32, client: u32, ring: u32 },
+    /// So many events were read, and stand at the front of the caller's buffer.
+    Took { at: u32, count: u32 },
+    /// Nothing is visible to the client (evdev's -EAGAIN). `ends` is how many sources are done.
+    Again { at: u32, ends: u32 },
+    /// The step was refused, and nothing changed.
+    Refused { at: u32, why: Refusal },
+}
+
+/// Why a step was refused.
+#[derive(Clone, Copy, Debug, PartialEq, Eq)]
+pub enum Refusal {
+    /// The named client is not open.
+    BadClient,
+    /// Memory ran out while a client was opened.
+    NoMemory,
+}
+
+impl Reply {
+    /// Whether the step was entered in the history.
+    pub fn is_accepted(self) -> bool
+        ensures accepted { result ≡ is_accepted self }
+    {
+        match self {
+            Reply::Done { .. } | Reply::Opened { .. } | Reply::Took { .. } => true,
+            Reply::Again { .. } | Reply::Refused { .. } => false,
+        }
+    }
+}

@@ -1,0 +1,16 @@
+//! The steps that a device makes.
+
+use crate::Event;
+
+/// One step on a device. A device's history is the list of the steps that it accepted.
+///
+/// A client is named by the number of `Open` steps before its own, so no number is used twice.
+#[derive(Clone, Copy, Debug, PartialEq, Eq)]
+pub enum Step {
+    /// The driver injects an event at a moment in microseconds, at most `MOMENT_MAX` (the kernel's `input_event`).
+    Inject { event: Event, now: u64 },
+    /// A client is opened (evdev's `open`).
+    Open,
+    /// A client reads at most `count` of its visible events (evdev's `read`).
+    Read { client: u32, count: u32 },
+}

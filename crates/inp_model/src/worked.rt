@@ -1,0 +1,24 @@
+//! What the definitions compute on short histories.
+ghost use Rattle.inp_model.specs.Examples.{RingOf128, ReadsAFrame, PassesAChangeOnce, ReadsNothing, NeedsAClient, ReadsNone, ReadsInParts, HidesAnOpenBatch, OffersAWholeFrame, PassesARepeat, KeepsTheKeyUp, IgnoresOthers, CutsAFullPacket, LosesAFullRing, LosesInAFrame, KeepsAllButOne, IsLegalAmongOthers};
+
+/// What the definitions of this crate compute on short histories that were worked out by hand. It does nothing: its
+/// contract is the point.
+pub fn examples()
+    ensures ring { RingOf128 }
+    ensures frame { ReadsAFrame }
+    ensures change { PassesAChangeOnce }
+    ensures again { ReadsNothing }
+    ensures client { NeedsAClient }
+    ensures none { ReadsNone }
+    ensures parts { ReadsInParts }
+    ensures batch { HidesAnOpenBatch }
+    ensures late { OffersAWholeFrame }
+    ensures repeat { PassesARepeat }
+    ensures key_up { KeepsTheKeyUp }
+    ensures ignored { IgnoresOthers }
+    ensures packet { CutsAFullPacket }
+    ensures full { LosesAFullRing }
+    ensures in_frame { LosesInAFrame }
+    ensures in_time { KeepsAllButOne }
+    ensures run { IsLegalAmongOthers }
+{}
