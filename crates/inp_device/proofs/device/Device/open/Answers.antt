@@ -1,0 +1,18 @@
+use Rattle.std.proofs.Common.{◌<◌, length, reverse, ap, ◌∙◌, rules}
+use Rattle.std.proofs.lemmas.List.{length-reverse}
+use Rattle.inp_model.specs.declared.step.Step.TheVariants.{Open}
+use Rattle.inp_model.specs.History.{opens}
+use Rattle.inp_model.specs.Log.{Log}
+use Rattle.inp_device.proofs.Keeping.{keeps_pushed, keeps_opened, below_limit}
+use Rattle.inp_device.proofs.device.Device.open.Goals as goal
+
+pub invariant_of-self : goal.invariant_of-self
+invariant_of-self c =
+    let steps = c.self.inside.steps.items in
+    let below : length (reverse steps) < 1048576 = below_limit _ _ c.self.view_is c.requires.below_limit in
+    let same = length-reverse steps in (
+      keeps_pushed c.self.inside.batch _ steps c.push.new.self.items Open (search rules)
+          (keeps_opened _ _ c.self.inside.client _ c.self.invariant.0 (ap (λ (l : Log). opens l.past) c.self.view_is ∙ c.requires.one_client) c.in-Ok.ensures.empty),
+      search rules,
+      search rules,
+    )

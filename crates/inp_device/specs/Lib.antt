@@ -1,0 +1,4 @@
+pub mod Batch
+pub mod Queue
+pub mod Kept
+pub mod Steps
