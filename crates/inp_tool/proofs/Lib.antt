@@ -1,0 +1,10 @@
+pub mod Doing
+pub mod Names
+pub mod Numerals
+pub mod Parts
+pub mod Playing
+pub mod Readings
+pub mod Splits
+pub mod Histories
+pub mod Promised
+pub mod Playable

@@ -1,0 +1,163 @@
+-- A record that is read from bytes keeps what a player asks for.
+use Rattle.std.proofs.Common.{◌≡◌, ℕ, suc, ◌+◌, ◌-◌, ◌≤◌, ℤ, Bool, true, false, ◌&&◌, ◌||◌, not, if◌then◌else◌, nat_le, List, [], ◌∷◌, length, codes, bytes_eq, refl, sym, ap, subst, ◌∙◌, arith, Option, Some, None, option_map, option_and_then, Result, Ok, Err}
+use Rattle.std.specs.List.{list_all, count_by}
+use Rattle.std.proofs.lemmas.List.Sums.{sum_by-cons}
+use Rattle.std.proofs.lemmas.Bool.Decides.{nat_tests}
+use Rattle.inp_model.specs.declared.stamped.TheConstants.{MOMENT_MAX}
+use Rattle.inp_tool.specs.declared.line.Line.{Line}
+use Rattle.inp_tool.specs.declared.line.Line.TheVariants.{Event as Injects, Open as Opens, Read as Reads}
+use Rattle.inp_tool.specs.declared.record.Record.{Record}
+use Rattle.inp_tool.specs.Numeral.{is_numeral, value_of, number, signed}
+use Rattle.inp_tool.specs.Record.{pieces, words, word, ◌>>=◌, kind_and_code, event_of, is_command, line_of, is_open, in_place, lines_from, fixed, named, meaning}
+use Rattle.inp_tool.specs.Line.{is_in_range, IsPlayable}
+
+-- the value of a step that went well
+bind_ok : {A B : Type 0} (r : Result A ℕ) (f : A → Result B ℕ) (y : B) → (r >>= f) ≡ Ok y → (x : A) × (r ≡ Ok x) × (f x ≡ Ok y)
+bind_ok (Ok x) f y h = (x, refl, h)
+bind_ok (Err line) f y h = cc
+
+ok_is : {A : Type 0} (x y : A) → (let r : Result A ℕ = Ok x in r ≡ Ok y) → x ≡ y
+ok_is x y h = cc
+
+number_within : (most : ℕ) (w : List ℕ) (n : ℕ) → number most w ≡ Some n → nat_le n most ≡ true
+unfolding number
+number_within most w n h = by_tests (is_numeral w) (nat_le (value_of w) most) refl h
+  where
+    by_tests : (a b : Bool) → nat_le (value_of w) most ≡ b → (if a && b then Some (value_of w) else None) ≡ Some n → nat_le n most ≡ true
+    by_tests true true t h = ap (λ m. nat_le m most) (sym (some_is h)) ∙ t
+      where
+        some_is : Some (value_of w) ≡ Some n → value_of w ≡ n
+        some_is p = cc
+    by_tests true false t h = cc
+    by_tests false b t h = cc
+
+reads_in_range : (o : Option ℕ) (item : Line) → ((n : ℕ) → o ≡ Some n → nat_le n 4096 ≡ true) → option_map (λ n. Reads n) o ≡ Some item → is_in_range item ≡ true
+reads_in_range None item within h = cc
+reads_in_range (Some n) item within h = subst (λ l. is_in_range l ≡ true) (some_is h) (within n refl)
+  where
+    some_is : Some (Reads n) ≡ Some item → Reads n ≡ item
+    some_is p = cc
+
+injects_in_range : (o : Option ℕ) (what : Option (ℕ × ℕ)) (value : Option ℤ) (item : Line) → ((n : ℕ) → o ≡ Some n → nat_le n MOMENT_MAX ≡ true)
+    → option_and_then (λ now. option_and_then (λ what. option_map (λ v. Injects (record { event = record { kind = what.0; code = what.1; value = v }; now = now })) value) what) o ≡ Some item
+    → is_in_range item ≡ true
+injects_in_range None what value item within h = cc
+injects_in_range (Some now) None value item within h = cc
+injects_in_range (Some now) (Some what) None item within h = cc
+injects_in_range (Some now) (Some what) (Some v) item within h = subst (λ l. is_in_range l ≡ true) (some_is h) (within now refl)
+  where
+    some_is : Some (Injects (record { event = record { kind = what.0; code = what.1; value = v }; now = now })) ≡ Some item → Injects (record { event = record { kind = what.0; code = what.1; value = v }; now = now }) ≡ item
+    some_is p = cc
+
+line_in_range : (source tap : List ℕ) (ws : List (List ℕ)) (item : Line) → line_of source tap ws ≡ Some item → is_in_range item ≡ true
+unfolding line_of
+line_in_range source tap ws item h =
+    by_tests (is_command ws 3 tap (codes "open")) (is_command ws 4 tap (codes "read")) (is_command ws 7 source (codes "event")) h
+  where
+    by_tests : (a b c : Bool) → (if a then Some Opens else if b then option_map (λ n. Reads n) (number 4096 (word 3 ws)) else if c then event_of (word 3 ws) (word 4 ws) (word 5 ws) (word 6 ws) else None) ≡ Some item → is_in_range item ≡ true
+    by_tests true b c h = subst (λ l. is_in_range l ≡ true) (some_is h) refl
+      where
+        some_is : Some Opens ≡ Some item → Opens ≡ item
+        some_is p = cc
+    by_tests false true c h = reads_in_range (number 4096 (word 3 ws)) item (λ n. number_within 4096 (word 3 ws) n) h
+    by_tests false false true h = injects_in_range (number MOMENT_MAX (word 3 ws)) (kind_and_code (word 4 ws) (word 5 ws)) (signed (word 6 ws)) item (λ n. number_within MOMENT_MAX (word 3 ws) n) h
+    by_tests false false false h = cc
+
+record IsPlaced (opened : Bool) (line : ℕ) (found : Option Line) (item : Line) : Type 0 where
+  pub is : found ≡ Some item
+  pub within : line ≤ 4096
+  pub once : (opened && is_open item) ≡ false
+
+is_placed : (opened : Bool) (line : ℕ) (found : Option Line) (item : Line) → in_place opened line found ≡ Ok item → IsPlaced opened line found item
+is_placed opened line None item h = cc
+is_placed opened line (Some other) item h = by_tests (nat_le line 4096) (opened && is_open other) refl refl h
+  where
+    by_tests : (a b : Bool) → nat_le line 4096 ≡ a → (opened && is_open other) ≡ b → (if a && not b then Ok other else Err line) ≡ Ok item → IsPlaced opened line (Some other) item
+    by_tests true false p q h = let same : other ≡ item = ok_is other item h in record { is = ap Some same; within = grind (arith, nat_tests, p); once = ap (λ l. opened && is_open l) (sym same) ∙ q }
+    by_tests true true p q h = cc
+    by_tests false b p q h = cc
+
+pub record CanBeLines (opened : Bool) (line : ℕ) (items : List Line) : Type 0 where
+  pub in_range : list_all is_in_range items ≡ true
+  pub one_open : count_by is_open items ≤ (if opened then 0 else 1)
+  pub few : length items ≤ 4097 - line
+
+count-more : (item : Line) (items : List Line) → count_by is_open (item ∷ items) ≡ (if is_open item then 1 else 0) + count_by is_open items
+count-more item items = sum_by-cons (λ x. if is_open x then 1 else 0) item items
+
+one_open-more : (opened opens : Bool) (n : ℕ) → (opened && opens) ≡ false → n ≤ (if opened || opens then 0 else 1) → (if opens then 1 else 0) + n ≤ (if opened then 0 else 1)
+one_open-more true true n h le = cc
+one_open-more true false n h le = omega (arith, le)
+one_open-more false true n h le = omega (arith, le)
+one_open-more false false n h le = omega (arith, le)
+
+none_can_be : (opened : Bool) (line : ℕ) (items : List Line) → [] ≡ items → CanBeLines opened line items
+none_can_be opened line items h = subst (λ ls. CanBeLines opened line ls) h (record { in_range = refl; one_open = omega arith; few = omega arith })
+
+lines_can_be : (source tap : List ℕ) (opened : Bool) (line : ℕ) (rest : List (List ℕ)) (items : List Line) → lines_from source tap opened line rest ≡ Ok items → CanBeLines opened line items
+unfolding lines_from
+lines_can_be source tap opened line [] items h = none_can_be opened line items (ok_is [] items h)
+lines_can_be source tap opened line (text ∷ []) items h = by_test (bytes_eq text []) h
+  where
+    by_test : (b : Bool) → (if b then Ok [] else Err line) ≡ Ok items → CanBeLines opened line items
+    by_test true h = none_can_be opened line items (ok_is [] items h)
+    by_test false h = cc
+lines_can_be source tap opened line (text ∷ next ∷ more) items h =
+    let found = line_of source tap (words text) in
+    let first = bind_ok (in_place opened line found) (λ item. lines_from source tap (opened || is_open item) (suc line) (next ∷ more) >>= λ items. Ok (item ∷ items)) items h in
+    let item = first.0 in
+    let placed = is_placed opened line found item first.1 in
+    let others = bind_ok (lines_from source tap (opened || is_open item) (suc line) (next ∷ more)) (λ items. Ok (item ∷ items)) items first.2 in
+    let ok = lines_can_be source tap (opened || is_open item) (suc line) (next ∷ more) others.0 others.1 in
+    let range : is_in_range item ≡ true = line_in_range source tap (words text) item placed.is in
+    subst (λ ls. CanBeLines opened line ls) (ok_is (item ∷ others.0) items others.2) (record {
+      in_range = ap (λ b. b && list_all is_in_range others.0) range ∙ ok.in_range;
+      one_open = subst (λ n. n ≤ (if opened then 0 else 1)) (sym (count-more item others.0)) (one_open-more opened (is_open item) (count_by is_open others.0) placed.once ok.one_open);
+      few = omega (arith, ok.few, placed.within);
+    })
+
+-- The parts of a record's meaning, from the last one on.
+abbrev Named : Type 0
+Named = List ℕ × List (List ℕ)
+
+abbrev with_lines : Named → Named → Named → List Line → Result Record ℕ
+with_lines device source tap lines = Ok (record { device = device.0; source = source.0; tap = tap.0; lines = lines })
+
+abbrev lines_behind : Named → Named → Result (List Line) ℕ
+lines_behind source tap = if bytes_eq source.0 tap.0 then Err 5 else lines_from source.0 tap.0 false 6 tap.1
+
+abbrev from_tap : Named → Named → Named → Result Record ℕ
+from_tap device source tap = lines_behind source tap >>= with_lines device source tap
+
+abbrev from_source : Named → Named → Result Record ℕ
+from_source device source = named 5 (codes "tap") source.1 >>= from_tap device source
+
+abbrev from_cap : Named → List (List ℕ) → Result Record ℕ
+from_cap device rest = named 4 (codes "source") rest >>= from_source device
+
+abbrev from_device : Named → Result Record ℕ
+from_device device = fixed 3 (codes "cap EV_KEY KEY_A") device.1 >>= from_cap device
+
+abbrev from_header : List (List ℕ) → Result Record ℕ
+from_header rest = named 2 (codes "device") rest >>= from_device
+
+playable_lines : (source tap : Named) (lines : List Line) → lines_behind source tap ≡ Ok lines → IsPlayable lines
+playable_lines source tap lines h = by_test (bytes_eq source.0 tap.0) h
+  where
+    by_test : (b : Bool) → (if b then Err 5 else lines_from source.0 tap.0 false 6 tap.1) ≡ Ok lines → IsPlayable lines
+    by_test true h = cc
+    by_test false h =
+        let can = lines_can_be source.0 tap.0 false 6 tap.1 lines h in
+        record { in_range = can.in_range; one_open = can.one_open; few = omega (arith, can.few) }
+
+-- a record that the bytes are can be played
+pub is_playable : (bytes : List ℕ) (r : Record) → meaning bytes ≡ Ok r → IsPlayable r.lines
+unfolding meaning
+is_playable bytes r h =
+    let header = bind_ok (fixed 1 (codes "inputrecord 1") (pieces bytes)) from_header r h in
+    let device = bind_ok (named 2 (codes "device") header.0) from_device r header.2 in
+    let cap = bind_ok (fixed 3 (codes "cap EV_KEY KEY_A") device.0.1) (from_cap device.0) r device.2 in
+    let source = bind_ok (named 4 (codes "source") cap.0) (from_source device.0) r cap.2 in
+    let tap = bind_ok (named 5 (codes "tap") source.0.1) (from_tap device.0 source.0) r source.2 in
+    let lines = bind_ok (lines_behind source.0 tap.0) (with_lines device.0 source.0 tap.0) r tap.2 in
+    subst (λ (r : Record). IsPlayable r.lines) (ok_is _ r lines.2) (playable_lines source.0 tap.0 lines.0 lines.1)

@@ -1,0 +1,11 @@
+pub mod Name
+pub mod Numeral
+pub mod Record
+pub mod RecordExamples
+pub mod Line
+pub mod Play
+pub mod Job
+pub mod Report
+pub mod Player
+pub mod Outcome
+pub mod Promise

@@ -1,0 +1,134 @@
+-- Which bytes are a record, and else which line is the first that breaks its form.
+--
+--   inputrecord 1
+--   device NAME
+--   cap EV_KEY KEY_A
+--   source NAME
+--   tap NAME                      (another name than the source's)
+--   do TAP open                   (at most once; these lines in any order and number)
+--   do TAP read COUNT
+--   do SOURCE event MOMENT EV_KEY KEY_A VALUE
+--   do SOURCE event MOMENT EV_SYN SYN_REPORT VALUE
+--
+-- One space stands between two words, a line feed ends each line, and there are at most 4,096 lines.
+use Rattle.std.specs.Prelude.{ℕ, suc, ◌≡◌, Bool, true, false, ◌&&◌, ◌||◌, not, if◌then◌else◌, nat_eq, nat_le, List, [], ◌∷◌, codes, bytes_eq, length, slice_index_or, Option, Some, None, option_map, option_and_then, Result, Ok, Err}
+use Rattle.std.specs.List.{slice_split}
+use Rattle.inp_model.specs.declared.event.TheConstants.{EV_SYN, EV_KEY, SYN_REPORT, KEY_A}
+use Rattle.inp_model.specs.declared.stamped.TheConstants.{MOMENT_MAX}
+use Rattle.inp_tool.specs.declared.line.Line.{Line}
+use Rattle.inp_tool.specs.declared.line.Line.TheVariants.{Event as Injects, Open as Opens, Read as Reads}
+use Rattle.inp_tool.specs.declared.record.Record.{Record}
+use Rattle.inp_tool.specs.declared.refused.ParseFault.{ParseFault}
+use Rattle.inp_tool.specs.declared.refused.ParseFault.TheVariants.{Refused as IsRefused, NoMemory}
+use Rattle.inp_tool.specs.declared.refused.Cause.TheVariants.{NotBuilt}
+use Rattle.inp_tool.specs.Name.{is_name}
+use Rattle.inp_tool.specs.Numeral.{number, signed}
+
+-- what stands between line feeds; the last piece is what stands behind the last one
+abbrev pub pieces : List ℕ → List (List ℕ)
+pieces bytes = slice_split (λ b. nat_eq b 10) bytes
+
+abbrev pub words : List ℕ → List (List ℕ)
+words text = slice_split (λ b. nat_eq b 32) text
+
+infixl 10 ◌>>=◌
+abbrev pub ◌>>=◌ : {A B : Type 0} → Result A ℕ → (A → Result B ℕ) → Result B ℕ
+(Ok x) >>= f = f x
+(Err line) >>= f = Err line
+
+-- the text of a line that is there and ends in a line feed, with the pieces behind it; else its number
+abbrev pub whole : ℕ → List (List ℕ) → Result (List ℕ × List (List ℕ)) ℕ
+whole line [] = Err line
+whole line (text ∷ []) = Err line
+whole line (text ∷ next ∷ more) = Ok (text, next ∷ more)
+
+-- a line with exactly this text, and the pieces behind it
+unfoldable pub fixed : ℕ → List ℕ → List (List ℕ) → Result (List (List ℕ)) ℕ
+fixed line wanted rest = do
+  found ← whole line rest
+  if bytes_eq found.0 wanted then Ok found.1 else Err line
+
+abbrev pub word : ℕ → List (List ℕ) → List ℕ
+word i ws = slice_index_or ws i []
+
+-- so many words, and the one at this place is this one
+abbrev pub is_word : List (List ℕ) → ℕ → List ℕ → Bool
+is_word ws i wanted = bytes_eq (word i ws) wanted
+
+-- a line of a keyword and a name: the name, and the pieces behind it
+unfoldable pub named : ℕ → List ℕ → List (List ℕ) → Result (List ℕ × List (List ℕ)) ℕ
+named line keyword rest = do
+  found ← whole line rest
+  let ws = words found.0
+  if nat_eq (length ws) 2 && is_word ws 0 keyword && is_name (word 1 ws) then Ok (word 1 ws, found.1) else Err line
+
+-- the type and the code of an event that may be injected
+abbrev pub kind_and_code : List ℕ → List ℕ → Option (ℕ × ℕ)
+kind_and_code kind code =
+    if bytes_eq kind (codes "EV_KEY") && bytes_eq code (codes "KEY_A") then Some (EV_KEY, KEY_A)
+    else if bytes_eq kind (codes "EV_SYN") && bytes_eq code (codes "SYN_REPORT") then Some (EV_SYN, SYN_REPORT)
+    else None
+
+-- an injected event, by the words of its moment, type, code and value
+abbrev pub event_of : List ℕ → List ℕ → List ℕ → List ℕ → Option Line
+event_of moment kind code value =
+    option_and_then (λ now. option_and_then (λ what. option_map (λ v.
+    Injects (record { event = record { kind = what.0; code = what.1; value = v }; now = now }))
+    (signed value)) (kind_and_code kind code)) (number MOMENT_MAX moment)
+
+-- a line of so many words that has an actor do this
+abbrev pub is_command : List (List ℕ) → ℕ → List ℕ → List ℕ → Bool
+is_command ws count actor verb =
+    nat_eq (length ws) count && is_word ws 0 (codes "do") && is_word ws 1 actor && is_word ws 2 verb
+
+-- what an action line means by itself
+unfoldable pub line_of : List ℕ → List ℕ → List (List ℕ) → Option Line
+line_of source tap ws =
+    if is_command ws 3 tap (codes "open") then Some Opens
+    else if is_command ws 4 tap (codes "read") then option_map (λ n. Reads n) (number 4096 (word 3 ws))
+    else if is_command ws 7 source (codes "event") then event_of (word 3 ws) (word 4 ws) (word 5 ws) (word 6 ws)
+    else None
+
+abbrev pub is_open : Line → Bool
+is_open Opens = true
+is_open (Injects stamped) = false
+is_open (Reads count) = false
+
+-- what an action line means in its place: there is no second open, and no line behind line 4,096
+abbrev pub in_place : Bool → ℕ → Option Line → Result Line ℕ
+in_place opened line None = Err line
+in_place opened line (Some item) = if nat_le line 4096 && not (opened && is_open item) then Ok item else Err line
+
+-- the action lines from this line on, where an open stands before it or not
+unfoldable pub lines_from : List ℕ → List ℕ → Bool → ℕ → List (List ℕ) → Result (List Line) ℕ
+lines_from source tap opened line [] = Ok []
+lines_from source tap opened line (text ∷ []) = if bytes_eq text [] then Ok [] else Err line
+lines_from source tap opened line (text ∷ next ∷ more) = do
+  item ← in_place opened line (line_of source tap (words text))
+  items ← lines_from source tap (opened || is_open item) (suc line) (next ∷ more)
+  Ok (item ∷ items)
+
+-- the record that the bytes are, or the number of the first line that breaks the form
+unfoldable pub meaning : List ℕ → Result Record ℕ
+meaning bytes = do
+  behind_header ← fixed 1 (codes "inputrecord 1") (pieces bytes)
+  device ← named 2 (codes "device") behind_header
+  behind_cap ← fixed 3 (codes "cap EV_KEY KEY_A") device.1
+  source ← named 4 (codes "source") behind_cap
+  tap ← named 5 (codes "tap") source.1
+  lines ← if bytes_eq source.0 tap.0 then Err 5 else lines_from source.0 tap.0 false 6 tap.1
+  Ok (record { device = device.0; source = source.0; tap = tap.0; lines = lines })
+
+-- what a reader of bytes, or of a part of them, gives: what they mean, or their first wrong line, unless memory ran out
+abbrev pub Gives : {A : Type 0} → Result A ParseFault → Result A ℕ → Type 0
+Gives (Ok found) read = read ≡ Ok found
+Gives (Err NoMemory) read = Unit {0}
+Gives (Err (IsRefused refused)) read = (read ≡ Err refused.line) × (refused.cause ≡ NotBuilt)
+
+-- bytes are at most one record
+abbrev pub HasOneMeaning : Type 0
+HasOneMeaning = (bytes : List ℕ) (r s : Record) → meaning bytes ≡ Ok r → meaning bytes ≡ Ok s → r ≡ s
+
+-- bytes that are a record have no wrong line
+abbrev pub HasNoWrongLine : Type 0
+HasNoWrongLine = (bytes : List ℕ) (r : Record) (line : ℕ) → meaning bytes ≡ Ok r → meaning bytes ≡ Err line → ⊥

@@ -1,0 +1,104 @@
+-- The text of the report. A line ends with a line feed, and one space stands between two words.
+use Rattle.std.specs.Prelude.{ℕ, Bool, false, ◌&&◌, if◌then◌else◌, nat_eq, List, [], ◌∷◌, ◌++◌, length, codes, decimal, flat_map}
+use Rattle.std.specs.List.{count_by}
+use Rattle.std.specs.Fmt.{signed_decimal}
+use Rattle.inp_model.specs.declared.event.TheConstants.{EV_SYN, EV_KEY, SYN_REPORT, SYN_DROPPED, KEY_A}
+use Rattle.inp_model.specs.declared.event.Event.{Event}
+use Rattle.inp_model.specs.declared.step.Step.{Step}
+use Rattle.inp_model.specs.declared.step.Step.TheVariants.{Inject, Open, Read}
+use Rattle.inp_model.specs.declared.reply.Reply.{Reply}
+use Rattle.inp_model.specs.declared.reply.Reply.TheVariants.{Done, Opened, Took as Taking, Again as Nothing, Refused}
+use Rattle.inp_model.specs.declared.reply.Refusal.{Refusal}
+use Rattle.inp_model.specs.declared.reply.Refusal.TheVariants.{BadClient, NoMemory}
+use Rattle.inp_model.specs.Reply.{is_accepted}
+use Rattle.inp_tool.specs.declared.sight.Sight.{Sight}
+use Rattle.inp_tool.specs.declared.sight.Sight.TheVariants.{Call, Took, Again}
+use Rattle.inp_tool.specs.declared.run.JobEnd.{JobEnd}
+use Rattle.inp_tool.specs.declared.run.Run.{Run}
+use Rattle.inp_tool.specs.declared.run.Stop.{Stop}
+use Rattle.inp_tool.specs.declared.run.Stop.TheVariants.{Finished}
+use Rattle.inp_tool.specs.declared.record.Record.{Record}
+use Rattle.inp_tool.specs.declared.line.TheConstants.{SOURCE}
+
+abbrev pub LINE_FEED : List ℕ
+LINE_FEED = 10 ∷ []
+
+-- types and codes by name where they have one here, else in decimal
+unfoldable pub kind_text : ℕ → List ℕ
+kind_text kind =
+    if nat_eq kind EV_SYN then codes "EV_SYN"
+    else if nat_eq kind EV_KEY then codes "EV_KEY"
+    else decimal kind
+
+unfoldable pub code_text : ℕ → ℕ → List ℕ
+code_text kind code =
+    if nat_eq kind EV_SYN && nat_eq code SYN_REPORT then codes "SYN_REPORT"
+    else if nat_eq kind EV_SYN && nat_eq code SYN_DROPPED then codes "SYN_DROPPED"
+    else if nat_eq kind EV_KEY && nat_eq code KEY_A then codes "KEY_A"
+    else decimal code
+
+-- KIND CODE VALUE
+unfoldable pub event_text : Event → List ℕ
+event_text e = kind_text e.kind ++ (codes " " ++ (code_text e.kind e.code ++ (codes " " ++ signed_decimal e.value)))
+
+unfoldable pub step_text : Step → List ℕ
+step_text (Inject e now) = codes "inject " ++ (decimal now ++ (codes " " ++ event_text e))
+step_text Open = codes "open"
+step_text (Read client count) = codes "read " ++ (decimal client ++ (codes " " ++ decimal count))
+
+unfoldable pub refusal_text : Refusal → List ℕ
+refusal_text BadClient = codes "bad-client"
+refusal_text NoMemory = codes "no-memory"
+
+unfoldable pub reply_text : Reply → List ℕ
+reply_text (Done at) = codes "done " ++ decimal at
+reply_text (Opened at client places) = codes "opened " ++ (decimal at ++ (codes " " ++ (decimal client ++ (codes " " ++ decimal places))))
+reply_text (Taking at count) = codes "took " ++ (decimal at ++ (codes " " ++ decimal count))
+reply_text (Nothing at ends) = codes "again " ++ decimal at
+reply_text (Refused at why) = codes "refused " ++ (decimal at ++ (codes " " ++ refusal_text why))
+
+-- one line for each entry of a sight
+unfoldable pub sight_line : Sight → List ℕ
+sight_line (Call x reply) = codes "call " ++ (step_text x ++ (codes " reply " ++ (reply_text reply ++ LINE_FEED)))
+sight_line (Took t) = codes "took " ++ (decimal t.place ++ (codes " " ++ (decimal t.time ++ (codes " " ++ (event_text t.event ++ LINE_FEED)))))
+sight_line (Again at ends) = codes "again " ++ (decimal at ++ LINE_FEED)
+
+unfoldable pub stop_text : Stop → List ℕ
+stop_text Finished = codes "finished"
+
+abbrev pub is_accepted_call : Sight → Bool
+is_accepted_call (Call x reply) = is_accepted reply
+is_accepted_call (Took t) = false
+is_accepted_call (Again at ends) = false
+
+-- device NAME steps N
+unfoldable pub device_line : List ℕ → ℕ → List ℕ
+device_line name steps = codes "device " ++ (name ++ (codes " steps " ++ (decimal steps ++ LINE_FEED)))
+
+-- source NAME calls N stop STOP, of its accepted calls
+unfoldable pub source_line : List ℕ → ℕ → Stop → List ℕ
+source_line name calls stop = codes "source " ++ (name ++ (codes " calls " ++ (decimal calls ++ (codes " stop " ++ (stop_text stop ++ LINE_FEED)))))
+
+-- tap NAME
+unfoldable pub tap_line : List ℕ → List ℕ
+tap_line name = codes "tap " ++ (name ++ LINE_FEED)
+
+-- the keys that are down
+unfoldable pub keys_line : Bool → List ℕ
+keys_line down = codes "keys" ++ ((if down then codes " KEY_A" else []) ++ LINE_FEED)
+
+-- stop STOP
+unfoldable pub stop_line : Stop → List ℕ
+stop_line stop = codes "stop " ++ (stop_text stop ++ LINE_FEED)
+
+abbrev pub job_text : Record → JobEnd → List ℕ
+job_text r job =
+    if nat_eq job.actor SOURCE then source_line r.source (count_by is_accepted_call job.sight) job.stop
+    else tap_line r.tap ++ (flat_map sight_line job.sight ++ (keys_line job.down ++ stop_line job.stop))
+
+-- a device, then its jobs in order
+abbrev pub run_text : Record → Run → List ℕ
+run_text r run = device_line r.device (length run.history) ++ flat_map (job_text r) run.jobs
+
+unfoldable pub report : Record → List Run → List ℕ
+report r runs = flat_map (run_text r) runs
