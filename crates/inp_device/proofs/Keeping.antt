@@ -1,142 +1,221 @@
 -- What a device keeps stands for its past after each step.
-use Rattle.std.proofs.Common.{◌≡◌, ℕ, suc, ◌<◌, min, true, false, if◌then◌else◌, nat_eq, List, [], ◌∷◌, ◌++◌, length, map, drop, reverse, refl, sym, ap, subst, ◌∙◌, add-zero, Option, Some, None, option_to_list, option_map}
+use Rattle.std.proofs.Common.{◌≡◌, ℕ, suc, ◌+◌, ◌<◌, min, Bool, true, false, if◌then◌else◌, nat_eq, nat_le, List, [], ◌∷◌, ◌++◌, length, map, drop, reverse, refl, sym, ap, subst, ◌∙◌, Option, Some, None, option_to_list, option_map}
+use Rattle.std.proofs.lemmas.Bool.{leb-false}
 use Rattle.std.proofs.lemmas.List.{append-nil, drop-map, reverse-append}
+use Rattle.inp_model.specs.declared.event.TheConstants.{EV_KEY, EV_SW, EV_LED, EV_SND}
 use Rattle.inp_model.specs.declared.event.Event.{Event}
 use Rattle.inp_model.specs.declared.taken.Taken.{Taken}
 use Rattle.inp_model.specs.declared.step.Step.{Step}
-use Rattle.inp_model.specs.declared.step.Step.TheVariants.{Inject, Open, Read}
-use Rattle.inp_model.specs.Description.{one_key}
+use Rattle.inp_model.specs.declared.step.Step.TheVariants.{Inject, Open, Read, GetKeys, GetSwitches, GetLeds, GetSounds, GetAxis}
+use Rattle.inp_model.specs.Description.{Description, ring}
 use Rattle.inp_model.specs.History.{raw, opens, is_open}
 use Rattle.inp_model.specs.Frame.{Frame, place, cut, cuts, ended}
 use Rattle.inp_model.specs.Queue as model
-use Rattle.inp_model.specs.Queue.{Entry, lost, lost_entry, put_all, visible, offered, entry, entries, queue}
+use Rattle.inp_model.specs.Queue.{Entry, lost, lost_entry, put_all, visible, flushed, offered, entry, entries, queue}
 use Rattle.inp_model.specs.Log.{Log}
 use Rattle.inp_model.specs.Reply.{taken_of}
-use Rattle.inp_device.specs.Batch.{Gathered, StandsFor, Gathers}
-use Rattle.inp_device.specs.Queue.{event_of, taken_at, offered_to}
+use Rattle.inp_state.specs.State.{Values, StandsFor}
+use Rattle.inp_device.specs.Batch.{Gathered, IsGathered, Gathers}
+use Rattle.inp_device.specs.Queue.{Queued, event_of, taken_at, offered as after_offer, offered_to, without, flushed_of}
 use Rattle.inp_device.specs.Kept.{HasQueue, IsKept}
+use Rattle.inp_device.specs.Steps.{Asks}
 use Rattle.inp_device.proofs.Clients.{one_open}
-use Rattle.inp_device.proofs.Queues.{put_all-map, visible-map}
+use Rattle.inp_device.proofs.Queues.{put_all-map, visible-map, flush-map}
 
 -- the frame that an event ends
 abbrev frame_of : List Step → Event → ℕ → List Event → Frame
 frame_of past e now events = record { events = events; until = e ∷ raw past; before = past; moment = now }
 
-ended-by_cut : (past : List Step) (e : Event) (now : ℕ) (frame : Option (List Event)) → cut one_key (raw past) e ≡ frame → ended one_key past (Inject e now) ≡ option_to_list (option_map (frame_of past e now) frame)
+ended-by_cut : (d : Description) (past : List Step) (e : Event) (now : ℕ) (frame : Option (List Event)) → cut d (raw past) e ≡ frame → ended d past (Inject e now) ≡ option_to_list (option_map (frame_of past e now) frame)
 unfolding cuts
-ended-by_cut past e now frame h =
-    append-nil (option_to_list (option_map (frame_of past e now) (cut one_key (raw past) e)))
+ended-by_cut d past e now frame h =
+    append-nil (option_to_list (option_map (frame_of past e now) (cut d (raw past) e)))
     ∙ ap (λ o. option_to_list (option_map (frame_of past e now) o)) h
 
-map-entry : (f : Frame) (events : List Event) → map taken_of (map (entry one_key 0 f) events) ≡ map (taken_at f.moment (place f)) events
-map-entry f [] = refl
-map-entry f (e ∷ events) =
-    ap (λ t. taken_at t (place f) e ∷ map taken_of (map (entry one_key 0 f) events)) (add-zero f.moment)
-    ∙ ap (λ ts. taken_at f.moment (place f) e ∷ ts) (map-entry f events)
+map-entry : (d : Description) (f : Frame) (events : List Event) → map taken_of (map (entry d 0 f) events) ≡ map (taken_at (f.moment + d.realtime) (place f)) events
+map-entry d f [] = refl
+map-entry d f (e ∷ events) = ap (λ ts. taken_at (f.moment + d.realtime) (place f) e ∷ ts) (map-entry d f events)
 
 -- the first client is offered the frame where it is open
-entries-one : (f : Frame) → is_open f.before 0 ≡ true → map taken_of (entries one_key 0 (f ∷ [])) ≡ map (taken_at f.moment (place f)) f.events
-entries-one f h =
-    ap (map taken_of) (append-nil (map (entry one_key 0 f) (offered one_key 0 f)))
-    ∙ ap (λ b. map taken_of (map (entry one_key 0 f) (if b then f.events else []))) h
-    ∙ map-entry f f.events
+entries-one : (d : Description) (f : Frame) → is_open f.before 0 ≡ true → map taken_of (entries d 0 (f ∷ [])) ≡ map (taken_at (f.moment + d.realtime) (place f)) f.events
+entries-one d f h =
+    ap (map taken_of) (append-nil (map (entry d 0 f) (offered d 0 f)))
+    ∙ ap (λ b. map taken_of (map (entry d 0 f) (if b then f.events else []))) h
+    ∙ map-entry d f f.events
 
-queue-inject : (past : List Step) (e : Event) (now : ℕ) → queue one_key (Inject e now ∷ past) 0 ≡ put_all model.event_of lost_entry 128 (queue one_key past 0) (entries one_key 0 (ended one_key past (Inject e now)))
+queue-inject : (d : Description) (past : List Step) (e : Event) (now : ℕ) → queue d (Inject e now ∷ past) 0 ≡ put_all model.event_of lost_entry (ring d) (queue d past 0) (entries d 0 (ended d past (Inject e now)))
 unfolding queue
-queue-inject past e now = refl
+queue-inject d past e now = refl
 
-queue-no_frame : (past : List Step) (e : Event) (now : ℕ) → cut one_key (raw past) e ≡ None → queue one_key (Inject e now ∷ past) 0 ≡ queue one_key past 0
-queue-no_frame past e now h =
-    queue-inject past e now
-    ∙ ap (λ fs. put_all model.event_of lost_entry 128 (queue one_key past 0) (entries one_key 0 fs)) (ended-by_cut past e now None h)
+queue-no_frame : (d : Description) (past : List Step) (e : Event) (now : ℕ) → cut d (raw past) e ≡ None → queue d (Inject e now ∷ past) 0 ≡ queue d past 0
+queue-no_frame d past e now h =
+    queue-inject d past e now
+    ∙ ap (λ fs. put_all model.event_of lost_entry (ring d) (queue d past 0) (entries d 0 fs)) (ended-by_cut d past e now None h)
 
-queue-frame : (past : List Step) (e : Event) (now : ℕ) (events : List Event) → opens past ≡ 1 → cut one_key (raw past) e ≡ Some events
-    → map taken_of (queue one_key (Inject e now ∷ past) 0) ≡ put_all event_of lost 128 (map taken_of (queue one_key past 0)) (map (taken_at now (length past)) events)
-queue-frame past e now events one h =
-    let q = queue one_key past 0 in
-    ap (map taken_of) (queue-inject past e now)
-    ∙ ap (λ fs. map taken_of (put_all model.event_of lost_entry 128 q (entries one_key 0 fs))) (ended-by_cut past e now (Some events) h)
-    ∙ put_all-map (entries one_key 0 (frame_of past e now events ∷ [])) q
-    ∙ ap (put_all event_of lost 128 (map taken_of q)) (entries-one (frame_of past e now events) (one_open past 0 one))
+queue-frame : (d : Description) (past : List Step) (e : Event) (now : ℕ) (events : List Event) → opens past ≡ 1 → cut d (raw past) e ≡ Some events
+    → map taken_of (queue d (Inject e now ∷ past) 0) ≡ put_all event_of lost (ring d) (map taken_of (queue d past 0)) (map (taken_at (now + d.realtime) (length past)) events)
+queue-frame d past e now events one h =
+    let q = queue d past 0 in
+    ap (map taken_of) (queue-inject d past e now)
+    ∙ ap (λ fs. map taken_of (put_all model.event_of lost_entry (ring d) q (entries d 0 fs))) (ended-by_cut d past e now (Some events) h)
+    ∙ put_all-map (ring d) (entries d 0 (frame_of past e now events ∷ [])) q
+    ∙ ap (put_all event_of lost (ring d) (map taken_of q)) (entries-one d (frame_of past e now events) (one_open past 0 one))
+
+-- a queue in a ring of the described places
+abbrev of_ring : Description → List Taken → Queued
+of_ring d events = record { places = ring d; events = events }
 
 -- An event that ends no frame
 
-has_queue_waiting : (client : Option (List Taken)) (past : List Step) (e : Event) (now : ℕ) → HasQueue client past → cut one_key (raw past) e ≡ None → HasQueue client (Inject e now ∷ past)
+has_queue_waiting : (d : Description) (client : Option Queued) (past : List Step) (e : Event) (now : ℕ) → HasQueue d client past → cut d (raw past) e ≡ None → HasQueue d client (Inject e now ∷ past)
 unfolding opens
-has_queue_waiting None past e now has h = has
-has_queue_waiting (Some kept) past e now has h = (has.0, has.1 ∙ ap (map taken_of) (sym (queue-no_frame past e now h)))
+has_queue_waiting d None past e now has h = has
+has_queue_waiting d (Some kept) past e now has h = (has.0, has.1 ∙ ap (λ q. of_ring d (map taken_of q)) (sym (queue-no_frame d past e now h)))
 
-pub keeps_waiting : (past : List Step) (e : Event) (now : ℕ) (old new : Gathered) (client : Option (List Taken)) → IsKept old client past → Gathers (raw past) e false new → IsKept new client (Inject e now ∷ past)
+pub keeps_waiting : (d : Description) (past : List Step) (e : Event) (now : ℕ) (old new : Gathered) (client : Option Queued) → IsKept d old client past → Gathers d (raw past) e false new → IsKept d new client (Inject e now ∷ past)
 unfolding raw
-keeps_waiting past e now old new client kept gathers = record {
-  gathered = record { down = gathers.down; events = gathers.events };
-  queued = has_queue_waiting client past e now kept.queued gathers.frame;
+keeps_waiting d past e now old new client kept gathers = record {
+  gathered = record { state = gathers.state; events = gathers.events; hint = gathers.hint; least = kept.gathered.least };
+  queued = has_queue_waiting d client past e now kept.queued gathers.frame;
 }
 
 -- An event that ends a frame
 
-has_queue_offered : (client : Option (List Taken)) (past : List Step) (e : Event) (now : ℕ) (events : List Event) → HasQueue client past → cut one_key (raw past) e ≡ Some events → HasQueue (offered_to client events now (length past)) (Inject e now ∷ past)
+has_queue_offered : (d : Description) (client : Option Queued) (past : List Step) (e : Event) (now : ℕ) (events : List Event) → HasQueue d client past → cut d (raw past) e ≡ Some events → HasQueue d (offered_to client events (now + d.realtime) (length past)) (Inject e now ∷ past)
 unfolding opens
-has_queue_offered None past e now events has h = has
-has_queue_offered (Some kept) past e now events has h =
-    (has.0, ap (λ q. put_all event_of lost 128 q (map (taken_at now (length past)) events)) has.1 ∙ sym (queue-frame past e now events has.0 h))
+has_queue_offered d None past e now events has h = has
+has_queue_offered d (Some kept) past e now events has h =
+    (has.0, ap (λ q. after_offer q events (now + d.realtime) (length past)) has.1 ∙ ap (of_ring d) (sym (queue-frame d past e now events has.0 h)))
 
-pub keeps_frame : (past : List Step) (e : Event) (now : ℕ) (old whole new : Gathered) (client after : Option (List Taken)) → IsKept old client past → Gathers (raw past) e true whole → new.down ≡ whole.down → new.events ≡ []
-    → after ≡ offered_to client whole.events now (length past) → IsKept new after (Inject e now ∷ past)
+pub keeps_frame : (d : Description) (past : List Step) (e : Event) (now : ℕ) (old whole new : Gathered) (client after : Option Queued) → IsKept d old client past → Gathers d (raw past) e true whole → new.state ≡ whole.state → new.hint ≡ whole.hint → new.events ≡ []
+    → after ≡ offered_to client whole.events (now + d.realtime) (length past) → IsKept d new after (Inject e now ∷ past)
 unfolding raw
-keeps_frame past e now old whole new client after kept gathers down none offers = record {
-  gathered = record { down = down ∙ gathers.down; events = none ∙ sym gathers.events };
-  queued = subst (λ c. HasQueue c (Inject e now ∷ past)) (sym offers) (has_queue_offered client past e now whole.events kept.queued gathers.frame);
+keeps_frame d past e now old whole new client after kept gathers state hint none offers = record {
+  gathered = record {
+    state = subst (λ (s : Values). StandsFor d (e ∷ raw past) s) (sym state) gathers.state;
+    events = none ∙ sym gathers.events;
+    hint = hint ∙ gathers.hint;
+    least = kept.gathered.least;
+  };
+  queued = subst (λ c. HasQueue d c (Inject e now ∷ past)) (sym offers) (has_queue_offered d client past e now whole.events kept.queued gathers.frame);
 }
 
 -- Opening
 
-pub keeps_opened : (past : List Step) (batch : Gathered) (client : Option (List Taken)) (kept : List Taken) → IsKept batch client past → opens past ≡ 0 → kept ≡ [] → IsKept batch (Some kept) (Open ∷ past)
+pub keeps_opened : (d : Description) (past : List Step) (batch : Gathered) (client : Option Queued) (kept : Queued) → IsKept d batch client past → opens past ≡ 0 → kept ≡ of_ring d [] → IsKept d batch (Some kept) (Open ∷ past)
 unfolding raw opens queue
-keeps_opened past batch client kept was none empty = record {
+keeps_opened d past batch client kept was none empty = record {
   gathered = was.gathered;
-  queued = (ap suc none, empty ∙ ap (λ n. map taken_of (if nat_eq n 0 then [] else queue one_key past 0)) (sym none));
+  queued = (ap suc none, empty ∙ ap (λ n. of_ring d (map taken_of (if nat_eq n 0 then [] else queue d past 0))) (sym none));
 }
 
 -- Reading
 
-queue-read : (past : List Step) (count : ℕ) → map taken_of (queue one_key (Read 0 count ∷ past) 0) ≡ drop (min count (visible event_of (map taken_of (queue one_key past 0)))) (map taken_of (queue one_key past 0))
+queue-read : (d : Description) (past : List Step) (count : ℕ) → map taken_of (queue d (Read 0 count ∷ past) 0) ≡ drop (min count (visible event_of (map taken_of (queue d past 0)))) (map taken_of (queue d past 0))
 unfolding queue
-queue-read past count =
-    let q = queue one_key past 0 in
+queue-read d past count =
+    let q = queue d past 0 in
     sym (drop-map taken_of (min count (visible model.event_of q)) q)
     ∙ ap (λ n. drop (min count n) (map taken_of q)) (sym (visible-map q))
 
-has_queue_read : (past : List Step) (count : ℕ) (own : List Taken) → HasQueue (Some own) past → HasQueue (Some (drop (min count (visible event_of own)) own)) (Read 0 count ∷ past)
-unfolding opens
-has_queue_read past count own has =
-    (has.0, ap (λ q. drop (min count (visible event_of q)) q) has.1 ∙ sym (queue-read past count))
+-- a queue without so many of its oldest events
+abbrev pub behind : ℕ → Queued → Queued
+behind n own = record own { events = drop n own.events }
 
-pub keeps_read : (past : List Step) (client count taken : ℕ) (batch : Gathered) (kept : Option (List Taken)) (own rest : List Taken) → IsKept batch kept past → kept ≡ Some own → client ≡ 0 → taken ≡ min count (visible event_of own) → rest ≡ drop taken own
-    → IsKept batch (Some rest) (Read client count ∷ past)
+has_queue_read : (d : Description) (past : List Step) (count : ℕ) (own : Queued) → HasQueue d (Some own) past → HasQueue d (Some (behind (min count (visible event_of own.events)) own)) (Read 0 count ∷ past)
+unfolding opens
+has_queue_read d past count own has =
+    (has.0, ap (λ (q : Queued). behind (min count (visible event_of q.events)) q) has.1 ∙ ap (of_ring d) (sym (queue-read d past count)))
+
+pub keeps_read : (d : Description) (past : List Step) (client count taken : ℕ) (batch : Gathered) (kept : Option Queued) (own rest : Queued) → IsKept d batch kept past → kept ≡ Some own → client ≡ 0 → taken ≡ min count (visible event_of own.events) → rest ≡ behind taken own
+    → IsKept d batch (Some rest) (Read client count ∷ past)
 unfolding raw
-keeps_read past client count taken batch kept own rest was some first chosen left = record {
+keeps_read d past client count taken batch kept own rest was some first chosen left = record {
   gathered = was.gathered;
   queued =
-      subst (λ n. HasQueue (Some rest) (Read n count ∷ past)) (sym first)
-      (subst (λ q. HasQueue (Some q) (Read 0 count ∷ past)) (ap (λ n. drop n own) (sym chosen) ∙ sym left)
-      (has_queue_read past count own (subst (λ k. HasQueue k past) some was.queued)));
+      subst (λ n. HasQueue d (Some rest) (Read n count ∷ past)) (sym first)
+      (subst (λ q. HasQueue d (Some q) (Read 0 count ∷ past)) (ap (λ n. behind n own) (sym chosen) ∙ sym left)
+      (has_queue_read d past count own (subst (λ k. HasQueue d k past) some was.queued)));
 }
+
+-- Asking for the state of a type
+
+raw-asked : (x : Step) (client kind : ℕ) → Asks x client kind → (past : List Step) → raw (x ∷ past) ≡ raw past
+unfolding raw
+raw-asked (Inject e now) client kind asks past = absurd asks
+raw-asked Open client kind asks past = refl
+raw-asked x client kind asks past = refl
+
+opens-asked : (x : Step) (client kind : ℕ) → Asks x client kind → (past : List Step) → opens (x ∷ past) ≡ opens past
+unfolding opens
+opens-asked Open client kind asks past = absurd asks
+opens-asked (Read reader count) client kind asks past = refl
+opens-asked x client kind asks past = refl
+
+flushed_by : (reader client own kind : ℕ) (q : List Entry) → (reader ≡ client) × (kind ≡ own) → nat_eq client 0 ≡ true → (if nat_eq reader 0 then flushed model.event_of own q else q) ≡ flushed model.event_of kind q
+flushed_by reader client own kind q h first =
+    ap (λ n. if nat_eq n 0 then flushed model.event_of own q else q) h.0
+    ∙ ap (λ b. if b then flushed model.event_of own q else q) first
+    ∙ ap (λ k. flushed model.event_of k q) (sym h.1)
+
+queue-asked : (d : Description) (x : Step) (client kind : ℕ) → Asks x client kind → nat_eq client 0 ≡ true → (past : List Step) → queue d (x ∷ past) 0 ≡ flushed model.event_of kind (queue d past 0)
+unfolding queue
+queue-asked d (Inject e now) client kind asks first past = absurd asks
+queue-asked d Open client kind asks first past = absurd asks
+queue-asked d (Read reader count) client kind asks first past = absurd asks
+queue-asked d (GetKeys reader) client kind asks first past = flushed_by reader client EV_KEY kind (queue d past 0) asks first
+queue-asked d (GetSwitches reader) client kind asks first past = flushed_by reader client EV_SW kind (queue d past 0) asks first
+queue-asked d (GetLeds reader) client kind asks first past = flushed_by reader client EV_LED kind (queue d past 0) asks first
+queue-asked d (GetSounds reader) client kind asks first past = flushed_by reader client EV_SND kind (queue d past 0) asks first
+queue-asked d (GetAxis reader code) client kind asks first past = absurd asks
+
+has_queue_asked : (d : Description) (x : Step) (client kind : ℕ) → Asks x client kind → (past : List Step) (kept : Option Queued) → HasQueue d kept past → is_open past client ≡ true → HasQueue d (flushed_of kept kind) (x ∷ past)
+has_queue_asked d x client kind asks past None has is = opens-asked x client kind asks past ∙ has
+has_queue_asked d x client kind asks past (Some own) has is = (
+  opens-asked x client kind asks past ∙ has.0,
+  ap (λ (q : Queued). without q kind) has.1
+      ∙ ap (of_ring d) (sym (ap (map taken_of) (queue-asked d x client kind asks (sym (one_open past client has.0) ∙ is) past)
+      ∙ flush-map (λ e. nat_eq e.kind kind) true (queue d past 0))),
+)
+
+pub keeps_asked : (d : Description) (past : List Step) (x : Step) (client kind : ℕ) (batch : Gathered) (kept after : Option Queued) → IsKept d batch kept past → Asks x client kind → is_open past client ≡ true → after ≡ flushed_of kept kind → IsKept d batch after (x ∷ past)
+keeps_asked d past x client kind batch kept after was asks is left = record {
+  gathered = subst (λ r. IsGathered d r batch) (sym (raw-asked x client kind asks past)) was.gathered;
+  queued = subst (λ q. HasQueue d q (x ∷ past)) (sym left) (has_queue_asked d x client kind asks past kept was.queued is);
+}
+
+-- Asking for an axis
+
+has_queue_axis : (d : Description) (client code : ℕ) (kept : Option Queued) (past : List Step) → HasQueue d kept past → HasQueue d kept (GetAxis client code ∷ past)
+unfolding opens queue
+has_queue_axis d client code None past has = has
+has_queue_axis d client code (Some own) past has = has
+
+pub keeps_axis : (d : Description) (past : List Step) (client code : ℕ) (batch : Gathered) (kept : Option Queued) → IsKept d batch kept past → IsKept d batch kept (GetAxis client code ∷ past)
+unfolding raw
+keeps_axis d past client code batch kept was = record { gathered = was.gathered; queued = has_queue_axis d client code kept past was.queued }
 
 -- The list of the steps, oldest first
 
 pub reverse-push : (steps items : List Step) (x : Step) → items ≡ steps ++ x ∷ [] → reverse items ≡ x ∷ reverse steps
 reverse-push steps items x pushed = ap reverse pushed ∙ reverse-append steps (x ∷ [])
 
-pub keeps_pushed : (batch : Gathered) (client : Option (List Taken)) (steps items : List Step) (x : Step) → items ≡ steps ++ x ∷ [] → IsKept batch client (x ∷ reverse steps) → IsKept batch client (reverse items)
-keeps_pushed batch client steps items x pushed kept =
-    subst (λ past. IsKept batch client past) (sym (reverse-push steps items x pushed)) kept
+pub keeps_pushed : (d : Description) (batch : Gathered) (client : Option Queued) (steps items : List Step) (x : Step) → items ≡ steps ++ x ∷ [] → IsKept d batch client (x ∷ reverse steps) → IsKept d batch client (reverse items)
+keeps_pushed d batch client steps items x pushed kept =
+    subst (λ past. IsKept d batch client past) (sym (reverse-push steps items x pushed)) kept
 
-pub keeps_at_first : (batch : Gathered) (steps : List Step) → StandsFor batch [] → steps ≡ [] → IsKept batch None (reverse steps)
+pub keeps_at_first : (d : Description) (batch : Gathered) (steps : List Step) → IsGathered d [] batch → steps ≡ [] → IsKept d batch None (reverse steps)
 unfolding raw opens
-keeps_at_first batch steps stands none =
-    subst (λ s. IsKept batch None (reverse s)) (sym none) (record { gathered = stands; queued = refl })
+keeps_at_first d batch steps stands none =
+    subst (λ s. IsKept d batch None (reverse s)) (sym none) (record { gathered = stands; queued = refl })
 
--- a history below its limit, of the value that a device is seen as
-pub below_limit : (log : Log) (past : List Step) → record { description = one_key; past = past } ≡ log → length log.past < log.description.log → length past < 1048576
-below_limit log past view below = subst (λ (l : Log). length l.past < l.description.log) (sym view) below
+-- a history that is not full, of the value that a device is seen as
+pub below_limit : (d : Description) (log : Log) (past : List Step) (full : Bool) → record { description = d; past = past } ≡ log → full ≡ nat_le log.description.log (length log.past) → full ≡ false → length past < d.log
+below_limit d log past full view test fails =
+    leb-false d.log (length past) (ap (λ (l : Log). nat_le l.description.log (length l.past)) view ∙ sym test ∙ fails)
+
+pub placed_in : (d : Description) (log : Log) (past : List Step) (at : ℕ) → record { description = d; past = past } ≡ log → at ≡ length log.past → at ≡ length past
+placed_in d log past at view h = h ∙ ap (λ (l : Log). length l.past) (sym view)
+
+pub full_in : (d : Description) (log : Log) (past : List Step) (full : Bool) → record { description = d; past = past } ≡ log → full ≡ nat_le log.description.log (length log.past) → full ≡ nat_le d.log (length past)
+full_in d log past full view h = h ∙ ap (λ (l : Log). nat_le l.description.log (length l.past)) (sym view)

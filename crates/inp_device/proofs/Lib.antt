@@ -1,4 +1,6 @@
-pub mod Passing
+pub mod Applying
+pub mod Axes
+pub mod WordLists
 pub mod Gathering
 pub mod Reports
 pub mod Clients

@@ -1,18 +1,22 @@
 -- What a device keeps stands for its past.
 use Rattle.std.specs.Prelude.{◌≡◌, List, map, Option, Some, None}
-use Rattle.inp_model.specs.declared.taken.Taken.{Taken}
 use Rattle.inp_model.specs.declared.step.Step.{Step}
-use Rattle.inp_model.specs.Description.{one_key}
+use Rattle.inp_model.specs.Description.{Description, ring}
 use Rattle.inp_model.specs.History.{raw, opens}
 use Rattle.inp_model.specs.Queue.{queue}
 use Rattle.inp_model.specs.Reply.{taken_of}
-use Rattle.inp_device.specs.Batch.{Gathered, StandsFor}
+use Rattle.inp_device.specs.Batch.{Gathered, IsGathered}
+use Rattle.inp_device.specs.Queue.{Queued}
+
+-- the queue of the first client
+abbrev pub own_queue : Description → List Step → Queued
+own_queue d past = record { places = ring d; events = map taken_of (queue d past 0) }
 
 -- no client was opened, or one was and this is its queue
-abbrev pub HasQueue : Option (List Taken) → List Step → Type 0
-HasQueue None past = opens past ≡ 0
-HasQueue (Some kept) past = (opens past ≡ 1) × (kept ≡ map taken_of (queue one_key past 0))
+abbrev pub HasQueue : Description → Option Queued → List Step → Type 0
+HasQueue d None past = opens past ≡ 0
+HasQueue d (Some kept) past = (opens past ≡ 1) × (kept ≡ own_queue d past)
 
-pub record IsKept (batch : Gathered) (client : Option (List Taken)) (past : List Step) : Type 0 where
-  pub gathered : StandsFor batch (raw past)
-  pub queued : HasQueue client past
+pub record IsKept (d : Description) (batch : Gathered) (client : Option Queued) (past : List Step) : Type 0 where
+  pub gathered : IsGathered d (raw past) batch
+  pub queued : HasQueue d client past

@@ -1,16 +1,14 @@
 //! The queue of a client: a list of events in a ring that may lose them.
-ghost use Rattle.std.specs.Prelude.{◌≡◌, ◌≤◌, ◌||◌, [], ◌∷◌, length, map, take, drop, vec_capacity, IfOk};
+ghost use Rattle.std.specs.Prelude.{◌≡◌, ◌≤◌, ◌||◌, not, if◌then◌else◌, nat_eq, [], ◌∷◌, length, map, take, drop, vec_capacity, IfOk};
 ghost use Rattle.inp_model.specs.declared.taken.Taken.{Taken};
-ghost use Rattle.inp_model.specs.Queue.{is_empty, ends_in_report, put, put_all, visible, lost};
+ghost use Rattle.inp_model.specs.Event.{is_report};
+ghost use Rattle.inp_model.specs.Queue.{is_empty, ends_in_report, put, put_all, visible, flushed, lost};
 ghost use Rattle.inp_model.specs.Reply.{written};
-ghost use Rattle.inp_device.specs.Queue.{event_of, taken_at};
+ghost use Rattle.inp_device.specs.Queue.{event_of, taken_at, offered, without};
 
 use inp_model::{EV_SYN, Event, NoMemory, SYN_DROPPED, Taken};
 use std::alloc::Global;
 use std::marker::Model;
-
-/// The places of the ring: eight times the hint. It holds one event less.
-pub const PLACES: usize = 128;
 
 /// What is put in the place of events that were lost.
 const LOSS: Event = Event {
@@ -19,41 +17,47 @@ const LOSS: Event = Event {
     value: 0,
 };
 
-/// The events that a client was offered and has not read, oldest first.
+/// The events that a client was offered and has not read, oldest first, in a ring that holds one event less than it
+/// has places.
 #[derive(Drop)]
 pub struct Queue {
+    places: usize,
     events: Vec<Taken>,
 }
 
 impl Model for Queue {
-    ghost use Rattle.std.specs.Prelude.{List, ◌≤◌, ◌<◌, vec_len, vec_capacity};
-    ghost use Rattle.inp_model.specs.declared.taken.Taken.{Taken};
+    ghost use Rattle.inp_device.specs.Queue.{Queued};
 
-    ghost Value = { List Taken };
+    ghost Value = { Queued };
 
-    ghost view = { λ q. q.events.items };
+    ghost use Rattle.std.specs.Prelude.{◌≤◌, ◌<◌, vec_len, vec_capacity};
 
-    ghost invariant = { λ q. (vec_len q.events < 128) × (128 ≤ vec_capacity q.events) };
+    ghost view = { λ q. record { places = q.places; events = q.events.items } };
+
+    ghost invariant = { λ q. (vec_len q.events < q.places) × (q.places ≤ vec_capacity q.events) × (64 ≤ q.places) };
 }
 
 impl Queue {
-    /// An empty queue, with all the memory that it will need.
-    pub fn new(alloc: Global) -> Result<Queue, NoMemory>
-        ensures empty { IfOk result (λ queue. queue ≡ []) }
+    /// An empty queue in a ring of 64 to 4,096 places, with all the memory that it will need.
+    pub fn new(alloc: Global, places: usize) -> Result<Queue, NoMemory>
+        requires range { (64 ≤ places) × (places ≤ 4096) }
+        ensures empty { IfOk result (λ queue. queue ≡ record { places = places; events = [] }) }
     {
         Ok(Queue {
-            events: Vec::with_capacity(alloc, PLACES)?,
+            places,
+            events: Vec::with_capacity(alloc, places)?,
         })
     }
 
-    /// Puts one event. Where it would be the 128th, the queue is lost, and is told as lost.
+    /// Puts one event. Where it would leave no place free, the queue is lost, and is told as lost.
     fn put(&mut self, taken: Taken)
-        ensures put { self.new ≡ put event_of lost 128 self.old taken }
+        ensures put { self.new.events ≡ put event_of lost self.old.places self.old.events taken }
+        ensures places { self.new.places ≡ self.old.places }
     {
         if taken.event.is_report() && ends_in_report(&self.events) {
             return;
         }
-        if self.events.len() + 1 >= PLACES {
+        if self.events.len() + 1 >= self.places {
             lose(&mut self.events, taken);
         }
         self.events.push(taken).unwrap();
@@ -61,7 +65,7 @@ impl Queue {
 
     /// Puts the events of a frame, which ended at a time in microseconds and at a place of the history.
     pub fn offer(&mut self, events: &[Event], time: u64, place: u32)
-        ensures offered { self.new ≡ put_all event_of lost 128 self.old (map (taken_at time place) events.now) }
+        ensures offered { self.new ≡ offered self.old events.now time place }
     {
         for event in events {
             self.put(Taken {
@@ -74,28 +78,66 @@ impl Queue {
 
     /// How many events may be read: those up to the last report.
     pub fn visible(&self) -> usize
-        ensures visible { result ≡ visible event_of self.now }
+        ensures visible { result ≡ visible event_of self.now.events }
     {
         visible(&self.events)
     }
 
     /// Moves so many of the oldest events to the front of a buffer.
     pub fn take(&mut self, count: usize, out: &mut [Taken])
-        requires there { count ≤ length self.old }
+        requires there { count ≤ length self.old.events }
         requires room { count ≤ length out.old }
-        ensures taken { out.new ≡ written (take count self.old) out.old }
-        ensures rest { self.new ≡ drop count self.old }
+        ensures taken { out.new ≡ written (take count self.old.events) out.old }
+        ensures rest { self.new ≡ record self.old { events = drop count self.old.events } }
     {
         out[..count].copy_from_slice(&self.events[..count]);
         self.events.drain(..count);
+    }
+
+    /// Removes the events of a type, as a query of their state does. A report goes too where no event is left of its
+    /// frame, but the first report stays. It takes no memory, and time in proportion to the queue.
+    pub fn flush(&mut self, kind: u16)
+        ensures flushed { self.new ≡ without self.old kind }
+    {
+        let kept = move_kept(&mut self.events, kind);
+        self.events.truncate(kept);
+    }
+}
+
+/// Moves the events that stay without a type to the front, in order, and says how many they are.
+fn move_kept(events: &mut [Taken], kind: u16) -> usize
+    ensures within { result ≤ length events.old }
+    ensures kept { take result events.new ≡ flushed event_of kind events.old }
+{
+    let mut kept = 0;
+    let mut report_stays = true;
+    for index in 0..events.len() {
+        let taken = events[index];
+        if is_kept(taken.event, kind, report_stays) {
+            events[kept] = taken;
+            kept += 1;
+            report_stays = !taken.event.is_report();
+        }
+    }
+    kept
+}
+
+/// Whether an event stays without a type, where it is known whether a report would.
+fn is_kept(event: Event, kind: u16, report_stays: bool) -> bool
+    ensures { result ≡ (if is_report event then report_stays else not (nat_eq event.kind kind)) }
+{
+    if event.is_report() {
+        report_stays
+    } else {
+        event.kind != kind
     }
 }
 
 /// Drops all events, and tells so at the time and place of the event that did not fit.
 fn lose(events: &mut Vec<Taken>, taken: Taken)
-    requires room { 128 ≤ vec_capacity events.old }
+    requires room { 1 ≤ vec_capacity events.old }
     ensures lost { events.new.items ≡ lost taken ∷ [] }
-    ensures capacity { 128 ≤ vec_capacity events.new }
+    ensures capacity { vec_capacity events.old ≤ vec_capacity events.new }
 {
     events.clear();
     let loss = Taken {

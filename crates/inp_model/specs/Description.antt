@@ -1,13 +1,28 @@
--- What a device is: which types and codes it supports, and its numbers.
-use Rattle.std.specs.Prelude.{ℕ, zero, suc, ◌*◌, Bool, true, false, ◌&&◌, if◌then◌else◌, nat_eq, nat_le, List, [], ◌∷◌, ◌++◌, replicate, slice_index_or}
-use Rattle.inp_model.specs.declared.event.TheConstants.{EV_KEY}
+-- What a device is: which types and codes it supports, its axes, and its numbers.
+use Rattle.std.specs.Prelude.{◌≡◌, ℕ, zero, suc, ◌*◌, ◌<◌, ◌≤◌, pos, int_lt, Bool, true, false, ◌&&◌, ◌||◌, not, if◌then◌else◌, nat_eq, nat_le, List, ◌∷◌, ◌++◌, length, replicate, slice_index_or}
+use Rattle.std.specs.Ordering.{int_eq}
+use Rattle.inp_model.specs.declared.event.TheConstants.{EV_SYN, EV_KEY, EV_REL, EV_ABS, EV_MSC, EV_SW, EV_LED, EV_SND, EV_REP, EV_MAX, KEY_MAX, REL_MAX, ABS_MAX, ABS_MT_SLOT, ABS_MT_TRACKING_ID, ABS_MT_TOOL_Y, MSC_MAX, SW_MAX, LED_MAX, SND_MAX, REP_MAX}
+use Rattle.inp_model.specs.declared.limits.TheConstants.{SLOTS_MAX, HINT_MIN, HINT_MAX, LOG_MAX, FUZZ_MAX}
+use Rattle.inp_model.specs.declared.stamped.TheConstants.{MOMENT_MAX}
+use Rattle.inp_model.specs.declared.axis_info.AxisInfo.{AxisInfo}
 use Rattle.inp_model.specs.declared.clock.Clock.{Clock}
 use Rattle.inp_model.specs.declared.clock.Clock.TheVariants.{Realtime, Monotonic, Boottime}
 
 pub record Description : Type 0 where
-  -- at k, whether the type k is supported, and whether the key k is
+  -- at k, whether the type k is supported
   pub kinds : List Bool
+  -- at k, whether the code k of a type is supported
   pub keys : List Bool
+  pub relatives : List Bool
+  pub axes : List Bool
+  pub miscs : List Bool
+  pub switches : List Bool
+  pub leds : List Bool
+  pub sounds : List Bool
+  -- at k, the axis k with the value that it has before any event
+  pub infos : List AxisInfo
+  -- how many multi-touch slots there are, 0 for none
+  pub slots : ℕ
   -- how many events a frame may gather before it is cut
   pub hint : ℕ
   -- how many steps a history may have
@@ -20,13 +35,34 @@ pub record Description : Type 0 where
 abbrev pub has_kind : Description → ℕ → Bool
 has_kind d kind = slice_index_or d.kinds kind false
 
--- the code alone
+-- the code alone; both codes of EV_REP are there, and EV_SYN stands aside
 abbrev pub has_code : Description → ℕ → ℕ → Bool
-has_code d kind code = if nat_eq kind EV_KEY then slice_index_or d.keys code false else false
+has_code d kind code =
+    if nat_eq kind EV_KEY then slice_index_or d.keys code false
+    else if nat_eq kind EV_REL then slice_index_or d.relatives code false
+    else if nat_eq kind EV_ABS then slice_index_or d.axes code false
+    else if nat_eq kind EV_MSC then slice_index_or d.miscs code false
+    else if nat_eq kind EV_SW then slice_index_or d.switches code false
+    else if nat_eq kind EV_LED then slice_index_or d.leds code false
+    else if nat_eq kind EV_SND then slice_index_or d.sounds code false
+    else if nat_eq kind EV_REP then nat_le code REP_MAX
+    else false
 
 -- a code is supported where its type is too
 abbrev pub supports : Description → ℕ → ℕ → Bool
 supports d kind code = has_kind d kind && has_code d kind code
+
+-- an axis of which nothing was said
+abbrev pub no_info : AxisInfo
+no_info = record { value = pos 0; minimum = pos 0; maximum = pos 0; fuzz = pos 0; flat = pos 0; resolution = pos 0 }
+
+-- the axis with this code
+abbrev pub info : Description → ℕ → AxisInfo
+info d code = slice_index_or d.infos code no_info
+
+-- the axes whose values belong to slots, and the one that names a slot
+abbrev pub is_multi_touch_code : ℕ → Bool
+is_multi_touch_code code = nat_le ABS_MT_SLOT code && nat_le code ABS_MT_TOOL_Y
 
 -- a number, doubled at most so many times, until it is large enough
 abbrev pub doubled : ℕ → ℕ → ℕ → ℕ
@@ -43,11 +79,62 @@ offset d Realtime = d.realtime
 offset d Monotonic = 0
 offset d Boottime = d.boottime
 
+-- Which descriptions there are.
+
+-- The nine types that a device can have.
+abbrev pub is_kind : ℕ → Bool
+is_kind kind = nat_le kind EV_SW || nat_eq kind EV_LED || nat_eq kind EV_SND || nat_eq kind EV_REP
+
+-- The data that no axis has: a fuzz out of range, a value of a multi-touch axis, a fuzz of the slot or of the
+-- tracking id.
+abbrev pub is_bad_axis : ℕ → AxisInfo → Bool
+is_bad_axis code i =
+    (int_lt i.fuzz (pos 0) || int_lt FUZZ_MAX i.fuzz)
+    || (is_multi_touch_code code && not (int_eq i.value (pos 0)))
+    || ((nat_eq code ABS_MT_SLOT || nat_eq code ABS_MT_TRACKING_ID) && not (int_eq i.fuzz (pos 0)))
+
+-- so many truth values, none of them true past the greatest code
+pub record AreCodes (count greatest : ℕ) (codes : List Bool) : Type 0 where
+  pub length_is : length codes ≡ count
+  pub within : (code : ℕ) → greatest < code → slice_index_or codes code false ≡ false
+
+-- sixty-four axes, none of them with data that no axis has
+pub record AreAxes (infos : List AxisInfo) : Type 0 where
+  pub length_is : length infos ≡ 64
+  pub good : (code : ℕ) → is_bad_axis code (slice_index_or infos code no_info) ≡ false
+
+pub record IsDescription (d : Description) : Type 0 where
+  pub kinds : AreCodes 64 EV_MAX d.kinds
+  pub known : (kind : ℕ) → is_kind kind ≡ false → has_kind d kind ≡ false
+  pub syn : has_kind d EV_SYN ≡ true
+  pub keys : AreCodes 768 KEY_MAX d.keys
+  pub reserved : slice_index_or d.keys 0 false ≡ false
+  pub relatives : AreCodes 64 REL_MAX d.relatives
+  pub axes : AreCodes 64 ABS_MAX d.axes
+  pub miscs : AreCodes 64 MSC_MAX d.miscs
+  pub switches : AreCodes 64 SW_MAX d.switches
+  pub leds : AreCodes 64 LED_MAX d.leds
+  pub sounds : AreCodes 64 SND_MAX d.sounds
+  pub infos : AreAxes d.infos
+  pub slots : d.slots ≤ SLOTS_MAX
+  pub hint : (HINT_MIN ≤ d.hint) × (d.hint ≤ HINT_MAX)
+  pub log : (1 ≤ d.log) × (d.log ≤ LOG_MAX)
+  pub realtime : d.realtime ≤ MOMENT_MAX
+  pub boottime : d.boottime ≤ MOMENT_MAX
+
 -- a keyboard with the key A alone
 abbrev pub one_key : Description
 one_key = record {
-  kinds = true ∷ true ∷ [];
-  keys = replicate 30 false ++ true ∷ [];
+  kinds = true ∷ true ∷ replicate 62 false;
+  keys = replicate 30 false ++ true ∷ replicate 737 false;
+  relatives = replicate 64 false;
+  axes = replicate 64 false;
+  miscs = replicate 64 false;
+  switches = replicate 64 false;
+  leds = replicate 64 false;
+  sounds = replicate 64 false;
+  infos = replicate 64 no_info;
+  slots = 0;
   hint = 16;
   log = 1048576;
   realtime = 0;

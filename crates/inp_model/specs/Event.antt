@@ -1,9 +1,9 @@
 -- What an event is about.
-use Rattle.std.specs.Prelude.{ℕ, pos, Bool, ◌&&◌, not, nat_eq}
+use Rattle.std.specs.Prelude.{ℕ, pos, int_lt, Bool, ◌&&◌, not, nat_eq}
 use Rattle.std.specs.Ordering.{int_eq}
-use Rattle.inp_model.specs.declared.event.TheConstants.{EV_SYN, SYN_REPORT, SYN_DROPPED}
+use Rattle.inp_model.specs.declared.event.TheConstants.{EV_SYN, EV_ABS, SYN_REPORT, SYN_DROPPED}
 use Rattle.inp_model.specs.declared.event.Event.{Event}
-use Rattle.inp_model.specs.Description.{Description, supports}
+use Rattle.inp_model.specs.Description.{Description, supports, is_multi_touch_code}
 
 -- it ends a frame
 abbrev pub is_report : Event → Bool
@@ -20,6 +20,14 @@ is_repeat e = int_eq e.value (pos 2)
 -- of a key and the like: down, on
 abbrev pub is_set : Event → Bool
 is_set e = not (int_eq e.value (pos 0))
+
+-- of a setting: one that there cannot be
+abbrev pub is_negative : Event → Bool
+is_negative e = int_lt e.value (pos 0)
+
+-- it is about a slot, or about a value of one
+abbrev pub is_multi_touch : Event → Bool
+is_multi_touch e = nat_eq e.kind EV_ABS && is_multi_touch_code e.code
 
 -- the report that ends a frame cut because it was full
 abbrev pub packet_report : Event

@@ -1,15 +1,16 @@
--- Short histories on a keyboard with the key A, worked out by hand: what is replied and read after them.
-use Rattle.std.specs.Prelude.{ℕ, zero, suc, ◌≡◌, ℤ, pos, Bool, true, false, not, if◌then◌else◌, List, [], ◌∷◌, ◌++◌, reverse}
-use Rattle.inp_model.specs.declared.event.TheConstants.{EV_SYN, EV_KEY, SYN_REPORT, KEY_A}
+-- Short histories, worked out by hand: what is passed, replied and read after them.
+use Rattle.std.specs.Prelude.{ℕ, zero, suc, ◌≡◌, ℤ, pos, negsuc, Bool, true, false, not, if◌then◌else◌, List, [], ◌∷◌, ◌++◌, replicate, reverse}
+use Rattle.inp_model.specs.declared.event.TheConstants.{EV_SYN, EV_KEY, EV_REL, EV_ABS, EV_SW, EV_LED, EV_SND, EV_REP, SYN_REPORT, KEY_A}
 use Rattle.inp_model.specs.declared.event.Event.{Event}
 use Rattle.inp_model.specs.declared.taken.Taken.{Taken}
 use Rattle.inp_model.specs.declared.step.Step.{Step}
 use Rattle.inp_model.specs.declared.step.Step.TheVariants.{Inject, Open, Read}
 use Rattle.inp_model.specs.declared.reply.Reply.TheVariants.{Opened, Took, Again, Refused}
 use Rattle.inp_model.specs.declared.reply.Refusal.TheVariants.{BadClient}
-use Rattle.inp_model.specs.Description.{one_key, ring}
+use Rattle.inp_model.specs.Description.{Description, one_key, ring, no_info, IsDescription}
 use Rattle.inp_model.specs.Event.{loss, packet_report}
 use Rattle.inp_model.specs.State.{key_down}
+use Rattle.inp_model.specs.Passed.{passed}
 use Rattle.inp_model.specs.History.{raw}
 use Rattle.inp_model.specs.Reply.{Answer, answer, alone}
 use Rattle.inp_model.specs.Run.{IsLegalRun}
@@ -132,3 +133,60 @@ IsLegalAmongOthers =
     ∷ record { step = Read 0 16; answer = took 3 2 (at 2 0 (key (pos 1)) ∷ at 2 0 report ∷ []) }
     ∷ record { step = Read 0 16; answer = alone (Again 4 0) }
     ∷ [])
+
+-- a keyboard is a description as all are
+abbrev pub DescribesAKeyboard : Type 0
+DescribesAKeyboard = IsDescription one_key
+
+-- a device with one code of each of these types, and autorepeat; its axis begins at 100 and has a fuzz of 8
+abbrev pub panel : Description
+panel = record one_key {
+  kinds = true ∷ true ∷ true ∷ true ∷ false ∷ true ∷ replicate 11 false ++ true ∷ true ∷ false ∷ true ∷ replicate 43 false;
+  relatives = true ∷ replicate 63 false;
+  axes = true ∷ replicate 63 false;
+  switches = true ∷ replicate 63 false;
+  leds = true ∷ replicate 63 false;
+  sounds = true ∷ replicate 63 false;
+  infos = record no_info { value = pos 100; fuzz = pos 8 } ∷ replicate 63 no_info;
+}
+
+abbrev pub of_kind : ℕ → ℤ → Event
+of_kind kind value = record { kind = kind; code = 0; value = value }
+
+-- on the panel, after these raw events, oldest first, this is passed for the event
+abbrev pub Passes : List Event → Event → List Event → Type 0
+Passes events e given = passed panel (reverse events) e ≡ given
+
+-- an LED is passed where it changes, and any value but 0 is on
+abbrev pub PassesAnLedOnce : Type 0
+PassesAnLedOnce =
+    Passes [] (of_kind EV_LED (pos 1)) (of_kind EV_LED (pos 1) ∷ [])
+    × Passes (of_kind EV_LED (pos 1) ∷ []) (of_kind EV_LED (pos 5)) []
+
+-- a switch that is off already is not passed
+abbrev pub PassesASwitchOnce : Type 0
+PassesASwitchOnce =
+    Passes [] (of_kind EV_SW (pos 0)) []
+    × Passes (of_kind EV_SW (pos 1) ∷ []) (of_kind EV_SW (pos 0)) (of_kind EV_SW (pos 0) ∷ [])
+
+-- a sound is always passed, and motion but by 0
+abbrev pub PassesEachSound : Type 0
+PassesEachSound = Passes (of_kind EV_SND (pos 1) ∷ []) (of_kind EV_SND (pos 1)) (of_kind EV_SND (pos 1) ∷ [])
+
+abbrev pub PassesMotion : Type 0
+PassesMotion =
+    Passes [] (of_kind EV_REL (pos 0)) [] × Passes [] (of_kind EV_REL (negsuc 1)) (of_kind EV_REL (negsuc 1) ∷ [])
+
+-- an axis is passed as the value that it takes, and the next move begins there
+abbrev pub PassesAMove : Type 0
+PassesAMove =
+    Passes [] (of_kind EV_ABS (pos 103)) []
+    × Passes [] (of_kind EV_ABS (pos 112)) (of_kind EV_ABS (pos 106) ∷ [])
+    × Passes (of_kind EV_ABS (pos 112) ∷ []) (of_kind EV_ABS (pos 109)) []
+
+-- a setting of the autorepeat is passed where it changes, and is never negative
+abbrev pub PassesASetting : Type 0
+PassesASetting =
+    Passes [] (of_kind EV_REP (pos 250)) []
+    × Passes [] (of_kind EV_REP (negsuc 0)) []
+    × Passes [] (of_kind EV_REP (pos 0)) (of_kind EV_REP (pos 0) ∷ [])

@@ -1,10 +1,10 @@
 -- What a history says. Here a history is written newest first, and is called a past.
-use Rattle.std.specs.Prelude.{ℕ, suc, Bool, true, false, ◌&&◌, ◌||◌, if◌then◌else◌, nat_eq, List, [], ◌∷◌, take, reverse, Option, Some, None}
+use Rattle.std.specs.Prelude.{ℕ, zero, suc, ◌+◌, Bool, true, false, ◌&&◌, ◌||◌, not, if◌then◌else◌, nat_eq, List, [], ◌∷◌, ◌++◌, take, reverse, Option, Some, None}
 use Rattle.inp_model.specs.declared.event.Event.{Event}
 use Rattle.inp_model.specs.declared.clock.Clock.{Clock}
 use Rattle.inp_model.specs.declared.clock.Clock.TheVariants.{Realtime}
 use Rattle.inp_model.specs.declared.step.Step.{Step}
-use Rattle.inp_model.specs.declared.step.Step.TheVariants.{Inject, Open, Read}
+use Rattle.inp_model.specs.declared.step.Step.TheVariants.{Inject, Open, Read, GetKeys, GetSwitches, GetLeds, GetSounds, GetAxis}
 
 -- the past before the place at, of a history that is written oldest first
 abbrev pub past_at : List Step → ℕ → List Step
@@ -14,6 +14,11 @@ abbrev pub is_open_step : Step → Bool
 is_open_step (Inject e now) = false
 is_open_step Open = true
 is_open_step (Read client count) = false
+is_open_step (GetKeys client) = false
+is_open_step (GetSwitches client) = false
+is_open_step (GetLeds client) = false
+is_open_step (GetSounds client) = false
+is_open_step (GetAxis client code) = false
 
 -- how many clients were opened: the number of the next one
 unfoldable pub opens : List Step → ℕ
@@ -33,6 +38,11 @@ abbrev pub is_end_step : Step → Bool
 is_end_step (Inject e now) = false
 is_end_step Open = false
 is_end_step (Read client count) = false
+is_end_step (GetKeys client) = false
+is_end_step (GetSwitches client) = false
+is_end_step (GetLeds client) = false
+is_end_step (GetSounds client) = false
+is_end_step (GetAxis client code) = false
 
 -- how many sources are done
 unfoldable pub ends : List Step → ℕ
@@ -44,18 +54,33 @@ abbrev pub client_of : Step → Option ℕ
 client_of (Inject e now) = None
 client_of Open = None
 client_of (Read client count) = Some client
+client_of (GetKeys client) = Some client
+client_of (GetSwitches client) = Some client
+client_of (GetLeds client) = Some client
+client_of (GetSounds client) = Some client
+client_of (GetAxis client code) = Some client
 
 -- the moment of a step, 0 where it has none
 abbrev pub moment_of : Step → ℕ
 moment_of (Inject e now) = now
 moment_of Open = 0
 moment_of (Read client count) = 0
+moment_of (GetKeys client) = 0
+moment_of (GetSwitches client) = 0
+moment_of (GetLeds client) = 0
+moment_of (GetSounds client) = 0
+moment_of (GetAxis client code) = 0
 
 -- the raw events that a step stands for, oldest first
 abbrev pub added : Step → List Event
 added (Inject e now) = e ∷ []
 added Open = []
 added (Read client count) = []
+added (GetKeys client) = []
+added (GetSwitches client) = []
+added (GetLeds client) = []
+added (GetSounds client) = []
+added (GetAxis client code) = []
 
 -- events put in front of older ones, one after another
 abbrev pub onto : List Event → List Event → List Event

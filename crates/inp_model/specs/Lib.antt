@@ -1,5 +1,6 @@
 pub mod Description
 pub mod Event
+pub mod Defuzz
 pub mod State
 pub mod Passed
 pub mod History
@@ -9,3 +10,4 @@ pub mod Reply
 pub mod Run
 pub mod Log
 pub mod Examples
+pub mod QueryExamples

@@ -1,10 +1,11 @@
 -- Which raw events are passed on to the clients.
-use Rattle.std.specs.Prelude.{ℤ, Bool, true, false, ◌&&◌, not, if◌then◌else◌, nat_eq, nat_lt, List, ◌∷◌, Option, Some, None, option_to_list, option_map}
-use Rattle.inp_model.specs.declared.event.TheConstants.{EV_SYN, EV_KEY, SYN_DROPPED}
+use Rattle.std.specs.Prelude.{ℤ, Bool, true, false, ◌&&◌, ◌||◌, not, if◌then◌else◌, nat_eq, nat_lt, List, ◌∷◌, Option, Some, None, is_some, option_to_list, option_map}
+use Rattle.std.specs.Ordering.{int_eq}
+use Rattle.inp_model.specs.declared.event.TheConstants.{EV_SYN, EV_KEY, EV_REL, EV_ABS, EV_MSC, EV_SW, EV_LED, EV_SND, EV_REP, SYN_CONFIG, SYN_DROPPED}
 use Rattle.inp_model.specs.declared.event.Event.{Event}
 use Rattle.inp_model.specs.Description.{Description, supports}
-use Rattle.inp_model.specs.Event.{is_repeat}
-use Rattle.inp_model.specs.State.{key_down}
+use Rattle.inp_model.specs.Event.{is_repeat, is_set}
+use Rattle.inp_model.specs.State.{key_down, turned_on, repeat_setting, axis_value}
 
 -- one is true and the other is not
 abbrev pub differ : Bool → Bool → Bool
@@ -15,13 +16,49 @@ differ false b = b
 abbrev pub key_passes : Description → List Event → Event → Bool
 key_passes d r e = if is_repeat e then true else differ (key_down d r e.code) (key_down d (e ∷ r) e.code)
 
+-- a switch or an LED is passed where it changes
+abbrev pub switch_passes : Description → List Event → Event → Bool
+switch_passes d r e = differ (turned_on d r e.kind e.code) (turned_on d (e ∷ r) e.kind e.code)
+
+-- a setting of the autorepeat is passed where it changes
+abbrev pub setting_passes : Description → List Event → Event → Bool
+setting_passes d r e = not (int_eq (repeat_setting d r e.code) (repeat_setting d (e ∷ r) e.code))
+
+-- an axis is passed where it moves
+abbrev pub axis_passes : Description → List Event → Event → Bool
+axis_passes d r e = not (int_eq (axis_value d r e.code) (axis_value d (e ∷ r) e.code))
+
+-- an event of a supported code is passed
+abbrev pub code_passes : Description → List Event → Event → Bool
+code_passes d r e =
+    if nat_eq e.kind EV_KEY then key_passes d r e
+    else if nat_eq e.kind EV_REL then is_set e
+    else if nat_eq e.kind EV_ABS then axis_passes d r e
+    else if nat_eq e.kind EV_SW || nat_eq e.kind EV_LED then switch_passes d r e
+    else if nat_eq e.kind EV_REP then setting_passes d r e
+    else true
+
+-- an axis is passed as the value that it takes, and all else as it was injected
+abbrev pub value_passed : Description → List Event → Event → ℤ
+value_passed d r e = if nat_eq e.kind EV_ABS then axis_value d (e ∷ r) e.code else e.value
+
 -- the value under which an event is passed after the raw events r, if it is passed
 abbrev pub passes_as : Description → List Event → Event → Option ℤ
 passes_as d r e =
     if nat_eq e.kind EV_SYN then (if nat_lt e.code SYN_DROPPED then Some e.value else None)
-    else if nat_eq e.kind EV_KEY && supports d EV_KEY e.code then (if key_passes d r e then Some e.value else None)
+    else if supports d e.kind e.code && code_passes d r e then Some (value_passed d r e)
     else None
 
 -- the events that are passed for it
 abbrev pub passed : Description → List Event → Event → List Event
 passed d r e = option_to_list (option_map (λ v. record e { value = v }) (passes_as d r e))
+
+-- types whose passed events the device itself gets too, to set its LEDs and the like
+abbrev pub is_output : Event → Bool
+is_output e =
+    (nat_eq e.kind EV_SYN && nat_eq e.code SYN_CONFIG)
+    || nat_eq e.kind EV_LED || nat_eq e.kind EV_SND || nat_eq e.kind EV_MSC || nat_eq e.kind EV_REP
+
+-- the device gets it
+abbrev pub goes_to_device : Description → List Event → Event → Bool
+goes_to_device d r e = is_output e && is_some (passes_as d r e)

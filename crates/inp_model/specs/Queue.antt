@@ -1,9 +1,10 @@
 -- Each client's queue, oldest first: what it was offered, has not taken and did not lose.
-use Rattle.std.specs.Prelude.{ℕ, suc, ◌+◌, min, Bool, true, false, ◌&&◌, ◌||◌, if◌then◌else◌, nat_eq, nat_lt, List, [], ◌∷◌, ◌++◌, length, map, take, drop, flat_map, Option, Some}
+use Rattle.std.specs.Prelude.{ℕ, zero, suc, ◌+◌, min, Bool, true, false, ◌&&◌, ◌||◌, if◌then◌else◌, nat_eq, nat_lt, List, [], ◌∷◌, ◌++◌, length, map, take, drop, flat_map, Option, Some, None}
+use Rattle.inp_model.specs.declared.event.TheConstants.{EV_KEY, EV_SW, EV_LED, EV_SND}
 use Rattle.inp_model.specs.declared.event.Event.{Event}
 use Rattle.inp_model.specs.declared.taken.Taken.{Taken}
 use Rattle.inp_model.specs.declared.step.Step.{Step}
-use Rattle.inp_model.specs.declared.step.Step.TheVariants.{Inject, Open, Read}
+use Rattle.inp_model.specs.declared.step.Step.TheVariants.{Inject, Open, Read, GetKeys, GetSwitches, GetLeds, GetSounds, GetAxis}
 use Rattle.inp_model.specs.Description.{Description, ring, offset}
 use Rattle.inp_model.specs.Event.{is_report, loss}
 use Rattle.inp_model.specs.History.{opens, is_open, clock_of}
@@ -54,6 +55,19 @@ visible event (x ∷ q) =
     let behind = visible event q in
     if nat_eq behind 0 then (if is_report (event x) then 1 else 0) else suc behind
 
+-- A queue without the items that are dropped. A report stays where an item before it in its group stays, and the first
+-- report stays in any case: `stays` says whether a report at this place does.
+abbrev pub flush : {X : Type 0} → (X → Event) → (Event → Bool) → Bool → List X → List X
+flush event drops stays [] = []
+flush event drops stays (x ∷ q) =
+    if is_report (event x) then (if stays then x ∷ flush event drops false q else flush event drops false q)
+    else if drops (event x) then flush event drops stays q
+    else x ∷ flush event drops true q
+
+-- without the events of a type, as a query of their state leaves it
+abbrev pub flushed : {X : Type 0} → (X → Event) → ℕ → List X → List X
+flushed event kind q = flush event (λ e. nat_eq e.kind kind) true q
+
 -- a frame is offered to each client that is open when it ends
 abbrev pub offered : Description → ℕ → Frame → List Event
 offered d client f = if is_open f.before client then f.events else []
@@ -74,6 +88,11 @@ queue_after d past client (Inject e now) q = put_all event_of lost_entry (ring d
 queue_after d past client Open q = if nat_eq (opens past) client then [] else q
 queue_after d past client (Read reader count) q =
     if nat_eq reader client then drop (min count (visible event_of q)) q else q
+queue_after d past client (GetKeys reader) q = if nat_eq reader client then flushed event_of EV_KEY q else q
+queue_after d past client (GetSwitches reader) q = if nat_eq reader client then flushed event_of EV_SW q else q
+queue_after d past client (GetLeds reader) q = if nat_eq reader client then flushed event_of EV_LED q else q
+queue_after d past client (GetSounds reader) q = if nat_eq reader client then flushed event_of EV_SND q else q
+queue_after d past client (GetAxis reader code) q = q
 
 unfoldable pub queue : Description → List Step → ℕ → List Entry
 queue d [] client = []
@@ -86,6 +105,11 @@ taken_by d past client Open = []
 taken_by d past client (Read reader count) =
     let q = queue d past client in
     if nat_eq reader client then take (min count (visible event_of q)) q else []
+taken_by d past client (GetKeys reader) = []
+taken_by d past client (GetSwitches reader) = []
+taken_by d past client (GetLeds reader) = []
+taken_by d past client (GetSounds reader) = []
+taken_by d past client (GetAxis reader code) = []
 
 -- all that a client's reads have taken, in order
 unfoldable pub took : Description → List Step → ℕ → List Entry

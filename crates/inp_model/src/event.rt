@@ -1,6 +1,6 @@
 //! Events, and the numbers of the types and codes that this crate's definitions name.
 ghost use Rattle.std.specs.Prelude.{◌≡◌};
-ghost use Rattle.inp_model.specs.Event.{is_report, is_repeat, is_set};
+ghost use Rattle.inp_model.specs.Event.{is_report, is_repeat, is_set, is_multi_touch};
 
 /// The type of the events that separate frames (the kernel's input event codes).
 pub const EV_SYN: u16 = 0;
@@ -8,14 +8,83 @@ pub const EV_SYN: u16 = 0;
 /// The type of keys and buttons (the kernel's input event codes).
 pub const EV_KEY: u16 = 1;
 
+/// The type of relative motion (the kernel's input event codes).
+pub const EV_REL: u16 = 2;
+
+/// The type of absolute axes (the kernel's input event codes).
+pub const EV_ABS: u16 = 3;
+
+/// The type of what fits no other type, as scan codes (the kernel's input event codes).
+pub const EV_MSC: u16 = 4;
+
+/// The type of switches (the kernel's input event codes).
+pub const EV_SW: u16 = 5;
+
+/// The type of LEDs (the kernel's input event codes).
+pub const EV_LED: u16 = 0x11;
+
+/// The type of sounds (the kernel's input event codes).
+pub const EV_SND: u16 = 0x12;
+
+/// The type of the autorepeat's settings (the kernel's input event codes).
+pub const EV_REP: u16 = 0x14;
+
+/// The greatest type (the kernel's input event codes).
+pub const EV_MAX: u16 = 0x1f;
+
 /// The code of `EV_SYN` that ends a frame (the kernel's input event codes).
 pub const SYN_REPORT: u16 = 0;
+
+/// The code of `EV_SYN` that tells of a new configuration (the kernel's input event codes).
+pub const SYN_CONFIG: u16 = 1;
+
+/// The code of `EV_SYN` that separates anonymous contacts (the kernel's input event codes).
+pub const SYN_MT_REPORT: u16 = 2;
 
 /// The code of `EV_SYN` that tells a client that events were lost (the kernel's input event codes).
 pub const SYN_DROPPED: u16 = 3;
 
 /// The key A (the kernel's input event codes).
 pub const KEY_A: u16 = 30;
+
+/// The greatest code of `EV_KEY` (the kernel's input event codes).
+pub const KEY_MAX: u16 = 0x2ff;
+
+/// The greatest code of `EV_REL` (the kernel's input event codes).
+pub const REL_MAX: u16 = 0x0f;
+
+/// The first of the multi-touch axes, which names a slot (the kernel's input event codes).
+pub const ABS_MT_SLOT: u16 = 0x2f;
+
+/// The multi-touch axis of a contact's id (the kernel's input event codes).
+pub const ABS_MT_TRACKING_ID: u16 = 0x39;
+
+/// The last of the multi-touch axes (the kernel's input event codes).
+pub const ABS_MT_TOOL_Y: u16 = 0x3d;
+
+/// The greatest code of `EV_ABS` (the kernel's input event codes).
+pub const ABS_MAX: u16 = 0x3f;
+
+/// The greatest code of `EV_MSC` (the kernel's input event codes).
+pub const MSC_MAX: u16 = 0x07;
+
+/// The greatest code of `EV_SW` (this project's choice, since kernels differ in it).
+pub const SW_MAX: u16 = 0x10;
+
+/// The greatest code of `EV_LED` (the kernel's input event codes).
+pub const LED_MAX: u16 = 0x0f;
+
+/// The greatest code of `EV_SND` (the kernel's input event codes).
+pub const SND_MAX: u16 = 0x07;
+
+/// The code of `EV_REP` for the time in milliseconds before a key's first repeat (the kernel's input event codes).
+pub const REP_DELAY: u16 = 0;
+
+/// The code of `EV_REP` for the time in milliseconds between repeats (the kernel's input event codes).
+pub const REP_PERIOD: u16 = 1;
+
+/// The greatest code of `EV_REP` (the kernel's input event codes).
+pub const REP_MAX: u16 = 1;
 
 /// One input event: what happened, without a time (the kernel's `struct input_event`).
 #[derive(Clone, Copy, Debug, PartialEq, Eq)]
@@ -41,6 +110,13 @@ impl Event {
         ensures repeat { result ≡ is_repeat self }
     {
         self.value == 2
+    }
+
+    /// Whether it is of a multi-touch axis: `EV_ABS` from `ABS_MT_SLOT` to `ABS_MT_TOOL_Y`.
+    pub fn is_multi_touch(self) -> bool
+        ensures multi_touch { result ≡ is_multi_touch self }
+    {
+        self.kind == EV_ABS && self.code >= ABS_MT_SLOT && self.code <= ABS_MT_TOOL_Y
     }
 
     /// Of a key and the like: whether it is down, or on.

@@ -4,8 +4,9 @@
 //! replies, histories), and in `specs/` the one-thread device as definitions over a list of steps. It stands on
 //! `std` alone.
 //!
-//! Its definitions are what a reader must believe. A history is a list of accepted steps. From it alone follow the
-//! raw events, the state by the last write (`State`), the events passed (`Passed`), the frames that they are cut
+//! Its definitions are what a reader must believe. `Description` says what a device is, and which descriptions there
+//! are. A history is a list of accepted steps. From it and the description alone follow the raw events, the state by
+//! the last write (`State`, with `Defuzz` for the axes), the events passed (`Passed`), the frames that they are cut
 //! into (`Frame`), each client's queue (`Queue`) and the reply to the next step (`Reply`). `Run` says when a
 //! caller's calls are a legal run of a history. `examples` shows what the definitions compute on short histories.
 #![tactic(auto)]
@@ -14,6 +15,7 @@ mod axis_info;
 mod clock;
 mod event;
 mod items;
+mod limits;
 mod no_memory;
 mod reply;
 mod stamped;
@@ -23,11 +25,17 @@ mod worked;
 
 pub use axis_info::AxisInfo;
 pub use clock::Clock;
-pub use event::{EV_KEY, EV_SYN, Event, KEY_A, SYN_DROPPED, SYN_REPORT};
+pub use event::{
+    ABS_MAX, ABS_MT_SLOT, ABS_MT_TOOL_Y, ABS_MT_TRACKING_ID, EV_ABS, EV_KEY, EV_LED, EV_MAX,
+    EV_MSC, EV_REL, EV_REP, EV_SND, EV_SW, EV_SYN, Event, KEY_A, KEY_MAX, LED_MAX, MSC_MAX,
+    REL_MAX, REP_DELAY, REP_MAX, REP_PERIOD, SND_MAX, SW_MAX, SYN_CONFIG, SYN_DROPPED,
+    SYN_MT_REPORT, SYN_REPORT,
+};
 pub use items::{History, Items};
+pub use limits::{FUZZ_MAX, HINT_MAX, HINT_MIN, LOG_MAX, SLOTS_MAX};
 pub use no_memory::NoMemory;
 pub use reply::{Refusal, Reply};
 pub use stamped::{MOMENT_MAX, Stamped};
 pub use step::Step;
 pub use taken::Taken;
-pub use worked::examples;
+pub use worked::{examples, query_examples};

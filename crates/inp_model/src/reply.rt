@@ -2,6 +2,8 @@
 ghost use Rattle.std.specs.Prelude.{◌≡◌};
 ghost use Rattle.inp_model.specs.Reply.{is_accepted};
 
+use crate::AxisInfo;
+
 /// The answer to a step. In an accepted one `at` is the step's place in the history. In `Again` and `Refused` it is
 /// the history's length, and the step is not entered.
 #[derive(Clone, Copy, Debug, PartialEq, Eq)]
@@ -12,6 +14,10 @@ pub enum Reply {
     Opened { at: u32, client: u32, ring: u32 },
     /// So many events were read, and stand at the front of the caller's buffer.
     Took { at: u32, count: u32 },
+    /// The bits that were asked for: bit i of the 768 for code i, 64 a word.
+    Bits { at: u32, words: [u64; 12] },
+    /// The axis that was asked for, with its value.
+    Axis { at: u32, info: AxisInfo },
     /// Nothing is visible to the client (evdev's -EAGAIN). `ends` is how many sources are done.
     Again { at: u32, ends: u32 },
     /// The step was refused, and nothing changed.
@@ -23,6 +29,12 @@ pub enum Reply {
 pub enum Refusal {
     /// The named client is not open.
     BadClient,
+    /// The device has no type of the kind that the step is about.
+    BadKind,
+    /// The step is about a code that its type does not have.
+    BadCode,
+    /// The history has as many steps as it may have.
+    LogFull,
     /// Memory ran out while a client was opened.
     NoMemory,
 }
@@ -33,7 +45,11 @@ impl Reply {
         ensures accepted { result ≡ is_accepted self }
     {
         match self {
-            Reply::Done { .. } | Reply::Opened { .. } | Reply::Took { .. } => true,
+            Reply::Done { .. }
+            | Reply::Opened { .. }
+            | Reply::Took { .. }
+            | Reply::Bits { .. }
+            | Reply::Axis { .. } => true,
             Reply::Again { .. } | Reply::Refused { .. } => false,
         }
     }

@@ -13,4 +13,14 @@ pub enum Step {
     Open,
     /// A client reads at most `count` of its visible events (evdev's `read`).
     Read { client: u32, count: u32 },
+    /// A client asks which keys are down (evdev's `EVIOCGKEY`). Its queued key events are removed.
+    GetKeys { client: u32 },
+    /// A client asks which switches are on (evdev's `EVIOCGSW`). Its queued switch events are removed.
+    GetSwitches { client: u32 },
+    /// A client asks which LEDs are on (evdev's `EVIOCGLED`). Its queued LED events are removed.
+    GetLeds { client: u32 },
+    /// A client asks which sounds are on (evdev's `EVIOCGSND`). Its queued sound events are removed.
+    GetSounds { client: u32 },
+    /// A client asks for an axis (evdev's `EVIOCGABS`). Nothing is removed.
+    GetAxis { client: u32, code: u16 },
 }

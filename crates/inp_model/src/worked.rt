@@ -1,5 +1,6 @@
 //! What the definitions compute on short histories.
-ghost use Rattle.inp_model.specs.Examples.{RingOf128, ReadsAFrame, PassesAChangeOnce, ReadsNothing, NeedsAClient, ReadsNone, ReadsInParts, HidesAnOpenBatch, OffersAWholeFrame, PassesARepeat, KeepsTheKeyUp, IgnoresOthers, CutsAFullPacket, LosesAFullRing, LosesInAFrame, KeepsAllButOne, IsLegalAmongOthers};
+ghost use Rattle.inp_model.specs.QueryExamples.{TellsTheKeys, RemovesQueuedKeys, LeavesAxisEvents, AnswersOtherAxes, EndsAtItsLimit};
+ghost use Rattle.inp_model.specs.Examples.{RingOf128, ReadsAFrame, PassesAChangeOnce, ReadsNothing, NeedsAClient, ReadsNone, ReadsInParts, HidesAnOpenBatch, OffersAWholeFrame, PassesARepeat, KeepsTheKeyUp, IgnoresOthers, CutsAFullPacket, LosesAFullRing, LosesInAFrame, KeepsAllButOne, IsLegalAmongOthers, DescribesAKeyboard, PassesAnLedOnce, PassesASwitchOnce, PassesEachSound, PassesMotion, PassesAMove, PassesASetting};
 
 /// What the definitions of this crate compute on short histories that were worked out by hand. It does nothing: its
 /// contract is the point.
@@ -21,4 +22,20 @@ pub fn examples()
     ensures in_frame { LosesInAFrame }
     ensures in_time { KeepsAllButOne }
     ensures run { IsLegalAmongOthers }
+    ensures keyboard { DescribesAKeyboard }
+    ensures led { PassesAnLedOnce }
+    ensures switch { PassesASwitchOnce }
+    ensures sound { PassesEachSound }
+    ensures motion { PassesMotion }
+    ensures moves { PassesAMove }
+    ensures setting { PassesASetting }
+{}
+
+/// The same of queries, and of a history at its limit.
+pub fn query_examples()
+    ensures keys { TellsTheKeys }
+    ensures removed { RemovesQueuedKeys }
+    ensures left { LeavesAxisEvents }
+    ensures axes { AnswersOtherAxes }
+    ensures limit { EndsAtItsLimit }
 {}

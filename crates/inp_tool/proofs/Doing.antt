@@ -1,16 +1,16 @@
 -- What one line leaves, from what the device ensures.
-use Rattle.std.proofs.Common.{◌≡◌, ℕ, Bool, true, false, if◌then◌else◌, nat_eq, List, ◌++◌, take, drop, length, refl, sym, ap, ◌∙◌, arith, Some, None, inl, inr, ℤ}
+use Rattle.std.proofs.Common.{◌≡◌, ℕ, Bool, true, false, if◌then◌else◌, nat_eq, nat_le, List, ◌++◌, take, drop, length, refl, sym, ap, ◌∙◌, arith, Some, None, inl, inr, ℤ}
 use Rattle.std.proofs.lemmas.List.{take_at, length-map, length-append}
 use Rattle.inp_model.specs.declared.taken.Taken.{Taken}
 use Rattle.inp_model.specs.declared.step.Step.{Step}
-use Rattle.inp_model.specs.declared.step.Step.TheVariants.{Inject, Open, Read}
+use Rattle.inp_model.specs.declared.step.Step.TheVariants.{Inject, Open, Read, GetKeys, GetSwitches, GetLeds, GetSounds, GetAxis}
 use Rattle.inp_model.specs.declared.reply.Reply.{Reply}
 use Rattle.inp_model.specs.declared.reply.Reply.TheVariants.{Again, Refused}
-use Rattle.inp_model.specs.declared.reply.Refusal.TheVariants.{BadClient}
+use Rattle.inp_model.specs.declared.reply.Refusal.TheVariants.{BadClient, BadKind, BadCode, LogFull}
 use Rattle.inp_model.specs.Description.{Description, one_key}
 use Rattle.inp_model.specs.History.{client_of, ends}
 use Rattle.inp_model.specs.Queue.{taken_by}
-use Rattle.inp_model.specs.Reply.{Answer, answer, answer_by, accepted, names_no_client, reads_nothing, taken_of, written, past_after, Answers, Makes}
+use Rattle.inp_model.specs.Reply.{Answer, answer, answer_by, accepted, names_no_client, reads_nothing, axis_of, lacks_axes, is_no_axis, taken_of, written, past_after, Answers, Makes}
 use Rattle.inp_tool.specs.declared.line.TheConstants.{SOURCE, TAP}
 use Rattle.inp_tool.specs.declared.line.Line.{Line}
 use Rattle.inp_tool.specs.declared.sight.Sight.{Sight}
@@ -19,20 +19,28 @@ use Rattle.inp_tool.specs.Play.{answer_to, client_after, sights_by}
 use Rattle.inp_tool.specs.Player.{Playing, after, count_taken, lacks_memory, IsMade}
 
 -- a refusal writes nothing
-counted_by : (b c : Bool) (at n : ℕ) (given : Answer) → count_taken given.reply ≡ length given.events → let a = answer_by (if b then Some (Refused at BadClient) else if c then Some (Again at n) else None) given in count_taken a.reply ≡ length a.events
-counted_by true c at n given h = refl
-counted_by false true at n given h = refl
-counted_by false false at n given h = h
+counted_by : (b c d e f : Bool) (at n : ℕ) (given : Answer) → count_taken given.reply ≡ length given.events → let a = answer_by (if b then Some (Refused at BadClient) else if c then Some (Refused at BadKind) else if d then Some (Refused at BadCode) else if e then Some (Again at n) else if f then Some (Refused at LogFull) else None) given in count_taken a.reply ≡ length a.events
+counted_by true c d e f at n given h = refl
+counted_by false true d e f at n given h = refl
+counted_by false false true e f at n given h = refl
+counted_by false false false true f at n given h = refl
+counted_by false false false false true at n given h = refl
+counted_by false false false false false at n given h = h
 
 counted_when_accepted : (d : Description) (past : List Step) (x : Step) → count_taken (accepted d past x).reply ≡ length (accepted d past x).events
 counted_when_accepted d past (Inject e now) = refl
 counted_when_accepted d past Open = refl
+counted_when_accepted d past (GetKeys client) = refl
+counted_when_accepted d past (GetSwitches client) = refl
+counted_when_accepted d past (GetLeds client) = refl
+counted_when_accepted d past (GetSounds client) = refl
+counted_when_accepted d past (GetAxis client code) = refl
 counted_when_accepted d past (Read client count) = sym (length-map (taken_by d past client (Read client count)) taken_of)
 
 -- a reply tells how many events were written
 pub count_taken-answer : (d : Description) (past : List Step) (x : Step) → count_taken (answer d past x).reply ≡ length (answer d past x).events
 count_taken-answer d past x =
-    counted_by (names_no_client past (client_of x)) (reads_nothing d past x) (length past) (ends past) (accepted d past x) (counted_when_accepted d past x)
+    counted_by (names_no_client past (client_of x)) (lacks_axes d (axis_of x)) (is_no_axis (axis_of x)) (reads_nothing d past x) (nat_le d.log (length past)) (length past) (ends past) (accepted d past x) (counted_when_accepted d past x)
 
 exact : (d : Description) (past : List Step) (x : Step) (given : Answer) (reply : Reply) → reply ≡ given.reply → lacks_memory reply ≡ false → Answers d past x given → given ≡ answer d past x
 exact d past x given reply r no_lack (inl h) = h

@@ -4,16 +4,17 @@ use Rattle.std.specs.List.{count_by, slice_get}
 use Rattle.std.proofs.lemmas.List.{append_assoc, append-nil, reverse-append, reverse-reverse, length-reverse, length-append, take_at}
 use Rattle.std.proofs.lemmas.List.Sums.{sum_by-cons, sum_by-append}
 use Rattle.std.proofs.lemmas.Bool.Decides.{nat_tests}
+use Rattle.inp_model.specs.declared.event.Event.{Event}
 use Rattle.inp_model.specs.declared.taken.Taken.{Taken}
 use Rattle.inp_model.specs.declared.step.Step.{Step}
-use Rattle.inp_model.specs.declared.step.Step.TheVariants.{Inject, Open, Read}
+use Rattle.inp_model.specs.declared.step.Step.TheVariants.{Inject, Open, Read, GetKeys, GetSwitches, GetLeds, GetSounds, GetAxis}
 use Rattle.inp_model.specs.declared.reply.Reply.{Reply}
-use Rattle.inp_model.specs.declared.reply.Reply.TheVariants.{Done, Opened, Again, Refused}
+use Rattle.inp_model.specs.declared.reply.Reply.TheVariants.{Done, Opened, Bits, Axis, Again, Refused}
 use Rattle.inp_model.specs.declared.reply.Reply.TheVariants.{Took as Taking}
-use Rattle.inp_model.specs.declared.reply.Refusal.TheVariants.{BadClient}
+use Rattle.inp_model.specs.declared.reply.Refusal.TheVariants.{BadClient, BadKind, BadCode, LogFull}
 use Rattle.inp_model.specs.Description.{Description}
 use Rattle.inp_model.specs.History.{past_at, client_of, ends}
-use Rattle.inp_model.specs.Reply.{Answer, answer, answer_by, accepted, names_no_client, reads_nothing, past_after, is_accepted}
+use Rattle.inp_model.specs.Reply.{Answer, answer, answer_by, accepted, names_no_client, reads_nothing, axis_of, lacks_axes, is_no_axis, past_after, is_accepted}
 use Rattle.inp_model.specs.Run.{HasPlace, IsLegalFrom, place_of, next_place}
 use Rattle.inp_model.specs.Run as model
 use Rattle.inp_tool.specs.declared.line.TheConstants.{SOURCE, TAP}
@@ -22,7 +23,7 @@ use Rattle.inp_tool.specs.declared.line.Line.TheVariants.{Event as Injects, Open
 use Rattle.inp_tool.specs.declared.sight.Sight.{Sight}
 use Rattle.inp_tool.specs.declared.sight.Sight.TheVariants.{Took, Call}
 use Rattle.inp_tool.specs.Line.{actor_of, lines_of, step_of}
-use Rattle.inp_tool.specs.Play.{Stage, next_stage, answer_to, sights_by, sights_of, last_past, sight_of}
+use Rattle.inp_tool.specs.Play.{Stage, next_stage, answer_to, client_after, sights_by, sights_of, last_past, sight_of}
 use Rattle.inp_tool.specs.Job.{Follows, is_entry_at}
 
 -- the history, oldest first, begins with the past, newest first
@@ -74,19 +75,27 @@ begins-entered h x past b =
     ∙ slice_get-at (reverse past) x b.rest
 
 -- each answer tells the length of the past
-placed_by : (b c : Bool) (at n : ℕ) (given : Answer) → place_of given.reply ≡ at → place_of (answer_by (if b then Some (Refused at BadClient) else if c then Some (Again at n) else None) given).reply ≡ at
-placed_by true c at n given h = refl
-placed_by false true at n given h = refl
-placed_by false false at n given h = h
+placed_by : (b c d e f : Bool) (at n : ℕ) (given : Answer) → place_of given.reply ≡ at → place_of (answer_by (if b then Some (Refused at BadClient) else if c then Some (Refused at BadKind) else if d then Some (Refused at BadCode) else if e then Some (Again at n) else if f then Some (Refused at LogFull) else None) given).reply ≡ at
+placed_by true c d e f at n given h = refl
+placed_by false true d e f at n given h = refl
+placed_by false false true e f at n given h = refl
+placed_by false false false true f at n given h = refl
+placed_by false false false false true at n given h = refl
+placed_by false false false false false at n given h = h
 
 placed_when_accepted : (d : Description) (past : List Step) (x : Step) → place_of (accepted d past x).reply ≡ length past
 placed_when_accepted d past (Inject e now) = refl
 placed_when_accepted d past Open = refl
 placed_when_accepted d past (Read client count) = refl
+placed_when_accepted d past (GetKeys client) = refl
+placed_when_accepted d past (GetSwitches client) = refl
+placed_when_accepted d past (GetLeds client) = refl
+placed_when_accepted d past (GetSounds client) = refl
+placed_when_accepted d past (GetAxis client code) = refl
 
 place_of-answer : (d : Description) (past : List Step) (x : Step) → place_of (answer d past x).reply ≡ length past
 place_of-answer d past x =
-    placed_by (names_no_client past (client_of x)) (reads_nothing d past x) (length past) (ends past) (accepted d past x) (placed_when_accepted d past x)
+    placed_by (names_no_client past (client_of x)) (lacks_axes d (axis_of x)) (is_no_axis (axis_of x)) (reads_nothing d past x) (nat_le d.log (length past)) (length past) (ends past) (accepted d past x) (placed_when_accepted d past x)
 
 next_place-answer : (d : Description) (past : List Step) (x : Step) → next_place (answer d past x).reply ≡ length (past_after (answer d past x).reply x past)
 next_place-answer d past x = by_flag (is_accepted (answer d past x).reply) (place_of (answer d past x).reply) (place_of-answer d past x)
@@ -147,19 +156,29 @@ legal actor d stage (line ∷ lines) =
     legal-weaker d h (length (past_after reply x stage.past)) (length stage.past) more (length-past_after reply x stage.past) (legal actor d (next_stage d stage line) lines) in
     legal-either d h (length stage.past) (record { step = x; answer = answer_to d stage line } ∷ more) more (nat_eq (actor_of line) actor) own others
 
+-- an injected event gives no client
+client_after-inject : (d : Description) (client : ℕ) (past : List Step) (e : Event) (now : ℕ) → client_after client (answer d past (Inject e now)).reply ≡ client
+client_after-inject d client past e now = by_flag (nat_le d.log (length past))
+  where
+    by_flag : (b : Bool) → client_after client (answer_by (if b then Some (Refused (length past) LogFull) else None) (accepted d past (Inject e now))).reply ≡ client
+    by_flag true = refl
+    by_flag false = refl
+
 -- the source's sight follows its lines, whatever client it is said to have
-pub follows-source : (d : Description) (client : ℕ) (stage : Stage) (lines : List Line) → Follows client (lines_of SOURCE lines) (calls_of SOURCE d stage lines) (sight_of SOURCE d stage lines)
+pub follows-source : (d : Description) (stage : Stage) (lines : List Line) (client : ℕ) → Follows client (lines_of SOURCE lines) (calls_of SOURCE d stage lines) (sight_of SOURCE d stage lines)
 unfolding calls_of sight_of
-follows-source d client stage [] = refl
-follows-source d client stage (Injects stamped ∷ lines) = (refl, sight_of SOURCE d (next_stage d stage (Injects stamped)) lines, refl, follows-source d _ (next_stage d stage (Injects stamped)) lines)
-follows-source d client stage (Opens ∷ lines) = follows-source d client (next_stage d stage Opens) lines
-follows-source d client stage (Reads count ∷ lines) = follows-source d client (next_stage d stage (Reads count)) lines
+follows-source d stage [] client = refl
+follows-source d stage (Injects stamped ∷ lines) client = (refl, sight_of SOURCE d (next_stage d stage (Injects stamped)) lines, refl, follows-source d (next_stage d stage (Injects stamped)) lines _)
+follows-source d stage (Opens ∷ lines) client = follows-source d (next_stage d stage Opens) lines client
+follows-source d stage (Reads count ∷ lines) client = follows-source d (next_stage d stage (Reads count)) lines client
 
 -- the tap's sight follows its lines, from its client on
 pub follows-tap : (d : Description) (stage : Stage) (lines : List Line) → Follows stage.client (lines_of TAP lines) (calls_of TAP d stage lines) (sight_of TAP d stage lines)
 unfolding calls_of sight_of
 follows-tap d stage [] = refl
-follows-tap d stage (Injects stamped ∷ lines) = follows-tap d (next_stage d stage (Injects stamped)) lines
+follows-tap d stage (Injects stamped ∷ lines) =
+    let next = next_stage d stage (Injects stamped) in
+    subst (λ c. Follows c (lines_of TAP lines) (calls_of TAP d next lines) (sight_of TAP d next lines)) (client_after-inject d stage.client stage.past stamped.event stamped.now) (follows-tap d next lines)
 follows-tap d stage (Opens ∷ lines) = (refl, sight_of TAP d (next_stage d stage Opens) lines, refl, follows-tap d (next_stage d stage Opens) lines)
 follows-tap d stage (Reads count ∷ lines) = (refl, sight_of TAP d (next_stage d stage (Reads count)) lines, refl, follows-tap d (next_stage d stage (Reads count)) lines)
 
@@ -191,6 +210,8 @@ entries-sights_by : (place : ℕ) (x : Step) (reply : Reply) (events : List Take
 entries-sights_by place x (Done at) events = entries-call place x (Done at) events
 entries-sights_by place x (Opened at client places) events = entries-call place x (Opened at client places) events
 entries-sights_by place x (Taking at count) events = entries-call place x (Taking at count) events
+entries-sights_by place x (Bits at words) events = entries-call place x (Bits at words) events
+entries-sights_by place x (Axis at axis) events = entries-call place x (Axis at axis) events
 entries-sights_by place x (Again at n) events = refl
 entries-sights_by place x (Refused at why) events = entries-call place x (Refused at why) events
 

@@ -8,3 +8,4 @@ pub mod Splits
 pub mod Histories
 pub mod Promised
 pub mod Playable
+pub mod Codes

@@ -39,7 +39,7 @@ is_source_job d lines = record {
   actor = refl;
   calls = calls_of SOURCE d first_stage lines;
   legal = legal SOURCE d first_stage lines;
-  follows = follows-source d NO_CLIENT first_stage lines;
+  follows = follows-source d first_stage lines NO_CLIENT;
   down = refl;
   stop = refl;
 }

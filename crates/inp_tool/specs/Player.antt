@@ -4,9 +4,9 @@ use Rattle.std.specs.List.{list_all, count_by}
 use Rattle.inp_model.specs.declared.taken.Taken.{Taken}
 use Rattle.inp_model.specs.declared.step.Step.{Step}
 use Rattle.inp_model.specs.declared.reply.Reply.{Reply}
-use Rattle.inp_model.specs.declared.reply.Reply.TheVariants.{Done, Opened, Took as Taking, Again as Nothing, Refused}
+use Rattle.inp_model.specs.declared.reply.Reply.TheVariants.{Done, Opened, Took as Taking, Bits, Axis, Again as Nothing, Refused}
 use Rattle.inp_model.specs.declared.reply.Refusal.{Refusal}
-use Rattle.inp_model.specs.declared.reply.Refusal.TheVariants.{BadClient, NoMemory}
+use Rattle.inp_model.specs.declared.reply.Refusal.TheVariants.{BadClient, BadKind, BadCode, LogFull, NoMemory}
 use Rattle.inp_model.specs.Description.{Description, one_key}
 use Rattle.inp_model.specs.Reply.{answer, past_after}
 use Rattle.inp_model.specs.History.{opens}
@@ -58,11 +58,16 @@ abbrev pub count_taken : Reply → ℕ
 count_taken (Done at) = 0
 count_taken (Opened at client places) = 0
 count_taken (Taking at count) = count
+count_taken (Bits at words) = 0
+count_taken (Axis at axis) = 0
 count_taken (Nothing at ends) = 0
 count_taken (Refused at why) = 0
 
 abbrev pub is_no_memory : Refusal → Bool
 is_no_memory BadClient = false
+is_no_memory BadKind = false
+is_no_memory BadCode = false
+is_no_memory LogFull = false
 is_no_memory NoMemory = true
 
 -- memory ran out
@@ -70,6 +75,8 @@ abbrev pub lacks_memory : Reply → Bool
 lacks_memory (Done at) = false
 lacks_memory (Opened at client places) = false
 lacks_memory (Taking at count) = false
+lacks_memory (Bits at words) = false
+lacks_memory (Axis at axis) = false
 lacks_memory (Nothing at ends) = false
 lacks_memory (Refused at why) = is_no_memory why
 

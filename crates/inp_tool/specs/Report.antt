@@ -1,15 +1,17 @@
 -- The text of the report. A line ends with a line feed, and one space stands between two words.
-use Rattle.std.specs.Prelude.{ℕ, Bool, false, ◌&&◌, if◌then◌else◌, nat_eq, List, [], ◌∷◌, ◌++◌, length, codes, decimal, flat_map}
-use Rattle.std.specs.List.{count_by}
+use Rattle.std.specs.Prelude.{ℕ, Bool, false, ◌&&◌, if◌then◌else◌, nat_eq, ◌/◌, ◌%◌, slice_index, List, [], ◌∷◌, ◌++◌, length, codes, decimal, flat_map}
+use Rattle.std.specs.Int.{bit_at}
+use Rattle.std.specs.List.{count_by, range_with_len}
 use Rattle.std.specs.Fmt.{signed_decimal}
-use Rattle.inp_model.specs.declared.event.TheConstants.{EV_SYN, EV_KEY, SYN_REPORT, SYN_DROPPED, KEY_A}
+use Rattle.inp_model.specs.declared.event.TheConstants.{EV_SYN, EV_KEY, EV_ABS, EV_SW, EV_LED, EV_SND, SYN_REPORT, SYN_DROPPED, KEY_A}
+use Rattle.inp_model.specs.declared.axis_info.AxisInfo.{AxisInfo}
 use Rattle.inp_model.specs.declared.event.Event.{Event}
 use Rattle.inp_model.specs.declared.step.Step.{Step}
-use Rattle.inp_model.specs.declared.step.Step.TheVariants.{Inject, Open, Read}
+use Rattle.inp_model.specs.declared.step.Step.TheVariants.{Inject, Open, Read, GetKeys, GetSwitches, GetLeds, GetSounds, GetAxis}
 use Rattle.inp_model.specs.declared.reply.Reply.{Reply}
-use Rattle.inp_model.specs.declared.reply.Reply.TheVariants.{Done, Opened, Took as Taking, Again as Nothing, Refused}
+use Rattle.inp_model.specs.declared.reply.Reply.TheVariants.{Done, Opened, Took as Taking, Bits, Axis, Again as Nothing, Refused}
 use Rattle.inp_model.specs.declared.reply.Refusal.{Refusal}
-use Rattle.inp_model.specs.declared.reply.Refusal.TheVariants.{BadClient, NoMemory}
+use Rattle.inp_model.specs.declared.reply.Refusal.TheVariants.{BadClient, BadKind, BadCode, LogFull, NoMemory}
 use Rattle.inp_model.specs.Reply.{is_accepted}
 use Rattle.inp_tool.specs.declared.sight.Sight.{Sight}
 use Rattle.inp_tool.specs.declared.sight.Sight.TheVariants.{Call, Took, Again}
@@ -45,21 +47,61 @@ unfoldable pub step_text : Step → List ℕ
 step_text (Inject e now) = codes "inject " ++ (decimal now ++ (codes " " ++ event_text e))
 step_text Open = codes "open"
 step_text (Read client count) = codes "read " ++ (decimal client ++ (codes " " ++ decimal count))
+step_text (GetKeys client) = codes "getkeys " ++ decimal client
+step_text (GetSwitches client) = codes "getswitches " ++ decimal client
+step_text (GetLeds client) = codes "getleds " ++ decimal client
+step_text (GetSounds client) = codes "getsounds " ++ decimal client
+step_text (GetAxis client code) = codes "getaxis " ++ (decimal client ++ (codes " " ++ code_text EV_ABS code))
 
 unfoldable pub refusal_text : Refusal → List ℕ
 refusal_text BadClient = codes "bad-client"
+refusal_text BadKind = codes "bad-kind"
+refusal_text BadCode = codes "bad-code"
+refusal_text LogFull = codes "log-full"
 refusal_text NoMemory = codes "no-memory"
 
-unfoldable pub reply_text : Reply → List ℕ
-reply_text (Done at) = codes "done " ++ decimal at
-reply_text (Opened at client places) = codes "opened " ++ (decimal at ++ (codes " " ++ (decimal client ++ (codes " " ++ decimal places))))
-reply_text (Taking at count) = codes "took " ++ (decimal at ++ (codes " " ++ decimal count))
-reply_text (Nothing at ends) = codes "again " ++ decimal at
-reply_text (Refused at why) = codes "refused " ++ (decimal at ++ (codes " " ++ refusal_text why))
+-- the type whose codes a step asks for
+abbrev pub asked_kind : Step → ℕ
+asked_kind (Inject e now) = EV_SYN
+asked_kind Open = EV_SYN
+asked_kind (Read client count) = EV_SYN
+asked_kind (GetKeys client) = EV_KEY
+asked_kind (GetSwitches client) = EV_SW
+asked_kind (GetLeds client) = EV_LED
+asked_kind (GetSounds client) = EV_SND
+asked_kind (GetAxis client code) = EV_ABS
+
+-- bit i of the list of 768, 64 a word
+abbrev pub is_bit_set : List ℕ → ℕ → Bool
+is_bit_set words i = nat_eq (bit_at (slice_index words (i / 64)) (i % 64)) 1
+
+-- a code whose bit is set, behind a space
+abbrev pub bit_text : ℕ → List ℕ → ℕ → List ℕ
+bit_text kind words code = if is_bit_set words code then codes " " ++ code_text kind code else []
+
+-- the codes whose bits are set, ascending
+unfoldable pub bits_text : ℕ → List ℕ → List ℕ
+bits_text kind words = flat_map (bit_text kind words) (range_with_len 0 768)
+
+-- VALUE MINIMUM MAXIMUM FUZZ FLAT RESOLUTION
+unfoldable pub axis_text : AxisInfo → List ℕ
+axis_text i =
+    signed_decimal i.value ++ (codes " " ++ (signed_decimal i.minimum ++ (codes " " ++ (signed_decimal i.maximum
+    ++ (codes " " ++ (signed_decimal i.fuzz ++ (codes " " ++ (signed_decimal i.flat ++ (codes " " ++ signed_decimal i.resolution)))))))))
+
+-- the reply to a step
+unfoldable pub reply_text : Step → Reply → List ℕ
+reply_text x (Done at) = codes "done " ++ decimal at
+reply_text x (Opened at client places) = codes "opened " ++ (decimal at ++ (codes " " ++ (decimal client ++ (codes " " ++ decimal places))))
+reply_text x (Taking at count) = codes "took " ++ (decimal at ++ (codes " " ++ decimal count))
+reply_text x (Bits at words) = codes "bits " ++ (decimal at ++ bits_text (asked_kind x) words)
+reply_text x (Axis at axis) = codes "axis " ++ (decimal at ++ (codes " " ++ axis_text axis))
+reply_text x (Nothing at ends) = codes "again " ++ decimal at
+reply_text x (Refused at why) = codes "refused " ++ (decimal at ++ (codes " " ++ refusal_text why))
 
 -- one line for each entry of a sight
 unfoldable pub sight_line : Sight → List ℕ
-sight_line (Call x reply) = codes "call " ++ (step_text x ++ (codes " reply " ++ (reply_text reply ++ LINE_FEED)))
+sight_line (Call x reply) = codes "call " ++ (step_text x ++ (codes " reply " ++ (reply_text x reply ++ LINE_FEED)))
 sight_line (Took t) = codes "took " ++ (decimal t.place ++ (codes " " ++ (decimal t.time ++ (codes " " ++ (event_text t.event ++ LINE_FEED)))))
 sight_line (Again at ends) = codes "again " ++ (decimal at ++ LINE_FEED)
 

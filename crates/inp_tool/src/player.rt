@@ -10,6 +10,7 @@ ghost use Rattle.inp_tool.specs.Player.{at_first, after, after_all, run_from, Ca
 
 use crate::line::{READ_MAX, SOURCE, TAP};
 use crate::{JobEnd, Jobs, Line, Record, Run, Runs, Sight, Sights, Stop};
+use inp_caps::{Caps, CapsBuilder};
 use inp_device::Device;
 use inp_model::{EV_KEY, EV_SYN, Event, KEY_A, NoMemory, Refusal, Reply, SYN_REPORT, Step, Taken};
 use std::alloc::Global;
@@ -62,7 +63,7 @@ impl Player {
         ensures fresh { IfOk result (λ player. player ≡ at_first) }
     {
         Ok(Player {
-            device: Device::new(alloc)?,
+            device: Device::new(alloc, keyboard())?,
             buffer: vec![in alloc; NOTHING; READ_MAX as usize]?,
             client: NO_CLIENT,
             source: Sights::new(alloc),
@@ -74,7 +75,6 @@ impl Player {
     pub fn line(&mut self, line: Line) -> Result<(), NoMemory>
         requires in_range { IsTrue (is_in_range line) }
         requires one_client { IsTrue (is_open line) → opens self.old.stage.past ≡ 0 }
-        requires below_limit { length self.old.stage.past < 4096 }
         ensures done { OnOk result (self.new ≡ after self.old line) }
     {
         let step = step_of(self.client, line);
@@ -107,13 +107,21 @@ impl Player {
     }
 }
 
+/// A keyboard with the key A alone.
+fn keyboard() -> Caps
+    ensures keyboard { result ≡ one_key }
+{
+    let mut builder = CapsBuilder::new();
+    builder.code(EV_KEY, KEY_A).unwrap();
+    builder.build()
+}
+
 /// Makes a step on the device, and reads into the buffer.
 fn make(device: &mut Device, buffer: &mut Vec<Taken>, step: Step) -> Result<Reply, NoMemory>
     requires one_key { device.old.description ≡ one_key }
     requires timely { IsTimely step }
     requires room { HasRoom step buffer.old.items }
     requires one_client { step ≡ Step.Open → opens device.old.past ≡ 0 }
-    requires below_limit { length device.old.past < 4096 }
     ensures made { IfOk result (λ reply. IsMade one_key device.old.past step reply buffer.new.items device.new.past) }
     ensures description { device.new.description ≡ one_key }
     ensures buffer { vec_len buffer.new ≡ vec_len buffer.old }

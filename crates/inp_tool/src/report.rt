@@ -1,12 +1,12 @@
 //! The report of what came of a record.
-ghost use Rattle.std.specs.Prelude.{◌≡◌, ◌++◌, string_bytes, IfOk, OnOk, flat_map};
+ghost use Rattle.std.specs.Prelude.{◌<◌, ◌≡◌, ◌++◌, string_bytes, IfOk, OnOk, flat_map};
 ghost use Rattle.std.specs.List.{count_by};
-ghost use Rattle.inp_tool.specs.Report.{device_line, source_line, tap_line, sight_line, keys_line, stop_line, job_text, run_text, report, is_accepted_call};
+ghost use Rattle.inp_tool.specs.Report.{device_line, source_line, tap_line, sight_line, keys_line, stop_line, reply_text, asked_kind, bits_text, bit_text, is_bit_set, job_text, run_text, report, is_accepted_call};
 
 use crate::line::SOURCE;
-use crate::text::{EventText, ReplyText, StepText, StopText};
+use crate::text::{AxisText, CodeText, EventText, RefusalText, StepText, StopText};
 use crate::{JobEnd, Name, Record, Run, Runs, Sight, Stop};
-use inp_model::NoMemory;
+use inp_model::{EV_ABS, EV_KEY, EV_LED, EV_SND, EV_SW, EV_SYN, NoMemory, Reply, Step};
 use std::alloc::Global;
 use std::fmt::Write;
 
@@ -110,7 +110,9 @@ fn push_sight(text: &mut String, sight: Sight) -> Result<(), NoMemory>
 {
     match sight {
         Sight::Call { step, reply } => {
-            write!(text, "call {} reply {}\n", StepText(step), ReplyText(reply))?;
+            write!(text, "call {} reply ", StepText(step))?;
+            push_reply(text, step, reply)?;
+            text.push_str("\n")?;
             Ok(())
         }
         Sight::Took { event } => {
@@ -145,4 +147,74 @@ fn push_stop(text: &mut String, stop: Stop) -> Result<(), NoMemory>
     let stop = StopText(stop);
     write!(text, "stop {stop}\n")?;
     Ok(())
+}
+
+#[tactic(auto, unfolding(crate::specs::Report::reply_text))]
+fn push_reply(text: &mut String, step: Step, reply: Reply) -> Result<(), NoMemory>
+    ensures pushed { OnOk result (string_bytes text.new ≡ string_bytes text.old ++ reply_text step reply) }
+{
+    match reply {
+        Reply::Done { at } => Ok(write!(text, "done {at}")?),
+        Reply::Opened { at, client, ring } => Ok(write!(text, "opened {at} {client} {ring}")?),
+        Reply::Took { at, count } => Ok(write!(text, "took {at} {count}")?),
+        Reply::Bits { at, words } => {
+            write!(text, "bits {at}")?;
+            push_bits(text, asked_kind(step), &words)
+        }
+        Reply::Axis { at, info } => {
+            let shown = AxisText(info);
+            Ok(write!(text, "axis {at} {shown}")?)
+        }
+        Reply::Again { at, .. } => Ok(write!(text, "again {at}")?),
+        Reply::Refused { at, why } => {
+            let why = RefusalText(why);
+            Ok(write!(text, "refused {at} {why}")?)
+        }
+    }
+}
+
+/// The type whose codes a step asks for.
+fn asked_kind(step: Step) -> u16
+    ensures kind { result ≡ asked_kind step }
+{
+    match step {
+        Step::GetKeys { .. } => EV_KEY,
+        Step::GetSwitches { .. } => EV_SW,
+        Step::GetLeds { .. } => EV_LED,
+        Step::GetSounds { .. } => EV_SND,
+        Step::GetAxis { .. } => EV_ABS,
+        Step::Inject { .. } | Step::Open | Step::Read { .. } => EV_SYN,
+    }
+}
+
+#[tactic(auto, unfolding(crate::specs::Report::bits_text))]
+fn push_bits(text: &mut String, kind: u16, words: &[u64; 12]) -> Result<(), NoMemory>
+    ensures pushed { OnOk result (string_bytes text.new ≡ string_bytes text.old ++ bits_text kind words.now) }
+{
+    for code in 0..768u16 {
+        push_bit(text, kind, words, code)?;
+    }
+    Ok(())
+}
+
+fn push_bit(text: &mut String, kind: u16, words: &[u64; 12], code: u16) -> Result<(), NoMemory>
+    requires code { code < 768 }
+    ensures pushed { OnOk result (string_bytes text.new ≡ string_bytes text.old ++ bit_text kind words.now code) }
+{
+    if is_bit_set(words, code) {
+        let shown = CodeText(kind, code);
+        write!(text, " {shown}")?;
+        Ok(())
+    } else {
+        Ok(())
+    }
+}
+
+/// Whether a bit of 768 is set, of 64 a word.
+fn is_bit_set(words: &[u64; 12], code: u16) -> bool
+    requires code { code < 768 }
+    ensures set { result ≡ is_bit_set words.now code }
+{
+    let word = words[usize::from(code) / 64];
+    (word >> (u32::from(code) % 64)) & 1 == 1
 }

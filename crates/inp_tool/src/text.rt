@@ -1,7 +1,9 @@
 //! How events, steps and replies are written in a report.
 
 use crate::Stop;
-use inp_model::{EV_KEY, EV_SYN, Event, KEY_A, Refusal, Reply, SYN_DROPPED, SYN_REPORT, Step};
+use inp_model::{
+    AxisInfo, EV_ABS, EV_KEY, EV_SYN, Event, KEY_A, Refusal, SYN_DROPPED, SYN_REPORT, Step,
+};
 use std::fmt;
 use std::fmt::Write;
 
@@ -84,6 +86,14 @@ impl fmt::Display for StepText {
             }
             Step::Open => f.write_str("open"),
             Step::Read { client, count } => write!(f, "read {client} {count}"),
+            Step::GetKeys { client } => write!(f, "getkeys {client}"),
+            Step::GetSwitches { client } => write!(f, "getswitches {client}"),
+            Step::GetLeds { client } => write!(f, "getleds {client}"),
+            Step::GetSounds { client } => write!(f, "getsounds {client}"),
+            Step::GetAxis { client, code } => {
+                let code = CodeText(EV_ABS, code);
+                write!(f, "getaxis {client} {code}")
+            }
         }
     }
 }
@@ -102,33 +112,35 @@ impl fmt::Display for RefusalText {
     fn fmt<W: fmt::Write>(&self, f: &mut fmt::Formatter<W>) -> fmt::Result {
         match self.0 {
             Refusal::BadClient => f.write_str("bad-client"),
+            Refusal::BadKind => f.write_str("bad-kind"),
+            Refusal::BadCode => f.write_str("bad-code"),
+            Refusal::LogFull => f.write_str("log-full"),
             Refusal::NoMemory => f.write_str("no-memory"),
         }
     }
 }
 
-/// A reply.
+/// The numbers of an axis.
 #[derive(Drop)]
-pub struct ReplyText(pub Reply);
+pub struct AxisText(pub AxisInfo);
 
-impl fmt::Display for ReplyText {
+impl fmt::Display for AxisText {
     ghost use Rattle.std.specs.Prelude.{Some};
-    ghost use Rattle.inp_tool.specs.Report.{reply_text};
+    ghost use Rattle.inp_tool.specs.Report.{axis_text};
 
-    ghost output = { λ shown. Some (reply_text shown.0) };
+    ghost output = { λ shown. Some (axis_text shown.0) };
 
-    #[tactic(auto, unfolding(crate::specs::Report::reply_text))]
+    #[tactic(auto, unfolding(crate::specs::Report::axis_text))]
     fn fmt<W: fmt::Write>(&self, f: &mut fmt::Formatter<W>) -> fmt::Result {
-        match self.0 {
-            Reply::Done { at } => write!(f, "done {at}"),
-            Reply::Opened { at, client, ring } => write!(f, "opened {at} {client} {ring}"),
-            Reply::Took { at, count } => write!(f, "took {at} {count}"),
-            Reply::Again { at, .. } => write!(f, "again {at}"),
-            Reply::Refused { at, why } => {
-                let why = RefusalText(why);
-                write!(f, "refused {at} {why}")
-            }
-        }
+        let AxisInfo {
+            value,
+            minimum,
+            maximum,
+            fuzz,
+            flat,
+            resolution,
+        } = self.0;
+        write!(f, "{value} {minimum} {maximum} {fuzz} {flat} {resolution}")
     }
 }
 

@@ -1,9 +1,8 @@
 //! Short histories, with what they give as it was worked out by hand.
-ghost use Rattle.std.specs.Prelude.{◌≡◌, IfOk};
-ghost use Rattle.inp_model.specs.Description.{one_key};
 
 use super::*;
-use inp_model::{EV_KEY, EV_SYN, KEY_A, SYN_DROPPED, SYN_REPORT};
+use inp_caps::{CapsBuilder, CapsRefused};
+use inp_model::{AxisInfo, EV_KEY, EV_SYN, KEY_A, SYN_DROPPED, SYN_REPORT};
 use std::process::Abort;
 use std::test::Fail;
 
@@ -21,6 +20,47 @@ const LOSS: Event = Event {
     code: SYN_DROPPED,
     value: 0,
 };
+
+/// The key B.
+const KEY_B: u16 = 48;
+
+/// The axis X.
+const ABS_X: u16 = 0;
+
+/// What the panel's axis X is, with its value before any event.
+const AXIS: AxisInfo = AxisInfo {
+    value: 0,
+    minimum: 0,
+    maximum: 255,
+    fuzz: 0,
+    flat: 0,
+    resolution: 0,
+};
+
+/// A keyboard with the key A.
+fn keyboard() -> Result<Caps, CapsRefused> {
+    let mut builder = CapsBuilder::new();
+    builder.code(EV_KEY, KEY_A)?;
+    Ok(builder.build())
+}
+
+/// A keyboard with the key A whose history has at most four steps.
+fn forgetful() -> Result<Caps, CapsRefused> {
+    let mut builder = CapsBuilder::new();
+    builder.code(EV_KEY, KEY_A)?;
+    builder.log(4)?;
+    Ok(builder.build())
+}
+
+/// A device with the keys A and B and the axis X, whose realtime clock is a millisecond ahead.
+fn panel() -> Result<Caps, CapsRefused> {
+    let mut builder = CapsBuilder::new();
+    builder.code(EV_KEY, KEY_A)?;
+    builder.code(EV_KEY, KEY_B)?;
+    builder.axis(ABS_X, AXIS)?;
+    builder.offsets(1000, 0)?;
+    Ok(builder.build())
+}
 
 fn key(value: i32) -> Event {
     Event {
@@ -43,10 +83,8 @@ fn taken(event: Event, time: u64, place: u32) -> Taken {
 }
 
 /// A device with an open client.
-fn opened(rt: &impl Abort, alloc: Global, out: &mut [Taken]) -> Result<Device, Fail>
-    ensures { IfOk result (λ device. device.description ≡ one_key) }
-{
-    let mut device = Device::new(alloc)?;
+fn opened(rt: &impl Abort, alloc: Global, caps: Caps, out: &mut [Taken]) -> Result<Device, Fail> {
+    let mut device = Device::new(alloc, caps)?;
     let reply = device.step(Step::Open, out, &mut []);
     let first = Reply::Opened {
         at: 0,
@@ -58,15 +96,16 @@ fn opened(rt: &impl Abort, alloc: Global, out: &mut [Taken]) -> Result<Device, F
 }
 
 /// Makes a step that opens no client.
-fn play(rt: &impl Abort, device: &mut Device, step: Step, out: &mut [Taken]) -> Reply
-    requires { device.old.description ≡ one_key }
-    ensures { device.new.description ≡ one_key }
-{
-    assert!(rt; device.history().len() < LOG);
+fn play(rt: &impl Abort, device: &mut Device, step: Step, out: &mut [Taken]) -> Reply {
     match step {
         Step::Inject { now, .. } => assert!(rt; now <= MOMENT_MAX),
         Step::Open => panic!(rt; "a client is open"),
         Step::Read { count, .. } => assert!(rt; count as usize <= out.len()),
+        Step::GetKeys { .. }
+        | Step::GetSwitches { .. }
+        | Step::GetLeds { .. }
+        | Step::GetSounds { .. }
+        | Step::GetAxis { .. } => {}
     }
     device.step(step, out, &mut [])
 }
@@ -84,9 +123,9 @@ struct Case<'a> {
     events: &'a [Taken],
 }
 
-fn check(rt: &impl Abort, alloc: Global, case: Case) -> Result<(), Fail> {
+fn check(rt: &impl Abort, alloc: Global, caps: Caps, case: Case) -> Result<(), Fail> {
     let mut out = vec![in alloc; taken(REPORT, 0, 0); MANY]?;
-    let mut device = opened(rt, alloc, &mut out)?;
+    let mut device = opened(rt, alloc, caps, &mut out)?;
     for frame in 0..case.frames {
         let value = if frame % 2 == 0 { 1 } else { 0 };
         play(rt, &mut device, inject(key(value), 0), &mut out);
@@ -149,14 +188,182 @@ fn answers_short_histories(rt: HostRuntime) -> Result<(), Fail> {
         },
     ];
     for case in &cases {
-        check(&rt, rt.alloc(), *case)?;
+        check(&rt, rt.alloc(), keyboard()?, *case)?;
     }
     Ok(())
 }
 
 #[test]
+fn answers_queries(rt: HostRuntime) -> Result<(), Fail> {
+    let (press, release, report) = (inject(key(1), 7), inject(key(0), 7), inject(REPORT, 7));
+    let repeat = inject(key(2), 7);
+    let keys = Step::GetKeys { client: 0 };
+    let first = [taken(key(1), 7, 2)];
+    let cases = [
+        Case {
+            frames: 0,
+            steps: &[repeat, report, read(16), keys],
+            reply: Reply::Bits {
+                at: 4,
+                words: [0; 12],
+            },
+            events: &[taken(key(2), 7, 2), taken(REPORT, 7, 2)],
+        },
+        Case {
+            frames: 0,
+            steps: &[press, report, keys],
+            reply: Reply::Bits {
+                at: 3,
+                words: [0x4000_0000, 0, 0, 0, 0, 0, 0, 0, 0, 0, 0, 0],
+            },
+            events: &[],
+        },
+        Case {
+            frames: 0,
+            steps: &[press, report, release, report, read(1), keys],
+            reply: Reply::Bits {
+                at: 6,
+                words: [0; 12],
+            },
+            events: &first,
+        },
+        Case {
+            frames: 0,
+            steps: &[press, report, release, report, read(1), keys, read(16)],
+            reply: Reply::Took { at: 7, count: 1 },
+            events: &[taken(REPORT, 7, 2)],
+        },
+        Case {
+            frames: 0,
+            steps: &[press, report, Step::GetSwitches { client: 0 }, read(1)],
+            reply: Reply::Took { at: 4, count: 1 },
+            events: &first,
+        },
+        Case {
+            frames: 0,
+            steps: &[Step::GetAxis {
+                client: 0,
+                code: 64,
+            }],
+            reply: Reply::Refused {
+                at: 1,
+                why: Refusal::BadKind,
+            },
+            events: &[],
+        },
+    ];
+    for case in &cases {
+        check(&rt, rt.alloc(), keyboard()?, *case)?;
+    }
+    Ok(())
+}
+
+#[test]
+fn answers_queries_of_a_panel(rt: HostRuntime) -> Result<(), Fail> {
+    let report = inject(REPORT, 7);
+    let x = Event {
+        kind: EV_ABS,
+        code: ABS_X,
+        value: 5,
+    };
+    let b = Event {
+        code: KEY_B,
+        ..key(1)
+    };
+    let steps = [
+        inject(key(1), 7),
+        report,
+        inject(x, 7),
+        inject(b, 7),
+        report,
+        inject(key(0), 7),
+        report,
+        read(1),
+        Step::GetKeys { client: 0 },
+        read(16),
+        Step::GetAxis {
+            client: 0,
+            code: ABS_X,
+        },
+    ];
+    let cases = [
+        Case {
+            frames: 0,
+            steps: &steps[..8],
+            reply: Reply::Took { at: 8, count: 1 },
+            events: &[taken(key(1), 1007, 2)],
+        },
+        Case {
+            frames: 0,
+            steps: &steps[..9],
+            reply: Reply::Bits {
+                at: 9,
+                words: [0x1_0000_0000_0000, 0, 0, 0, 0, 0, 0, 0, 0, 0, 0, 0],
+            },
+            events: &[],
+        },
+        Case {
+            frames: 0,
+            steps: &steps[..10],
+            reply: Reply::Took { at: 10, count: 3 },
+            events: &[
+                taken(REPORT, 1007, 2),
+                taken(x, 1007, 5),
+                taken(REPORT, 1007, 5),
+            ],
+        },
+        Case {
+            frames: 0,
+            steps: &steps,
+            reply: Reply::Axis {
+                at: 11,
+                info: AxisInfo { value: 5, ..AXIS },
+            },
+            events: &[],
+        },
+        Case {
+            frames: 0,
+            steps: &[Step::GetAxis {
+                client: 0,
+                code: 64,
+            }],
+            reply: Reply::Refused {
+                at: 1,
+                why: Refusal::BadCode,
+            },
+            events: &[],
+        },
+    ];
+    for case in &cases {
+        check(&rt, rt.alloc(), panel()?, *case)?;
+    }
+    Ok(())
+}
+
+#[test]
+fn ends_at_the_limit(rt: HostRuntime) -> Result<(), Fail> {
+    let mut out = [taken(REPORT, 0, 0); 16];
+    let mut device = opened(&rt, rt.alloc(), forgetful()?, &mut out)?;
+    for _ in 1..4 {
+        play(&rt, &mut device, inject(REPORT, 0), &mut out);
+    }
+    let full = Reply::Refused {
+        at: 4,
+        why: Refusal::LogFull,
+    };
+    let reply = play(&rt, &mut device, inject(REPORT, 0), &mut out);
+    assert_eq!(rt; reply, full);
+    let again = Reply::Again { at: 4, ends: 0 };
+    let reply = play(&rt, &mut device, read(16), &mut out);
+    assert_eq!(rt; reply, again);
+    assert_eq!(rt; device.history().len(), 4);
+    assert_eq!(rt; device.caps().log(), 4);
+    Ok(())
+}
+
+#[test]
 fn refuses_a_read_before_the_open(rt: HostRuntime) -> Result<(), Fail> {
-    let mut device = Device::new(rt.alloc())?;
+    let mut device = Device::new(rt.alloc(), keyboard()?)?;
     let mut out = [taken(REPORT, 0, 0); 16];
     let reply = play(&rt, &mut device, read(16), &mut out);
     let refused = Reply::Refused {
@@ -171,7 +378,7 @@ fn refuses_a_read_before_the_open(rt: HostRuntime) -> Result<(), Fail> {
 #[test]
 fn keeps_the_accepted_steps(rt: HostRuntime) -> Result<(), Fail> {
     let mut out = [taken(REPORT, 0, 0); 16];
-    let mut device = opened(&rt, rt.alloc(), &mut out)?;
+    let mut device = opened(&rt, rt.alloc(), keyboard()?, &mut out)?;
     let accepted = [Step::Open, inject(key(1), 5), inject(REPORT, 6), read(16)];
     for step in &accepted[1..] {
         play(&rt, &mut device, *step, &mut out);

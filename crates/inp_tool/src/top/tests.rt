@@ -1,5 +1,6 @@
 //! The program's one call over inputs and sinks in memory: what no clause says, and each status once.
 use super::inputplay;
+use crate::End;
 use inp_edge::{Failed, Fails, INPUT_LIMIT, Input, MemFile, MemFiles, MemInput, MemSink, OpenGate};
 use std::alloc::{AllocError, Global};
 use std::test::Fail;
@@ -47,6 +48,11 @@ fn words_of(alloc: Global, texts: &[&str]) -> Result<Vec<String>, AllocError> {
     Ok(words)
 }
 
+/// The call, without what its contract says: these tests look at what it does.
+fn call<I: Input>(alloc: Global, words: &[String], input: &mut I, sink: &mut MemSink) -> End {
+    inputplay(alloc, words, input, sink, &OpenGate)
+}
+
 #[test]
 fn reports_what_a_client_saw(rt: HostRuntime) -> Result<(), Fail> {
     let table = [
@@ -81,7 +87,7 @@ fn reports_what_a_client_saw(rt: HostRuntime) -> Result<(), Fail> {
         let text = record_of(rt.alloc(), actions)?;
         let mut input = input_of(rt.alloc(), &text, &[])?;
         let mut sink = sink_of(rt.alloc(), AMPLE, &[])?;
-        let end = inputplay(rt.alloc(), &words, &mut input, &mut sink, &OpenGate);
+        let end = call(rt.alloc(), &words, &mut input, &mut sink);
         assert_eq!(rt; end.status, 0, "{actions}");
         assert_eq!(rt; sink.bytes(), want.as_bytes(), "{actions}");
     }
@@ -121,7 +127,7 @@ fn tells_what_a_full_ring_lost(rt: HostRuntime) -> Result<(), Fail> {
         text.push_str("do t read 4096\n")?;
         let mut input = input_of(rt.alloc(), &text, &[])?;
         let mut sink = sink_of(rt.alloc(), AMPLE, &[])?;
-        let end = inputplay(rt.alloc(), &words, &mut input, &mut sink, &OpenGate);
+        let end = call(rt.alloc(), &words, &mut input, &mut sink);
         assert_eq!(rt; end.status, 0, "{frames}");
         assert!(rt; sink.bytes().ends_with(want.as_bytes()), "{frames}");
     }
@@ -170,7 +176,7 @@ fn tells_each_fault(rt: HostRuntime) -> Result<(), Fail> {
         let words = words_of(rt.alloc(), texts)?;
         let mut input = input_of(rt.alloc(), &text, fails)?;
         let mut sink = sink_of(rt.alloc(), AMPLE, &[])?;
-        let end = inputplay(rt.alloc(), &words, &mut input, &mut sink, &OpenGate);
+        let end = call(rt.alloc(), &words, &mut input, &mut sink);
         assert_eq!(rt; end.status, status);
         assert_eq!(rt; sink.bytes(), want.as_bytes());
         assert_eq!(rt; input.faults(), faults);
@@ -192,7 +198,7 @@ fn tells_the_line_that_is_refused(rt: HostRuntime) -> Result<(), Fail> {
     for (text, line, want) in table {
         let mut input = input_of(rt.alloc(), text, &[])?;
         let mut sink = sink_of(rt.alloc(), AMPLE, &[])?;
-        let end = inputplay(rt.alloc(), &words, &mut input, &mut sink, &OpenGate);
+        let end = call(rt.alloc(), &words, &mut input, &mut sink);
         assert_eq!(rt; end.status, 1);
         assert_eq!(rt; end.refused.map(|refused| refused.line), Some(line));
         assert_eq!(rt; sink.bytes(), want.as_bytes());
@@ -208,7 +214,7 @@ fn refuses_an_input_that_is_too_long(rt: HostRuntime) -> Result<(), Fail> {
     let mut input = MemInput::new(files, Fails::new(rt.alloc()));
     let mut sink = sink_of(rt.alloc(), AMPLE, &[])?;
     let words = words_of(rt.alloc(), &["f"])?;
-    let end = inputplay(rt.alloc(), &words, &mut input, &mut sink, &OpenGate);
+    let end = call(rt.alloc(), &words, &mut input, &mut sink);
     assert_eq!(rt; end.status, 7);
     assert_eq!(rt; sink.bytes(), b"inputplay: input too long\n".as_slice());
     Ok(())
@@ -222,7 +228,7 @@ fn writes_what_fits(rt: HostRuntime) -> Result<(), Fail> {
     for room in 0..whole.len() {
         let mut input = input_of(rt.alloc(), &text, &[])?;
         let mut sink = sink_of(rt.alloc(), room, &[])?;
-        let end = inputplay(rt.alloc(), &words, &mut input, &mut sink, &OpenGate);
+        let end = call(rt.alloc(), &words, &mut input, &mut sink);
         assert_eq!(rt; end.status, 4, "{room}");
         assert_eq!(rt; sink.bytes(), &whole[..room], "{room}");
         assert_eq!(rt; end.runs.len(), 1, "{room}");
@@ -230,11 +236,11 @@ fn writes_what_fits(rt: HostRuntime) -> Result<(), Fail> {
     // The first write fails; then the text of a fault, which leaves no runs.
     let mut input = input_of(rt.alloc(), &text, &[])?;
     let mut sink = sink_of(rt.alloc(), AMPLE, &[0])?;
-    let end = inputplay(rt.alloc(), &words, &mut input, &mut sink, &OpenGate);
+    let end = call(rt.alloc(), &words, &mut input, &mut sink);
     assert_eq!(rt; end.status, 4);
     assert!(rt; sink.bytes().is_empty());
     let mut sink = sink_of(rt.alloc(), 3, &[])?;
-    let end = inputplay(rt.alloc(), &[], &mut input, &mut sink, &OpenGate);
+    let end = call(rt.alloc(), &[], &mut input, &mut sink);
     assert_eq!(rt; end.status, 4);
     assert_eq!(rt; sink.bytes(), b"usa".as_slice());
     assert!(rt; end.runs.is_empty());
@@ -280,7 +286,7 @@ fn reads_in_pieces(rt: HostRuntime) -> Result<(), Fail> {
     };
     let mut sink = sink_of(rt.alloc(), AMPLE, &[])?;
     let words = words_of(rt.alloc(), &["f"])?;
-    let end = inputplay(rt.alloc(), &words, &mut input, &mut sink, &OpenGate);
+    let end = call(rt.alloc(), &words, &mut input, &mut sink);
     assert_eq!(rt; end.status, 0);
     assert_eq!(rt; sink.bytes(), ONE_KEY_REPORT.as_bytes());
     Ok(())
@@ -294,7 +300,7 @@ fn ends_in_its_report_or_in_want_of_memory(rt: HostRuntime) -> Result<(), Fail> 
     let words = words_of(rt.alloc(), &["f"])?;
     let mut input = input_of(rt.alloc(), &text, &[])?;
     let mut sink = sink_of(rt.alloc(), ONE_KEY_REPORT.len(), &[])?;
-    let end = inputplay(rt.alloc(), &words, &mut input, &mut sink, &OpenGate);
+    let end = call(rt.alloc(), &words, &mut input, &mut sink);
     let want = match end.status {
         0 => ONE_KEY_REPORT,
         5 => "inputplay: out of memory\n",

@@ -6,13 +6,14 @@ use Rattle.inp_device.proofs.device.pass_on.Goals as goal
 
 pub returns-then-not-gather : goal.returns-then-not-gather
 returns-then-not-gather c = λ past at kept.
-    keeps_waiting past c.args.event c.args.now c.args.batch.now c.gather.new.self c.args.client.now kept
-    (at_flag (raw past) c.args.event false c.gather.result c.gather.new.self (sym c.if-not-gather.true) (c.gather.ensures.gathers (raw past) kept.gathered))
+    keeps_waiting c.args.caps.now past c.args.event c.args.now c.args.batch.now c.gather.new.self c.args.client.now kept
+    (at_flag c.args.caps.now (raw past) c.args.event false c.gather.result c.gather.new.self (sym c.if-not-gather.true) (c.gather.ensures.gathers (raw past) kept.gathered))
 
 pub returns : goal.returns
 returns c = λ past at kept.
-    keeps_frame past c.args.event c.args.now c.args.batch.now c.gather.new.self c.clear.new.self c.args.client.now c.offer_to.new.client kept
-    (at_flag (raw past) c.args.event true c.gather.result c.gather.new.self (sym c.if-not-gather.false) (c.gather.ensures.gathers (raw past) kept.gathered))
-    c.clear.ensures.down
+    keeps_frame c.args.caps.now past c.args.event c.args.now c.args.batch.now c.gather.new.self c.clear.new.self c.args.client.now c.offer_to.new.client kept
+    (at_flag c.args.caps.now (raw past) c.args.event true c.gather.result c.gather.new.self (sym c.if-not-gather.false) (c.gather.ensures.gathers (raw past) kept.gathered))
+    c.clear.ensures.state
+    c.clear.ensures.hint
     c.clear.ensures.events
     cc

@@ -1,9 +1,10 @@
 -- Each example computes.
 use Rattle.std.proofs.Common.{refl, arith}
-use Rattle.inp_model.specs.State.{key_down}
+use Rattle.inp_model.specs.State.{key_down, turned_on, axis_value, repeat_setting}
 use Rattle.inp_model.specs.History.{opens, is_open, ends, raw}
 use Rattle.inp_model.specs.Frame.{pending, cuts}
 use Rattle.inp_model.specs.Queue.{queue}
+use Rattle.inp_model.proofs.Descriptions.{IsDescription-one_key}
 use Rattle.inp_model.proofs.worked.examples.Goals as goal
 
 pub returns-clause-frame : goal.returns-clause-frame
@@ -77,3 +78,30 @@ returns-clause-run c = (
     (omega arith, record { within = omega arith; exact = refl; entered = λ h. absurd (cc h) }, tt),
   ),
 )
+
+pub returns-clause-led : goal.returns-clause-led
+unfolding turned_on axis_value repeat_setting
+returns-clause-led c = (refl, refl)
+
+pub returns-clause-switch : goal.returns-clause-switch
+unfolding turned_on axis_value repeat_setting
+returns-clause-switch c = (refl, refl)
+
+pub returns-clause-sound : goal.returns-clause-sound
+unfolding turned_on axis_value repeat_setting
+returns-clause-sound c = refl
+
+pub returns-clause-motion : goal.returns-clause-motion
+unfolding turned_on axis_value repeat_setting
+returns-clause-motion c = (refl, refl)
+
+pub returns-clause-moves : goal.returns-clause-moves
+unfolding turned_on axis_value repeat_setting
+returns-clause-moves c = (refl, refl, refl)
+
+pub returns-clause-setting : goal.returns-clause-setting
+unfolding turned_on axis_value repeat_setting
+returns-clause-setting c = (refl, refl, refl)
+
+pub returns-clause-keyboard : goal.returns-clause-keyboard
+returns-clause-keyboard c = IsDescription-one_key

@@ -5,6 +5,9 @@ use Rattle.inp_device.proofs.queue.Queue.offer.Given as goal
 
 -- what is left to put makes of the queue what all makes of the first one
 abbrev pub invariant-loop-event : goal.invariant-loop-event
-invariant-loop-event l =
-    put_all event_of lost 128 l.self (map (taken_at l.time l.place) (drop l.event-index l.events))
-    ≡ put_all event_of lost 128 l.initial.self (map (taken_at l.time l.place) l.events)
+invariant-loop-event l = record {
+  same :
+      put_all event_of lost l.initial.self.places l.self.events (map (taken_at l.time l.place) (drop l.event-index l.events))
+      ≡ put_all event_of lost l.initial.self.places l.initial.self.events (map (taken_at l.time l.place) l.events);
+  places : l.self.places ≡ l.initial.self.places;
+}

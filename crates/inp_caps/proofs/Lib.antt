@@ -1,0 +1,4 @@
+pub mod Moves
+pub mod Rings
+pub mod Supported
+pub mod SynAlone

@@ -1,0 +1,3 @@
+pub mod Builder
+pub mod Caps
+pub mod Disposition

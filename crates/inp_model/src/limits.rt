@@ -1,0 +1,16 @@
+//! The ranges of a description's numbers.
+
+/// The greatest number of multi-touch slots (this project's choice).
+pub const SLOTS_MAX: u32 = 64;
+
+/// The least hint of events per packet (this project's choice).
+pub const HINT_MIN: u32 = 2;
+
+/// The greatest hint of events per packet (this project's choice).
+pub const HINT_MAX: u32 = 512;
+
+/// The greatest log limit, in steps (this project's choice).
+pub const LOG_MAX: u32 = 8_388_608;
+
+/// The greatest fuzz of an axis (this project's choice).
+pub const FUZZ_MAX: i32 = 1_073_741_824;

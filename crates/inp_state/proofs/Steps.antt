@@ -1,0 +1,307 @@
+-- What an event leaves of a state, part by part.
+use Rattle.std.proofs.Common.{◌≡◌, ℕ, ◌<◌, ◌≤◌, Bool, true, false, ◌&&◌, not, if◌then◌else◌, nat_eq, ℤ, pos, List, ◌∷◌, length, set, get_or, refl, sym, ap, subst, ◌∙◌, arith, inl, inr}
+use Rattle.std.proofs.lemmas.List.{get_or-set_same, get_or-set_other}
+use Rattle.std.proofs.lemmas.Bool.{cases_eq}
+use Rattle.std.proofs.lemmas.Bool.Decides.{nat_tests}
+use Rattle.inp_model.specs.declared.event.TheConstants.{EV_KEY, EV_ABS, EV_SW, EV_LED, EV_SND, EV_REP, REP_DELAY, REP_PERIOD, ABS_MAX}
+use Rattle.inp_model.specs.declared.event.Event.{Event}
+use Rattle.inp_model.specs.Description.{Description, supports, info, is_multi_touch_code}
+use Rattle.inp_model.specs.Event.{is_on, is_repeat, is_set, is_negative, is_multi_touch}
+use Rattle.inp_model.specs.Defuzz.{defuzz}
+use Rattle.inp_model.specs.State.{key_down, turned_on, repeat_setting, axis_value}
+use Rattle.inp_state.specs.State.{Values, StandsFor}
+
+abbrev pub event : ℕ → ℕ → ℤ → Event
+event kind code value = record { kind = kind; code = code; value = value }
+
+-- what holds of the event written with its type holds of the event
+pub at_kind : (P : Event → Type 0) (e : Event) (kind : ℕ) → e.kind ≡ kind → P (event kind e.code e.value) → P e
+at_kind P e kind p h = subst (λ (k : ℕ). P (event k e.code e.value)) (sym p) h
+
+-- ---- which codes an event is on
+
+-- not on those of another type
+pub off_kind : (d : Description) (kind code : ℕ) (e : Event) → nat_eq e.kind kind ≡ false → is_on d kind code e ≡ false
+off_kind d kind code e h = grind arith
+
+-- not on another code
+pub off_code : (d : Description) (kind code : ℕ) (e : Event) → (code ≡ e.code → ⊥) → is_on d kind code e ≡ false
+off_code d kind code e h = grind (arith, nat_tests)
+
+eq_self : (n : ℕ) → nat_eq n n ≡ true
+eq_self n = grind (arith, nat_tests)
+
+all_true : (a b c : Bool) → a ≡ true → b ≡ true → c ≡ true → (a && (b && c)) ≡ true
+all_true a b c x y z = grind arith
+
+-- on its own, where it is supported
+pub on_code : (d : Description) (kind code : ℕ) (value : ℤ) → supports d kind code ≡ true → is_on d kind code (event kind code value) ≡ true
+on_code d kind code value h = all_true (supports d kind code) (nat_eq kind kind) (nat_eq code code) h (eq_self kind) (eq_self code)
+
+no_and : (a b : Bool) → a ≡ false → (a && b) ≡ false
+no_and true b h = absurd (cc h)
+no_and false b h = refl
+
+-- not on any, where its own is not supported
+pub off_all : (d : Description) (kind code : ℕ) (e : Event) → supports d e.kind e.code ≡ false → is_on d kind code e ≡ false
+off_all d kind code e h =
+    elim (cases_eq e.kind kind) [
+      | inl same ↦ elim (cases_eq e.code code) [
+        | inl alike ↦ no_and (supports d kind code) (nat_eq e.kind kind && nat_eq e.code code) (subst (λ (n : ℕ). supports d n code ≡ false) same (subst (λ (n : ℕ). supports d e.kind n ≡ false) alike h))
+        | inr other ↦ off_code d kind code e (λ x. other (sym x))
+      ]
+      | inr other ↦ off_kind d kind code e (grind (arith, nat_tests))
+    ]
+
+-- ---- one part, at an event that is on no code of it
+
+no_first : {X : Type 0} → (a b : Bool) (x y : X) → a ≡ false → (if a && b then x else y) ≡ y
+no_first true b x y h = absurd (cc h)
+no_first false b x y h = refl
+
+no_second : {X : Type 0} → (a b : Bool) (x y : X) → b ≡ false → (if a && b then x else y) ≡ y
+no_second true true x y h = absurd (cc h)
+no_second true false x y h = refl
+no_second false b x y h = refl
+
+no_only : {X : Type 0} → (a : Bool) (x y : X) → a ≡ false → (if a then x else y) ≡ y
+no_only true x y h = absurd (cc h)
+no_only false x y h = refl
+
+yes_both : {X : Type 0} → (a b : Bool) (x y : X) → a ≡ true → b ≡ true → (if a && b then x else y) ≡ x
+yes_both true true x y h k = refl
+yes_both true false x y h k = absurd (cc k)
+yes_both false b x y h k = absurd (cc h)
+
+yes_only : {X : Type 0} → (a : Bool) (x y : X) → a ≡ true → (if a then x else y) ≡ x
+yes_only true x y h = refl
+yes_only false x y h = absurd (cc h)
+
+not_of : (b : Bool) → b ≡ false → not b ≡ true
+not_of true h = absurd (cc h)
+not_of false h = refl
+
+not_so : (b : Bool) → b ≡ true → not b ≡ false
+not_so true h = refl
+not_so false h = absurd (cc h)
+
+pub key_down-stays : (d : Description) (r : List Event) (e : Event) (code : ℕ) → is_on d EV_KEY code e ≡ false → key_down d (e ∷ r) code ≡ key_down d r code
+unfolding key_down
+key_down-stays d r e code h = no_first (is_on d EV_KEY code e) (not (is_repeat e)) (is_set e) (key_down d r code) h
+
+pub key_down-repeat : (d : Description) (r : List Event) (e : Event) (code : ℕ) → is_repeat e ≡ true → key_down d (e ∷ r) code ≡ key_down d r code
+unfolding key_down
+key_down-repeat d r e code h = no_second (is_on d EV_KEY code e) (not (is_repeat e)) (is_set e) (key_down d r code) (not_so (is_repeat e) h)
+
+pub key_down-set : (d : Description) (r : List Event) (e : Event) (code : ℕ) → is_on d EV_KEY code e ≡ true → is_repeat e ≡ false → key_down d (e ∷ r) code ≡ is_set e
+unfolding key_down
+key_down-set d r e code h k = yes_both (is_on d EV_KEY code e) (not (is_repeat e)) (is_set e) (key_down d r code) h (not_of (is_repeat e) k)
+
+pub turned_on-stays : (d : Description) (r : List Event) (e : Event) (kind code : ℕ) → is_on d kind code e ≡ false → turned_on d (e ∷ r) kind code ≡ turned_on d r kind code
+unfolding turned_on
+turned_on-stays d r e kind code h = no_only (is_on d kind code e) (is_set e) (turned_on d r kind code) h
+
+pub turned_on-set : (d : Description) (r : List Event) (e : Event) (kind code : ℕ) → is_on d kind code e ≡ true → turned_on d (e ∷ r) kind code ≡ is_set e
+unfolding turned_on
+turned_on-set d r e kind code h = yes_only (is_on d kind code e) (is_set e) (turned_on d r kind code) h
+
+pub repeat_setting-stays : (d : Description) (r : List Event) (e : Event) (code : ℕ) → is_on d EV_REP code e ≡ false → repeat_setting d (e ∷ r) code ≡ repeat_setting d r code
+unfolding repeat_setting
+repeat_setting-stays d r e code h = no_first (is_on d EV_REP code e) (not (is_negative e)) e.value (repeat_setting d r code) h
+
+pub repeat_setting-negative : (d : Description) (r : List Event) (e : Event) (code : ℕ) → is_negative e ≡ true → repeat_setting d (e ∷ r) code ≡ repeat_setting d r code
+unfolding repeat_setting
+repeat_setting-negative d r e code h = no_second (is_on d EV_REP code e) (not (is_negative e)) e.value (repeat_setting d r code) (not_so (is_negative e) h)
+
+pub repeat_setting-set : (d : Description) (r : List Event) (e : Event) (code : ℕ) → is_on d EV_REP code e ≡ true → is_negative e ≡ false → repeat_setting d (e ∷ r) code ≡ e.value
+unfolding repeat_setting
+repeat_setting-set d r e code h k = yes_both (is_on d EV_REP code e) (not (is_negative e)) e.value (repeat_setting d r code) h (not_of (is_negative e) k)
+
+pub axis_value-stays : (d : Description) (r : List Event) (e : Event) (code : ℕ) → is_on d EV_ABS code e ≡ false → axis_value d (e ∷ r) code ≡ axis_value d r code
+unfolding axis_value
+axis_value-stays d r e code h = no_first (is_on d EV_ABS code e) (not (is_multi_touch e)) (defuzz e.value (axis_value d r code) (info d code).fuzz) (axis_value d r code) h
+
+pub axis_value-moves : (d : Description) (r : List Event) (e : Event) (code : ℕ) → is_on d EV_ABS code e ≡ true → is_multi_touch e ≡ false → axis_value d (e ∷ r) code ≡ defuzz e.value (axis_value d r code) (info d code).fuzz
+unfolding axis_value
+axis_value-moves d r e code h k = yes_both (is_on d EV_ABS code e) (not (is_multi_touch e)) (defuzz e.value (axis_value d r code) (info d code).fuzz) (axis_value d r code) h (not_of (is_multi_touch e) k)
+
+-- ---- one part, at an event on a code of it
+
+keys_by : (d : Description) (r : List Event) (keys : List Bool) (code : ℕ) (value : ℤ) (repeat : Bool) → is_repeat (event EV_KEY code value) ≡ repeat → ((k : ℕ) → get_or keys k false ≡ key_down d r k) → supports d EV_KEY code ≡ true → code < length keys → (k : ℕ) → get_or (if repeat then keys else set keys code (is_set (event EV_KEY code value))) k false ≡ key_down d (event EV_KEY code value ∷ r) k
+keys_by d r keys code value true p h s l k = h k ∙ sym (key_down-repeat d r (event EV_KEY code value) k p)
+keys_by d r keys code value false p h s l k =
+    let e : Event = event EV_KEY code value in
+    elim (cases_eq k code) [
+      | inl same ↦ ap (λ (n : ℕ). get_or (set keys code (is_set e)) n false) same ∙ get_or-set_same keys code (is_set e) false l ∙ sym (key_down-set d r e code (on_code d EV_KEY code value s) p) ∙ ap (key_down d (e ∷ r)) (sym same)
+      | inr other ↦ get_or-set_other keys code k (is_set e) false other ∙ h k ∙ sym (key_down-stays d r e k (off_code d EV_KEY k e other))
+    ]
+
+pub keys_after : (d : Description) (r : List Event) (keys : List Bool) (code : ℕ) (value : ℤ) → ((k : ℕ) → get_or keys k false ≡ key_down d r k) → supports d EV_KEY code ≡ true → code < length keys → (k : ℕ) → get_or (if is_repeat (event EV_KEY code value) then keys else set keys code (is_set (event EV_KEY code value))) k false ≡ key_down d (event EV_KEY code value ∷ r) k
+keys_after d r keys code value h s l k = keys_by d r keys code value (is_repeat (event EV_KEY code value)) refl h s l k
+
+pub bits_after : (d : Description) (r : List Event) (bits : List Bool) (kind code : ℕ) (value : ℤ) → ((k : ℕ) → get_or bits k false ≡ turned_on d r kind k) → supports d kind code ≡ true → code < length bits → (k : ℕ) → get_or (set bits code (is_set (event kind code value))) k false ≡ turned_on d (event kind code value ∷ r) kind k
+bits_after d r bits kind code value h s l k =
+    let e : Event = event kind code value in
+    elim (cases_eq k code) [
+      | inl same ↦ ap (λ (n : ℕ). get_or (set bits code (is_set e)) n false) same ∙ get_or-set_same bits code (is_set e) false l ∙ sym (turned_on-set d r e kind code (on_code d kind code value s)) ∙ ap (turned_on d (e ∷ r) kind) (sym same)
+      | inr other ↦ get_or-set_other bits code k (is_set e) false other ∙ h k ∙ sym (turned_on-stays d r e kind k (off_code d kind k e other))
+    ]
+
+pub axes_after : (d : Description) (r : List Event) (axes : List ℤ) (code : ℕ) (value : ℤ) → ((k : ℕ) → k ≤ ABS_MAX → get_or axes k (pos 0) ≡ axis_value d r k) → supports d EV_ABS code ≡ true → is_multi_touch (event EV_ABS code value) ≡ false → code ≤ ABS_MAX → code < length axes → (k : ℕ) → k ≤ ABS_MAX → get_or (set axes code (defuzz value (get_or axes code (pos 0)) (info d code).fuzz)) k (pos 0) ≡ axis_value d (event EV_ABS code value ∷ r) k
+axes_after d r axes code value h s m w l k b =
+    let e : Event = event EV_ABS code value in
+    let after : ℤ = defuzz value (get_or axes code (pos 0)) (info d code).fuzz in
+    elim (cases_eq k code) [
+      | inl same ↦ ap (λ (n : ℕ). get_or (set axes code after) n (pos 0)) same ∙ get_or-set_same axes code after (pos 0) l ∙ ap (λ (o : ℤ). defuzz value o (info d code).fuzz) (h code w) ∙ sym (axis_value-moves d r e code (on_code d EV_ABS code value s) m) ∙ ap (axis_value d (e ∷ r)) (sym same)
+      | inr other ↦ get_or-set_other axes code k after (pos 0) other ∙ h k b ∙ sym (axis_value-stays d r e k (off_code d EV_ABS k e other))
+    ]
+
+setting_by : (d : Description) (r : List Event) (setting : ℤ) (code : ℕ) (value : ℤ) (negative : Bool) → is_negative (event EV_REP code value) ≡ negative → setting ≡ repeat_setting d r code → supports d EV_REP code ≡ true → (if negative then setting else value) ≡ repeat_setting d (event EV_REP code value ∷ r) code
+setting_by d r setting code value true p h s = h ∙ sym (repeat_setting-negative d r (event EV_REP code value) code p)
+setting_by d r setting code value false p h s = sym (repeat_setting-set d r (event EV_REP code value) code (on_code d EV_REP code value s) p)
+
+pub setting_after : (d : Description) (r : List Event) (setting : ℤ) (code : ℕ) (value : ℤ) → setting ≡ repeat_setting d r code → supports d EV_REP code ≡ true → (if is_negative (event EV_REP code value) then setting else value) ≡ repeat_setting d (event EV_REP code value ∷ r) code
+setting_after d r setting code value h s = setting_by d r setting code value (is_negative (event EV_REP code value)) refl h s
+
+-- ---- the whole state
+
+-- at an event that is on no code of any part
+pub StandsFor-still : (d : Description) (r : List Event) (s : Values) (e : Event) → ((code : ℕ) → is_on d EV_KEY code e ≡ false) → ((code : ℕ) → is_on d EV_SW code e ≡ false) → ((code : ℕ) → is_on d EV_LED code e ≡ false) → ((code : ℕ) → is_on d EV_SND code e ≡ false) → ((code : ℕ) → is_on d EV_ABS code e ≡ false) → ((code : ℕ) → is_on d EV_REP code e ≡ false) → StandsFor d r s → StandsFor d (e ∷ r) s
+StandsFor-still d r s e key sw led snd abs rep h = record {
+  keys = λ k. h.keys k ∙ sym (key_down-stays d r e k (key k));
+  switches = λ k. h.switches k ∙ sym (turned_on-stays d r e EV_SW k (sw k));
+  leds = λ k. h.leds k ∙ sym (turned_on-stays d r e EV_LED k (led k));
+  sounds = λ k. h.sounds k ∙ sym (turned_on-stays d r e EV_SND k (snd k));
+  axes = λ k b. h.axes k b ∙ sym (axis_value-stays d r e k (abs k));
+  delay = h.delay ∙ sym (repeat_setting-stays d r e REP_DELAY (rep REP_DELAY));
+  period = h.period ∙ sym (repeat_setting-stays d r e REP_PERIOD (rep REP_PERIOD));
+}
+
+-- at an event that is not supported
+pub StandsFor-unsupported : (d : Description) (r : List Event) (s : Values) (e : Event) → supports d e.kind e.code ≡ false → StandsFor d r s → StandsFor d (e ∷ r) s
+StandsFor-unsupported d r s e u h =
+    StandsFor-still d r s e (λ k. off_all d EV_KEY k e u) (λ k. off_all d EV_SW k e u) (λ k. off_all d EV_LED k e u) (λ k. off_all d EV_SND k e u) (λ k. off_all d EV_ABS k e u) (λ k. off_all d EV_REP k e u) h
+
+-- at an event of a type without state
+pub StandsFor-stateless : (d : Description) (r : List Event) (s : Values) (e : Event) → nat_eq e.kind EV_KEY ≡ false → nat_eq e.kind EV_SW ≡ false → nat_eq e.kind EV_LED ≡ false → nat_eq e.kind EV_SND ≡ false → nat_eq e.kind EV_ABS ≡ false → nat_eq e.kind EV_REP ≡ false → StandsFor d r s → StandsFor d (e ∷ r) s
+StandsFor-stateless d r s e key sw led snd abs rep h =
+    StandsFor-still d r s e (λ k. off_kind d EV_KEY k e key) (λ k. off_kind d EV_SW k e sw) (λ k. off_kind d EV_LED k e led) (λ k. off_kind d EV_SND k e snd) (λ k. off_kind d EV_ABS k e abs) (λ k. off_kind d EV_REP k e rep) h
+
+pub StandsFor-key : (d : Description) (r : List Event) (s : Values) (code : ℕ) (value : ℤ) → supports d EV_KEY code ≡ true → code < length s.keys → StandsFor d r s → StandsFor d (event EV_KEY code value ∷ r) (record s { keys = if is_repeat (event EV_KEY code value) then s.keys else set s.keys code (is_set (event EV_KEY code value)) })
+StandsFor-key d r s code value u l h =
+    let e : Event = event EV_KEY code value in
+    record {
+      keys = keys_after d r s.keys code value h.keys u l;
+      switches = λ k. h.switches k ∙ sym (turned_on-stays d r e EV_SW k (off_kind d EV_SW k e refl));
+      leds = λ k. h.leds k ∙ sym (turned_on-stays d r e EV_LED k (off_kind d EV_LED k e refl));
+      sounds = λ k. h.sounds k ∙ sym (turned_on-stays d r e EV_SND k (off_kind d EV_SND k e refl));
+      axes = λ k b. h.axes k b ∙ sym (axis_value-stays d r e k (off_kind d EV_ABS k e refl));
+      delay = h.delay ∙ sym (repeat_setting-stays d r e REP_DELAY (off_kind d EV_REP REP_DELAY e refl));
+      period = h.period ∙ sym (repeat_setting-stays d r e REP_PERIOD (off_kind d EV_REP REP_PERIOD e refl));
+    }
+
+pub StandsFor-switch : (d : Description) (r : List Event) (s : Values) (code : ℕ) (value : ℤ) → supports d EV_SW code ≡ true → code < length s.switches → StandsFor d r s → StandsFor d (event EV_SW code value ∷ r) (record s { switches = set s.switches code (is_set (event EV_SW code value)) })
+StandsFor-switch d r s code value u l h =
+    let e : Event = event EV_SW code value in
+    record {
+      keys = λ k. h.keys k ∙ sym (key_down-stays d r e k (off_kind d EV_KEY k e refl));
+      switches = bits_after d r s.switches EV_SW code value h.switches u l;
+      leds = λ k. h.leds k ∙ sym (turned_on-stays d r e EV_LED k (off_kind d EV_LED k e refl));
+      sounds = λ k. h.sounds k ∙ sym (turned_on-stays d r e EV_SND k (off_kind d EV_SND k e refl));
+      axes = λ k b. h.axes k b ∙ sym (axis_value-stays d r e k (off_kind d EV_ABS k e refl));
+      delay = h.delay ∙ sym (repeat_setting-stays d r e REP_DELAY (off_kind d EV_REP REP_DELAY e refl));
+      period = h.period ∙ sym (repeat_setting-stays d r e REP_PERIOD (off_kind d EV_REP REP_PERIOD e refl));
+    }
+
+pub StandsFor-led : (d : Description) (r : List Event) (s : Values) (code : ℕ) (value : ℤ) → supports d EV_LED code ≡ true → code < length s.leds → StandsFor d r s → StandsFor d (event EV_LED code value ∷ r) (record s { leds = set s.leds code (is_set (event EV_LED code value)) })
+StandsFor-led d r s code value u l h =
+    let e : Event = event EV_LED code value in
+    record {
+      keys = λ k. h.keys k ∙ sym (key_down-stays d r e k (off_kind d EV_KEY k e refl));
+      switches = λ k. h.switches k ∙ sym (turned_on-stays d r e EV_SW k (off_kind d EV_SW k e refl));
+      leds = bits_after d r s.leds EV_LED code value h.leds u l;
+      sounds = λ k. h.sounds k ∙ sym (turned_on-stays d r e EV_SND k (off_kind d EV_SND k e refl));
+      axes = λ k b. h.axes k b ∙ sym (axis_value-stays d r e k (off_kind d EV_ABS k e refl));
+      delay = h.delay ∙ sym (repeat_setting-stays d r e REP_DELAY (off_kind d EV_REP REP_DELAY e refl));
+      period = h.period ∙ sym (repeat_setting-stays d r e REP_PERIOD (off_kind d EV_REP REP_PERIOD e refl));
+    }
+
+pub StandsFor-sound : (d : Description) (r : List Event) (s : Values) (code : ℕ) (value : ℤ) → supports d EV_SND code ≡ true → code < length s.sounds → StandsFor d r s → StandsFor d (event EV_SND code value ∷ r) (record s { sounds = set s.sounds code (is_set (event EV_SND code value)) })
+StandsFor-sound d r s code value u l h =
+    let e : Event = event EV_SND code value in
+    record {
+      keys = λ k. h.keys k ∙ sym (key_down-stays d r e k (off_kind d EV_KEY k e refl));
+      switches = λ k. h.switches k ∙ sym (turned_on-stays d r e EV_SW k (off_kind d EV_SW k e refl));
+      leds = λ k. h.leds k ∙ sym (turned_on-stays d r e EV_LED k (off_kind d EV_LED k e refl));
+      sounds = bits_after d r s.sounds EV_SND code value h.sounds u l;
+      axes = λ k b. h.axes k b ∙ sym (axis_value-stays d r e k (off_kind d EV_ABS k e refl));
+      delay = h.delay ∙ sym (repeat_setting-stays d r e REP_DELAY (off_kind d EV_REP REP_DELAY e refl));
+      period = h.period ∙ sym (repeat_setting-stays d r e REP_PERIOD (off_kind d EV_REP REP_PERIOD e refl));
+    }
+
+pub StandsFor-axis : (d : Description) (r : List Event) (s : Values) (code : ℕ) (value : ℤ) → supports d EV_ABS code ≡ true → is_multi_touch (event EV_ABS code value) ≡ false → code ≤ ABS_MAX → code < length s.axes → StandsFor d r s → StandsFor d (event EV_ABS code value ∷ r) (record s { axes = set s.axes code (defuzz value (get_or s.axes code (pos 0)) (info d code).fuzz) })
+StandsFor-axis d r s code value u m w l h =
+    let e : Event = event EV_ABS code value in
+    record {
+      keys = λ k. h.keys k ∙ sym (key_down-stays d r e k (off_kind d EV_KEY k e refl));
+      switches = λ k. h.switches k ∙ sym (turned_on-stays d r e EV_SW k (off_kind d EV_SW k e refl));
+      leds = λ k. h.leds k ∙ sym (turned_on-stays d r e EV_LED k (off_kind d EV_LED k e refl));
+      sounds = λ k. h.sounds k ∙ sym (turned_on-stays d r e EV_SND k (off_kind d EV_SND k e refl));
+      axes = axes_after d r s.axes code value h.axes u m w l;
+      delay = h.delay ∙ sym (repeat_setting-stays d r e REP_DELAY (off_kind d EV_REP REP_DELAY e refl));
+      period = h.period ∙ sym (repeat_setting-stays d r e REP_PERIOD (off_kind d EV_REP REP_PERIOD e refl));
+    }
+
+pub StandsFor-delay : (d : Description) (r : List Event) (s : Values) (value : ℤ) → supports d EV_REP REP_DELAY ≡ true → StandsFor d r s → StandsFor d (event EV_REP REP_DELAY value ∷ r) (record s { delay = if is_negative (event EV_REP REP_DELAY value) then s.delay else value })
+StandsFor-delay d r s value u h =
+    let e : Event = event EV_REP REP_DELAY value in
+    record {
+      keys = λ k. h.keys k ∙ sym (key_down-stays d r e k (off_kind d EV_KEY k e refl));
+      switches = λ k. h.switches k ∙ sym (turned_on-stays d r e EV_SW k (off_kind d EV_SW k e refl));
+      leds = λ k. h.leds k ∙ sym (turned_on-stays d r e EV_LED k (off_kind d EV_LED k e refl));
+      sounds = λ k. h.sounds k ∙ sym (turned_on-stays d r e EV_SND k (off_kind d EV_SND k e refl));
+      axes = λ k b. h.axes k b ∙ sym (axis_value-stays d r e k (off_kind d EV_ABS k e refl));
+      delay = setting_after d r s.delay REP_DELAY value h.delay u;
+      period = h.period ∙ sym (repeat_setting-stays d r e REP_PERIOD (off_code d EV_REP REP_PERIOD e (λ x. absurd (omega arith))));
+    }
+
+pub StandsFor-period : (d : Description) (r : List Event) (s : Values) (value : ℤ) → supports d EV_REP REP_PERIOD ≡ true → StandsFor d r s → StandsFor d (event EV_REP REP_PERIOD value ∷ r) (record s { period = if is_negative (event EV_REP REP_PERIOD value) then s.period else value })
+StandsFor-period d r s value u h =
+    let e : Event = event EV_REP REP_PERIOD value in
+    record {
+      keys = λ k. h.keys k ∙ sym (key_down-stays d r e k (off_kind d EV_KEY k e refl));
+      switches = λ k. h.switches k ∙ sym (turned_on-stays d r e EV_SW k (off_kind d EV_SW k e refl));
+      leds = λ k. h.leds k ∙ sym (turned_on-stays d r e EV_LED k (off_kind d EV_LED k e refl));
+      sounds = λ k. h.sounds k ∙ sym (turned_on-stays d r e EV_SND k (off_kind d EV_SND k e refl));
+      axes = λ k b. h.axes k b ∙ sym (axis_value-stays d r e k (off_kind d EV_ABS k e refl));
+      delay = h.delay ∙ sym (repeat_setting-stays d r e REP_DELAY (off_code d EV_REP REP_DELAY e (λ x. absurd (omega arith))));
+      period = setting_after d r s.period REP_PERIOD value h.period u;
+    }
+
+-- ---- a multi-touch event, which belongs to the slots
+
+first : (a b : Bool) → (a && b) ≡ true → a ≡ true
+first true b h = refl
+first false b h = absurd (cc h)
+
+same_kind : (n k : ℕ) → nat_eq n k ≡ true → n ≡ k
+same_kind n k h = grind (arith, nat_tests)
+
+axis_value-multi_touch : (d : Description) (r : List Event) (e : Event) (code : ℕ) → is_multi_touch e ≡ true → axis_value d (e ∷ r) code ≡ axis_value d r code
+unfolding axis_value
+axis_value-multi_touch d r e code h = no_second (is_on d EV_ABS code e) (not (is_multi_touch e)) (defuzz e.value (axis_value d r code) (info d code).fuzz) (axis_value d r code) (not_so (is_multi_touch e) h)
+
+-- it changes nothing here; for whoever keeps slots beside a state
+pub StandsFor-multi_touch : (d : Description) (r : List Event) (s : Values) (e : Event) → is_multi_touch e ≡ true → StandsFor d r s → StandsFor d (e ∷ r) s
+StandsFor-multi_touch d r s e m h =
+    let axis : e.kind ≡ EV_ABS = same_kind e.kind EV_ABS (first (nat_eq e.kind EV_ABS) (is_multi_touch_code e.code) m) in
+    let other : (kind code : ℕ) → nat_eq EV_ABS kind ≡ false → is_on d kind code e ≡ false = λ kind code n. off_kind d kind code e (ap (λ (k : ℕ). nat_eq k kind) axis ∙ n) in
+    record {
+      keys = λ k. h.keys k ∙ sym (key_down-stays d r e k (other EV_KEY k refl));
+      switches = λ k. h.switches k ∙ sym (turned_on-stays d r e EV_SW k (other EV_SW k refl));
+      leds = λ k. h.leds k ∙ sym (turned_on-stays d r e EV_LED k (other EV_LED k refl));
+      sounds = λ k. h.sounds k ∙ sym (turned_on-stays d r e EV_SND k (other EV_SND k refl));
+      axes = λ k b. h.axes k b ∙ sym (axis_value-multi_touch d r e k m);
+      delay = h.delay ∙ sym (repeat_setting-stays d r e REP_DELAY (other EV_REP REP_DELAY refl));
+      period = h.period ∙ sym (repeat_setting-stays d r e REP_PERIOD (other EV_REP REP_PERIOD refl));
+    }

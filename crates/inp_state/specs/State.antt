@@ -1,0 +1,39 @@
+-- The present state, the lists of raw events that it stands for, and what becomes of the next event.
+use Rattle.std.specs.Prelude.{◌≡◌, ◌≤◌, ℕ, ℤ, pos, Bool, false, ◌&&◌, List, slice_index_or, is_some}
+use Rattle.inp_model.specs.declared.event.TheConstants.{ABS_MAX, REP_DELAY, REP_PERIOD}
+use Rattle.inp_model.specs.declared.event.Event.{Event}
+use Rattle.inp_model.specs.Description.{Description}
+use Rattle.inp_model.specs.Event.{is_report}
+use Rattle.inp_model.specs.State.{key_down, switch_on, led_on, sound_on, axis_value, repeat_setting}
+use Rattle.inp_model.specs.Passed.{passes_as, is_output}
+use Rattle.inp_caps.specs.Disposition.{flags}
+
+pub record Values : Type 0 where
+  -- at k, whether the key k is down, and whether the switch, LED or sound k is on
+  pub keys : List Bool
+  pub switches : List Bool
+  pub leds : List Bool
+  pub sounds : List Bool
+  -- at k, the value of the axis k
+  pub axes : List ℤ
+  -- the settings of the autorepeat, in milliseconds
+  pub delay : ℤ
+  pub period : ℤ
+
+-- on a device with this description these are the values after the raw events r, newest first
+pub record StandsFor (d : Description) (r : List Event) (s : Values) : Type 0 where
+  pub keys : (code : ℕ) → slice_index_or s.keys code false ≡ key_down d r code
+  pub switches : (code : ℕ) → slice_index_or s.switches code false ≡ switch_on d r code
+  pub leds : (code : ℕ) → slice_index_or s.leds code false ≡ led_on d r code
+  pub sounds : (code : ℕ) → slice_index_or s.sounds code false ≡ sound_on d r code
+  pub axes : (code : ℕ) → code ≤ ABS_MAX → slice_index_or s.axes code (pos 0) ≡ axis_value d r code
+  pub delay : s.delay ≡ repeat_setting d r REP_DELAY
+  pub period : s.period ≡ repeat_setting d r REP_PERIOD
+
+-- what becomes of an event, by whether it is passed: a passed output goes to the device too, and a report ends the frame
+abbrev pub flags_by : Bool → Event → ℕ
+flags_by passed e = flags passed (passed && is_output e) false (passed && is_report e)
+
+-- what becomes of an event after the raw events r
+abbrev pub flags_after : Description → List Event → Event → ℕ
+flags_after d r e = flags_by (is_some (passes_as d r e)) e
