@@ -22,7 +22,7 @@ use rows::code_rows;
 /// Numbers and names are those of the kernel's header `input-event-codes.h`, one name for each code:
 /// which of several the table has is this project's choice. One look at an index.
 pub fn name_of(kind: u16, code: u16) -> Option<&'static str>
-    ensures { option_copied result ≡ code_text kind code }
+    ensures name { option_copied result ≡ code_text kind code }
 {
     name_at(code_names(kind), code)
 }
@@ -32,7 +32,7 @@ pub fn name_of(kind: u16, code: u16) -> Option<&'static str>
 ///
 /// The whole text is compared, byte by byte: case counts, and nothing is trimmed. A binary search.
 pub fn code_of(text: &str) -> Option<(u16, u16)>
-    ensures { result ≡ code_numbers text.now }
+    ensures code { result ≡ code_numbers text.now }
 {
     find_number(code_rows(), text)
 }

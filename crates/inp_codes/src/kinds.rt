@@ -30,7 +30,7 @@ pub(crate) const EV_REP: u16 = 0x14;
 ///
 /// Numbers and names are those of the kernel's header `input-event-codes.h`. One look at an index.
 pub fn kind_name(kind: u16) -> Option<&'static str>
-    ensures { option_copied result ≡ kind_text kind }
+    ensures name { option_copied result ≡ kind_text kind }
 {
     name_at(kind_names(), kind)
 }
@@ -39,7 +39,7 @@ pub fn kind_name(kind: u16) -> Option<&'static str>
 ///
 /// The whole text is compared, byte by byte: case counts, and nothing is trimmed. A binary search.
 pub fn kind_of(text: &str) -> Option<u16>
-    ensures { result ≡ kind_number text.now }
+    ensures kind { result ≡ kind_number text.now }
 {
     find_number(kind_rows(), text)
 }

@@ -45,7 +45,7 @@ impl<'a, R: Files> FileInput<'a, R> {
 
     /// How many calls were at fault. It stays at the greatest `u64`.
     pub fn faults(&self) -> u64
-        ensures { result ≡ self.now.faults }
+        ensures faults { result ≡ self.now.faults }
     {
         self.faults
     }
@@ -87,7 +87,7 @@ impl<R: Files> Input for FileInput<'_, R> {
     }
 
     fn read(&mut self, buf: &mut [u8]) -> Result<usize, Failed>
-        requires { 0 < length buf.old }
+        requires room { 0 < length buf.old }
         ensures fits { IfOk result (λ n. n ≤ length buf.new) }
         ensures given { IfOk result (λ n. self.new.given ≡ min (self.old.given + n) LAST) }
         ensures err { OnErr result (self.new.given ≡ self.old.given) }

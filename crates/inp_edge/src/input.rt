@@ -54,7 +54,7 @@ pub trait Input {
     ///
     /// `Failed` only where the count of faults rose. Nothing was taken then.
     fn read(&mut self, buf: &mut [u8]) -> Result<usize, Failed>
-        requires { 0 < length buf.old }
+        requires room { 0 < length buf.old }
         ensures files_stay { files self.new ≡ files self.old }
         ensures fits { IfOk result (λ n. n ≤ length buf.new) }
         ensures taken { IfOk result (λ n. Takes (take n buf.new) (left self.old) (left self.new)) }

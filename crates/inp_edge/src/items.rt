@@ -22,7 +22,7 @@ impl<T> Model for Items<T> {
 impl<T: Drop> Items<T> {
     /// The empty list. It takes no memory.
     pub fn new(alloc: Global) -> Self
-        ensures { result ≡ [] }
+        ensures empty { result ≡ [] }
     {
         Items {
             items: Vec::new(alloc),
@@ -31,14 +31,14 @@ impl<T: Drop> Items<T> {
 
     /// The list of these items. It takes no memory.
     pub fn of(items: Vec<T>) -> Self
-        ensures { result ≡ items.items }
+        ensures items { result ≡ items.items }
     {
         Items { items }
     }
 
     /// The items, as a vector. It takes no memory.
     pub fn into_vec(self) -> Vec<T>
-        ensures { result.items ≡ self }
+        ensures items { result.items ≡ self }
     {
         self.items
     }
@@ -58,29 +58,29 @@ impl<T: Drop> Items<T> {
 
     /// How many items there are.
     pub fn len(&self) -> usize
-        ensures { result ≡ length self.now }
+        ensures length { result ≡ length self.now }
     {
         self.items.len()
     }
 
     /// Whether there are none.
     pub fn is_empty(&self) -> bool
-        ensures { IsTrue result ↔ (self.now ≡ []) }
+        ensures empty { IsTrue result ↔ (self.now ≡ []) }
     {
         self.items.is_empty()
     }
 
     /// The item at this index.
     pub fn get(&self, i: usize) -> &T
-        requires { i < length self.now }
-        ensures { slice_get self.now i ≡ Some result.now }
+        requires within { i < length self.now }
+        ensures item { slice_get self.now i ≡ Some result.now }
     {
         &self.items[i]
     }
 
     /// The items, as a slice.
     pub fn as_slice(&self) -> &[T]
-        ensures { result.now ≡ self.now }
+        ensures items { result.now ≡ self.now }
     {
         self.items.as_slice()
     }

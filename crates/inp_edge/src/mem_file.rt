@@ -34,14 +34,14 @@ impl MemFile {
 
     /// The file's name.
     pub fn name(&self) -> &str
-        ensures { result.now ≡ self.now.name }
+        ensures name { result.now ≡ self.now.name }
     {
         self.name.as_str()
     }
 
     /// The file's bytes.
     pub fn bytes(&self) -> &[u8]
-        ensures { result.now ≡ self.now.bytes }
+        ensures bytes { result.now ≡ self.now.bytes }
     {
         self.bytes.as_slice()
     }

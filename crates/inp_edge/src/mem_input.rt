@@ -61,7 +61,7 @@ impl MemInput {
 
     /// How many calls were at fault: those that were to fail.
     pub fn faults(&self) -> u64
-        ensures { result ≡ self.now.calls.faults }
+        ensures faults { result ≡ self.now.calls.faults }
     {
         self.calls.faults()
     }
@@ -117,7 +117,7 @@ impl Input for MemInput {
 
     /// Gives as many bytes as are left and go into `buf`. Fails exactly at a call that is to fail.
     fn read(&mut self, buf: &mut [u8]) -> Result<usize, Failed>
-        requires { 0 < length buf.old }
+        requires room { 0 < length buf.old }
         ensures same_files { self.new.files ≡ self.old.files }
         ensures calls { self.new.calls ≡ one_more self.old.calls (fails_next self.old.calls) }
         ensures never_falls { self.old.calls.faults ≤ self.new.calls.faults }

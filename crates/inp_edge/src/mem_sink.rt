@@ -50,14 +50,14 @@ impl MemSink {
 
     /// The bytes that were written.
     pub fn bytes(&self) -> &[u8]
-        ensures { result.now ≡ self.now.written }
+        ensures written { result.now ≡ self.now.written }
     {
         self.bytes.as_slice()
     }
 
     /// How many calls were at fault: those that were to fail, and those that found no room.
     pub fn faults(&self) -> u64
-        ensures { result ≡ self.now.calls.faults }
+        ensures faults { result ≡ self.now.calls.faults }
     {
         self.calls.faults()
     }
@@ -71,7 +71,7 @@ impl Sink for MemSink {
     /// Takes as many bytes as there are and as there is room for. Fails exactly at a call that is to
     /// fail, and where no room is left, both of which raise the count of faults.
     fn write(&mut self, buf: &[u8]) -> Result<usize, Failed>
-        requires { 0 < length buf.now }
+        requires bytes { 0 < length buf.now }
         ensures calls { self.new.calls
             ≡ one_more self.old.calls (fails_next self.old.calls || self.old.room == 0) }
         ensures never_falls { self.old.calls.faults ≤ self.new.calls.faults }

@@ -27,14 +27,14 @@ impl<'a, R: Print> Model for OutSink<'a, R> {
 impl<'a, R: Print> OutSink<'a, R> {
     /// The standard output of this runtime.
     pub fn new(rt: &'a R) -> OutSink<'a, R>
-        ensures { result ≡ 0 }
+        ensures faults { result ≡ 0 }
     {
         OutSink { rt, faults: 0 }
     }
 
     /// How many calls were at fault. It stays at the greatest `u64`.
     pub fn faults(&self) -> u64
-        ensures { result ≡ self.now }
+        ensures faults { result ≡ self.now }
     {
         self.faults
     }
@@ -46,7 +46,7 @@ impl<R: Print> Sink for OutSink<'_, R> {
     ghost faults = { λ s. s };
 
     fn write(&mut self, buf: &[u8]) -> Result<usize, Failed>
-        requires { 0 < length buf.now }
+        requires bytes { 0 < length buf.now }
         ensures some { IfOk result (λ n. 0 < n) }
         ensures fits { IfOk result (λ n. n ≤ length buf.now) }
         ensures never_falls { self.old ≤ self.new }

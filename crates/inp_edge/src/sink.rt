@@ -22,7 +22,7 @@ pub trait Sink {
     /// `Failed` only where the count of faults rose. Nothing was written then. A sink that takes
     /// nothing is at fault.
     fn write(&mut self, buf: &[u8]) -> Result<usize, Failed>
-        requires { 0 < length buf.now }
+        requires bytes { 0 < length buf.now }
         ensures some { IfOk result (λ n. 0 < n) }
         ensures fits { IfOk result (λ n. n ≤ length buf.now) }
         ensures appended { IfOk result (λ n. Appends (take n buf.now) (written self.old) (written self.new)) }

@@ -4,4 +4,4 @@ use Rattle.inp_codes.proofs.codes.code_of.Goals as goal
 
 pub returns : goal.returns
 unfolding code_numbers
-returns c = c.find_number.ensures ∙ c.code_rows.ensures.numbers c.args.text.now
+returns c = record { code = c.find_number.ensures ∙ c.code_rows.ensures.numbers c.args.text.now }

@@ -20,6 +20,9 @@ unfolding code_text code_entries
 returns c =
     let kind = c.args.kind in
     let code = c.args.code in
-    c.name_at.ensures ∙ ap (λ names. indexed_name names code) c.code_names.ensures
-    ∙ indexed_name-indexed (codes_of_kind kind) code (numbers_rise-codes_in kinds_with_codes kind codes_rise_within)
-    ∙ sym (name_in-codes_in kinds_with_codes 0 kind code kinds_rise)
+    record {
+      name =
+          c.name_at.ensures ∙ ap (λ names. indexed_name names code) c.code_names.ensures
+          ∙ indexed_name-indexed (codes_of_kind kind) code (numbers_rise-codes_in kinds_with_codes kind codes_rise_within)
+          ∙ sym (name_in-codes_in kinds_with_codes 0 kind code kinds_rise);
+    }

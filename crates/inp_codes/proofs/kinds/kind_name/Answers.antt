@@ -7,6 +7,8 @@ use Rattle.inp_codes.proofs.kinds.kind_name.Goals as goal
 
 pub returns : goal.returns
 unfolding event_codes
-returns c =
-    c.name_at.ensures ∙ ap (λ names. indexed_name names c.args.kind) c.kind_names.ensures
-    ∙ indexed_name-indexed kind_entries c.args.kind refl
+returns c = record {
+  name =
+      c.name_at.ensures ∙ ap (λ names. indexed_name names c.args.kind) c.kind_names.ensures
+      ∙ indexed_name-indexed kind_entries c.args.kind refl;
+}

@@ -4,4 +4,4 @@ use Rattle.inp_codes.proofs.kinds.kind_of.Goals as goal
 
 pub returns : goal.returns
 unfolding kind_number
-returns c = c.find_number.ensures ∙ c.kind_rows.ensures.numbers c.args.text.now
+returns c = record { kind = c.find_number.ensures ∙ c.kind_rows.ensures.numbers c.args.text.now }
