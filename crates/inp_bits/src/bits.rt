@@ -38,8 +38,8 @@ impl<const W: usize> Bits<W> {
     ///
     /// W is at most 1,024, this project's choice, so that an index has at most 16 bits.
     pub fn new() -> Self
-        requires { W ≤ 1024 }
-        ensures { result ≡ replicate (64 * W) false }
+        requires few { W ≤ 1024 }
+        ensures all_false { result ≡ replicate (64 * W) false }
     {
         Bits { words: [0; W] }
     }
@@ -48,8 +48,8 @@ impl<const W: usize> Bits<W> {
     ///
     /// W is at most 1,024, as for [`Bits::new`].
     pub fn full() -> Self
-        requires { W ≤ 1024 }
-        ensures { result ≡ replicate (64 * W) true }
+        requires few { W ≤ 1024 }
+        ensures all_true { result ≡ replicate (64 * W) true }
     {
         Bits {
             words: [u64::MAX; W],
@@ -58,7 +58,7 @@ impl<const W: usize> Bits<W> {
 
     /// Value `index` of the list, for an index below 64·W, as the kernel's `test_bit` gives it.
     pub fn get(&self, index: u32) -> bool
-        requires { index < 64 * W }
+        requires within { index < 64 * W }
         ensures value { result ≡ is_set self.now index }
         ensures len { length self.now ≡ 64 * W }
     {
@@ -69,7 +69,7 @@ impl<const W: usize> Bits<W> {
     /// Sets value `index` of the list to `on`, for an index below 64·W, as the kernel's `__assign_bit` does. The other
     /// values stay.
     pub fn set(&mut self, index: u32, on: bool)
-        requires { index < 64 * W }
+        requires within { index < 64 * W }
         ensures written { self.new ≡ slice_set self.old index on }
         ensures len { length self.new ≡ 64 * W }
     {
@@ -79,7 +79,7 @@ impl<const W: usize> Bits<W> {
 
     /// The 64 values from `64 * word_index` on, for a `word_index` below W: the first is the lowest bit of the result.
     pub fn word(&self, word_index: u32) -> u64
-        requires { word_index < W }
+        requires within { word_index < W }
         ensures value { word_bits result ≡ slice_range self.now (64 * word_index) (64 * word_index + 64) }
         ensures len { length self.now ≡ 64 * W }
     {
@@ -89,7 +89,7 @@ impl<const W: usize> Bits<W> {
     /// Sets the 64 values from `64 * word_index` on, for a `word_index` below W, to the bits of `bits`, the lowest
     /// first. The other values stay.
     pub fn set_word(&mut self, word_index: u32, bits: u64)
-        requires { word_index < W }
+        requires within { word_index < W }
         ensures written { self.new
             ≡ take (64 * word_index) self.old ++ word_bits bits ++ drop (64 * word_index + 64) self.old }
         ensures len { length self.new ≡ 64 * W }

@@ -1,5 +1,5 @@
 //! The description of a device.
-ghost use Rattle.std.specs.Prelude.{◌≡◌, ◌≢◌, ◌<◌, ◌≤◌, true, false, length, nat_le, slice_index_or, ◌∷◌, replicate};
+ghost use Rattle.std.specs.Prelude.{◌≡◌, ◌<◌, ◌≤◌, true, false, length, slice_index_or, ◌∷◌, replicate};
 ghost use Rattle.inp_model.specs.Description.{has_kind, has_code, supports, info, ring, offset, is_kind, is_bad_axis, IsDescription};
 ghost use Rattle.inp_caps.specs.Builder.{syn_alone, with_kind, with_code, with_axis, with_default_axis, with_slot_axes, is_code};
 
@@ -76,15 +76,10 @@ impl Caps {
     /// Whether the code of the type is supported. `EV_SYN` has the codes 0 to 3, and `EV_REP`, where it is
     /// supported, has both of its codes.
     pub fn supports(&self, kind: u16, code: u16) -> bool
-        ensures syn { kind ≡ EV_SYN → result ≡ nat_le code SYN_DROPPED }
-        ensures others { kind ≢ EV_SYN → result ≡ supports self.now kind code }
+        ensures supported { result ≡ supports self.now kind code }
         ensures description { IsDescription self.now }
     {
-        let has_kind = self.has_kind(kind);
-        if kind == EV_SYN {
-            return code <= SYN_DROPPED;
-        }
-        has_kind && self.has_code(kind, code)
+        self.has_kind(kind) && self.has_code(kind, code)
     }
 
     // Whether the code is among those of its type.
@@ -93,6 +88,7 @@ impl Caps {
         ensures description { IsDescription self.now }
     {
         match kind {
+            EV_SYN => code <= SYN_DROPPED,
             EV_KEY => key_at(&self.keys, code),
             EV_REL => code_at(&self.relatives, code),
             EV_ABS => code_at(&self.axes, code),
@@ -108,7 +104,7 @@ impl Caps {
     /// The axis with this code, which is at most `ABS_MAX`, with the value that it has before any event. All numbers
     /// of an axis that was not described are 0.
     pub fn axis(&self, code: u16) -> AxisInfo
-        requires { code ≤ ABS_MAX }
+        requires within { code ≤ ABS_MAX }
         ensures axis { result ≡ info self.now code }
         ensures good { is_bad_axis code result ≡ false }
     {

@@ -29,7 +29,7 @@ impl Model for CapsBuilder {
 impl CapsBuilder {
     /// A builder of a device with `EV_SYN` alone.
     pub fn new() -> CapsBuilder
-        ensures { result ≡ syn_alone }
+        ensures fresh { result ≡ syn_alone }
     {
         CapsBuilder {
             caps: Caps::syn_alone(),

@@ -9,7 +9,7 @@ ghost use Rattle.inp_model.specs.Defuzz.{defuzz, is_within};
 /// fuzz half of the way, and else the whole way. The ends are left out, and division truncates toward zero. Sums are of
 /// 64 bits (this project's choice: the kernel's wrap at 32 bits), so nothing overflows for any three numbers.
 pub fn defuzz(value: i32, old: i32, fuzz: i32) -> i32
-    ensures { result ≡ defuzz value old fuzz }
+    ensures value { result ≡ defuzz value old fuzz }
 {
     if fuzz == 0 {
         return value;

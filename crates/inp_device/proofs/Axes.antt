@@ -1,18 +1,17 @@
 -- What a query of an axis answers.
-use Rattle.std.proofs.Common.{◌≡◌, ℕ, Bool, true, if◌then◌else◌, List, sym, ap, ◌∙◌, pos, ℤ}
+use Rattle.std.proofs.Common.{◌≡◌, ℕ, Bool, true, if◌then◌else◌, List, sym, ap, ◌∙◌, ℤ}
 use Rattle.inp_model.specs.declared.event.TheConstants.{EV_ABS}
 use Rattle.inp_model.specs.declared.event.Event.{Event}
 use Rattle.inp_model.specs.declared.axis_info.AxisInfo.{AxisInfo}
-use Rattle.inp_model.specs.Description.{Description, supports, info, no_info, is_multi_touch_code}
-use Rattle.inp_model.specs.State.{axis_value}
-use Rattle.inp_model.specs.Reply.{axis_answer}
+use Rattle.inp_model.specs.Description.{Description, supports, info, no_info}
+use Rattle.inp_model.specs.Reply.{present_value, axis_answer}
 
 -- what is answered, by whether the axis is supported and by its value
 abbrev axis_by : Bool → AxisInfo → ℤ → AxisInfo
 axis_by there axis v = if there then record axis { value = v } else no_info
 
-pub axis-there : (d : Description) (r : List Event) (code : ℕ) (axis : AxisInfo) (v : ℤ) → supports d EV_ABS code ≡ true → axis ≡ info d code → v ≡ (if is_multi_touch_code code then pos 0 else axis_value d r code) → let given : AxisInfo = record axis { value = v } in given ≡ axis_answer d r code
+pub axis-there : (d : Description) (r : List Event) (code : ℕ) (axis : AxisInfo) (v : ℤ) → supports d EV_ABS code ≡ true → axis ≡ info d code → v ≡ present_value d r code → let given : AxisInfo = record axis { value = v } in given ≡ axis_answer d r code
 axis-there d r code axis v h is takes =
     ap (λ (a : AxisInfo). record a { value = v }) is
     ∙ ap (λ (w : ℤ). record (info d code) { value = w }) takes
-    ∙ sym (ap (λ b. axis_by b (info d code) (if is_multi_touch_code code then pos 0 else axis_value d r code)) h)
+    ∙ sym (ap (λ b. axis_by b (info d code) (present_value d r code)) h)

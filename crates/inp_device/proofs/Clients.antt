@@ -1,14 +1,16 @@
 -- Who is open, in a form where no client is closed and no source is done.
 use Rattle.std.proofs.Common.{◌≡◌, ◌≢◌, ℕ, suc, Bool, true, false, ◌&&◌, ◌||◌, if◌then◌else◌, nat_eq, nat_lt, List, [], ◌∷◌, refl, sym, ap, ◌∙◌, arith, Option, Some, None, is_some}
 use Rattle.std.proofs.lemmas.Bool.Decides.{nat_tests}
+use Rattle.std.proofs.lemmas.Bool.{eqb-true}
 use Rattle.inp_model.specs.declared.step.Step.{Step}
 use Rattle.inp_model.specs.declared.step.Step.TheVariants.{Open}
 use Rattle.inp_model.specs.Description.{Description}
 use Rattle.inp_model.specs.Log.{Log}
 use Rattle.inp_model.specs.History.{opens, is_open_step, is_open, is_end_step, ends}
-use Rattle.inp_device.specs.Batch.{Gathered}
+use Rattle.inp_frames.specs.Core.{CoreValues}
 use Rattle.inp_device.specs.Queue.{Queued}
-use Rattle.inp_device.specs.Kept.{IsKept}
+use Rattle.inp_device.specs.Handler.{Handling}
+use Rattle.inp_device.specs.Kept.{HasQueue, IsKept}
 
 and-false : (b : Bool) → (b && false) ≡ false
 and-false true = refl
@@ -47,6 +49,10 @@ none_open past client h = is_open-lt past client ∙ ap (nat_lt client) h ∙ lt
 pub one_open : (past : List Step) (client : ℕ) → opens past ≡ 1 → is_open past client ≡ nat_eq client 0
 one_open past client h = is_open-lt past client ∙ ap (nat_lt client) h ∙ lt-one client
 
+-- where one client was opened, an open client is the first
+pub first_client : (past : List Step) (client : ℕ) → opens past ≡ 1 → is_open past client ≡ true → client ≡ 0
+first_client past client one is = eqb-true client 0 (sym (one_open past client one) ∙ is)
+
 is_end_step-none : (x : Step) → is_end_step x ≡ false
 is_end_step-none Open = refl
 is_end_step-none x = refl
@@ -57,10 +63,10 @@ ends-none [] = refl
 ends-none (x ∷ past) = ap (λ b. if b then suc (ends past) else ends past) (is_end_step-none x) ∙ ends-none past
 
 -- the code's test of a client
-is_open-test : (d : Description) (batch : Gathered) (kept : Option Queued) (past : List Step) (client : ℕ) → IsKept d batch kept past → (nat_eq client 0 && is_some kept) ≡ is_open past client
-is_open-test d batch None past client was = and-false (nat_eq client 0) ∙ sym (none_open past client was.queued)
-is_open-test d batch (Some own) past client was = and-true (nat_eq client 0) ∙ sym (one_open past client was.queued.0)
+open_test : (d : Description) (kept : Option Queued) (past : List Step) (client : ℕ) → HasQueue d kept past → (nat_eq client 0 && is_some kept) ≡ is_open past client
+open_test d None past client has = and-false (nat_eq client 0) ∙ sym (none_open past client has)
+open_test d (Some own) past client has = and-true (nat_eq client 0) ∙ sym (one_open past client has.0)
 
 -- the same of the value that a device is seen as
-pub is_open-view : (d : Description) (batch : Gathered) (kept : Option Queued) (past : List Step) (log : Log) (client : ℕ) → record { description = d; past = past } ≡ log → IsKept d batch kept past → (nat_eq client 0 && is_some kept) ≡ is_open log.past client
-is_open-view d batch kept past log client view was = is_open-test d batch kept past client was ∙ ap (λ (l : Log). is_open l.past client) view
+pub is_open-view : (d : Description) (core : CoreValues) (handler : Handling) (past : List Step) (log : Log) (client : ℕ) → record { description = d; past = past } ≡ log → IsKept d core handler past → (nat_eq client 0 && is_some handler.client) ≡ is_open log.past client
+is_open-view d core handler past log client view was = open_test d handler.client past client was.queued ∙ ap (λ (l : Log). is_open l.past client) view

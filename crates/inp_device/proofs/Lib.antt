@@ -1,9 +1,8 @@
-pub mod Applying
-pub mod Axes
-pub mod WordLists
-pub mod Gathering
-pub mod Reports
-pub mod Clients
-pub mod Queues
-pub mod Keeping
 pub mod Answering
+pub mod Axes
+pub mod Clients
+pub mod Filling
+pub mod Keeping
+pub mod Queues
+pub mod Reports
+pub mod WordLists

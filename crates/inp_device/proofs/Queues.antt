@@ -1,14 +1,15 @@
 -- A queue of entries, seen as the events that a client reads.
-use Rattle.std.proofs.Common.{◌≡◌, ◌≤◌, ℕ, suc, Bool, true, false, ◌&&◌, ◌||◌, if◌then◌else◌, nat_eq, nat_lt, List, [], ◌∷◌, ◌++◌, length, map, take, drop, refl, sym, ap, ◌∙◌, arith}
-use Rattle.std.proofs.Math.Path.{fun_ext}
+use Rattle.std.proofs.Common.{◌≡◌, ◌≤◌, ℕ, suc, Bool, true, false, ◌&&◌, ◌||◌, not, if◌then◌else◌, nat_eq, nat_lt, List, [], ◌∷◌, ◌++◌, length, map, take, drop, refl, sym, ap, ◌∙◌, arith}
 use Rattle.std.proofs.lemmas.List.{map-append, length-map}
 use Rattle.std.proofs.lemmas.Bool.Decides.{nat_tests}
 use Rattle.inp_model.specs.declared.taken.Taken.{Taken}
 use Rattle.inp_model.specs.declared.event.Event.{Event}
 use Rattle.inp_model.specs.Event.{is_report}
 use Rattle.inp_model.specs.Queue as queue
-use Rattle.inp_model.specs.Queue.{Entry, lost, lost_entry, ends_in_report, is_empty, put, put_all, visible, flush}
+use Rattle.inp_model.specs.Queue.{Entry, lost, lost_entry, ends_in_report, is_empty, put, put_all, visible, follows_kept, stays, flush_behind, flush}
 use Rattle.inp_model.specs.Reply.{taken_of}
+use Rattle.inp_device.specs.declared.class.Class.{Class}
+use Rattle.inp_device.specs.Class.{has}
 use Rattle.inp_device.specs.Queue.{event_of}
 
 ends_in_report-map : (q : List Entry) → ends_in_report event_of (map taken_of q) ≡ ends_in_report queue.event_of q
@@ -57,32 +58,56 @@ visible-le (x ∷ q) = visible_step (visible event_of q) (length q) (is_report (
     visible_step behind n true h = grind (arith, nat_tests)
     visible_step behind n false h = grind (arith, nat_tests)
 
--- Removing the events of a type
+-- Removing the events of a class
 
--- what is left of a queue that begins with an item, by what the item is and by what is left behind it
-abbrev flush_by : {X : Type 0} → Bool → Bool → Bool → X → (Bool → List X) → List X
-flush_by report drops stays x behind =
-    if report then (if stays then x ∷ behind false else behind false)
-    else if drops then behind stays
-    else x ∷ behind true
+follows_kept-map : (drops : Event → Bool) (before : List Entry) → follows_kept event_of drops (map taken_of before) ≡ follows_kept queue.event_of drops before
+follows_kept-map drops [] = refl
+follows_kept-map drops (y ∷ before) =
+    ap (λ (b : Bool). if is_report (queue.event_of y) then false else if drops (queue.event_of y) then b else true) (follows_kept-map drops before)
 
-flush_by-map : (report drops stays : Bool) (x : Entry) (behind : Bool → List Entry) → map taken_of (flush_by report drops stays x behind) ≡ flush_by report drops stays (taken_of x) (λ b. map taken_of (behind b))
-flush_by-map true drops true x behind = refl
-flush_by-map true drops false x behind = refl
-flush_by-map false true stays x behind = refl
-flush_by-map false false stays x behind = refl
+stays-map : (drops : Event → Bool) (before : List Entry) (x : Entry) → stays event_of drops (map taken_of before) (taken_of x) ≡ stays queue.event_of drops before x
+stays-map drops before x =
+    ap (λ (b : Bool). if is_report (queue.event_of x) then b else not (drops (queue.event_of x))) (follows_kept-map drops before)
 
-pub flush-map : (drops : Event → Bool) (stays : Bool) (q : List Entry) → map taken_of (flush queue.event_of drops stays q) ≡ flush event_of drops stays (map taken_of q)
-flush-map drops stays [] = refl
-flush-map drops stays (x ∷ q) =
-    flush_by-map (is_report (queue.event_of x)) (drops (queue.event_of x)) stays x (λ b. flush queue.event_of drops b q)
-    ∙ ap (flush_by (is_report (queue.event_of x)) (drops (queue.event_of x)) stays (taken_of x)) (fun_ext (λ b. flush-map drops b q))
+map_one : (b : Bool) (x : Entry) (q : List Entry) → map taken_of ((if b then x ∷ [] else []) ++ q) ≡ (if b then taken_of x ∷ [] else []) ++ map taken_of q
+map_one true x q = refl
+map_one false x q = refl
 
--- without the events of a type, where it is known whether a report at the front stays
-abbrev pub flushed_from : ℕ → Bool → List Taken → List Taken
-flushed_from kind stays q = flush event_of (λ e. nat_eq e.kind kind) stays q
+flush_behind-map : (drops : Event → Bool) (before q : List Entry) → map taken_of (flush_behind queue.event_of drops before q) ≡ flush_behind event_of drops (map taken_of before) (map taken_of q)
+flush_behind-map drops before [] = refl
+flush_behind-map drops before (x ∷ q) =
+    map_one (stays queue.event_of drops before x) x (flush_behind queue.event_of drops (x ∷ before) q)
+    ∙ ap (λ (b : Bool). (if b then taken_of x ∷ [] else []) ++ map taken_of (flush_behind queue.event_of drops (x ∷ before) q)) (sym (stays-map drops before x))
+    ∙ ap (λ (rest : List Taken). (if stays event_of drops (map taken_of before) (taken_of x) then taken_of x ∷ [] else []) ++ rest) (flush_behind-map drops (x ∷ before) q)
+
+pub flush-map : (drops : Event → Bool) (q : List Entry) → map taken_of (flush queue.event_of drops q) ≡ flush event_of drops (map taken_of q)
+flush-map drops q = flush_behind-map drops [] q
+
+-- what the code keeps of the events behind a place, where it is known whether a report there stays
+abbrev pub walked : (Event → Bool) → Bool → List Taken → List Taken
+walked drops report_stays [] = []
+walked drops report_stays (x ∷ q) =
+    if is_report (event_of x) then (if report_stays then x ∷ walked drops false q else walked drops false q)
+    else if drops (event_of x) then walked drops report_stays q
+    else x ∷ walked drops true q
+
+walked_by : (report dropped report_stays : Bool) (x : Taken) (rest : Bool → List Taken) → (if report then (if report_stays then x ∷ rest false else rest false) else if dropped then rest report_stays else x ∷ rest true)
+    ≡ (if (if report then report_stays else not dropped) then x ∷ [] else []) ++ rest (if report then false else if dropped then report_stays else true)
+walked_by true dropped true x rest = refl
+walked_by true dropped false x rest = refl
+walked_by false true report_stays x rest = refl
+walked_by false false report_stays x rest = refl
+
+walked-behind : (drops : Event → Bool) (before q : List Taken) → walked drops (follows_kept event_of drops before) q ≡ flush_behind event_of drops before q
+walked-behind drops before [] = refl
+walked-behind drops before (x ∷ q) =
+    walked_by (is_report (event_of x)) (drops (event_of x)) (follows_kept event_of drops before) x (λ b. walked drops b q)
+    ∙ ap (λ (rest : List Taken). (if stays event_of drops before x then x ∷ [] else []) ++ rest) (walked-behind drops (x ∷ before) q)
+
+pub walked-all : (drops : Event → Bool) (q : List Taken) → walked drops true q ≡ flush event_of drops q
+walked-all drops q = walked-behind drops [] q
 
 -- the events before `index` are moved to the first `kept` places, and nothing behind was touched
-pub record IsMoved (kind : ℕ) (stays : Bool) (q events : List Taken) (kept index : ℕ) : Type 0 where
+pub record IsMoved (class : Class) (report_stays : Bool) (q events : List Taken) (kept index : ℕ) : Type 0 where
   pub behind : kept ≤ index
-  pub same : take kept events ++ flushed_from kind stays (drop index events) ≡ flushed_from kind true q
+  pub same : take kept events ++ walked (has class) report_stays (drop index events) ≡ flush event_of (has class) q

@@ -14,7 +14,7 @@ use Rattle.inp_bits.proofs.WordParts.{is_set-word}
 use Rattle.inp_model.proofs.Descriptions.{get_or-replicate}
 use Rattle.inp_model.specs.Reply.{number_of, word_of, words_of}
 
-map-same : {X : Type 0} → (x : X) (n : ℕ) (f g : ℕ → X) → ((k : ℕ) → k < n → f k ≡ g k) → map f (range_with_len 0 n) ≡ map g (range_with_len 0 n)
+pub map-same : {X : Type 0} → (x : X) (n : ℕ) (f g : ℕ → X) → ((k : ℕ) → k < n → f k ≡ g k) → map f (range_with_len 0 n) ≡ map g (range_with_len 0 n)
 map-same x n f g same =
     ext_get_or x (map f (range_with_len 0 n)) (map g (range_with_len 0 n)) (length-map-range_with_len f 0 n ∙ sym (length-map-range_with_len g 0 n))
     (λ i l. let h : i < n = omega (arith, length-map-range_with_len f 0 n) in

@@ -1,4 +1,5 @@
-pub mod Batch
+pub mod Class
 pub mod Queue
+pub mod Handler
 pub mod Kept
 pub mod Steps

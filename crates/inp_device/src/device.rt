@@ -1,19 +1,25 @@
 //! The device.
-ghost use Rattle.std.specs.Prelude.{◌≡◌, ◌≤◌, ◌<◌, nat_le, List, [], ◌∷◌, length, reverse, IfOk};
+ghost use Rattle.std.specs.Prelude.{◌≡◌, ◌≤◌, ◌*◌, nat_le, List, [], ◌∷◌, length, reverse, IfOk};
 ghost use Rattle.inp_model.specs.declared.step.Step.{Step};
 ghost use Rattle.inp_model.specs.declared.reply.Reply.{Reply};
-ghost use Rattle.inp_model.specs.History.{opens, is_open};
+ghost use Rattle.inp_model.specs.Frame.{at_frame};
+ghost use Rattle.inp_model.specs.History.{raw, opens, is_open};
 ghost use Rattle.inp_model.specs.Reply.{IsTimely, HasRoom, Makes, accepted, alone};
-ghost use Rattle.inp_device.specs.Queue.{offered_to, flushed_of};
+ghost use Rattle.inp_frames.specs.Core.{IsFor};
 ghost use Rattle.inp_device.specs.Kept.{IsKept};
-ghost use Rattle.inp_device.specs.Steps.{OpensOr, Gives, Replies, Asks};
+ghost use Rattle.inp_device.specs.Steps.{OpensOr, Gives, Replies, Fills, Asks};
+ghost use Rattle.inp_device.specs.declared.class.Class.{Class};
 
-use crate::batch::Batch;
+use crate::cells::{VALUES, write_column, write_rows};
+use crate::class::Class;
+use crate::handler::Handler;
+use crate::queries;
 use crate::queue::Queue;
 use inp_caps::Caps;
+use inp_frames::Core;
 use inp_model::{
-    ABS_MAX, Clock, EV_ABS, EV_KEY, EV_LED, EV_SND, EV_SW, Event, History, MOMENT_MAX, NoMemory,
-    Refusal, Reply, Step, Taken,
+    ABS_MAX, ABS_MT_TOOL_Y, ABS_MT_TOUCH_MAJOR, Clock, EV_ABS, EV_KEY, EV_LED, EV_SND, EV_SW,
+    Event, History, MOMENT_MAX, NoMemory, Refusal, Reply, Step, Taken,
 };
 use std::alloc::Global;
 use std::marker::Model;
@@ -24,15 +30,15 @@ const _: () = prove!(size_of::<Step>() <= 32);
 
 /// A device, seen as its description and its past: the steps that it accepted, newest first.
 ///
-/// It keeps the present state, the open batch and the client's queue. It takes memory when it is made, for the whole
+/// It keeps the present state, the slots, the open batch and the client's queue. It takes memory when it is made, for the whole
 /// history, and when a client is opened, and at no other step.
 #[derive(Drop)]
 pub struct Device {
     alloc: Global,
     caps: Caps,
     steps: Vec<Step>,
-    batch: Batch,
-    client: Option<Queue>,
+    core: Core,
+    handler: Handler,
 }
 
 impl Model for Device {
@@ -46,7 +52,7 @@ impl Model for Device {
 
     ghost view = { λ d. record { description = d.caps; past = reverse d.steps.items } };
 
-    ghost invariant = { λ d. IsKept d.caps d.batch d.client (reverse d.steps.items) × (vec_len d.steps ≤ d.caps.log) × (d.caps.log ≤ vec_capacity d.steps) × (d.caps.log ≤ LOG_MAX) };
+    ghost invariant = { λ d. IsKept d.caps d.core d.handler (reverse d.steps.items) × (vec_len d.steps ≤ d.caps.log) × (d.caps.log ≤ vec_capacity d.steps) × (d.caps.log ≤ LOG_MAX) };
 }
 
 impl Device {
@@ -55,13 +61,14 @@ impl Device {
         ensures fresh { IfOk result (λ device. device ≡ record { description = caps; past = [] }) }
     {
         let steps = Vec::with_capacity(alloc, caps.log() as usize)?;
-        let batch = Batch::new(alloc, &caps)?;
+        let core = Core::new(alloc, &caps)?;
+        let handler = Handler::new(caps.offset(Clock::Realtime));
         Ok(Device {
             alloc,
             caps,
             steps,
-            batch,
-            client: None,
+            core,
+            handler,
         })
     }
 
@@ -75,18 +82,23 @@ impl Device {
     /// Makes one step.
     ///
     /// An accepted step is entered in the history, and its reply has its place there. After any other reply all is as
-    /// before. What a `Read` takes is written to the front of `out`; the rest of `out`, and `cells`, stay. A query of
-    /// keys, switches, LEDs or sounds removes the client's queued events of its type. `GetAxis` of an open client is
-    /// answered `BadKind` where the device has no axes, else `BadCode` above `ABS_MAX`, and else the axis as described
-    /// with its present value; all numbers of an axis that is not supported are 0. A step that nothing else refuses is
-    /// answered `LogFull` where the history has as many steps as its limit. The cost of a step does not grow with the
-    /// history. Only `Open` takes memory, and answers `NoMemory` where there is none.
+    /// before. What a `Read` takes is written to the front of `out`, and what `GetSlots` and `SyncSlots` tell to the front
+    /// of `cells`; the rest of both stays. A query of keys, switches, LEDs or sounds removes the client's queued events
+    /// of its type, and `SyncSlots` those of the multi-touch axes.
     ///
-    /// The caller owes a moment of at most `MOMENT_MAX` and an `out` that is as long as the count of a `Read`. In this
-    /// form it also owes that only one client is opened.
+    /// `GetAxis` of an open client is answered `BadKind` where the device has no axes, else `BadCode` above `ABS_MAX`,
+    /// and else the axis as described with its present value; all numbers of an axis that is not supported are 0.
+    /// `GetSlots` and `SyncSlots` of an open client are answered `BadKind` where the device has no slots, and `GetSlots`
+    /// else `BadCode` outside `ABS_MT_TOUCH_MAJOR` to `ABS_MT_TOOL_Y`. A step that nothing else refuses is answered
+    /// `LogFull` where the history has as many steps as its limit. The cost of a step does not grow with the history.
+    /// Only `Open` takes memory, and answers `NoMemory` where there is none.
+    ///
+    /// The caller owes a moment of at most `MOMENT_MAX`, an `out` that is as long as the count of a `Read`, and for
+    /// `GetSlots` and `SyncSlots` a `cells` of fourteen values a slot. In this form it also owes that only one client is
+    /// opened.
     pub fn step(&mut self, step: Step, out: &mut [Taken], cells: &mut [i32]) -> Reply
         requires timely { IsTimely step }
-        requires room { HasRoom step out.old }
+        requires room { HasRoom self.old.description step out.old cells.old }
         requires one_client { step ≡ Step.Open → opens self.old.past ≡ 0 }
         ensures makes { Makes self.old.description self.old.past step result out.old out.new cells.old cells.new self.new.past }
         ensures description { self.new.description ≡ self.old.description }
@@ -100,6 +112,8 @@ impl Device {
             Step::GetLeds { client } => self.get_leds(client),
             Step::GetSounds { client } => self.get_sounds(client),
             Step::GetAxis { client, code } => self.get_axis(client, code),
+            Step::GetSlots { client, code } => self.get_slots(client, code, cells),
+            Step::SyncSlots { client } => self.sync_slots(client, cells),
         }
     }
 
@@ -115,8 +129,8 @@ impl Device {
         let at = self.place();
         pass_on(
             &self.caps,
-            &mut self.batch,
-            &mut self.client,
+            &mut self.core,
+            &mut self.handler,
             event,
             now,
             at,
@@ -139,7 +153,7 @@ impl Device {
             return self.refuse(Refusal::NoMemory);
         };
         let at = self.place();
-        self.client = Some(queue);
+        self.handler.open(queue);
         self.steps.push(Step::Open).unwrap();
         Reply::Opened {
             at,
@@ -154,38 +168,29 @@ impl Device {
         ensures reads { Gives self.old.description self.old.past (Step.Read client count) result out.old out.new self.new.past }
         ensures description { self.new.description ≡ self.old.description }
     {
+        if !self.is_open(client) {
+            return self.refuse(Refusal::BadClient);
+        }
         let at = self.place();
-        let full = self.is_full();
-        match &mut self.client {
-            Some(queue) if client == 0 => {
-                let visible = queue.visible();
-                if visible == 0 {
-                    return Reply::Again { at, ends: 0 };
-                }
-                if full {
-                    return Reply::Refused {
-                        at,
-                        why: Refusal::LogFull,
-                    };
-                }
-                let taken = visible.min(count as usize);
-                queue.take(taken, out);
-                self.steps.push(Step::Read { client, count }).unwrap();
-                Reply::Took {
-                    at,
-                    count: taken as u32,
-                }
-            }
-            _ => Reply::Refused {
-                at,
-                why: Refusal::BadClient,
-            },
+        let visible = self.handler.visible();
+        if visible == 0 {
+            return Reply::Again { at, ends: 0 };
+        }
+        if self.is_full() {
+            return self.refuse(Refusal::LogFull);
+        }
+        let taken = visible.min(count as usize);
+        self.handler.take(taken, out);
+        self.steps.push(Step::Read { client, count }).unwrap();
+        Reply::Took {
+            at,
+            count: taken as u32,
         }
     }
 
     // A client asks for the state of a type, which is known. Its queued events of the type are removed.
     fn get(&mut self, step: Step, client: u32, kind: u16, words: [u64; 12]) -> Reply
-        requires asks { Asks step client kind }
+        requires asks { Asks step client (Class.Kind kind) }
         requires known { accepted self.old.description self.old.past step ≡ alone (Reply.Bits (length self.old.past) words) }
         ensures replies { Replies self.old.description self.old.past step result self.new.past }
         ensures description { self.new.description ≡ self.old.description }
@@ -197,7 +202,7 @@ impl Device {
             return self.refuse(Refusal::LogFull);
         }
         let at = self.place();
-        flush_of(&mut self.client, kind);
+        self.handler.flush(Class::Kind(kind));
         self.steps.push(step).unwrap();
         Reply::Bits { at, words }
     }
@@ -207,7 +212,7 @@ impl Device {
         ensures replies { Replies self.old.description self.old.past (Step.GetKeys client) result self.new.past }
         ensures description { self.new.description ≡ self.old.description }
     {
-        let words = self.batch.keys();
+        let words = queries::keys(&self.core);
         self.get(Step::GetKeys { client }, client, EV_KEY, words)
     }
 
@@ -216,7 +221,7 @@ impl Device {
         ensures replies { Replies self.old.description self.old.past (Step.GetSwitches client) result self.new.past }
         ensures description { self.new.description ≡ self.old.description }
     {
-        let words = self.batch.switches();
+        let words = queries::switches(&self.core);
         self.get(Step::GetSwitches { client }, client, EV_SW, words)
     }
 
@@ -225,7 +230,7 @@ impl Device {
         ensures replies { Replies self.old.description self.old.past (Step.GetLeds client) result self.new.past }
         ensures description { self.new.description ≡ self.old.description }
     {
-        let words = self.batch.leds();
+        let words = queries::leds(&self.core);
         self.get(Step::GetLeds { client }, client, EV_LED, words)
     }
 
@@ -234,7 +239,7 @@ impl Device {
         ensures replies { Replies self.old.description self.old.past (Step.GetSounds client) result self.new.past }
         ensures description { self.new.description ≡ self.old.description }
     {
-        let words = self.batch.sounds();
+        let words = queries::sounds(&self.core);
         self.get(Step::GetSounds { client }, client, EV_SND, words)
     }
 
@@ -256,16 +261,76 @@ impl Device {
             return self.refuse(Refusal::LogFull);
         }
         let at = self.place();
-        let info = self.batch.axis(&self.caps, code);
+        let info = queries::axis(&self.core, &self.caps, code);
         self.steps.push(Step::GetAxis { client, code }).unwrap();
         Reply::Axis { at, info }
+    }
+
+    // A client asks for one value of each slot.
+    fn get_slots(&mut self, client: u32, code: u16, cells: &mut [i32]) -> Reply
+        requires room { 14 * self.old.description.slots ≤ length cells.old }
+        ensures fills { Fills self.old.description self.old.past (Step.GetSlots client code) result cells.old cells.new self.new.past }
+        ensures description { self.new.description ≡ self.old.description }
+    {
+        if !self.is_open(client) {
+            return self.refuse(Refusal::BadClient);
+        }
+        let count = self.caps.slots();
+        if count == 0 {
+            return self.refuse(Refusal::BadKind);
+        }
+        if code < ABS_MT_TOUCH_MAJOR || code > ABS_MT_TOOL_Y {
+            return self.refuse(Refusal::BadCode);
+        }
+        if self.is_full() {
+            return self.refuse(Refusal::LogFull);
+        }
+        let reply = self.tell_cells(count);
+        write_column(self.core.slots(), count, code, cells);
+        self.steps.push(Step::GetSlots { client, code }).unwrap();
+        reply
+    }
+
+    // A client asks for all values of all slots. Its queued multi-touch events are removed.
+    fn sync_slots(&mut self, client: u32, cells: &mut [i32]) -> Reply
+        requires room { 14 * self.old.description.slots ≤ length cells.old }
+        ensures fills { Fills self.old.description self.old.past (Step.SyncSlots client) result cells.old cells.new self.new.past }
+        ensures description { self.new.description ≡ self.old.description }
+    {
+        if !self.is_open(client) {
+            return self.refuse(Refusal::BadClient);
+        }
+        let count = self.caps.slots();
+        if count == 0 {
+            return self.refuse(Refusal::BadKind);
+        }
+        if self.is_full() {
+            return self.refuse(Refusal::LogFull);
+        }
+        let reply = self.tell_cells(VALUES * count);
+        write_rows(self.core.slots(), count, cells);
+        self.handler.flush(Class::MultiTouch);
+        self.steps.push(Step::SyncSlots { client }).unwrap();
+        reply
+    }
+
+    // The reply to a query that tells so many values of slots. It tells the slot that the clients know from the last
+    // frame, to which the next values without an announcement belong, and not the one that the open batch has reached.
+    fn tell_cells(&self, count: u32) -> Reply
+        ensures told { result ≡ Reply.Cells (length self.now.past) count (at_frame self.now.description (raw self.now.past)) }
+    {
+        Reply::Cells {
+            at: self.place(),
+            count,
+            slot: self.core.slots().at_frame(),
+        }
     }
 
     // Whether a client is open.
     fn is_open(&self, client: u32) -> bool
         ensures open { result ≡ is_open self.now.past client }
     {
-        client == 0 && self.client.is_some()
+        client == 0 && self.handler.client().is_some()
     }
 
     // Whether the history has as many steps as it may have.
@@ -307,44 +372,14 @@ impl Device {
     }
 }
 
-/// Takes a raw event, and offers the frame that it ends, if it ends one, to the client, if there is one. The
-/// frame's time is on the client's clock, which is the realtime one.
-fn pass_on(
-    caps: &Caps,
-    batch: &mut Batch,
-    client: &mut Option<Queue>,
-    event: Event,
-    now: u64,
-    at: u32,
-)
+/// Takes a raw event of the step with this place, and passes the frame that it ends, if it ends one, to the handler.
+fn pass_on(caps: &Caps, core: &mut Core, handler: &mut Handler, event: Event, now: u64, at: u32)
     requires timely { now ≤ MOMENT_MAX }
-    requires room { length batch.old.events < batch.old.hint }
-    ensures { (past : List Step) → at ≡ length past → IsKept caps.now batch.old client.old past → IsKept caps.now batch.new client.new (Step.Inject event now ∷ past) }
+    requires made { IsFor caps.now core.old }
+    ensures { (past : List Step) → at ≡ length past → IsKept caps.now core.old handler.old past → IsKept caps.now core.new handler.new (Step.Inject event now ∷ past) }
 {
-    if !batch.gather(caps, event) {
-        return;
-    }
-    let time = now + caps.offset(Clock::Realtime);
-    offer_to(client, batch.events(), time, at);
-    batch.clear();
-}
-
-/// Offers the events of a frame to the client, if there is one.
-fn offer_to(client: &mut Option<Queue>, events: &[Event], time: u64, place: u32)
-    ensures offered { client.new ≡ offered_to client.old events.now time place }
-{
-    if let Some(queue) = client {
-        queue.offer(events, time, place);
-    }
-}
-
-/// Removes the events of a type from the queue of the client, if there is one.
-fn flush_of(client: &mut Option<Queue>, kind: u16)
-    ensures flushed { client.new ≡ flushed_of client.old kind }
-{
-    if let Some(queue) = client {
-        queue.flush(kind);
-    }
+    handler.begin(at);
+    core.inject(caps, event, now, handler);
 }
 
 #[cfg(test)]

@@ -2,10 +2,12 @@
 ghost use Rattle.std.specs.Prelude.{◌≡◌, ◌≤◌, ◌||◌, not, if◌then◌else◌, nat_eq, [], ◌∷◌, length, map, take, drop, vec_capacity, IfOk};
 ghost use Rattle.inp_model.specs.declared.taken.Taken.{Taken};
 ghost use Rattle.inp_model.specs.Event.{is_report};
-ghost use Rattle.inp_model.specs.Queue.{is_empty, ends_in_report, put, put_all, visible, flushed, lost};
+ghost use Rattle.inp_model.specs.Queue.{is_empty, ends_in_report, put, put_all, visible, flush, lost};
 ghost use Rattle.inp_model.specs.Reply.{written};
+ghost use Rattle.inp_device.specs.Class.{has};
 ghost use Rattle.inp_device.specs.Queue.{event_of, taken_at, offered, without};
 
+use crate::class::Class;
 use inp_model::{EV_SYN, Event, NoMemory, SYN_DROPPED, Taken};
 use std::alloc::Global;
 use std::marker::Model;
@@ -94,26 +96,26 @@ impl Queue {
         self.events.drain(..count);
     }
 
-    /// Removes the events of a type, as a query of their state does. A report goes too where no event is left of its
-    /// frame, but the first report stays. It takes no memory, and time in proportion to the queue.
-    pub fn flush(&mut self, kind: u16)
-        ensures flushed { self.new ≡ without self.old kind }
+    /// Removes the events of a class, as a query of it does. A report goes too where no event is left of its frame, but
+    /// the first report stays. It takes no memory, and time in proportion to the queue.
+    pub fn flush(&mut self, class: Class)
+        ensures flushed { self.new ≡ without self.old class }
     {
-        let kept = move_kept(&mut self.events, kind);
+        let kept = move_kept(&mut self.events, class);
         self.events.truncate(kept);
     }
 }
 
-/// Moves the events that stay without a type to the front, in order, and says how many they are.
-fn move_kept(events: &mut [Taken], kind: u16) -> usize
+/// Moves the events that stay without a class to the front, in order, and says how many they are.
+fn move_kept(events: &mut [Taken], class: Class) -> usize
     ensures within { result ≤ length events.old }
-    ensures kept { take result events.new ≡ flushed event_of kind events.old }
+    ensures kept { take result events.new ≡ flush event_of (has class) events.old }
 {
     let mut kept = 0;
     let mut report_stays = true;
     for index in 0..events.len() {
         let taken = events[index];
-        if is_kept(taken.event, kind, report_stays) {
+        if is_kept(taken.event, class, report_stays) {
             events[kept] = taken;
             kept += 1;
             report_stays = !taken.event.is_report();
@@ -122,14 +124,14 @@ fn move_kept(events: &mut [Taken], kind: u16) -> usize
     kept
 }
 
-/// Whether an event stays without a type, where it is known whether a report would.
-fn is_kept(event: Event, kind: u16, report_stays: bool) -> bool
-    ensures { result ≡ (if is_report event then report_stays else not (nat_eq event.kind kind)) }
+/// Whether an event stays without a class, where it is known whether a report would.
+fn is_kept(event: Event, class: Class, report_stays: bool) -> bool
+    ensures { result ≡ (if is_report event then report_stays else not (has class event)) }
 {
     if event.is_report() {
         report_stays
     } else {
-        event.kind != kind
+        !class.has(event)
     }
 }
 

@@ -1,7 +1,8 @@
 -- What a device is: which types and codes it supports, its axes, and its numbers.
 use Rattle.std.specs.Prelude.{◌≡◌, ℕ, zero, suc, ◌*◌, ◌<◌, ◌≤◌, pos, int_lt, Bool, true, false, ◌&&◌, ◌||◌, not, if◌then◌else◌, nat_eq, nat_le, List, ◌∷◌, ◌++◌, length, replicate, slice_index_or}
 use Rattle.std.specs.Ordering.{int_eq}
-use Rattle.inp_model.specs.declared.event.TheConstants.{EV_SYN, EV_KEY, EV_REL, EV_ABS, EV_MSC, EV_SW, EV_LED, EV_SND, EV_REP, EV_MAX, KEY_MAX, REL_MAX, ABS_MAX, ABS_MT_SLOT, ABS_MT_TRACKING_ID, ABS_MT_TOOL_Y, MSC_MAX, SW_MAX, LED_MAX, SND_MAX, REP_MAX}
+use Rattle.inp_model.specs.declared.event.TheConstants.{EV_SYN, EV_KEY, EV_REL, EV_ABS, EV_MSC, EV_SW, EV_LED, EV_SND, EV_REP, EV_MAX, SYN_DROPPED, KEY_MAX, REL_MAX, ABS_MAX, MSC_MAX, SW_MAX, LED_MAX, SND_MAX, REP_MAX}
+use Rattle.inp_model.specs.declared.multi_touch.TheConstants.{ABS_MT_SLOT, ABS_MT_TOUCH_MAJOR, ABS_MT_TRACKING_ID, ABS_MT_TOOL_Y}
 use Rattle.inp_model.specs.declared.limits.TheConstants.{SLOTS_MAX, HINT_MIN, HINT_MAX, LOG_MAX, FUZZ_MAX}
 use Rattle.inp_model.specs.declared.stamped.TheConstants.{MOMENT_MAX}
 use Rattle.inp_model.specs.declared.axis_info.AxisInfo.{AxisInfo}
@@ -35,10 +36,11 @@ pub record Description : Type 0 where
 abbrev pub has_kind : Description → ℕ → Bool
 has_kind d kind = slice_index_or d.kinds kind false
 
--- the code alone; both codes of EV_REP are there, and EV_SYN stands aside
+-- the code alone; all codes of EV_SYN are there, and both of EV_REP
 abbrev pub has_code : Description → ℕ → ℕ → Bool
 has_code d kind code =
-    if nat_eq kind EV_KEY then slice_index_or d.keys code false
+    if nat_eq kind EV_SYN then nat_le code SYN_DROPPED
+    else if nat_eq kind EV_KEY then slice_index_or d.keys code false
     else if nat_eq kind EV_REL then slice_index_or d.relatives code false
     else if nat_eq kind EV_ABS then slice_index_or d.axes code false
     else if nat_eq kind EV_MSC then slice_index_or d.miscs code false
@@ -63,6 +65,10 @@ info d code = slice_index_or d.infos code no_info
 -- the axes whose values belong to slots, and the one that names a slot
 abbrev pub is_multi_touch_code : ℕ → Bool
 is_multi_touch_code code = nat_le ABS_MT_SLOT code && nat_le code ABS_MT_TOOL_Y
+
+-- the axes whose values belong to slots
+abbrev pub is_slot_code : ℕ → Bool
+is_slot_code code = nat_le ABS_MT_TOUCH_MAJOR code && nat_le code ABS_MT_TOOL_Y
 
 -- a number, doubled at most so many times, until it is large enough
 abbrev pub doubled : ℕ → ℕ → ℕ → ℕ

@@ -1,9 +1,10 @@
 -- What an event is about.
-use Rattle.std.specs.Prelude.{ℕ, pos, int_lt, Bool, ◌&&◌, not, nat_eq}
+use Rattle.std.specs.Prelude.{ℕ, ℤ, pos, int_lt, Bool, ◌&&◌, not, nat_eq}
 use Rattle.std.specs.Ordering.{int_eq}
 use Rattle.inp_model.specs.declared.event.TheConstants.{EV_SYN, EV_ABS, SYN_REPORT, SYN_DROPPED}
+use Rattle.inp_model.specs.declared.multi_touch.TheConstants.{ABS_MT_SLOT}
 use Rattle.inp_model.specs.declared.event.Event.{Event}
-use Rattle.inp_model.specs.Description.{Description, supports, is_multi_touch_code}
+use Rattle.inp_model.specs.Description.{Description, supports, is_multi_touch_code, is_slot_code}
 
 -- it ends a frame
 abbrev pub is_report : Event → Bool
@@ -28,6 +29,14 @@ is_negative e = int_lt e.value (pos 0)
 -- it is about a slot, or about a value of one
 abbrev pub is_multi_touch : Event → Bool
 is_multi_touch e = nat_eq e.kind EV_ABS && is_multi_touch_code e.code
+
+-- it is about a value of a slot
+abbrev pub is_slot_value : Event → Bool
+is_slot_value e = nat_eq e.kind EV_ABS && is_slot_code e.code
+
+-- it says which slot the values behind it belong to
+abbrev pub slot_event : ℤ → Event
+slot_event slot = record { kind = EV_ABS; code = ABS_MT_SLOT; value = slot }
 
 -- the report that ends a frame cut because it was full
 abbrev pub packet_report : Event

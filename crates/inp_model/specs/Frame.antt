@@ -1,10 +1,10 @@
 -- The frames that the passed events are cut into.
-use Rattle.std.specs.Prelude.{ℕ, suc, ◌+◌, Bool, ◌&&◌, if◌then◌else◌, nat_lt, nat_le, List, [], ◌∷◌, ◌++◌, length, Option, Some, None, option_to_list, option_map}
+use Rattle.std.specs.Prelude.{ℕ, ℤ, pos, if◌then◌else◌, nat_lt, nat_le, List, [], ◌∷◌, ◌++◌, length, Option, Some, None, is_some, option_to_list, option_map}
 use Rattle.inp_model.specs.declared.event.Event.{Event}
 use Rattle.inp_model.specs.declared.step.Step.{Step}
 use Rattle.inp_model.specs.Description.{Description}
 use Rattle.inp_model.specs.Event.{is_report, packet_report}
-use Rattle.inp_model.specs.Passed.{passed}
+use Rattle.inp_model.specs.Passed.{passed, announced}
 use Rattle.inp_model.specs.History.{added, raw, moment_of}
 
 pub record Frame : Type 0 where
@@ -21,7 +21,7 @@ abbrev pub place : Frame → ℕ
 place f = length f.before
 
 -- The batch after a raw event is what was passed since the last cut. A report cuts, and so does an event that
--- leaves as many events as the hint.
+-- leaves as many events as the hint, the naming of its slot included.
 unfoldable pub pending : Description → List Event → List Event
 pending d [] = []
 pending d (e ∷ r) =
@@ -36,6 +36,13 @@ cut d r e =
     if is_report e then (if nat_lt 1 (length batch) then Some batch else None)
     else if nat_le d.hint (length batch) then Some (batch ++ packet_report ∷ [])
     else None
+
+-- the slot that was announced when the last frame ended
+unfoldable pub at_frame : Description → List Event → ℤ
+at_frame d [] = pos 0
+at_frame d (e ∷ r) =
+    let before = at_frame d r in
+    if is_some (cut d r e) then announced d (e ∷ r) else before
 
 -- the frames that raw events end one after another, all in the step after this past
 unfoldable pub cuts : Description → List Step → ℕ → List Event → List Event → List Frame

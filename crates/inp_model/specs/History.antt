@@ -1,10 +1,10 @@
 -- What a history says. Here a history is written newest first, and is called a past.
-use Rattle.std.specs.Prelude.{ℕ, zero, suc, ◌+◌, Bool, true, false, ◌&&◌, ◌||◌, not, if◌then◌else◌, nat_eq, List, [], ◌∷◌, ◌++◌, take, reverse, Option, Some, None}
+use Rattle.std.specs.Prelude.{ℕ, suc, Bool, true, false, ◌&&◌, ◌||◌, if◌then◌else◌, nat_eq, List, [], ◌∷◌, take, reverse, Option, Some, None}
 use Rattle.inp_model.specs.declared.event.Event.{Event}
 use Rattle.inp_model.specs.declared.clock.Clock.{Clock}
 use Rattle.inp_model.specs.declared.clock.Clock.TheVariants.{Realtime}
 use Rattle.inp_model.specs.declared.step.Step.{Step}
-use Rattle.inp_model.specs.declared.step.Step.TheVariants.{Inject, Open, Read, GetKeys, GetSwitches, GetLeds, GetSounds, GetAxis}
+use Rattle.inp_model.specs.declared.step.Step.TheVariants.{Inject, Open, Read, GetKeys, GetSwitches, GetLeds, GetSounds, GetAxis, GetSlots, SyncSlots}
 
 -- the past before the place at, of a history that is written oldest first
 abbrev pub past_at : List Step → ℕ → List Step
@@ -19,6 +19,8 @@ is_open_step (GetSwitches client) = false
 is_open_step (GetLeds client) = false
 is_open_step (GetSounds client) = false
 is_open_step (GetAxis client code) = false
+is_open_step (GetSlots client code) = false
+is_open_step (SyncSlots client) = false
 
 -- how many clients were opened: the number of the next one
 unfoldable pub opens : List Step → ℕ
@@ -43,6 +45,8 @@ is_end_step (GetSwitches client) = false
 is_end_step (GetLeds client) = false
 is_end_step (GetSounds client) = false
 is_end_step (GetAxis client code) = false
+is_end_step (GetSlots client code) = false
+is_end_step (SyncSlots client) = false
 
 -- how many sources are done
 unfoldable pub ends : List Step → ℕ
@@ -59,6 +63,8 @@ client_of (GetSwitches client) = Some client
 client_of (GetLeds client) = Some client
 client_of (GetSounds client) = Some client
 client_of (GetAxis client code) = Some client
+client_of (GetSlots client code) = Some client
+client_of (SyncSlots client) = Some client
 
 -- the moment of a step, 0 where it has none
 abbrev pub moment_of : Step → ℕ
@@ -70,6 +76,8 @@ moment_of (GetSwitches client) = 0
 moment_of (GetLeds client) = 0
 moment_of (GetSounds client) = 0
 moment_of (GetAxis client code) = 0
+moment_of (GetSlots client code) = 0
+moment_of (SyncSlots client) = 0
 
 -- the raw events that a step stands for, oldest first
 abbrev pub added : Step → List Event
@@ -81,6 +89,8 @@ added (GetSwitches client) = []
 added (GetLeds client) = []
 added (GetSounds client) = []
 added (GetAxis client code) = []
+added (GetSlots client code) = []
+added (SyncSlots client) = []
 
 -- events put in front of older ones, one after another
 abbrev pub onto : List Event → List Event → List Event

@@ -11,3 +11,4 @@ pub mod Run
 pub mod Log
 pub mod Examples
 pub mod QueryExamples
+pub mod SlotExamples

@@ -1,11 +1,12 @@
 -- Which raw events are passed on to the clients.
-use Rattle.std.specs.Prelude.{ℤ, Bool, true, false, ◌&&◌, ◌||◌, not, if◌then◌else◌, nat_eq, nat_lt, List, ◌∷◌, Option, Some, None, is_some, option_to_list, option_map}
+use Rattle.std.specs.Prelude.{ℤ, pos, Bool, true, false, ◌&&◌, ◌||◌, not, if◌then◌else◌, nat_eq, nat_lt, List, [], ◌∷◌, ◌++◌, Option, Some, None, is_some, option_to_list, option_map}
 use Rattle.std.specs.Ordering.{int_eq}
 use Rattle.inp_model.specs.declared.event.TheConstants.{EV_SYN, EV_KEY, EV_REL, EV_ABS, EV_MSC, EV_SW, EV_LED, EV_SND, EV_REP, SYN_CONFIG, SYN_DROPPED}
+use Rattle.inp_model.specs.declared.multi_touch.TheConstants.{ABS_MT_SLOT}
 use Rattle.inp_model.specs.declared.event.Event.{Event}
-use Rattle.inp_model.specs.Description.{Description, supports}
-use Rattle.inp_model.specs.Event.{is_repeat, is_set}
-use Rattle.inp_model.specs.State.{key_down, turned_on, repeat_setting, axis_value}
+use Rattle.inp_model.specs.Description.{Description, supports, is_multi_touch_code}
+use Rattle.inp_model.specs.Event.{is_repeat, is_set, is_slot_value, slot_event}
+use Rattle.inp_model.specs.State.{key_down, turned_on, repeat_setting, axis_value, staged, cell}
 
 -- one is true and the other is not
 abbrev pub differ : Bool → Bool → Bool
@@ -28,19 +29,37 @@ setting_passes d r e = not (int_eq (repeat_setting d r e.code) (repeat_setting d
 abbrev pub axis_passes : Description → List Event → Event → Bool
 axis_passes d r e = not (int_eq (axis_value d r e.code) (axis_value d (e ∷ r) e.code))
 
+-- the value of the staged slot that an event is about, after it
+abbrev pub cell_after : Description → List Event → Event → ℤ
+cell_after d r e = cell d (e ∷ r) (staged d r) e.code
+
+-- The naming of a slot is not passed itself. A multi-touch value is passed where it moves the value of the staged slot;
+-- without slots it is always passed, and kept nowhere.
+abbrev pub multi_touch_passes : Description → List Event → Event → Bool
+multi_touch_passes d r e =
+    if nat_eq e.code ABS_MT_SLOT then false
+    else if nat_eq d.slots 0 then true
+    else not (int_eq (cell d r (staged d r) e.code) (cell_after d r e))
+
 -- an event of a supported code is passed
 abbrev pub code_passes : Description → List Event → Event → Bool
 code_passes d r e =
     if nat_eq e.kind EV_KEY then key_passes d r e
     else if nat_eq e.kind EV_REL then is_set e
-    else if nat_eq e.kind EV_ABS then axis_passes d r e
+    else if nat_eq e.kind EV_ABS then (if is_multi_touch_code e.code then multi_touch_passes d r e else axis_passes d r e)
     else if nat_eq e.kind EV_SW || nat_eq e.kind EV_LED then switch_passes d r e
     else if nat_eq e.kind EV_REP then setting_passes d r e
     else true
 
+-- a multi-touch value is passed as the one that the slot takes
+abbrev pub multi_touch_value : Description → List Event → Event → ℤ
+multi_touch_value d r e = if nat_eq d.slots 0 then e.value else cell_after d r e
+
 -- an axis is passed as the value that it takes, and all else as it was injected
 abbrev pub value_passed : Description → List Event → Event → ℤ
-value_passed d r e = if nat_eq e.kind EV_ABS then axis_value d (e ∷ r) e.code else e.value
+value_passed d r e =
+    if nat_eq e.kind EV_ABS then (if is_multi_touch_code e.code then multi_touch_value d r e else axis_value d (e ∷ r) e.code)
+    else e.value
 
 -- the value under which an event is passed after the raw events r, if it is passed
 abbrev pub passes_as : Description → List Event → Event → Option ℤ
@@ -49,9 +68,27 @@ passes_as d r e =
     else if supports d e.kind e.code && code_passes d r e then Some (value_passed d r e)
     else None
 
+-- a value of a slot that is passed
+abbrev pub passes_slot_value : Description → List Event → Event → Bool
+passes_slot_value d r e = is_slot_value e && is_some (passes_as d r e)
+
+-- the slot that the clients were told last: the one staged at the last value of a slot that was passed
+unfoldable pub announced : Description → List Event → ℤ
+announced d [] = pos 0
+announced d (e ∷ r) =
+    let before = announced d r in
+    if passes_slot_value d r e then staged d r else before
+
+-- a value of another slot than the one announced last is passed behind its slot
+abbrev pub announces : Description → List Event → Event → Bool
+announces d r e = passes_slot_value d r e && not (int_eq (staged d r) (announced d r))
+
+abbrev pub announcement : Description → List Event → Event → List Event
+announcement d r e = if announces d r e then slot_event (staged d r) ∷ [] else []
+
 -- the events that are passed for it
 abbrev pub passed : Description → List Event → Event → List Event
-passed d r e = option_to_list (option_map (λ v. record e { value = v }) (passes_as d r e))
+passed d r e = announcement d r e ++ option_to_list (option_map (λ v. record e { value = v }) (passes_as d r e))
 
 -- types whose passed events the device itself gets too, to set its LEDs and the like
 abbrev pub is_output : Event → Bool

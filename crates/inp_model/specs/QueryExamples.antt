@@ -1,14 +1,14 @@
 -- Short histories worked out by hand: what queries answer, and what they leave to read.
-use Rattle.std.specs.Prelude.{ℕ, ◌^◌, ◌≡◌, ℤ, pos, Bool, true, false, List, [], ◌∷◌, ◌++◌, replicate, reverse}
-use Rattle.inp_model.specs.declared.event.TheConstants.{EV_KEY, EV_ABS, KEY_A}
+use Rattle.std.specs.Prelude.{◌^◌, ◌≡◌, pos, true, false, List, [], ◌∷◌, ◌++◌, replicate, reverse}
+use Rattle.inp_model.specs.declared.event.TheConstants.{EV_KEY, EV_ABS}
 use Rattle.inp_model.specs.declared.event.Event.{Event}
 use Rattle.inp_model.specs.declared.step.Step.{Step}
-use Rattle.inp_model.specs.declared.step.Step.TheVariants.{Inject, Open, Read, GetKeys, GetSwitches, GetAxis}
+use Rattle.inp_model.specs.declared.step.Step.TheVariants.{Inject, Open, Read, GetKeys, GetAxis}
 use Rattle.inp_model.specs.declared.reply.Reply.TheVariants.{Bits, Axis, Again, Refused}
 use Rattle.inp_model.specs.declared.reply.Refusal.TheVariants.{BadKind, BadCode, LogFull}
 use Rattle.inp_model.specs.Description.{Description, one_key, no_info}
 use Rattle.inp_model.specs.Reply.{Answer, answer, alone}
-use Rattle.inp_model.specs.Examples.{key, report, at, took, panel, of_kind}
+use Rattle.inp_model.specs.Examples.{key, report, at, took, panel}
 
 -- the keys A and B and the axis X, without fuzz
 abbrev pub desk : Description

@@ -1,12 +1,12 @@
 -- Each client's queue, oldest first: what it was offered, has not taken and did not lose.
-use Rattle.std.specs.Prelude.{ℕ, zero, suc, ◌+◌, min, Bool, true, false, ◌&&◌, ◌||◌, if◌then◌else◌, nat_eq, nat_lt, List, [], ◌∷◌, ◌++◌, length, map, take, drop, flat_map, Option, Some, None}
+use Rattle.std.specs.Prelude.{ℕ, suc, ◌+◌, min, Bool, true, false, ◌&&◌, ◌||◌, not, if◌then◌else◌, nat_eq, nat_lt, List, [], ◌∷◌, ◌++◌, length, map, take, drop, flat_map, Option, Some}
 use Rattle.inp_model.specs.declared.event.TheConstants.{EV_KEY, EV_SW, EV_LED, EV_SND}
 use Rattle.inp_model.specs.declared.event.Event.{Event}
 use Rattle.inp_model.specs.declared.taken.Taken.{Taken}
 use Rattle.inp_model.specs.declared.step.Step.{Step}
-use Rattle.inp_model.specs.declared.step.Step.TheVariants.{Inject, Open, Read, GetKeys, GetSwitches, GetLeds, GetSounds, GetAxis}
+use Rattle.inp_model.specs.declared.step.Step.TheVariants.{Inject, Open, Read, GetKeys, GetSwitches, GetLeds, GetSounds, GetAxis, GetSlots, SyncSlots}
 use Rattle.inp_model.specs.Description.{Description, ring, offset}
-use Rattle.inp_model.specs.Event.{is_report, loss}
+use Rattle.inp_model.specs.Event.{is_report, is_multi_touch, loss}
 use Rattle.inp_model.specs.History.{opens, is_open, clock_of}
 use Rattle.inp_model.specs.Frame.{Frame, place, ended}
 
@@ -55,18 +55,30 @@ visible event (x ∷ q) =
     let behind = visible event q in
     if nat_eq behind 0 then (if is_report (event x) then 1 else 0) else suc behind
 
--- A queue without the items that are dropped. A report stays where an item before it in its group stays, and the first
--- report stays in any case: `stays` says whether a report at this place does.
-abbrev pub flush : {X : Type 0} → (X → Event) → (Event → Bool) → Bool → List X → List X
-flush event drops stays [] = []
-flush event drops stays (x ∷ q) =
-    if is_report (event x) then (if stays then x ∷ flush event drops false q else flush event drops false q)
-    else if drops (event x) then flush event drops stays q
-    else x ∷ flush event drops true q
+-- Did an item stay since the last report before this place? The items before it are written newest first. Where there
+-- is no report before it, the next one is the first, which stays in any case.
+abbrev pub follows_kept : {X : Type 0} → (X → Event) → (Event → Bool) → List X → Bool
+follows_kept event drops [] = true
+follows_kept event drops (y ∷ before) =
+    if is_report (event y) then false else if drops (event y) then follows_kept event drops before else true
+
+-- a report stays where it follows an item that stays, and another item where it is not dropped
+abbrev pub stays : {X : Type 0} → (X → Event) → (Event → Bool) → List X → X → Bool
+stays event drops before x = if is_report (event x) then follows_kept event drops before else not (drops (event x))
+
+-- what stays of a queue, behind these items
+abbrev pub flush_behind : {X : Type 0} → (X → Event) → (Event → Bool) → List X → List X → List X
+flush_behind event drops before [] = []
+flush_behind event drops before (x ∷ q) =
+    (if stays event drops before x then x ∷ [] else []) ++ flush_behind event drops (x ∷ before) q
+
+-- a queue without the events that are dropped, and without the reports that have no event left before them
+abbrev pub flush : {X : Type 0} → (X → Event) → (Event → Bool) → List X → List X
+flush event drops q = flush_behind event drops [] q
 
 -- without the events of a type, as a query of their state leaves it
 abbrev pub flushed : {X : Type 0} → (X → Event) → ℕ → List X → List X
-flushed event kind q = flush event (λ e. nat_eq e.kind kind) true q
+flushed event kind q = flush event (λ e. nat_eq e.kind kind) q
 
 -- a frame is offered to each client that is open when it ends
 abbrev pub offered : Description → ℕ → Frame → List Event
@@ -93,6 +105,8 @@ queue_after d past client (GetSwitches reader) q = if nat_eq reader client then 
 queue_after d past client (GetLeds reader) q = if nat_eq reader client then flushed event_of EV_LED q else q
 queue_after d past client (GetSounds reader) q = if nat_eq reader client then flushed event_of EV_SND q else q
 queue_after d past client (GetAxis reader code) q = q
+queue_after d past client (GetSlots reader code) q = q
+queue_after d past client (SyncSlots reader) q = if nat_eq reader client then flush event_of is_multi_touch q else q
 
 unfoldable pub queue : Description → List Step → ℕ → List Entry
 queue d [] client = []
@@ -110,6 +124,8 @@ taken_by d past client (GetSwitches reader) = []
 taken_by d past client (GetLeds reader) = []
 taken_by d past client (GetSounds reader) = []
 taken_by d past client (GetAxis reader code) = []
+taken_by d past client (GetSlots reader code) = []
+taken_by d past client (SyncSlots reader) = []
 
 -- all that a client's reads have taken, in order
 unfoldable pub took : Description → List Step → ℕ → List Entry

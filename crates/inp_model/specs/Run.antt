@@ -1,8 +1,8 @@
 -- When a caller's calls are a legal run of a history, which is written oldest first.
-use Rattle.std.specs.Prelude.{ℕ, suc, ◌≡◌, ◌≤◌, Bool, if◌then◌else◌, List, [], ◌∷◌, length, slice_get, Option, Some, IsTrue}
+use Rattle.std.specs.Prelude.{ℕ, suc, ◌≡◌, ◌≤◌, if◌then◌else◌, List, [], ◌∷◌, length, slice_get, Some, IsTrue}
 use Rattle.inp_model.specs.declared.step.Step.{Step}
 use Rattle.inp_model.specs.declared.reply.Reply.{Reply}
-use Rattle.inp_model.specs.declared.reply.Reply.TheVariants.{Done, Opened, Took, Bits, Axis, Again, Refused}
+use Rattle.inp_model.specs.declared.reply.Reply.TheVariants.{Done, Opened, Took, Bits, Axis, Cells, Again, Refused}
 use Rattle.inp_model.specs.Description.{Description}
 use Rattle.inp_model.specs.History.{past_at}
 use Rattle.inp_model.specs.Reply.{Answer, answer, is_accepted}
@@ -19,6 +19,7 @@ place_of (Opened at client places) = at
 place_of (Took at count) = at
 place_of (Bits at words) = at
 place_of (Axis at axis) = at
+place_of (Cells at count slot) = at
 place_of (Again at n) = at
 place_of (Refused at why) = at
 

@@ -1,6 +1,8 @@
 //! Events, and the numbers of the types and codes that this crate's definitions name.
 ghost use Rattle.std.specs.Prelude.{◌≡◌};
-ghost use Rattle.inp_model.specs.Event.{is_report, is_repeat, is_set, is_multi_touch};
+ghost use Rattle.inp_model.specs.Event.{is_report, is_repeat, is_set, is_multi_touch, slot_event};
+
+use crate::multi_touch::{ABS_MT_SLOT, ABS_MT_TOOL_Y};
 
 /// The type of the events that separate frames (the kernel's input event codes).
 pub const EV_SYN: u16 = 0;
@@ -52,15 +54,6 @@ pub const KEY_MAX: u16 = 0x2ff;
 
 /// The greatest code of `EV_REL` (the kernel's input event codes).
 pub const REL_MAX: u16 = 0x0f;
-
-/// The first of the multi-touch axes, which names a slot (the kernel's input event codes).
-pub const ABS_MT_SLOT: u16 = 0x2f;
-
-/// The multi-touch axis of a contact's id (the kernel's input event codes).
-pub const ABS_MT_TRACKING_ID: u16 = 0x39;
-
-/// The last of the multi-touch axes (the kernel's input event codes).
-pub const ABS_MT_TOOL_Y: u16 = 0x3d;
 
 /// The greatest code of `EV_ABS` (the kernel's input event codes).
 pub const ABS_MAX: u16 = 0x3f;
@@ -117,6 +110,17 @@ impl Event {
         ensures multi_touch { result ≡ is_multi_touch self }
     {
         self.kind == EV_ABS && self.code >= ABS_MT_SLOT && self.code <= ABS_MT_TOOL_Y
+    }
+
+    /// The event that says which slot the multi-touch values behind it belong to (multi-touch protocol B).
+    pub fn of_slot(slot: i32) -> Event
+        ensures slot { result ≡ slot_event slot }
+    {
+        Event {
+            kind: EV_ABS,
+            code: ABS_MT_SLOT,
+            value: slot,
+        }
     }
 
     /// Of a key and the like: whether it is down, or on.

@@ -73,7 +73,7 @@ impl<T> Items<T> {
 
     /// The item at an index below the length.
     pub fn get(&self, index: usize) -> &T
-        requires { index < length self.now }
+        requires within { index < length self.now }
         ensures item { slice_get self.now index ≡ Some result.now }
     {
         &self.items[index]

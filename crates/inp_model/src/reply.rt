@@ -18,6 +18,9 @@ pub enum Reply {
     Bits { at: u32, words: [u64; 12] },
     /// The axis that was asked for, with its value.
     Axis { at: u32, info: AxisInfo },
+    /// The values of slots that were asked for stand at the front of the caller's buffer. `slot` is the one that was
+    /// announced when the last frame ended, to which later values without an announcement belong.
+    Cells { at: u32, count: u32, slot: i32 },
     /// Nothing is visible to the client (evdev's -EAGAIN). `ends` is how many sources are done.
     Again { at: u32, ends: u32 },
     /// The step was refused, and nothing changed.
@@ -49,7 +52,8 @@ impl Reply {
             | Reply::Opened { .. }
             | Reply::Took { .. }
             | Reply::Bits { .. }
-            | Reply::Axis { .. } => true,
+            | Reply::Axis { .. }
+            | Reply::Cells { .. } => true,
             Reply::Again { .. } | Reply::Refused { .. } => false,
         }
     }

@@ -23,4 +23,9 @@ pub enum Step {
     GetSounds { client: u32 },
     /// A client asks for an axis (evdev's `EVIOCGABS`). Nothing is removed.
     GetAxis { client: u32, code: u16 },
+    /// A client asks for one multi-touch value of each slot (evdev's `EVIOCGMTSLOTS`). Nothing is removed.
+    GetSlots { client: u32, code: u16 },
+    /// A client asks for all values of all slots. Its queued multi-touch events are removed (this project's choice:
+    /// the answer tells the slot that the client was told last, so that later events have their slot).
+    SyncSlots { client: u32 },
 }

@@ -1,5 +1,6 @@
 //! What the definitions compute on short histories.
 ghost use Rattle.inp_model.specs.QueryExamples.{TellsTheKeys, RemovesQueuedKeys, LeavesAxisEvents, AnswersOtherAxes, EndsAtItsLimit};
+ghost use Rattle.inp_model.specs.SlotExamples.{NamesTheSlot, TellsAllSlots, TellsOneValue, GoesOnInTheSlot, RemovesQueuedTouches, TellsTheNamedSlot, StagesSlotsThatThereAre, PassesNoNameAlone, PassesWithoutSlots, CountsTheName, CutsAtTheHint, RefusesSlotQueries};
 ghost use Rattle.inp_model.specs.Examples.{RingOf128, ReadsAFrame, PassesAChangeOnce, ReadsNothing, NeedsAClient, ReadsNone, ReadsInParts, HidesAnOpenBatch, OffersAWholeFrame, PassesARepeat, KeepsTheKeyUp, IgnoresOthers, CutsAFullPacket, LosesAFullRing, LosesInAFrame, KeepsAllButOne, IsLegalAmongOthers, DescribesAKeyboard, PassesAnLedOnce, PassesASwitchOnce, PassesEachSound, PassesMotion, PassesAMove, PassesASetting};
 
 /// What the definitions of this crate compute on short histories that were worked out by hand. It does nothing: its
@@ -38,4 +39,20 @@ pub fn query_examples()
     ensures left { LeavesAxisEvents }
     ensures axes { AnswersOtherAxes }
     ensures limit { EndsAtItsLimit }
+{}
+
+/// The same of devices with slots, and of full packets.
+pub fn slot_examples()
+    ensures named { NamesTheSlot }
+    ensures all { TellsAllSlots }
+    ensures one { TellsOneValue }
+    ensures goes_on { GoesOnInTheSlot }
+    ensures removed { RemovesQueuedTouches }
+    ensures axis { TellsTheNamedSlot }
+    ensures staged { StagesSlotsThatThereAre }
+    ensures unchanged { PassesNoNameAlone }
+    ensures without { PassesWithoutSlots }
+    ensures counted { CountsTheName }
+    ensures full { CutsAtTheHint }
+    ensures refused { RefusesSlotQueries }
 {}

@@ -7,7 +7,7 @@ use Rattle.inp_model.specs.Description.{Description, supports, info}
 use Rattle.inp_model.specs.Event.{is_repeat, is_set, is_negative, is_multi_touch}
 use Rattle.inp_model.specs.Defuzz.{defuzz}
 use Rattle.inp_model.specs.State.{key_down, turned_on, repeat_setting, axis_value}
-use Rattle.inp_model.specs.Passed.{passes_as, key_passes, switch_passes, axis_passes, setting_passes, code_passes, value_passed, differ}
+use Rattle.inp_model.specs.Passed.{passes_as, key_passes, switch_passes, axis_passes, multi_touch_passes, multi_touch_value, setting_passes, code_passes, value_passed, differ}
 use Rattle.inp_state.proofs.Steps.{event, on_code, key_down-set, turned_on-set, axis_value-moves, setting_after}
 
 guarded : (b t : Bool) (x : Option ℤ) → b ≡ true → (if t then x else None) ≡ (if b && t then x else None)
@@ -82,6 +82,7 @@ passes-axis d r axes code value h u m =
     moved_same (get_or axes code (pos 0)) (defuzz value (get_or axes code (pos 0)) (info d code).fuzz) (axis_value d r code) (axis_value d (e ∷ r) code) h after
     ∙ turned (int_eq (axis_value d r code) (axis_value d (e ∷ r) code)) (Some (axis_value d (e ∷ r) code)) None
     ∙ guarded (supports d EV_ABS code) (axis_passes d r e) (Some (axis_value d (e ∷ r) code)) u
+    ∙ sym (ap (λ (b : Bool). if supports d EV_ABS code && (if b then multi_touch_passes d r e else axis_passes d r e) then Some (if b then multi_touch_value d r e else axis_value d (e ∷ r) code) else None) m)
 
 -- EV_REP
 pub passes-setting : (d : Description) (r : List Event) (setting : ℤ) (code : ℕ) (value : ℤ) → setting ≡ repeat_setting d r code → supports d EV_REP code ≡ true → (if int_eq setting (if is_negative (event EV_REP code value) then setting else value) then None else Some value) ≡ passes_as d r (event EV_REP code value)

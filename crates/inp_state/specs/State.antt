@@ -1,12 +1,12 @@
--- The present state, the lists of raw events that it stands for, and what becomes of the next event.
-use Rattle.std.specs.Prelude.{◌≡◌, ◌≤◌, ℕ, ℤ, pos, Bool, false, ◌&&◌, List, slice_index_or, is_some}
+-- The present state, and the lists of raw events that it stands for.
+use Rattle.std.specs.Prelude.{◌≡◌, ◌≤◌, ℕ, ℤ, pos, Bool, false, ◌&&◌, List, slice_index_or}
 use Rattle.inp_model.specs.declared.event.TheConstants.{ABS_MAX, REP_DELAY, REP_PERIOD}
 use Rattle.inp_model.specs.declared.event.Event.{Event}
 use Rattle.inp_model.specs.Description.{Description}
 use Rattle.inp_model.specs.Event.{is_report}
-use Rattle.inp_model.specs.State.{key_down, switch_on, led_on, sound_on, axis_value, repeat_setting}
-use Rattle.inp_model.specs.Passed.{passes_as, is_output}
+use Rattle.inp_model.specs.Passed.{is_output}
 use Rattle.inp_caps.specs.Disposition.{flags}
+use Rattle.inp_model.specs.State.{key_down, switch_on, led_on, sound_on, axis_value, repeat_setting}
 
 pub record Values : Type 0 where
   -- at k, whether the key k is down, and whether the switch, LED or sound k is on
@@ -30,10 +30,7 @@ pub record StandsFor (d : Description) (r : List Event) (s : Values) : Type 0 wh
   pub delay : s.delay ≡ repeat_setting d r REP_DELAY
   pub period : s.period ≡ repeat_setting d r REP_PERIOD
 
--- what becomes of an event, by whether it is passed: a passed output goes to the device too, and a report ends the frame
+-- What becomes of an event that is about no slot, by whether it is passed: a passed output goes to the device too, and a
+-- report ends the frame.
 abbrev pub flags_by : Bool → Event → ℕ
 flags_by passed e = flags passed (passed && is_output e) false (passed && is_report e)
-
--- what becomes of an event after the raw events r
-abbrev pub flags_after : Description → List Event → Event → ℕ
-flags_after d r e = flags_by (is_some (passes_as d r e)) e

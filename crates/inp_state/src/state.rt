@@ -5,8 +5,8 @@ ghost use Rattle.inp_model.specs.Description.{Description, info};
 ghost use Rattle.inp_model.specs.Event.{is_multi_touch};
 ghost use Rattle.inp_model.specs.State.{key_down, switch_on, led_on, sound_on, axis_value, repeat_setting};
 ghost use Rattle.inp_model.specs.Passed.{passes_as};
-ghost use Rattle.inp_caps.specs.Disposition.{flags_of};
-ghost use Rattle.inp_state.specs.State.{StandsFor, flags_after, flags_by};
+ghost use Rattle.inp_caps.specs.Disposition.{flags_of, flags_after};
+ghost use Rattle.inp_state.specs.State.{StandsFor, flags_by};
 
 use crate::changes::{move_axis, passed_if, set_bit, set_key, set_setting};
 use bitflags::Flags;
@@ -143,7 +143,7 @@ impl State {
 
     /// The value of the axis with this code, which is at most `ABS_MAX`. A multi-touch axis keeps its described value.
     pub fn axis(&self, code: u16) -> i32
-        requires { code ≤ ABS_MAX }
+        requires within { code ≤ ABS_MAX }
         ensures value { result ≡ slice_index_or self.now.axes code (pos 0) }
         ensures axis { (d : Description) (r : List Event) → StandsFor d r self.now → result ≡ axis_value d r code }
     {

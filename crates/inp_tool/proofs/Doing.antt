@@ -3,14 +3,14 @@ use Rattle.std.proofs.Common.{◌≡◌, ℕ, Bool, true, false, if◌then◌els
 use Rattle.std.proofs.lemmas.List.{take_at, length-map, length-append}
 use Rattle.inp_model.specs.declared.taken.Taken.{Taken}
 use Rattle.inp_model.specs.declared.step.Step.{Step}
-use Rattle.inp_model.specs.declared.step.Step.TheVariants.{Inject, Open, Read, GetKeys, GetSwitches, GetLeds, GetSounds, GetAxis}
+use Rattle.inp_model.specs.declared.step.Step.TheVariants.{Inject, Open, Read, GetKeys, GetSwitches, GetLeds, GetSounds, GetAxis, GetSlots, SyncSlots}
 use Rattle.inp_model.specs.declared.reply.Reply.{Reply}
 use Rattle.inp_model.specs.declared.reply.Reply.TheVariants.{Again, Refused}
 use Rattle.inp_model.specs.declared.reply.Refusal.TheVariants.{BadClient, BadKind, BadCode, LogFull}
 use Rattle.inp_model.specs.Description.{Description, one_key}
 use Rattle.inp_model.specs.History.{client_of, ends}
 use Rattle.inp_model.specs.Queue.{taken_by}
-use Rattle.inp_model.specs.Reply.{Answer, answer, answer_by, accepted, names_no_client, reads_nothing, axis_of, lacks_axes, is_no_axis, taken_of, written, past_after, Answers, Makes}
+use Rattle.inp_model.specs.Reply.{Answer, answer, answer_by, accepted, names_no_client, reads_nothing, lacks_kind, lacks_code, taken_of, written, past_after, Answers, Makes}
 use Rattle.inp_tool.specs.declared.line.TheConstants.{SOURCE, TAP}
 use Rattle.inp_tool.specs.declared.line.Line.{Line}
 use Rattle.inp_tool.specs.declared.sight.Sight.{Sight}
@@ -35,12 +35,14 @@ counted_when_accepted d past (GetSwitches client) = refl
 counted_when_accepted d past (GetLeds client) = refl
 counted_when_accepted d past (GetSounds client) = refl
 counted_when_accepted d past (GetAxis client code) = refl
+counted_when_accepted d past (GetSlots client code) = refl
+counted_when_accepted d past (SyncSlots client) = refl
 counted_when_accepted d past (Read client count) = sym (length-map (taken_by d past client (Read client count)) taken_of)
 
 -- a reply tells how many events were written
 pub count_taken-answer : (d : Description) (past : List Step) (x : Step) → count_taken (answer d past x).reply ≡ length (answer d past x).events
 count_taken-answer d past x =
-    counted_by (names_no_client past (client_of x)) (lacks_axes d (axis_of x)) (is_no_axis (axis_of x)) (reads_nothing d past x) (nat_le d.log (length past)) (length past) (ends past) (accepted d past x) (counted_when_accepted d past x)
+    counted_by (names_no_client past (client_of x)) (lacks_kind d x) (lacks_code x) (reads_nothing d past x) (nat_le d.log (length past)) (length past) (ends past) (accepted d past x) (counted_when_accepted d past x)
 
 exact : (d : Description) (past : List Step) (x : Step) (given : Answer) (reply : Reply) → reply ≡ given.reply → lacks_memory reply ≡ false → Answers d past x given → given ≡ answer d past x
 exact d past x given reply r no_lack (inl h) = h

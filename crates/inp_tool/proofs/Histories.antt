@@ -7,16 +7,17 @@ use Rattle.std.proofs.lemmas.Bool.Decides.{nat_tests}
 use Rattle.inp_model.specs.declared.event.Event.{Event}
 use Rattle.inp_model.specs.declared.taken.Taken.{Taken}
 use Rattle.inp_model.specs.declared.step.Step.{Step}
-use Rattle.inp_model.specs.declared.step.Step.TheVariants.{Inject, Open, Read, GetKeys, GetSwitches, GetLeds, GetSounds, GetAxis}
+use Rattle.inp_model.specs.declared.step.Step.TheVariants.{Inject, Open, Read, GetKeys, GetSwitches, GetLeds, GetSounds, GetAxis, GetSlots, SyncSlots}
 use Rattle.inp_model.specs.declared.reply.Reply.{Reply}
-use Rattle.inp_model.specs.declared.reply.Reply.TheVariants.{Done, Opened, Bits, Axis, Again, Refused}
+use Rattle.inp_model.specs.declared.reply.Reply.TheVariants.{Done, Opened, Bits, Axis, Cells, Again, Refused}
 use Rattle.inp_model.specs.declared.reply.Reply.TheVariants.{Took as Taking}
 use Rattle.inp_model.specs.declared.reply.Refusal.TheVariants.{BadClient, BadKind, BadCode, LogFull}
 use Rattle.inp_model.specs.Description.{Description}
 use Rattle.inp_model.specs.History.{past_at, client_of, ends}
-use Rattle.inp_model.specs.Reply.{Answer, answer, answer_by, accepted, names_no_client, reads_nothing, axis_of, lacks_axes, is_no_axis, past_after, is_accepted}
+use Rattle.inp_model.specs.Reply.{Answer, answer, answer_by, accepted, names_no_client, reads_nothing, lacks_kind, lacks_code, past_after, is_accepted}
 use Rattle.inp_model.specs.Run.{HasPlace, IsLegalFrom, place_of, next_place}
 use Rattle.inp_model.specs.Run as model
+use Rattle.inp_tool.proofs.Pasts.{past_after-longer}
 use Rattle.inp_tool.specs.declared.line.TheConstants.{SOURCE, TAP}
 use Rattle.inp_tool.specs.declared.line.Line.{Line}
 use Rattle.inp_tool.specs.declared.line.Line.TheVariants.{Event as Injects, Open as Opens, Read as Reads}
@@ -92,10 +93,12 @@ placed_when_accepted d past (GetSwitches client) = refl
 placed_when_accepted d past (GetLeds client) = refl
 placed_when_accepted d past (GetSounds client) = refl
 placed_when_accepted d past (GetAxis client code) = refl
+placed_when_accepted d past (GetSlots client code) = refl
+placed_when_accepted d past (SyncSlots client) = refl
 
 place_of-answer : (d : Description) (past : List Step) (x : Step) → place_of (answer d past x).reply ≡ length past
 place_of-answer d past x =
-    placed_by (names_no_client past (client_of x)) (lacks_axes d (axis_of x)) (is_no_axis (axis_of x)) (reads_nothing d past x) (nat_le d.log (length past)) (length past) (ends past) (accepted d past x) (placed_when_accepted d past x)
+    placed_by (names_no_client past (client_of x)) (lacks_kind d x) (lacks_code x) (reads_nothing d past x) (nat_le d.log (length past)) (length past) (ends past) (accepted d past x) (placed_when_accepted d past x)
 
 next_place-answer : (d : Description) (past : List Step) (x : Step) → next_place (answer d past x).reply ≡ length (past_after (answer d past x).reply x past)
 next_place-answer d past x = by_flag (is_accepted (answer d past x).reply) (place_of (answer d past x).reply) (place_of-answer d past x)
@@ -127,13 +130,6 @@ legal-weaker : (d : Description) (h : List Step) (least lower : ℕ) (calls : Li
 legal-weaker d h least lower [] le l = tt
 legal-weaker d h least lower (call ∷ calls) le l = (omega (arith, le, l.0), l.1, l.2)
 
-length-past_after : (reply : Reply) (x : Step) (past : List Step) → length past ≤ length (past_after reply x past)
-length-past_after reply x past = by_flag (is_accepted reply)
-  where
-    by_flag : (b : Bool) → length past ≤ length (if b then x ∷ past else past)
-    by_flag true = omega arith
-    by_flag false = omega arith
-
 legal-either : (d : Description) (h : List Step) (n : ℕ) (xs ys : List model.Call) (b : Bool) → IsLegalFrom d h n xs → IsLegalFrom d h n ys → IsLegalFrom d h n (if b then xs else ys)
 legal-either d h n xs ys true own others = own
 legal-either d h n xs ys false own others = others
@@ -153,7 +149,7 @@ legal actor d stage (line ∷ lines) =
       subst (λ n. IsLegalFrom d h n more) (sym (next_place-answer d stage.past x)) (legal actor d (next_stage d stage line) lines),
     ) in
     let others : IsLegalFrom d h (length stage.past) more =
-    legal-weaker d h (length (past_after reply x stage.past)) (length stage.past) more (length-past_after reply x stage.past) (legal actor d (next_stage d stage line) lines) in
+    legal-weaker d h (length (past_after reply x stage.past)) (length stage.past) more (past_after-longer reply x stage.past) (legal actor d (next_stage d stage line) lines) in
     legal-either d h (length stage.past) (record { step = x; answer = answer_to d stage line } ∷ more) more (nat_eq (actor_of line) actor) own others
 
 -- an injected event gives no client
@@ -212,6 +208,7 @@ entries-sights_by place x (Opened at client places) events = entries-call place 
 entries-sights_by place x (Taking at count) events = entries-call place x (Taking at count) events
 entries-sights_by place x (Bits at words) events = entries-call place x (Bits at words) events
 entries-sights_by place x (Axis at axis) events = entries-call place x (Axis at axis) events
+entries-sights_by place x (Cells at count slot) events = entries-call place x (Cells at count slot) events
 entries-sights_by place x (Again at n) events = refl
 entries-sights_by place x (Refused at why) events = entries-call place x (Refused at why) events
 

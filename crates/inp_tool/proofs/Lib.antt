@@ -9,3 +9,5 @@ pub mod Histories
 pub mod Promised
 pub mod Playable
 pub mod Codes
+pub mod Booleans
+pub mod Pasts

@@ -82,7 +82,8 @@ pub record CanBeLines (opened : Bool) (line : ℕ) (items : List Line) : Type 0 
   pub one_open : count_by is_open items ≤ (if opened then 0 else 1)
   pub few : length items ≤ 4097 - line
 
-count-more : (item : Line) (items : List Line) → count_by is_open (item ∷ items) ≡ (if is_open item then 1 else 0) + count_by is_open items
+-- how many lines open a client, by the first
+pub count-more : (item : Line) (items : List Line) → count_by is_open (item ∷ items) ≡ (if is_open item then 1 else 0) + count_by is_open items
 count-more item items = sum_by-cons (λ x. if is_open x then 1 else 0) item items
 
 one_open-more : (opened opens : Bool) (n : ℕ) → (opened && opens) ≡ false → n ≤ (if opened || opens then 0 else 1) → (if opens then 1 else 0) + n ≤ (if opened then 0 else 1)

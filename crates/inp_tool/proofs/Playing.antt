@@ -1,8 +1,7 @@
 -- Doing the lines of a record in order.
-use Rattle.std.proofs.Common.{◌≡◌, ℕ, suc, ◌+◌, ◌≤◌, ◌<◌, Bool, true, false, ◌&&◌, if◌then◌else◌, nat_eq, List, [], ◌∷◌, ◌++◌, length, drop, reverse, refl, sym, ap, subst, ◌∙◌, arith}
+use Rattle.std.proofs.Common.{◌≡◌, ℕ, suc, ◌+◌, ◌≤◌, ◌<◌, Bool, true, false, if◌then◌else◌, nat_eq, List, [], ◌∷◌, ◌++◌, length, drop, reverse, refl, sym, ap, subst, ◌∙◌, arith}
 use Rattle.std.specs.List.{list_all, count_by, slice_index_or}
 use Rattle.std.proofs.lemmas.List.{append_assoc, append-nil, drop_more, drop_all}
-use Rattle.std.proofs.lemmas.List.Sums.{sum_by-cons}
 use Rattle.inp_model.specs.declared.step.Step.{Step}
 use Rattle.inp_model.specs.declared.reply.Reply.{Reply}
 use Rattle.inp_model.specs.Description.{one_key}
@@ -15,6 +14,9 @@ use Rattle.inp_tool.specs.declared.sight.Sight.{Sight}
 use Rattle.inp_tool.specs.Line.{actor_of, step_of, is_in_range, IsPlayable}
 use Rattle.inp_tool.specs.Record.{is_open}
 use Rattle.inp_tool.specs.Play.{first_stage, answer_to, last_past, sight_of, job_of, run_of}
+use Rattle.inp_tool.proofs.Booleans.{both}
+use Rattle.inp_tool.proofs.Pasts.{past_after-one}
+use Rattle.inp_tool.proofs.Playable.{count-more}
 use Rattle.inp_tool.specs.Player.{Playing, at_first, after, after_all, new_sights, run_from, CanPlay}
 
 -- a step opens at most one client
@@ -26,24 +28,10 @@ opens-after reply x past = by_flag (is_accepted reply)
     by_flag true = grind arith
     by_flag false = omega arith
 
-length-past_after : (reply : Reply) (x : Step) (past : List Step) → length (past_after reply x past) ≤ length past + 1
-length-past_after reply x past = by_flag (is_accepted reply)
-  where
-    by_flag : (b : Bool) → length (if b then x ∷ past else past) ≤ length past + 1
-    by_flag true = omega arith
-    by_flag false = omega arith
-
 is_open_step-of : (client : ℕ) (line : Line) → is_open_step (step_of client line) ≡ is_open line
 is_open_step-of client (Injects stamped) = refl
 is_open_step-of client Opens = refl
 is_open_step-of client (Reads count) = refl
-
-count-more : (line : Line) (lines : List Line) → count_by is_open (line ∷ lines) ≡ (if is_open line then 1 else 0) + count_by is_open lines
-count-more line lines = sum_by-cons (λ x. if is_open x then 1 else 0) line lines
-
-both : (a b : Bool) → (a && b) ≡ true → (a ≡ true) × (b ≡ true)
-both true b h = (refl, h)
-both false b h = cc
 
 -- the rest can be done after the first line
 pub can_play-more : (p : Playing) (line : Line) (lines : List Line) → CanPlay p (line ∷ lines) → CanPlay (after p line) lines
@@ -56,7 +44,7 @@ can_play-more p line lines can =
     let n : opens p.stage.past + ((if is_open line then 1 else 0) + count_by is_open lines) ≤ 1 =
     subst (λ m. opens p.stage.past + m ≤ 1) (count-more line lines) can.one_open in
     let few : length p.stage.past + suc (length lines) ≤ 4096 = can.few in
-    let l : length (past_after reply x p.stage.past) ≤ length p.stage.past + 1 = length-past_after reply x p.stage.past in
+    let l : length (past_after reply x p.stage.past) ≤ length p.stage.past + 1 = past_after-one reply x p.stage.past in
     record {
       in_range = (both (is_in_range line) (list_all is_in_range lines) can.in_range).1;
       one_open = omega (arith, o, n);

@@ -1,11 +1,8 @@
 -- What comes of a record keeps what is promised.
-use Rattle.std.proofs.Common.{◌≡◌, ℕ, ◌+◌, ◌≤◌, Bool, true, false, if◌then◌else◌, nat_lt, List, [], ◌∷◌, length, reverse, refl, ◌∙◌, arith, Ok}
+use Rattle.std.proofs.Common.{◌≡◌, ℕ, ◌+◌, ◌≤◌, if◌then◌else◌, nat_lt, List, [], ◌∷◌, length, reverse, refl, ◌∙◌, arith, Ok}
 use Rattle.std.proofs.lemmas.List.{length-reverse}
 use Rattle.std.proofs.lemmas.Bool.Decides.{nat_tests}
-use Rattle.inp_model.specs.declared.step.Step.{Step}
-use Rattle.inp_model.specs.declared.reply.Reply.{Reply}
 use Rattle.inp_model.specs.Description.{Description, one_key}
-use Rattle.inp_model.specs.Reply.{past_after, is_accepted}
 use Rattle.inp_tool.specs.declared.line.TheConstants.{SOURCE, TAP}
 use Rattle.inp_tool.specs.declared.line.Line.{Line}
 use Rattle.inp_tool.specs.declared.record.Record.{Record}
@@ -17,21 +14,15 @@ use Rattle.inp_tool.specs.Job.{IsJob, IsRun}
 use Rattle.inp_tool.specs.Report.{report}
 use Rattle.inp_tool.specs.Promise.{IsPlayedText}
 use Rattle.inp_tool.proofs.Histories.{calls_of, legal, follows-source, follows-tap, between, entries, once}
+use Rattle.inp_tool.proofs.Pasts.{past_after-one}
 use Rattle.inp_tool.proofs.Playable.{is_playable}
-
-length-past_after : (reply : Reply) (x : Step) (past : List Step) → length (past_after reply x past) ≤ length past + 1
-length-past_after reply x past = by_flag (is_accepted reply)
-  where
-    by_flag : (b : Bool) → length (if b then x ∷ past else past) ≤ length past + 1
-    by_flag true = omega arith
-    by_flag false = omega arith
 
 -- each line adds at most one step
 length-last_past : (d : Description) (stage : Stage) (lines : List Line) → length (last_past d stage lines) ≤ length stage.past + length lines
 unfolding last_past
 length-last_past d stage [] = omega arith
 length-last_past d stage (line ∷ lines) =
-    let one = length-past_after (answer_to d stage line).reply (step_of stage.client line) stage.past in
+    let one = past_after-one (answer_to d stage line).reply (step_of stage.client line) stage.past in
     omega (arith, length-last_past d (next_stage d stage line) lines, one)
 
 is_source_job : (d : Description) (lines : List Line) → IsJob d (reverse (last_past d first_stage lines)) lines SOURCE (job_of SOURCE (sight_of SOURCE d first_stage lines))

@@ -4,7 +4,7 @@ use Rattle.inp_model.specs.declared.event.TheConstants.{EV_KEY, KEY_A}
 use Rattle.inp_model.specs.declared.taken.Taken.{Taken}
 use Rattle.inp_model.specs.declared.step.Step.{Step}
 use Rattle.inp_model.specs.declared.reply.Reply.{Reply}
-use Rattle.inp_model.specs.declared.reply.Reply.TheVariants.{Done, Opened, Took as Taking, Bits, Axis, Again as Nothing, Refused}
+use Rattle.inp_model.specs.declared.reply.Reply.TheVariants.{Done, Opened, Took as Taking, Bits, Axis, Cells, Again as Nothing, Refused}
 use Rattle.inp_model.specs.Description.{Description, one_key}
 use Rattle.inp_model.specs.Event.{is_repeat, is_set}
 use Rattle.inp_model.specs.Reply.{Answer, answer, past_after}
@@ -37,6 +37,7 @@ client_after client (Opened at opened places) = opened
 client_after client (Taking at count) = client
 client_after client (Bits at words) = client
 client_after client (Axis at axis) = client
+client_after client (Cells at count slot) = client
 client_after client (Nothing at n) = client
 client_after client (Refused at why) = client
 
@@ -60,6 +61,7 @@ sights_by x (Opened at client places) events = Call x (Opened at client places) 
 sights_by x (Taking at count) events = Call x (Taking at count) ∷ map (λ t. Took t) events
 sights_by x (Bits at words) events = Call x (Bits at words) ∷ map (λ t. Took t) events
 sights_by x (Axis at axis) events = Call x (Axis at axis) ∷ map (λ t. Took t) events
+sights_by x (Cells at count slot) events = Call x (Cells at count slot) ∷ map (λ t. Took t) events
 sights_by x (Nothing at n) events = Again at n ∷ []
 sights_by x (Refused at why) events = Call x (Refused at why) ∷ map (λ t. Took t) events
 

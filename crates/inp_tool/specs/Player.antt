@@ -4,7 +4,7 @@ use Rattle.std.specs.List.{list_all, count_by}
 use Rattle.inp_model.specs.declared.taken.Taken.{Taken}
 use Rattle.inp_model.specs.declared.step.Step.{Step}
 use Rattle.inp_model.specs.declared.reply.Reply.{Reply}
-use Rattle.inp_model.specs.declared.reply.Reply.TheVariants.{Done, Opened, Took as Taking, Bits, Axis, Again as Nothing, Refused}
+use Rattle.inp_model.specs.declared.reply.Reply.TheVariants.{Done, Opened, Took as Taking, Bits, Axis, Cells, Again as Nothing, Refused}
 use Rattle.inp_model.specs.declared.reply.Refusal.{Refusal}
 use Rattle.inp_model.specs.declared.reply.Refusal.TheVariants.{BadClient, BadKind, BadCode, LogFull, NoMemory}
 use Rattle.inp_model.specs.Description.{Description, one_key}
@@ -60,6 +60,7 @@ count_taken (Opened at client places) = 0
 count_taken (Taking at count) = count
 count_taken (Bits at words) = 0
 count_taken (Axis at axis) = 0
+count_taken (Cells at count slot) = 0
 count_taken (Nothing at ends) = 0
 count_taken (Refused at why) = 0
 
@@ -77,6 +78,7 @@ lacks_memory (Opened at client places) = false
 lacks_memory (Taking at count) = false
 lacks_memory (Bits at words) = false
 lacks_memory (Axis at axis) = false
+lacks_memory (Cells at count slot) = false
 lacks_memory (Nothing at ends) = false
 lacks_memory (Refused at why) = is_no_memory why
 

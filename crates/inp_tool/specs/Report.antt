@@ -7,9 +7,9 @@ use Rattle.inp_model.specs.declared.event.TheConstants.{EV_SYN, EV_KEY, EV_ABS, 
 use Rattle.inp_model.specs.declared.axis_info.AxisInfo.{AxisInfo}
 use Rattle.inp_model.specs.declared.event.Event.{Event}
 use Rattle.inp_model.specs.declared.step.Step.{Step}
-use Rattle.inp_model.specs.declared.step.Step.TheVariants.{Inject, Open, Read, GetKeys, GetSwitches, GetLeds, GetSounds, GetAxis}
+use Rattle.inp_model.specs.declared.step.Step.TheVariants.{Inject, Open, Read, GetKeys, GetSwitches, GetLeds, GetSounds, GetAxis, GetSlots, SyncSlots}
 use Rattle.inp_model.specs.declared.reply.Reply.{Reply}
-use Rattle.inp_model.specs.declared.reply.Reply.TheVariants.{Done, Opened, Took as Taking, Bits, Axis, Again as Nothing, Refused}
+use Rattle.inp_model.specs.declared.reply.Reply.TheVariants.{Done, Opened, Took as Taking, Bits, Axis, Cells, Again as Nothing, Refused}
 use Rattle.inp_model.specs.declared.reply.Refusal.{Refusal}
 use Rattle.inp_model.specs.declared.reply.Refusal.TheVariants.{BadClient, BadKind, BadCode, LogFull, NoMemory}
 use Rattle.inp_model.specs.Reply.{is_accepted}
@@ -52,6 +52,8 @@ step_text (GetSwitches client) = codes "getswitches " ++ decimal client
 step_text (GetLeds client) = codes "getleds " ++ decimal client
 step_text (GetSounds client) = codes "getsounds " ++ decimal client
 step_text (GetAxis client code) = codes "getaxis " ++ (decimal client ++ (codes " " ++ code_text EV_ABS code))
+step_text (GetSlots client code) = codes "getslots " ++ (decimal client ++ (codes " " ++ code_text EV_ABS code))
+step_text (SyncSlots client) = codes "syncslots " ++ decimal client
 
 unfoldable pub refusal_text : Refusal → List ℕ
 refusal_text BadClient = codes "bad-client"
@@ -70,6 +72,8 @@ asked_kind (GetSwitches client) = EV_SW
 asked_kind (GetLeds client) = EV_LED
 asked_kind (GetSounds client) = EV_SND
 asked_kind (GetAxis client code) = EV_ABS
+asked_kind (GetSlots client code) = EV_ABS
+asked_kind (SyncSlots client) = EV_ABS
 
 -- bit i of the list of 768, 64 a word
 abbrev pub is_bit_set : List ℕ → ℕ → Bool
@@ -96,6 +100,7 @@ reply_text x (Opened at client places) = codes "opened " ++ (decimal at ++ (code
 reply_text x (Taking at count) = codes "took " ++ (decimal at ++ (codes " " ++ decimal count))
 reply_text x (Bits at words) = codes "bits " ++ (decimal at ++ bits_text (asked_kind x) words)
 reply_text x (Axis at axis) = codes "axis " ++ (decimal at ++ (codes " " ++ axis_text axis))
+reply_text x (Cells at count slot) = codes "cells " ++ (decimal at ++ (codes " " ++ (decimal count ++ (codes " " ++ signed_decimal slot))))
 reply_text x (Nothing at ends) = codes "again " ++ decimal at
 reply_text x (Refused at why) = codes "refused " ++ (decimal at ++ (codes " " ++ refusal_text why))
 

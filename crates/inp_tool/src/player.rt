@@ -120,7 +120,7 @@ fn keyboard() -> Caps
 fn make(device: &mut Device, buffer: &mut Vec<Taken>, step: Step) -> Result<Reply, NoMemory>
     requires one_key { device.old.description ≡ one_key }
     requires timely { IsTimely step }
-    requires room { HasRoom step buffer.old.items }
+    requires room { HasRoom one_key step buffer.old.items [] }
     requires one_client { step ≡ Step.Open → opens device.old.past ≡ 0 }
     ensures made { IfOk result (λ reply. IsMade one_key device.old.past step reply buffer.new.items device.new.past) }
     ensures description { device.new.description ≡ one_key }

@@ -165,6 +165,7 @@ fn push_reply(text: &mut String, step: Step, reply: Reply) -> Result<(), NoMemor
             let shown = AxisText(info);
             Ok(write!(text, "axis {at} {shown}")?)
         }
+        Reply::Cells { at, count, slot } => Ok(write!(text, "cells {at} {count} {slot}")?),
         Reply::Again { at, .. } => Ok(write!(text, "again {at}")?),
         Reply::Refused { at, why } => {
             let why = RefusalText(why);
@@ -182,7 +183,7 @@ fn asked_kind(step: Step) -> u16
         Step::GetSwitches { .. } => EV_SW,
         Step::GetLeds { .. } => EV_LED,
         Step::GetSounds { .. } => EV_SND,
-        Step::GetAxis { .. } => EV_ABS,
+        Step::GetAxis { .. } | Step::GetSlots { .. } | Step::SyncSlots { .. } => EV_ABS,
         Step::Inject { .. } | Step::Open | Step::Read { .. } => EV_SYN,
     }
 }

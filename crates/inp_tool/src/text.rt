@@ -94,6 +94,11 @@ impl fmt::Display for StepText {
                 let code = CodeText(EV_ABS, code);
                 write!(f, "getaxis {client} {code}")
             }
+            Step::GetSlots { client, code } => {
+                let code = CodeText(EV_ABS, code);
+                write!(f, "getslots {client} {code}")
+            }
+            Step::SyncSlots { client } => write!(f, "syncslots {client}"),
         }
     }
 }

@@ -2,7 +2,10 @@
 
 use super::*;
 use inp_caps::{CapsBuilder, CapsRefused};
-use inp_model::{AxisInfo, EV_KEY, EV_SYN, KEY_A, SYN_DROPPED, SYN_REPORT};
+use inp_model::{
+    ABS_MT_POSITION_X, ABS_MT_POSITION_Y, ABS_MT_SLOT, ABS_MT_TRACKING_ID, AxisInfo, EV_KEY,
+    EV_SYN, KEY_A, SYN_DROPPED, SYN_REPORT,
+};
 use std::process::Abort;
 use std::test::Fail;
 
@@ -62,6 +65,24 @@ fn panel() -> Result<Caps, CapsRefused> {
     Ok(builder.build())
 }
 
+/// A touchpad with two slots, which tells where each contact is.
+fn touchpad() -> Result<Caps, CapsRefused> {
+    let mut builder = CapsBuilder::new();
+    builder.slots(2)?;
+    builder.axis(ABS_MT_POSITION_X, AXIS)?;
+    builder.axis(ABS_MT_POSITION_Y, AXIS)?;
+    Ok(builder.build())
+}
+
+/// An event on an axis.
+fn axis(code: u16, value: i32) -> Event {
+    Event {
+        kind: EV_ABS,
+        code,
+        value,
+    }
+}
+
 fn key(value: i32) -> Event {
     Event {
         kind: EV_KEY,
@@ -76,6 +97,18 @@ fn inject(event: Event, now: u64) -> Step {
 
 fn read(count: u32) -> Step {
     Step::Read { client: 0, count }
+}
+
+fn get_axis(code: u16) -> Step {
+    Step::GetAxis { client: 0, code }
+}
+
+fn get_slots(code: u16) -> Step {
+    Step::GetSlots { client: 0, code }
+}
+
+fn refused(at: u32, why: Refusal) -> Reply {
+    Reply::Refused { at, why }
 }
 
 fn taken(event: Event, time: u64, place: u32) -> Taken {
@@ -106,8 +139,21 @@ fn play(rt: &impl Abort, device: &mut Device, step: Step, out: &mut [Taken]) -> 
         | Step::GetLeds { .. }
         | Step::GetSounds { .. }
         | Step::GetAxis { .. } => {}
+        Step::GetSlots { .. } | Step::SyncSlots { .. } => panic!(rt; "needs room for values"),
     }
     device.step(step, out, &mut [])
+}
+
+/// Asks for values of slots.
+fn ask(rt: &impl Abort, device: &mut Device, step: Step, cells: &mut [i32]) -> Reply {
+    match step {
+        Step::GetSlots { .. } | Step::SyncSlots { .. } => {
+            let count = device.caps().slots();
+            assert!(rt; cells.len() >= 14 * count as usize);
+        }
+        _ => panic!(rt; "asks for no slots"),
+    }
+    device.step(step, &mut [], cells)
 }
 
 /// A history, and what its last step is to give: worked out by hand.
@@ -136,8 +182,7 @@ fn check(rt: &impl Abort, alloc: Global, caps: Caps, case: Case) -> Result<(), F
         last = play(rt, &mut device, *step, &mut out);
     }
     assert_eq!(rt; last, case.reply);
-    assert!(rt; case.events.len() <= out.len());
-    assert_eq!(rt; &out[..case.events.len()], case.events);
+    took(rt, &out, case.events);
     Ok(())
 }
 
@@ -233,6 +278,18 @@ fn answers_queries(rt: HostRuntime) -> Result<(), Fail> {
             reply: Reply::Took { at: 7, count: 1 },
             events: &[taken(REPORT, 7, 2)],
         },
+    ];
+    for case in &cases {
+        check(&rt, rt.alloc(), keyboard()?, *case)?;
+    }
+    Ok(())
+}
+
+#[test]
+fn leaves_what_was_not_asked_for(rt: HostRuntime) -> Result<(), Fail> {
+    let (press, report) = (inject(key(1), 7), inject(REPORT, 7));
+    let first = [taken(key(1), 7, 2)];
+    let cases = [
         Case {
             frames: 0,
             steps: &[press, report, Step::GetSwitches { client: 0 }, read(1)],
@@ -241,14 +298,8 @@ fn answers_queries(rt: HostRuntime) -> Result<(), Fail> {
         },
         Case {
             frames: 0,
-            steps: &[Step::GetAxis {
-                client: 0,
-                code: 64,
-            }],
-            reply: Reply::Refused {
-                at: 1,
-                why: Refusal::BadKind,
-            },
+            steps: &[get_axis(64)],
+            reply: refused(1, Refusal::BadKind),
             events: &[],
         },
     ];
@@ -261,11 +312,7 @@ fn answers_queries(rt: HostRuntime) -> Result<(), Fail> {
 #[test]
 fn answers_queries_of_a_panel(rt: HostRuntime) -> Result<(), Fail> {
     let report = inject(REPORT, 7);
-    let x = Event {
-        kind: EV_ABS,
-        code: ABS_X,
-        value: 5,
-    };
+    let x = axis(ABS_X, 5);
     let b = Event {
         code: KEY_B,
         ..key(1)
@@ -281,10 +328,7 @@ fn answers_queries_of_a_panel(rt: HostRuntime) -> Result<(), Fail> {
         read(1),
         Step::GetKeys { client: 0 },
         read(16),
-        Step::GetAxis {
-            client: 0,
-            code: ABS_X,
-        },
+        get_axis(ABS_X),
     ];
     let cases = [
         Case {
@@ -323,14 +367,8 @@ fn answers_queries_of_a_panel(rt: HostRuntime) -> Result<(), Fail> {
         },
         Case {
             frames: 0,
-            steps: &[Step::GetAxis {
-                client: 0,
-                code: 64,
-            }],
-            reply: Reply::Refused {
-                at: 1,
-                why: Refusal::BadCode,
-            },
+            steps: &[get_axis(64)],
+            reply: refused(1, Refusal::BadCode),
             events: &[],
         },
     ];
@@ -347,10 +385,7 @@ fn ends_at_the_limit(rt: HostRuntime) -> Result<(), Fail> {
     for _ in 1..4 {
         play(&rt, &mut device, inject(REPORT, 0), &mut out);
     }
-    let full = Reply::Refused {
-        at: 4,
-        why: Refusal::LogFull,
-    };
+    let full = refused(4, Refusal::LogFull);
     let reply = play(&rt, &mut device, inject(REPORT, 0), &mut out);
     assert_eq!(rt; reply, full);
     let again = Reply::Again { at: 4, ends: 0 };
@@ -366,11 +401,7 @@ fn refuses_a_read_before_the_open(rt: HostRuntime) -> Result<(), Fail> {
     let mut device = Device::new(rt.alloc(), keyboard()?)?;
     let mut out = [taken(REPORT, 0, 0); 16];
     let reply = play(&rt, &mut device, read(16), &mut out);
-    let refused = Reply::Refused {
-        at: 0,
-        why: Refusal::BadClient,
-    };
-    assert_eq!(rt; reply, refused);
+    assert_eq!(rt; reply, refused(0, Refusal::BadClient));
     assert!(rt; device.history().is_empty());
     Ok(())
 }
@@ -386,5 +417,87 @@ fn keeps_the_accepted_steps(rt: HostRuntime) -> Result<(), Fail> {
     play(&rt, &mut device, read(16), &mut out);
     assert_eq!(rt; device.history(), accepted.as_slice());
     assert_eq!(rt; device.into_history().as_slice(), accepted.as_slice());
+    Ok(())
+}
+
+/// These events stand at the front.
+fn took(rt: &impl Abort, out: &[Taken], events: &[Taken]) {
+    assert!(rt; events.len() <= out.len());
+    assert_eq!(rt; &out[..events.len()], events);
+}
+
+/// These values stand from a place on.
+fn tells(rt: &impl Abort, cells: &[i32], place: usize, values: &[i32]) {
+    assert!(rt; place <= cells.len());
+    let rest = &cells[place..];
+    assert!(rt; values.len() <= rest.len());
+    assert_eq!(rt; &rest[..values.len()], values);
+}
+
+/// All values of a slot with a contact or without, and where it is.
+fn row(x: i32, y: i32, id: i32) -> [i32; 14] {
+    [0, 0, 0, 0, 0, x, y, 0, 0, id, 0, 0, 0, 0]
+}
+
+#[test]
+fn tells_all_slots_and_goes_on(rt: HostRuntime) -> Result<(), Fail> {
+    let mut out = [taken(REPORT, 0, 0); 16];
+    let mut cells = [9; 30];
+    let mut device = opened(&rt, rt.alloc(), touchpad()?, &mut out)?;
+    let contact = [axis(ABS_MT_SLOT, 1), axis(ABS_MT_TRACKING_ID, 11), REPORT];
+    for event in contact {
+        play(&rt, &mut device, inject(event, 0), &mut out);
+    }
+    let reply = play(&rt, &mut device, read(16), &mut out);
+    assert_eq!(rt; reply, Reply::Took { at: 4, count: 3 });
+    let first = contact.map(|event| taken(event, 0, 3));
+    took(&rt, &out, &first);
+    let moves = [
+        axis(ABS_MT_POSITION_X, 5),
+        axis(ABS_MT_SLOT, 0),
+        axis(ABS_MT_POSITION_Y, 7),
+        REPORT,
+    ];
+    for event in &moves[..3] {
+        play(&rt, &mut device, inject(*event, 0), &mut out);
+    }
+    let reply = ask(&rt, &mut device, Step::SyncSlots { client: 0 }, &mut cells);
+    let told = Reply::Cells {
+        at: 8,
+        count: 28,
+        slot: 1,
+    };
+    assert_eq!(rt; reply, told);
+    tells(&rt, &cells, 0, &row(0, 7, -1));
+    tells(&rt, &cells, 14, &row(5, 0, 11));
+    tells(&rt, &cells, 28, &[9, 9]);
+    play(&rt, &mut device, inject(REPORT, 0), &mut out);
+    let reply = play(&rt, &mut device, read(16), &mut out);
+    assert_eq!(rt; reply, Reply::Took { at: 10, count: 4 });
+    let second = moves.map(|event| taken(event, 0, 9));
+    took(&rt, &out, &second);
+    Ok(())
+}
+
+#[test]
+fn tells_one_value_of_each_slot(rt: HostRuntime) -> Result<(), Fail> {
+    let mut out = [taken(REPORT, 0, 0); 16];
+    let mut cells = [9; 28];
+    let mut device = opened(&rt, rt.alloc(), touchpad()?, &mut out)?;
+    let moved = inject(axis(ABS_MT_POSITION_X, 5), 0);
+    play(&rt, &mut device, moved, &mut out);
+    let reply = ask(&rt, &mut device, get_slots(ABS_MT_POSITION_X), &mut cells);
+    let told = Reply::Cells {
+        at: 2,
+        count: 2,
+        slot: 0,
+    };
+    assert_eq!(rt; reply, told);
+    tells(&rt, &cells, 0, &[5, 0, 9]);
+    let reply = ask(&rt, &mut device, get_slots(ABS_MT_SLOT), &mut cells);
+    assert_eq!(rt; reply, refused(3, Refusal::BadCode));
+    let mut keyboard = opened(&rt, rt.alloc(), keyboard()?, &mut out)?;
+    let reply = ask(&rt, &mut keyboard, get_slots(ABS_MT_POSITION_X), &mut cells);
+    assert_eq!(rt; reply, refused(1, Refusal::BadKind));
     Ok(())
 }

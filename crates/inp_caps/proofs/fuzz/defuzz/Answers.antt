@@ -32,7 +32,10 @@ pub returns-then-is_within : goal.returns-then-is_within
 returns-then-is_within c =
     let half : half_of c.from-fuzz.result ≡ int_div c.args.fuzz (pos 2) = omega (arith, ints) in
     let a = tested _ _ _ _ _ _ c.ranges.old c.ranges.value half c.is_within.ensures c.if-is_within.true in
-    to_z-of_z w32 c.args.old c.ranges.old ∙ sym (defuzz-stays c.args.value c.args.old c.args.fuzz (int_eq-nonzero c.args.fuzz c.if-fuzz-eq0.false) a)
+    record {
+      value =
+          to_z-of_z w32 c.args.old c.ranges.old ∙ sym (defuzz-stays c.args.value c.args.old c.args.fuzz (int_eq-nonzero c.args.fuzz c.if-fuzz-eq0.false) a);
+    }
 
 pub returns-then-is_within-2 : goal.returns-then-is_within-2
 returns-then-is_within-2 c =
@@ -41,10 +44,13 @@ returns-then-is_within-2 c =
     let a = tested _ _ _ _ _ _ c.ranges.old c.ranges.value half c.is_within.ensures c.if-is_within.false in
     let b = tested _ _ _ _ _ _ c.ranges.old c.ranges.value whole c.is_within-2.ensures c.if-is_within-2.true in
     let fits : FitsSigned w32 c.quarter_way.result = record { sfits = c.quarter_way.type_inv } in
-    to_z-of_z w32 c.quarter_way.result fits
-    ∙ c.quarter_way.ensures
-    ∙ quarter_same (kept c.args.old) (kept c.args.value) c.args.old c.args.value (to_z-of_z w32 c.args.old c.ranges.old) (to_z-of_z w32 c.args.value c.ranges.value)
-    ∙ sym (defuzz-quarter c.args.value c.args.old c.args.fuzz (int_eq-nonzero c.args.fuzz c.if-fuzz-eq0.false) a b)
+    record {
+      value =
+          to_z-of_z w32 c.quarter_way.result fits
+          ∙ c.quarter_way.ensures
+          ∙ quarter_same (kept c.args.old) (kept c.args.value) c.args.old c.args.value (to_z-of_z w32 c.args.old c.ranges.old) (to_z-of_z w32 c.args.value c.ranges.value)
+          ∙ sym (defuzz-quarter c.args.value c.args.old c.args.fuzz (int_eq-nonzero c.args.fuzz c.if-fuzz-eq0.false) a b);
+    }
 
 pub returns-then-is_within-3 : goal.returns-then-is_within-3
 returns-then-is_within-3 c =
@@ -55,10 +61,13 @@ returns-then-is_within-3 c =
     let b = tested _ _ _ _ _ _ c.ranges.old c.ranges.value whole c.is_within-2.ensures c.if-is_within-2.false in
     let d = tested _ _ _ _ _ _ c.ranges.old c.ranges.value double c.is_within-3.ensures c.if-is_within-3.true in
     let fits : FitsSigned w32 c.half_way.result = record { sfits = c.half_way.type_inv } in
-    to_z-of_z w32 c.half_way.result fits
-    ∙ c.half_way.ensures
-    ∙ half_same (kept c.args.old) (kept c.args.value) c.args.old c.args.value (to_z-of_z w32 c.args.old c.ranges.old) (to_z-of_z w32 c.args.value c.ranges.value)
-    ∙ sym (defuzz-half c.args.value c.args.old c.args.fuzz (int_eq-nonzero c.args.fuzz c.if-fuzz-eq0.false) a b d)
+    record {
+      value =
+          to_z-of_z w32 c.half_way.result fits
+          ∙ c.half_way.ensures
+          ∙ half_same (kept c.args.old) (kept c.args.value) c.args.old c.args.value (to_z-of_z w32 c.args.old c.ranges.old) (to_z-of_z w32 c.args.value c.ranges.value)
+          ∙ sym (defuzz-half c.args.value c.args.old c.args.fuzz (int_eq-nonzero c.args.fuzz c.if-fuzz-eq0.false) a b d);
+    }
 
 pub returns : goal.returns
 returns c =
@@ -68,5 +77,8 @@ returns c =
     let a = tested _ _ _ _ _ _ c.ranges.old c.ranges.value half c.is_within.ensures c.if-is_within.false in
     let b = tested _ _ _ _ _ _ c.ranges.old c.ranges.value whole c.is_within-2.ensures c.if-is_within-2.false in
     let d = tested _ _ _ _ _ _ c.ranges.old c.ranges.value double c.is_within-3.ensures c.if-is_within-3.false in
-    to_z-of_z w32 c.args.value c.ranges.value
-    ∙ sym (defuzz-moves c.args.value c.args.old c.args.fuzz (int_eq-nonzero c.args.fuzz c.if-fuzz-eq0.false) a b d)
+    record {
+      value =
+          to_z-of_z w32 c.args.value c.ranges.value
+          ∙ sym (defuzz-moves c.args.value c.args.old c.args.fuzz (int_eq-nonzero c.args.fuzz c.if-fuzz-eq0.false) a b d);
+    }

@@ -25,7 +25,7 @@ returns-else-before-after-clause-passed c =
     let before_fits : FitsSigned w32 (get_or c.args.axes.now c.from.result (pos 0)) = search rules in
     let after_fits : FitsSigned w32 c.defuzz-after.result = record { sfits = c.defuzz-after.type_inv } in
     let after : c.defuzz-after.result ≡ defuzz c.args.event.value (get_or c.args.axes.now c.args.event.code (pos 0)) c.args.fuzz =
-    c.defuzz-after.ensures
+    c.defuzz-after.ensures.value
     ∙ defuzz_same (kept c.args.event.value) (kept (get_or c.args.axes.now c.from.result (pos 0))) (kept c.args.fuzz) c.args.event.value (get_or c.args.axes.now c.args.event.code (pos 0)) c.args.fuzz
     (to_z-of_z w32 c.args.event.value value_fits) (to_z-of_z w32 (get_or c.args.axes.now c.from.result (pos 0)) before_fits ∙ place) (to_z-of_z w32 c.args.fuzz c.ranges.fuzz) in
     chosen (get_or c.args.axes.now c.args.event.code (pos 0)) (defuzz c.args.event.value (get_or c.args.axes.now c.args.event.code (pos 0)) c.args.fuzz) _

@@ -4,13 +4,14 @@ use Rattle.inp_model.specs.declared.reply.Reply.TheVariants.{Bits}
 use Rattle.inp_model.specs.History.{is_open}
 use Rattle.inp_model.specs.Log.{Log}
 use Rattle.inp_model.specs.Reply.{alone}
+use Rattle.inp_device.specs.declared.class.Class.TheVariants.{Kind}
 use Rattle.inp_device.proofs.Keeping.{keeps_pushed, keeps_asked, below_limit}
 use Rattle.inp_device.proofs.Answering.{replies_asked_closed, replies_full, replies_pushed, IsAllowed-asked}
 use Rattle.inp_device.proofs.device.Device.get.Goals as goal
 
 pub returns-then-not-is_open-clause-replies : goal.returns-then-not-is_open-clause-replies
 returns-then-not-is_open-clause-replies c =
-    replies_asked_closed _ _ c.args.step c.args.client c.args.kind _ c.requires.asks (sym c.is_open.ensures.open ∙ c.if-not-is_open.true) c.refuse.ensures.refused
+    replies_asked_closed _ _ c.args.step c.args.client (Kind c.args.kind) _ c.requires.asks (sym c.is_open.ensures.open ∙ c.if-not-is_open.true) c.refuse.ensures.refused
 
 pub returns-then-is_full-clause-replies : goal.returns-then-is_full-clause-replies
 returns-then-is_full-clause-replies c =
@@ -23,8 +24,8 @@ invariant_of-self c =
     let below : length (reverse steps) < c.self.inside.caps.log = below_limit c.self.inside.caps _ _ _ c.self.view_is c.is_full.ensures.full c.if-is_full.false in
     let opened = ap (λ (l : Log). is_open l.past c.args.client) c.self.view_is ∙ sym c.is_open.ensures.open ∙ c.if-not-is_open.false in
     let same = length-reverse steps in (
-      keeps_pushed c.self.inside.caps c.self.inside.batch c.flush_of.new.client steps c.push.new.self.items c.args.step (search rules)
-          (keeps_asked c.self.inside.caps _ c.args.step c.args.client c.args.kind c.self.inside.batch c.self.inside.client c.flush_of.new.client c.self.invariant.0 c.requires.asks opened c.flush_of.ensures.flushed),
+      keeps_pushed c.self.inside.caps c.self.inside.core c.flush.new.self steps c.push.new.self.items c.args.step (search rules)
+          (keeps_asked c.self.inside.caps _ c.args.step c.args.client (Kind c.args.kind) c.self.inside.core c.self.inside.handler c.flush.new.self c.self.invariant.0 c.requires.asks opened c.flush.ensures.flushed),
       search rules,
       search rules,
       c.self.invariant.3,

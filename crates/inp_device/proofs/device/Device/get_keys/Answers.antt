@@ -7,4 +7,4 @@ use Rattle.inp_device.proofs.device.Device.get_keys.Goals as goal
 pub get-requires-clause-known : goal.get-requires-clause-known
 get-requires-clause-known c =
     let past = reverse c.self.inside.steps.items in
-    known_words c.self.inside.caps past c.args.self.now key_down c.keys-words.result c.self.view_is (c.keys-words.ensures.keys c.self.inside.caps (raw past) c.self.invariant.0.gathered)
+    known_words c.self.inside.caps past c.args.self.now key_down c.keys-words.result c.self.view_is (c.keys-words.ensures.keys c.self.inside.caps (raw past) c.self.invariant.0.stands)

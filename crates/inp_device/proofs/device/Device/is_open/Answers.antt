@@ -5,9 +5,9 @@ use Rattle.inp_device.proofs.device.Device.is_open.Goals as goal
 pub returns-then-client-eq0 : goal.returns-then-client-eq0
 returns-then-client-eq0 c = record {
   «open» =
-      c.is_some.ensures
-      ∙ ap (λ n. nat_eq n 0 && is_some c.self.inside.client) (sym c.if-client-eq0.true)
-      ∙ is_open-view c.self.inside.caps c.self.inside.batch c.self.inside.client _ _ c.args.client c.self.view_is c.self.invariant.0;
+      c.is_some.ensures ∙ ap is_some c.client.ensures.client
+      ∙ ap (λ n. nat_eq n 0 && is_some c.self.inside.handler.client) (sym c.if-client-eq0.true)
+      ∙ is_open-view c.self.inside.caps c.self.inside.core c.self.inside.handler _ _ c.args.client c.self.view_is c.self.invariant.0;
 }
 
 pub returns-else-client-eq0 : goal.returns-else-client-eq0
@@ -16,6 +16,6 @@ returns-else-client-eq0 c =
     record {
       «open» =
           other
-          ∙ ap (λ b. b && is_some c.self.inside.client) (sym other)
-          ∙ is_open-view c.self.inside.caps c.self.inside.batch c.self.inside.client _ _ c.args.client c.self.view_is c.self.invariant.0;
+          ∙ ap (λ b. b && is_some c.self.inside.handler.client) (sym other)
+          ∙ is_open-view c.self.inside.caps c.self.inside.core c.self.inside.handler _ _ c.args.client c.self.view_is c.self.invariant.0;
     }

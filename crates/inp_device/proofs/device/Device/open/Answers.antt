@@ -12,8 +12,8 @@ invariant_of-self c =
     let below : length (reverse steps) < c.self.inside.caps.log = below_limit c.self.inside.caps _ _ _ c.self.view_is c.is_full.ensures.full c.if-is_full.false in
     let own = c.in-Ok.ensures.empty ∙ ap (λ (n : ℕ). record { places = n; events = [] }) c.ring-ring.ensures.ring in
     let same = length-reverse steps in (
-      keeps_pushed c.self.inside.caps c.self.inside.batch _ steps c.push.new.self.items Open (search rules)
-          (keeps_opened c.self.inside.caps _ _ c.self.inside.client _ c.self.invariant.0 (ap (λ (l : Log). opens l.past) c.self.view_is ∙ c.requires.one_client) own),
+      keeps_pushed c.self.inside.caps c.self.inside.core _ steps c.push.new.self.items Open (search rules)
+          (keeps_opened c.self.inside.caps _ c.self.inside.core c.self.inside.handler c.open.new.self _ c.self.invariant.0 (ap (λ (l : Log). opens l.past) c.self.view_is ∙ c.requires.one_client) own c.open.ensures.opened),
       search rules,
       search rules,
       c.self.invariant.3,

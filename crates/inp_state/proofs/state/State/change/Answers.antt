@@ -15,19 +15,19 @@ returns-then-event-eq-EV_SYN-clause-stands c = λ r h. syn-stands c.args.caps.no
 
 pub returns-then-not-supports-clause-stands : goal.returns-then-not-supports-clause-stands
 returns-then-not-supports-clause-stands c =
-    let u : supports c.args.caps.now c.args.event.kind c.args.event.code ≡ false = sym (c.supports.ensures.others c.if-event-eq-EV_SYN.false) ∙ c.if-not-supports.true in
+    let u : supports c.args.caps.now c.args.event.kind c.args.event.code ≡ false = sym c.supports.ensures.supported ∙ c.if-not-supports.true in
     λ r h. StandsFor-unsupported c.args.caps.now r c.args.self.now c.args.event u h
 
 pub returns-in-1-clause-stands : goal.returns-in-1-clause-stands
 returns-in-1-clause-stands c =
-    let u : supports c.args.caps.now c.args.event.kind c.args.event.code ≡ true = sym (c.supports.ensures.others c.if-event-eq-EV_SYN.false) ∙ c.if-not-supports.false in
+    let u : supports c.args.caps.now c.args.event.kind c.args.event.code ≡ true = sym c.supports.ensures.supported ∙ c.if-not-supports.false in
     let w = key-within c.args.caps.now c.args.event.kind c.args.event.code c.in-1.is c.supports.ensures.description u in
     let l : c.args.event.code < length c.self.inside.keys = omega (arith, w, c.set_key.ensures.len) in
     λ r h. key-stands c.args.caps.now r (the_view c.self.inside) c.args.event c.set_key.new.keys c.in-1.is u l c.set_key.ensures.keys (subst (StandsFor c.args.caps.now r) (sym c.self.view_is) h)
 
 pub returns-in-1-clause-passes : goal.returns-in-1-clause-passes
 returns-in-1-clause-passes c =
-    let u : supports c.args.caps.now c.args.event.kind c.args.event.code ≡ true = sym (c.supports.ensures.others c.if-event-eq-EV_SYN.false) ∙ c.if-not-supports.false in
+    let u : supports c.args.caps.now c.args.event.kind c.args.event.code ≡ true = sym c.supports.ensures.supported ∙ c.if-not-supports.false in
     λ r h. key-passes c.args.caps.now r (the_view c.self.inside) c.args.event c.set_key.result c.in-1.is u c.set_key.ensures.passed (subst (StandsFor c.args.caps.now r) (sym c.self.view_is) h)
 
 pub returns-in-2-clause-stands : goal.returns-in-2-clause-stands
@@ -35,7 +35,7 @@ returns-in-2-clause-stands c = λ r h. motion-stands c.args.caps.now r c.args.se
 
 pub returns-in-3-clause-stands : goal.returns-in-3-clause-stands
 returns-in-3-clause-stands c =
-    let u : supports c.args.caps.now c.args.event.kind c.args.event.code ≡ true = sym (c.supports.ensures.others c.if-event-eq-EV_SYN.false) ∙ c.if-not-supports.false in
+    let u : supports c.args.caps.now c.args.event.kind c.args.event.code ≡ true = sym c.supports.ensures.supported ∙ c.if-not-supports.false in
     let fits : FitsSigned w32 c.axis.result.fuzz = search rules in
     let w = axis-within c.args.caps.now c.args.event.kind c.args.event.code c.in-3.is c.supports.ensures.description u in
     let l : c.args.event.code < length c.self.inside.axes = omega (arith, w) in
@@ -43,61 +43,61 @@ returns-in-3-clause-stands c =
 
 pub returns-in-3-clause-passes : goal.returns-in-3-clause-passes
 returns-in-3-clause-passes c =
-    let u : supports c.args.caps.now c.args.event.kind c.args.event.code ≡ true = sym (c.supports.ensures.others c.if-event-eq-EV_SYN.false) ∙ c.if-not-supports.false in
+    let u : supports c.args.caps.now c.args.event.kind c.args.event.code ≡ true = sym c.supports.ensures.supported ∙ c.if-not-supports.false in
     let fits : FitsSigned w32 c.axis.result.fuzz = search rules in
     let w = axis-within c.args.caps.now c.args.event.kind c.args.event.code c.in-3.is c.supports.ensures.description u in
     λ r h. axis-passes c.args.caps.now r (the_view c.self.inside) c.args.event c.move_axis.result (to_z w32 (of_z w32 c.axis.result.fuzz)) c.in-3.is u c.requires.no_slot w (to_z-of_z w32 c.axis.result.fuzz fits ∙ ap (λ (i : AxisInfo). i.fuzz) c.axis.ensures.axis) c.move_axis.ensures.passed (subst (StandsFor c.args.caps.now r) (sym c.self.view_is) h)
 
 pub returns-in-5-clause-stands : goal.returns-in-5-clause-stands
 returns-in-5-clause-stands c =
-    let u : supports c.args.caps.now c.args.event.kind c.args.event.code ≡ true = sym (c.supports.ensures.others c.if-event-eq-EV_SYN.false) ∙ c.if-not-supports.false in
+    let u : supports c.args.caps.now c.args.event.kind c.args.event.code ≡ true = sym c.supports.ensures.supported ∙ c.if-not-supports.false in
     let w = switch-within c.args.caps.now c.args.event.kind c.args.event.code c.in-5.is c.supports.ensures.description u in
     let l : c.args.event.code < length c.self.inside.switches = omega (arith, w, c.set_bit.ensures.len) in
     λ r h. switch-stands c.args.caps.now r (the_view c.self.inside) c.args.event c.set_bit.new.bits c.in-5.is u l c.set_bit.ensures.bits (subst (StandsFor c.args.caps.now r) (sym c.self.view_is) h)
 
 pub returns-in-5-clause-passes : goal.returns-in-5-clause-passes
 returns-in-5-clause-passes c =
-    let u : supports c.args.caps.now c.args.event.kind c.args.event.code ≡ true = sym (c.supports.ensures.others c.if-event-eq-EV_SYN.false) ∙ c.if-not-supports.false in
+    let u : supports c.args.caps.now c.args.event.kind c.args.event.code ≡ true = sym c.supports.ensures.supported ∙ c.if-not-supports.false in
     λ r h. switch-passes c.args.caps.now r (the_view c.self.inside) c.args.event c.set_bit.result c.in-5.is u c.set_bit.ensures.passed (subst (StandsFor c.args.caps.now r) (sym c.self.view_is) h)
 
 pub returns-in-17-clause-stands : goal.returns-in-17-clause-stands
 returns-in-17-clause-stands c =
-    let u : supports c.args.caps.now c.args.event.kind c.args.event.code ≡ true = sym (c.supports.ensures.others c.if-event-eq-EV_SYN.false) ∙ c.if-not-supports.false in
+    let u : supports c.args.caps.now c.args.event.kind c.args.event.code ≡ true = sym c.supports.ensures.supported ∙ c.if-not-supports.false in
     let w = led-within c.args.caps.now c.args.event.kind c.args.event.code c.in-17.is c.supports.ensures.description u in
     let l : c.args.event.code < length c.self.inside.leds = omega (arith, w, c.set_bit-in-17.ensures.len) in
     λ r h. led-stands c.args.caps.now r (the_view c.self.inside) c.args.event c.set_bit-in-17.new.bits c.in-17.is u l c.set_bit-in-17.ensures.bits (subst (StandsFor c.args.caps.now r) (sym c.self.view_is) h)
 
 pub returns-in-17-clause-passes : goal.returns-in-17-clause-passes
 returns-in-17-clause-passes c =
-    let u : supports c.args.caps.now c.args.event.kind c.args.event.code ≡ true = sym (c.supports.ensures.others c.if-event-eq-EV_SYN.false) ∙ c.if-not-supports.false in
+    let u : supports c.args.caps.now c.args.event.kind c.args.event.code ≡ true = sym c.supports.ensures.supported ∙ c.if-not-supports.false in
     λ r h. led-passes c.args.caps.now r (the_view c.self.inside) c.args.event c.set_bit-in-17.result c.in-17.is u c.set_bit-in-17.ensures.passed (subst (StandsFor c.args.caps.now r) (sym c.self.view_is) h)
 
 pub returns-in-18-clause-stands : goal.returns-in-18-clause-stands
 returns-in-18-clause-stands c =
-    let u : supports c.args.caps.now c.args.event.kind c.args.event.code ≡ true = sym (c.supports.ensures.others c.if-event-eq-EV_SYN.false) ∙ c.if-not-supports.false in
+    let u : supports c.args.caps.now c.args.event.kind c.args.event.code ≡ true = sym c.supports.ensures.supported ∙ c.if-not-supports.false in
     let w = sound-within c.args.caps.now c.args.event.kind c.args.event.code c.in-18.is c.supports.ensures.description u in
     let l : c.args.event.code < length c.self.inside.sounds = omega (arith, w, c.set_bit-in-18.ensures.len) in
     λ r h. sound-stands c.args.caps.now r (the_view c.self.inside) c.args.event c.set_bit-in-18.new.bits c.in-18.is u l c.set_bit-in-18.ensures.bits (subst (StandsFor c.args.caps.now r) (sym c.self.view_is) h)
 
 pub returns-in-20-clause-stands : goal.returns-in-20-clause-stands
 returns-in-20-clause-stands c =
-    let u : supports c.args.caps.now c.args.event.kind c.args.event.code ≡ true = sym (c.supports.ensures.others c.if-event-eq-EV_SYN.false) ∙ c.if-not-supports.false in
+    let u : supports c.args.caps.now c.args.event.kind c.args.event.code ≡ true = sym c.supports.ensures.supported ∙ c.if-not-supports.false in
     λ r h. delay-stands c.args.caps.now r (the_view c.self.inside) c.args.event c.set_setting.new.setting c.in-20.is c.if-event-eq-REP_DELAY.true u c.set_setting.ensures.setting (subst (StandsFor c.args.caps.now r) (sym c.self.view_is) h)
 
 pub returns-in-20-clause-passes : goal.returns-in-20-clause-passes
 returns-in-20-clause-passes c =
-    let u : supports c.args.caps.now c.args.event.kind c.args.event.code ≡ true = sym (c.supports.ensures.others c.if-event-eq-EV_SYN.false) ∙ c.if-not-supports.false in
+    let u : supports c.args.caps.now c.args.event.kind c.args.event.code ≡ true = sym c.supports.ensures.supported ∙ c.if-not-supports.false in
     λ r h. delay-passes c.args.caps.now r (the_view c.self.inside) c.args.event c.set_setting.result c.in-20.is c.if-event-eq-REP_DELAY.true u c.set_setting.ensures.passed (subst (StandsFor c.args.caps.now r) (sym c.self.view_is) h)
 
 pub returns-in-20-2-clause-stands : goal.returns-in-20-2-clause-stands
 returns-in-20-2-clause-stands c =
-    let u : supports c.args.caps.now c.args.event.kind c.args.event.code ≡ true = sym (c.supports.ensures.others c.if-event-eq-EV_SYN.false) ∙ c.if-not-supports.false in
+    let u : supports c.args.caps.now c.args.event.kind c.args.event.code ≡ true = sym c.supports.ensures.supported ∙ c.if-not-supports.false in
     let q : c.args.event.code ≡ 1 = omega (arith, setting-within c.args.caps.now c.args.event.kind c.args.event.code c.in-20.is u, c.if-event-eq-REP_DELAY.false) in
     λ r h. period-stands c.args.caps.now r (the_view c.self.inside) c.args.event c.set_setting-in-20-2.new.setting c.in-20.is q u c.set_setting-in-20-2.ensures.setting (subst (StandsFor c.args.caps.now r) (sym c.self.view_is) h)
 
 pub returns-in-20-2-clause-passes : goal.returns-in-20-2-clause-passes
 returns-in-20-2-clause-passes c =
-    let u : supports c.args.caps.now c.args.event.kind c.args.event.code ≡ true = sym (c.supports.ensures.others c.if-event-eq-EV_SYN.false) ∙ c.if-not-supports.false in
+    let u : supports c.args.caps.now c.args.event.kind c.args.event.code ≡ true = sym c.supports.ensures.supported ∙ c.if-not-supports.false in
     let q : c.args.event.code ≡ 1 = omega (arith, setting-within c.args.caps.now c.args.event.kind c.args.event.code c.in-20.is u, c.if-event-eq-REP_DELAY.false) in
     λ r h. period-passes c.args.caps.now r (the_view c.self.inside) c.args.event c.set_setting-in-20-2.result c.in-20.is q u c.set_setting-in-20-2.ensures.passed (subst (StandsFor c.args.caps.now r) (sym c.self.view_is) h)
 

@@ -7,10 +7,10 @@ pub returns : goal.returns
 unfolding key_down turned_on axis_value repeat_setting
 returns c = record {
   fresh = record {
-    keys = λ k. ap (λ (xs : List Bool). get_or xs k false) c.new.ensures ∙ get_or-replicate 768 k false;
-    switches = λ k. ap (λ (xs : List Bool). get_or xs k false) c.new-2.ensures ∙ get_or-replicate 64 k false;
-    leds = λ k. ap (λ (xs : List Bool). get_or xs k false) c.new-3.ensures ∙ get_or-replicate 64 k false;
-    sounds = λ k. ap (λ (xs : List Bool). get_or xs k false) c.new-4.ensures ∙ get_or-replicate 64 k false;
+    keys = λ k. ap (λ (xs : List Bool). get_or xs k false) c.new.ensures.all_false ∙ get_or-replicate 768 k false;
+    switches = λ k. ap (λ (xs : List Bool). get_or xs k false) c.new-2.ensures.all_false ∙ get_or-replicate 64 k false;
+    leds = λ k. ap (λ (xs : List Bool). get_or xs k false) c.new-3.ensures.all_false ∙ get_or-replicate 64 k false;
+    sounds = λ k. ap (λ (xs : List Bool). get_or xs k false) c.new-4.ensures.all_false ∙ get_or-replicate 64 k false;
     axes = c.described_values.ensures;
     delay = refl;
     period = refl;

@@ -1,0 +1,37 @@
+//! The values of slots, written to a caller's buffer.
+ghost use Rattle.std.specs.Prelude.{◌≡◌, ◌≤◌, ◌*◌, true, List, length};
+ghost use Rattle.inp_model.specs.declared.event.Event.{Event};
+ghost use Rattle.inp_model.specs.Description.{Description, is_slot_code};
+ghost use Rattle.inp_model.specs.Reply.{column, rows, written};
+ghost use Rattle.inp_slots.specs.Slots.{SlotsStandFor};
+
+use inp_model::{ABS_MT_TOOL_Y, ABS_MT_TOUCH_MAJOR, SLOTS_MAX};
+use inp_slots::Slots;
+
+/// How many values a slot has.
+pub const VALUES: u32 = (ABS_MT_TOOL_Y - ABS_MT_TOUCH_MAJOR + 1) as u32;
+
+/// Writes the value of each slot on one axis to the front of a buffer.
+pub fn write_column(slots: &Slots, count: u32, code: u16, cells: &mut [i32])
+    requires count { count ≡ length slots.now.slots }
+    requires code { is_slot_code code ≡ true }
+    requires room { count ≤ length cells.old }
+    ensures written { (d : Description) (r : List Event) → SlotsStandFor d r slots.now → cells.new ≡ written (column d r code) cells.old }
+{
+    for slot in 0..count {
+        cells[slot as usize] = slots.value(slot, code);
+    }
+}
+
+/// Writes all values of all slots to the front of a buffer, slot by slot.
+pub fn write_rows(slots: &Slots, count: u32, cells: &mut [i32])
+    requires count { count ≡ length slots.now.slots }
+    requires range { count ≤ SLOTS_MAX }
+    requires room { 14 * count ≤ length cells.old }
+    ensures written { (d : Description) (r : List Event) → SlotsStandFor d r slots.now → cells.new ≡ written (rows d r) cells.old }
+{
+    for index in 0..VALUES * count {
+        let code = ABS_MT_TOUCH_MAJOR + (index % VALUES) as u16;
+        cells[index as usize] = slots.value(index / VALUES, code);
+    }
+}

@@ -1,0 +1,100 @@
+-- What is passed for a raw event, by what becomes of it.
+use Rattle.std.proofs.Common.{◌≡◌, ◌==◌, ℕ, Bool, true, false, ◌&&◌, if◌then◌else◌, ℤ, List, [], ◌∷◌, ◌++◌, refl, ap, ◌∙◌, arith, Option, Some, None, is_some, option_to_list, option_map}
+use Rattle.std.specs.Prelude.{unwrap_or, not}
+use Rattle.std.specs.Int.RustNames.{bit_and}
+use Rattle.std.specs.Ordering.{int_eq}
+use Rattle.std.proofs.lemmas.Bool.Decides.{nat_tests}
+use Rattle.inp_model.specs.declared.event.TheConstants.{EV_ABS}
+use Rattle.inp_model.specs.declared.event.Event.{Event}
+use Rattle.inp_model.specs.Description.{Description}
+use Rattle.inp_model.specs.Event.{is_multi_touch, is_report, slot_event}
+use Rattle.inp_model.specs.State.{staged}
+use Rattle.inp_model.specs.Passed.{passes_as, passes_slot_value, goes_to_device, announced, announces, announcement, passed}
+use Rattle.inp_caps.specs.Disposition.{flags, flags_after}
+use Rattle.inp_state.proofs.Steps.{at_kind}
+use Rattle.inp_slots.specs.Slots.{touch}
+use Rattle.inp_frames.specs.declared.passed.Passed.{Passed}
+use Rattle.inp_frames.specs.Batch.{events_of}
+
+is_axis : (e : Event) → is_multi_touch e ≡ true → e.kind ≡ EV_ABS
+is_axis e h = grind (arith, nat_tests)
+
+-- a multi-touch event is the touch of its code and value
+pub touches : (e : Event) (value : ℤ) → is_multi_touch e ≡ true → value ≡ e.value → touch e.code value ≡ e
+touches e value h v = ap (touch e.code) v ∙ at_kind (λ x. touch x.code x.value ≡ x) e EV_ABS (is_axis e h) refl
+
+-- the flags that a number holds
+
+flag_1 : (passes device slot flush : Bool) → (bit_and (flags passes device slot flush) 1 == 1) ≡ passes
+flag_1 true true true true = refl
+flag_1 true true true false = refl
+flag_1 true true false true = refl
+flag_1 true true false false = refl
+flag_1 true false true true = refl
+flag_1 true false true false = refl
+flag_1 true false false true = refl
+flag_1 true false false false = refl
+flag_1 false true true true = refl
+flag_1 false true true false = refl
+flag_1 false true false true = refl
+flag_1 false true false false = refl
+flag_1 false false true true = refl
+flag_1 false false true false = refl
+flag_1 false false false true = refl
+flag_1 false false false false = refl
+
+flag_4 : (passes device slot flush : Bool) → (bit_and (flags passes device slot flush) 4 == 4) ≡ slot
+flag_4 true true true true = refl
+flag_4 true true true false = refl
+flag_4 true true false true = refl
+flag_4 true true false false = refl
+flag_4 true false true true = refl
+flag_4 true false true false = refl
+flag_4 true false false true = refl
+flag_4 true false false false = refl
+flag_4 false true true true = refl
+flag_4 false true true false = refl
+flag_4 false true false true = refl
+flag_4 false true false false = refl
+flag_4 false false true true = refl
+flag_4 false false true false = refl
+flag_4 false false false true = refl
+flag_4 false false false false = refl
+
+-- the event itself
+
+event_by : (p : Option ℤ) (e : Event) (v : ℤ) → v ≡ unwrap_or p e.value → (let given : Event = record e { value = v } in option_to_list (if is_some p then Some given else None)) ≡ option_to_list (option_map (λ w. record e { value = w }) p)
+event_by None e v is = refl
+event_by (Some w) e v is = ap (λ (x : ℤ). record e { value = x } ∷ []) is
+
+-- the slot before it
+
+announced-staged : (d : Description) (r : List Event) (e : Event) → passes_slot_value d r e ≡ true → announced d (e ∷ r) ≡ staged d r
+unfolding announced
+announced-staged d r e h = ap (λ b. if b then staged d r else announced d r) h
+
+first : (a b : Bool) → (a && b) ≡ true → a ≡ true
+first true b h = refl
+first false b h = absurd (cc h)
+
+slot_by : (slot told : ℤ) (announces : Bool) → (announces ≡ true → slot ≡ told) → option_to_list (if announces then Some (slot_event slot) else None) ≡ (if announces then slot_event told ∷ [] else [])
+slot_by slot told true h = ap (λ (x : ℤ). slot_event x ∷ []) (h refl)
+slot_by slot told false h = refl
+
+-- what is passed by the flags, the value and the slot announced after the event is what the model passes
+pub passed-by : (d : Description) (r : List Event) (e : Event) (given : Passed) (n : ℕ) (v slot : ℤ) → n ≡ flags_after d r e → v ≡ unwrap_or (passes_as d r e) e.value → slot ≡ announced d (e ∷ r)
+    → given.announcement ≡ (if bit_and n 4 == 4 then Some (slot_event slot) else None)
+    → (let new : Event = record e { value = v } in given.event ≡ (if bit_and n 1 == 1 then Some new else None))
+    → events_of given ≡ passed d r e
+passed-by d r e given n v slot flags_are value told before itself =
+    let passes : Bool = is_some (passes_as d r e) in
+    let new : Event = record e { value = v } in
+    let has_1 : (bit_and n 1 == 1) ≡ passes = ap (λ (m : ℕ). bit_and m 1 == 1) flags_are ∙ flag_1 passes (goes_to_device d r e) (announces d r e) (passes && is_report e) in
+    let has_4 : (bit_and n 4 == 4) ≡ announces d r e = ap (λ (m : ℕ). bit_and m 4 == 4) flags_are ∙ flag_4 passes (goes_to_device d r e) (announces d r e) (passes && is_report e) in
+    let of_slot : option_to_list given.announcement ≡ announcement d r e =
+    ap option_to_list (before ∙ ap (λ b. if b then Some (slot_event slot) else None) has_4)
+    ∙ slot_by slot (staged d r) (announces d r e) (λ h. told ∙ announced-staged d r e (first (passes_slot_value d r e) (not (int_eq (staged d r) (announced d r))) h)) in
+    let of_event : option_to_list given.event ≡ option_to_list (option_map (λ w. record e { value = w }) (passes_as d r e)) =
+    ap option_to_list (itself ∙ ap (λ b. if b then Some new else None) has_1)
+    ∙ event_by (passes_as d r e) e v value in
+    ap (λ x. x ++ option_to_list given.event) of_slot ∙ ap (λ x. announcement d r e ++ x) of_event

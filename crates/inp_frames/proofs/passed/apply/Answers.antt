@@ -1,0 +1,40 @@
+use Rattle.std.proofs.Common.{◌≡◌, sym, ◌∙◌, ap, subst, rules, ◌∷◌, FitsSigned, w32, to_z, of_z}
+use Rattle.std.specs.Prelude.{unwrap_or}
+use Rattle.std.proofs.lemmas.Int.{to_z-of_z}
+use Rattle.inp_model.specs.declared.event.Event.{Event}
+use Rattle.inp_model.specs.Passed.{passes_as}
+use Rattle.inp_caps.specs.Disposition.{flags_after}
+use Rattle.inp_state.proofs.Steps.{StandsFor-multi_touch}
+use Rattle.inp_slots.specs.Slots.{SlotsStandFor, touch}
+use Rattle.inp_slots.proofs.Others.{SlotsStandFor-other}
+use Rattle.inp_frames.proofs.Passing.{touches}
+use Rattle.inp_frames.proofs.passed.apply.Goals as goal
+
+-- the event that the slots were given
+touched : (c : goal.After-apply) → touch c.args.event.code (to_z w32 (of_z w32 c.args.event.value)) ≡ c.args.event
+touched c =
+    let fits : FitsSigned w32 c.args.event.value = search rules in
+    touches c.args.event (to_z w32 (of_z w32 c.args.event.value)) (sym c.is_multi_touch.ensures.multi_touch ∙ c.if-is_multi_touch.true) (to_z-of_z w32 c.args.event.value fits)
+
+pub returns-then-is_multi_touch-clause-state : goal.returns-then-is_multi_touch-clause-state
+returns-then-is_multi_touch-clause-state c =
+    λ r h. StandsFor-multi_touch c.args.caps.now r c.args.state.now c.args.event (sym c.is_multi_touch.ensures.multi_touch ∙ c.if-is_multi_touch.true) h
+
+pub returns-then-is_multi_touch-clause-slots : goal.returns-then-is_multi_touch-clause-slots
+returns-then-is_multi_touch-clause-slots c =
+    λ r h. subst (λ (e : Event). SlotsStandFor c.args.caps.now (e ∷ r) c.apply.new.self) (touched c) (c.apply.ensures.stands r h)
+
+pub returns-then-is_multi_touch-clause-disposition : goal.returns-then-is_multi_touch-clause-disposition
+returns-then-is_multi_touch-clause-disposition c =
+    λ r h k. c.apply.ensures.disposition r k ∙ ap (flags_after c.args.caps.now r) (touched c)
+
+pub returns-then-is_multi_touch-clause-value : goal.returns-then-is_multi_touch-clause-value
+returns-then-is_multi_touch-clause-value c =
+    λ r h k. c.apply.ensures.value r k ∙ ap (λ (e : Event). unwrap_or (passes_as c.args.caps.now r e) e.value) (touched c)
+
+pub returns-else-is_multi_touch-clause-slots : goal.returns-else-is_multi_touch-clause-slots
+returns-else-is_multi_touch-clause-slots c =
+    λ r h. SlotsStandFor-other c.args.caps.now r c.args.slots.now c.args.event (sym c.is_multi_touch.ensures.multi_touch ∙ c.if-is_multi_touch.false) h
+
+pub returns-else-is_multi_touch-clause-value : goal.returns-else-is_multi_touch-clause-value
+returns-else-is_multi_touch-clause-value c = λ r h k. c.apply-else-is_multi_touch.ensures.value r h

@@ -1,0 +1,8 @@
+-- What a taker makes of frames that are passed to it one after another.
+use Rattle.std.specs.Prelude.{◌≡◌, ℕ, List, [], ◌∷◌}
+use Rattle.inp_model.specs.declared.event.Event.{Event}
+
+-- each frame by one step of the taker's relation, in order; with none it is as before
+abbrev pub TakesAll : {T : Type 0} → (T → List Event → ℕ → T → Type 0) → ℕ → List (List Event) → T → T → Type 0
+TakesAll takes now [] before after = after ≡ before
+TakesAll {T} takes now (frame ∷ frames) before after = (mid : T) × takes before frame now mid × TakesAll takes now frames mid after

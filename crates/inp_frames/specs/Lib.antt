@@ -1,0 +1,3 @@
+pub mod Batch
+pub mod Core
+pub mod Frames

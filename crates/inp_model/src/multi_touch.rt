@@ -1,0 +1,51 @@
+//! The numbers of the multi-touch axes (the kernel's input event codes, and its multi-touch protocol B).
+//!
+//! A device with slots follows several contacts at once. `ABS_MT_SLOT` names a slot, and the values behind it belong to
+//! the contact in that slot.
+
+/// The axis that names the slot of the values behind it (the kernel's multi-touch protocol).
+pub const ABS_MT_SLOT: u16 = 0x2f;
+
+/// The long axis of the area that a contact covers. It is the first of the axes whose values belong to slots (the
+/// kernel's multi-touch protocol).
+pub const ABS_MT_TOUCH_MAJOR: u16 = 0x30;
+
+/// The short axis of the area that a contact covers (the kernel's multi-touch protocol).
+pub const ABS_MT_TOUCH_MINOR: u16 = 0x31;
+
+/// The long axis of the approaching finger or tool (the kernel's multi-touch protocol).
+pub const ABS_MT_WIDTH_MAJOR: u16 = 0x32;
+
+/// The short axis of the approaching finger or tool (the kernel's multi-touch protocol).
+pub const ABS_MT_WIDTH_MINOR: u16 = 0x33;
+
+/// How the area of a contact is turned (the kernel's multi-touch protocol).
+pub const ABS_MT_ORIENTATION: u16 = 0x34;
+
+/// Where the middle of a contact is, from the left (the kernel's multi-touch protocol).
+pub const ABS_MT_POSITION_X: u16 = 0x35;
+
+/// Where the middle of a contact is, from the top (the kernel's multi-touch protocol).
+pub const ABS_MT_POSITION_Y: u16 = 0x36;
+
+/// What touches, as a finger or a pen (the kernel's multi-touch protocol).
+pub const ABS_MT_TOOL_TYPE: u16 = 0x37;
+
+/// The group of contacts that one shape is made of (the kernel's multi-touch protocol).
+pub const ABS_MT_BLOB_ID: u16 = 0x38;
+
+/// A contact's id, or -1 where the slot has no contact (the kernel's multi-touch protocol).
+pub const ABS_MT_TRACKING_ID: u16 = 0x39;
+
+/// How hard a contact presses (the kernel's multi-touch protocol).
+pub const ABS_MT_PRESSURE: u16 = 0x3a;
+
+/// How far a tool is from the surface (the kernel's multi-touch protocol).
+pub const ABS_MT_DISTANCE: u16 = 0x3b;
+
+/// Where the middle of the tool is, from the left (the kernel's multi-touch protocol).
+pub const ABS_MT_TOOL_X: u16 = 0x3c;
+
+/// Where the middle of the tool is, from the top. It is the last of the axes whose values belong to slots (the
+/// kernel's multi-touch protocol).
+pub const ABS_MT_TOOL_Y: u16 = 0x3d;

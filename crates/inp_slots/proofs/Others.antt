@@ -1,0 +1,36 @@
+-- Neither an event that is not multi-touch nor a frame changes a slot. For whoever keeps slots beside a state.
+use Rattle.std.proofs.Common.{◌≡◌, ℕ, true, false, ℤ, pos, List, ◌∷◌, refl, sym, ◌∙◌, arith}
+use Rattle.std.proofs.lemmas.Bool.Decides.{nat_tests}
+use Rattle.std.specs.Prelude.{is_some}
+use Rattle.inp_model.specs.declared.event.TheConstants.{EV_ABS}
+use Rattle.inp_model.specs.declared.multi_touch.TheConstants.{ABS_MT_SLOT}
+use Rattle.inp_model.specs.declared.event.Event.{Event}
+use Rattle.inp_model.specs.Description.{Description, is_slot_code, is_multi_touch_code}
+use Rattle.inp_model.specs.Event.{is_on, is_multi_touch, is_slot_value}
+use Rattle.inp_model.specs.Passed.{passes_as}
+use Rattle.inp_slots.specs.Slots.{SlotValues, SlotsStandFor}
+use Rattle.inp_slots.proofs.Steps.{no_and, staged-stays, announced-stays, cell-stays}
+
+-- it is on no multi-touch code
+off_multi_touch : (d : Description) (code : ℕ) (e : Event) → is_multi_touch e ≡ false → is_multi_touch_code code ≡ true → is_on d EV_ABS code e ≡ false
+off_multi_touch d code e h k = grind (arith, nat_tests)
+
+-- it is no value of a slot
+no_slot_value : (e : Event) → is_multi_touch e ≡ false → is_slot_value e ≡ false
+no_slot_value e h = grind (arith, nat_tests)
+
+multi_touch-slot : (code : ℕ) → is_slot_code code ≡ true → is_multi_touch_code code ≡ true
+multi_touch-slot code h = grind (arith, nat_tests)
+
+-- what stood for the events before it stands for them with it
+pub SlotsStandFor-other : (d : Description) (r : List Event) (s : SlotValues) (e : Event) → is_multi_touch e ≡ false → SlotsStandFor d r s → SlotsStandFor d (e ∷ r) s
+SlotsStandFor-other d r s e m h = record {
+  count = h.count;
+  staged = h.staged ∙ sym (staged-stays d r e (off_multi_touch d ABS_MT_SLOT e m refl));
+  announced = h.announced ∙ sym (announced-stays d r e (no_and (is_slot_value e) (is_some (passes_as d r e)) (no_slot_value e m)));
+  values = λ slot code l k. h.values slot code l k ∙ sym (cell-stays d r e (pos slot) code (off_multi_touch d code e m (multi_touch-slot code k)));
+}
+
+-- a frame changes no slot: what stood for the events stands for them with another slot at the frame's end
+pub SlotsStandFor-frame : (d : Description) (r : List Event) (s : SlotValues) (slot : ℤ) → SlotsStandFor d r s → SlotsStandFor d r (record s { at_frame = slot })
+SlotsStandFor-frame d r s slot h = record { count = h.count; staged = h.staged; announced = h.announced; values = h.values }

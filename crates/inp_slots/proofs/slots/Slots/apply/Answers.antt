@@ -1,0 +1,113 @@
+use Rattle.std.proofs.Common.{◌≡◌, ◌∷◌, ℕ, true, false, ℤ, pos, Option, Some, None, length, nat_eq, sym, ap, subst, ◌∙◌, arith, rules, to_z, of_z, w32, FitsSigned}
+use Rattle.std.proofs.lemmas.Bool.Decides.{nat_tests}
+use Rattle.std.proofs.lemmas.Int.{to_z-of_z}
+use Rattle.std.specs.Prelude.{unwrap_or, vec_len}
+use Rattle.inp_model.specs.declared.event.TheConstants.{EV_ABS}
+use Rattle.inp_model.specs.declared.multi_touch.TheConstants.{ABS_MT_SLOT}
+use Rattle.inp_model.specs.declared.axis_info.AxisInfo.{AxisInfo}
+use Rattle.inp_model.specs.Description.{supports, is_slot_code, is_multi_touch_code}
+use Rattle.inp_slots.specs.Slots.{SlotValues, SlotsStandFor, touch}
+use Rattle.inp_slots.specs.Changes.{named}
+use Rattle.inp_slots.proofs.Touches.{unsupported-stands, name-stands, value-stands-without_slots, given-passes, passed-stands, kept-stands, passed-flags, kept-flags}
+use Rattle.inp_slots.proofs.slots.Slots.apply.Goals as goal
+
+slot_code_by : (code : ℕ) → is_multi_touch_code code ≡ true → (code ≡ ABS_MT_SLOT → ⊥) → is_slot_code code ≡ true
+slot_code_by code h k = grind (arith, nat_tests)
+
+none_by : (n : ℕ) → nat_eq n 0 ≡ true → n ≡ 0
+none_by n h = grind (arith, nat_tests)
+
+abbrev kept : ℤ → ℤ
+kept z = to_z w32 (of_z w32 z)
+
+pub returns-then-not-supports-clause-stands : goal.returns-then-not-supports-clause-stands
+returns-then-not-supports-clause-stands c =
+    let u : supports c.args.caps.now EV_ABS c.args.code ≡ false = sym c.supports.ensures.supported ∙ c.if-not-supports.true in
+    λ r h. unsupported-stands c.args.caps.now r c.args.self.now c.args.code c.args.value u h
+
+pub returns-then-code-eq-ABS_MT_SLOT-clause-stands : goal.returns-then-code-eq-ABS_MT_SLOT-clause-stands
+returns-then-code-eq-ABS_MT_SLOT-clause-stands c =
+    let u : supports c.args.caps.now EV_ABS c.args.code ≡ true = sym c.supports.ensures.supported ∙ c.if-not-supports.false in
+    let p : c.args.code ≡ ABS_MT_SLOT = c.if-code-eq-ABS_MT_SLOT.true in
+    let new : c.stage.new.self ≡ named c.args.self.now c.args.value =
+    c.stage.ensures ∙ ap (named c.args.self.now) (to_z-of_z w32 c.args.value c.ranges.value) in
+    λ r h. subst (SlotsStandFor c.args.caps.now (touch c.args.code c.args.value ∷ r)) (sym new)
+    (subst (λ (n : ℕ). SlotsStandFor c.args.caps.now (touch n c.args.value ∷ r) (named c.args.self.now c.args.value)) (sym p)
+    (name-stands c.args.caps.now r c.args.self.now c.args.value (subst (λ (n : ℕ). supports c.args.caps.now EV_ABS n ≡ true) p u) h))
+
+pub returns-then-is_empty-clause-stands : goal.returns-then-is_empty-clause-stands
+returns-then-is_empty-clause-stands c =
+    let u : supports c.args.caps.now EV_ABS c.args.code ≡ true = sym c.supports.ensures.supported ∙ c.if-not-supports.false in
+    let k = slot_code_by c.args.code c.requires.multi_touch c.if-code-eq-ABS_MT_SLOT.false in
+    let len : length c.self.inside.slots.items ≡ vec_len c.self.inside.slots = search rules in
+    let none : nat_eq (length c.self.inside.slots.items) 0 ≡ true = ap (λ (n : ℕ). nat_eq n 0) len ∙ sym c.is_empty.ensures ∙ c.if-is_empty.true in
+    let count : length c.self.inside.slots.items ≡ c.args.caps.now.slots = ap (λ (s : SlotValues). length s.slots) c.self.view_is ∙ c.requires.count in
+    let zero_is = none_by (length c.self.inside.slots.items) none in
+    let together : c.self.inside.staged ≡ c.self.inside.announced = omega (arith, zero_is, c.self.invariant) in
+    let same : c.args.self.now.staged ≡ c.args.self.now.announced =
+    sym (ap (λ (s : SlotValues). s.staged) c.self.view_is) ∙ ap pos together ∙ ap (λ (s : SlotValues). s.announced) c.self.view_is in
+    λ r h. value-stands-without_slots c.args.caps.now r c.args.self.now c.args.code c.args.value (subst (λ (n : ℕ). nat_eq n 0 ≡ true) count none) k u same h
+
+pub move_value-requires-clause-code : goal.move_value-requires-clause-code
+move_value-requires-clause-code c = slot_code_by c.args.code c.requires.multi_touch c.if-code-eq-ABS_MT_SLOT.false
+
+pub returns-in-Some-clause-stands : goal.returns-in-Some-clause-stands
+returns-in-Some-clause-stands c =
+    let u : supports c.args.caps.now EV_ABS c.args.code ≡ true = sym c.supports.ensures.supported ∙ c.if-not-supports.false in
+    let k = slot_code_by c.args.code c.requires.multi_touch c.if-code-eq-ABS_MT_SLOT.false in
+    let v = to_z-of_z w32 c.args.value c.ranges.value in
+    let fits : FitsSigned w32 c.axis.result.fuzz = search rules in
+    let f = to_z-of_z w32 c.axis.result.fuzz fits ∙ ap (λ (i : AxisInfo). i.fuzz) c.axis.ensures.axis in
+    let g = c.in-Some.ensures.change in
+    λ r h. passed-stands c.args.caps.now r c.args.self.now c.args.code c.args.value (kept c.args.value) (kept c.axis.result.fuzz) c.in-Some.taken c.move_value.new.self c.announce.new.self v f c.move_value.ensures.slots c.announce.ensures.slots (given-passes c.args.caps.now r c.args.self.now c.args.code c.args.value (kept c.args.value) (kept c.axis.result.fuzz) (Some c.in-Some.taken) v f g (record { supported = u; slot_code = k; there = c.move_value.ensures.staged; len = c.move_value.ensures.len; stands = h })) (record { supported = u; slot_code = k; there = c.move_value.ensures.staged; len = c.move_value.ensures.len; stands = h })
+
+pub returns-in-Some-clause-disposition : goal.returns-in-Some-clause-disposition
+returns-in-Some-clause-disposition c =
+    let u : supports c.args.caps.now EV_ABS c.args.code ≡ true = sym c.supports.ensures.supported ∙ c.if-not-supports.false in
+    let k = slot_code_by c.args.code c.requires.multi_touch c.if-code-eq-ABS_MT_SLOT.false in
+    let v = to_z-of_z w32 c.args.value c.ranges.value in
+    let fits : FitsSigned w32 c.axis.result.fuzz = search rules in
+    let f = to_z-of_z w32 c.axis.result.fuzz fits ∙ ap (λ (i : AxisInfo). i.fuzz) c.axis.ensures.axis in
+    let g = c.in-Some.ensures.change in
+    λ r h. passed-flags c.args.caps.now r c.args.self.now c.args.code c.args.value (kept c.args.value) (kept c.axis.result.fuzz) c.in-Some.taken c.move_value.new.self _ c.move_value.ensures.slots c.announce.ensures.disposition (given-passes c.args.caps.now r c.args.self.now c.args.code c.args.value (kept c.args.value) (kept c.axis.result.fuzz) (Some c.in-Some.taken) v f g (record { supported = u; slot_code = k; there = c.move_value.ensures.staged; len = c.move_value.ensures.len; stands = h })) (record { supported = u; slot_code = k; there = c.move_value.ensures.staged; len = c.move_value.ensures.len; stands = h })
+
+pub returns-in-Some-clause-value : goal.returns-in-Some-clause-value
+returns-in-Some-clause-value c =
+    let u : supports c.args.caps.now EV_ABS c.args.code ≡ true = sym c.supports.ensures.supported ∙ c.if-not-supports.false in
+    let k = slot_code_by c.args.code c.requires.multi_touch c.if-code-eq-ABS_MT_SLOT.false in
+    let v = to_z-of_z w32 c.args.value c.ranges.value in
+    let fits : FitsSigned w32 c.axis.result.fuzz = search rules in
+    let f = to_z-of_z w32 c.axis.result.fuzz fits ∙ ap (λ (i : AxisInfo). i.fuzz) c.axis.ensures.axis in
+    let g = c.in-Some.ensures.change in
+    let taken_fits : FitsSigned w32 c.in-Some.taken = search rules in
+    λ r h. to_z-of_z w32 c.in-Some.taken taken_fits ∙ sym (ap (λ (o : Option ℤ). unwrap_or o c.args.value) (given-passes c.args.caps.now r c.args.self.now c.args.code c.args.value (kept c.args.value) (kept c.axis.result.fuzz) (Some c.in-Some.taken) v f g (record { supported = u; slot_code = k; there = c.move_value.ensures.staged; len = c.move_value.ensures.len; stands = h })))
+
+pub returns-in-None-clause-stands : goal.returns-in-None-clause-stands
+returns-in-None-clause-stands c =
+    let u : supports c.args.caps.now EV_ABS c.args.code ≡ true = sym c.supports.ensures.supported ∙ c.if-not-supports.false in
+    let k = slot_code_by c.args.code c.requires.multi_touch c.if-code-eq-ABS_MT_SLOT.false in
+    let v = to_z-of_z w32 c.args.value c.ranges.value in
+    let fits : FitsSigned w32 c.axis.result.fuzz = search rules in
+    let f = to_z-of_z w32 c.axis.result.fuzz fits ∙ ap (λ (i : AxisInfo). i.fuzz) c.axis.ensures.axis in
+    let g = c.in-None.ensures.change in
+    λ r h. kept-stands c.args.caps.now r c.args.self.now c.args.code c.args.value (kept c.args.value) (kept c.axis.result.fuzz) c.move_value.new.self v f c.move_value.ensures.slots (given-passes c.args.caps.now r c.args.self.now c.args.code c.args.value (kept c.args.value) (kept c.axis.result.fuzz) None v f g (record { supported = u; slot_code = k; there = c.move_value.ensures.staged; len = c.move_value.ensures.len; stands = h })) (record { supported = u; slot_code = k; there = c.move_value.ensures.staged; len = c.move_value.ensures.len; stands = h })
+
+pub returns-in-None-clause-disposition : goal.returns-in-None-clause-disposition
+returns-in-None-clause-disposition c =
+    let u : supports c.args.caps.now EV_ABS c.args.code ≡ true = sym c.supports.ensures.supported ∙ c.if-not-supports.false in
+    let k = slot_code_by c.args.code c.requires.multi_touch c.if-code-eq-ABS_MT_SLOT.false in
+    let v = to_z-of_z w32 c.args.value c.ranges.value in
+    let fits : FitsSigned w32 c.axis.result.fuzz = search rules in
+    let f = to_z-of_z w32 c.axis.result.fuzz fits ∙ ap (λ (i : AxisInfo). i.fuzz) c.axis.ensures.axis in
+    let g = c.in-None.ensures.change in
+    λ r h. c.empty-in-None.ensures tt ∙ kept-flags c.args.caps.now r c.args.self.now c.args.code c.args.value (given-passes c.args.caps.now r c.args.self.now c.args.code c.args.value (kept c.args.value) (kept c.axis.result.fuzz) None v f g (record { supported = u; slot_code = k; there = c.move_value.ensures.staged; len = c.move_value.ensures.len; stands = h })) (record { supported = u; slot_code = k; there = c.move_value.ensures.staged; len = c.move_value.ensures.len; stands = h })
+
+pub returns-in-None-clause-value : goal.returns-in-None-clause-value
+returns-in-None-clause-value c =
+    let u : supports c.args.caps.now EV_ABS c.args.code ≡ true = sym c.supports.ensures.supported ∙ c.if-not-supports.false in
+    let k = slot_code_by c.args.code c.requires.multi_touch c.if-code-eq-ABS_MT_SLOT.false in
+    let v = to_z-of_z w32 c.args.value c.ranges.value in
+    let fits : FitsSigned w32 c.axis.result.fuzz = search rules in
+    let f = to_z-of_z w32 c.axis.result.fuzz fits ∙ ap (λ (i : AxisInfo). i.fuzz) c.axis.ensures.axis in
+    let g = c.in-None.ensures.change in
+    λ r h. v ∙ sym (ap (λ (o : Option ℤ). unwrap_or o c.args.value) (given-passes c.args.caps.now r c.args.self.now c.args.code c.args.value (kept c.args.value) (kept c.axis.result.fuzz) None v f g (record { supported = u; slot_code = k; there = c.move_value.ensures.staged; len = c.move_value.ensures.len; stands = h })))
