@@ -330,7 +330,7 @@ impl Device {
     fn is_open(&self, client: u32) -> bool
         ensures open { result ≡ is_open self.now.past client }
     {
-        client == 0 && self.handler.client().is_some()
+        client == 0 && self.handler.has_client()
     }
 
     // Whether the history has as many steps as it may have.

@@ -1,5 +1,5 @@
 //! The handler of the device's frames.
-ghost use Rattle.std.specs.Prelude.{◌≡◌, ◌≤◌, Some, None, length};
+ghost use Rattle.std.specs.Prelude.{◌≡◌, ◌≤◌, Some, None, is_some, length};
 ghost use Rattle.inp_model.specs.Reply.{written};
 ghost use Rattle.inp_device.specs.Queue.{offered_to, flushed_of, seen, first_of, rest_of};
 ghost use Rattle.inp_device.specs.Handler.{handled, asked};
@@ -56,11 +56,11 @@ impl Handler {
         }
     }
 
-    /// The queue of the client, if there is one.
-    pub fn client(&self) -> &Option<Queue>
-        ensures client { result.now ≡ self.now.client }
+    /// Whether there is a client.
+    pub fn has_client(&self) -> bool
+        ensures client { result ≡ is_some self.now.client }
     {
-        &self.client
+        self.client.is_some()
     }
 
     /// How many events the client may read, 0 where there is none.

@@ -5,7 +5,7 @@ use Rattle.inp_device.proofs.device.Device.is_open.Goals as goal
 pub returns-then-client-eq0 : goal.returns-then-client-eq0
 returns-then-client-eq0 c = record {
   «open» =
-      c.is_some.ensures ∙ ap is_some c.client.ensures.client
+      c.has_client.ensures.client
       ∙ ap (λ n. nat_eq n 0 && is_some c.self.inside.handler.client) (sym c.if-client-eq0.true)
       ∙ is_open-view c.self.inside.caps c.self.inside.core c.self.inside.handler _ _ c.args.client c.self.view_is c.self.invariant.0;
 }
