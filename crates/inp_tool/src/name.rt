@@ -29,7 +29,7 @@ impl Model for Name {
 impl Name {
     /// The name of these bytes, which are a name. It takes no memory.
     pub fn new(text: &[u8]) -> Name
-        requires { IsName text.now }
+        requires name { IsName text.now }
         ensures bytes { result ≡ text.now }
     {
         let mut bytes = [0; NAME_MAX];
