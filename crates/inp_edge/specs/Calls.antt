@@ -10,12 +10,12 @@ pub record Calls : Type 0 where
   pub faults : ℕ
 
 -- the next call is to fail; a count that stands at its end is no call's number
-abbrev pub fails_next : Calls → Bool
-fails_next calls = nat_lt calls.made LAST && list_any (λ n. n == calls.made) calls.fails
+abbrev pub is_next_to_fail : Calls → Bool
+is_next_to_fail calls = nat_lt calls.made LAST && list_any (λ n. n == calls.made) calls.fails
 
 -- the calls after one more, which was at fault or was not
-abbrev pub one_more : Calls → Bool → Calls
-one_more calls at_fault = record {
+abbrev pub calls_after : Calls → Bool → Calls
+calls_after calls at_fault = record {
   fails = calls.fails;
   made = min (calls.made + 1) LAST;
   faults = faults_after calls.faults at_fault;

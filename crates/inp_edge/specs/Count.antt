@@ -5,9 +5,9 @@ use Rattle.std.specs.Prelude.{ℕ, ◌+◌, ◌-◌, ◌^◌, ◌<◌, min, Bool
 abbrev pub LAST : ℕ
 LAST = 2 ^ 64 - 1
 
--- the count rose, or stands at its type's end
-abbrev pub Rose : ℕ → ℕ → Type 0
-Rose before after = before < LAST → before < after
+-- the count rose, or stood at its end before, where no call can raise it
+abbrev pub RoseUnlessSaturated : ℕ → ℕ → Type 0
+RoseUnlessSaturated before after = before < LAST → before < after
 
 -- a count after a call that was at fault or was not
 abbrev pub faults_after : ℕ → Bool → ℕ

@@ -5,5 +5,6 @@ pub mod FileInput
 pub mod Input
 pub mod MemInput
 pub mod MemSink
+pub mod OutSink
 pub mod ReadFault
 pub mod Sink

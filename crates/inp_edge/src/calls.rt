@@ -1,7 +1,8 @@
 // The calls of an input or a sink in memory, some of which are to fail.
 ghost use Rattle.std.specs.Prelude.{◌≡◌, ◌≤◌};
-ghost use Rattle.inp_edge.specs.Calls.{fails_next, one_more, no_calls};
+ghost use Rattle.inp_edge.specs.Calls.{is_next_to_fail, calls_after, no_calls};
 
+use crate::count::count_fault;
 use crate::items::Items;
 use std::marker::Model;
 
@@ -36,20 +37,18 @@ impl Calls {
         }
     }
 
-    pub(crate) fn fails_next(&self) -> bool
-        ensures { result ≡ fails_next self.now }
+    pub(crate) fn is_next_to_fail(&self) -> bool
+        ensures { result ≡ is_next_to_fail self.now }
     {
         self.made < u64::MAX && self.fails.as_slice().contains(&self.made)
     }
 
     pub(crate) fn count(&mut self, at_fault: bool)
-        ensures after { self.new ≡ one_more self.old at_fault }
+        ensures after { self.new ≡ calls_after self.old at_fault }
         ensures never_falls { self.old.faults ≤ self.new.faults }
     {
         self.made = self.made.saturating_add(1);
-        if at_fault {
-            self.faults = self.faults.saturating_add(1);
-        }
+        count_fault(&mut self.faults, at_fault);
     }
 
     pub(crate) fn faults(&self) -> u64

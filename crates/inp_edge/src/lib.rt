@@ -15,17 +15,21 @@
 //!   or what is told.
 //! - How many bytes were given since the last `begin` is always told.
 //! - A call answers [`Failed`] only where the input's count of faults rose, or where no file has the
-//!   name that was asked for. The count never falls.
+//!   name that was asked for. Otherwise the count is as before, and the file is there.
 //!
 //! [`MemInput`] has its files in memory, tells all, and fails exactly at the calls that it was told
-//! to fail. [`FileInput`] reads real files and tells no bytes.
+//! to fail. [`FileInput`] reads real files. Each of its answers is the runtime's: the file begun is
+//! the one that the runtime opened, a read of it is one read by the runtime, and each error is a
+//! fault.
 //!
 //! # Writing
 //!
 //! A [`Sink`] takes bytes. It may tell contracts what was written. [`write_all`] writes all of a
 //! text; where it fails, what was written is a front part of it and not the whole. A call answers
-//! [`Failed`] only where the sink's count of faults rose. [`MemSink`] writes to memory and tells all;
-//! [`OutSink`] writes to the standard output and tells no bytes.
+//! [`Failed`] only where the sink's count of faults rose, and otherwise the count is as before.
+//! [`MemSink`] writes to memory and tells all. [`OutSink`] writes to the standard output, by one call
+//! of the runtime for each write, whose answer it hands on; an error is a fault, and so is a call that
+//! took nothing.
 //!
 //! # The gate
 //!
@@ -34,11 +38,14 @@
 //!
 //! # What is not said
 //!
-//! Nothing is proved of real files or of the standard output beyond the count of faults. That
-//! `FileInput` and `OutSink` read and write at all is shown by tests alone.
+//! That the file which the runtime opens is the one of that name on the disk, that its reads give
+//! the bytes of that file, and that what is written reaches the standard output: no clause of the
+//! runtime says so. Tests over real files and over a printer of their own show that `FileInput` and
+//! `OutSink` read and write at all.
 #![tactic(auto)]
 
 mod calls;
+mod count;
 mod fault;
 mod file_input;
 mod gate;

@@ -1,6 +1,6 @@
 // An input in memory.
 ghost use Rattle.std.specs.Prelude.{◌≡◌, ◌+◌, ◌≤◌, ◌<◌, ◌↔◌, ◌⊎◌, [], Some, None, min, take, drop, length, IsTrue, IsErr, IfOk, OnOk, OnErr, IfSome, MatchOption};
-ghost use Rattle.inp_edge.specs.Calls.{fails_next, one_more, no_calls};
+ghost use Rattle.inp_edge.specs.Calls.{is_next_to_fail, calls_after, no_calls};
 ghost use Rattle.inp_edge.specs.Count.{LAST};
 ghost use Rattle.inp_edge.specs.File.{bytes_of};
 ghost use Rattle.inp_edge.specs.MemInput.{bytes_at};
@@ -38,7 +38,8 @@ impl Model for MemInput {
       calls = m.calls;
     } };
 
-    ghost invariant = { λ m. IsPlaceIn m.files m.begun × (m.remaining ≤ length (bytes_at m.files m.begun)) };
+    ghost invariant = { λ m. IsPlaceIn m.files m.begun
+        × (m.remaining ≤ length (bytes_at m.files m.begun)) };
 }
 
 impl MemInput {
@@ -93,15 +94,17 @@ impl Input for MemInput {
     /// count of faults.
     fn begin(&mut self, name: &str) -> Result<(), Failed>
         ensures same_files { self.new.files ≡ self.old.files }
-        ensures calls { self.new.calls ≡ one_more self.old.calls (fails_next self.old.calls) }
+        ensures calls { self.new.calls
+            ≡ calls_after self.old.calls (is_next_to_fail self.old.calls) }
         ensures never_falls { self.old.calls.faults ≤ self.new.calls.faults }
         ensures given { self.new.given ≡ 0 }
         ensures ok { OnOk result (bytes_of self.old.files name.now ≡ Some self.new.left) }
         ensures err { OnErr result (self.new.left ≡ []) }
         ensures fails { IsErr result
-            ↔ (IsTrue (fails_next self.old.calls) ⊎ (bytes_of self.old.files name.now ≡ None)) }
+            ↔ (IsTrue (is_next_to_fail self.old.calls)
+            ⊎ (bytes_of self.old.files name.now ≡ None)) }
     {
-        let at_fault = self.calls.fails_next();
+        let at_fault = self.calls.is_next_to_fail();
         self.calls.count(at_fault);
         self.given = 0;
         self.remaining = 0;
@@ -119,7 +122,8 @@ impl Input for MemInput {
     fn read(&mut self, buf: &mut [u8]) -> Result<usize, Failed>
         requires room { 0 < length buf.old }
         ensures same_files { self.new.files ≡ self.old.files }
-        ensures calls { self.new.calls ≡ one_more self.old.calls (fails_next self.old.calls) }
+        ensures calls { self.new.calls
+            ≡ calls_after self.old.calls (is_next_to_fail self.old.calls) }
         ensures never_falls { self.old.calls.faults ≤ self.new.calls.faults }
         ensures count { IfOk result (λ n. n ≡ min (length self.old.left) (length buf.old)) }
         ensures front { IfOk result (λ n. take n buf.new ≡ take n self.old.left) }
@@ -127,9 +131,9 @@ impl Input for MemInput {
         ensures given { IfOk result (λ n. self.new.given ≡ min (self.old.given + n) LAST) }
         ensures err_left { OnErr result (self.new.left ≡ self.old.left) }
         ensures err_given { OnErr result (self.new.given ≡ self.old.given) }
-        ensures fails { IsErr result ↔ IsTrue (fails_next self.old.calls) }
+        ensures fails { IsErr result ↔ IsTrue (is_next_to_fail self.old.calls) }
     {
-        let at_fault = self.calls.fails_next();
+        let at_fault = self.calls.is_next_to_fail();
         self.calls.count(at_fault);
         if at_fault {
             return Err(Failed);

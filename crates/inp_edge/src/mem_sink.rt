@@ -1,6 +1,6 @@
 // A sink in memory.
 ghost use Rattle.std.specs.Prelude.{◌≡◌, ◌+◌, ◌≤◌, ◌<◌, ◌↔◌, ◌⊎◌, ◌||◌, ◌==◌, [], ◌++◌, Some, min, take, length, IsTrue, IsErr, IfOk, OnErr};
-ghost use Rattle.inp_edge.specs.Calls.{fails_next, one_more, no_calls};
+ghost use Rattle.inp_edge.specs.Calls.{is_next_to_fail, calls_after, no_calls};
 
 use crate::calls::{Calls, Fails};
 use crate::fault::{Failed, NoMemory};
@@ -73,7 +73,7 @@ impl Sink for MemSink {
     fn write(&mut self, buf: &[u8]) -> Result<usize, Failed>
         requires bytes { 0 < length buf.now }
         ensures calls { self.new.calls
-            ≡ one_more self.old.calls (fails_next self.old.calls || self.old.room == 0) }
+            ≡ calls_after self.old.calls (is_next_to_fail self.old.calls || self.old.room == 0) }
         ensures never_falls { self.old.calls.faults ≤ self.new.calls.faults }
         ensures count { IfOk result (λ n. n ≡ min self.old.room (length buf.now)) }
         ensures written { IfOk result (λ n. self.new.written ≡ self.old.written ++ take n buf.now) }
@@ -81,9 +81,9 @@ impl Sink for MemSink {
         ensures err_written { OnErr result (self.new.written ≡ self.old.written) }
         ensures err_room { OnErr result (self.new.room ≡ self.old.room) }
         ensures fails { IsErr result
-            ↔ (IsTrue (fails_next self.old.calls) ⊎ (self.old.room ≡ 0)) }
+            ↔ (IsTrue (is_next_to_fail self.old.calls) ⊎ (self.old.room ≡ 0)) }
     {
-        let at_fault = self.calls.fails_next() || self.room == 0;
+        let at_fault = self.calls.is_next_to_fail() || self.room == 0;
         self.calls.count(at_fault);
         if at_fault {
             return Err(Failed);

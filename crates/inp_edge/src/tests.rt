@@ -1,10 +1,10 @@
 // The edge at work: what no clause says, and each call once.
 use crate::{
-    Failed, Fails, FileInput, Gate, INPUT_LIMIT, Items, MemFile, MemFiles, MemInput, MemSink,
-    OpenGate, OutSink, ReadFault, read_all, write_all,
+    Failed, Fails, FileInput, Gate, INPUT_LIMIT, Input, Items, MemFile, MemFiles, MemInput,
+    MemSink, OpenGate, OutSink, ReadFault, read_all, write_all,
 };
 use std::alloc::{AllocError, Global};
-use std::cell::RefCell;
+use std::cell::{Cell, RefCell};
 use std::fmt::Display;
 use std::io::ErrorKind;
 use std::rt::Files;
@@ -96,10 +96,48 @@ fn reads_real_files(rt: HostRuntime) -> Result<(), Fail> {
     Ok(())
 }
 
-// A runtime that keeps what is printed, three bytes a call at most, and then has no room.
+// Reads a real file, one piece of 16 bytes.
+fn read_piece<I: Input>(input: &mut I) -> Result<usize, Failed> {
+    input.read(&mut [0; 16])
+}
+
+#[test]
+fn fails_at_each_read_of_a_folder(rt: HostRuntime) -> Result<(), Fail> {
+    let mut input = FileInput::new(&rt);
+    assert_eq!(rt; input.begin("."), Ok(()));
+    assert_eq!(rt; input.faults(), 0);
+    for faults in 1..4 {
+        assert_eq!(rt; read_piece(&mut input), Err(Failed));
+        assert_eq!(rt; input.faults(), faults);
+    }
+    let read = read_all(rt.alloc(), &mut input, ".");
+    assert_eq!(rt; read.map(|bytes| bytes.len()), Err(ReadFault::Failed));
+    assert_eq!(rt; input.faults(), 4);
+    Ok(())
+}
+
+#[test]
+fn leaves_a_file_for_a_missing_one(rt: HostRuntime) -> Result<(), Fail> {
+    let path = "inp_edge_leaves_a_file_for_a_missing_one";
+    fs::write(&rt, path, sample(rt.alloc(), 100)?.as_slice())?;
+    let mut input = FileInput::new(&rt);
+    assert_eq!(rt; read_piece(&mut input), Ok(0), "none is begun");
+    assert_eq!(rt; input.begin(path), Ok(()));
+    assert_eq!(rt; read_piece(&mut input), Ok(16));
+    assert_eq!(rt; input.begin("no such file"), Err(Failed));
+    assert_eq!(rt; read_piece(&mut input), Ok(0), "none is begun");
+    assert_eq!(rt; input.faults(), 1);
+    rt.remove_file(path)?;
+    Ok(())
+}
+
+// A runtime that keeps what is printed, three bytes a call at most, and then has no room. It counts
+// its calls, and the call of one number answers an error.
 struct Tape {
     bytes: RefCell<Vec<u8>>,
     room: usize,
+    calls: Cell<u64>,
+    fails: u64,
 }
 
 impl Print for Tape {
@@ -116,6 +154,11 @@ impl Print for Tape {
     }
 
     fn write_some(&self, bytes: &[u8]) -> io::Result<usize> {
+        let call = self.calls.get();
+        self.calls.set(call.saturating_add(1));
+        if call == self.fails {
+            return Err(io::Error::from(ErrorKind::Interrupted));
+        }
         let mut kept = match self.bytes.try_borrow_mut() {
             Ok(kept) => kept,
             Err(_) => return Err(io::Error::from(ErrorKind::Other)),
@@ -128,15 +171,39 @@ impl Print for Tape {
 
 #[test]
 fn writes_to_the_standard_output(rt: HostRuntime) -> Result<(), Fail> {
-    let table = [(20, Ok(()), "hello, tape", 0), (5, Err(Failed), "hello", 1)];
-    for (room, want, written, faults) in table {
+    // The room, the call that answers an error, the answer, what was written, and how many calls of the
+    // runtime there were, the last of which is the only one at fault.
+    let failed = Err(Failed);
+    let table = [
+        (20, 9, Ok(()), "hello, tape", 4),
+        (5, 9, failed, "hello", 3),
+        (20, 0, failed, "", 1),
+        (20, 1, failed, "hel", 2),
+        (20, 3, failed, "hello, ta", 4),
+    ];
+    for (room, fails, want, written, calls) in table {
         let bytes = RefCell::new(Vec::new(rt.alloc()));
-        let tape = Tape { bytes, room };
+        let tape = Tape {
+            bytes,
+            room,
+            calls: Cell::new(0),
+            fails,
+        };
         let mut out = OutSink::new(&tape);
-        assert_eq!(rt; write_all(&mut out, b"hello, tape"), want, "{room}");
-        assert_eq!(rt; out.faults(), faults, "{room}");
-        let Tape { bytes, room: _ } = tape;
-        assert_eq!(rt; bytes.into_inner().as_slice(), written.as_bytes(), "{room}");
+        assert_eq!(rt; write_all(&mut out, b"hello, tape"), want, "{room} {fails}");
+        assert_eq!(rt; out.faults(), u64::from(want.is_err()), "{room} {fails}");
+        assert_eq!(rt; tape.calls.get(), calls, "{room} {fails}");
+        let Tape {
+            bytes,
+            room: _,
+            calls: _,
+            fails: _,
+        } = tape;
+        assert_eq!(rt;
+            bytes.into_inner().as_slice(),
+            written.as_bytes(),
+            "{room} {fails}"
+        );
     }
     Ok(())
 }

@@ -16,7 +16,7 @@ invariant-loop-bytes g l = record {
   read : HasRead (g.I.Input.files l.fn.input) l.fn.name l.bytes.items (g.I.Input.left l.input);
   files_stay : g.I.Input.files l.input ≡ g.I.Input.files l.fn.input;
   stays_told : is_some (g.I.Input.left l.input) ≡ is_some (g.I.Input.left l.fn.input);
-  never_falls : g.I.Input.faults l.fn.input ≤ g.I.Input.faults l.input;
+  faults_stay : g.I.Input.faults l.input ≡ g.I.Input.faults l.fn.input;
 }
 
 abbrev pub decreases-loop-bytes : goal.decreases-loop-bytes

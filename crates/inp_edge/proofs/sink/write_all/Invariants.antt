@@ -6,7 +6,7 @@ abbrev pub invariant-loop-done : goal.invariant-loop-done
 invariant-loop-done g l = record {
   within : l.done ≤ length l.bytes;
   appended : Appends (take l.done l.bytes) (g.O.Sink.written l.fn.out) (g.O.Sink.written l.out);
-  never_falls : g.O.Sink.faults l.fn.out ≤ g.O.Sink.faults l.out;
+  faults_stay : g.O.Sink.faults l.out ≡ g.O.Sink.faults l.fn.out;
   no_call : l.done ≡ 0 → l.out ≡ l.fn.out;
 }
 

@@ -1,5 +1,5 @@
 use Rattle.std.proofs.Common.{refl}
-use Rattle.inp_edge.proofs.Untold.{OnOk-always, IfOk-always, OnErr-always, Rose-on_err, Rose-on_err_or}
+use Rattle.inp_edge.proofs.Untold.{OnOk-always, IfOk-always, OnErr-always, faults_stay-on_ok, RoseUnlessSaturated-on_err, RoseUnlessSaturated-on_err_or}
 use Rattle.inp_edge.proofs.file_input.FileInputInput.TheImpl.Goals as goal
 
 pub begin-tells : goal.begin-tells
@@ -8,9 +8,11 @@ begin-tells g c = record {
   stays_told = refl;
   restarts = c.ensures.restarts;
   opened = OnOk-always _ c.result tt;
+  found = OnOk-always _ c.result (λ h. h);
   closed = OnErr-always _ c.result tt;
   never_falls = c.ensures.never_falls;
-  failed = Rose-on_err_or _ c.result _ _ c.ensures.counts;
+  faults_stay = faults_stay-on_ok c.result _ _ c.ensures.counts;
+  failed = RoseUnlessSaturated-on_err_or _ c.result _ _ c.ensures.counts;
 }
 
 pub read-tells : goal.read-tells
@@ -23,5 +25,6 @@ read-tells g c = record {
   left_stays = OnErr-always _ c.result refl;
   given_stays = c.ensures.err;
   never_falls = c.ensures.never_falls;
-  failed = Rose-on_err c.result _ _ c.ensures.counts;
+  faults_stay = faults_stay-on_ok c.result _ _ c.ensures.counts;
+  failed = RoseUnlessSaturated-on_err c.result _ _ c.ensures.counts;
 }

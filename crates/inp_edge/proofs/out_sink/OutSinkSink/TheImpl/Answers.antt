@@ -1,5 +1,5 @@
 use Rattle.std.proofs.Common.{refl}
-use Rattle.inp_edge.proofs.Untold.{IfOk-always, OnErr-always, Rose-on_err}
+use Rattle.inp_edge.proofs.Untold.{IfOk-always, OnErr-always, faults_stay-on_ok, RoseUnlessSaturated-on_err}
 use Rattle.inp_edge.proofs.out_sink.OutSinkSink.TheImpl.Goals as goal
 
 pub write-tells : goal.write-tells
@@ -9,5 +9,6 @@ write-tells g c = record {
   appended = IfOk-always _ c.result (λ _. tt);
   unwritten = OnErr-always _ c.result refl;
   never_falls = c.ensures.never_falls;
-  failed = Rose-on_err c.result _ _ c.ensures.counts;
+  faults_stay = faults_stay-on_ok c.result _ _ c.ensures.counts;
+  failed = RoseUnlessSaturated-on_err c.result _ _ c.ensures.counts;
 }
