@@ -9,6 +9,8 @@ use inp_model::Event;
 /// report.
 pub const FRAME_MAX: usize = 514;
 
+const _: () = prove!(FRAME_MAX == inp_model::HINT_MAX as usize + 2);
+
 /// Who takes the frames of a device, one at a time, as the kernel's handlers do.
 pub trait Frames {
     /// What a taker makes of a frame: the taker before it, the frame's events, its moment in microseconds, and the taker

@@ -3,14 +3,24 @@
 /// The greatest number of multi-touch slots (this project's choice).
 pub const SLOTS_MAX: u32 = 64;
 
+const _: () = prove!(SLOTS_MAX == 64);
+
 /// The least hint of events per packet (this project's choice).
 pub const HINT_MIN: u32 = 2;
+
+const _: () = prove!(HINT_MIN == 2);
 
 /// The greatest hint of events per packet (this project's choice).
 pub const HINT_MAX: u32 = 512;
 
+const _: () = prove!(HINT_MAX == 512);
+
 /// The greatest log limit, in steps (this project's choice).
 pub const LOG_MAX: u32 = 8_388_608;
 
+const _: () = prove!(LOG_MAX == 8 * 1024 * 1024);
+
 /// The greatest fuzz of an axis (this project's choice).
 pub const FUZZ_MAX: i32 = 1_073_741_824;
+
+const _: () = prove!(FUZZ_MAX == 1024 * 1024 * 1024);

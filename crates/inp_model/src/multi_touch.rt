@@ -6,9 +6,13 @@
 /// The axis that names the slot of the values behind it (the kernel's multi-touch protocol).
 pub const ABS_MT_SLOT: u16 = 0x2f;
 
+const _: () = prove!(ABS_MT_SLOT == 47);
+
 /// The long axis of the area that a contact covers. It is the first of the axes whose values belong to slots (the
 /// kernel's multi-touch protocol).
 pub const ABS_MT_TOUCH_MAJOR: u16 = 0x30;
+
+const _: () = prove!(ABS_MT_TOUCH_MAJOR == 48);
 
 /// The short axis of the area that a contact covers (the kernel's multi-touch protocol).
 pub const ABS_MT_TOUCH_MINOR: u16 = 0x31;
@@ -25,8 +29,12 @@ pub const ABS_MT_ORIENTATION: u16 = 0x34;
 /// Where the middle of a contact is, from the left (the kernel's multi-touch protocol).
 pub const ABS_MT_POSITION_X: u16 = 0x35;
 
+const _: () = prove!(ABS_MT_POSITION_X == 53);
+
 /// Where the middle of a contact is, from the top (the kernel's multi-touch protocol).
 pub const ABS_MT_POSITION_Y: u16 = 0x36;
+
+const _: () = prove!(ABS_MT_POSITION_Y == 54);
 
 /// What touches, as a finger or a pen (the kernel's multi-touch protocol).
 pub const ABS_MT_TOOL_TYPE: u16 = 0x37;
@@ -36,6 +44,8 @@ pub const ABS_MT_BLOB_ID: u16 = 0x38;
 
 /// A contact's id, or -1 where the slot has no contact (the kernel's multi-touch protocol).
 pub const ABS_MT_TRACKING_ID: u16 = 0x39;
+
+const _: () = prove!(ABS_MT_TRACKING_ID == 57);
 
 /// How hard a contact presses (the kernel's multi-touch protocol).
 pub const ABS_MT_PRESSURE: u16 = 0x3a;
@@ -49,3 +59,5 @@ pub const ABS_MT_TOOL_X: u16 = 0x3c;
 /// Where the middle of the tool is, from the top. It is the last of the axes whose values belong to slots (the
 /// kernel's multi-touch protocol).
 pub const ABS_MT_TOOL_Y: u16 = 0x3d;
+
+const _: () = prove!(ABS_MT_TOOL_Y == 61);

@@ -5,6 +5,8 @@ use crate::Event;
 /// The greatest moment, in microseconds (this project's choice).
 pub const MOMENT_MAX: u64 = 9_000_000_000_000_000;
 
+const _: () = prove!(MOMENT_MAX == 9_000_000 * 1_000_000_000);
+
 /// An event with the moment at which it is injected.
 #[derive(Clone, Copy, Debug, PartialEq, Eq)]
 pub struct Stamped {
