@@ -16,7 +16,7 @@ use Rattle.inp_tool.specs.declared.line.Line.{Line}
 use Rattle.inp_tool.specs.declared.sight.Sight.{Sight}
 use Rattle.inp_tool.specs.Line.{actor_of, step_of}
 use Rattle.inp_tool.specs.Play.{answer_to, client_after, sights_by}
-use Rattle.inp_tool.specs.Player.{Playing, after, count_taken, lacks_memory, IsMade}
+use Rattle.inp_tool.specs.Player.{PlayerView, after, count_taken, lacks_memory, IsMade}
 
 -- a refusal writes nothing
 counted_by : (b c d e f : Bool) (at n : ℕ) (given : Answer) → count_taken given.reply ≡ length given.events → let a = answer_by (if b then Some (Refused at BadClient) else if c then Some (Refused at BadKind) else if d then Some (Refused at BadCode) else if e then Some (Again at n) else if f then Some (Refused at LogFull) else None) given in count_taken a.reply ≡ length a.events
@@ -63,29 +63,29 @@ is_made d past x reply out new_out cells new_cells new_past m no_lack =
     }
 
 -- what an actor's step makes of what stands
-abbrev after_step : Playing → ℕ → Step → Reply → List Taken → Playing
+abbrev after_step : PlayerView → ℕ → Step → Reply → List Taken → PlayerView
 after_step p actor x reply events = record {
   stage = record { past = past_after reply x p.stage.past; client = client_after p.stage.client reply };
   source = (if nat_eq actor SOURCE then p.source ++ sights_by x reply events else p.source);
   tap = (if nat_eq actor TAP then p.tap ++ sights_by x reply events else p.tap);
 }
 
-after-is : (p : Playing) (line : Line) → after p line ≡ after_step p (actor_of line) (step_of p.stage.client line) (answer_to one_key p.stage line).reply (answer_to one_key p.stage line).events
+after-is : (p : PlayerView) (line : Line) → after p line ≡ after_step p (actor_of line) (step_of p.stage.client line) (answer_to one_key p.stage line).reply (answer_to one_key p.stage line).events
 unfolding after
 after-is p line = refl
 
-source_step : (p : Playing) (actor : ℕ) (x : Step) (r s : Reply) (es fs : List Taken) (new_past : List Step) (new_client : ℕ) (new_source : List Sight)
+source_step : (p : PlayerView) (actor : ℕ) (x : Step) (r s : Reply) (es fs : List Taken) (new_past : List Step) (new_client : ℕ) (new_source : List Sight)
     → r ≡ s → es ≡ fs → new_past ≡ past_after r x p.stage.past → new_client ≡ client_after p.stage.client r → actor ≡ SOURCE → new_source ≡ p.source ++ sights_by x r es
     → record { stage = record { past = new_past; client = new_client }; source = new_source; tap = p.tap } ≡ after_step p actor x s fs
 source_step p actor x r s es fs new_past new_client new_source a b c d e f = cc
 
-tap_step : (p : Playing) (actor : ℕ) (x : Step) (r s : Reply) (es fs : List Taken) (new_past : List Step) (new_client : ℕ) (new_tap : List Sight)
+tap_step : (p : PlayerView) (actor : ℕ) (x : Step) (r s : Reply) (es fs : List Taken) (new_past : List Step) (new_client : ℕ) (new_tap : List Sight)
     → r ≡ s → es ≡ fs → new_past ≡ past_after r x p.stage.past → new_client ≡ client_after p.stage.client r → actor ≡ TAP → new_tap ≡ p.tap ++ sights_by x r es
     → record { stage = record { past = new_past; client = new_client }; source = p.source; tap = new_tap } ≡ after_step p actor x s fs
 tap_step p actor x r s es fs new_past new_client new_tap a b c d e f = cc
 
 -- the source's line
-pub after-source : (p : Playing) (line : Line) (reply : Reply) (new_past : List Step) (new_client : ℕ) (new_out : List Taken) (new_source : List Sight)
+pub after-source : (p : PlayerView) (line : Line) (reply : Reply) (new_past : List Step) (new_client : ℕ) (new_out : List Taken) (new_source : List Sight)
     → IsMade one_key p.stage.past (step_of p.stage.client line) reply new_out new_past → new_client ≡ client_after p.stage.client reply → actor_of line ≡ SOURCE
     → new_source ≡ p.source ++ sights_by (step_of p.stage.client line) reply (take (count_taken reply) new_out)
     → record { stage = record { past = new_past; client = new_client }; source = new_source; tap = p.tap } ≡ after p line
@@ -95,7 +95,7 @@ after-source p line reply new_past new_client new_out new_source made c actor s 
     ∙ sym (after-is p line)
 
 -- the tap's line
-pub after-tap : (p : Playing) (line : Line) (reply : Reply) (new_past : List Step) (new_client : ℕ) (new_out : List Taken) (new_tap : List Sight)
+pub after-tap : (p : PlayerView) (line : Line) (reply : Reply) (new_past : List Step) (new_client : ℕ) (new_out : List Taken) (new_tap : List Sight)
     → IsMade one_key p.stage.past (step_of p.stage.client line) reply new_out new_past → new_client ≡ client_after p.stage.client reply → actor_of line ≡ TAP
     → new_tap ≡ p.tap ++ sights_by (step_of p.stage.client line) reply (take (count_taken reply) new_out)
     → record { stage = record { past = new_past; client = new_client }; source = p.source; tap = new_tap } ≡ after p line

@@ -5,7 +5,7 @@ use Rattle.std.proofs.lemmas.List.{take-append-drop, take_all}
 use Rattle.std.proofs.lemmas.List.Folds.{list_all_at}
 use Rattle.std.proofs.lemmas.List.Sums.{fold-append, fold_more}
 use Rattle.std.proofs.lemmas.Bool.Decides.{nat_tests}
-use Rattle.inp_tool.specs.Numeral.{is_digit, value_of, is_numeral, number, signed}
+use Rattle.inp_tool.specs.Numeral.{is_digit, value_of, is_numeral, number, signed_number}
 
 -- a digit more makes a value no smaller
 fold-grows : (start : ℕ) (digits : List ℕ) → start ≤ fold (λ value b. 10 * value + (b - 48)) start digits
@@ -47,18 +47,18 @@ number_is most (b ∷ digits) h e k =
     let less : nat_le (value_of (b ∷ digits)) most ≡ true = grind (arith, nat_tests) in
     rw e (rw less)
 
-pub signed_minus : (word : List ℕ) → 0 < length word → get_or word 0 0 ≡ 45 → signed word ≡ option_map (λ n. neg_ℤ (pos n)) (number (2 ^ 31) (take (length word - 1) (drop 1 word)))
-unfolding signed
-signed_minus [] h e = absurd (omega arith)
-signed_minus (b ∷ digits) h e =
+pub signed_number_minus : (word : List ℕ) → 0 < length word → get_or word 0 0 ≡ 45 → signed_number word ≡ option_map (λ n. neg_ℤ (pos n)) (number (2 ^ 31) (take (length word - 1) (drop 1 word)))
+unfolding signed_number
+signed_number_minus [] h e = absurd (omega arith)
+signed_number_minus (b ∷ digits) h e =
     let minus : nat_eq b 45 ≡ true = grind (arith, nat_tests) in
     let whole : take (length (b ∷ digits) - 1) (drop 1 (b ∷ digits)) ≡ digits = take_all (length (b ∷ digits) - 1) digits (omega arith) in
     rw (minus, whole)
 
-pub signed_plain : (word : List ℕ) → (0 < length word → get_or word 0 0 ≢ 45) → signed word ≡ option_map (λ n. pos n) (number (2 ^ 31 - 1) word)
-unfolding signed
-signed_plain [] h = sym (ap (option_map (λ n. pos n)) (number_empty (2 ^ 31 - 1) [] refl))
-signed_plain (b ∷ digits) h =
+pub signed_number_plain : (word : List ℕ) → (0 < length word → get_or word 0 0 ≢ 45) → signed_number word ≡ option_map (λ n. pos n) (number (2 ^ 31 - 1) word)
+unfolding signed_number
+signed_number_plain [] h = sym (ap (option_map (λ n. pos n)) (number_empty (2 ^ 31 - 1) [] refl))
+signed_number_plain (b ∷ digits) h =
     let other : b ≢ 45 = h (omega arith) in
     let plain : nat_eq b 45 ≡ false = grind (arith, nat_tests) in
     rw plain

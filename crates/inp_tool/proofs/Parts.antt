@@ -12,34 +12,34 @@ use Rattle.inp_tool.specs.Numeral.{number}
 use Rattle.inp_tool.specs.declared.refused.ParseFault.{ParseFault}
 use Rattle.inp_tool.specs.declared.refused.ParseFault.TheVariants.{Refused as IsRefused, NoMemory}
 use Rattle.inp_tool.specs.declared.refused.Cause.TheVariants.{NotBuilt}
-use Rattle.inp_tool.specs.Record.{Gives, pieces, words, ◌>>=◌, whole, fixed, named, word, is_command, event_of, line_of, is_open, in_place, lines_from}
+use Rattle.inp_tool.specs.Record.{IsMeaningUnlessNoMemory, pieces, words, ◌>>=◌, line_and_rest, rest_behind, name_and_rest, word, is_command, event_of, line_of, is_open, line_in_place, lines_from}
 use Rattle.inp_tool.proofs.Splits.{pieces_cons}
 
-pub whole_none : (line : ℕ) (text : List ℕ) → pieces text ≡ text ∷ [] → whole line (pieces text) ≡ Err line
-whole_none line text e = rw e
+pub line_and_rest_none : (line : ℕ) (text : List ℕ) → pieces text ≡ text ∷ [] → line_and_rest line (pieces text) ≡ Err line
+line_and_rest_none line text e = rw e
 
-pub whole_some : (line : ℕ) (text first rest : List ℕ) → pieces text ≡ first ∷ pieces rest → whole line (pieces text) ≡ Ok (first, pieces rest)
-whole_some line text first rest e = let more = pieces_cons rest in rw (e, more.2)
+pub line_and_rest_some : (line : ℕ) (text first rest : List ℕ) → pieces text ≡ first ∷ pieces rest → line_and_rest line (pieces text) ≡ Ok (first, pieces rest)
+line_and_rest_some line text first rest e = let more = pieces_cons rest in rw (e, more.2)
 
-pub fixed_none : (line : ℕ) (wanted text : List ℕ) → pieces text ≡ text ∷ [] → fixed line wanted (pieces text) ≡ Err line
-unfolding fixed
-fixed_none line wanted text e = rw (whole_none line text e)
+pub rest_behind_none : (line : ℕ) (wanted text : List ℕ) → pieces text ≡ text ∷ [] → rest_behind line wanted (pieces text) ≡ Err line
+unfolding rest_behind
+rest_behind_none line wanted text e = rw (line_and_rest_none line text e)
 
-pub fixed_some : (line : ℕ) (wanted text first rest : List ℕ) → pieces text ≡ first ∷ pieces rest → fixed line wanted (pieces text) ≡ (if bytes_eq first wanted then Ok (pieces rest) else Err line)
-unfolding fixed
-fixed_some line wanted text first rest e = rw (whole_some line text first rest e)
+pub rest_behind_some : (line : ℕ) (wanted text first rest : List ℕ) → pieces text ≡ first ∷ pieces rest → rest_behind line wanted (pieces text) ≡ (if bytes_eq first wanted then Ok (pieces rest) else Err line)
+unfolding rest_behind
+rest_behind_some line wanted text first rest e = rw (line_and_rest_some line text first rest e)
 
-pub named_none : (line : ℕ) (keyword text : List ℕ) → pieces text ≡ text ∷ [] → named line keyword (pieces text) ≡ Err line
-unfolding named
-named_none line keyword text e = rw (whole_none line text e)
+pub name_and_rest_none : (line : ℕ) (keyword text : List ℕ) → pieces text ≡ text ∷ [] → name_and_rest line keyword (pieces text) ≡ Err line
+unfolding name_and_rest
+name_and_rest_none line keyword text e = rw (line_and_rest_none line text e)
 
-pub named_other : (line : ℕ) (keyword text first rest : List ℕ) → pieces text ≡ first ∷ pieces rest → nat_eq (length (words first)) 2 ≡ false → named line keyword (pieces text) ≡ Err line
-unfolding named
-named_other line keyword text first rest e h = rw (whole_some line text first rest e, h)
+pub name_and_rest_other : (line : ℕ) (keyword text first rest : List ℕ) → pieces text ≡ first ∷ pieces rest → nat_eq (length (words first)) 2 ≡ false → name_and_rest line keyword (pieces text) ≡ Err line
+unfolding name_and_rest
+name_and_rest_other line keyword text first rest e h = rw (line_and_rest_some line text first rest e, h)
 
-pub named_two : (line : ℕ) (keyword text first rest one two : List ℕ) → pieces text ≡ first ∷ pieces rest → words first ≡ one ∷ two ∷ [] → named line keyword (pieces text) ≡ (if bytes_eq one keyword && is_name two then Ok (two, pieces rest) else Err line)
-unfolding named
-named_two line keyword text first rest one two e h = rw (whole_some line text first rest e, h)
+pub name_and_rest_two : (line : ℕ) (keyword text first rest one two : List ℕ) → pieces text ≡ first ∷ pieces rest → words first ≡ one ∷ two ∷ [] → name_and_rest line keyword (pieces text) ≡ (if bytes_eq one keyword && is_name two then Ok (two, pieces rest) else Err line)
+unfolding name_and_rest
+name_and_rest_two line keyword text first rest one two e h = rw (line_and_rest_some line text first rest e, h)
 
 pub line_of_open : (source tap : List ℕ) (ws : List (List ℕ)) → is_command ws 3 tap (codes "open") ≡ true → line_of source tap ws ≡ Some Opens
 unfolding line_of
@@ -87,9 +87,9 @@ within_if false other line item found e = cc
 at_most : (n most : ℕ) → nat_le n most ≡ true → n ≤ most
 at_most n most e = grind (arith, nat_tests)
 
-pub in_place_within : (opened : Bool) (line : ℕ) (item : Option Line) (found : Line) → in_place opened line item ≡ Ok found → line ≤ 4096
-in_place_within opened line None found e = let f : ⊥ = cc in absurd f
-in_place_within opened line (Some item) found e = at_most line 4096 (within_if (nat_le line 4096) (not (opened && is_open item)) line item found e)
+pub line_in_place_within : (opened : Bool) (line : ℕ) (item : Option Line) (found : Line) → line_in_place opened line item ≡ Ok found → line ≤ 4096
+line_in_place_within opened line None found e = let f : ⊥ = cc in absurd f
+line_in_place_within opened line (Some item) found e = at_most line 4096 (within_if (nat_le line 4096) (not (opened && is_open item)) line item found e)
 
 -- action lines, with others in front of them
 abbrev pub prepend : List Line → Result (List Line) ℕ → Result (List Line) ℕ
@@ -106,12 +106,12 @@ prepend_more front item (Err line) = refl
 pub joined : (front : List Line) (item : Line) (all rest behind : Result (List Line) ℕ) → all ≡ prepend front rest → rest ≡ prepend (item ∷ []) behind → all ≡ prepend (front ++ item ∷ []) behind
 joined front item all rest behind p q = p ∙ ap (prepend front) q ∙ prepend_more front item behind
 
-pub lines_step : (source tap : List ℕ) (opened : Bool) (line : ℕ) (text first rest : List ℕ) (item : Line) → pieces text ≡ first ∷ pieces rest → in_place opened line (line_of source tap (words first)) ≡ Ok item
+pub lines_step : (source tap : List ℕ) (opened : Bool) (line : ℕ) (text first rest : List ℕ) (item : Line) → pieces text ≡ first ∷ pieces rest → line_in_place opened line (line_of source tap (words first)) ≡ Ok item
     → lines_from source tap opened line (pieces text) ≡ prepend (item ∷ []) (lines_from source tap (opened || is_open item) (suc line) (pieces rest))
 unfolding lines_from
 lines_step source tap opened line text first rest item e h = let more = pieces_cons rest in rw (e, more.2, h)
 
-pub lines_refused : (source tap : List ℕ) (opened : Bool) (line : ℕ) (text first rest : List ℕ) (n : ℕ) → pieces text ≡ first ∷ pieces rest → in_place opened line (line_of source tap (words first)) ≡ Err n
+pub lines_refused : (source tap : List ℕ) (opened : Bool) (line : ℕ) (text first rest : List ℕ) (n : ℕ) → pieces text ≡ first ∷ pieces rest → line_in_place opened line (line_of source tap (words first)) ≡ Err n
     → lines_from source tap opened line (pieces text) ≡ Err n
 unfolding lines_from
 lines_refused source tap opened line text first rest n e h = let more = pieces_cons rest in rw (e, more.2, h)
@@ -128,9 +128,9 @@ unfolding lines_from
 lines_end source tap opened line text e = rw (e, is_empty_test text)
 
 -- a refusal that is handed on
-pub gives_err : {A B : Type 0} (fault : ParseFault) (part : Result A ℕ) (all : Result B ℕ) → Gives (Err fault) part → ((n : ℕ) → part ≡ Err n → all ≡ Err n) → Gives (Err fault) all
-gives_err NoMemory part all h on = tt
-gives_err (IsRefused refused) part all h on = (on refused.line h.0, h.1)
+pub meaning_err : {A B : Type 0} (fault : ParseFault) (part : Result A ℕ) (all : Result B ℕ) → IsMeaningUnlessNoMemory (Err fault) part → ((n : ℕ) → part ≡ Err n → all ≡ Err n) → IsMeaningUnlessNoMemory (Err fault) all
+meaning_err NoMemory part all h on = tt
+meaning_err (IsRefused refused) part all h on = (on refused.line h.0, h.1)
 
-pub gives_refused : {B : Type 0} (line : ℕ) (all : Result B ℕ) → all ≡ Err line → Gives (Err (IsRefused (record { line = line; cause = NotBuilt }))) all
-gives_refused line all e = (e, refl)
+pub meaning_refused : {B : Type 0} (line : ℕ) (all : Result B ℕ) → all ≡ Err line → IsMeaningUnlessNoMemory (Err (IsRefused (record { line = line; cause = NotBuilt }))) all
+meaning_refused line all e = (e, refl)

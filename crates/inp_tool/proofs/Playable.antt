@@ -7,8 +7,8 @@ use Rattle.inp_model.specs.declared.stamped.TheConstants.{MOMENT_MAX}
 use Rattle.inp_tool.specs.declared.line.Line.{Line}
 use Rattle.inp_tool.specs.declared.line.Line.TheVariants.{Event as Injects, Open as Opens, Read as Reads}
 use Rattle.inp_tool.specs.declared.record.Record.{Record}
-use Rattle.inp_tool.specs.Numeral.{is_numeral, value_of, number, signed}
-use Rattle.inp_tool.specs.Record.{pieces, words, word, ◌>>=◌, kind_and_code, event_of, is_command, line_of, is_open, in_place, lines_from, fixed, named, meaning}
+use Rattle.inp_tool.specs.Numeral.{is_numeral, value_of, number, signed_number}
+use Rattle.inp_tool.specs.Record.{pieces, words, word, ◌>>=◌, kind_and_code, event_of, is_command, line_of, is_open, line_in_place, lines_from, rest_behind, name_and_rest, meaning}
 use Rattle.inp_tool.specs.Line.{is_in_range, IsPlayable}
 
 -- the value of a step that went well
@@ -60,7 +60,7 @@ line_in_range source tap ws item h =
         some_is : Some Opens ≡ Some item → Opens ≡ item
         some_is p = cc
     by_tests false true c h = reads_in_range (number 4096 (word 3 ws)) item (λ n. number_within 4096 (word 3 ws) n) h
-    by_tests false false true h = injects_in_range (number MOMENT_MAX (word 3 ws)) (kind_and_code (word 4 ws) (word 5 ws)) (signed (word 6 ws)) item (λ n. number_within MOMENT_MAX (word 3 ws) n) h
+    by_tests false false true h = injects_in_range (number MOMENT_MAX (word 3 ws)) (kind_and_code (word 4 ws) (word 5 ws)) (signed_number (word 6 ws)) item (λ n. number_within MOMENT_MAX (word 3 ws) n) h
     by_tests false false false h = cc
 
 record IsPlaced (opened : Bool) (line : ℕ) (found : Option Line) (item : Line) : Type 0 where
@@ -68,7 +68,7 @@ record IsPlaced (opened : Bool) (line : ℕ) (found : Option Line) (item : Line)
   pub within : line ≤ 4096
   pub once : (opened && is_open item) ≡ false
 
-is_placed : (opened : Bool) (line : ℕ) (found : Option Line) (item : Line) → in_place opened line found ≡ Ok item → IsPlaced opened line found item
+is_placed : (opened : Bool) (line : ℕ) (found : Option Line) (item : Line) → line_in_place opened line found ≡ Ok item → IsPlaced opened line found item
 is_placed opened line None item h = cc
 is_placed opened line (Some other) item h = by_tests (nat_le line 4096) (opened && is_open other) refl refl h
   where
@@ -105,7 +105,7 @@ lines_can_be source tap opened line (text ∷ []) items h = by_test (bytes_eq te
     by_test false h = cc
 lines_can_be source tap opened line (text ∷ next ∷ more) items h =
     let found = line_of source tap (words text) in
-    let first = bind_ok (in_place opened line found) (λ item. lines_from source tap (opened || is_open item) (suc line) (next ∷ more) >>= λ items. Ok (item ∷ items)) items h in
+    let first = bind_ok (line_in_place opened line found) (λ item. lines_from source tap (opened || is_open item) (suc line) (next ∷ more) >>= λ items. Ok (item ∷ items)) items h in
     let item = first.0 in
     let placed = is_placed opened line found item first.1 in
     let others = bind_ok (lines_from source tap (opened || is_open item) (suc line) (next ∷ more)) (λ items. Ok (item ∷ items)) items first.2 in
@@ -131,16 +131,16 @@ abbrev from_tap : Named → Named → Named → Result Record ℕ
 from_tap device source tap = lines_behind source tap >>= with_lines device source tap
 
 abbrev from_source : Named → Named → Result Record ℕ
-from_source device source = named 5 (codes "tap") source.1 >>= from_tap device source
+from_source device source = name_and_rest 5 (codes "tap") source.1 >>= from_tap device source
 
 abbrev from_cap : Named → List (List ℕ) → Result Record ℕ
-from_cap device rest = named 4 (codes "source") rest >>= from_source device
+from_cap device rest = name_and_rest 4 (codes "source") rest >>= from_source device
 
 abbrev from_device : Named → Result Record ℕ
-from_device device = fixed 3 (codes "cap EV_KEY KEY_A") device.1 >>= from_cap device
+from_device device = rest_behind 3 (codes "cap EV_KEY KEY_A") device.1 >>= from_cap device
 
 abbrev from_header : List (List ℕ) → Result Record ℕ
-from_header rest = named 2 (codes "device") rest >>= from_device
+from_header rest = name_and_rest 2 (codes "device") rest >>= from_device
 
 playable_lines : (source tap : Named) (lines : List Line) → lines_behind source tap ≡ Ok lines → IsPlayable lines
 playable_lines source tap lines h = by_test (bytes_eq source.0 tap.0) h
@@ -155,10 +155,10 @@ playable_lines source tap lines h = by_test (bytes_eq source.0 tap.0) h
 pub is_playable : (bytes : List ℕ) (r : Record) → meaning bytes ≡ Ok r → IsPlayable r.lines
 unfolding meaning
 is_playable bytes r h =
-    let header = bind_ok (fixed 1 (codes "inputrecord 1") (pieces bytes)) from_header r h in
-    let device = bind_ok (named 2 (codes "device") header.0) from_device r header.2 in
-    let cap = bind_ok (fixed 3 (codes "cap EV_KEY KEY_A") device.0.1) (from_cap device.0) r device.2 in
-    let source = bind_ok (named 4 (codes "source") cap.0) (from_source device.0) r cap.2 in
-    let tap = bind_ok (named 5 (codes "tap") source.0.1) (from_tap device.0 source.0) r source.2 in
+    let header = bind_ok (rest_behind 1 (codes "inputrecord 1") (pieces bytes)) from_header r h in
+    let device = bind_ok (name_and_rest 2 (codes "device") header.0) from_device r header.2 in
+    let cap = bind_ok (rest_behind 3 (codes "cap EV_KEY KEY_A") device.0.1) (from_cap device.0) r device.2 in
+    let source = bind_ok (name_and_rest 4 (codes "source") cap.0) (from_source device.0) r cap.2 in
+    let tap = bind_ok (name_and_rest 5 (codes "tap") source.0.1) (from_tap device.0 source.0) r source.2 in
     let lines = bind_ok (lines_behind source.0 tap.0) (with_lines device.0 source.0 tap.0) r tap.2 in
     subst (λ (r : Record). IsPlayable r.lines) (ok_is _ r lines.2) (playable_lines source.0 tap.0 lines.0 lines.1)

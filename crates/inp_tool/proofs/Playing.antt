@@ -17,7 +17,7 @@ use Rattle.inp_tool.specs.Play.{first_stage, answer_to, last_past, sight_of, job
 use Rattle.inp_tool.proofs.Booleans.{both}
 use Rattle.inp_tool.proofs.Pasts.{past_after-one}
 use Rattle.inp_tool.proofs.Playable.{count-more}
-use Rattle.inp_tool.specs.Player.{Playing, at_first, after, after_all, new_sights, run_from, CanPlay}
+use Rattle.inp_tool.specs.Player.{PlayerView, at_first, after, after_all, new_sights, run_from, CanPlay}
 
 -- a step opens at most one client
 opens-after : (reply : Reply) (x : Step) (past : List Step) → opens (past_after reply x past) ≤ opens past + (if is_open_step x then 1 else 0)
@@ -34,7 +34,7 @@ is_open_step-of client Opens = refl
 is_open_step-of client (Reads count) = refl
 
 -- the rest can be done after the first line
-pub can_play-more : (p : Playing) (line : Line) (lines : List Line) → CanPlay p (line ∷ lines) → CanPlay (after p line) lines
+pub can_play-more : (p : PlayerView) (line : Line) (lines : List Line) → CanPlay p (line ∷ lines) → CanPlay (after p line) lines
 unfolding after
 can_play-more p line lines can =
     let reply = (answer_to one_key p.stage line).reply in
@@ -59,11 +59,11 @@ can_play-at_first lines playable = record {
   few = omega (arith, playable.few);
 }
 
-pub after_all-more : (p : Playing) (line : Line) (lines : List Line) → after_all p (line ∷ lines) ≡ after_all (after p line) lines
+pub after_all-more : (p : PlayerView) (line : Line) (lines : List Line) → after_all p (line ∷ lines) ≡ after_all (after p line) lines
 unfolding after_all
 after_all-more p line lines = refl
 
-pub after_all-none : (p : Playing) → after_all p [] ≡ p
+pub after_all-none : (p : PlayerView) → after_all p [] ≡ p
 unfolding after_all
 after_all-none p = refl
 
@@ -75,12 +75,12 @@ seen-more actor line had new rest = by_flag (nat_eq (actor_of line) actor)
     by_flag true = append_assoc had new rest
     by_flag false = refl
 
-record IsAfterAll (p : Playing) (lines : List Line) : Type 0 where
+record IsAfterAll (p : PlayerView) (lines : List Line) : Type 0 where
   past : (after_all p lines).stage.past ≡ last_past one_key p.stage lines
   source : (after_all p lines).source ≡ p.source ++ sight_of SOURCE one_key p.stage lines
   tap : (after_all p lines).tap ≡ p.tap ++ sight_of TAP one_key p.stage lines
 
-is_after_all : (p : Playing) (lines : List Line) → IsAfterAll p lines
+is_after_all : (p : PlayerView) (lines : List Line) → IsAfterAll p lines
 unfolding after after_all last_past sight_of
 is_after_all p [] = record { past = refl; source = sym (append-nil p.source); tap = sym (append-nil p.tap) }
 is_after_all p (line ∷ lines) =
@@ -91,7 +91,7 @@ is_after_all p (line ∷ lines) =
       tap = more.tap ∙ seen-more TAP line p.tap (new_sights p line) (sight_of TAP one_key (after p line).stage lines);
     }
 
-run_at : (p : Playing) (past : List Step) (source tap : List Sight) → p.stage.past ≡ past → p.source ≡ source → p.tap ≡ tap → run_from p ≡ record { history = reverse past; jobs = job_of SOURCE source ∷ job_of TAP tap ∷ [] }
+run_at : (p : PlayerView) (past : List Step) (source tap : List Sight) → p.stage.past ≡ past → p.source ≡ source → p.tap ≡ tap → run_from p ≡ record { history = reverse past; jobs = job_of SOURCE source ∷ job_of TAP tap ∷ [] }
 run_at p past source tap a b c = cc
 
 pub run_from-after_all : (lines : List Line) → run_from (after_all at_first lines) ≡ run_of one_key lines
@@ -100,7 +100,7 @@ run_from-after_all lines =
     run_at (after_all at_first lines) (last_past one_key first_stage lines) (sight_of SOURCE one_key first_stage lines) (sight_of TAP one_key first_stage lines) all.past all.source all.tap
 
 -- one turn of a loop over lines
-pub turn : (p q : Playing) (lines : List Line) (i : ℕ) (d : Line) (end : Playing) → i < length lines → q ≡ after p (slice_index_or lines i d)
+pub turn : (p q : PlayerView) (lines : List Line) (i : ℕ) (d : Line) (end : PlayerView) → i < length lines → q ≡ after p (slice_index_or lines i d)
     → after_all p (drop i lines) ≡ end → CanPlay p (drop i lines)
     → (after_all q (drop (i + 1) lines) ≡ end) × CanPlay q (drop (i + 1) lines)
 turn p q lines i d end within done same can =
@@ -108,10 +108,10 @@ turn p q lines i d end within done same can =
     let rest = drop (i + 1) lines in
     let split : drop i lines ≡ line ∷ rest = drop_more lines i d within in
     let can' : CanPlay p (line ∷ rest) = subst (λ (ls : List Line). CanPlay p ls) split can in (
-      ap (λ (p : Playing). after_all p rest) done ∙ sym (after_all-more p line rest) ∙ ap (after_all p) (sym split) ∙ same,
-      subst (λ (p : Playing). CanPlay p rest) (sym done) (can_play-more p line rest can'),
+      ap (λ (p : PlayerView). after_all p rest) done ∙ sym (after_all-more p line rest) ∙ ap (after_all p) (sym split) ∙ same,
+      subst (λ (p : PlayerView). CanPlay p rest) (sym done) (can_play-more p line rest can'),
     )
 
 -- after the last turn
-pub last_turn : (p : Playing) (lines : List Line) (i : ℕ) (end : Playing) → length lines ≤ i → after_all p (drop i lines) ≡ end → p ≡ end
+pub last_turn : (p : PlayerView) (lines : List Line) (i : ℕ) (end : PlayerView) → length lines ≤ i → after_all p (drop i lines) ≡ end → p ≡ end
 last_turn p lines i end past same = sym (ap (after_all p) (drop_all i lines past) ∙ after_all-none p) ∙ same

@@ -18,8 +18,8 @@ unfoldable pub number : ℕ → List ℕ → Option ℕ
 number most word = if is_numeral word && nat_le (value_of word) most then Some (value_of word) else None
 
 -- a number with or without a minus, of 32 bits
-unfoldable pub signed : List ℕ → Option ℤ
-signed [] = None
-signed (b ∷ digits) =
+unfoldable pub signed_number : List ℕ → Option ℤ
+signed_number [] = None
+signed_number (b ∷ digits) =
     if nat_eq b 45 then option_map (λ n. neg_ℤ (pos n)) (number (2 ^ 31) digits)
     else option_map (λ n. pos n) (number (2 ^ 31 - 1) (b ∷ digits))

@@ -18,20 +18,20 @@ use Rattle.inp_tool.specs.Line.{actor_of, step_of, is_in_range}
 use Rattle.inp_tool.specs.Record.{is_open}
 use Rattle.inp_tool.specs.Play.{Stage, first_stage, next_stage, answer_to, sights_of, job_of}
 
-pub record Playing : Type 0 where
+pub record PlayerView : Type 0 where
   pub stage : Stage
   -- what the source and the tap have seen
   pub source : List Sight
   pub tap : List Sight
 
-abbrev pub at_first : Playing
+abbrev pub at_first : PlayerView
 at_first = record { stage = first_stage; source = []; tap = [] }
 
-abbrev pub new_sights : Playing → Line → List Sight
+abbrev pub new_sights : PlayerView → Line → List Sight
 new_sights p line = sights_of (step_of p.stage.client line) (answer_to one_key p.stage line)
 
 -- after one more line
-unfoldable pub after : Playing → Line → Playing
+unfoldable pub after : PlayerView → Line → PlayerView
 after p line = record {
   stage = next_stage one_key p.stage line;
   source = (if nat_eq (actor_of line) SOURCE then p.source ++ new_sights p line else p.source);
@@ -39,16 +39,16 @@ after p line = record {
 }
 
 -- after all of these lines
-unfoldable pub after_all : Playing → List Line → Playing
+unfoldable pub after_all : PlayerView → List Line → PlayerView
 after_all p [] = p
 after_all p (line ∷ lines) = after_all (after p line) lines
 
 -- what comes of it
-abbrev pub run_from : Playing → Run
+abbrev pub run_from : PlayerView → Run
 run_from p = record { history = reverse p.stage.past; jobs = job_of SOURCE p.source ∷ job_of TAP p.tap ∷ [] }
 
 -- the lines that are left can be done: no client is opened twice, and the history keeps within its limit
-pub record CanPlay (p : Playing) (lines : List Line) : Type 0 where
+pub record CanPlay (p : PlayerView) (lines : List Line) : Type 0 where
   pub in_range : IsTrue (list_all is_in_range lines)
   pub one_open : opens p.stage.past + count_by is_open lines ≤ 1
   pub few : length p.stage.past + length lines ≤ 4096

@@ -22,7 +22,7 @@ use Rattle.inp_tool.specs.declared.refused.ParseFault.{ParseFault}
 use Rattle.inp_tool.specs.declared.refused.ParseFault.TheVariants.{Refused as IsRefused, NoMemory}
 use Rattle.inp_tool.specs.declared.refused.Cause.TheVariants.{NotBuilt}
 use Rattle.inp_tool.specs.Name.{is_name}
-use Rattle.inp_tool.specs.Numeral.{number, signed}
+use Rattle.inp_tool.specs.Numeral.{number, signed_number}
 
 -- what stands between line feeds; the last piece is what stands behind the last one
 abbrev pub pieces : List ℕ → List (List ℕ)
@@ -37,15 +37,15 @@ abbrev pub ◌>>=◌ : {A B : Type 0} → Result A ℕ → (A → Result B ℕ) 
 (Err line) >>= f = Err line
 
 -- the text of a line that is there and ends in a line feed, with the pieces behind it; else its number
-abbrev pub whole : ℕ → List (List ℕ) → Result (List ℕ × List (List ℕ)) ℕ
-whole line [] = Err line
-whole line (text ∷ []) = Err line
-whole line (text ∷ next ∷ more) = Ok (text, next ∷ more)
+abbrev pub line_and_rest : ℕ → List (List ℕ) → Result (List ℕ × List (List ℕ)) ℕ
+line_and_rest line [] = Err line
+line_and_rest line (text ∷ []) = Err line
+line_and_rest line (text ∷ next ∷ more) = Ok (text, next ∷ more)
 
 -- a line with exactly this text, and the pieces behind it
-unfoldable pub fixed : ℕ → List ℕ → List (List ℕ) → Result (List (List ℕ)) ℕ
-fixed line wanted rest = do
-  found ← whole line rest
+unfoldable pub rest_behind : ℕ → List ℕ → List (List ℕ) → Result (List (List ℕ)) ℕ
+rest_behind line wanted rest = do
+  found ← line_and_rest line rest
   if bytes_eq found.0 wanted then Ok found.1 else Err line
 
 abbrev pub word : ℕ → List (List ℕ) → List ℕ
@@ -56,9 +56,9 @@ abbrev pub is_word : List (List ℕ) → ℕ → List ℕ → Bool
 is_word ws i wanted = bytes_eq (word i ws) wanted
 
 -- a line of a keyword and a name: the name, and the pieces behind it
-unfoldable pub named : ℕ → List ℕ → List (List ℕ) → Result (List ℕ × List (List ℕ)) ℕ
-named line keyword rest = do
-  found ← whole line rest
+unfoldable pub name_and_rest : ℕ → List ℕ → List (List ℕ) → Result (List ℕ × List (List ℕ)) ℕ
+name_and_rest line keyword rest = do
+  found ← line_and_rest line rest
   let ws = words found.0
   if nat_eq (length ws) 2 && is_word ws 0 keyword && is_name (word 1 ws) then Ok (word 1 ws, found.1) else Err line
 
@@ -74,7 +74,7 @@ abbrev pub event_of : List ℕ → List ℕ → List ℕ → List ℕ → Option
 event_of moment kind code value =
     option_and_then (λ now. option_and_then (λ what. option_map (λ v.
     Injects (record { event = record { kind = what.0; code = what.1; value = v }; now = now }))
-    (signed value)) (kind_and_code kind code)) (number MOMENT_MAX moment)
+    (signed_number value)) (kind_and_code kind code)) (number MOMENT_MAX moment)
 
 -- a line of so many words that has an actor do this
 abbrev pub is_command : List (List ℕ) → ℕ → List ℕ → List ℕ → Bool
@@ -95,40 +95,45 @@ is_open (Injects stamped) = false
 is_open (Reads count) = false
 
 -- what an action line means in its place: there is no second open, and no line behind line 4,096
-abbrev pub in_place : Bool → ℕ → Option Line → Result Line ℕ
-in_place opened line None = Err line
-in_place opened line (Some item) = if nat_le line 4096 && not (opened && is_open item) then Ok item else Err line
+abbrev pub line_in_place : Bool → ℕ → Option Line → Result Line ℕ
+line_in_place opened line None = Err line
+line_in_place opened line (Some item) = if nat_le line 4096 && not (opened && is_open item) then Ok item else Err line
 
 -- the action lines from this line on, where an open stands before it or not
 unfoldable pub lines_from : List ℕ → List ℕ → Bool → ℕ → List (List ℕ) → Result (List Line) ℕ
 lines_from source tap opened line [] = Ok []
 lines_from source tap opened line (text ∷ []) = if bytes_eq text [] then Ok [] else Err line
 lines_from source tap opened line (text ∷ next ∷ more) = do
-  item ← in_place opened line (line_of source tap (words text))
+  item ← line_in_place opened line (line_of source tap (words text))
   items ← lines_from source tap (opened || is_open item) (suc line) (next ∷ more)
   Ok (item ∷ items)
 
 -- the record that the bytes are, or the number of the first line that breaks the form
 unfoldable pub meaning : List ℕ → Result Record ℕ
 meaning bytes = do
-  behind_header ← fixed 1 (codes "inputrecord 1") (pieces bytes)
-  device ← named 2 (codes "device") behind_header
-  behind_cap ← fixed 3 (codes "cap EV_KEY KEY_A") device.1
-  source ← named 4 (codes "source") behind_cap
-  tap ← named 5 (codes "tap") source.1
+  behind_header ← rest_behind 1 (codes "inputrecord 1") (pieces bytes)
+  device ← name_and_rest 2 (codes "device") behind_header
+  behind_cap ← rest_behind 3 (codes "cap EV_KEY KEY_A") device.1
+  source ← name_and_rest 4 (codes "source") behind_cap
+  tap ← name_and_rest 5 (codes "tap") source.1
   lines ← if bytes_eq source.0 tap.0 then Err 5 else lines_from source.0 tap.0 false 6 tap.1
   Ok (record { device = device.0; source = source.0; tap = tap.0; lines = lines })
 
--- what a reader of bytes, or of a part of them, gives: what they mean, or their first wrong line, unless memory ran out
-abbrev pub Gives : {A : Type 0} → Result A ParseFault → Result A ℕ → Type 0
-Gives (Ok found) read = read ≡ Ok found
-Gives (Err NoMemory) read = Unit {0}
-Gives (Err (IsRefused refused)) read = (read ≡ Err refused.line) × (refused.cause ≡ NotBuilt)
+-- A reader's result is what the bytes that it read mean, or their first wrong line, unless memory ran
+-- out. The bytes may be a part of a record's, which has a meaning of its own.
+abbrev pub IsMeaningUnlessNoMemory : {A : Type 0} → Result A ParseFault → Result A ℕ → Type 0
+IsMeaningUnlessNoMemory (Ok found) means = means ≡ Ok found
+IsMeaningUnlessNoMemory (Err NoMemory) means = Unit {0}
+IsMeaningUnlessNoMemory (Err (IsRefused refused)) means =
+    (means ≡ Err refused.line) × (refused.cause ≡ NotBuilt)
 
--- bytes are at most one record
+-- bytes are at most one record, since `meaning` is a function
 abbrev pub HasOneMeaning : Type 0
-HasOneMeaning = (bytes : List ℕ) (r s : Record) → meaning bytes ≡ Ok r → meaning bytes ≡ Ok s → r ≡ s
+HasOneMeaning =
+    (bytes : List ℕ) (r s : Record) → meaning bytes ≡ Ok r → meaning bytes ≡ Ok s → r ≡ s
 
--- bytes that are a record have no wrong line
+-- bytes that are a record have no wrong line, for the same reason
 abbrev pub HasNoWrongLine : Type 0
-HasNoWrongLine = (bytes : List ℕ) (r : Record) (line : ℕ) → meaning bytes ≡ Ok r → meaning bytes ≡ Err line → ⊥
+HasNoWrongLine =
+    (bytes : List ℕ) (r : Record) (line : ℕ)
+    → meaning bytes ≡ Ok r → meaning bytes ≡ Err line → ⊥

@@ -63,17 +63,17 @@ refusal_text LogFull = codes "log-full"
 refusal_text NoMemory = codes "no-memory"
 
 -- the type whose codes a step asks for
-abbrev pub asked_kind : Step → ℕ
-asked_kind (Inject e now) = EV_SYN
-asked_kind Open = EV_SYN
-asked_kind (Read client count) = EV_SYN
-asked_kind (GetKeys client) = EV_KEY
-asked_kind (GetSwitches client) = EV_SW
-asked_kind (GetLeds client) = EV_LED
-asked_kind (GetSounds client) = EV_SND
-asked_kind (GetAxis client code) = EV_ABS
-asked_kind (GetSlots client code) = EV_ABS
-asked_kind (SyncSlots client) = EV_ABS
+abbrev pub query_kind : Step → ℕ
+query_kind (Inject e now) = EV_SYN
+query_kind Open = EV_SYN
+query_kind (Read client count) = EV_SYN
+query_kind (GetKeys client) = EV_KEY
+query_kind (GetSwitches client) = EV_SW
+query_kind (GetLeds client) = EV_LED
+query_kind (GetSounds client) = EV_SND
+query_kind (GetAxis client code) = EV_ABS
+query_kind (GetSlots client code) = EV_ABS
+query_kind (SyncSlots client) = EV_ABS
 
 -- bit i of the list of 768, 64 a word
 abbrev pub is_bit_set : List ℕ → ℕ → Bool
@@ -98,7 +98,7 @@ unfoldable pub reply_text : Step → Reply → List ℕ
 reply_text x (Done at) = codes "done " ++ decimal at
 reply_text x (Opened at client places) = codes "opened " ++ (decimal at ++ (codes " " ++ (decimal client ++ (codes " " ++ decimal places))))
 reply_text x (Taking at count) = codes "took " ++ (decimal at ++ (codes " " ++ decimal count))
-reply_text x (Bits at words) = codes "bits " ++ (decimal at ++ bits_text (asked_kind x) words)
+reply_text x (Bits at words) = codes "bits " ++ (decimal at ++ bits_text (query_kind x) words)
 reply_text x (Axis at axis) = codes "axis " ++ (decimal at ++ (codes " " ++ axis_text axis))
 reply_text x (Cells at count slot) = codes "cells " ++ (decimal at ++ (codes " " ++ (decimal count ++ (codes " " ++ signed_decimal slot))))
 reply_text x (Nothing at ends) = codes "again " ++ decimal at

@@ -1,6 +1,6 @@
 //! Numbers as decimal digits.
 ghost use Rattle.std.specs.Prelude.{◌≡◌, ◌≤◌, pos, neg_ℤ, IfSome};
-ghost use Rattle.inp_tool.specs.Numeral.{number, signed};
+ghost use Rattle.inp_tool.specs.Numeral.{number, signed_number};
 
 /// The number that these digits are, unless one of them is no digit or the number is above `most`. There may be leading
 /// zeros, and there is no sign (this project's choice).
@@ -23,8 +23,8 @@ pub(crate) fn number(word: &[u8], most: u64) -> Option<u64>
 }
 
 /// The number of 32 bits that these digits are, behind a minus or none (this project's choice).
-pub(crate) fn signed(word: &[u8]) -> Option<i32>
-    ensures { result ≡ signed word.now }
+pub(crate) fn signed_number(word: &[u8]) -> Option<i32>
+    ensures { result ≡ signed_number word.now }
 {
     match word {
         [b'-', digits @ ..] => {

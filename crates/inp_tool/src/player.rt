@@ -41,9 +41,9 @@ pub struct Player {
 }
 
 impl Model for Player {
-    ghost use Rattle.inp_tool.specs.Player.{Playing};
+    ghost use Rattle.inp_tool.specs.Player.{PlayerView};
 
-    ghost Value = { Playing };
+    ghost Value = { PlayerView };
 
     ghost use Rattle.std.specs.Prelude.{◌≡◌, vec_len};
     ghost use Rattle.inp_model.specs.Description.{one_key};
@@ -122,7 +122,8 @@ fn make(device: &mut Device, buffer: &mut Vec<Taken>, step: Step) -> Result<Repl
     requires timely { IsTimely step }
     requires room { HasRoom one_key step buffer.old.items [] }
     requires one_client { step ≡ Step.Open → opens device.old.past ≡ 0 }
-    ensures made { IfOk result (λ reply. IsMade one_key device.old.past step reply buffer.new.items device.new.past) }
+    ensures made { IfOk result
+        (λ reply. IsMade one_key device.old.past step reply buffer.new.items device.new.past) }
     ensures description { device.new.description ≡ one_key }
     ensures buffer { vec_len buffer.new ≡ vec_len buffer.old }
 {
@@ -240,7 +241,8 @@ fn push_call(
     reply: Reply,
     events: &[Taken],
 ) -> Result<(), NoMemory>
-    ensures pushed { OnOk result (sights.new ≡ sights.old ++ Sight.Call step reply ∷ map (λ t. Sight.Took t) events.now) }
+    ensures pushed { OnOk result
+        (sights.new ≡ sights.old ++ Sight.Call step reply ∷ map (λ t. Sight.Took t) events.now) }
 {
     sights.push(Sight::Call { step, reply })?;
     for event in events {

@@ -5,11 +5,11 @@
 //! first line that breaks the form.
 ghost use Rattle.std.specs.Prelude.{ℕ, ◌≡◌, ◌≤◌, false, IfSome, map, ok_or, option_map};
 ghost use Rattle.inp_tool.specs.Name.{IsName};
-ghost use Rattle.inp_tool.specs.Record.{Gives, pieces, words, meaning, fixed, named, kind_and_code, event_of, is_command, line_of, is_open, in_place, lines_from};
+ghost use Rattle.inp_tool.specs.Record.{IsMeaningUnlessNoMemory, pieces, words, meaning, rest_behind, name_and_rest, kind_and_code, event_of, is_command, line_of, is_open, line_in_place, lines_from};
 
 use crate::line::READ_MAX;
 use crate::name::is_name;
-use crate::numeral::{number, signed};
+use crate::numeral::{number, signed_number};
 use crate::pieces::{first_line, first_words, two_words};
 use crate::{Cause, Line, Lines, Name, ParseFault, Record, Refused};
 use inp_model::{EV_KEY, EV_SYN, Event, Items, KEY_A, MOMENT_MAX, SYN_REPORT, Stamped};
@@ -19,7 +19,7 @@ use std::alloc::Global;
 const LINES_MAX: u32 = 4096;
 
 /// The refusal of a line.
-fn refused(line: u32) -> ParseFault
+fn refusal(line: u32) -> ParseFault
     ensures { result ≡ ParseFault.Refused (record { line = line; cause = Cause.NotBuilt }) }
 {
     ParseFault::Refused(Refused {
@@ -29,8 +29,9 @@ fn refused(line: u32) -> ParseFault
 }
 
 /// What stands behind a first line with exactly this text, and none where the first line is another.
-fn fixed<'a>(text: &'a [u8], wanted: &[u8]) -> Option<&'a [u8]>
-    ensures { (line : ℕ) → fixed line wanted.now (pieces text.now) ≡ ok_or (option_map (λ rest. pieces rest.now) result) line }
+fn rest_behind<'a>(text: &'a [u8], wanted: &[u8]) -> Option<&'a [u8]>
+    ensures { (line : ℕ) → rest_behind line wanted.now (pieces text.now)
+        ≡ ok_or (option_map (λ rest. pieces rest.now) result) line }
 {
     let (line, rest) = first_line(text)?;
     if line == wanted { Some(rest) } else { None }
@@ -38,8 +39,9 @@ fn fixed<'a>(text: &'a [u8], wanted: &[u8]) -> Option<&'a [u8]>
 
 /// The name in a first line of this keyword and a name, and what stands behind the line. None where the first line is
 /// another.
-fn named<'a>(text: &'a [u8], keyword: &[u8]) -> Option<(&'a [u8], &'a [u8])>
-    ensures value { (line : ℕ) → named line keyword.now (pieces text.now) ≡ ok_or (option_map (λ found. (found.0.now, pieces found.1.now)) result) line }
+fn name_and_rest<'a>(text: &'a [u8], keyword: &[u8]) -> Option<(&'a [u8], &'a [u8])>
+    ensures value { (line : ℕ) → name_and_rest line keyword.now (pieces text.now)
+        ≡ ok_or (option_map (λ found. (found.0.now, pieces found.1.now)) result) line }
     ensures name { IfSome result (λ found. IsName found.0.now) }
 {
     let (line, rest) = first_line(text)?;
@@ -68,7 +70,7 @@ fn event_of(moment: &[u8], kind: &[u8], code: &[u8], value: &[u8]) -> Option<Lin
 {
     let now = number(moment, MOMENT_MAX)?;
     let (kind, code) = kind_and_code(kind, code)?;
-    let value = signed(value)?;
+    let value = signed_number(value)?;
     let event = Event { kind, code, value };
     Some(Line::Event {
         stamped: Stamped { event, now },
@@ -116,8 +118,8 @@ fn is_open(line: &Line) -> bool
 }
 
 /// What an action line means in its place: there is no second open, and no line behind the last that may be.
-fn in_place(opened: bool, line: u32, item: Option<Line>) -> Option<Line>
-    ensures { in_place opened line item ≡ ok_or result line }
+fn line_in_place(opened: bool, line: u32, item: Option<Line>) -> Option<Line>
+    ensures { line_in_place opened line item ≡ ok_or result line }
 {
     let item = item?;
     if line > LINES_MAX || (opened && is_open(&item)) {
@@ -135,21 +137,23 @@ fn action(
     line: u32,
     text: &[u8],
 ) -> Result<Line, ParseFault>
-    ensures { Gives result (in_place opened line (line_of source.now tap.now (words text.now))) }
+    ensures { IsMeaningUnlessNoMemory result
+        (line_in_place opened line (line_of source.now tap.now (words text.now))) }
 {
     let Ok(words) = first_words(alloc, text) else {
         return Err(ParseFault::NoMemory);
     };
-    match in_place(opened, line, line_of(source, tap, &words)) {
+    match line_in_place(opened, line, line_of(source, tap, &words)) {
         Some(item) => Ok(item),
-        None => Err(refused(line)),
+        None => Err(refusal(line)),
     }
 }
 
 /// The action lines of the text behind the first five lines. No line behind the first broken one is looked at, so the
 /// line's number stays at most one above the greatest.
 fn action_lines(alloc: Global, source: &[u8], tap: &[u8], text: &[u8]) -> Result<Lines, ParseFault>
-    ensures { Gives result (lines_from source.now tap.now false 6 (pieces text.now)) }
+    ensures { IsMeaningUnlessNoMemory result
+        (lines_from source.now tap.now false 6 (pieces text.now)) }
 {
     let mut lines = Items::new(alloc);
     let mut opened = false;
@@ -165,7 +169,7 @@ fn action_lines(alloc: Global, source: &[u8], tap: &[u8], text: &[u8]) -> Result
     if rest.is_empty() {
         Ok(lines)
     } else {
-        Err(refused(line))
+        Err(refusal(line))
     }
 }
 
@@ -199,15 +203,15 @@ fn action_lines(alloc: Global, source: &[u8], tap: &[u8], text: &[u8]) -> Result
 /// be there and is not counts as broken, and so does a last line without its line feed. `ParseFault::NoMemory` says
 /// that memory ran out for the lines or for the words of one line. The text stays as it is.
 pub fn parse(alloc: Global, text: &[u8]) -> Result<Record, ParseFault>
-    ensures meaning { Gives result (meaning text.now) }
+    ensures meaning { IsMeaningUnlessNoMemory result (meaning text.now) }
 {
-    let rest = fixed(text, b"inputrecord 1").ok_or(refused(1))?;
-    let (device, rest) = named(rest, b"device").ok_or(refused(2))?;
-    let rest = fixed(rest, b"cap EV_KEY KEY_A").ok_or(refused(3))?;
-    let (source, rest) = named(rest, b"source").ok_or(refused(4))?;
-    let (tap, rest) = named(rest, b"tap").ok_or(refused(5))?;
+    let rest = rest_behind(text, b"inputrecord 1").ok_or(refusal(1))?;
+    let (device, rest) = name_and_rest(rest, b"device").ok_or(refusal(2))?;
+    let rest = rest_behind(rest, b"cap EV_KEY KEY_A").ok_or(refusal(3))?;
+    let (source, rest) = name_and_rest(rest, b"source").ok_or(refusal(4))?;
+    let (tap, rest) = name_and_rest(rest, b"tap").ok_or(refusal(5))?;
     if source == tap {
-        return Err(refused(5));
+        return Err(refusal(5));
     }
     let lines = action_lines(alloc, source, tap, rest)?;
     Ok(Record {

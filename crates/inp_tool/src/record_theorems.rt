@@ -1,4 +1,4 @@
-//! What the definitions say of short records.
+//! What the definition of a record's meaning says: of short records, and of all bytes.
 ghost use Rattle.inp_tool.specs.Record.{HasOneMeaning, HasNoWrongLine};
 ghost use Rattle.inp_tool.specs.RecordExamples.{MeansAStroke, MeansNoAction, LacksItsFirstLine, LacksItsLastLineFeed, NamesItsActorsAlike, HasTwoSpaces, OpensTwice};
 
@@ -14,8 +14,8 @@ pub fn record_examples()
     ensures twice { OpensTwice }
 {}
 
-/// Laws of a record's meaning: bytes are at most one record, and never both a record and a text with a wrong line. It
-/// does nothing: its contract is the point.
+/// What the form of that definition says of all bytes: it is a function, so they are at most one record, and never both
+/// a record and a text with a wrong line. It does nothing: its contract is the point.
 pub fn record_laws()
     ensures one_meaning { HasOneMeaning }
     ensures no_wrong_line { HasNoWrongLine }

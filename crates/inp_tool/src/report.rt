@@ -1,7 +1,7 @@
 //! The report of what came of a record.
 ghost use Rattle.std.specs.Prelude.{◌<◌, ◌≡◌, ◌++◌, string_bytes, IfOk, OnOk, flat_map};
 ghost use Rattle.std.specs.List.{count_by};
-ghost use Rattle.inp_tool.specs.Report.{device_line, source_line, tap_line, sight_line, keys_line, stop_line, reply_text, asked_kind, bits_text, bit_text, is_bit_set, job_text, run_text, report, is_accepted_call};
+ghost use Rattle.inp_tool.specs.Report.{device_line, source_line, tap_line, sight_line, keys_line, stop_line, reply_text, query_kind, bits_text, bit_text, is_bit_set, job_text, run_text, report, is_accepted_call};
 
 use crate::line::SOURCE;
 use crate::text::{AxisText, CodeText, EventText, RefusalText, StepText, StopText};
@@ -27,7 +27,8 @@ pub fn report(alloc: Global, recorded: &Record, runs: &Runs) -> Result<String, N
 }
 
 fn push_run(text: &mut String, recorded: &Record, run: &Run) -> Result<(), NoMemory>
-    ensures pushed { OnOk result (string_bytes text.new ≡ string_bytes text.old ++ run_text recorded.now run.now) }
+    ensures pushed { OnOk result
+        (string_bytes text.new ≡ string_bytes text.old ++ run_text recorded.now run.now) }
 {
     push_device(text, &recorded.device, run.history.len())?;
     for job in run.jobs.as_slice() {
@@ -37,7 +38,8 @@ fn push_run(text: &mut String, recorded: &Record, run: &Run) -> Result<(), NoMem
 }
 
 fn push_job(text: &mut String, recorded: &Record, job: &JobEnd) -> Result<(), NoMemory>
-    ensures pushed { OnOk result (string_bytes text.new ≡ string_bytes text.old ++ job_text recorded.now job.now) }
+    ensures pushed { OnOk result
+        (string_bytes text.new ≡ string_bytes text.old ++ job_text recorded.now job.now) }
 {
     if job.actor == SOURCE {
         let calls = accepted_calls(job.sight.as_slice());
@@ -50,7 +52,8 @@ fn push_job(text: &mut String, recorded: &Record, job: &JobEnd) -> Result<(), No
 }
 
 fn push_sights(text: &mut String, sights: &[Sight]) -> Result<(), NoMemory>
-    ensures pushed { OnOk result (string_bytes text.new ≡ string_bytes text.old ++ flat_map sight_line sights.now) }
+    ensures pushed { OnOk result
+        (string_bytes text.new ≡ string_bytes text.old ++ flat_map sight_line sights.now) }
 {
     for sight in sights {
         push_sight(text, *sight)?;
@@ -78,7 +81,8 @@ fn is_accepted_call(sight: &Sight) -> bool
 
 #[tactic(auto, unfolding(crate::specs::Report::device_line))]
 fn push_device(text: &mut String, name: &Name, steps: usize) -> Result<(), NoMemory>
-    ensures pushed { OnOk result (string_bytes text.new ≡ string_bytes text.old ++ device_line name.now steps) }
+    ensures pushed { OnOk result
+        (string_bytes text.new ≡ string_bytes text.old ++ device_line name.now steps) }
 {
     let name = name.as_str();
     write!(text, "device {name} steps {steps}\n")?;
@@ -87,7 +91,8 @@ fn push_device(text: &mut String, name: &Name, steps: usize) -> Result<(), NoMem
 
 #[tactic(auto, unfolding(crate::specs::Report::source_line))]
 fn push_source(text: &mut String, name: &Name, calls: usize, stop: Stop) -> Result<(), NoMemory>
-    ensures pushed { OnOk result (string_bytes text.new ≡ string_bytes text.old ++ source_line name.now calls stop) }
+    ensures pushed { OnOk result
+        (string_bytes text.new ≡ string_bytes text.old ++ source_line name.now calls stop) }
 {
     let name = name.as_str();
     let stop = StopText(stop);
@@ -97,7 +102,8 @@ fn push_source(text: &mut String, name: &Name, calls: usize, stop: Stop) -> Resu
 
 #[tactic(auto, unfolding(crate::specs::Report::tap_line))]
 fn push_tap(text: &mut String, name: &Name) -> Result<(), NoMemory>
-    ensures pushed { OnOk result (string_bytes text.new ≡ string_bytes text.old ++ tap_line name.now) }
+    ensures pushed { OnOk result
+        (string_bytes text.new ≡ string_bytes text.old ++ tap_line name.now) }
 {
     let name = name.as_str();
     write!(text, "tap {name}\n")?;
@@ -106,7 +112,8 @@ fn push_tap(text: &mut String, name: &Name) -> Result<(), NoMemory>
 
 #[tactic(auto, unfolding(crate::specs::Report::sight_line))]
 fn push_sight(text: &mut String, sight: Sight) -> Result<(), NoMemory>
-    ensures pushed { OnOk result (string_bytes text.new ≡ string_bytes text.old ++ sight_line sight) }
+    ensures pushed { OnOk result
+        (string_bytes text.new ≡ string_bytes text.old ++ sight_line sight) }
 {
     match sight {
         Sight::Call { step, reply } => {
@@ -151,7 +158,8 @@ fn push_stop(text: &mut String, stop: Stop) -> Result<(), NoMemory>
 
 #[tactic(auto, unfolding(crate::specs::Report::reply_text))]
 fn push_reply(text: &mut String, step: Step, reply: Reply) -> Result<(), NoMemory>
-    ensures pushed { OnOk result (string_bytes text.new ≡ string_bytes text.old ++ reply_text step reply) }
+    ensures pushed { OnOk result
+        (string_bytes text.new ≡ string_bytes text.old ++ reply_text step reply) }
 {
     match reply {
         Reply::Done { at } => Ok(write!(text, "done {at}")?),
@@ -159,7 +167,7 @@ fn push_reply(text: &mut String, step: Step, reply: Reply) -> Result<(), NoMemor
         Reply::Took { at, count } => Ok(write!(text, "took {at} {count}")?),
         Reply::Bits { at, words } => {
             write!(text, "bits {at}")?;
-            push_bits(text, asked_kind(step), &words)
+            push_bits(text, query_kind(step), &words)
         }
         Reply::Axis { at, info } => {
             let shown = AxisText(info);
@@ -175,8 +183,8 @@ fn push_reply(text: &mut String, step: Step, reply: Reply) -> Result<(), NoMemor
 }
 
 /// The type whose codes a step asks for.
-fn asked_kind(step: Step) -> u16
-    ensures kind { result ≡ asked_kind step }
+fn query_kind(step: Step) -> u16
+    ensures kind { result ≡ query_kind step }
 {
     match step {
         Step::GetKeys { .. } => EV_KEY,
@@ -190,7 +198,8 @@ fn asked_kind(step: Step) -> u16
 
 #[tactic(auto, unfolding(crate::specs::Report::bits_text))]
 fn push_bits(text: &mut String, kind: u16, words: &[u64; 12]) -> Result<(), NoMemory>
-    ensures pushed { OnOk result (string_bytes text.new ≡ string_bytes text.old ++ bits_text kind words.now) }
+    ensures pushed { OnOk result
+        (string_bytes text.new ≡ string_bytes text.old ++ bits_text kind words.now) }
 {
     for code in 0..768u16 {
         push_bit(text, kind, words, code)?;
@@ -200,7 +209,8 @@ fn push_bits(text: &mut String, kind: u16, words: &[u64; 12]) -> Result<(), NoMe
 
 fn push_bit(text: &mut String, kind: u16, words: &[u64; 12], code: u16) -> Result<(), NoMemory>
     requires code { code < 768 }
-    ensures pushed { OnOk result (string_bytes text.new ≡ string_bytes text.old ++ bit_text kind words.now code) }
+    ensures pushed { OnOk result
+        (string_bytes text.new ≡ string_bytes text.old ++ bit_text kind words.now code) }
 {
     if is_bit_set(words, code) {
         let shown = CodeText(kind, code);

@@ -4,7 +4,7 @@ ghost use Rattle.inp_tool.specs.Line.{IsPlayable};
 ghost use Rattle.inp_tool.specs.Play.{play};
 ghost use Rattle.inp_tool.specs.Report.{report};
 ghost use Rattle.inp_tool.specs.Outcome.{refused_text};
-ghost use Rattle.inp_tool.specs.Promise.{Reads, Writes, HasCause, IsToldOrCut, Promise, IsComplete, HasText, IsEnd};
+ghost use Rattle.inp_tool.specs.Promise.{reads_of, writes_of, HasCause, IsWritten, Promise, HidesNoFault, IsComplete, HasText, IsEnd};
 
 use crate::outcome::Outcome;
 use crate::player::play;
@@ -33,13 +33,18 @@ pub fn inputplay<I: Input, O: Sink, G: Gate>(
 ) -> End
     // The status, its cause, what was written, and what came of the record.
     ensures promise { Promise
-        (record { words = map string_bytes words.now; files = I.files input.old; faults = I.faults input.old; new_faults = I.faults input.new; given = I.given input.new; left = I.left input.new })
-        (record { written = O.written out.old; new_written = O.written out.new; faults = O.faults out.old; new_faults = O.faults out.new })
+        (reads_of I.files I.given I.left I.faults (map string_bytes words.now) input.old input.new)
+        (writes_of O.written O.faults out.old out.new)
+        result }
+    // Where a call was at fault the status says so.
+    ensures no_fault_hidden { HidesNoFault
+        (reads_of I.files I.given I.left I.faults (map string_bytes words.now) input.old input.new)
+        (writes_of O.written O.faults out.old out.new)
         result }
     // Where nothing is at fault, the report is written, or memory ran out.
     ensures complete { IsComplete
-        (record { words = map string_bytes words.now; files = I.files input.old; faults = I.faults input.old; new_faults = I.faults input.new; given = I.given input.new; left = I.left input.new })
-        (record { written = O.written out.old; new_written = O.written out.new; faults = O.faults out.old; new_faults = O.faults out.new })
+        (reads_of I.files I.given I.left I.faults (map string_bytes words.now) input.old input.new)
+        (writes_of O.written O.faults out.old out.new)
         result }
     // The objects that were handed in tell what they told before.
     ensures files_stay { I.files input.new ≡ I.files input.old }
@@ -48,14 +53,14 @@ pub fn inputplay<I: Input, O: Sink, G: Gate>(
     ensures out_faults { O.faults out.old ≤ O.faults out.new }
 {
     let _gate = gate;
-    let found = find(alloc, words, input);
-    tell(alloc, found, out)
+    let found = read_and_play(alloc, words, input);
+    write_outcome(alloc, found, out)
 }
 
 /// What the words and the input lead to, before anything is written.
-fn find<I: Input>(alloc: Global, words: &[String], input: &mut I) -> Outcome
+fn read_and_play<I: Input>(alloc: Global, words: &[String], input: &mut I) -> Outcome
     ensures cause { HasCause
-        (record { words = map string_bytes words.now; files = I.files input.old; faults = I.faults input.old; new_faults = I.faults input.new; given = I.given input.new; left = I.left input.new })
+        (reads_of I.files I.given I.left I.faults (map string_bytes words.now) input.old input.new)
         result }
     ensures files_stay { I.files input.new ≡ I.files input.old }
     ensures stays_told { is_some (I.left input.new) ≡ is_some (I.left input.old) }
@@ -77,11 +82,11 @@ fn play_text(alloc: Global, bytes: &[u8]) -> Outcome
     ensures text { HasText bytes.now result }
 {
     match parse(alloc, bytes) {
-        Ok(recorded) => match played(alloc, &recorded) {
+        Ok(recorded) => match play_and_report(alloc, &recorded) {
             Ok((runs, text)) => Outcome::Played { runs, text },
             Err(NoMemory) => Outcome::NoMemory,
         },
-        Err(ParseFault::Refused(refused)) => match refusal(alloc, refused) {
+        Err(ParseFault::Refused(refused)) => match refused_text(alloc, refused) {
             Ok(text) => Outcome::Refused { refused, text },
             Err(NoMemory) => Outcome::NoMemory,
         },
@@ -90,7 +95,7 @@ fn play_text(alloc: Global, bytes: &[u8]) -> Outcome
 }
 
 /// What comes of a record, and its report.
-fn played(alloc: Global, recorded: &Record) -> Result<(Runs, String), NoMemory>
+fn play_and_report(alloc: Global, recorded: &Record) -> Result<(Runs, String), NoMemory>
     requires playable { IsPlayable recorded.now.lines }
     ensures runs { IfOk result (λ found. found.0 ≡ play recorded.now) }
     ensures text { IfOk result (λ found. string_bytes found.1 ≡ report recorded.now found.0) }
@@ -101,7 +106,7 @@ fn played(alloc: Global, recorded: &Record) -> Result<(Runs, String), NoMemory>
 }
 
 /// The text that tells which line is refused.
-fn refusal(alloc: Global, refused: Refused) -> Result<String, NoMemory>
+fn refused_text(alloc: Global, refused: Refused) -> Result<String, NoMemory>
     ensures text { IfOk result (λ text. string_bytes text ≡ refused_text refused.line) }
 {
     let line = refused.line;
@@ -109,8 +114,8 @@ fn refusal(alloc: Global, refused: Refused) -> Result<String, NoMemory>
 }
 
 /// Writes the text of what was found, and tells its status, or 4 where the sink failed.
-fn tell<O: Sink>(alloc: Global, found: Outcome, out: &mut O) -> End
-    ensures told { IsToldOrCut (record { written = O.written out.old; new_written = O.written out.new; faults = O.faults out.old; new_faults = O.faults out.new }) found result }
+fn write_outcome<O: Sink>(alloc: Global, found: Outcome, out: &mut O) -> End
+    ensures written { IsWritten (writes_of O.written O.faults out.old out.new) found result }
     ensures never_falls { O.faults out.old ≤ O.faults out.new }
 {
     let written = write_all(out, found.text().as_bytes());

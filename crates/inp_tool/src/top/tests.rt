@@ -1,8 +1,14 @@
 //! The program's one call over inputs and sinks in memory: what no clause says, and each status once.
 use super::inputplay;
 use crate::End;
-use inp_edge::{Failed, Fails, INPUT_LIMIT, Input, MemFile, MemFiles, MemInput, MemSink, OpenGate};
+use inp_edge::{
+    Failed, Fails, FileInput, Gate, INPUT_LIMIT, Input, MemFile, MemFiles, MemInput, MemSink,
+    OpenGate,
+};
 use std::alloc::{AllocError, Global};
+use std::fs;
+use std::rt::Files;
+use std::sync::atomic::{AtomicU64, Ordering};
 use std::test::Fail;
 
 const HEAD: &str = "inputrecord 1\ndevice kbd\ncap EV_KEY KEY_A\nsource s\ntap t\n";
@@ -244,6 +250,65 @@ fn writes_what_fits(rt: HostRuntime) -> Result<(), Fail> {
     assert_eq!(rt; end.status, 4);
     assert_eq!(rt; sink.bytes(), b"usa".as_slice());
     assert!(rt; end.runs.is_empty());
+    Ok(())
+}
+
+#[test]
+fn tells_the_faults_of_real_files(rt: HostRuntime) -> Result<(), Fail> {
+    let path = "inp_tool_tells_the_faults_of_real_files";
+    fs::write(&rt, path, record_of(rt.alloc(), ONE_KEY)?.as_bytes())?;
+    let failed = "inputplay: read failed\n";
+    // The file, the status, the text, the input's count of faults, and what a read after the call answers.
+    let table = [
+        (path, 0, ONE_KEY_REPORT, 0, Ok(0)),
+        // A folder opens, and its read fails.
+        (".", 3, failed, 1, Err(Failed)),
+        (path, 0, ONE_KEY_REPORT, 2, Ok(0)),
+        ("no such file", 3, failed, 3, Ok(0)),
+    ];
+    let mut input = FileInput::new(&rt);
+    for (name, status, want, faults, after) in table {
+        let words = words_of(rt.alloc(), &[name])?;
+        let mut sink = sink_of(rt.alloc(), AMPLE, &[])?;
+        let end = call(rt.alloc(), &words, &mut input, &mut sink);
+        assert_eq!(rt; end.status, status, "{name}");
+        assert_eq!(rt; sink.bytes(), want.as_bytes(), "{name}");
+        assert_eq!(rt; input.faults(), faults, "{name}");
+        assert_eq!(rt; input.read(&mut [0]), after, "{name}");
+    }
+    rt.remove_file(path)?;
+    Ok(())
+}
+
+/// A gate that counts its calls.
+#[derive(Drop)]
+struct CountingGate {
+    calls: AtomicU64,
+}
+
+impl Gate for CountingGate {
+    fn before(&self, _job: u32, _call: u32) {
+        let _before = self.calls.fetch_add(1, Ordering::SeqCst);
+    }
+}
+
+#[test]
+fn passes_no_gate(rt: HostRuntime) -> Result<(), Fail> {
+    let text = record_of(rt.alloc(), ONE_KEY)?;
+    let words = words_of(rt.alloc(), &["f"])?;
+    let mut input = input_of(rt.alloc(), &text, &[])?;
+    let mut sink = sink_of(rt.alloc(), AMPLE, &[])?;
+    let gate = CountingGate {
+        calls: AtomicU64::new(0),
+    };
+    gate.before(0, 0);
+    let end = inputplay(rt.alloc(), &words, &mut input, &mut sink, &gate);
+    assert_eq!(rt; end.status, 0);
+    assert_eq!(rt;
+        gate.calls.load(Ordering::SeqCst),
+        1,
+        "the test's own call alone"
+    );
     Ok(())
 }
 

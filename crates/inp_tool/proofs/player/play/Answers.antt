@@ -1,7 +1,7 @@
 use Rattle.std.proofs.Common.{List, [], ◌∷◌, ◌++◌, ap, sym, subst, ◌∙◌}
 use Rattle.inp_tool.specs.declared.line.Line.{Line}
 use Rattle.inp_tool.specs.declared.run.Run.{Run}
-use Rattle.inp_tool.specs.Player.{Playing, at_first, CanPlay, run_from}
+use Rattle.inp_tool.specs.Player.{PlayerView, at_first, CanPlay, run_from}
 use Rattle.inp_tool.proofs.Playing.{can_play-at_first, turn, last_turn, run_from-after_all}
 use Rattle.inp_tool.proofs.player.play.Goals as goal
 
@@ -11,7 +11,7 @@ loop-line-init c =
     let items = c.as_slice-line-items.ensures.items in
     record {
       same = cc (fresh, items);
-      can_play = subst (λ (p : Playing). CanPlay p c.as_slice-line-items.result.now) (sym fresh)
+      can_play = subst (λ (p : PlayerView). CanPlay p c.as_slice-line-items.result.now) (sym fresh)
           (subst (λ (ls : List Line). CanPlay at_first ls) (sym items) (can_play-at_first c.args.recorded.now.lines c.requires.playable));
     }
 

@@ -1,6 +1,6 @@
 use Rattle.std.proofs.Common.{◌≡◌, ℕ, sym, ◌∙◌, Result, Ok, Err}
 use Rattle.inp_tool.specs.declared.record.Record.{Record}
-use Rattle.inp_tool.proofs.worked_records.record_laws.Goals as goal
+use Rattle.inp_tool.proofs.record_theorems.record_laws.Goals as goal
 
 same_ok : (r s : Record) → (let x : Result Record ℕ = Ok r in x ≡ Ok s) → r ≡ s
 same_ok r s h = cc
