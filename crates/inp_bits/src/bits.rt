@@ -80,7 +80,8 @@ impl<const W: usize> Bits<W> {
     /// The 64 values from `64 * word_index` on, for a `word_index` below W: the first is the lowest bit of the result.
     pub fn word(&self, word_index: u32) -> u64
         requires within { word_index < W }
-        ensures value { word_bits result ≡ slice_range self.now (64 * word_index) (64 * word_index + 64) }
+        ensures value { word_bits result
+            ≡ slice_range self.now (64 * word_index) (64 * word_index + 64) }
         ensures len { length self.now ≡ 64 * W }
     {
         self.words[word_index as usize]
@@ -91,7 +92,8 @@ impl<const W: usize> Bits<W> {
     pub fn set_word(&mut self, word_index: u32, bits: u64)
         requires within { word_index < W }
         ensures written { self.new
-            ≡ take (64 * word_index) self.old ++ word_bits bits ++ drop (64 * word_index + 64) self.old }
+            ≡ take (64 * word_index) self.old ++ word_bits bits
+            ++ drop (64 * word_index + 64) self.old }
         ensures len { length self.new ≡ 64 * W }
     {
         self.words[word_index as usize] = bits;

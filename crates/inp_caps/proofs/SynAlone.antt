@@ -28,7 +28,7 @@ IsDescription-syn_alone = record {
   infos = AreAxes-none;
   slots = omega arith;
   hint = (omega arith, omega arith);
-  log = (omega arith, omega arith);
+  log_limit = (omega arith, omega arith);
   realtime = omega arith;
   boottime = omega arith;
 }

@@ -19,7 +19,7 @@ syn_alone = record {
   infos = replicate 64 no_info;
   slots = 0;
   hint = 16;
-  log = 1048576;
+  log_limit = 1048576;
   realtime = 0;
   boottime = 0;
 }

@@ -15,7 +15,7 @@ description c = record {
   infos = c.infos;
   slots = c.slots;
   hint = c.hint;
-  log = c.log;
+  log_limit = c.log;
   realtime = c.realtime;
   boottime = c.boottime;
 }

@@ -129,7 +129,7 @@ impl Caps {
 
     /// How many steps a history may have, 1 to 8,388,608.
     pub fn log(&self) -> u32
-        ensures log { result ≡ self.now.log }
+        ensures log { result ≡ self.now.log_limit }
         ensures range { (1 ≤ result) × (result ≤ LOG_MAX) }
     {
         self.log
@@ -254,7 +254,7 @@ impl Caps {
 
     pub(crate) fn set_log(&mut self, count: u32)
         requires { (1 ≤ count) × (count ≤ LOG_MAX) }
-        ensures { self.new ≡ record self.old { log = count } }
+        ensures { self.new ≡ record self.old { log_limit = count } }
     {
         self.log = count;
     }

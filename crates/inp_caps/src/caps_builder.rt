@@ -74,7 +74,8 @@ impl CapsBuilder {
     /// `BadCode` comes where the code is above `ABS_MAX`. Else `BadAxis` comes where the fuzz is not in 0 to 2^30, where
     /// a multi-touch axis has a value other than 0, and where `ABS_MT_SLOT` or `ABS_MT_TRACKING_ID` has a fuzz.
     pub fn axis(&mut self, code: u16, info: AxisInfo) -> Result<(), CapsRefused>
-        ensures answer { result ≡ (if nat_lt ABS_MAX code then Err CapsRefused.BadCode else if is_bad_axis code info then Err CapsRefused.BadAxis else Ok tt) }
+        ensures answer { result ≡ (if nat_lt ABS_MAX code then Err CapsRefused.BadCode
+            else if is_bad_axis code info then Err CapsRefused.BadAxis else Ok tt) }
         ensures ok { OnOk result (self.new ≡ with_axis (with_kind self.old EV_ABS) code info) }
         ensures err { OnErr result (self.new ≡ self.old) }
     {
@@ -91,7 +92,8 @@ impl CapsBuilder {
 
     /// Sets the number of multi-touch slots. `BadSlots` comes outside 1 to 64.
     pub fn slots(&mut self, count: u32) -> Result<(), CapsRefused>
-        ensures answer { result ≡ (if nat_le 1 count && nat_le count SLOTS_MAX then Ok tt else Err CapsRefused.BadSlots) }
+        ensures answer { result ≡ (if nat_le 1 count && nat_le count SLOTS_MAX then Ok tt
+            else Err CapsRefused.BadSlots) }
         ensures ok { OnOk result (self.new ≡ record self.old { slots = count }) }
         ensures err { OnErr result (self.new ≡ self.old) }
     {
@@ -104,7 +106,8 @@ impl CapsBuilder {
 
     /// Sets how many events a frame may gather before it is cut. `BadHint` comes outside 2 to 512.
     pub fn hint(&mut self, count: u32) -> Result<(), CapsRefused>
-        ensures answer { result ≡ (if nat_le HINT_MIN count && nat_le count HINT_MAX then Ok tt else Err CapsRefused.BadHint) }
+        ensures answer { result ≡ (if nat_le HINT_MIN count && nat_le count HINT_MAX
+            then Ok tt else Err CapsRefused.BadHint) }
         ensures ok { OnOk result (self.new ≡ record self.old { hint = count }) }
         ensures err { OnErr result (self.new ≡ self.old) }
     {
@@ -117,8 +120,9 @@ impl CapsBuilder {
 
     /// Sets how many steps a history may have. `BadLog` comes outside 1 to 8,388,608.
     pub fn log(&mut self, count: u32) -> Result<(), CapsRefused>
-        ensures answer { result ≡ (if nat_le 1 count && nat_le count LOG_MAX then Ok tt else Err CapsRefused.BadLog) }
-        ensures ok { OnOk result (self.new ≡ record self.old { log = count }) }
+        ensures answer { result
+            ≡ (if nat_le 1 count && nat_le count LOG_MAX then Ok tt else Err CapsRefused.BadLog) }
+        ensures ok { OnOk result (self.new ≡ record self.old { log_limit = count }) }
         ensures err { OnErr result (self.new ≡ self.old) }
     {
         if count < 1 || count > LOG_MAX {
@@ -131,8 +135,10 @@ impl CapsBuilder {
     /// Sets how far the realtime and the boottime clock are ahead of the monotonic one, in microseconds. `BadOffset`
     /// comes where one is above `MOMENT_MAX`.
     pub fn offsets(&mut self, realtime: u64, boottime: u64) -> Result<(), CapsRefused>
-        ensures answer { result ≡ (if nat_le realtime MOMENT_MAX && nat_le boottime MOMENT_MAX then Ok tt else Err CapsRefused.BadOffset) }
-        ensures ok { OnOk result (self.new ≡ record self.old { realtime = realtime; boottime = boottime }) }
+        ensures answer { result ≡ (if nat_le realtime MOMENT_MAX && nat_le boottime MOMENT_MAX
+            then Ok tt else Err CapsRefused.BadOffset) }
+        ensures ok { OnOk result (self.new
+            ≡ record self.old { realtime = realtime; boottime = boottime }) }
         ensures err { OnErr result (self.new ≡ self.old) }
     {
         if realtime > MOMENT_MAX || boottime > MOMENT_MAX {

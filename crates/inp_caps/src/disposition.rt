@@ -27,7 +27,8 @@ impl Flags for Disposition {
 
     ghost exact = { ⊤ };
 
-    ghost table = { (codes "TO_HANDLERS", 1) ∷ (codes "TO_DEVICE", 2) ∷ (codes "SLOT", 4) ∷ (codes "FLUSH", 8) ∷ [] };
+    ghost table = { (codes "TO_HANDLERS", 1) ∷ (codes "TO_DEVICE", 2) ∷ (codes "SLOT", 4)
+        ∷ (codes "FLUSH", 8) ∷ [] };
 
     ghost set_of = { flags_of };
 

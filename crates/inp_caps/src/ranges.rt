@@ -53,7 +53,8 @@ fn has_bad_value(code: u16, info: AxisInfo) -> bool
 
 // Neither the number of a slot nor a tracking id is smoothed.
 fn has_needless_fuzz(code: u16, info: AxisInfo) -> bool
-    ensures { result ≡ ((nat_eq code ABS_MT_SLOT || nat_eq code ABS_MT_TRACKING_ID) && not (int_eq info.fuzz (pos 0))) }
+    ensures { result ≡ ((nat_eq code ABS_MT_SLOT || nat_eq code ABS_MT_TRACKING_ID)
+        && not (int_eq info.fuzz (pos 0))) }
 {
     (code == ABS_MT_SLOT || code == ABS_MT_TRACKING_ID) && info.fuzz != 0
 }

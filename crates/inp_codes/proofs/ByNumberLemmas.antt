@@ -3,7 +3,7 @@ use Rattle.std.proofs.Common.{◌≡◌, ℕ, zero, suc, ◌+◌, ◌-◌, ◌<�
 use Rattle.std.proofs.lemmas.Bool.{and_parts, cases_order, true≢false, false≢true}
 use Rattle.std.specs.Borrow.{Bor}
 use Rattle.inp_codes.specs.Table.{Entry, name_in}
-use Rattle.inp_codes.specs.ByNumber.{texts, indexed, indexed_from, indexed_name, unless_empty}
+use Rattle.inp_codes.specs.ByNumber.{texts, names_by_number, names_from, name_at, unless_empty}
 
 -- the text has a byte
 abbrev pub is_some_text : List ℕ → Bool
@@ -30,61 +30,61 @@ name_in-below (e ∷ es) first number rise below =
     rw (ne_eqb e.0 number (λ s. omega arith)) (name_in-below es (e.0 + 1) number parts.1 (omega arith))
 
 -- no name stands at the index of a hole
-indexed_name-hole : (holes i : ℕ) (ts : List (List ℕ)) → i < holes → indexed_name (replicate holes [] ++ ts) i ≡ None
-unfolding indexed_name
-indexed_name-hole zero i ts h = absurd (omega arith)
-indexed_name-hole (suc holes) zero ts h = refl
-indexed_name-hole (suc holes) (suc i) ts h = indexed_name-hole holes i ts (omega arith)
+name_at-hole : (holes i : ℕ) (ts : List (List ℕ)) → i < holes → name_at (replicate holes [] ++ ts) i ≡ None
+unfolding name_at
+name_at-hole zero i ts h = absurd (omega arith)
+name_at-hole (suc holes) zero ts h = refl
+name_at-hole (suc holes) (suc i) ts h = name_at-hole holes i ts (omega arith)
 
 -- behind the holes stands what stood without them
-indexed_name-after : (holes i : ℕ) (ts : List (List ℕ)) → indexed_name (replicate holes [] ++ ts) (holes + i) ≡ indexed_name ts i
-unfolding indexed_name
-indexed_name-after zero i ts = ap (indexed_name ts) (omega arith)
-indexed_name-after (suc holes) i ts =
+name_at-after : (holes i : ℕ) (ts : List (List ℕ)) → name_at (replicate holes [] ++ ts) (holes + i) ≡ name_at ts i
+unfolding name_at
+name_at-after zero i ts = ap (name_at ts) (omega arith)
+name_at-after (suc holes) i ts =
     let sum : suc holes + i ≡ suc (holes + i) = omega arith in
-    rw sum (indexed_name-after holes i ts)
+    rw sum (name_at-after holes i ts)
 
 -- the name of a number stands at its index
-indexed_name-indexed_from : (es : List (Entry ℕ)) (first i : ℕ) → numbers_rise first es ≡ true → indexed_name (indexed_from first es) i ≡ name_in nat_eq es (first + i)
-unfolding indexed_from name_in numbers_rise indexed_name
-indexed_name-indexed_from [] first i rise = refl
-indexed_name-indexed_from (e ∷ es) first i rise =
+name_at-names_from : (es : List (Entry ℕ)) (first i : ℕ) → numbers_rise first es ≡ true → name_at (names_from first es) i ≡ name_in nat_eq es (first + i)
+unfolding names_from name_in numbers_rise name_at
+name_at-names_from [] first i rise = refl
+name_at-names_from (e ∷ es) first i rise =
     let parts = and_parts (nat_le first e.0 && is_some_text e.1) (numbers_rise (e.0 + 1) es) rise in
     let this = and_parts (nat_le first e.0) (is_some_text e.1) parts.0 in
     let from : first ≤ e.0 = leb-true first e.0 this.0 in
-    let rest = e.1 ∷ indexed_from (e.0 + 1) es in
+    let rest = e.1 ∷ names_from (e.0 + 1) es in
     elim (cases_order (first + i) e.0) [
       | inl at ↦
           let i_is : i ≡ (e.0 - first) + 0 = omega arith in
           rw (eq-eqb e.0 (first + i) (sym at))
-          (ap (indexed_name (replicate (e.0 - first) [] ++ rest)) i_is ∙ indexed_name-after (e.0 - first) 0 rest ∙ unless_empty-some e.1 this.1)
+          (ap (name_at (replicate (e.0 - first) [] ++ rest)) i_is ∙ name_at-after (e.0 - first) 0 rest ∙ unless_empty-some e.1 this.1)
       | inr apart ↦ elim apart [
         | inl before ↦
             rw (ne_eqb e.0 (first + i) (λ s. omega arith))
-            (indexed_name-hole (e.0 - first) i rest (omega arith) ∙ sym (name_in-below es (e.0 + 1) (first + i) parts.1 (omega arith)))
+            (name_at-hole (e.0 - first) i rest (omega arith) ∙ sym (name_in-below es (e.0 + 1) (first + i) parts.1 (omega arith)))
         | inr after ↦
             let j = i - (e.0 - first) - 1 in
             let i_is : i ≡ (e.0 - first) + suc j = omega arith in
             let sum : (e.0 + 1) + j ≡ first + i = omega arith in
             rw (ne_eqb e.0 (first + i) (λ s. omega arith))
-            (ap (indexed_name (replicate (e.0 - first) [] ++ rest)) i_is ∙ indexed_name-after (e.0 - first) (suc j) rest
-            ∙ indexed_name-indexed_from es (e.0 + 1) j parts.1 ∙ ap (name_in nat_eq es) sum)
+            (ap (name_at (replicate (e.0 - first) [] ++ rest)) i_is ∙ name_at-after (e.0 - first) (suc j) rest
+            ∙ name_at-names_from es (e.0 + 1) j parts.1 ∙ ap (name_in nat_eq es) sum)
       ]
     ]
 
 -- no name stands past the end
-pub indexed_name-past : (names : List (Bor (List ℕ))) (i : ℕ) → length names ≤ i → indexed_name (texts names) i ≡ None
-unfolding indexed_name
-indexed_name-past [] i h = refl
-indexed_name-past (n ∷ ns) zero h = absurd (omega arith)
-indexed_name-past (n ∷ ns) (suc i) h = indexed_name-past ns i (omega arith)
+pub name_at-past : (names : List (Bor (List ℕ))) (i : ℕ) → length names ≤ i → name_at (texts names) i ≡ None
+unfolding name_at
+name_at-past [] i h = refl
+name_at-past (n ∷ ns) zero h = absurd (omega arith)
+name_at-past (n ∷ ns) (suc i) h = name_at-past ns i (omega arith)
 
 -- the text at an index is the name there, unless it is empty
-pub indexed_name-item : (names : List (Bor (List ℕ))) (i : ℕ) (x : Bor (List ℕ)) → i < length names → x ≡ get_or names i x → indexed_name (texts names) i ≡ unless_empty x.now
-unfolding indexed_name
-indexed_name-item [] i x h e = absurd (omega arith)
-indexed_name-item (n ∷ ns) zero x h e = ap (λ y. unless_empty y.now) (sym e)
-indexed_name-item (n ∷ ns) (suc i) x h e = indexed_name-item ns i x (omega arith) e
+pub name_at-item : (names : List (Bor (List ℕ))) (i : ℕ) (x : Bor (List ℕ)) → i < length names → x ≡ get_or names i x → name_at (texts names) i ≡ unless_empty x.now
+unfolding name_at
+name_at-item [] i x h e = absurd (omega arith)
+name_at-item (n ∷ ns) zero x h e = ap (λ y. unless_empty y.now) (sym e)
+name_at-item (n ∷ ns) (suc i) x h e = name_at-item ns i x (omega arith) e
 
 -- what the test of the length says of a text
 pub unless_empty-none : (t : List ℕ) → (length t == 0) ≡ true → unless_empty t ≡ None
@@ -96,5 +96,5 @@ unless_empty-is [] h = absurd (true≢false h)
 unless_empty-is (b ∷ bs) h = refl
 
 -- the name of a number stands at its index, from 0 on
-pub indexed_name-indexed : (es : List (Entry ℕ)) (i : ℕ) → numbers_rise 0 es ≡ true → indexed_name (indexed es) i ≡ name_in nat_eq es i
-indexed_name-indexed es i rise = let sum : 0 + i ≡ i = omega arith in indexed_name-indexed_from es 0 i rise ∙ ap (name_in nat_eq es) sum
+pub name_at-names_by_number : (es : List (Entry ℕ)) (i : ℕ) → numbers_rise 0 es ≡ true → name_at (names_by_number es) i ≡ name_in nat_eq es i
+name_at-names_by_number es i rise = let sum : 0 + i ≡ i = omega arith in name_at-names_from es 0 i rise ∙ ap (name_in nat_eq es) sum

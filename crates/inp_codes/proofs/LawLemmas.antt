@@ -1,8 +1,8 @@
 -- The laws of the tables, for the proofs of this crate and of those above it.
 use Rattle.std.proofs.Common.{◌≡◌, true, nat_eq, eqb-true, refl}
 use Rattle.std.specs.List.{list_all}
-use Rattle.inp_codes.specs.CodeNames.{code_entries, code_text, code_numbers, is_same_code, CodeTextsAreEntries, CodesAreOneToOne, CodeTextsAreWords}
-use Rattle.inp_codes.specs.KindNames.{kind_entries, kind_text, kind_number, KindTextsAreEntries, KindsAreOneToOne, KindTextsAreWords}
+use Rattle.inp_codes.specs.CodeNames.{code_entries, name_of, code_of, is_same_code, CodeNamesAreEntries, CodesAreOneToOne, CodeNamesAreWords}
+use Rattle.inp_codes.specs.KindNames.{kind_entries, kind_name, kind_of, KindNamesAreEntries, KindsAreOneToOne, KindNamesAreWords}
 use Rattle.inp_codes.specs.Table.{is_word}
 use Rattle.inp_codes.proofs.CodeNamesLemmas.{is_same_code-true}
 use Rattle.inp_codes.proofs.Computing.{event_codes}
@@ -34,26 +34,26 @@ code_words : list_all (λ e. is_word e.1) code_entries ≡ true
 unfolding event_codes
 code_words = refl
 
-pub kind_text-iff_entry : KindTextsAreEntries
-unfolding kind_text
-kind_text-iff_entry = name_in-iff_entry nat_eq eqb-true kind_entries kind_names_found
+pub kind_name-iff_entry : KindNamesAreEntries
+unfolding kind_name
+kind_name-iff_entry = name_in-iff_entry nat_eq eqb-true kind_entries kind_names_found
 
-pub kind_text-iff_kind_number : KindsAreOneToOne
-unfolding kind_text kind_number
-kind_text-iff_kind_number = name_in-iff_number nat_eq eqb-true kind_entries kind_names_found kind_numbers_found
+pub kind_name-iff_kind_of : KindsAreOneToOne
+unfolding kind_name kind_of
+kind_name-iff_kind_of = name_in-iff_number nat_eq eqb-true kind_entries kind_names_found kind_numbers_found
 
-pub is_word-kind_text : KindTextsAreWords
-unfolding kind_text
-is_word-kind_text = is_word-name_in nat_eq eqb-true kind_entries kind_words
+pub is_word-kind_name : KindNamesAreWords
+unfolding kind_name
+is_word-kind_name = is_word-name_in nat_eq eqb-true kind_entries kind_words
 
-pub code_text-iff_entry : CodeTextsAreEntries
-unfolding code_text
-code_text-iff_entry kind code = name_in-iff_entry is_same_code is_same_code-true code_entries code_names_found (kind, code)
+pub name_of-iff_entry : CodeNamesAreEntries
+unfolding name_of
+name_of-iff_entry kind code = name_in-iff_entry is_same_code is_same_code-true code_entries code_names_found (kind, code)
 
-pub code_text-iff_code_numbers : CodesAreOneToOne
-unfolding code_text code_numbers
-code_text-iff_code_numbers kind code = name_in-iff_number is_same_code is_same_code-true code_entries code_names_found code_numbers_found (kind, code)
+pub name_of-iff_code_of : CodesAreOneToOne
+unfolding name_of code_of
+name_of-iff_code_of kind code = name_in-iff_number is_same_code is_same_code-true code_entries code_names_found code_numbers_found (kind, code)
 
-pub is_word-code_text : CodeTextsAreWords
-unfolding code_text
-is_word-code_text kind code = is_word-name_in is_same_code is_same_code-true code_entries code_words (kind, code)
+pub is_word-name_of : CodeNamesAreWords
+unfolding name_of
+is_word-name_of kind code = is_word-name_in is_same_code is_same_code-true code_entries code_words (kind, code)

@@ -8,13 +8,13 @@ abbrev pub texts : List (Bor (List ℕ)) → List (List ℕ)
 texts names = map (λ name. name.now) names
 
 -- the names of entries whose numbers rise, from the number `first` on; an empty text stands for each number that has none
-unfoldable pub indexed_from : ℕ → List (Entry ℕ) → List (List ℕ)
-indexed_from first [] = []
-indexed_from first (e ∷ es) = replicate (e.0 - first) [] ++ e.1 ∷ indexed_from (e.0 + 1) es
+unfoldable pub names_from : ℕ → List (Entry ℕ) → List (List ℕ)
+names_from first [] = []
+names_from first (e ∷ es) = replicate (e.0 - first) [] ++ e.1 ∷ names_from (e.0 + 1) es
 
 -- the same from 0 on, so that each name's index is its number
-abbrev pub indexed : List (Entry ℕ) → List (List ℕ)
-indexed = indexed_from 0
+abbrev pub names_by_number : List (Entry ℕ) → List (List ℕ)
+names_by_number = names_from 0
 
 -- a text, unless it is empty
 abbrev pub unless_empty : List ℕ → Option (List ℕ)
@@ -22,7 +22,7 @@ unless_empty [] = None
 unless_empty (b ∷ bs) = Some (b ∷ bs)
 
 -- the name at an index, if one stands there
-unfoldable pub indexed_name : List (List ℕ) → ℕ → Option (List ℕ)
-indexed_name [] i = None
-indexed_name (t ∷ ts) zero = unless_empty t
-indexed_name (t ∷ ts) (suc i) = indexed_name ts i
+unfoldable pub name_at : List (List ℕ) → ℕ → Option (List ℕ)
+name_at [] i = None
+name_at (t ∷ ts) zero = unless_empty t
+name_at (t ∷ ts) (suc i) = name_at ts i

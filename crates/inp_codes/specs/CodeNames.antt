@@ -347,24 +347,29 @@ abbrev pub is_same_code : ℕ × ℕ → ℕ × ℕ → Bool
 is_same_code p q = (p.0 == q.0) && (p.1 == q.1)
 
 -- the name of a type's code
-unfoldable pub code_text : ℕ → ℕ → Option (List ℕ)
-code_text kind code = name_in is_same_code code_entries (kind, code)
+unfoldable pub name_of : ℕ → ℕ → Option (List ℕ)
+name_of kind code = name_in is_same_code code_entries (kind, code)
 
 -- the type and the code that have this name
-unfoldable pub code_numbers : List ℕ → Option (ℕ × ℕ)
-code_numbers name = number_in code_entries name
+unfoldable pub code_of : List ℕ → Option (ℕ × ℕ)
+code_of name = number_in code_entries name
 
 -- a code has a name exactly where the table has an entry of both
-abbrev pub CodeTextsAreEntries : Type 0
-CodeTextsAreEntries = (kind code : ℕ) (name : List ℕ) → (code_text kind code ≡ Some name) ↔ Contains code_entries ((kind, code), name)
+abbrev pub CodeNamesAreEntries : Type 0
+CodeNamesAreEntries =
+    (kind code : ℕ) (name : List ℕ)
+    → (name_of kind code ≡ Some name) ↔ Contains code_entries ((kind, code), name)
 
 -- a code has a name exactly where the name has that code
 abbrev pub CodesAreOneToOne : Type 0
-CodesAreOneToOne = (kind code : ℕ) (name : List ℕ) → (code_text kind code ≡ Some name) ↔ (code_numbers name ≡ Some (kind, code))
+CodesAreOneToOne =
+    (kind code : ℕ) (name : List ℕ)
+    → (name_of kind code ≡ Some name) ↔ (code_of name ≡ Some (kind, code))
 
 -- a code's name is a word
-abbrev pub CodeTextsAreWords : Type 0
-CodeTextsAreWords = (kind code : ℕ) (name : List ℕ) → code_text kind code ≡ Some name → IsTrue (is_word name)
+abbrev pub CodeNamesAreWords : Type 0
+CodeNamesAreWords =
+    (kind code : ℕ) (name : List ℕ) → name_of kind code ≡ Some name → IsTrue (is_word name)
 
 -- the first list of codes that stands with this type, or none
 unfoldable pub codes_in : List (ℕ × List (Entry ℕ)) → ℕ → List (Entry ℕ)

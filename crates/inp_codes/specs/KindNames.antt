@@ -17,21 +17,24 @@ kind_entries =
     ∷ []
 
 -- the name of a type
-unfoldable pub kind_text : ℕ → Option (List ℕ)
-kind_text kind = name_in nat_eq kind_entries kind
+unfoldable pub kind_name : ℕ → Option (List ℕ)
+kind_name kind = name_in nat_eq kind_entries kind
 
 -- the type that has this name
-unfoldable pub kind_number : List ℕ → Option ℕ
-kind_number name = number_in kind_entries name
+unfoldable pub kind_of : List ℕ → Option ℕ
+kind_of name = number_in kind_entries name
 
 -- a type has a name exactly where the table has an entry of both
-abbrev pub KindTextsAreEntries : Type 0
-KindTextsAreEntries = (kind : ℕ) (name : List ℕ) → (kind_text kind ≡ Some name) ↔ Contains kind_entries (kind, name)
+abbrev pub KindNamesAreEntries : Type 0
+KindNamesAreEntries =
+    (kind : ℕ) (name : List ℕ)
+    → (kind_name kind ≡ Some name) ↔ Contains kind_entries (kind, name)
 
 -- a type has a name exactly where the name has that type
 abbrev pub KindsAreOneToOne : Type 0
-KindsAreOneToOne = (kind : ℕ) (name : List ℕ) → (kind_text kind ≡ Some name) ↔ (kind_number name ≡ Some kind)
+KindsAreOneToOne =
+    (kind : ℕ) (name : List ℕ) → (kind_name kind ≡ Some name) ↔ (kind_of name ≡ Some kind)
 
 -- a type's name is a word
-abbrev pub KindTextsAreWords : Type 0
-KindTextsAreWords = (kind : ℕ) (name : List ℕ) → kind_text kind ≡ Some name → IsTrue (is_word name)
+abbrev pub KindNamesAreWords : Type 0
+KindNamesAreWords = (kind : ℕ) (name : List ℕ) → kind_name kind ≡ Some name → IsTrue (is_word name)

@@ -1,7 +1,7 @@
 //! The codes of event types and their names.
 ghost use Rattle.std.specs.Prelude.{◌≡◌, option_copied};
-ghost use Rattle.inp_codes.specs.ByNumber.{texts, indexed};
-ghost use Rattle.inp_codes.specs.CodeNames.{code_text, code_numbers, codes_of_kind};
+ghost use Rattle.inp_codes.specs.ByNumber.{texts, names_by_number};
+ghost use Rattle.inp_codes.specs.CodeNames.{name_of, code_of, codes_of_kind};
 
 mod keys;
 mod names;
@@ -22,7 +22,7 @@ use rows::code_rows;
 /// Numbers and names are those of the kernel's header `input-event-codes.h`, one name for each code:
 /// which of several the table has is this project's choice. One look at an index.
 pub fn name_of(kind: u16, code: u16) -> Option<&'static str>
-    ensures name { option_copied result ≡ code_text kind code }
+    ensures name { option_copied result ≡ name_of kind code }
 {
     name_at(code_names(kind), code)
 }
@@ -32,15 +32,15 @@ pub fn name_of(kind: u16, code: u16) -> Option<&'static str>
 ///
 /// The whole text is compared, byte by byte: case counts, and nothing is trimmed. A binary search.
 pub fn code_of(text: &str) -> Option<(u16, u16)>
-    ensures code { result ≡ code_numbers text.now }
+    ensures code { result ≡ code_of text.now }
 {
     find_number(code_rows(), text)
 }
 
 /// The names of the codes of `kind`, at their codes.
-#[tactic(auto, unfolding(crate::specs::CodeNames::codes_in, crate::specs::CodeNames::kinds_with_codes, crate::specs::ByNumber::indexed_from))]
+#[tactic(auto, unfolding(crate::specs::CodeNames::codes_in, crate::specs::CodeNames::kinds_with_codes, crate::specs::ByNumber::names_from))]
 fn code_names(kind: u16) -> &'static [&'static str]
-    ensures { texts result.now ≡ indexed (codes_of_kind kind) }
+    ensures { texts result.now ≡ names_by_number (codes_of_kind kind) }
 {
     match kind {
         EV_SYN => syn_names(),

@@ -1,8 +1,8 @@
 //! The event types and their names.
 ghost use Rattle.std.specs.Prelude.{◌≡◌, option_copied};
 ghost use Rattle.inp_codes.specs.ByName.{AreRowsOf};
-ghost use Rattle.inp_codes.specs.ByNumber.{texts, indexed};
-ghost use Rattle.inp_codes.specs.KindNames.{kind_entries, kind_text, kind_number};
+ghost use Rattle.inp_codes.specs.ByNumber.{texts, names_by_number};
+ghost use Rattle.inp_codes.specs.KindNames.{kind_entries, kind_name, kind_of};
 
 use crate::by_name::{find_number, rows};
 use crate::by_number::{name_at, names};
@@ -30,7 +30,7 @@ pub(crate) const EV_REP: u16 = 0x14;
 ///
 /// Numbers and names are those of the kernel's header `input-event-codes.h`. One look at an index.
 pub fn kind_name(kind: u16) -> Option<&'static str>
-    ensures name { option_copied result ≡ kind_text kind }
+    ensures name { option_copied result ≡ kind_name kind }
 {
     name_at(kind_names(), kind)
 }
@@ -39,14 +39,14 @@ pub fn kind_name(kind: u16) -> Option<&'static str>
 ///
 /// The whole text is compared, byte by byte: case counts, and nothing is trimmed. A binary search.
 pub fn kind_of(text: &str) -> Option<u16>
-    ensures kind { result ≡ kind_number text.now }
+    ensures kind { result ≡ kind_of text.now }
 {
     find_number(kind_rows(), text)
 }
 
 /// The names of event types, at their numbers.
 fn kind_names() -> &'static [&'static str]
-    ensures { texts result.now ≡ indexed kind_entries }
+    ensures { texts result.now ≡ names_by_number kind_entries }
 {
     static NAMES: [&str; 21] = names![
         // 0x00

@@ -57,7 +57,7 @@ kept_row s k = value_at s (slot_at k) (code_at k)
 abbrev cell_at : Description → List Event → ℕ → ℤ
 cell_at d r k = cell d r (pos (slot_at k)) (code_at k)
 
-range-append : (a m n : ℕ) → range_with_len a (m + n) ≡ range_with_len a m ++ range_with_len (a + m) n
+pub range-append : (a m n : ℕ) → range_with_len a (m + n) ≡ range_with_len a m ++ range_with_len (a + m) n
 range-append a zero n =
     let first : a ≡ a + zero = omega arith in
     let none : zero + n ≡ n = omega arith in

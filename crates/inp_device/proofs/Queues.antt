@@ -1,16 +1,14 @@
 -- A queue of entries, seen as the events that a client reads.
-use Rattle.std.proofs.Common.{◌≡◌, ◌≤◌, ℕ, suc, Bool, true, false, ◌&&◌, ◌||◌, not, if◌then◌else◌, nat_eq, nat_lt, List, [], ◌∷◌, ◌++◌, length, map, take, drop, refl, sym, ap, ◌∙◌, arith}
+use Rattle.std.proofs.Common.{◌≡◌, ◌≤◌, ℕ, suc, Bool, true, false, ◌&&◌, ◌||◌, not, if◌then◌else◌, nat_eq, nat_lt, List, [], ◌∷◌, ◌++◌, length, map, refl, sym, ap, ◌∙◌, arith}
 use Rattle.std.proofs.lemmas.List.{map-append, length-map}
 use Rattle.std.proofs.lemmas.Bool.Decides.{nat_tests}
 use Rattle.inp_model.specs.declared.taken.Taken.{Taken}
 use Rattle.inp_model.specs.declared.event.Event.{Event}
 use Rattle.inp_model.specs.Event.{is_report}
 use Rattle.inp_model.specs.Queue as queue
-use Rattle.inp_model.specs.Queue.{Entry, lost, lost_entry, ends_in_report, is_empty, put, put_all, visible, follows_kept, stays, flush_behind, flush}
+use Rattle.inp_model.specs.Queue.{Entry, dropped_at, entry_dropped_at, ends_in_report, is_empty, put, put_all, visible, follows_kept, stays, flush_behind, flush}
 use Rattle.inp_model.specs.Reply.{taken_of}
-use Rattle.inp_device.specs.declared.class.Class.{Class}
-use Rattle.inp_device.specs.Class.{has}
-use Rattle.inp_device.specs.Queue.{event_of}
+use Rattle.inp_ring.specs.Ring.{event_of}
 
 ends_in_report-map : (q : List Entry) → ends_in_report event_of (map taken_of q) ≡ ends_in_report queue.event_of q
 ends_in_report-map [] = refl
@@ -23,26 +21,26 @@ is_empty-map (x ∷ q) = refl
 
 -- what is put, by whether the report is left out and whether there is a place
 abbrev put_by : {X : Type 0} → (X → X) → Bool → Bool → List X → X → List X
-put_by lose out fits q x = if out then q else if fits then q ++ x ∷ [] else lose x ∷ x ∷ []
+put_by dropped out fits q x = if out then q else if fits then q ++ x ∷ [] else dropped x ∷ x ∷ []
 
-put_by-map : (out fits : Bool) (q : List Entry) (x : Entry) → map taken_of (put_by lost_entry out fits q x) ≡ put_by lost out fits (map taken_of q) (taken_of x)
+put_by-map : (out fits : Bool) (q : List Entry) (x : Entry) → map taken_of (put_by entry_dropped_at out fits q x) ≡ put_by dropped_at out fits (map taken_of q) (taken_of x)
 put_by-map true fits q x = refl
 put_by-map false true q x = map-append taken_of q (x ∷ [])
 put_by-map false false q x = refl
 
-put-map : (places : ℕ) (q : List Entry) (x : Entry) → map taken_of (put queue.event_of lost_entry places q x) ≡ put event_of lost places (map taken_of q) (taken_of x)
+put-map : (places : ℕ) (q : List Entry) (x : Entry) → map taken_of (put queue.event_of entry_dropped_at places q x) ≡ put event_of dropped_at places (map taken_of q) (taken_of x)
 put-map places q x =
     let report = is_report (queue.event_of x) in
     put_by-map (report && (is_empty q || ends_in_report queue.event_of q)) (nat_lt (suc (length q)) places) q x
-    ∙ ap (λ b. put_by lost (report && (b || ends_in_report queue.event_of q)) (nat_lt (suc (length q)) places) (map taken_of q) (taken_of x)) (sym (is_empty-map q))
-    ∙ ap (λ b. put_by lost (report && (is_empty (map taken_of q) || b)) (nat_lt (suc (length q)) places) (map taken_of q) (taken_of x)) (sym (ends_in_report-map q))
-    ∙ ap (λ n. put_by lost (report && (is_empty (map taken_of q) || ends_in_report event_of (map taken_of q))) (nat_lt (suc n) places) (map taken_of q) (taken_of x)) (sym (length-map q taken_of))
+    ∙ ap (λ b. put_by dropped_at (report && (b || ends_in_report queue.event_of q)) (nat_lt (suc (length q)) places) (map taken_of q) (taken_of x)) (sym (is_empty-map q))
+    ∙ ap (λ b. put_by dropped_at (report && (is_empty (map taken_of q) || b)) (nat_lt (suc (length q)) places) (map taken_of q) (taken_of x)) (sym (ends_in_report-map q))
+    ∙ ap (λ n. put_by dropped_at (report && (is_empty (map taken_of q) || ends_in_report event_of (map taken_of q))) (nat_lt (suc n) places) (map taken_of q) (taken_of x)) (sym (length-map q taken_of))
 
-pub put_all-map : (places : ℕ) (xs q : List Entry) → map taken_of (put_all queue.event_of lost_entry places q xs) ≡ put_all event_of lost places (map taken_of q) (map taken_of xs)
+pub put_all-map : (places : ℕ) (xs q : List Entry) → map taken_of (put_all queue.event_of entry_dropped_at places q xs) ≡ put_all event_of dropped_at places (map taken_of q) (map taken_of xs)
 put_all-map places [] q = refl
 put_all-map places (x ∷ xs) q =
-    put_all-map places xs (put queue.event_of lost_entry places q x)
-    ∙ ap (λ r. put_all event_of lost places r (map taken_of xs)) (put-map places q x)
+    put_all-map places xs (put queue.event_of entry_dropped_at places q x)
+    ∙ ap (λ r. put_all event_of dropped_at places r (map taken_of xs)) (put-map places q x)
 
 pub visible-map : (q : List Entry) → visible event_of (map taken_of q) ≡ visible queue.event_of q
 visible-map [] = refl
@@ -82,32 +80,3 @@ flush_behind-map drops before (x ∷ q) =
 
 pub flush-map : (drops : Event → Bool) (q : List Entry) → map taken_of (flush queue.event_of drops q) ≡ flush event_of drops (map taken_of q)
 flush-map drops q = flush_behind-map drops [] q
-
--- what the code keeps of the events behind a place, where it is known whether a report there stays
-abbrev pub walked : (Event → Bool) → Bool → List Taken → List Taken
-walked drops report_stays [] = []
-walked drops report_stays (x ∷ q) =
-    if is_report (event_of x) then (if report_stays then x ∷ walked drops false q else walked drops false q)
-    else if drops (event_of x) then walked drops report_stays q
-    else x ∷ walked drops true q
-
-walked_by : (report dropped report_stays : Bool) (x : Taken) (rest : Bool → List Taken) → (if report then (if report_stays then x ∷ rest false else rest false) else if dropped then rest report_stays else x ∷ rest true)
-    ≡ (if (if report then report_stays else not dropped) then x ∷ [] else []) ++ rest (if report then false else if dropped then report_stays else true)
-walked_by true dropped true x rest = refl
-walked_by true dropped false x rest = refl
-walked_by false true report_stays x rest = refl
-walked_by false false report_stays x rest = refl
-
-walked-behind : (drops : Event → Bool) (before q : List Taken) → walked drops (follows_kept event_of drops before) q ≡ flush_behind event_of drops before q
-walked-behind drops before [] = refl
-walked-behind drops before (x ∷ q) =
-    walked_by (is_report (event_of x)) (drops (event_of x)) (follows_kept event_of drops before) x (λ b. walked drops b q)
-    ∙ ap (λ (rest : List Taken). (if stays event_of drops before x then x ∷ [] else []) ++ rest) (walked-behind drops (x ∷ before) q)
-
-pub walked-all : (drops : Event → Bool) (q : List Taken) → walked drops true q ≡ flush event_of drops q
-walked-all drops q = walked-behind drops [] q
-
--- the events before `index` are moved to the first `kept` places, and nothing behind was touched
-pub record IsMoved (class : Class) (report_stays : Bool) (q events : List Taken) (kept index : ℕ) : Type 0 where
-  pub behind : kept ≤ index
-  pub same : take kept events ++ walked (has class) report_stays (drop index events) ≡ flush event_of (has class) q

@@ -1,21 +1,14 @@
--- What a handler makes of the frames that it is passed.
-use Rattle.std.specs.Prelude.{ℕ, ◌+◌, List, Option}
+-- How a frame changes the handler.
+use Rattle.std.specs.Prelude.{ℕ, List, [], map, None}
 use Rattle.inp_model.specs.declared.event.Event.{Event}
-use Rattle.inp_device.specs.declared.class.Class.{Class}
-use Rattle.inp_device.specs.Queue.{Queued, offered_to, flushed_of}
+use Rattle.inp_model.specs.Description.{Description}
+use Rattle.inp_client.specs.Client.{after_offer}
+use Rattle.inp_device.specs.declared.handler.Handler.{Handler}
 
-pub record Handling : Type 0 where
-  -- the queue of the client, if there is one
-  pub client : Option Queued
-  -- how far the realtime clock is ahead of the moments of the steps
-  pub realtime : ℕ
-  -- the place of the step at hand
-  pub place : ℕ
+-- no clients yet
+abbrev pub fresh_handler : Description → Handler
+fresh_handler d = record { caps = d; clients = []; place = 0; holder = None }
 
--- the frame was offered to the client, with its time on the client's clock and the place of the step
-abbrev pub handled : Handling → List Event → ℕ → Handling
-handled h events now = record h { client = offered_to h.client events (now + h.realtime) h.place }
-
--- the client's queued events of a class were removed
-abbrev pub asked : Handling → Class → Handling
-asked h class = record h { client = flushed_of h.client class }
+-- the frame was offered to each client, with the place and under the grab of the step
+abbrev pub after_frame : Handler → List Event → ℕ → Handler
+after_frame h events now = record h { clients = map (after_offer h.caps events now h.place h.holder) h.clients }

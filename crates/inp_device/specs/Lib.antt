@@ -1,5 +1,2 @@
-pub mod Class
-pub mod Queue
 pub mod Handler
-pub mod Kept
-pub mod Steps
+pub mod Present

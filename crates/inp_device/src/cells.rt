@@ -16,7 +16,8 @@ pub fn write_column(slots: &Slots, count: u32, code: u16, cells: &mut [i32])
     requires count { count ≡ length slots.now.slots }
     requires code { is_slot_code code ≡ true }
     requires room { count ≤ length cells.old }
-    ensures written { (d : Description) (r : List Event) → SlotsStandFor d r slots.now → cells.new ≡ written (column d r code) cells.old }
+    ensures written { (d : Description) (r : List Event) → SlotsStandFor d r slots.now
+        → cells.new ≡ written (column d r code) cells.old }
 {
     for slot in 0..count {
         cells[slot as usize] = slots.value(slot, code);
@@ -28,7 +29,8 @@ pub fn write_rows(slots: &Slots, count: u32, cells: &mut [i32])
     requires count { count ≡ length slots.now.slots }
     requires range { count ≤ SLOTS_MAX }
     requires room { 14 * count ≤ length cells.old }
-    ensures written { (d : Description) (r : List Event) → SlotsStandFor d r slots.now → cells.new ≡ written (rows d r) cells.old }
+    ensures written { (d : Description) (r : List Event) → SlotsStandFor d r slots.now
+        → cells.new ≡ written (rows d r) cells.old }
 {
     for index in 0..VALUES * count {
         let code = ABS_MT_TOUCH_MAJOR + (index % VALUES) as u16;

@@ -1,26 +1,14 @@
 //! The device.
-ghost use Rattle.std.specs.Prelude.{◌≡◌, ◌≤◌, ◌*◌, nat_le, List, [], ◌∷◌, length, reverse, IfOk};
-ghost use Rattle.inp_model.specs.declared.step.Step.{Step};
-ghost use Rattle.inp_model.specs.declared.reply.Reply.{Reply};
-ghost use Rattle.inp_model.specs.Frame.{at_frame};
-ghost use Rattle.inp_model.specs.History.{raw, opens, is_open};
-ghost use Rattle.inp_model.specs.Reply.{IsTimely, HasRoom, Makes, accepted, alone};
-ghost use Rattle.inp_frames.specs.Core.{IsFor};
-ghost use Rattle.inp_device.specs.Kept.{IsKept};
-ghost use Rattle.inp_device.specs.Steps.{OpensOr, Gives, Replies, Fills, Asks};
-ghost use Rattle.inp_device.specs.declared.class.Class.{Class};
+ghost use Rattle.std.specs.Prelude.{◌≡◌, ◌≤◌, [], reverse, IfOk};
+ghost use Rattle.inp_model.specs.declared.stamped.TheConstants.{MOMENT_MAX};
+ghost use Rattle.inp_model.specs.Step.{moment_of};
+ghost use Rattle.inp_model.specs.Reply.{HasRoom, IsDeviceStep};
+ghost use Rattle.inp_model.specs.Evdev.{agains_after};
 
-use crate::cells::{VALUES, write_column, write_rows};
-use crate::class::Class;
-use crate::handler::Handler;
-use crate::queries;
-use crate::queue::Queue;
+use crate::present::Present;
+use crate::replies::{count_again, refuse};
 use inp_caps::Caps;
-use inp_frames::Core;
-use inp_model::{
-    ABS_MAX, ABS_MT_TOOL_Y, ABS_MT_TOUCH_MAJOR, Clock, EV_ABS, EV_KEY, EV_LED, EV_SND, EV_SW,
-    Event, History, MOMENT_MAX, NoMemory, Refusal, Reply, Step, Taken,
-};
+use inp_model::{Evdev, History, NoMemory, Refusal, Reply, Step, Taken};
 use std::alloc::Global;
 use std::marker::Model;
 use std::mem::size_of;
@@ -28,47 +16,44 @@ use std::mem::size_of;
 // A history has at most 32 bytes a step.
 const _: () = prove!(size_of::<Step>() <= 32);
 
-/// A device, seen as its description and its past: the steps that it accepted, newest first.
+/// A device, seen as its description, its past (the steps that it accepted, newest first) and how many calls it answered
+/// `Again`.
 ///
-/// It keeps the present state, the slots, the open batch and the client's queue. It takes memory when it is made, for the whole
+/// It keeps the present state and never looks back at its history. It takes memory when it is made, for the whole
 /// history, and when a client is opened, and at no other step.
 #[derive(Drop)]
 pub struct Device {
-    alloc: Global,
-    caps: Caps,
+    present: Present,
     steps: Vec<Step>,
-    core: Core,
-    handler: Handler,
+    agains: u64,
 }
 
 impl Model for Device {
-    ghost use Rattle.inp_model.specs.Log.{Log};
+    ghost use Rattle.inp_model.specs.DeviceView.{DeviceView};
 
-    ghost Value = { Log };
+    ghost Value = { DeviceView };
 
-    ghost use Rattle.std.specs.Prelude.{◌≤◌, reverse, vec_len, vec_capacity};
-    ghost use Rattle.inp_model.specs.declared.limits.TheConstants.{LOG_MAX};
-    ghost use Rattle.inp_device.specs.Kept.{IsKept};
+    ghost use Rattle.std.specs.Prelude.{reverse, vec_capacity};
+    ghost use Rattle.inp_device.specs.Present.{IsKeptWith};
 
-    ghost view = { λ d. record { description = d.caps; past = reverse d.steps.items } };
+    ghost view = { λ d.
+        record { description = d.present.caps; past = reverse d.steps.items; agains = d.agains } };
 
-    ghost invariant = { λ d. IsKept d.caps d.core d.handler (reverse d.steps.items) × (vec_len d.steps ≤ d.caps.log) × (d.caps.log ≤ vec_capacity d.steps) × (d.caps.log ≤ LOG_MAX) };
+    ghost invariant = { λ d. IsKeptWith d.steps.items (vec_capacity d.steps) d.present };
 }
 
 impl Device {
     /// A device of this description with an empty history. It takes the memory for as many steps as its log limit says.
     pub fn new(alloc: Global, caps: Caps) -> Result<Device, NoMemory>
-        ensures fresh { IfOk result (λ device. device ≡ record { description = caps; past = [] }) }
+        ensures fresh { IfOk result (λ device.
+            device ≡ record { description = caps; past = []; agains = 0 }) }
     {
         let steps = Vec::with_capacity(alloc, caps.log() as usize)?;
-        let core = Core::new(alloc, &caps)?;
-        let handler = Handler::new(caps.offset(Clock::Realtime));
+        let present = Present::new(alloc, caps)?;
         Ok(Device {
-            alloc,
-            caps,
+            present,
             steps,
-            core,
-            handler,
+            agains: 0,
         })
     }
 
@@ -76,284 +61,54 @@ impl Device {
     pub fn caps(&self) -> &Caps
         ensures description { result.now ≡ self.now.description }
     {
-        &self.caps
+        &self.present.caps
     }
 
     /// Makes one step.
     ///
     /// An accepted step is entered in the history, and its reply has its place there. After any other reply all is as
-    /// before. What a `Read` takes is written to the front of `out`, and what `GetSlots` and `SyncSlots` tell to the front
+    /// before, but that answers `Again` are counted (the count stays at its type's end). What a `Read` takes is written to the front of `out`, and what `GetSlots` and `SyncSlots` tell to the front
     /// of `cells`; the rest of both stays. A query of keys, switches, LEDs or sounds removes the client's queued events
     /// of its type, and `SyncSlots` those of the multi-touch axes.
     ///
-    /// `GetAxis` of an open client is answered `BadKind` where the device has no axes, else `BadCode` above `ABS_MAX`,
-    /// and else the axis as described with its present value; all numbers of an axis that is not supported are 0.
-    /// `GetSlots` and `SyncSlots` of an open client are answered `BadKind` where the device has no slots, and `GetSlots`
-    /// else `BadCode` outside `ABS_MT_TOUCH_MAJOR` to `ABS_MT_TOOL_Y`. A step that nothing else refuses is answered
-    /// `LogFull` where the history has as many steps as its limit. The cost of a step does not grow with the history.
-    /// Only `Open` takes memory, and answers `NoMemory` where there is none.
+    /// A step is refused for the first of these causes that holds:
     ///
-    /// The caller owes a moment of at most `MOMENT_MAX`, an `out` that is as long as the count of a `Read`, and for
-    /// `GetSlots` and `SyncSlots` a `cells` of fourteen values a slot. In this form it also owes that only one client is
-    /// opened.
+    /// | Reply | Cause |
+    /// |---|---|
+    /// | `BadClient` | the named client is not open |
+    /// | `NoDevice` | the named client was revoked, and the step does not close it |
+    /// | `BadKind` | an axis is asked for and the device has none, or slots, or a mask is set of a type without one |
+    /// | `BadCode` | an axis above `ABS_MAX`, slots outside `ABS_MT_TOUCH_MAJOR` to `ABS_MT_TOOL_Y`, a word past its mask |
+    /// | `Again` | a read finds nothing visible |
+    /// | `Busy` | the grab is taken while a client holds it |
+    /// | `NotGrabber` | the grab is given up by a client that does not hold it |
+    /// | `TooMany` | a client is opened while `CLIENTS_MAX` are open |
+    /// | `LogFull` | the history has as many steps as its limit |
+    /// | `NoMemory` | a client is opened, and memory ran out |
+    ///
+    /// The cost of a step does not grow with the history. Only `Open` takes memory.
+    ///
+    /// The caller must pass a moment of at most `MOMENT_MAX`, an `out` that is as long as the count of a `Read`, and for
+    /// `GetSlots` and `SyncSlots` a `cells` of fourteen values a slot.
     pub fn step(&mut self, step: Step, out: &mut [Taken], cells: &mut [i32]) -> Reply
-        requires timely { IsTimely step }
+        requires moment { moment_of step ≤ MOMENT_MAX }
         requires room { HasRoom self.old.description step out.old cells.old }
-        requires one_client { step ≡ Step.Open → opens self.old.past ≡ 0 }
-        ensures makes { Makes self.old.description self.old.past step result out.old out.new cells.old cells.new self.new.past }
+        ensures step { IsDeviceStep
+            self.old.description self.old.past step result out.old out.new cells.old cells.new
+            self.new.past }
         ensures description { self.new.description ≡ self.old.description }
+        ensures agains { self.new.agains ≡ agains_after result self.old.agains }
     {
-        match step {
-            Step::Inject { event, now } => self.inject(event, now),
-            Step::Open => self.open(),
-            Step::Read { client, count } => self.read(client, count, out),
-            Step::GetKeys { client } => self.get_keys(client),
-            Step::GetSwitches { client } => self.get_switches(client),
-            Step::GetLeds { client } => self.get_leds(client),
-            Step::GetSounds { client } => self.get_sounds(client),
-            Step::GetAxis { client, code } => self.get_axis(client, code),
-            Step::GetSlots { client, code } => self.get_slots(client, code, cells),
-            Step::SyncSlots { client } => self.sync_slots(client, cells),
+        if let Some(reply) = self.present.refusal(&self.steps, step) {
+            self.agains = count_again(reply, self.agains);
+            return reply;
         }
-    }
-
-    // The driver injects an event.
-    fn inject(&mut self, event: Event, now: u64) -> Reply
-        requires timely { now ≤ MOMENT_MAX }
-        ensures replies { Replies self.old.description self.old.past (Step.Inject event now) result self.new.past }
-        ensures description { self.new.description ≡ self.old.description }
-    {
-        if self.is_full() {
-            return self.refuse(Refusal::LogFull);
-        }
-        let at = self.place();
-        pass_on(
-            &self.caps,
-            &mut self.core,
-            &mut self.handler,
-            event,
-            now,
-            at,
-        );
-        self.steps.push(Step::Inject { event, now }).unwrap();
-        Reply::Done { at }
-    }
-
-    // A client is opened, with an empty queue.
-    fn open(&mut self) -> Reply
-        requires one_client { opens self.old.past ≡ 0 }
-        ensures opens { OpensOr self.old.description self.old.past result self.new.past }
-        ensures description { self.new.description ≡ self.old.description }
-    {
-        if self.is_full() {
-            return self.refuse(Refusal::LogFull);
-        }
-        let ring = self.caps.ring();
-        let Ok(queue) = Queue::new(self.alloc, ring as usize) else {
-            return self.refuse(Refusal::NoMemory);
-        };
-        let at = self.place();
-        self.handler.open(queue);
-        self.steps.push(Step::Open).unwrap();
-        Reply::Opened {
-            at,
-            client: 0,
-            ring,
-        }
-    }
-
-    // The client reads what it can see.
-    fn read(&mut self, client: u32, count: u32, out: &mut [Taken]) -> Reply
-        requires room { count ≤ length out.old }
-        ensures reads { Gives self.old.description self.old.past (Step.Read client count) result out.old out.new self.new.past }
-        ensures description { self.new.description ≡ self.old.description }
-    {
-        if !self.is_open(client) {
-            return self.refuse(Refusal::BadClient);
-        }
-        let at = self.place();
-        let visible = self.handler.visible();
-        if visible == 0 {
-            return Reply::Again { at, ends: 0 };
-        }
-        if self.is_full() {
-            return self.refuse(Refusal::LogFull);
-        }
-        let taken = visible.min(count as usize);
-        self.handler.take(taken, out);
-        self.steps.push(Step::Read { client, count }).unwrap();
-        Reply::Took {
-            at,
-            count: taken as u32,
-        }
-    }
-
-    // A client asks for the state of a type, which is known. Its queued events of the type are removed.
-    fn get(&mut self, step: Step, client: u32, kind: u16, words: [u64; 12]) -> Reply
-        requires asks { Asks step client (Class.Kind kind) }
-        requires known { accepted self.old.description self.old.past step ≡ alone (Reply.Bits (length self.old.past) words) }
-        ensures replies { Replies self.old.description self.old.past step result self.new.past }
-        ensures description { self.new.description ≡ self.old.description }
-    {
-        if !self.is_open(client) {
-            return self.refuse(Refusal::BadClient);
-        }
-        if self.is_full() {
-            return self.refuse(Refusal::LogFull);
-        }
-        let at = self.place();
-        self.handler.flush(Class::Kind(kind));
-        self.steps.push(step).unwrap();
-        Reply::Bits { at, words }
-    }
-
-    // A client asks which keys are down.
-    fn get_keys(&mut self, client: u32) -> Reply
-        ensures replies { Replies self.old.description self.old.past (Step.GetKeys client) result self.new.past }
-        ensures description { self.new.description ≡ self.old.description }
-    {
-        let words = queries::keys(&self.core);
-        self.get(Step::GetKeys { client }, client, EV_KEY, words)
-    }
-
-    // A client asks which switches are on.
-    fn get_switches(&mut self, client: u32) -> Reply
-        ensures replies { Replies self.old.description self.old.past (Step.GetSwitches client) result self.new.past }
-        ensures description { self.new.description ≡ self.old.description }
-    {
-        let words = queries::switches(&self.core);
-        self.get(Step::GetSwitches { client }, client, EV_SW, words)
-    }
-
-    // A client asks which LEDs are on.
-    fn get_leds(&mut self, client: u32) -> Reply
-        ensures replies { Replies self.old.description self.old.past (Step.GetLeds client) result self.new.past }
-        ensures description { self.new.description ≡ self.old.description }
-    {
-        let words = queries::leds(&self.core);
-        self.get(Step::GetLeds { client }, client, EV_LED, words)
-    }
-
-    // A client asks which sounds are on.
-    fn get_sounds(&mut self, client: u32) -> Reply
-        ensures replies { Replies self.old.description self.old.past (Step.GetSounds client) result self.new.past }
-        ensures description { self.new.description ≡ self.old.description }
-    {
-        let words = queries::sounds(&self.core);
-        self.get(Step::GetSounds { client }, client, EV_SND, words)
-    }
-
-    // A client asks for an axis.
-    fn get_axis(&mut self, client: u32, code: u16) -> Reply
-        ensures replies { Replies self.old.description self.old.past (Step.GetAxis client code) result self.new.past }
-        ensures description { self.new.description ≡ self.old.description }
-    {
-        if !self.is_open(client) {
-            return self.refuse(Refusal::BadClient);
-        }
-        if !self.caps.has_kind(EV_ABS) {
-            return self.refuse(Refusal::BadKind);
-        }
-        if code > ABS_MAX {
-            return self.refuse(Refusal::BadCode);
-        }
-        if self.is_full() {
-            return self.refuse(Refusal::LogFull);
-        }
-        let at = self.place();
-        let info = queries::axis(&self.core, &self.caps, code);
-        self.steps.push(Step::GetAxis { client, code }).unwrap();
-        Reply::Axis { at, info }
-    }
-
-    // A client asks for one value of each slot.
-    fn get_slots(&mut self, client: u32, code: u16, cells: &mut [i32]) -> Reply
-        requires room { 14 * self.old.description.slots ≤ length cells.old }
-        ensures fills { Fills self.old.description self.old.past (Step.GetSlots client code) result cells.old cells.new self.new.past }
-        ensures description { self.new.description ≡ self.old.description }
-    {
-        if !self.is_open(client) {
-            return self.refuse(Refusal::BadClient);
-        }
-        let count = self.caps.slots();
-        if count == 0 {
-            return self.refuse(Refusal::BadKind);
-        }
-        if code < ABS_MT_TOUCH_MAJOR || code > ABS_MT_TOOL_Y {
-            return self.refuse(Refusal::BadCode);
-        }
-        if self.is_full() {
-            return self.refuse(Refusal::LogFull);
-        }
-        let reply = self.tell_cells(count);
-        write_column(self.core.slots(), count, code, cells);
-        self.steps.push(Step::GetSlots { client, code }).unwrap();
-        reply
-    }
-
-    // A client asks for all values of all slots. Its queued multi-touch events are removed.
-    fn sync_slots(&mut self, client: u32, cells: &mut [i32]) -> Reply
-        requires room { 14 * self.old.description.slots ≤ length cells.old }
-        ensures fills { Fills self.old.description self.old.past (Step.SyncSlots client) result cells.old cells.new self.new.past }
-        ensures description { self.new.description ≡ self.old.description }
-    {
-        if !self.is_open(client) {
-            return self.refuse(Refusal::BadClient);
-        }
-        let count = self.caps.slots();
-        if count == 0 {
-            return self.refuse(Refusal::BadKind);
-        }
-        if self.is_full() {
-            return self.refuse(Refusal::LogFull);
-        }
-        let reply = self.tell_cells(VALUES * count);
-        write_rows(self.core.slots(), count, cells);
-        self.handler.flush(Class::MultiTouch);
-        self.steps.push(Step::SyncSlots { client }).unwrap();
-        reply
-    }
-
-    // The reply to a query that tells so many values of slots. It tells the slot that the clients know from the last
-    // frame, to which the next values without an announcement belong, and not the one that the open batch has reached.
-    fn tell_cells(&self, count: u32) -> Reply
-        ensures told { result ≡ Reply.Cells (length self.now.past) count (at_frame self.now.description (raw self.now.past)) }
-    {
-        Reply::Cells {
-            at: self.place(),
-            count,
-            slot: self.core.slots().at_frame(),
-        }
-    }
-
-    // Whether a client is open.
-    fn is_open(&self, client: u32) -> bool
-        ensures open { result ≡ is_open self.now.past client }
-    {
-        client == 0 && self.handler.has_client()
-    }
-
-    // Whether the history has as many steps as it may have.
-    fn is_full(&self) -> bool
-        ensures full { result ≡ nat_le self.now.description.log (length self.now.past) }
-    {
-        self.steps.len() >= self.caps.log() as usize
-    }
-
-    // The place of the next step.
-    fn place(&self) -> u32
-        ensures place { result ≡ length self.now.past }
-    {
-        self.steps.len() as u32
-    }
-
-    // A refusal of the next step.
-    fn refuse(&self, why: Refusal) -> Reply
-        ensures refused { result ≡ Reply.Refused (length self.now.past) why }
-    {
-        Reply::Refused {
-            at: self.place(),
-            why,
+        match self.present.accept(&self.steps, step, out, cells) {
+            Ok(reply) => {
+                self.steps.push(step).unwrap();
+                reply
+            }
+            Err(NoMemory) => refuse(&self.steps, Refusal::NoMemory),
         }
     }
 
@@ -372,14 +127,14 @@ impl Device {
     }
 }
 
-/// Takes a raw event of the step with this place, and passes the frame that it ends, if it ends one, to the handler.
-fn pass_on(caps: &Caps, core: &mut Core, handler: &mut Handler, event: Event, now: u64, at: u32)
-    requires timely { now ≤ MOMENT_MAX }
-    requires made { IsFor caps.now core.old }
-    ensures { (past : List Step) → at ≡ length past → IsKept caps.now core.old handler.old past → IsKept caps.now core.new handler.new (Step.Inject event now ∷ past) }
-{
-    handler.begin(at);
-    core.inject(caps, event, now, handler);
+impl Evdev for Device {
+    ghost use Rattle.inp_model.specs.DeviceView.{evdev_view};
+
+    ghost told = { evdev_view };
+
+    fn call(&mut self, step: Step, out: &mut [Taken], cells: &mut [i32]) -> Reply {
+        self.step(step, out, cells)
+    }
 }
 
 #[cfg(test)]

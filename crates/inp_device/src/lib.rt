@@ -3,22 +3,27 @@
 //! This crate is for whoever plays steps on a device: `Device::new` makes a device of a description, and
 //! `Device::step` makes one step and answers it. It stands on `inp_model`, whose definitions say the exact answer to
 //! each step after each history, on `inp_caps` for the description, on `inp_frames` for the state and the frames (with
-//! `inp_state` and `inp_slots` for what queries answer), and on `inp_bits` for the lists of codes.
+//! `inp_state` and `inp_slots` for what queries answer), on `inp_client` for the clients and `inp_handles` for the grab,
+//! and on `inp_bits` for the lists of codes.
 //!
-//! Its contract: the reply, what is written to the caller's buffers and the history after the call are the model's.
-//! A history ends at the limit of its description: a step that nothing else refuses is refused there.
-//! The code keeps the present state, the slots, the open batch and the client's queue, and never looks back at its
+//! Its contract: the reply, what is written to the caller's buffers and the history after the call are the model's, for
+//! every description and every history. The code keeps the present state and never looks back at its history.
+//!
+//! A step goes three ways. `Present::refusal` says whether something refuses it, in one order for all steps. Where nothing
+//! does, `Present::accept` makes it; no kind of step tries a refusal of its own. Then `Device::step` enters it in the
 //! history.
-//!
-//! A device of this form has at most one client.
 #![tactic(auto)]
 
 mod cells;
-mod class;
+mod client_steps;
 mod device;
+mod frame_steps;
 mod handler;
+mod present;
 mod queries;
-mod queue;
+mod query_steps;
+mod refusals;
+mod replies;
 mod words;
 
 pub use device::Device;

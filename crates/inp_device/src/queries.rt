@@ -1,15 +1,16 @@
 //! What queries answer, from what the core keeps.
 ghost use Rattle.std.specs.Prelude.{◌≡◌, ◌≤◌, List};
-ghost use Rattle.inp_model.specs.declared.event.Event.{Event};
+ghost use Rattle.inp_model.specs.declared.step.Step.{Step};
 ghost use Rattle.inp_model.specs.Description.{Description};
-ghost use Rattle.inp_model.specs.State.{key_down, switch_on, led_on, sound_on};
-ghost use Rattle.inp_model.specs.Reply.{words_of, present_value, axis_answer};
+ghost use Rattle.inp_model.specs.Raw.{raw};
+ghost use Rattle.inp_model.specs.Reply.{words_of, code_on, present_value, axis_answer};
 ghost use Rattle.inp_frames.specs.Core.{CoreStandsFor};
+ghost use Rattle.inp_device.specs.Present.{HasBits};
 
 use crate::words::words_of;
 use inp_caps::Caps;
 use inp_frames::Core;
-use inp_model::{ABS_MAX, ABS_MT_SLOT, ABS_MT_TOOL_Y, AxisInfo, EV_ABS};
+use inp_model::{ABS_MAX, ABS_MT_SLOT, ABS_MT_TOOL_Y, AxisInfo, EV_ABS, EV_KEY, EV_LED, EV_SW};
 
 /// An axis of which nothing was said.
 const NO_INFO: AxisInfo = AxisInfo {
@@ -21,38 +22,30 @@ const NO_INFO: AxisInfo = AxisInfo {
     resolution: 0,
 };
 
-/// The bits of the keys that are down: bit i for the key i, 64 a word.
-pub fn keys(core: &Core) -> [u64; 12]
-    ensures keys { (d : Description) (r : List Event) → CoreStandsFor d r core.now → result ≡ words_of (key_down d r) }
+/// The codes of a type of keys, switches, LEDs or sounds that are on: bit i for the code i, 64 a word.
+pub fn bits(core: &Core, kind: u16) -> [u64; 12]
+    requires kind { HasBits kind }
+    ensures bits { (d : Description) (past : List Step) → CoreStandsFor d past core.now
+        → result ≡ words_of (code_on d (raw d past) kind) }
 {
-    words_of(core.state().keys())
-}
-
-/// The bits of the switches that are on.
-pub fn switches(core: &Core) -> [u64; 12]
-    ensures switches { (d : Description) (r : List Event) → CoreStandsFor d r core.now → result ≡ words_of (switch_on d r) }
-{
-    words_of(core.state().switches())
-}
-
-/// The bits of the LEDs that are on.
-pub fn leds(core: &Core) -> [u64; 12]
-    ensures leds { (d : Description) (r : List Event) → CoreStandsFor d r core.now → result ≡ words_of (led_on d r) }
-{
-    words_of(core.state().leds())
-}
-
-/// The bits of the sounds that are on.
-pub fn sounds(core: &Core) -> [u64; 12]
-    ensures sounds { (d : Description) (r : List Event) → CoreStandsFor d r core.now → result ≡ words_of (sound_on d r) }
-{
-    words_of(core.state().sounds())
+    let state = core.state();
+    if kind == EV_KEY {
+        return words_of(state.keys());
+    }
+    if kind == EV_SW {
+        return words_of(state.switches());
+    }
+    if kind == EV_LED {
+        return words_of(state.leds());
+    }
+    words_of(state.sounds())
 }
 
 /// An axis with its present value. All numbers of an axis that is not supported are 0.
 pub fn axis(core: &Core, caps: &Caps, code: u16) -> AxisInfo
     requires within { code ≤ ABS_MAX }
-    ensures axis { (r : List Event) → CoreStandsFor caps.now r core.now → result ≡ axis_answer caps.now r code }
+    ensures axis { (past : List Step) → CoreStandsFor caps.now past core.now
+        → result ≡ axis_answer caps.now (raw caps.now past) code }
 {
     if !caps.supports(EV_ABS, code) {
         return NO_INFO;
@@ -65,7 +58,8 @@ pub fn axis(core: &Core, caps: &Caps, code: u16) -> AxisInfo
 /// The present value of an axis: of `ABS_MT_SLOT` the slot announced last, and 0 of the axes whose values belong to slots.
 fn present_value(core: &Core, code: u16) -> i32
     requires within { code ≤ ABS_MAX }
-    ensures value { (d : Description) (r : List Event) → CoreStandsFor d r core.now → result ≡ present_value d r code }
+    ensures value { (d : Description) (past : List Step) → CoreStandsFor d past core.now
+        → result ≡ present_value d (raw d past) code }
 {
     if code == ABS_MT_SLOT {
         core.slots().announced()

@@ -2,21 +2,15 @@
 ghost use Rattle.std.specs.Prelude.{◌≡◌, ◌≤◌, ◌<◌, ◌+◌, if◌then◌else◌, true, false, List, [], ◌∷◌, ◌++◌, length, option_to_list, IfOk};
 ghost use Rattle.inp_model.specs.declared.event.Event.{Event};
 ghost use Rattle.inp_model.specs.declared.limits.TheConstants.{HINT_MAX};
-ghost use Rattle.inp_model.specs.Event.{packet_report};
+ghost use Rattle.inp_model.specs.Event.{core_report};
 ghost use Rattle.inp_frames.specs.declared.frames.TheConstants.{FRAME_MAX};
 ghost use Rattle.inp_frames.specs.Batch.{events_of, are_frame};
 
 use crate::passed::Passed;
-use inp_model::{EV_SYN, Event, HINT_MAX, NoMemory, SYN_REPORT};
+use crate::raw_events::core_report;
+use inp_model::{Event, HINT_MAX, NoMemory};
 use std::alloc::Global;
 use std::marker::Model;
-
-/// The report at the end of a frame that was cut because it was full.
-const PACKET_REPORT: Event = Event {
-    kind: EV_SYN,
-    code: SYN_REPORT,
-    value: 1,
-};
 
 /// The events passed since the last cut, with memory for the longest frame.
 ///
@@ -89,8 +83,10 @@ impl Batch {
     pub fn cut(&mut self, report: bool) -> bool
         requires room { length self.old.events < self.old.hint + 2 }
         ensures whole { result ≡ are_frame report self.old }
-        ensures frame { result ≡ true → self.new.events ≡ (if report then self.old.events else self.old.events ++ packet_report ∷ []) }
-        ensures waiting { result ≡ false → self.new.events ≡ (if report then [] else self.old.events) }
+        ensures frame { result ≡ true → self.new.events ≡ (if report then self.old.events
+            else self.old.events ++ core_report ∷ []) }
+        ensures waiting { result ≡ false
+            → self.new.events ≡ (if report then [] else self.old.events) }
         ensures fits { length self.new.events ≤ FRAME_MAX }
         ensures hint { self.new.hint ≡ self.old.hint }
     {
@@ -104,7 +100,7 @@ impl Batch {
         if self.events.len() < self.hint {
             return false;
         }
-        self.events.push(PACKET_REPORT).unwrap();
+        self.events.push(core_report()).unwrap();
         true
     }
 

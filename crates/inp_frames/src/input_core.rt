@@ -1,31 +1,44 @@
-//! The core: a raw event is taken, what is passed for it waits in the batch, and a frame goes out where it ends.
-ghost use Rattle.std.specs.Prelude.{◌≡◌, ◌≤◌, List, [], ◌∷◌, length, option_to_list, IfOk};
+//! The core: raw events are handled, what is passed for them waits in the batch, and a frame goes out where it ends.
+ghost use Rattle.std.specs.Prelude.{◌≡◌, ◌≤◌, ◌<◌, ℕ, Bool, false, ◌&&◌, not, if◌then◌else◌, List, [], ◌∷◌, length, flat_map, slice_index_or, IfOk, ◌*◌, unsigned_abs};
 ghost use Rattle.inp_model.specs.declared.event.Event.{Event};
+ghost use Rattle.inp_model.specs.declared.step.Step.{Step};
+ghost use Rattle.inp_model.specs.declared.step.Step.TheVariants.{Inject, Tick, Write, Inhibit, Uninhibit};
+ghost use Rattle.inp_model.specs.declared.limits.TheConstants.{SLOTS_MAX};
 ghost use Rattle.inp_model.specs.declared.stamped.TheConstants.{MOMENT_MAX};
-ghost use Rattle.inp_model.specs.Frame.{cut};
+ghost use Rattle.inp_model.specs.Description.{Description};
+ghost use Rattle.inp_model.specs.Timer.{is_due, timer_disarmed, timer_rearmed};
+ghost use Rattle.inp_model.specs.Raw.{releases, key_event};
+ghost use Rattle.inp_bits.specs.Bits.{true_indices};
+ghost use Rattle.inp_slots.specs.Slots.{SlotValues};
 ghost use Rattle.inp_frames.specs.declared.frames.TheConstants.{FRAME_MAX};
-ghost use Rattle.inp_frames.specs.Core.{IsFor, CoreStandsFor};
-ghost use Rattle.inp_frames.specs.Frames.{TakesAll};
+ghost use Rattle.inp_frames.specs.Core.{IsFor, StandsAfter, CoreStandsFor, IsEntered};
+ghost use Rattle.inp_frames.specs.Handling.{Handles, may_repeat, lift_events, release_events};
 
 use crate::Frames;
+use crate::autorepeat::{first_timer, micros, timer_at_frame, timer_disarmed, timer_rearmed};
 use crate::batch::Batch;
-use crate::passed::take;
+use crate::contacts::contacts_of;
+use crate::passed::handle;
+use crate::raw_events::{core_report, key_release, key_repeat, lift_event, slot_event};
+use inp_bits::Bits;
 use inp_caps::Caps;
-use inp_model::{Event, NoMemory};
+use inp_model::{Event, KEY_MAX, NoMemory, Timer};
 use inp_slots::Slots;
 use inp_state::State;
 use std::alloc::Global;
 use std::marker::Model;
 
-/// The present state and slots of a device, and the events passed since the last frame.
+/// The present state and slots of a device, the events passed since the last frame, and the timer of the autorepeat.
 ///
-/// It belongs to the description that [`Core::new`] was given, and each later call wants the same one. There are fewer
-/// events in its batch than the hint.
+/// Pass every call the description that [`Core::new`] was given; with another one no clause says which frames there
+/// are. There are fewer events in its batch than the hint.
 #[derive(Drop)]
 pub struct Core {
     state: State,
     slots: Slots,
     batch: Batch,
+    timer: Timer,
+    inhibited: bool,
 }
 
 impl Model for Core {
@@ -33,7 +46,14 @@ impl Model for Core {
 
     ghost Value = { CoreValues };
 
-    ghost view = { λ c. record { state = c.state; slots = c.slots; batch = c.batch.events; hint = c.batch.hint } };
+    ghost view = { λ c. record {
+      state = c.state;
+      slots = c.slots;
+      batch = c.batch.events;
+      hint = c.batch.hint;
+      timer = c.timer;
+      inhibited = c.inhibited;
+    } };
 
     ghost use Rattle.std.specs.Prelude.{◌<◌, length};
 
@@ -41,37 +61,97 @@ impl Model for Core {
 }
 
 impl Core {
-    /// The core of a device before any event, with memory for its slots and for the longest frame.
+    /// The core of a device before any step, with memory for its slots and for the longest frame.
     ///
     /// `NoMemory` comes where memory runs out. No other call takes memory.
     pub fn new(alloc: Global, caps: &Caps) -> Result<Core, NoMemory>
         ensures fresh { IfOk result (λ core. CoreStandsFor caps.now [] core) }
+        ensures made { IfOk result (λ core. IsFor caps.now core) }
     {
         Ok(Core {
             state: State::new(caps),
             slots: Slots::new(alloc, caps.slots())?,
             batch: Batch::new(alloc, caps.hint() as usize)?,
+            timer: first_timer(),
+            inhibited: false,
         })
     }
 
-    /// Takes a raw event, and passes the frame on that it ends, if it ends one (the kernel's `input_handle_event`).
+    /// Handles a raw event that the driver injects or a client writes, and passes the frame on that it ends, if it ends
+    /// one (the kernel's `input_event`).
     ///
     /// A report ends the frame, unless it is alone. So does an event that leaves as many events as the hint; a report
-    /// with the value 1 is put behind it. The moment of the frame is `now`, in microseconds, at most `MOMENT_MAX`. With
-    /// another description than the core's own no clause says which frames there are.
+    /// with the value 1 is put behind it. The moment of the frame is `now`, in microseconds, at most `MOMENT_MAX`. A key
+    /// that is pressed in the frame arms the timer of the autorepeat, and one that is released disarms it. While the
+    /// device is inhibited the event is ignored.
     pub fn inject<F: Frames>(&mut self, caps: &Caps, event: Event, now: u64, to: &mut F)
         requires timely { now ≤ MOMENT_MAX }
         requires made { IsFor caps.now self.old }
-        ensures stands { (r : List Event) → CoreStandsFor caps.now r self.old → CoreStandsFor caps.now (event ∷ r) self.new }
-        ensures frames { (r : List Event) → CoreStandsFor caps.now r self.old → TakesAll F.takes now (option_to_list (cut caps.now r event)) to.old to.new }
+        ensures enters_inject { (past : List Step) → CoreStandsFor caps.now past self.old
+            → IsEntered caps.now past (Inject event now) self.new F.takes to.old to.new }
+        ensures enters_write { (past : List Step) (client : ℕ)
+            → CoreStandsFor caps.now past self.old
+            → IsEntered caps.now past (Write client event now) self.new F.takes to.old to.new }
         ensures made { IsFor caps.now self.new }
     {
-        let passed = take(&mut self.state, &mut self.slots, caps, event);
-        self.batch.add(passed);
-        if !self.batch.cut(event.is_report()) {
+        let ignored = self.inhibited;
+        if ignored {
             return;
         }
-        pass_on(&mut self.batch, &mut self.slots, now, to);
+        self.gather(caps, event, now, to);
+    }
+
+    /// Lets the timer of the autorepeat fire, where it is due (the kernel's `input_repeat_key`).
+    ///
+    /// The timer is disarmed. Where its key is still down and the device is not inhibited, an autorepeat of the key is
+    /// passed on as a frame, with what the batch holds, and the timer is armed anew one period after `now`, unless the
+    /// period is 0. It fires once however late it is. `now` is in microseconds, at most `MOMENT_MAX`.
+    pub fn tick<F: Frames>(&mut self, caps: &Caps, now: u64, to: &mut F)
+        requires timely { now ≤ MOMENT_MAX }
+        requires made { IsFor caps.now self.old }
+        ensures enters { (past : List Step) → CoreStandsFor caps.now past self.old
+            → IsEntered caps.now past (Tick now) self.new F.takes to.old to.new }
+        ensures made { IsFor caps.now self.new }
+    {
+        if !self.is_due(now) {
+            return;
+        }
+        self.disarm();
+        if !self.may_repeat() {
+            return;
+        }
+        let repeat = self.repeat_event();
+        self.gather_two(caps, repeat, core_report(), now, to);
+        self.rearm(now);
+    }
+
+    /// Inhibits the device: contacts are lifted and keys released as one frame, and raw events are ignored from then on
+    /// (the kernel's `input_dev_release_keys` and `input_mt_release_slots`).
+    ///
+    /// The frame has what the batch holds, then for each slot with a contact its end, then the release of each key that
+    /// is down, both by ascending numbers, and a report with the value 1; a full batch is cut as ever. A device that is
+    /// inhibited stays as it is. `now` is in microseconds, at most `MOMENT_MAX`.
+    pub fn inhibit<F: Frames>(&mut self, caps: &Caps, now: u64, to: &mut F)
+        requires timely { now ≤ MOMENT_MAX }
+        requires made { IsFor caps.now self.old }
+        ensures enters { (past : List Step) → CoreStandsFor caps.now past self.old
+            → IsEntered caps.now past (Inhibit now) self.new F.takes to.old to.new }
+        ensures made { IsFor caps.now self.new }
+    {
+        if !self.inhibited {
+            self.release_all(caps, now, to);
+            self.inhibited = true;
+        }
+    }
+
+    /// Ends the inhibition of the device, if there is one. No key is pressed again: what was released stays so.
+    pub fn uninhibit(&mut self)
+        ensures stands { (d : Description) (past : List Step) → CoreStandsFor d past self.old
+            → CoreStandsFor d (Uninhibit ∷ past) self.new }
+        ensures made { (d : Description) → IsFor d self.old → IsFor d self.new }
+        ensures changes { self.new ≡ record self.old { inhibited = false } }
+    {
+        self.inhibited = false;
     }
 
     /// Keys, switches, LEDs, sounds, axes and the settings of the autorepeat.
@@ -87,6 +167,136 @@ impl Core {
     {
         &self.slots
     }
+
+    // Handles a raw event, gathers what is passed for it, and passes the frame on that it ends, if it ends one.
+    fn gather<F: Frames>(&mut self, caps: &Caps, event: Event, now: u64, to: &mut F)
+        requires timely { now ≤ MOMENT_MAX }
+        requires made { IsFor caps.now self.old }
+        ensures handled { (r : List Event) → StandsAfter caps.now r self.old
+            → Handles caps.now r (event ∷ []) now F.takes self.old self.new to.old to.new }
+        ensures made { IsFor caps.now self.new }
+    {
+        let passed = handle(&mut self.state, &mut self.slots, caps, event);
+        self.batch.add(passed);
+        if !self.batch.cut(event.is_report()) {
+            return;
+        }
+        self.timer = timer_at_frame(self.timer, caps, &self.state, self.batch.events(), now);
+        pass_on(&mut self.batch, &mut self.slots, now, to);
+    }
+
+    // Handles two raw events, one after the other.
+    fn gather_two<F: Frames>(
+        &mut self,
+        caps: &Caps,
+        first: Event,
+        second: Event,
+        now: u64,
+        to: &mut F,
+    )
+        requires timely { now ≤ MOMENT_MAX }
+        requires made { IsFor caps.now self.old }
+        ensures handled { (r : List Event) → StandsAfter caps.now r self.old
+            → Handles caps.now r (first ∷ second ∷ []) now F.takes self.old self.new to.old to.new }
+        ensures made { IsFor caps.now self.new }
+    {
+        self.gather(caps, first, now, to);
+        self.gather(caps, second, now, to);
+    }
+
+    // Lifts all contacts and releases all keys, and ends the frame. Which these are is looked up before the first event.
+    fn release_all<F: Frames>(&mut self, caps: &Caps, now: u64, to: &mut F)
+        requires timely { now ≤ MOMENT_MAX }
+        requires made { IsFor caps.now self.old }
+        ensures handled { (r : List Event) → StandsAfter caps.now r self.old
+            → Handles caps.now r (releases caps.now r) now F.takes self.old self.new to.old to.new }
+        ensures made { IsFor caps.now self.new }
+    {
+        let contacts = contacts_of(&self.slots, caps.slots());
+        let keys = *self.state.keys();
+        self.lift_contacts(caps, &contacts, now, to);
+        self.release_keys(caps, &keys, now, to);
+        self.gather(caps, core_report(), now, to);
+    }
+
+    // Lifts the contacts of these slots.
+    fn lift_contacts<F: Frames>(&mut self, caps: &Caps, contacts: &Bits<1>, now: u64, to: &mut F)
+        requires timely { now ≤ MOMENT_MAX }
+        requires made { IsFor caps.now self.old }
+        ensures handled { (r : List Event) → StandsAfter caps.now r self.old
+            → Handles caps.now r (flat_map lift_events (true_indices contacts.now)) now F.takes
+            self.old self.new to.old to.new }
+        ensures made { IsFor caps.now self.new }
+        ensures len { length contacts.now ≡ 64 }
+    {
+        for slot in contacts.ones() {
+            self.gather_two(caps, slot_event(slot), lift_event(), now, to);
+        }
+    }
+
+    // Releases these keys.
+    fn release_keys<F: Frames>(&mut self, caps: &Caps, keys: &Bits<12>, now: u64, to: &mut F)
+        requires timely { now ≤ MOMENT_MAX }
+        requires made { IsFor caps.now self.old }
+        ensures handled { (r : List Event) → StandsAfter caps.now r self.old
+            → Handles caps.now r (flat_map release_events (true_indices keys.now)) now F.takes
+            self.old self.new to.old to.new }
+        ensures made { IsFor caps.now self.new }
+        ensures len { length keys.now ≡ 768 }
+    {
+        for key in keys.ones() {
+            self.gather(caps, key_release(key as u16), now, to);
+        }
+    }
+
+    // Whether the timer fires at this moment.
+    fn is_due(&self, now: u64) -> bool
+        ensures { result ≡ is_due self.now.timer now }
+    {
+        match self.timer.due {
+            Some(due) => due <= now,
+            None => false,
+        }
+    }
+
+    // Disarms the timer, which keeps its key.
+    fn disarm(&mut self)
+        ensures { self.new ≡ record self.old { timer = timer_disarmed self.old.timer } }
+    {
+        self.timer = timer_disarmed(self.timer);
+    }
+
+    // Arms the timer anew, one period from now on.
+    fn rearm(&mut self, now: u64)
+        requires timely { now ≤ MOMENT_MAX }
+        ensures timer_rearmed { self.new ≡ record self.old {
+          timer = timer_rearmed now (1000 * unsigned_abs self.old.state.period) self.old.timer;
+        } }
+    {
+        self.timer = timer_rearmed(self.timer, now, micros(self.state.period()));
+    }
+
+    // The autorepeat of the timer's key.
+    fn repeat_event(&self) -> Event
+        ensures { result ≡ key_event self.now.timer.key 2 }
+    {
+        key_repeat(self.timer.key)
+    }
+
+    // Whether the timer's key is to repeat: it is down, and the device is not inhibited.
+    fn may_repeat(&self) -> bool
+        ensures { result ≡ may_repeat self.now }
+    {
+        !self.inhibited && is_down(self.state.keys(), self.timer.key)
+    }
+}
+
+// Whether a key is down; none is past the greatest code.
+fn is_down(keys: &Bits<12>, key: u16) -> bool
+    ensures { result ≡ slice_index_or keys.now key false }
+{
+    let nearest = key.min(KEY_MAX);
+    keys.get(u32::from(nearest)) && nearest == key
 }
 
 // Passes the batch on as a frame, and lets it go.

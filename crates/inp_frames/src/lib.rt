@@ -1,9 +1,10 @@
-//! The core of a device: raw events come in, frames go out.
+//! The core of a device: steps come in, frames go out.
 //!
-//! This crate is for whoever delivers frames to clients. [`Core`] keeps the present state, the slots and the batch of
-//! events passed since the last frame. Each raw event is taken into them, and a frame that it ends is passed on to a
-//! [`Frames`], whoever that is. The crate stands on `inp_state` for keys, switches and the like, on `inp_slots` for the
-//! multi-touch values, and on `inp_caps` for the description.
+//! This crate is for whoever delivers frames to clients. [`Core`] keeps the present state, the slots, the batch of events
+//! passed since the last frame, the timer of the autorepeat, and whether the device is inhibited. It handles the raw
+//! events of each step, and passes each frame that they end on to a [`Frames`], whoever that is. The crate stands on
+//! `inp_state` for keys, switches and the like, on `inp_slots` for the multi-touch values, on `inp_caps` for the
+//! description, and on `inp_bits` for lists of keys and slots.
 //!
 //! How raw events become frames, one row behind another on a device with two slots whose hint is 8 (the kernel's input
 //! documentation):
@@ -16,20 +17,45 @@
 //! | `ABS_MT_SLOT` 7, `ABS_MT_POSITION_X` 6, `SYN_REPORT` | `ABS_MT_POSITION_X` 6, `SYN_REPORT`: there is no slot 7 |
 //! | eight events with no report | the eight, and `SYN_REPORT` with the value 1, as the frame was cut short |
 //!
-//! Its contract: `inp_model` says which frames a list of raw events is cut into. A [`Core`] keeps no list;
-//! `CoreStandsFor` (`specs/Core.antt`) says for which lists it stands. A new one stands for the empty list, and after
-//! [`Core::inject`] it stands for the list with one event more, for each list that it stood for. The frame that the
-//! event ends, if it ends one, is the model's, and is passed on once; an event that ends no frame leaves the taker as it
-//! was. An event takes the same time whatever came before, and memory is taken when the core is made and never again.
+//! The core makes raw events itself on two occasions. Both end their frame by `SYN_REPORT` with the value 1.
 //!
-//! Inside: `passed` says what is passed for a raw event, `batch` keeps it until its frame ends, and `input_core` joins
-//! the two.
+//! *A tick* ([`Core::tick`]) lets the timer of the autorepeat fire, on a device with `EV_REP` and `EV_KEY`. A key that is
+//! pressed in a frame arms the timer, one delay after the frame; any key that is released in a frame disarms it. A tick
+//! at the moment for which the timer is armed, or later, repeats the key once and arms the timer again, one period after
+//! the tick:
+//!
+//! | Steps, moments in milliseconds, delay 250 and period 33 | Frame |
+//! |---|---|
+//! | `KEY_A` 1, `SYN_REPORT` at 1,000 | the same |
+//! | a tick at 1,249 | none: it is too early |
+//! | a tick at 1,250 | `KEY_A` 2, `SYN_REPORT` 1; the next is due at 1,283 |
+//! | `KEY_A` 0, `SYN_REPORT` at 1,260 | the same |
+//! | a tick at 1,283 | none: the release disarmed the timer |
+//!
+//! *An inhibition* ([`Core::inhibit`]) lifts each contact and releases each key that is down, by ascending numbers,
+//! behind what the batch holds. From then on raw events are ignored, until [`Core::uninhibit`].
+//!
+//! Its contract: `inp_model` says which raw events a step stands for after a history, which frames they are cut into, and
+//! how they arm the timer. A [`Core`] keeps no history; `CoreStandsFor` (`specs/Core.antt`) says for which histories it
+//! stands. A new one stands for the empty history, and after each call it stands for the history with one step more, for
+//! each history that it stood for. The frames that the step ends are the model's, and each is passed on once, in order; a
+//! step that ends no frame leaves the taker as it was (`IsEntered`). `proofs/Keeping.antt` is for whoever keeps a core
+//! beside the clients of a device: a step that is none of the core's ends no frame, and the core stands for the history
+//! with it as it is. A raw event takes the same time whatever came before, an inhibition takes time for each slot and
+//! each key that is down, and memory is taken when the core is made and never again.
+//!
+//! Inside: `passed` says what is passed for a raw event, `batch` keeps it until its frame ends, `autorepeat` says what a
+//! frame makes of the timer, `contacts` finds the contacts to lift, `raw_events` has the events that the core makes, and
+//! `input_core` joins them.
 #![tactic(auto)]
 
+mod autorepeat;
 mod batch;
+mod contacts;
 mod frames;
 mod input_core;
 mod passed;
+mod raw_events;
 #[cfg(test)]
 mod tests;
 

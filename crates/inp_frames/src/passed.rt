@@ -24,12 +24,16 @@ pub(crate) struct Passed {
     pub event: Option<Event>,
 }
 
-/// Takes a raw event into the state or the slots, and gives what is passed for it.
-pub(crate) fn take(state: &mut State, slots: &mut Slots, caps: &Caps, event: Event) -> Passed
+/// Handles a raw event: the state or the slots take it in. Gives what is passed for it.
+pub(crate) fn handle(state: &mut State, slots: &mut Slots, caps: &Caps, event: Event) -> Passed
     requires count { length slots.old.slots ≡ caps.now.slots }
-    ensures state { (r : List Event) → StandsFor caps.now r state.old → StandsFor caps.now (event ∷ r) state.new }
-    ensures slots { (r : List Event) → SlotsStandFor caps.now r slots.old → SlotsStandFor caps.now (event ∷ r) slots.new }
-    ensures passed { (r : List Event) → StandsFor caps.now r state.old → SlotsStandFor caps.now r slots.old → events_of result ≡ passed caps.now r event }
+    ensures state { (r : List Event) → StandsFor caps.now r state.old
+        → StandsFor caps.now (event ∷ r) state.new }
+    ensures slots { (r : List Event) → SlotsStandFor caps.now r slots.old
+        → SlotsStandFor caps.now (event ∷ r) slots.new }
+    ensures passed { (r : List Event) → StandsFor caps.now r state.old
+        → SlotsStandFor caps.now r slots.old
+        → events_of result ≡ passed caps.now r event }
     ensures count { length slots.new.slots ≡ length slots.old.slots }
     ensures at_frame { slots.new.at_frame ≡ slots.old.at_frame }
 {
@@ -37,13 +41,19 @@ pub(crate) fn take(state: &mut State, slots: &mut Slots, caps: &Caps, event: Eve
     passed_as(disposition, Event { value, ..event }, slots.announced())
 }
 
-// Takes a raw event, and says what becomes of it, with the value to pass.
+// Handles a raw event, and says what becomes of it, with the value to pass.
 fn apply(state: &mut State, slots: &mut Slots, caps: &Caps, event: Event) -> (Disposition, i32)
     requires count { length slots.old.slots ≡ caps.now.slots }
-    ensures state { (r : List Event) → StandsFor caps.now r state.old → StandsFor caps.now (event ∷ r) state.new }
-    ensures slots { (r : List Event) → SlotsStandFor caps.now r slots.old → SlotsStandFor caps.now (event ∷ r) slots.new }
-    ensures disposition { (r : List Event) → StandsFor caps.now r state.old → SlotsStandFor caps.now r slots.old → flags_of result.0 ≡ flags_after caps.now r event }
-    ensures value { (r : List Event) → StandsFor caps.now r state.old → SlotsStandFor caps.now r slots.old → result.1 ≡ unwrap_or (passes_as caps.now r event) event.value }
+    ensures state { (r : List Event) → StandsFor caps.now r state.old
+        → StandsFor caps.now (event ∷ r) state.new }
+    ensures slots { (r : List Event) → SlotsStandFor caps.now r slots.old
+        → SlotsStandFor caps.now (event ∷ r) slots.new }
+    ensures disposition { (r : List Event) → StandsFor caps.now r state.old
+        → SlotsStandFor caps.now r slots.old
+        → flags_of result.0 ≡ flags_after caps.now r event }
+    ensures value { (r : List Event) → StandsFor caps.now r state.old
+        → SlotsStandFor caps.now r slots.old
+        → result.1 ≡ unwrap_or (passes_as caps.now r event) event.value }
     ensures count { length slots.new.slots ≡ length slots.old.slots }
     ensures at_frame { slots.new.at_frame ≡ slots.old.at_frame }
 {
@@ -56,8 +66,10 @@ fn apply(state: &mut State, slots: &mut Slots, caps: &Caps, event: Event) -> (Di
 
 // The events that are passed by what becomes of an event: itself, and its slot before it.
 fn passed_as(disposition: Disposition, event: Event, slot: i32) -> Passed
-    ensures announcement { result.announcement ≡ (if bit_and (flags_of disposition) 4 == 4 then Some (slot_event slot) else None) }
-    ensures event { result.event ≡ (if bit_and (flags_of disposition) 1 == 1 then Some event else None) }
+    ensures announcement { result.announcement
+        ≡ (if bit_and (flags_of disposition) 4 == 4 then Some (slot_event slot) else None) }
+    ensures event { result.event
+        ≡ (if bit_and (flags_of disposition) 1 == 1 then Some event else None) }
 {
     Passed {
         announcement: disposition

@@ -1,4 +1,4 @@
--- How much of a move of an axis counts.
+-- How much of a move of an axis counts (docs/RULES.md, "What is passed").
 use Rattle.std.specs.Prelude.{ℤ, pos, ◌+ℤ◌, ◌-ℤ◌, ◌*ℤ◌, int_lt, int_div, Bool, ◌&&◌, if◌then◌else◌}
 use Rattle.std.specs.Ordering.{int_eq}
 

@@ -1,4 +1,4 @@
--- What a device is: which types and codes it supports, its axes, and its numbers.
+-- What a device is: which types and codes it supports, its axes, and its numbers (docs/RULES.md, "What a device has").
 use Rattle.std.specs.Prelude.{◌≡◌, ℕ, zero, suc, ◌*◌, ◌<◌, ◌≤◌, pos, int_lt, Bool, true, false, ◌&&◌, ◌||◌, not, if◌then◌else◌, nat_eq, nat_le, List, ◌∷◌, ◌++◌, length, replicate, slice_index_or}
 use Rattle.std.specs.Ordering.{int_eq}
 use Rattle.inp_model.specs.declared.event.TheConstants.{EV_SYN, EV_KEY, EV_REL, EV_ABS, EV_MSC, EV_SW, EV_LED, EV_SND, EV_REP, EV_MAX, SYN_DROPPED, KEY_MAX, REL_MAX, ABS_MAX, MSC_MAX, SW_MAX, LED_MAX, SND_MAX, REP_MAX}
@@ -27,7 +27,7 @@ pub record Description : Type 0 where
   -- how many events a frame may gather before it is cut
   pub hint : ℕ
   -- how many steps a history may have
-  pub log : ℕ
+  pub log_limit : ℕ
   -- how far these clocks are ahead of the monotonic one, in microseconds
   pub realtime : ℕ
   pub boottime : ℕ
@@ -62,11 +62,11 @@ no_info = record { value = pos 0; minimum = pos 0; maximum = pos 0; fuzz = pos 0
 abbrev pub info : Description → ℕ → AxisInfo
 info d code = slice_index_or d.infos code no_info
 
--- the axes whose values belong to slots, and the one that names a slot
+-- the axes whose values belong to slots, and the one that names a slot (docs/RULES.md, "Multi-touch slots")
 abbrev pub is_multi_touch_code : ℕ → Bool
 is_multi_touch_code code = nat_le ABS_MT_SLOT code && nat_le code ABS_MT_TOOL_Y
 
--- the axes whose values belong to slots
+-- the axes whose values belong to slots (docs/RULES.md, "Multi-touch slots")
 abbrev pub is_slot_code : ℕ → Bool
 is_slot_code code = nat_le ABS_MT_TOUCH_MAJOR code && nat_le code ABS_MT_TOOL_Y
 
@@ -76,16 +76,17 @@ doubled zero enough n = n
 doubled (suc times) enough n = if nat_le enough n then n else doubled times enough (2 * n)
 
 -- the places of a client's ring: the least power of two that is at least 64 and at least eight times the hint
+-- (docs/RULES.md, "A client's queue")
 abbrev pub ring : Description → ℕ
 ring d = doubled 6 (8 * d.hint) 64
 
--- how far a clock is ahead of the moments of the steps
+-- how far a clock is ahead of the moments of the steps (docs/RULES.md, "Clocks")
 abbrev pub offset : Description → Clock → ℕ
 offset d Realtime = d.realtime
 offset d Monotonic = 0
 offset d Boottime = d.boottime
 
--- Which descriptions there are.
+-- Which descriptions there are (docs/RULES.md, "What a device has").
 
 -- The nine types that a device can have.
 abbrev pub is_kind : ℕ → Bool
@@ -124,7 +125,7 @@ pub record IsDescription (d : Description) : Type 0 where
   pub infos : AreAxes d.infos
   pub slots : d.slots ≤ SLOTS_MAX
   pub hint : (HINT_MIN ≤ d.hint) × (d.hint ≤ HINT_MAX)
-  pub log : (1 ≤ d.log) × (d.log ≤ LOG_MAX)
+  pub log_limit : (1 ≤ d.log_limit) × (d.log_limit ≤ LOG_MAX)
   pub realtime : d.realtime ≤ MOMENT_MAX
   pub boottime : d.boottime ≤ MOMENT_MAX
 
@@ -142,7 +143,7 @@ one_key = record {
   infos = replicate 64 no_info;
   slots = 0;
   hint = 16;
-  log = 1048576;
+  log_limit = 1048576;
   realtime = 0;
   boottime = 0;
 }

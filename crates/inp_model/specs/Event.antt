@@ -6,7 +6,7 @@ use Rattle.inp_model.specs.declared.multi_touch.TheConstants.{ABS_MT_SLOT}
 use Rattle.inp_model.specs.declared.event.Event.{Event}
 use Rattle.inp_model.specs.Description.{Description, supports, is_multi_touch_code, is_slot_code}
 
--- it ends a frame
+-- it ends a frame (docs/RULES.md, "Frames")
 abbrev pub is_report : Event → Bool
 is_report e = nat_eq e.kind EV_SYN && nat_eq e.code SYN_REPORT
 
@@ -14,15 +14,15 @@ is_report e = nat_eq e.kind EV_SYN && nat_eq e.code SYN_REPORT
 abbrev pub is_on : Description → ℕ → ℕ → Event → Bool
 is_on d kind code e = supports d kind code && (nat_eq e.kind kind && nat_eq e.code code)
 
--- of a key: an autorepeat, which changes no state
+-- of a key: an autorepeat, which changes no state (docs/RULES.md, "What is passed")
 abbrev pub is_repeat : Event → Bool
 is_repeat e = int_eq e.value (pos 2)
 
--- of a key and the like: down, on
+-- of a key and the like: down, on (docs/RULES.md, "What is passed")
 abbrev pub is_set : Event → Bool
 is_set e = not (int_eq e.value (pos 0))
 
--- of a setting: one that there cannot be
+-- of a setting of the autorepeat: negative, and so ignored (docs/RULES.md, "What is passed")
 abbrev pub is_negative : Event → Bool
 is_negative e = int_lt e.value (pos 0)
 
@@ -34,14 +34,14 @@ is_multi_touch e = nat_eq e.kind EV_ABS && is_multi_touch_code e.code
 abbrev pub is_slot_value : Event → Bool
 is_slot_value e = nat_eq e.kind EV_ABS && is_slot_code e.code
 
--- it says which slot the values behind it belong to
+-- it says which slot the values behind it belong to (docs/RULES.md, "Multi-touch slots")
 abbrev pub slot_event : ℤ → Event
 slot_event slot = record { kind = EV_ABS; code = ABS_MT_SLOT; value = slot }
 
--- the report that ends a frame cut because it was full
-abbrev pub packet_report : Event
-packet_report = record { kind = EV_SYN; code = SYN_REPORT; value = pos 1 }
+-- a report that the core adds itself, as behind a packet that is full (docs/RULES.md, "Frames")
+abbrev pub core_report : Event
+core_report = record { kind = EV_SYN; code = SYN_REPORT; value = pos 1 }
 
--- what tells a client that it lost events
-abbrev pub loss : Event
-loss = record { kind = EV_SYN; code = SYN_DROPPED; value = pos 0 }
+-- what tells a client that it lost events (docs/RULES.md, "A client's queue")
+abbrev pub syn_dropped : Event
+syn_dropped = record { kind = EV_SYN; code = SYN_DROPPED; value = pos 0 }

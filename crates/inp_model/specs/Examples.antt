@@ -8,10 +8,10 @@ use Rattle.inp_model.specs.declared.step.Step.TheVariants.{Inject, Open, Read}
 use Rattle.inp_model.specs.declared.reply.Reply.TheVariants.{Opened, Took, Again, Refused}
 use Rattle.inp_model.specs.declared.reply.Refusal.TheVariants.{BadClient}
 use Rattle.inp_model.specs.Description.{Description, one_key, ring, no_info, IsDescription}
-use Rattle.inp_model.specs.Event.{loss, packet_report}
+use Rattle.inp_model.specs.Event.{syn_dropped, core_report}
 use Rattle.inp_model.specs.State.{key_down}
 use Rattle.inp_model.specs.Passed.{passed}
-use Rattle.inp_model.specs.History.{raw}
+use Rattle.inp_model.specs.Raw.{raw}
 use Rattle.inp_model.specs.Reply.{Answer, answer, alone}
 use Rattle.inp_model.specs.Run.{IsLegalRun}
 
@@ -88,12 +88,12 @@ PassesARepeat =
     Gives (Open ∷ stroke (pos 2) 0) (Read 0 16) (took 3 2 (at 2 0 (key (pos 2)) ∷ at 2 0 report ∷ []))
 
 abbrev pub KeepsTheKeyUp : Type 0
-KeepsTheKeyUp = key_down one_key (raw (reverse (Open ∷ stroke (pos 2) 0))) KEY_A ≡ false
+KeepsTheKeyUp = key_down one_key (raw one_key (reverse (Open ∷ stroke (pos 2) 0))) KEY_A ≡ false
 
 -- a key that the device lacks, and an injected loss, are ignored
 abbrev pub IgnoresOthers : Type 0
 IgnoresOthers =
-    Gives (Open ∷ Inject other_key 0 ∷ Inject loss 0 ∷ Inject report 0 ∷ []) (Read 0 16) (alone (Again 4 0))
+    Gives (Open ∷ Inject other_key 0 ∷ Inject syn_dropped 0 ∷ Inject report 0 ∷ []) (Read 0 16) (alone (Again 4 0))
 
 -- sixteen events fill a packet, which gets a report of its own
 abbrev pub repeats : ℕ → List Step
@@ -106,19 +106,19 @@ copies (suc n) t = t ∷ copies n t
 
 abbrev pub CutsAFullPacket : Type 0
 CutsAFullPacket =
-    Gives (Open ∷ repeats 16 ++ Inject report 0 ∷ []) (Read 0 100) (took 18 17 (copies 16 (at 16 0 (key (pos 2))) ++ at 16 0 packet_report ∷ []))
+    Gives (Open ∷ repeats 16 ++ Inject report 0 ∷ []) (Read 0 100) (took 18 17 (copies 16 (at 16 0 (key (pos 2))) ++ at 16 0 core_report ∷ []))
 
 -- The ring of 128 places holds 127 events. The report of the 64th frame is the 128th: all is lost but that report.
 abbrev pub LosesAFullRing : Type 0
 LosesAFullRing =
-    Gives (Open ∷ strokes 64 true) (Read 0 4096) (took 129 2 (at 128 0 loss ∷ at 128 0 report ∷ []))
+    Gives (Open ∷ strokes 64 true) (Read 0 4096) (took 129 2 (at 128 0 syn_dropped ∷ at 128 0 report ∷ []))
 
 -- here the 128th event is a key's
 abbrev pub LosesInAFrame : Type 0
 LosesInAFrame =
     Gives (Open ∷ strokes 63 true ++ Inject (key (pos 0)) 0 ∷ Inject (key (pos 1)) 0 ∷ Inject report 0 ∷ [])
     (Read 0 4096)
-    (took 130 3 (at 129 0 loss ∷ at 129 0 (key (pos 1)) ∷ at 129 0 report ∷ []))
+    (took 130 3 (at 129 0 syn_dropped ∷ at 129 0 (key (pos 1)) ∷ at 129 0 report ∷ []))
 
 -- a client that reads in time loses nothing
 abbrev pub KeepsAllButOne : Type 0

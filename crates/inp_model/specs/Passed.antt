@@ -1,4 +1,4 @@
--- Which raw events are passed on to the clients.
+-- Which raw events are passed on to the clients (docs/RULES.md, "What is passed").
 use Rattle.std.specs.Prelude.{ℤ, pos, Bool, true, false, ◌&&◌, ◌||◌, not, if◌then◌else◌, nat_eq, nat_lt, List, [], ◌∷◌, ◌++◌, Option, Some, None, is_some, option_to_list, option_map}
 use Rattle.std.specs.Ordering.{int_eq}
 use Rattle.inp_model.specs.declared.event.TheConstants.{EV_SYN, EV_KEY, EV_REL, EV_ABS, EV_MSC, EV_SW, EV_LED, EV_SND, EV_REP, SYN_CONFIG, SYN_DROPPED}
@@ -29,12 +29,12 @@ setting_passes d r e = not (int_eq (repeat_setting d r e.code) (repeat_setting d
 abbrev pub axis_passes : Description → List Event → Event → Bool
 axis_passes d r e = not (int_eq (axis_value d r e.code) (axis_value d (e ∷ r) e.code))
 
--- the value of the staged slot that an event is about, after it
+-- the value of the staged slot that an event is about, after it (docs/RULES.md, "Multi-touch slots")
 abbrev pub cell_after : Description → List Event → Event → ℤ
 cell_after d r e = cell d (e ∷ r) (staged d r) e.code
 
 -- The naming of a slot is not passed itself. A multi-touch value is passed where it moves the value of the staged slot;
--- without slots it is always passed, and kept nowhere.
+-- without slots it is always passed, and kept nowhere (docs/RULES.md, "Multi-touch slots").
 abbrev pub multi_touch_passes : Description → List Event → Event → Bool
 multi_touch_passes d r e =
     if nat_eq e.code ABS_MT_SLOT then false
@@ -51,7 +51,7 @@ code_passes d r e =
     else if nat_eq e.kind EV_REP then setting_passes d r e
     else true
 
--- a multi-touch value is passed as the one that the slot takes
+-- a multi-touch value is passed as the one that the slot takes (docs/RULES.md, "Multi-touch slots")
 abbrev pub multi_touch_value : Description → List Event → Event → ℤ
 multi_touch_value d r e = if nat_eq d.slots 0 then e.value else cell_after d r e
 
@@ -73,13 +73,14 @@ abbrev pub passes_slot_value : Description → List Event → Event → Bool
 passes_slot_value d r e = is_slot_value e && is_some (passes_as d r e)
 
 -- the slot that the clients were told last: the one staged at the last value of a slot that was passed
+-- (docs/RULES.md, "Multi-touch slots")
 unfoldable pub announced : Description → List Event → ℤ
 announced d [] = pos 0
 announced d (e ∷ r) =
     let before = announced d r in
     if passes_slot_value d r e then staged d r else before
 
--- a value of another slot than the one announced last is passed behind its slot
+-- a value of another slot than the one announced last is passed behind its slot (docs/RULES.md, "Multi-touch slots")
 abbrev pub announces : Description → List Event → Event → Bool
 announces d r e = passes_slot_value d r e && not (int_eq (staged d r) (announced d r))
 

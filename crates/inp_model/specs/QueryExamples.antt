@@ -60,5 +60,5 @@ AnswersOtherAxes =
 -- a history of one step: what finds nothing to read comes before the limit
 abbrev pub EndsAtItsLimit : Type 0
 EndsAtItsLimit =
-    GivesOn (record one_key { log = 1 }) (Open ∷ []) (inject report) (alone (Refused 1 LogFull))
-    × GivesOn (record one_key { log = 1 }) (Open ∷ []) (Read 0 1) (alone (Again 1 0))
+    GivesOn (record one_key { log_limit = 1 }) (Open ∷ []) (inject report) (alone (Refused 1 LogFull))
+    × GivesOn (record one_key { log_limit = 1 }) (Open ∷ []) (Read 0 1) (alone (Again 1 0))

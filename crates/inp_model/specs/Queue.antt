@@ -1,14 +1,17 @@
--- Each client's queue, oldest first: what it was offered, has not taken and did not lose.
-use Rattle.std.specs.Prelude.{ℕ, suc, ◌+◌, min, Bool, true, false, ◌&&◌, ◌||◌, not, if◌then◌else◌, nat_eq, nat_lt, List, [], ◌∷◌, ◌++◌, length, map, take, drop, flat_map, Option, Some}
-use Rattle.inp_model.specs.declared.event.TheConstants.{EV_KEY, EV_SW, EV_LED, EV_SND}
+-- Each client's queue, oldest first: what it was offered, has not taken and did not lose
+-- (docs/RULES.md, "A client's queue").
+use Rattle.std.specs.Prelude.{ℕ, suc, ◌+◌, min, Bool, true, false, ◌&&◌, ◌||◌, not, if◌then◌else◌, nat_eq, nat_lt, List, [], ◌∷◌, ◌++◌, length, map, filter, take, drop, flat_map, Option, Some, None}
 use Rattle.inp_model.specs.declared.event.Event.{Event}
 use Rattle.inp_model.specs.declared.taken.Taken.{Taken}
 use Rattle.inp_model.specs.declared.step.Step.{Step}
-use Rattle.inp_model.specs.declared.step.Step.TheVariants.{Inject, Open, Read, GetKeys, GetSwitches, GetLeds, GetSounds, GetAxis, GetSlots, SyncSlots}
+use Rattle.inp_model.specs.declared.clock.Clock.{Clock}
+use Rattle.inp_model.specs.declared.clock.Clock.TheVariants.{Realtime, Monotonic, Boottime}
+use Rattle.inp_model.specs.declared.step.Step.TheVariants.{Open, Read, Discard, Clock as ToClock}
 use Rattle.inp_model.specs.Description.{Description, ring, offset}
-use Rattle.inp_model.specs.Event.{is_report, is_multi_touch, loss}
-use Rattle.inp_model.specs.History.{opens, is_open, clock_of}
-use Rattle.inp_model.specs.Frame.{Frame, place, ended}
+use Rattle.inp_model.specs.Event.{is_report, syn_dropped}
+use Rattle.inp_model.specs.Step.{Query, query_of, is_part_of}
+use Rattle.inp_model.specs.Past.{is_open, is_call_of, is_revoked, holder, is_other, clock_of, admits}
+use Rattle.inp_model.specs.Frame.{Frame, place, frames_of_step}
 
 -- an event in a client's queue, with the frame that it came in
 pub record Entry : Type 0 where
@@ -18,12 +21,12 @@ pub record Entry : Type 0 where
 abbrev pub event_of : Entry → Event
 event_of e = e.taken.event
 
--- in the place of what was lost, at the time and place of the event that did not fit
-abbrev pub lost : Taken → Taken
-lost t = record t { event = loss }
+-- SYN_DROPPED in the place of what was lost, at the time and place of the event that did not fit
+abbrev pub dropped_at : Taken → Taken
+dropped_at t = record t { event = syn_dropped }
 
-abbrev pub lost_entry : Entry → Entry
-lost_entry e = record e { taken = lost e.taken }
+abbrev pub entry_dropped_at : Entry → Entry
+entry_dropped_at e = record e { taken = dropped_at e.taken }
 
 -- A queue of any items whose events are known.
 
@@ -37,16 +40,16 @@ is_empty [] = true
 is_empty (x ∷ q) = false
 
 -- One more item in a queue with so many places. A report that would follow a report, or nothing, is left out.
--- Where only one place is left the whole queue is lost, and is told as lost.
+-- Where only one place is left the whole queue is lost, and SYN_DROPPED stands in its place.
 abbrev pub put : {X : Type 0} → (X → Event) → (X → X) → ℕ → List X → X → List X
-put event lose places q x =
+put event dropped places q x =
     if is_report (event x) && (is_empty q || ends_in_report event q) then q
     else if nat_lt (suc (length q)) places then q ++ x ∷ []
-    else lose x ∷ x ∷ []
+    else dropped x ∷ x ∷ []
 
 abbrev pub put_all : {X : Type 0} → (X → Event) → (X → X) → ℕ → List X → List X → List X
-put_all event lose places q [] = q
-put_all event lose places q (x ∷ xs) = put_all event lose places (put event lose places q x) xs
+put_all event dropped places q [] = q
+put_all event dropped places q (x ∷ xs) = put_all event dropped places (put event dropped places q x) xs
 
 -- how many items are visible: those up to the last report
 abbrev pub visible : {X : Type 0} → (X → Event) → List X → ℕ
@@ -63,6 +66,7 @@ follows_kept event drops (y ∷ before) =
     if is_report (event y) then false else if drops (event y) then follows_kept event drops before else true
 
 -- a report stays where it follows an item that stays, and another item where it is not dropped
+-- (docs/RULES.md, "Queries")
 abbrev pub stays : {X : Type 0} → (X → Event) → (Event → Bool) → List X → X → Bool
 stays event drops before x = if is_report (event x) then follows_kept event drops before else not (drops (event x))
 
@@ -73,40 +77,69 @@ flush_behind event drops before (x ∷ q) =
     (if stays event drops before x then x ∷ [] else []) ++ flush_behind event drops (x ∷ before) q
 
 -- a queue without the events that are dropped, and without the reports that have no event left before them
+-- (docs/RULES.md, "Queries")
 abbrev pub flush : {X : Type 0} → (X → Event) → (Event → Bool) → List X → List X
 flush event drops q = flush_behind event drops [] q
 
--- without the events of a type, as a query of their state leaves it
-abbrev pub flushed : {X : Type 0} → (X → Event) → ℕ → List X → List X
-flushed event kind q = flush event (λ e. nat_eq e.kind kind) q
+-- without what the answer to a query tells whole; as it is where nothing is asked
+abbrev pub flush_for : {X : Type 0} → (X → Event) → Option Query → List X → List X
+flush_for event None q = q
+flush_for event (Some query) q = flush event (is_part_of query) q
 
--- a frame is offered to each client that is open when it ends
-abbrev pub offered : Description → ℕ → Frame → List Event
-offered d client f = if is_open f.before client then f.events else []
+-- A frame is offered to each client that is open and not revoked when it ends, or to the holder of the grab alone
+-- (docs/RULES.md, "A client's queue", "The grab" and "Revocation").
+abbrev pub is_offered : List Step → ℕ → Bool
+is_offered past client = is_open past client && not (is_revoked past client) && not (is_other (holder past) client)
 
+-- an event of a frame as a client reads it, timed by its clock (docs/RULES.md, "Clocks")
 abbrev pub entry : Description → ℕ → Frame → Event → Entry
 entry d client f e = record {
   taken = record { event = e; time = f.moment + offset d (clock_of f.before client); place = place f };
   frame = Some f;
 }
 
--- what a client is offered of these frames
-abbrev pub entries : Description → ℕ → List Frame → List Entry
-entries d client fs = flat_map (λ (f : Frame). map (entry d client f) (offered d client f)) fs
+-- what comes to a client of a frame: those of its events that it admits, where it is offered the frame
+-- (docs/RULES.md, "A client's queue" and "Masks")
+abbrev pub entries_of : Description → ℕ → Frame → List Entry
+entries_of d client f = if is_offered f.before client then map (entry d client f) (filter (admits f.before client) f.cut.events) else []
 
--- what a step makes of a client's queue
+abbrev pub entries : Description → ℕ → List Frame → List Entry
+entries d client fs = flat_map (entries_of d client) fs
+
+abbrev pub is_same_clock : Clock → Clock → Bool
+is_same_clock Realtime Realtime = true
+is_same_clock Monotonic Monotonic = true
+is_same_clock Boottime Boottime = true
+is_same_clock _ _ = false
+
+-- SYN_DROPPED at the moment of a change of clock, on the new clock (docs/RULES.md, "Clocks")
+abbrev pub clock_entry : Description → List Step → Clock → ℕ → Entry
+clock_entry d past clock now = record {
+  taken = record { event = syn_dropped; time = now + offset d clock; place = length past };
+  frame = None;
+}
+
+-- A change to another clock empties a queue and leaves SYN_DROPPED there, but for one that is empty
+-- (docs/RULES.md, "Clocks").
+abbrev pub clock_changed : {X : Type 0} → Bool → X → List X → List X
+clock_changed same dropped [] = []
+clock_changed same dropped (x ∷ q) = if same then x ∷ q else dropped ∷ []
+
+-- what a client's own call leaves in its queue (docs/RULES.md, "A client's queue", "Clocks" and "Queries")
+abbrev pub left_by_call : Description → List Step → Step → List Entry → List Entry
+left_by_call d past Open q = []
+left_by_call d past (Read client count) q = drop (min count (visible event_of q)) q
+left_by_call d past (Discard client) q = drop (visible event_of q) q
+left_by_call d past (ToClock client clock now) q =
+    clock_changed (is_same_clock (clock_of past client) clock) (clock_entry d past clock now) q
+left_by_call d past x q = flush_for event_of (query_of x) q
+
+-- what a step leaves in a client's queue: its own call first, then what comes of the frames that the step ends
 abbrev pub queue_after : Description → List Step → ℕ → Step → List Entry → List Entry
-queue_after d past client (Inject e now) q = put_all event_of lost_entry (ring d) q (entries d client (ended d past (Inject e now)))
-queue_after d past client Open q = if nat_eq (opens past) client then [] else q
-queue_after d past client (Read reader count) q =
-    if nat_eq reader client then drop (min count (visible event_of q)) q else q
-queue_after d past client (GetKeys reader) q = if nat_eq reader client then flushed event_of EV_KEY q else q
-queue_after d past client (GetSwitches reader) q = if nat_eq reader client then flushed event_of EV_SW q else q
-queue_after d past client (GetLeds reader) q = if nat_eq reader client then flushed event_of EV_LED q else q
-queue_after d past client (GetSounds reader) q = if nat_eq reader client then flushed event_of EV_SND q else q
-queue_after d past client (GetAxis reader code) q = q
-queue_after d past client (GetSlots reader code) q = q
-queue_after d past client (SyncSlots reader) q = if nat_eq reader client then flush event_of is_multi_touch q else q
+queue_after d past client x q =
+    put_all event_of entry_dropped_at (ring d)
+    (if is_call_of past client x then left_by_call d past x q else q)
+    (entries d client (frames_of_step d past x))
 
 unfoldable pub queue : Description → List Step → ℕ → List Entry
 queue d [] client = []
@@ -114,18 +147,10 @@ queue d (x ∷ past) client = queue_after d past client x (queue d past client)
 
 -- what a step takes from a client's queue
 abbrev pub taken_by : Description → List Step → ℕ → Step → List Entry
-taken_by d past client (Inject e now) = []
-taken_by d past client Open = []
 taken_by d past client (Read reader count) =
     let q = queue d past client in
     if nat_eq reader client then take (min count (visible event_of q)) q else []
-taken_by d past client (GetKeys reader) = []
-taken_by d past client (GetSwitches reader) = []
-taken_by d past client (GetLeds reader) = []
-taken_by d past client (GetSounds reader) = []
-taken_by d past client (GetAxis reader code) = []
-taken_by d past client (GetSlots reader code) = []
-taken_by d past client (SyncSlots reader) = []
+taken_by d past client _ = []
 
 -- all that a client's reads have taken, in order
 unfoldable pub took : Description → List Step → ℕ → List Entry

@@ -1,22 +1,24 @@
 -- The reply to a step after a past, and what it leaves.
-use Rattle.std.specs.Prelude.{ℕ, ℤ, pos, ◌+◌, ◌*◌, ◌≡◌, ◌≤◌, ◌⊎◌, Bool, true, false, not, if◌then◌else◌, nat_eq, nat_le, nat_lt, List, [], ◌∷◌, ◌++◌, length, map, drop, flat_map, Option, Some, None}
+use Rattle.std.specs.Prelude.{ℕ, ℤ, pos, ◌+◌, ◌*◌, ◌≡◌, ◌≤◌, ◌⊎◌, Bool, true, false, ◌&&◌, not, if◌then◌else◌, nat_eq, nat_le, nat_lt, List, [], ◌∷◌, ◌++◌, length, map, drop, flat_map, Option, Some, None, is_some}
 use Rattle.std.specs.List.{range_with_len}
-use Rattle.inp_model.specs.declared.stamped.TheConstants.{MOMENT_MAX}
-use Rattle.inp_model.specs.declared.event.TheConstants.{EV_ABS, ABS_MAX}
+use Rattle.inp_model.specs.declared.event.TheConstants.{EV_KEY, EV_ABS, EV_SW, EV_LED, EV_SND, ABS_MAX}
+use Rattle.inp_model.specs.declared.limits.TheConstants.{CLIENTS_MAX}
 use Rattle.inp_model.specs.declared.multi_touch.TheConstants.{ABS_MT_SLOT, ABS_MT_TOUCH_MAJOR}
 use Rattle.inp_model.specs.declared.event.Event.{Event}
 use Rattle.inp_model.specs.declared.axis_info.AxisInfo.{AxisInfo}
 use Rattle.inp_model.specs.declared.taken.Taken.{Taken}
 use Rattle.inp_model.specs.declared.step.Step.{Step}
-use Rattle.inp_model.specs.declared.step.Step.TheVariants.{Inject, Open, Read, GetKeys, GetSwitches, GetLeds, GetSounds, GetAxis, GetSlots, SyncSlots}
+use Rattle.inp_model.specs.declared.step.Step.TheVariants.{Inject, Tick, Open, Close, Read, Discard, GetKeys, GetSwitches, GetLeds, GetSounds, GetAxis, GetSlots, SyncSlots, Write, Grab, Ungrab, Mask, Clock as ToClock, Revoke, Inhibit, Uninhibit, End}
 use Rattle.inp_model.specs.declared.reply.Reply.{Reply}
-use Rattle.inp_model.specs.declared.reply.Reply.TheVariants.{Done, Opened, Took, Bits, Axis, Cells, Again, Refused}
-use Rattle.inp_model.specs.declared.reply.Refusal.TheVariants.{BadClient, BadKind, BadCode, LogFull, NoMemory}
+use Rattle.inp_model.specs.declared.reply.Reply.TheVariants.{Done, Opened, Took, Discarded, Bits, Axis, Cells, Again, Refused}
+use Rattle.inp_model.specs.declared.reply.Refusal.TheVariants.{BadClient, NoDevice, BadKind, BadCode, Busy, NotGrabber, TooMany, LogFull, NoMemory}
 use Rattle.inp_model.specs.Description.{Description, ring, has_kind, supports, info, no_info, is_multi_touch_code, is_slot_code}
-use Rattle.inp_model.specs.State.{key_down, switch_on, led_on, sound_on, axis_value, cell}
+use Rattle.inp_model.specs.State.{key_down, turned_on, axis_value, cell}
 use Rattle.inp_model.specs.Passed.{announced}
-use Rattle.inp_model.specs.Frame.{at_frame}
-use Rattle.inp_model.specs.History.{raw, opens, is_open, client_of, ends}
+use Rattle.inp_model.specs.Step.{client_of, is_close_of, is_same}
+use Rattle.inp_model.specs.Past.{opens, is_open, open_clients, is_revoked, holder, has_mask, mask_words, ends}
+use Rattle.inp_model.specs.Cut.{at_frame}
+use Rattle.inp_model.specs.Raw.{raw}
 use Rattle.inp_model.specs.Queue.{Entry, event_of, queue, visible, taken_by}
 
 -- a reply, with what is written to the front of the caller's buffers of events and of cells
@@ -28,58 +30,89 @@ pub record Answer : Type 0 where
 abbrev pub taken_of : Entry → Taken
 taken_of e = e.taken
 
-abbrev pub names_no_client : List Step → Option ℕ → Bool
-names_no_client past None = false
-names_no_client past (Some client) = not (is_open past client)
+-- Refusals (docs/RULES.md, "The order of refusals")
+
+-- a client is named that is not open
+abbrev pub is_bad_client : List Step → Option ℕ → Bool
+is_bad_client past None = false
+is_bad_client past (Some client) = not (is_open past client)
+
+-- a client is named that was revoked, for another step than closing it
+abbrev pub is_no_device : List Step → Step → Option ℕ → Bool
+is_no_device past x None = false
+is_no_device past x (Some client) = is_revoked past client && not (is_close_of client x)
+
+-- an axis is asked for on a device without axes, slots on one without slots, or a mask is set that there is not
+abbrev pub is_bad_kind : Description → Step → Bool
+is_bad_kind d (GetAxis client code) = not (has_kind d EV_ABS)
+is_bad_kind d (GetSlots client code) = nat_eq d.slots 0
+is_bad_kind d (SyncSlots client) = nat_eq d.slots 0
+is_bad_kind d (Mask client kind word bits) = not (has_mask kind)
+is_bad_kind d _ = false
+
+-- an axis is asked for that no device has, or one whose values belong to no slot, or a word is set past its mask
+abbrev pub is_bad_code : Step → Bool
+is_bad_code (GetAxis client code) = nat_lt ABS_MAX code
+is_bad_code (GetSlots client code) = not (is_slot_code code)
+is_bad_code (Mask client kind word bits) = nat_le (mask_words kind) word
+is_bad_code _ = false
 
 -- a read that finds nothing visible
-abbrev pub reads_nothing : Description → List Step → Step → Bool
-reads_nothing d past (Inject e now) = false
-reads_nothing d past Open = false
-reads_nothing d past (Read client count) = nat_eq (visible event_of (queue d past client)) 0
-reads_nothing d past (GetKeys client) = false
-reads_nothing d past (GetSwitches client) = false
-reads_nothing d past (GetLeds client) = false
-reads_nothing d past (GetSounds client) = false
-reads_nothing d past (GetAxis client code) = false
-reads_nothing d past (GetSlots client code) = false
-reads_nothing d past (SyncSlots client) = false
+abbrev pub finds_nothing : Description → List Step → Step → Bool
+finds_nothing d past (Read client count) = nat_eq (visible event_of (queue d past client)) 0
+finds_nothing d past _ = false
 
--- an axis is asked for on a device without axes, or slots on one without slots
-abbrev pub lacks_kind : Description → Step → Bool
-lacks_kind d (Inject e now) = false
-lacks_kind d Open = false
-lacks_kind d (Read client count) = false
-lacks_kind d (GetKeys client) = false
-lacks_kind d (GetSwitches client) = false
-lacks_kind d (GetLeds client) = false
-lacks_kind d (GetSounds client) = false
-lacks_kind d (GetAxis client code) = not (has_kind d EV_ABS)
-lacks_kind d (GetSlots client code) = nat_eq d.slots 0
-lacks_kind d (SyncSlots client) = nat_eq d.slots 0
+-- the grab is taken while a client holds it (docs/RULES.md, "The grab")
+abbrev pub is_busy : List Step → Step → Bool
+is_busy past (Grab client) = is_some (holder past)
+is_busy past _ = false
 
--- an axis is asked for that no device has, or one whose values belong to no slot
-abbrev pub lacks_code : Step → Bool
-lacks_code (Inject e now) = false
-lacks_code Open = false
-lacks_code (Read client count) = false
-lacks_code (GetKeys client) = false
-lacks_code (GetSwitches client) = false
-lacks_code (GetLeds client) = false
-lacks_code (GetSounds client) = false
-lacks_code (GetAxis client code) = nat_lt ABS_MAX code
-lacks_code (GetSlots client code) = not (is_slot_code code)
-lacks_code (SyncSlots client) = false
+-- the grab is given up by a client that does not hold it (docs/RULES.md, "The grab")
+abbrev pub is_not_grabber : List Step → Step → Bool
+is_not_grabber past (Ungrab client) = not (is_same (holder past) client)
+is_not_grabber past _ = false
+
+-- a client opens while as many are open as may be (docs/RULES.md, "Opening and closing")
+abbrev pub is_one_too_many : List Step → Step → Bool
+is_one_too_many past Open = nat_le CLIENTS_MAX (length (open_clients past))
+is_one_too_many past _ = false
+
+-- the history is as long as it may be (docs/RULES.md, "The limit of a history")
+abbrev pub is_full : Description → List Step → Bool
+is_full d past = nat_le d.log_limit (length past)
+
+-- a cause for which a step is not accepted, and the reply that it has
+pub record Case : Type 0 where
+  pub holds : Bool
+  pub reply : Reply
+
+-- the reply of the first case that holds, if one does
+abbrev pub first_reply : List Case → Option Reply
+first_reply [] = None
+first_reply (case ∷ cases) = if case.holds then Some case.reply else first_reply cases
+
+abbrev pub refusal : Bool → Reply → Case
+refusal holds reply = record { holds = holds; reply = reply }
+
+-- what may refuse a step, in the order in which it is tried (docs/RULES.md, "The order of refusals")
+abbrev pub refusals : Description → List Step → Step → List Case
+refusals d past x =
+    refusal (is_bad_client past (client_of x)) (Refused (length past) BadClient)
+    ∷ refusal (is_no_device past x (client_of x)) (Refused (length past) NoDevice)
+    ∷ refusal (is_bad_kind d x) (Refused (length past) BadKind)
+    ∷ refusal (is_bad_code x) (Refused (length past) BadCode)
+    ∷ refusal (finds_nothing d past x) (Again (length past) (ends past))
+    ∷ refusal (is_busy past x) (Refused (length past) Busy)
+    ∷ refusal (is_not_grabber past x) (Refused (length past) NotGrabber)
+    ∷ refusal (is_one_too_many past x) (Refused (length past) TooMany)
+    ∷ refusal (is_full d past) (Refused (length past) LogFull)
+    ∷ []
 
 -- the first refusal that holds, if one does
 abbrev pub refused : Description → List Step → Step → Option Reply
-refused d past x =
-    if names_no_client past (client_of x) then Some (Refused (length past) BadClient)
-    else if lacks_kind d x then Some (Refused (length past) BadKind)
-    else if lacks_code x then Some (Refused (length past) BadCode)
-    else if reads_nothing d past x then Some (Again (length past) (ends past))
-    else if nat_le d.log (length past) then Some (Refused (length past) LogFull)
-    else None
+refused d past x = first_reply (refusals d past x)
+
+-- Answers to steps that nothing refuses (docs/RULES.md, "Queries", but where another rule is named)
 
 abbrev pub alone : Reply → Answer
 alone reply = record { reply = reply; events = []; cells = [] }
@@ -120,22 +153,50 @@ row d r slot = map (λ code. cell d r (pos slot) code) (range_with_len ABS_MT_TO
 abbrev pub rows : Description → List Event → List ℤ
 rows d r = flat_map (row d r) (range_with_len 0 d.slots)
 
+-- whether a code of the type is on now: a key is down, a switch, an LED or a sound is on
+abbrev pub code_on : Description → List Event → ℕ → ℕ → Bool
+code_on d r kind code = if nat_eq kind EV_KEY then key_down d r code else turned_on d r kind code
+
+-- all codes of a type
+abbrev pub bits_answer : Description → List Step → ℕ → Answer
+bits_answer d past kind = alone (Bits (length past) (words_of (code_on d (raw d past) kind)))
+
+-- so many values of slots, with the slot that was announced when the last frame ended
+abbrev pub cells_answer : Description → List Step → ℕ → List ℤ → Answer
+cells_answer d past count cells = record { reply = Cells (length past) count (at_frame d (raw d past)); events = []; cells = cells }
+
+-- these events of a client's queue (docs/RULES.md, "A client's queue")
+abbrev pub took_answer : List Step → List Entry → Answer
+took_answer past first = record { reply = Took (length past) (length first); events = map taken_of first; cells = [] }
+
+-- no more than that it was done
+abbrev pub done_answer : List Step → Answer
+done_answer past = alone (Done (length past))
+
 -- the answer to a step that is not refused
 abbrev pub accepted : Description → List Step → Step → Answer
-accepted d past (Inject e now) = alone (Done (length past))
+accepted d past (Inject e now) = done_answer past
+accepted d past (Tick now) = done_answer past
 accepted d past Open = alone (Opened (length past) (opens past) (ring d))
-accepted d past (Read client count) =
-    let first = taken_by d past client (Read client count) in
-    record { reply = Took (length past) (length first); events = map taken_of first; cells = [] }
-accepted d past (GetKeys client) = alone (Bits (length past) (words_of (key_down d (raw past))))
-accepted d past (GetSwitches client) = alone (Bits (length past) (words_of (switch_on d (raw past))))
-accepted d past (GetLeds client) = alone (Bits (length past) (words_of (led_on d (raw past))))
-accepted d past (GetSounds client) = alone (Bits (length past) (words_of (sound_on d (raw past))))
-accepted d past (GetAxis client code) = alone (Axis (length past) (axis_answer d (raw past) code))
-accepted d past (GetSlots client code) =
-    record { reply = Cells (length past) d.slots (at_frame d (raw past)); events = []; cells = column d (raw past) code }
-accepted d past (SyncSlots client) =
-    record { reply = Cells (length past) (14 * d.slots) (at_frame d (raw past)); events = []; cells = rows d (raw past) }
+accepted d past (Close client) = done_answer past
+accepted d past (Read client count) = took_answer past (taken_by d past client (Read client count))
+accepted d past (Discard client) = alone (Discarded (length past) (visible event_of (queue d past client)))
+accepted d past (GetKeys client) = bits_answer d past EV_KEY
+accepted d past (GetSwitches client) = bits_answer d past EV_SW
+accepted d past (GetLeds client) = bits_answer d past EV_LED
+accepted d past (GetSounds client) = bits_answer d past EV_SND
+accepted d past (GetAxis client code) = alone (Axis (length past) (axis_answer d (raw d past) code))
+accepted d past (GetSlots client code) = cells_answer d past d.slots (column d (raw d past) code)
+accepted d past (SyncSlots client) = cells_answer d past (14 * d.slots) (rows d (raw d past))
+accepted d past (Write client e now) = done_answer past
+accepted d past (Grab client) = done_answer past
+accepted d past (Ungrab client) = done_answer past
+accepted d past (Mask client kind word bits) = done_answer past
+accepted d past (ToClock client clock now) = done_answer past
+accepted d past (Revoke client) = done_answer past
+accepted d past (Inhibit now) = done_answer past
+accepted d past Uninhibit = done_answer past
+accepted d past End = done_answer past
 
 abbrev pub answer_by : Option Reply → Answer → Answer
 answer_by None given = given
@@ -150,13 +211,14 @@ abbrev pub is_accepted : Reply → Bool
 is_accepted (Done at) = true
 is_accepted (Opened at client places) = true
 is_accepted (Took at count) = true
+is_accepted (Discarded at count) = true
 is_accepted (Bits at words) = true
 is_accepted (Axis at axis) = true
 is_accepted (Cells at count slot) = true
 is_accepted (Again at n) = false
 is_accepted (Refused at why) = false
 
--- the past after a step that was answered so: a refused step is not entered
+-- the past after a step that was answered so: a refused step is not entered (docs/RULES.md, "Places and moments")
 abbrev pub past_after : Reply → Step → List Step → List Step
 past_after reply x past = if is_accepted reply then x ∷ past else past
 
@@ -164,43 +226,25 @@ past_after reply x past = if is_accepted reply then x ∷ past else past
 abbrev pub written : {X : Type 0} → List X → List X → List X
 written front buffer = front ++ drop (length front) buffer
 
--- memory may run out at an Open that nothing else refuses
+-- memory may run out at an Open that nothing else refuses (docs/RULES.md, "The order of refusals")
 abbrev pub LacksMemory : Description → List Step → Step → Answer → Type 0
 LacksMemory d past x given = (x ≡ Open) × (refused d past x ≡ None) × (given ≡ alone (Refused (length past) NoMemory))
 
 -- the answer is the one-thread device's
-abbrev pub Answers : Description → List Step → Step → Answer → Type 0
-Answers d past x given = (given ≡ answer d past x) ⊎ LacksMemory d past x given
+abbrev pub IsAnswer : Description → List Step → Step → Answer → Type 0
+IsAnswer d past x given = (given ≡ answer d past x) ⊎ LacksMemory d past x given
 
--- what a caller owes: moments in range, and buffers as long as what it asks for
-abbrev pub IsTimely : Step → Type 0
-IsTimely (Inject e now) = now ≤ MOMENT_MAX
-IsTimely Open = Unit {0}
-IsTimely (Read client count) = Unit {0}
-IsTimely (GetKeys client) = Unit {0}
-IsTimely (GetSwitches client) = Unit {0}
-IsTimely (GetLeds client) = Unit {0}
-IsTimely (GetSounds client) = Unit {0}
-IsTimely (GetAxis client code) = Unit {0}
-IsTimely (GetSlots client code) = Unit {0}
-IsTimely (SyncSlots client) = Unit {0}
-
+-- the caller's buffers are as long as what it asks for
 abbrev pub HasRoom : Description → Step → List Taken → List ℤ → Type 0
-HasRoom d (Inject e now) out cells = Unit {0}
-HasRoom d Open out cells = Unit {0}
 HasRoom d (Read client count) out cells = count ≤ length out
-HasRoom d (GetKeys client) out cells = Unit {0}
-HasRoom d (GetSwitches client) out cells = Unit {0}
-HasRoom d (GetLeds client) out cells = Unit {0}
-HasRoom d (GetSounds client) out cells = Unit {0}
-HasRoom d (GetAxis client code) out cells = Unit {0}
 HasRoom d (GetSlots client code) out cells = 14 * d.slots ≤ length cells
 HasRoom d (SyncSlots client) out cells = 14 * d.slots ≤ length cells
+HasRoom d _ out cells = Unit {0}
 
--- What a call of a device leaves: the exact reply, what is written to the caller's buffers, and the past after it.
-pub record Makes (d : Description) (past : List Step) (x : Step) (reply : Reply) (out new_out : List Taken) (cells new_cells : List ℤ) (new_past : List Step) : Type 0 where
+-- What a step of a device leaves: the exact reply, what is written to the caller's buffers, and the past after it.
+pub record IsDeviceStep (d : Description) (past : List Step) (x : Step) (reply : Reply) (out new_out : List Taken) (cells new_cells : List ℤ) (new_past : List Step) : Type 0 where
   pub given : Answer
-  pub answers : Answers d past x given
+  pub exact : IsAnswer d past x given
   pub replied : reply ≡ given.reply
   pub out_written : new_out ≡ written given.events out
   pub cells_written : new_cells ≡ written given.cells cells

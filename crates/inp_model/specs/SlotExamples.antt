@@ -8,7 +8,7 @@ use Rattle.inp_model.specs.declared.step.Step.TheVariants.{Open, Read, GetAxis, 
 use Rattle.inp_model.specs.declared.reply.Reply.TheVariants.{Axis, Cells, Again, Refused}
 use Rattle.inp_model.specs.declared.reply.Refusal.TheVariants.{BadClient, BadKind, BadCode}
 use Rattle.inp_model.specs.Description.{Description, one_key, no_info}
-use Rattle.inp_model.specs.Event.{packet_report}
+use Rattle.inp_model.specs.Event.{core_report}
 use Rattle.inp_model.specs.Reply.{alone}
 use Rattle.inp_model.specs.Examples.{key, report, at, took}
 use Rattle.inp_model.specs.QueryExamples.{desk, key_b, inject, GivesOn}
@@ -107,13 +107,13 @@ PassesWithoutSlots =
 abbrev pub CountsTheName : Type 0
 CountsTheName =
     GivesOn (record touchpad { hint = 2 }) (Open ∷ inject (slot (pos 1)) ∷ inject (x (pos 5)) ∷ []) (Read 0 16)
-    (took 3 3 (at 2 0 (slot (pos 1)) ∷ at 2 0 (x (pos 5)) ∷ at 2 0 packet_report ∷ []))
+    (took 3 3 (at 2 0 (slot (pos 1)) ∷ at 2 0 (x (pos 5)) ∷ at 2 0 core_report ∷ []))
 
 -- a report behind a full packet is alone, and no frame
 abbrev pub CutsAtTheHint : Type 0
 CutsAtTheHint =
     GivesOn (record desk { hint = 2 }) (Open ∷ inject (key (pos 1)) ∷ inject key_b ∷ inject report ∷ []) (Read 0 16)
-    (took 4 3 (at 2 0 (key (pos 1)) ∷ at 2 0 key_b ∷ at 2 0 packet_report ∷ []))
+    (took 4 3 (at 2 0 (key (pos 1)) ∷ at 2 0 key_b ∷ at 2 0 core_report ∷ []))
 
 -- who asks first has to be open, then the device needs slots, then the code has to be a slot's value
 abbrev pub RefusesSlotQueries : Type 0

@@ -1,4 +1,5 @@
--- The state of a device after raw events, newest first: of each key, switch and the like by the last write on it.
+-- The state of a device after raw events, newest first: of each key, switch and the like by the last write on it
+-- (docs/RULES.md, "What is passed").
 use Rattle.std.specs.Prelude.{ℕ, ℤ, pos, negsuc, int_lt, Bool, false, ◌&&◌, not, if◌then◌else◌, nat_eq, List, [], ◌∷◌}
 use Rattle.std.specs.Ordering.{int_eq}
 use Rattle.inp_model.specs.declared.event.TheConstants.{EV_KEY, EV_ABS, EV_SW, EV_LED, EV_SND, EV_REP, REP_DELAY}
@@ -50,23 +51,24 @@ axis_value d (e ∷ r) code =
     let before = axis_value d r code in
     if is_on d EV_ABS code e && not (is_multi_touch e) then defuzz e.value before (info d code).fuzz else before
 
--- the device has a slot of this number
+-- the device has a slot of this number (docs/RULES.md, "Multi-touch slots")
 abbrev pub is_slot : Description → ℤ → Bool
 is_slot d slot = not (int_lt slot (pos 0)) && int_lt slot (pos d.slots)
 
 -- the slot that the next multi-touch values belong to: the last one named of those that there are
+-- (docs/RULES.md, "Multi-touch slots")
 unfoldable pub staged : Description → List Event → ℤ
 staged d [] = pos 0
 staged d (e ∷ r) =
     let before = staged d r in
     if is_on d EV_ABS ABS_MT_SLOT e && is_slot d e.value then e.value else before
 
--- at first there is no contact in a slot, and its other values are 0
+-- at first there is no contact in a slot, and its other values are 0 (docs/RULES.md, "Multi-touch slots")
 abbrev pub first_cell : ℕ → ℤ
 first_cell code = if nat_eq code ABS_MT_TRACKING_ID then negsuc 0 else pos 0
 
 -- Of a device with slots each slot has a value of its own of each multi-touch axis. An event on the axis moves the value
--- of the slot that is staged, as far as the axis's fuzz allows.
+-- of the slot that is staged, as far as the axis's fuzz allows (docs/RULES.md, "Multi-touch slots").
 unfoldable pub cell : Description → List Event → ℤ → ℕ → ℤ
 cell d [] slot code = first_cell code
 cell d (e ∷ r) slot code =

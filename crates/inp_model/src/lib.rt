@@ -5,35 +5,40 @@
 //! `std` alone.
 //!
 //! Its definitions are what a reader must believe. `Description` says what a device is, and which descriptions there
-//! are. A history is a list of accepted steps. From it and the description alone follow the raw events, the state by
-//! the last write (`State`: keys and the like, axes, and the slots of multi-touch devices, with `Defuzz` for axes and
-//! slots), the events passed (`Passed`), the frames that they are cut into (`Frame`), each client's queue (`Queue`) and
-//! the reply to the next step (`Reply`). `Run` says when a caller's calls are a legal run of a history. `examples`,
-//! `query_examples` and `slot_examples` show what the definitions compute on short histories.
+//! are. A history is a list of accepted steps; `Step` reads one step, and `Past` what a history says of its clients.
+//! From the history and the description alone follow the raw events (`Raw`), the state by the last write (`State`: keys
+//! and the like, axes, and the slots of multi-touch devices, with `Defuzz` for axes and slots), the events passed
+//! (`Passed`), the frames that they are cut into (`Cut`, `Frame`), each client's queue (`Queue`) and the reply to the
+//! next step (`Reply`). `Run` says when a caller's calls are a legal run of a history, and `Evdev` what one call of
+//! whatever makes steps leaves of what its caller sees. `examples`, `query_examples`, `slot_examples`, `client_examples`
+//! and `repeat_examples` show what the definitions compute on short histories.
 #![tactic(auto)]
 
 mod axis_info;
 mod clock;
+mod evdev;
 mod event;
 mod items;
 mod limits;
 mod multi_touch;
 mod no_memory;
 mod reply;
+mod short_histories;
 mod stamped;
 mod step;
 mod taken;
-mod worked;
+mod timer;
 
 pub use axis_info::AxisInfo;
 pub use clock::Clock;
+pub use evdev::Evdev;
 pub use event::{
     ABS_MAX, EV_ABS, EV_KEY, EV_LED, EV_MAX, EV_MSC, EV_REL, EV_REP, EV_SND, EV_SW, EV_SYN, Event,
     KEY_A, KEY_MAX, LED_MAX, MSC_MAX, REL_MAX, REP_DELAY, REP_MAX, REP_PERIOD, SND_MAX, SW_MAX,
     SYN_CONFIG, SYN_DROPPED, SYN_MT_REPORT, SYN_REPORT,
 };
 pub use items::{History, Items};
-pub use limits::{FUZZ_MAX, HINT_MAX, HINT_MIN, LOG_MAX, SLOTS_MAX};
+pub use limits::{CLIENTS_MAX, FUZZ_MAX, HINT_MAX, HINT_MIN, LOG_MAX, SLOTS_MAX};
 pub use multi_touch::{
     ABS_MT_BLOB_ID, ABS_MT_DISTANCE, ABS_MT_ORIENTATION, ABS_MT_POSITION_X, ABS_MT_POSITION_Y,
     ABS_MT_PRESSURE, ABS_MT_SLOT, ABS_MT_TOOL_TYPE, ABS_MT_TOOL_X, ABS_MT_TOOL_Y,
@@ -42,7 +47,10 @@ pub use multi_touch::{
 };
 pub use no_memory::NoMemory;
 pub use reply::{Refusal, Reply};
+pub use short_histories::{
+    client_examples, examples, query_examples, repeat_examples, slot_examples,
+};
 pub use stamped::{MOMENT_MAX, Stamped};
 pub use step::Step;
 pub use taken::Taken;
-pub use worked::{examples, query_examples, slot_examples};
+pub use timer::Timer;

@@ -1,4 +1,7 @@
-//! The ranges of a description's numbers.
+//! The ranges of a description's numbers, and of a device's clients.
+
+/// The greatest number of open clients of a device (this project's choice).
+pub const CLIENTS_MAX: u32 = 64;
 
 /// The greatest number of multi-touch slots (this project's choice).
 pub const SLOTS_MAX: u32 = 64;

@@ -14,6 +14,8 @@ pub enum Reply {
     Opened { at: u32, client: u32, ring: u32 },
     /// So many events were read, and stand at the front of the caller's buffer.
     Took { at: u32, count: u32 },
+    /// So many events were removed, unread.
+    Discarded { at: u32, count: u32 },
     /// The bits that were asked for: bit i of the 768 for code i, 64 a word.
     Bits { at: u32, words: [u64; 12] },
     /// The axis that was asked for, with its value.
@@ -32,10 +34,18 @@ pub enum Reply {
 pub enum Refusal {
     /// The named client is not open.
     BadClient,
+    /// The named client was revoked (evdev's `ENODEV`).
+    NoDevice,
     /// The device has no type of the kind that the step is about.
     BadKind,
     /// The step is about a code that its type does not have.
     BadCode,
+    /// A client holds the grab (evdev's `EBUSY`).
+    Busy,
+    /// The client does not hold the grab that it gives up (evdev's `EINVAL`).
+    NotGrabber,
+    /// As many clients are open as may be (this project's choice).
+    TooMany,
     /// The history has as many steps as it may have.
     LogFull,
     /// Memory ran out while a client was opened.
@@ -51,6 +61,7 @@ impl Reply {
             Reply::Done { .. }
             | Reply::Opened { .. }
             | Reply::Took { .. }
+            | Reply::Discarded { .. }
             | Reply::Bits { .. }
             | Reply::Axis { .. }
             | Reply::Cells { .. } => true,

@@ -47,7 +47,8 @@ impl Slots {
     /// It takes the memory for all slots. `NoMemory` comes where there is none.
     pub fn new(alloc: Global, count: u32) -> Result<Slots, NoMemory>
         requires range { count ≤ SLOTS_MAX }
-        ensures fresh { IfOk result (λ slots. (d : Description) → d.slots ≡ count → SlotsStandFor d [] slots) }
+        ensures fresh { IfOk result (λ slots. (d : Description) → d.slots ≡ count
+            → SlotsStandFor d [] slots) }
         ensures count { IfOk result (λ slots. length slots.slots ≡ count) }
         ensures at_frame { IfOk result (λ slots. slots.at_frame ≡ pos 0) }
     {
@@ -71,9 +72,12 @@ impl Slots {
     pub fn apply(&mut self, caps: &Caps, code: u16, value: i32) -> (Disposition, i32)
         requires multi_touch { is_multi_touch_code code ≡ true }
         requires count { length self.old.slots ≡ caps.now.slots }
-        ensures stands { (r : List Event) → SlotsStandFor caps.now r self.old → SlotsStandFor caps.now (touch code value ∷ r) self.new }
-        ensures disposition { (r : List Event) → SlotsStandFor caps.now r self.old → flags_of result.0 ≡ flags_after caps.now r (touch code value) }
-        ensures value { (r : List Event) → SlotsStandFor caps.now r self.old → result.1 ≡ unwrap_or (passes_as caps.now r (touch code value)) value }
+        ensures stands { (r : List Event) → SlotsStandFor caps.now r self.old
+            → SlotsStandFor caps.now (touch code value ∷ r) self.new }
+        ensures disposition { (r : List Event) → SlotsStandFor caps.now r self.old
+            → flags_of result.0 ≡ flags_after caps.now r (touch code value) }
+        ensures value { (r : List Event) → SlotsStandFor caps.now r self.old
+            → result.1 ≡ unwrap_or (passes_as caps.now r (touch code value)) value }
         ensures count { length self.new.slots ≡ length self.old.slots }
         ensures at_frame { self.new.at_frame ≡ self.old.at_frame }
     {
@@ -141,7 +145,8 @@ impl Slots {
     /// The slot that the next values belong to.
     pub fn staged(&self) -> i32
         ensures value { result ≡ self.now.staged }
-        ensures staged { (d : Description) (r : List Event) → SlotsStandFor d r self.now → result ≡ staged d r }
+        ensures staged { (d : Description) (r : List Event) → SlotsStandFor d r self.now
+            → result ≡ staged d r }
     {
         self.staged as i32
     }
@@ -149,7 +154,8 @@ impl Slots {
     /// The slot that was announced last.
     pub fn announced(&self) -> i32
         ensures value { result ≡ self.now.announced }
-        ensures announced { (d : Description) (r : List Event) → SlotsStandFor d r self.now → result ≡ announced d r }
+        ensures announced { (d : Description) (r : List Event) → SlotsStandFor d r self.now
+            → result ≡ announced d r }
     {
         self.announced as i32
     }
@@ -166,7 +172,8 @@ impl Slots {
         requires slot { slot < length self.now.slots }
         requires code { is_slot_code code ≡ true }
         ensures value { result ≡ value_at self.now slot code }
-        ensures cell { (d : Description) (r : List Event) → SlotsStandFor d r self.now → result ≡ cell d r (pos slot) code }
+        ensures cell { (d : Description) (r : List Event) → SlotsStandFor d r self.now
+            → result ≡ cell d r (pos slot) code }
     {
         self.slots[slot as usize].value(code)
     }

@@ -36,22 +36,28 @@ fn touchpad() -> Result<Caps, CapsRefused> {
     with_axes(builder)
 }
 
-// A code and a value; the flags of what becomes of it, 1 for the clients and 4 with the slot before it; and the value to
-// pass.
+// The flags of what becomes of a value, by name; none of them where it is ignored.
+const IGNORED: u8 = 0;
+
+const HANDLERS: u8 = 1;
+
+const SLOT: u8 = 4;
+
+// A code and a value; the flags of what becomes of it; and the value to pass.
 static ROWS: [(u16, i32, u8, i32); 13] = [
-    (ABS_MT_SLOT, 1, 0, 1),
-    (ABS_MT_POSITION_X, 5, 5, 5),
-    (ABS_MT_SLOT, 7, 0, 7),
-    (ABS_MT_SLOT, -1, 0, -1),
-    (ABS_MT_POSITION_X, 6, 1, 6),
-    (ABS_MT_POSITION_X, 6, 0, 6),
-    (ABS_MT_POSITION_Y, 3, 0, 3),
-    (ABS_MT_POSITION_Y, 12, 1, 6),
-    (ABS_MT_TRACKING_ID, -1, 0, -1),
-    (ABS_MT_TRACKING_ID, 45, 1, 45),
-    (ABS_MT_PRESSURE, 9, 0, 9),
-    (ABS_MT_SLOT, 0, 0, 0),
-    (ABS_MT_POSITION_X, 0, 0, 0),
+    (ABS_MT_SLOT, 1, IGNORED, 1),
+    (ABS_MT_POSITION_X, 5, HANDLERS | SLOT, 5),
+    (ABS_MT_SLOT, 7, IGNORED, 7),
+    (ABS_MT_SLOT, -1, IGNORED, -1),
+    (ABS_MT_POSITION_X, 6, HANDLERS, 6),
+    (ABS_MT_POSITION_X, 6, IGNORED, 6),
+    (ABS_MT_POSITION_Y, 3, IGNORED, 3),
+    (ABS_MT_POSITION_Y, 12, HANDLERS, 6),
+    (ABS_MT_TRACKING_ID, -1, IGNORED, -1),
+    (ABS_MT_TRACKING_ID, 45, HANDLERS, 45),
+    (ABS_MT_PRESSURE, 9, IGNORED, 9),
+    (ABS_MT_SLOT, 0, IGNORED, 0),
+    (ABS_MT_POSITION_X, 0, IGNORED, 0),
 ];
 
 #[test]
@@ -102,9 +108,9 @@ fn passes_all_values_without_slots(rt: HostRuntime) -> Result<(), Fail> {
     let mut slots = Slots::new(rt.alloc(), caps.slots())?;
     for value in [5, 5] {
         let (disposition, taken) = slots.apply(&caps, ABS_MT_POSITION_X, value);
-        assert_eq!(rt; (disposition.bits(), taken), (1, value));
+        assert_eq!(rt; (disposition.bits(), taken), (HANDLERS, value));
     }
     let (disposition, taken) = slots.apply(&caps, ABS_MT_SLOT, 0);
-    assert_eq!(rt; (disposition.bits(), taken), (0, 0));
+    assert_eq!(rt; (disposition.bits(), taken), (IGNORED, 0));
     Ok(())
 }

@@ -12,8 +12,11 @@ use inp_model::Event;
 // A key: an autorepeat changes nothing and is passed.
 pub(crate) fn set_key(keys: &mut Bits<12>, event: Event) -> Option<i32>
     requires { event.code < 768 }
-    ensures keys { keys.new ≡ (if is_repeat event then keys.old else slice_set keys.old event.code (is_set event)) }
-    ensures passed { result ≡ (if is_repeat event then Some event.value else if differ (slice_index_or keys.old event.code false) (is_set event) then Some event.value else None) }
+    ensures keys { keys.new
+        ≡ (if is_repeat event then keys.old else slice_set keys.old event.code (is_set event)) }
+    ensures passed { result ≡ (if is_repeat event then Some event.value
+        else if differ (slice_index_or keys.old event.code false) (is_set event)
+        then Some event.value else None) }
     ensures len { length keys.old ≡ 768 }
 {
     let code = u32::from(event.code);
@@ -29,7 +32,9 @@ pub(crate) fn set_key(keys: &mut Bits<12>, event: Event) -> Option<i32>
 pub(crate) fn set_bit(bits: &mut Bits<1>, event: Event) -> Option<i32>
     requires { event.code < 64 }
     ensures bits { bits.new ≡ slice_set bits.old event.code (is_set event) }
-    ensures passed { result ≡ (if differ (slice_index_or bits.old event.code false) (is_set event) then Some event.value else None) }
+    ensures passed { result
+        ≡ (if differ (slice_index_or bits.old event.code false) (is_set event)
+        then Some event.value else None) }
     ensures len { length bits.old ≡ 64 }
 {
     let code = u32::from(event.code);
@@ -41,8 +46,12 @@ pub(crate) fn set_bit(bits: &mut Bits<1>, event: Event) -> Option<i32>
 // An axis, which moves as far as its fuzz allows.
 pub(crate) fn move_axis(axes: &mut [i32; 64], fuzz: i32, event: Event) -> Option<i32>
     requires { event.code < 64 }
-    ensures axes { axes.new ≡ slice_set axes.old event.code (defuzz event.value (slice_index_or axes.old event.code (pos 0)) fuzz) }
-    ensures passed { result ≡ (if int_eq (slice_index_or axes.old event.code (pos 0)) (defuzz event.value (slice_index_or axes.old event.code (pos 0)) fuzz) then None else Some (defuzz event.value (slice_index_or axes.old event.code (pos 0)) fuzz)) }
+    ensures axes { axes.new
+        ≡ slice_set axes.old event.code
+        (defuzz event.value (slice_index_or axes.old event.code (pos 0)) fuzz) }
+    ensures passed { let before = slice_index_or axes.old event.code (pos 0) in
+        let after = defuzz event.value before fuzz in
+        result ≡ (if int_eq before after then None else Some after) }
 {
     let before = axes[usize::from(event.code)];
     let after = defuzz(event.value, before, fuzz);
@@ -53,7 +62,8 @@ pub(crate) fn move_axis(axes: &mut [i32; 64], fuzz: i32, event: Event) -> Option
 // A setting of the autorepeat, which is never negative.
 pub(crate) fn set_setting(setting: &mut i32, event: Event) -> Option<i32>
     ensures setting { setting.new ≡ (if is_negative event then setting.old else event.value) }
-    ensures passed { result ≡ (if int_eq setting.old (if is_negative event then setting.old else event.value) then None else Some event.value) }
+    ensures passed { result ≡ (if int_eq setting.old (if is_negative event then setting.old
+        else event.value) then None else Some event.value) }
 {
     if event.value < 0 || *setting == event.value {
         return None;

@@ -44,7 +44,15 @@ impl Model for State {
 
     ghost Value = { Values };
 
-    ghost view = { λ s. record { keys = s.keys; switches = s.switches; leds = s.leds; sounds = s.sounds; axes = s.axes; delay = s.delay; period = s.period } };
+    ghost view = { λ s. record {
+      keys = s.keys;
+      switches = s.switches;
+      leds = s.leds;
+      sounds = s.sounds;
+      axes = s.axes;
+      delay = s.delay;
+      period = s.period;
+    } };
 }
 
 impl State {
@@ -70,9 +78,12 @@ impl State {
     /// not passed is its own. Multi-touch events are not for this call, so `SLOT` is never set.
     pub fn apply(&mut self, caps: &Caps, event: Event) -> (Disposition, i32)
         requires no_slot { is_multi_touch event ≡ false }
-        ensures stands { (r : List Event) → StandsFor caps.now r self.old → StandsFor caps.now (event ∷ r) self.new }
-        ensures disposition { (r : List Event) → StandsFor caps.now r self.old → flags_of result.0 ≡ flags_after caps.now r event }
-        ensures value { (r : List Event) → StandsFor caps.now r self.old → result.1 ≡ unwrap_or (passes_as caps.now r event) event.value }
+        ensures stands { (r : List Event) → StandsFor caps.now r self.old
+            → StandsFor caps.now (event ∷ r) self.new }
+        ensures disposition { (r : List Event) → StandsFor caps.now r self.old
+            → flags_of result.0 ≡ flags_after caps.now r event }
+        ensures value { (r : List Event) → StandsFor caps.now r self.old
+            → result.1 ≡ unwrap_or (passes_as caps.now r event) event.value }
     {
         let passed = self.change(caps, event);
         (
@@ -84,8 +95,10 @@ impl State {
     // Takes a raw event, and gives the value under which it is passed, if it is.
     fn change(&mut self, caps: &Caps, event: Event) -> Option<i32>
         requires no_slot { is_multi_touch event ≡ false }
-        ensures stands { (r : List Event) → StandsFor caps.now r self.old → StandsFor caps.now (event ∷ r) self.new }
-        ensures passes { (r : List Event) → StandsFor caps.now r self.old → result ≡ passes_as caps.now r event }
+        ensures stands { (r : List Event) → StandsFor caps.now r self.old
+            → StandsFor caps.now (event ∷ r) self.new }
+        ensures passes { (r : List Event) → StandsFor caps.now r self.old
+            → result ≡ passes_as caps.now r event }
     {
         if event.kind == EV_SYN {
             return passed_if(event.code < SYN_DROPPED, event);
@@ -112,7 +125,8 @@ impl State {
     /// Which keys are down, by their codes.
     pub fn keys(&self) -> &Bits<12>
         ensures value { result.now ≡ self.now.keys }
-        ensures keys { (d : Description) (r : List Event) → StandsFor d r self.now → (code : ℕ) → slice_index_or result.now code false ≡ key_down d r code }
+        ensures keys { (d : Description) (r : List Event) → StandsFor d r self.now → (code : ℕ)
+            → slice_index_or result.now code false ≡ key_down d r code }
     {
         &self.keys
     }
@@ -120,7 +134,8 @@ impl State {
     /// Which switches are on, by their codes.
     pub fn switches(&self) -> &Bits<1>
         ensures value { result.now ≡ self.now.switches }
-        ensures switches { (d : Description) (r : List Event) → StandsFor d r self.now → (code : ℕ) → slice_index_or result.now code false ≡ switch_on d r code }
+        ensures switches { (d : Description) (r : List Event) → StandsFor d r self.now
+            → (code : ℕ) → slice_index_or result.now code false ≡ switch_on d r code }
     {
         &self.switches
     }
@@ -128,7 +143,8 @@ impl State {
     /// Which LEDs are on, by their codes.
     pub fn leds(&self) -> &Bits<1>
         ensures value { result.now ≡ self.now.leds }
-        ensures leds { (d : Description) (r : List Event) → StandsFor d r self.now → (code : ℕ) → slice_index_or result.now code false ≡ led_on d r code }
+        ensures leds { (d : Description) (r : List Event) → StandsFor d r self.now → (code : ℕ)
+            → slice_index_or result.now code false ≡ led_on d r code }
     {
         &self.leds
     }
@@ -136,7 +152,8 @@ impl State {
     /// Which sounds are on, by their codes.
     pub fn sounds(&self) -> &Bits<1>
         ensures value { result.now ≡ self.now.sounds }
-        ensures sounds { (d : Description) (r : List Event) → StandsFor d r self.now → (code : ℕ) → slice_index_or result.now code false ≡ sound_on d r code }
+        ensures sounds { (d : Description) (r : List Event) → StandsFor d r self.now → (code : ℕ)
+            → slice_index_or result.now code false ≡ sound_on d r code }
     {
         &self.sounds
     }
@@ -145,7 +162,8 @@ impl State {
     pub fn axis(&self, code: u16) -> i32
         requires within { code ≤ ABS_MAX }
         ensures value { result ≡ slice_index_or self.now.axes code (pos 0) }
-        ensures axis { (d : Description) (r : List Event) → StandsFor d r self.now → result ≡ axis_value d r code }
+        ensures axis { (d : Description) (r : List Event) → StandsFor d r self.now
+            → result ≡ axis_value d r code }
     {
         self.axes[usize::from(code)]
     }
@@ -153,7 +171,8 @@ impl State {
     /// The time before a key's first repeat, in milliseconds.
     pub fn delay(&self) -> i32
         ensures value { result ≡ self.now.delay }
-        ensures delay { (d : Description) (r : List Event) → StandsFor d r self.now → result ≡ repeat_setting d r REP_DELAY }
+        ensures delay { (d : Description) (r : List Event) → StandsFor d r self.now
+            → result ≡ repeat_setting d r REP_DELAY }
     {
         self.delay
     }
@@ -161,7 +180,8 @@ impl State {
     /// The time between repeats, in milliseconds.
     pub fn period(&self) -> i32
         ensures value { result ≡ self.now.period }
-        ensures period { (d : Description) (r : List Event) → StandsFor d r self.now → result ≡ repeat_setting d r REP_PERIOD }
+        ensures period { (d : Description) (r : List Event) → StandsFor d r self.now
+            → result ≡ repeat_setting d r REP_PERIOD }
     {
         self.period
     }
@@ -169,7 +189,8 @@ impl State {
 
 // The described values of all axes.
 fn described_values(caps: &Caps) -> [i32; 64]
-    ensures { (code : ℕ) → code ≤ ABS_MAX → slice_index_or result code (pos 0) ≡ (info caps.now code).value }
+    ensures { (code : ℕ) → code ≤ ABS_MAX
+        → slice_index_or result code (pos 0) ≡ (info caps.now code).value }
 {
     let mut values = [0; 64];
     for code in 0..64u16 {

@@ -34,36 +34,52 @@ fn panel() -> Result<Caps, CapsRefused> {
     Ok(builder.build())
 }
 
-// A type, a code and a value; the flags of what becomes of it, 1 for the clients, 2 for the device, 8 at a frame's
-// end; and the value to pass.
+// The flags of what becomes of an event, by name; none of them where it is ignored.
+const IGNORED: u8 = 0;
+
+const HANDLERS: u8 = 1;
+
+const DEVICE: u8 = 2;
+
+const FLUSH: u8 = 8;
+
+// A type, a code and a value; the flags of what becomes of it; and the value to pass.
 static ROWS: [(u16, u16, i32, u8, i32); 21] = [
-    (EV_KEY, KEY_A, 1, 1, 1),
-    (EV_KEY, KEY_A, 1, 0, 1),
-    (EV_KEY, KEY_A, 2, 1, 2),
-    (EV_KEY, 48, 1, 0, 1),
-    (EV_REL, 0, 0, 0, 0),
-    (EV_REL, 0, -3, 1, -3),
-    (EV_ABS, 0, 103, 0, 103),
-    (EV_ABS, 0, 112, 1, 106),
-    (EV_LED, 0, 1, 3, 1),
-    (EV_LED, 0, 5, 0, 5),
-    (EV_SND, 0, 1, 3, 1),
-    (EV_SND, 0, 1, 3, 1),
-    (EV_SW, 0, 1, 1, 1),
-    (EV_MSC, 4, 7, 3, 7),
-    (EV_REP, 0, 250, 0, 250),
-    (EV_REP, 1, 0, 3, 0),
-    (EV_REP, 1, -1, 0, -1),
-    (EV_SYN, 0, 0, 9, 0),
-    (EV_SYN, 1, 0, 3, 0),
-    (EV_SYN, 2, 0, 1, 0),
-    (EV_SYN, 3, 0, 0, 0),
+    (EV_KEY, KEY_A, 1, HANDLERS, 1),
+    (EV_KEY, KEY_A, 1, IGNORED, 1),
+    (EV_KEY, KEY_A, 2, HANDLERS, 2),
+    (EV_KEY, 48, 1, IGNORED, 1),
+    (EV_REL, 0, 0, IGNORED, 0),
+    (EV_REL, 0, -3, HANDLERS, -3),
+    (EV_ABS, 0, 103, IGNORED, 103),
+    (EV_ABS, 0, 112, HANDLERS, 106),
+    (EV_LED, 0, 1, HANDLERS | DEVICE, 1),
+    (EV_LED, 0, 5, IGNORED, 5),
+    (EV_SND, 0, 1, HANDLERS | DEVICE, 1),
+    (EV_SND, 0, 1, HANDLERS | DEVICE, 1),
+    (EV_SW, 0, 1, HANDLERS, 1),
+    (EV_MSC, 4, 7, HANDLERS | DEVICE, 7),
+    (EV_REP, 0, 250, IGNORED, 250),
+    (EV_REP, 1, 0, HANDLERS | DEVICE, 0),
+    (EV_REP, 1, -1, IGNORED, -1),
+    (EV_SYN, 0, 0, HANDLERS | FLUSH, 0),
+    (EV_SYN, 1, 0, HANDLERS | DEVICE, 0),
+    (EV_SYN, 2, 0, HANDLERS, 0),
+    (EV_SYN, 3, 0, IGNORED, 0),
 ];
 
 #[test]
 fn takes_events_one_by_one(rt: HostRuntime) -> Result<(), Fail> {
     let caps = panel()?;
     let mut state = State::new(&caps);
+    assert_eq!(rt;
+        (
+            Disposition::TO_HANDLERS.bits(),
+            Disposition::TO_DEVICE.bits(),
+            Disposition::FLUSH.bits()
+        ),
+        (HANDLERS, DEVICE, FLUSH)
+    );
     for (kind, code, value, flags, passed) in ROWS {
         let event = Event { kind, code, value };
         assert!(rt; !event.is_multi_touch());

@@ -1,31 +1,29 @@
 -- A history that begins with a past, and the jobs whose calls it has.
-use Rattle.std.proofs.Common.{◌≡◌, ℕ, suc, ◌+◌, ◌≤◌, Bool, true, false, ◌&&◌, if◌then◌else◌, nat_eq, nat_le, nat_lt, List, [], ◌∷◌, ◌++◌, length, take, map, reverse, refl, sym, ap, subst, ◌∙◌, arith, Some, None, zero-add, add-zero, add_assoc}
-use Rattle.std.specs.List.{count_by, slice_get}
+use Rattle.std.proofs.Common.{◌≡◌, ℕ, ◌+◌, ◌≤◌, Bool, true, false, ◌&&◌, if◌then◌else◌, nat_eq, nat_le, nat_lt, List, [], ◌∷◌, ◌++◌, length, take, map, reverse, refl, sym, ap, subst, ◌∙◌, arith, Some, inl, zero-add, add-zero, add_assoc}
+use Rattle.std.specs.List.{count_by, list_any, slice_get}
 use Rattle.std.proofs.lemmas.List.{append_assoc, append-nil, reverse-append, reverse-reverse, length-reverse, length-append, take_at}
 use Rattle.std.proofs.lemmas.List.Sums.{sum_by-cons, sum_by-append}
 use Rattle.std.proofs.lemmas.Bool.Decides.{nat_tests}
-use Rattle.inp_model.specs.declared.event.Event.{Event}
 use Rattle.inp_model.specs.declared.taken.Taken.{Taken}
 use Rattle.inp_model.specs.declared.step.Step.{Step}
-use Rattle.inp_model.specs.declared.step.Step.TheVariants.{Inject, Open, Read, GetKeys, GetSwitches, GetLeds, GetSounds, GetAxis, GetSlots, SyncSlots}
 use Rattle.inp_model.specs.declared.reply.Reply.{Reply}
-use Rattle.inp_model.specs.declared.reply.Reply.TheVariants.{Done, Opened, Bits, Axis, Cells, Again, Refused}
-use Rattle.inp_model.specs.declared.reply.Reply.TheVariants.{Took as Taking}
-use Rattle.inp_model.specs.declared.reply.Refusal.TheVariants.{BadClient, BadKind, BadCode, LogFull}
+use Rattle.inp_model.specs.declared.reply.Reply.TheVariants.{Again}
 use Rattle.inp_model.specs.Description.{Description}
-use Rattle.inp_model.specs.History.{past_at, client_of, ends}
-use Rattle.inp_model.specs.Reply.{Answer, answer, answer_by, accepted, names_no_client, reads_nothing, lacks_kind, lacks_code, past_after, is_accepted}
-use Rattle.inp_model.specs.Run.{HasPlace, IsLegalFrom, place_of, next_place}
+use Rattle.inp_model.specs.Past.{past_at}
+use Rattle.inp_model.specs.Reply.{Answer, answer, past_after, is_accepted}
+use Rattle.inp_model.specs.Run.{HasPlace, IsLegalFrom, place_of}
 use Rattle.inp_model.specs.Run as model
+use Rattle.inp_tool.proofs.Booleans.{neither}
 use Rattle.inp_tool.proofs.Pasts.{past_after-longer}
+use Rattle.inp_tool.proofs.Replies.{place_of-answer, next_place-answer, is_no_memory-answer, latest_client-inject}
 use Rattle.inp_tool.specs.declared.line.TheConstants.{SOURCE, TAP}
 use Rattle.inp_tool.specs.declared.line.Line.{Line}
 use Rattle.inp_tool.specs.declared.line.Line.TheVariants.{Event as Injects, Open as Opens, Read as Reads}
 use Rattle.inp_tool.specs.declared.sight.Sight.{Sight}
 use Rattle.inp_tool.specs.declared.sight.Sight.TheVariants.{Took, Call}
 use Rattle.inp_tool.specs.Line.{actor_of, lines_of, step_of}
-use Rattle.inp_tool.specs.Play.{Stage, next_stage, answer_to, client_after, sights_by, sights_of, last_past, sight_of}
-use Rattle.inp_tool.specs.Job.{Follows, is_entry_at}
+use Rattle.inp_tool.specs.Play.{Stage, next_stage, answer_to, sights_by, sights_of, last_past, sight_of}
+use Rattle.inp_tool.specs.Job.{Follows, is_entry_at, is_no_memory, is_call_without_memory}
 
 -- the history, oldest first, begins with the past, newest first
 pub record Begins (h past : List Step) : Type 0 where
@@ -75,38 +73,6 @@ begins-entered h x past b =
     ∙ ap (slice_get (reverse past ++ x ∷ b.rest)) (sym (length-reverse past))
     ∙ slice_get-at (reverse past) x b.rest
 
--- each answer tells the length of the past
-placed_by : (b c d e f : Bool) (at n : ℕ) (given : Answer) → place_of given.reply ≡ at → place_of (answer_by (if b then Some (Refused at BadClient) else if c then Some (Refused at BadKind) else if d then Some (Refused at BadCode) else if e then Some (Again at n) else if f then Some (Refused at LogFull) else None) given).reply ≡ at
-placed_by true c d e f at n given h = refl
-placed_by false true d e f at n given h = refl
-placed_by false false true e f at n given h = refl
-placed_by false false false true f at n given h = refl
-placed_by false false false false true at n given h = refl
-placed_by false false false false false at n given h = h
-
-placed_when_accepted : (d : Description) (past : List Step) (x : Step) → place_of (accepted d past x).reply ≡ length past
-placed_when_accepted d past (Inject e now) = refl
-placed_when_accepted d past Open = refl
-placed_when_accepted d past (Read client count) = refl
-placed_when_accepted d past (GetKeys client) = refl
-placed_when_accepted d past (GetSwitches client) = refl
-placed_when_accepted d past (GetLeds client) = refl
-placed_when_accepted d past (GetSounds client) = refl
-placed_when_accepted d past (GetAxis client code) = refl
-placed_when_accepted d past (GetSlots client code) = refl
-placed_when_accepted d past (SyncSlots client) = refl
-
-place_of-answer : (d : Description) (past : List Step) (x : Step) → place_of (answer d past x).reply ≡ length past
-place_of-answer d past x =
-    placed_by (names_no_client past (client_of x)) (lacks_kind d x) (lacks_code x) (reads_nothing d past x) (nat_le d.log (length past)) (length past) (ends past) (accepted d past x) (placed_when_accepted d past x)
-
-next_place-answer : (d : Description) (past : List Step) (x : Step) → next_place (answer d past x).reply ≡ length (past_after (answer d past x).reply x past)
-next_place-answer d past x = by_flag (is_accepted (answer d past x).reply) (place_of (answer d past x).reply) (place_of-answer d past x)
-  where
-    by_flag : (b : Bool) (place : ℕ) → place ≡ length past → (if b then suc place else place) ≡ length (if b then x ∷ past else past)
-    by_flag true place h = ap suc h
-    by_flag false place h = h
-
 -- the calls that an actor makes while the lines are done
 pub calls_of : ℕ → Description → Stage → List Line → List model.Call
 calls_of actor d stage [] = []
@@ -121,7 +87,7 @@ has_place d h past x b =
     let before = begins-before h reply x past b in
     record {
       within = omega (arith, here, begins-length h past before);
-      exact = ap (λ p. answer d p x) (sym (ap (past_at h) here ∙ past_at-begins h past before));
+      exact = inl (ap (λ p. answer d p x) (sym (ap (past_at h) here ∙ past_at-begins h past before)));
       entered = λ t. ap (slice_get h) here
           ∙ begins-entered h x past (subst (λ b. Begins h (if b then x ∷ past else past)) t b);
     }
@@ -152,12 +118,36 @@ legal actor d stage (line ∷ lines) =
     legal-weaker d h (length (past_after reply x stage.past)) (length stage.past) more (past_after-longer reply x stage.past) (legal actor d (next_stage d stage line) lines) in
     legal-either d h (length stage.past) (record { step = x; answer = answer_to d stage line } ∷ more) more (nat_eq (actor_of line) actor) own others
 
--- an injected event gives no client
-client_after-inject : (d : Description) (client : ℕ) (past : List Step) (e : Event) (now : ℕ) → client_after client (answer d past (Inject e now)).reply ≡ client
-client_after-inject d client past e now = by_flag (nat_le d.log (length past))
+-- no call that an actor sees lacks memory
+
+memory-append : (xs ys : List Sight) → list_any is_call_without_memory xs ≡ false → list_any is_call_without_memory ys ≡ false → list_any is_call_without_memory (xs ++ ys) ≡ false
+memory-append [] ys h k = k
+memory-append (x ∷ xs) ys h k =
+    let first = neither (is_call_without_memory x) (list_any is_call_without_memory xs) h in
+    rw first.0 (memory-append xs ys first.1 k)
+
+memory-took : (events : List Taken) → list_any is_call_without_memory (map (λ t. Took t) events) ≡ false
+memory-took [] = refl
+memory-took (t ∷ events) = memory-took events
+
+memory-sights_by : (x : Step) (reply : Reply) (events : List Taken) → is_no_memory reply ≡ false → list_any is_call_without_memory (sights_by x reply events) ≡ false
+memory-sights_by x (Again at n) events h = refl
+memory-sights_by x reply events h = rw h (memory-took events)
+
+pub memory : (actor : ℕ) (d : Description) (stage : Stage) (lines : List Line) → list_any is_call_without_memory (sight_of actor d stage lines) ≡ false
+unfolding sight_of
+memory actor d stage [] = refl
+memory actor d stage (line ∷ lines) =
+    memory-append (if nat_eq (actor_of line) actor then sights_of (step_of stage.client line) (answer_to d stage line) else [])
+    (sight_of actor d (next_stage d stage line) lines)
+    (by_flag (nat_eq (actor_of line) actor))
+    (memory actor d (next_stage d stage line) lines)
   where
-    by_flag : (b : Bool) → client_after client (answer_by (if b then Some (Refused (length past) LogFull) else None) (accepted d past (Inject e now))).reply ≡ client
-    by_flag true = refl
+    given : Answer
+    given = answer_to d stage line
+
+    by_flag : (b : Bool) → list_any is_call_without_memory (if b then sights_of (step_of stage.client line) given else []) ≡ false
+    by_flag true = memory-sights_by (step_of stage.client line) given.reply given.events (is_no_memory-answer d stage.past (step_of stage.client line))
     by_flag false = refl
 
 -- the source's sight follows its lines, whatever client it is said to have
@@ -174,7 +164,7 @@ unfolding calls_of sight_of
 follows-tap d stage [] = refl
 follows-tap d stage (Injects stamped ∷ lines) =
     let next = next_stage d stage (Injects stamped) in
-    subst (λ c. Follows c (lines_of TAP lines) (calls_of TAP d next lines) (sight_of TAP d next lines)) (client_after-inject d stage.client stage.past stamped.event stamped.now) (follows-tap d next lines)
+    subst (λ c. Follows c (lines_of TAP lines) (calls_of TAP d next lines) (sight_of TAP d next lines)) (latest_client-inject d stage.client stage.past stamped.event stamped.now) (follows-tap d next lines)
 follows-tap d stage (Opens ∷ lines) = (refl, sight_of TAP d (next_stage d stage Opens) lines, refl, follows-tap d (next_stage d stage Opens) lines)
 follows-tap d stage (Reads count ∷ lines) = (refl, sight_of TAP d (next_stage d stage (Reads count)) lines, refl, follows-tap d (next_stage d stage (Reads count)) lines)
 
@@ -203,14 +193,8 @@ entries-call place x reply events =
     ∙ add-zero (if is_accepted reply && nat_eq (place_of reply) place then 1 else 0)
 
 entries-sights_by : (place : ℕ) (x : Step) (reply : Reply) (events : List Taken) → entries place (sights_by x reply events) ≡ (if is_accepted reply && nat_eq (place_of reply) place then 1 else 0)
-entries-sights_by place x (Done at) events = entries-call place x (Done at) events
-entries-sights_by place x (Opened at client places) events = entries-call place x (Opened at client places) events
-entries-sights_by place x (Taking at count) events = entries-call place x (Taking at count) events
-entries-sights_by place x (Bits at words) events = entries-call place x (Bits at words) events
-entries-sights_by place x (Axis at axis) events = entries-call place x (Axis at axis) events
-entries-sights_by place x (Cells at count slot) events = entries-call place x (Cells at count slot) events
 entries-sights_by place x (Again at n) events = refl
-entries-sights_by place x (Refused at why) events = entries-call place x (Refused at why) events
+entries-sights_by place x reply events = entries-call place x reply events
 
 entries-new : (place : ℕ) (d : Description) (past : List Step) (x : Step) → entries place (sights_of x (answer d past x)) ≡ (if is_accepted (answer d past x).reply && nat_eq (length past) place then 1 else 0)
 entries-new place d past x =

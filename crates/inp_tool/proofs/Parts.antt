@@ -12,7 +12,7 @@ use Rattle.inp_tool.specs.Numeral.{number}
 use Rattle.inp_tool.specs.declared.refused.ParseFault.{ParseFault}
 use Rattle.inp_tool.specs.declared.refused.ParseFault.TheVariants.{Refused as IsRefused, NoMemory}
 use Rattle.inp_tool.specs.declared.refused.Cause.TheVariants.{NotBuilt}
-use Rattle.inp_tool.specs.Record.{IsMeaningUnlessNoMemory, pieces, words, ◌>>=◌, line_and_rest, rest_behind, name_and_rest, word, is_command, event_of, line_of, is_open, line_in_place, lines_from}
+use Rattle.inp_tool.specs.Record.{IsMeaningUnlessNoMemory, pieces, words, ◌>>=◌, line_and_rest, rest_behind, name_and_rest, word, kind_and_code, is_key_a, rest_behind_cap, is_command, event_of, line_of, is_open_line, line_in_place, lines_from}
 use Rattle.inp_tool.proofs.Splits.{pieces_cons}
 
 pub line_and_rest_none : (line : ℕ) (text : List ℕ) → pieces text ≡ text ∷ [] → line_and_rest line (pieces text) ≡ Err line
@@ -28,6 +28,19 @@ rest_behind_none line wanted text e = rw (line_and_rest_none line text e)
 pub rest_behind_some : (line : ℕ) (wanted text first rest : List ℕ) → pieces text ≡ first ∷ pieces rest → rest_behind line wanted (pieces text) ≡ (if bytes_eq first wanted then Ok (pieces rest) else Err line)
 unfolding rest_behind
 rest_behind_some line wanted text first rest e = rw (line_and_rest_some line text first rest e)
+
+pub rest_behind_cap_none : (line : ℕ) (text : List ℕ) → pieces text ≡ text ∷ [] → rest_behind_cap line (pieces text) ≡ Err line
+unfolding rest_behind_cap
+rest_behind_cap_none line text e = rw (line_and_rest_none line text e)
+
+pub rest_behind_cap_other : (line : ℕ) (text first rest : List ℕ) → pieces text ≡ first ∷ pieces rest → nat_eq (length (words first)) 3 ≡ false → rest_behind_cap line (pieces text) ≡ Err line
+unfolding rest_behind_cap
+rest_behind_cap_other line text first rest e h = rw (line_and_rest_some line text first rest e, h)
+
+pub rest_behind_cap_three : (line : ℕ) (text first rest one two three : List ℕ) → pieces text ≡ first ∷ pieces rest → words first ≡ one ∷ two ∷ three ∷ []
+    → rest_behind_cap line (pieces text) ≡ (if bytes_eq one (codes "cap") && is_key_a (kind_and_code two three) then Ok (pieces rest) else Err line)
+unfolding rest_behind_cap
+rest_behind_cap_three line text first rest one two three e h = rw (line_and_rest_some line text first rest e, h)
 
 pub name_and_rest_none : (line : ℕ) (keyword text : List ℕ) → pieces text ≡ text ∷ [] → name_and_rest line keyword (pieces text) ≡ Err line
 unfolding name_and_rest
@@ -89,7 +102,7 @@ at_most n most e = grind (arith, nat_tests)
 
 pub line_in_place_within : (opened : Bool) (line : ℕ) (item : Option Line) (found : Line) → line_in_place opened line item ≡ Ok found → line ≤ 4096
 line_in_place_within opened line None found e = let f : ⊥ = cc in absurd f
-line_in_place_within opened line (Some item) found e = at_most line 4096 (within_if (nat_le line 4096) (not (opened && is_open item)) line item found e)
+line_in_place_within opened line (Some item) found e = at_most line 4096 (within_if (nat_le line 4096) (not (opened && is_open_line item)) line item found e)
 
 -- action lines, with others in front of them
 abbrev pub prepend : List Line → Result (List Line) ℕ → Result (List Line) ℕ
@@ -107,7 +120,7 @@ pub joined : (front : List Line) (item : Line) (all rest behind : Result (List L
 joined front item all rest behind p q = p ∙ ap (prepend front) q ∙ prepend_more front item behind
 
 pub lines_step : (source tap : List ℕ) (opened : Bool) (line : ℕ) (text first rest : List ℕ) (item : Line) → pieces text ≡ first ∷ pieces rest → line_in_place opened line (line_of source tap (words first)) ≡ Ok item
-    → lines_from source tap opened line (pieces text) ≡ prepend (item ∷ []) (lines_from source tap (opened || is_open item) (suc line) (pieces rest))
+    → lines_from source tap opened line (pieces text) ≡ prepend (item ∷ []) (lines_from source tap (opened || is_open_line item) (suc line) (pieces rest))
 unfolding lines_from
 lines_step source tap opened line text first rest item e h = let more = pieces_cons rest in rw (e, more.2, h)
 

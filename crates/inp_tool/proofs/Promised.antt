@@ -13,7 +13,7 @@ use Rattle.inp_tool.specs.Play.{NO_CLIENT, Stage, first_stage, next_stage, answe
 use Rattle.inp_tool.specs.Job.{IsJob, IsRun}
 use Rattle.inp_tool.specs.Report.{report}
 use Rattle.inp_tool.specs.Promise.{IsPlayedText}
-use Rattle.inp_tool.proofs.Histories.{calls_of, legal, follows-source, follows-tap, between, entries, once}
+use Rattle.inp_tool.proofs.Histories.{calls_of, legal, memory, follows-source, follows-tap, between, entries, once}
 use Rattle.inp_tool.proofs.Pasts.{past_after-one}
 use Rattle.inp_tool.proofs.Playable.{is_playable}
 
@@ -30,6 +30,7 @@ is_source_job d lines = record {
   actor = refl;
   calls = calls_of SOURCE d first_stage lines;
   legal = legal SOURCE d first_stage lines;
+  memory = memory SOURCE d first_stage lines;
   follows = follows-source d first_stage lines NO_CLIENT;
   down = refl;
   stop = refl;
@@ -40,6 +41,7 @@ is_tap_job d lines = record {
   actor = refl;
   calls = calls_of TAP d first_stage lines;
   legal = legal TAP d first_stage lines;
+  memory = memory TAP d first_stage lines;
   follows = follows-tap d first_stage lines;
   down = refl;
   stop = refl;

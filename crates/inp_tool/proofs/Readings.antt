@@ -5,7 +5,7 @@ use Rattle.inp_tool.specs.declared.line.Line.{Line}
 use Rattle.inp_tool.specs.declared.record.Record.{Record}
 use Rattle.inp_tool.specs.declared.refused.ParseFault.{ParseFault}
 use Rattle.inp_tool.specs.declared.refused.ParseFault.TheVariants.{Refused as IsRefused, NoMemory}
-use Rattle.inp_tool.specs.Record.{pieces, ◌>>=◌, rest_behind, name_and_rest, lines_from, meaning, IsMeaningUnlessNoMemory}
+use Rattle.inp_tool.specs.Record.{pieces, ◌>>=◌, rest_behind, rest_behind_cap, name_and_rest, lines_from, meaning, IsMeaningUnlessNoMemory}
 
 -- A text that is right up to a line, with the pieces behind that line.
 pub record HasHeader (text : List ℕ) (rest : List (List ℕ)) : Type 0 where
@@ -19,7 +19,7 @@ pub record HasDevice (text : List ℕ) (device : List ℕ) (rest : List (List �
 pub record HasCap (text : List ℕ) (device : List ℕ) (rest : List (List ℕ)) : Type 0 where
   pub before : List (List ℕ)
   pub described : HasDevice text device before
-  pub cap : rest_behind 3 (codes "cap EV_KEY KEY_A") before ≡ Ok rest
+  pub cap : rest_behind_cap 3 before ≡ Ok rest
 
 pub record HasSource (text : List ℕ) (device source : List ℕ) (rest : List (List ℕ)) : Type 0 where
   pub before : List (List ℕ)
@@ -35,6 +35,9 @@ pub record HasTap (text : List ℕ) (device source tap : List ℕ) (rest : List 
 abbrev pub FindsRest : List ℕ → List ℕ → Option (Bor (List ℕ)) → Type 0
 FindsRest wanted text found = (line : ℕ) → rest_behind line wanted (pieces text) ≡ ok_or (option_map (λ (rest : Bor (List ℕ)). pieces rest.now) found) line
 
+abbrev pub FindsCap : List ℕ → Option (Bor (List ℕ)) → Type 0
+FindsCap text found = (line : ℕ) → rest_behind_cap line (pieces text) ≡ ok_or (option_map (λ (rest : Bor (List ℕ)). pieces rest.now) found) line
+
 abbrev pub FindsName : List ℕ → List ℕ → Option (Bor (List ℕ) × Bor (List ℕ)) → Type 0
 FindsName keyword text found = (line : ℕ) → name_and_rest line keyword (pieces text) ≡ ok_or (option_map (λ (rest : Bor (List ℕ) × Bor (List ℕ)). (rest.0.now, pieces rest.1.now)) found) line
 
@@ -45,7 +48,7 @@ pub has_device : (text before : List ℕ) (found : Option (Bor (List ℕ) × Bor
     → HasDevice text device.now (pieces rest.now)
 has_device text before found device rest right h e = record { before = pieces before; header = right; named_device = rw e at (h 2) }
 
-pub has_cap : (text before device : List ℕ) (found : Option (Bor (List ℕ))) (rest : Bor (List ℕ)) → HasDevice text device (pieces before) → FindsRest (codes "cap EV_KEY KEY_A") before found → found ≡ Some rest
+pub has_cap : (text before device : List ℕ) (found : Option (Bor (List ℕ))) (rest : Bor (List ℕ)) → HasDevice text device (pieces before) → FindsCap before found → found ≡ Some rest
     → HasCap text device (pieces rest.now)
 has_cap text before device found rest right h e = record { before = pieces before; described = right; cap = rw e at (h 3) }
 
@@ -67,7 +70,7 @@ pub refused_2 : (text before : List ℕ) (found : Option (Bor (List ℕ) × Bor 
 unfolding meaning
 refused_2 text before found right h e = let broken = rw e at (h 2) in rw (right.header, broken)
 
-pub refused_3 : (text before device : List ℕ) (found : Option (Bor (List ℕ))) → HasDevice text device (pieces before) → FindsRest (codes "cap EV_KEY KEY_A") before found → found ≡ None → meaning text ≡ Err 3
+pub refused_3 : (text before device : List ℕ) (found : Option (Bor (List ℕ))) → HasDevice text device (pieces before) → FindsCap before found → found ≡ None → meaning text ≡ Err 3
 unfolding meaning
 refused_3 text before device found right h e = let broken = rw e at (h 3) in rw (right.header.header, right.named_device, broken)
 

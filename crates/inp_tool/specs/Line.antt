@@ -1,13 +1,12 @@
 -- What the action lines of a record have the actors do.
 use Rattle.std.specs.Prelude.{ℕ, ◌≤◌, Bool, true, nat_eq, nat_le, List, length, filter, IsTrue}
-use Rattle.std.specs.List.{list_all, count_by}
+use Rattle.std.specs.List.{list_all}
 use Rattle.inp_model.specs.declared.stamped.TheConstants.{MOMENT_MAX}
 use Rattle.inp_model.specs.declared.step.Step.{Step}
 use Rattle.inp_model.specs.declared.step.Step.TheVariants.{Inject, Open, Read}
 use Rattle.inp_tool.specs.declared.line.TheConstants.{SOURCE, TAP, READ_MAX}
 use Rattle.inp_tool.specs.declared.line.Line.{Line}
 use Rattle.inp_tool.specs.declared.line.Line.TheVariants.{Event as Injects, Open as Opens, Read as Reads}
-use Rattle.inp_tool.specs.Record.{is_open}
 
 abbrev pub actor_of : Line → ℕ
 actor_of (Injects stamped) = SOURCE
@@ -32,5 +31,4 @@ is_in_range (Reads count) = nat_le count READ_MAX
 -- what each record keeps that is read from bytes
 pub record IsPlayable (lines : List Line) : Type 0 where
   pub in_range : IsTrue (list_all is_in_range lines)
-  pub one_open : count_by is_open lines ≤ 1
   pub few : length lines ≤ 4096

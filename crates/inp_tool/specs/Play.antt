@@ -4,7 +4,7 @@ use Rattle.inp_model.specs.declared.event.TheConstants.{EV_KEY, KEY_A}
 use Rattle.inp_model.specs.declared.taken.Taken.{Taken}
 use Rattle.inp_model.specs.declared.step.Step.{Step}
 use Rattle.inp_model.specs.declared.reply.Reply.{Reply}
-use Rattle.inp_model.specs.declared.reply.Reply.TheVariants.{Done, Opened, Took as Taking, Bits, Axis, Cells, Again as Nothing, Refused}
+use Rattle.inp_model.specs.declared.reply.Reply.TheVariants.{Opened, Again as Nothing}
 use Rattle.inp_model.specs.Description.{Description, one_key}
 use Rattle.inp_model.specs.Event.{is_repeat, is_set}
 use Rattle.inp_model.specs.Reply.{Answer, answer, past_after}
@@ -31,15 +31,9 @@ abbrev pub first_stage : Stage
 first_stage = record { past = []; client = NO_CLIENT }
 
 -- a job's client is the one that it opened last
-abbrev pub client_after : ℕ → Reply → ℕ
-client_after client (Done at) = client
-client_after client (Opened at opened places) = opened
-client_after client (Taking at count) = client
-client_after client (Bits at words) = client
-client_after client (Axis at axis) = client
-client_after client (Cells at count slot) = client
-client_after client (Nothing at n) = client
-client_after client (Refused at why) = client
+abbrev pub latest_client : ℕ → Reply → ℕ
+latest_client client (Opened at opened places) = opened
+latest_client client _ = client
 
 -- the answer to a line's step
 abbrev pub answer_to : Description → Stage → Line → Answer
@@ -50,20 +44,14 @@ next_stage d stage line =
     let given = answer_to d stage line in
     record {
       past = past_after given.reply (step_of stage.client line) stage.past;
-      client = client_after stage.client given.reply;
+      client = latest_client stage.client given.reply;
     }
 
 -- what enters a job's sight for a step that was answered so: the call and each event that it read, or that there was
 -- nothing to read
 abbrev pub sights_by : Step → Reply → List Taken → List Sight
-sights_by x (Done at) events = Call x (Done at) ∷ map (λ t. Took t) events
-sights_by x (Opened at client places) events = Call x (Opened at client places) ∷ map (λ t. Took t) events
-sights_by x (Taking at count) events = Call x (Taking at count) ∷ map (λ t. Took t) events
-sights_by x (Bits at words) events = Call x (Bits at words) ∷ map (λ t. Took t) events
-sights_by x (Axis at axis) events = Call x (Axis at axis) ∷ map (λ t. Took t) events
-sights_by x (Cells at count slot) events = Call x (Cells at count slot) ∷ map (λ t. Took t) events
 sights_by x (Nothing at n) events = Again at n ∷ []
-sights_by x (Refused at why) events = Call x (Refused at why) ∷ map (λ t. Took t) events
+sights_by x reply events = Call x reply ∷ map (λ t. Took t) events
 
 abbrev pub sights_of : Step → Answer → List Sight
 sights_of x given = sights_by x given.reply given.events
@@ -81,15 +69,14 @@ sight_of actor d stage (line ∷ lines) =
     ++ sight_of actor d (next_stage d stage line) lines
 
 -- Whether the key A is down after what a job saw, from whether it was before. An autorepeat does not count.
-abbrev pub down_by : Bool → Sight → Bool
-down_by down (Call x reply) = down
-down_by down (Took t) =
+abbrev pub is_down_after_one : Bool → Sight → Bool
+is_down_after_one down (Took t) =
     if nat_eq t.event.kind EV_KEY && nat_eq t.event.code KEY_A && not (is_repeat t.event) then is_set t.event else down
-down_by down (Again at n) = down
+is_down_after_one down _ = down
 
 abbrev pub is_down_after : Bool → List Sight → Bool
 is_down_after down [] = down
-is_down_after down (sight ∷ sights) = is_down_after (down_by down sight) sights
+is_down_after down (sight ∷ sights) = is_down_after (is_down_after_one down sight) sights
 
 abbrev pub job_of : ℕ → List Sight → JobEnd
 job_of actor sights = record { actor = actor; sight = sights; down = is_down_after false sights; stop = Finished }

@@ -1,18 +1,23 @@
 -- The text of the report. A line ends with a line feed, and one space stands between two words.
-use Rattle.std.specs.Prelude.{ℕ, Bool, false, ◌&&◌, if◌then◌else◌, nat_eq, ◌/◌, ◌%◌, slice_index, List, [], ◌∷◌, ◌++◌, length, codes, decimal, flat_map}
+use Rattle.std.specs.Prelude.{ℕ, ◌-◌, Bool, false, if◌then◌else◌, nat_eq, ◌/◌, ◌%◌, slice_index, List, [], ◌∷◌, ◌++◌, length, replicate, codes, decimal, flat_map, Option, Some, unwrap_or}
 use Rattle.std.specs.Int.{bit_at}
 use Rattle.std.specs.List.{count_by, range_with_len}
-use Rattle.std.specs.Fmt.{signed_decimal}
-use Rattle.inp_model.specs.declared.event.TheConstants.{EV_SYN, EV_KEY, EV_ABS, EV_SW, EV_LED, EV_SND, SYN_REPORT, SYN_DROPPED, KEY_A}
+use Rattle.std.specs.Fmt.{digits, signed_decimal}
+use Rattle.inp_model.specs.declared.event.TheConstants.{EV_SYN, EV_KEY, EV_ABS, KEY_A}
 use Rattle.inp_model.specs.declared.axis_info.AxisInfo.{AxisInfo}
+use Rattle.inp_model.specs.declared.clock.Clock.{Clock}
+use Rattle.inp_model.specs.declared.clock.Clock.TheVariants.{Realtime, Monotonic, Boottime}
 use Rattle.inp_model.specs.declared.event.Event.{Event}
 use Rattle.inp_model.specs.declared.step.Step.{Step}
-use Rattle.inp_model.specs.declared.step.Step.TheVariants.{Inject, Open, Read, GetKeys, GetSwitches, GetLeds, GetSounds, GetAxis, GetSlots, SyncSlots}
+use Rattle.inp_model.specs.declared.step.Step.TheVariants.{Inject, Tick, Open, Close, Read, Discard, GetKeys, GetSwitches, GetLeds, GetSounds, GetAxis, GetSlots, SyncSlots, Write, Grab, Ungrab, Mask, Clock as ToClock, Revoke, Inhibit, Uninhibit, End}
 use Rattle.inp_model.specs.declared.reply.Reply.{Reply}
-use Rattle.inp_model.specs.declared.reply.Reply.TheVariants.{Done, Opened, Took as Taking, Bits, Axis, Cells, Again as Nothing, Refused}
+use Rattle.inp_model.specs.declared.reply.Reply.TheVariants.{Done, Opened, Took as Taking, Discarded, Bits, Axis, Cells, Again as Nothing, Refused}
 use Rattle.inp_model.specs.declared.reply.Refusal.{Refusal}
-use Rattle.inp_model.specs.declared.reply.Refusal.TheVariants.{BadClient, BadKind, BadCode, LogFull, NoMemory}
+use Rattle.inp_model.specs.declared.reply.Refusal.TheVariants.{BadClient, NoDevice, BadKind, BadCode, Busy, NotGrabber, TooMany, LogFull, NoMemory}
+use Rattle.inp_model.specs.Step.{Query, Codes, query_of}
 use Rattle.inp_model.specs.Reply.{is_accepted}
+use Rattle.inp_codes.specs.KindNames.{kind_name}
+use Rattle.inp_codes.specs.CodeNames.{name_of}
 use Rattle.inp_tool.specs.declared.sight.Sight.{Sight}
 use Rattle.inp_tool.specs.declared.sight.Sight.TheVariants.{Call, Took, Again}
 use Rattle.inp_tool.specs.declared.run.JobEnd.{JobEnd}
@@ -25,28 +30,37 @@ use Rattle.inp_tool.specs.declared.line.TheConstants.{SOURCE}
 abbrev pub LINE_FEED : List ℕ
 LINE_FEED = 10 ∷ []
 
--- types and codes by name where they have one here, else in decimal
+-- types and codes by name where they have one, else in decimal
 unfoldable pub kind_text : ℕ → List ℕ
-kind_text kind =
-    if nat_eq kind EV_SYN then codes "EV_SYN"
-    else if nat_eq kind EV_KEY then codes "EV_KEY"
-    else decimal kind
+kind_text kind = unwrap_or (kind_name kind) (decimal kind)
 
 unfoldable pub code_text : ℕ → ℕ → List ℕ
-code_text kind code =
-    if nat_eq kind EV_SYN && nat_eq code SYN_REPORT then codes "SYN_REPORT"
-    else if nat_eq kind EV_SYN && nat_eq code SYN_DROPPED then codes "SYN_DROPPED"
-    else if nat_eq kind EV_KEY && nat_eq code KEY_A then codes "KEY_A"
-    else decimal code
+code_text kind code = unwrap_or (name_of kind code) (decimal code)
 
 -- KIND CODE VALUE
 unfoldable pub event_text : Event → List ℕ
 event_text e = kind_text e.kind ++ (codes " " ++ (code_text e.kind e.code ++ (codes " " ++ signed_decimal e.value)))
 
+-- 64 bits as sixteen hexadecimal digits
+abbrev pub hexadecimal : ℕ → List ℕ
+hexadecimal bits = let digits = digits 16 false bits in replicate (16 - length digits) 48 ++ digits
+
+-- KIND WORD BITS, of a mask that is set
+unfoldable pub mask_text : ℕ → ℕ → ℕ → List ℕ
+mask_text kind word bits = kind_text kind ++ (codes " " ++ (decimal word ++ (codes " 0x" ++ hexadecimal bits)))
+
+unfoldable pub clock_text : Clock → List ℕ
+clock_text Realtime = codes "realtime"
+clock_text Monotonic = codes "monotonic"
+clock_text Boottime = codes "boottime"
+
 unfoldable pub step_text : Step → List ℕ
 step_text (Inject e now) = codes "inject " ++ (decimal now ++ (codes " " ++ event_text e))
+step_text (Tick now) = codes "tick " ++ decimal now
 step_text Open = codes "open"
+step_text (Close client) = codes "close " ++ decimal client
 step_text (Read client count) = codes "read " ++ (decimal client ++ (codes " " ++ decimal count))
+step_text (Discard client) = codes "discard " ++ decimal client
 step_text (GetKeys client) = codes "getkeys " ++ decimal client
 step_text (GetSwitches client) = codes "getswitches " ++ decimal client
 step_text (GetLeds client) = codes "getleds " ++ decimal client
@@ -54,26 +68,36 @@ step_text (GetSounds client) = codes "getsounds " ++ decimal client
 step_text (GetAxis client code) = codes "getaxis " ++ (decimal client ++ (codes " " ++ code_text EV_ABS code))
 step_text (GetSlots client code) = codes "getslots " ++ (decimal client ++ (codes " " ++ code_text EV_ABS code))
 step_text (SyncSlots client) = codes "syncslots " ++ decimal client
+step_text (Write client e now) = codes "write " ++ (decimal client ++ (codes " " ++ (decimal now ++ (codes " " ++ event_text e))))
+step_text (Grab client) = codes "grab " ++ decimal client
+step_text (Ungrab client) = codes "ungrab " ++ decimal client
+step_text (Mask client kind word bits) = codes "mask " ++ (decimal client ++ (codes " " ++ mask_text kind word bits))
+step_text (ToClock client clock now) =
+    codes "clock " ++ (decimal client ++ (codes " " ++ (clock_text clock ++ (codes " " ++ decimal now))))
+step_text (Revoke client) = codes "revoke " ++ decimal client
+step_text (Inhibit now) = codes "inhibit " ++ decimal now
+step_text Uninhibit = codes "uninhibit"
+step_text End = codes "end"
 
 unfoldable pub refusal_text : Refusal → List ℕ
 refusal_text BadClient = codes "bad-client"
+refusal_text NoDevice = codes "no-device"
 refusal_text BadKind = codes "bad-kind"
 refusal_text BadCode = codes "bad-code"
+refusal_text Busy = codes "busy"
+refusal_text NotGrabber = codes "not-grabber"
+refusal_text TooMany = codes "too-many"
 refusal_text LogFull = codes "log-full"
 refusal_text NoMemory = codes "no-memory"
 
+-- the type whose codes a query tells, EV_SYN for none
+abbrev pub kind_in_query : Option Query → ℕ
+kind_in_query (Some (Codes kind)) = kind
+kind_in_query _ = EV_SYN
+
 -- the type whose codes a step asks for
 abbrev pub query_kind : Step → ℕ
-query_kind (Inject e now) = EV_SYN
-query_kind Open = EV_SYN
-query_kind (Read client count) = EV_SYN
-query_kind (GetKeys client) = EV_KEY
-query_kind (GetSwitches client) = EV_SW
-query_kind (GetLeds client) = EV_LED
-query_kind (GetSounds client) = EV_SND
-query_kind (GetAxis client code) = EV_ABS
-query_kind (GetSlots client code) = EV_ABS
-query_kind (SyncSlots client) = EV_ABS
+query_kind x = kind_in_query (query_of x)
 
 -- bit i of the list of 768, 64 a word
 abbrev pub is_bit_set : List ℕ → ℕ → Bool
@@ -98,6 +122,7 @@ unfoldable pub reply_text : Step → Reply → List ℕ
 reply_text x (Done at) = codes "done " ++ decimal at
 reply_text x (Opened at client places) = codes "opened " ++ (decimal at ++ (codes " " ++ (decimal client ++ (codes " " ++ decimal places))))
 reply_text x (Taking at count) = codes "took " ++ (decimal at ++ (codes " " ++ decimal count))
+reply_text x (Discarded at count) = codes "discarded " ++ (decimal at ++ (codes " " ++ decimal count))
 reply_text x (Bits at words) = codes "bits " ++ (decimal at ++ bits_text (query_kind x) words)
 reply_text x (Axis at axis) = codes "axis " ++ (decimal at ++ (codes " " ++ axis_text axis))
 reply_text x (Cells at count slot) = codes "cells " ++ (decimal at ++ (codes " " ++ (decimal count ++ (codes " " ++ signed_decimal slot))))
@@ -115,8 +140,7 @@ stop_text Finished = codes "finished"
 
 abbrev pub is_accepted_call : Sight → Bool
 is_accepted_call (Call x reply) = is_accepted reply
-is_accepted_call (Took t) = false
-is_accepted_call (Again at ends) = false
+is_accepted_call _ = false
 
 -- device NAME steps N
 unfoldable pub device_line : List ℕ → ℕ → List ℕ
@@ -132,7 +156,7 @@ tap_line name = codes "tap " ++ (name ++ LINE_FEED)
 
 -- the keys that are down
 unfoldable pub keys_line : Bool → List ℕ
-keys_line down = codes "keys" ++ ((if down then codes " KEY_A" else []) ++ LINE_FEED)
+keys_line down = codes "keys" ++ ((if down then codes " " ++ code_text EV_KEY KEY_A else []) ++ LINE_FEED)
 
 -- stop STOP
 unfoldable pub stop_line : Stop → List ℕ

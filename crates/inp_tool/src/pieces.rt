@@ -45,6 +45,16 @@ pub(crate) fn first_words(alloc: Global, line: &[u8]) -> Result<Vec<&[u8]>, Allo
         .collect(alloc)
 }
 
+/// The three words of a line that has exactly three. It takes no memory.
+pub(crate) fn three_words(line: &[u8]) -> Option<(&[u8], &[u8], &[u8])>
+    ensures { MatchOption result (nat_eq (length (words line.now)) 3 ≡ false)
+        (λ found. words line.now ≡ found.0.now ∷ found.1.now ∷ found.2.now ∷ []) }
+{
+    let (first, rest) = split_once(line, b' ')?;
+    let (second, third) = two_words(rest)?;
+    Some((first, second, third))
+}
+
 /// The two words of a line that has exactly two. It takes no memory.
 pub(crate) fn two_words(line: &[u8]) -> Option<(&[u8], &[u8])>
     ensures { MatchOption result (nat_eq (length (words line.now)) 2 ≡ false)

@@ -1,12 +1,13 @@
 //! Doing the lines of a record on a device.
 ghost use Rattle.std.specs.Prelude.{◌≡◌, ◌<◌, ◌≤◌, ◌+◌, ◌++◌, [], ◌∷◌, map, length, vec_len, false, IsTrue, IfOk, OnOk};
 ghost use Rattle.inp_model.specs.Description.{one_key};
-ghost use Rattle.inp_model.specs.History.{opens};
-ghost use Rattle.inp_model.specs.Reply.{IsTimely, HasRoom};
+ghost use Rattle.inp_model.specs.declared.stamped.TheConstants.{MOMENT_MAX};
+ghost use Rattle.inp_model.specs.Step.{moment_of};
+ghost use Rattle.inp_model.specs.Reply.{HasRoom};
 ghost use Rattle.inp_tool.specs.Line.{step_of, is_in_range, IsPlayable};
-ghost use Rattle.inp_tool.specs.Record.{is_open};
-ghost use Rattle.inp_tool.specs.Play.{client_after, sights_by, is_down_after, down_by, job_of, play};
-ghost use Rattle.inp_tool.specs.Player.{at_first, after, after_all, run_from, CanPlay, count_taken, lacks_memory, IsMade};
+ghost use Rattle.inp_tool.specs.Play.{latest_client, sights_by, is_down_after, is_down_after_one, job_of, play};
+ghost use Rattle.inp_tool.specs.Job.{is_no_memory};
+ghost use Rattle.inp_tool.specs.Player.{fresh_player, player_after, player_after_all, run_from, count_taken, IsExactStep};
 
 use crate::line::{READ_MAX, SOURCE, TAP};
 use crate::{JobEnd, Jobs, Line, Record, Run, Runs, Sight, Sights, Stop};
@@ -60,7 +61,7 @@ impl Model for Player {
 impl Player {
     /// A device with an empty history, and jobs that have seen nothing.
     pub fn new(alloc: Global) -> Result<Player, NoMemory>
-        ensures fresh { IfOk result (λ player. player ≡ at_first) }
+        ensures fresh { IfOk result (λ player. player ≡ fresh_player) }
     {
         Ok(Player {
             device: Device::new(alloc, keyboard())?,
@@ -74,12 +75,11 @@ impl Player {
     /// Does one line: its actor makes a step and sees the reply.
     pub fn line(&mut self, line: Line) -> Result<(), NoMemory>
         requires in_range { IsTrue (is_in_range line) }
-        requires one_client { IsTrue (is_open line) → opens self.old.stage.past ≡ 0 }
-        ensures done { OnOk result (self.new ≡ after self.old line) }
+        ensures done { OnOk result (self.new ≡ player_after self.old line) }
     {
         let step = step_of(self.client, line);
         let reply = make(&mut self.device, &mut self.buffer, step)?;
-        self.client = client_after(self.client, reply);
+        self.client = latest_client(self.client, reply);
         let events = &self.buffer[..count_taken(reply)];
         match line {
             Line::Event { .. } => push_sights(&mut self.source, step, reply, events),
@@ -119,16 +119,15 @@ fn keyboard() -> Caps
 /// Makes a step on the device, and reads into the buffer.
 fn make(device: &mut Device, buffer: &mut Vec<Taken>, step: Step) -> Result<Reply, NoMemory>
     requires one_key { device.old.description ≡ one_key }
-    requires timely { IsTimely step }
+    requires moment { moment_of step ≤ MOMENT_MAX }
     requires room { HasRoom one_key step buffer.old.items [] }
-    requires one_client { step ≡ Step.Open → opens device.old.past ≡ 0 }
     ensures made { IfOk result
-        (λ reply. IsMade one_key device.old.past step reply buffer.new.items device.new.past) }
+        (λ reply. IsExactStep one_key device.old.past step reply buffer.new.items device.new.past) }
     ensures description { device.new.description ≡ one_key }
     ensures buffer { vec_len buffer.new ≡ vec_len buffer.old }
 {
     let reply = device.step(step, buffer, &mut []);
-    if lacks_memory(reply) {
+    if is_no_memory(reply) {
         return Err(NoMemory);
     }
     Ok(reply)
@@ -153,14 +152,14 @@ fn is_down_after(sights: &[Sight]) -> bool
 {
     let mut down = false;
     for sight in sights {
-        down = down_by(down, *sight);
+        down = is_down_after_one(down, *sight);
     }
     down
 }
 
 /// Whether the key A is down after one more entry.
-fn down_by(down: bool, sight: Sight) -> bool
-    ensures down { result ≡ down_by down sight }
+fn is_down_after_one(down: bool, sight: Sight) -> bool
+    ensures down { result ≡ is_down_after_one down sight }
 {
     let Sight::Took {
         event: Taken { event, .. },
@@ -190,8 +189,8 @@ fn step_of(client: u32, line: Line) -> Step
 }
 
 /// The client of a job after a reply: the one that it opened last.
-fn client_after(client: u32, reply: Reply) -> u32
-    ensures client { result ≡ client_after client reply }
+fn latest_client(client: u32, reply: Reply) -> u32
+    ensures client { result ≡ latest_client client reply }
 {
     match reply {
         Reply::Opened { client: opened, .. } => opened,
@@ -210,13 +209,16 @@ fn count_taken(reply: Reply) -> usize
 }
 
 /// Whether a step was refused for want of memory.
-fn lacks_memory(reply: Reply) -> bool
-    ensures memory { result ≡ lacks_memory reply }
+fn is_no_memory(reply: Reply) -> bool
+    ensures memory { result ≡ is_no_memory reply }
 {
-    match reply {
-        Reply::Refused { why, .. } => why == Refusal::NoMemory,
-        _ => false,
-    }
+    matches!(
+        reply,
+        Reply::Refused {
+            why: Refusal::NoMemory,
+            ..
+        }
+    )
 }
 
 /// Adds what a job sees of a step: the call and the events that it read, or that there was nothing to read.

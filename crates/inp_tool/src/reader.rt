@@ -5,13 +5,16 @@
 //! first line that breaks the form.
 ghost use Rattle.std.specs.Prelude.{ℕ, ◌≡◌, ◌≤◌, false, IfSome, map, ok_or, option_map};
 ghost use Rattle.inp_tool.specs.Name.{IsName};
-ghost use Rattle.inp_tool.specs.Record.{IsMeaningUnlessNoMemory, pieces, words, meaning, rest_behind, name_and_rest, kind_and_code, event_of, is_command, line_of, is_open, line_in_place, lines_from};
+ghost use Rattle.inp_codes.specs.KindNames.{kind_of};
+ghost use Rattle.inp_codes.specs.CodeNames.{code_of};
+ghost use Rattle.inp_tool.specs.Record.{IsMeaningUnlessNoMemory, pieces, words, meaning, rest_behind, rest_behind_cap, name_and_rest, kind_and_code, is_key_a, event_kind_and_code, event_of, is_command, line_of, is_open_line, line_in_place, lines_from};
 
 use crate::line::READ_MAX;
 use crate::name::is_name;
 use crate::numeral::{number, signed_number};
-use crate::pieces::{first_line, first_words, two_words};
+use crate::pieces::{first_line, first_words, three_words, two_words};
 use crate::{Cause, Line, Lines, Name, ParseFault, Record, Refused};
+use inp_codes::{code_of, kind_of};
 use inp_model::{EV_KEY, EV_SYN, Event, Items, KEY_A, MOMENT_MAX, SYN_REPORT, Stamped};
 use std::alloc::Global;
 
@@ -53,13 +56,63 @@ fn name_and_rest<'a>(text: &'a [u8], keyword: &[u8]) -> Option<(&'a [u8], &'a [u
     }
 }
 
-/// The type and the code of an event that may be injected, by their names.
+/// What stands behind a first line that supports the key A, and none where the first line is another.
+fn rest_behind_cap(text: &[u8]) -> Option<&[u8]>
+    ensures { (line : ℕ) → rest_behind_cap line (pieces text.now)
+        ≡ ok_or (option_map (λ rest. pieces rest.now) result) line }
+{
+    let (line, rest) = first_line(text)?;
+    let (first, kind, code) = three_words(line)?;
+    if first == b"cap".as_slice() && is_key_a(kind_and_code(kind, code)) {
+        Some(rest)
+    } else {
+        None
+    }
+}
+
+/// Whether they are `EV_KEY` and `KEY_A`.
+fn is_key_a(named: Option<(u16, u16)>) -> bool
+    ensures { result ≡ is_key_a named }
+{
+    matches!(named, Some((EV_KEY, KEY_A)))
+}
+
+/// The type with this name.
+fn kind_of_word(word: &[u8]) -> Option<u16>
+    ensures kind { result ≡ kind_of word.now }
+{
+    match str::from_utf8(word) {
+        Ok(name) => kind_of(name),
+        Err(_) => None,
+    }
+}
+
+/// The type and the code with this name.
+fn code_of_word(word: &[u8]) -> Option<(u16, u16)>
+    ensures code { result ≡ code_of word.now }
+{
+    match str::from_utf8(word) {
+        Ok(name) => code_of(name),
+        Err(_) => None,
+    }
+}
+
+/// A type and a code, by their names.
 fn kind_and_code(kind: &[u8], code: &[u8]) -> Option<(u16, u16)>
     ensures { result ≡ kind_and_code kind.now code.now }
 {
-    match (kind, code) {
-        (b"EV_KEY", b"KEY_A") => Some((EV_KEY, KEY_A)),
-        (b"EV_SYN", b"SYN_REPORT") => Some((EV_SYN, SYN_REPORT)),
+    let kind = kind_of_word(kind)?;
+    let named = code_of_word(code)?;
+    if named.0 == kind { Some(named) } else { None }
+}
+
+/// The type and the code of an event that may be injected, by their names.
+fn event_kind_and_code(kind: &[u8], code: &[u8]) -> Option<(u16, u16)>
+    ensures { result ≡ event_kind_and_code kind.now code.now }
+{
+    match kind_and_code(kind, code)? {
+        (EV_KEY, KEY_A) => Some((EV_KEY, KEY_A)),
+        (EV_SYN, SYN_REPORT) => Some((EV_SYN, SYN_REPORT)),
         _ => None,
     }
 }
@@ -69,7 +122,7 @@ fn event_of(moment: &[u8], kind: &[u8], code: &[u8], value: &[u8]) -> Option<Lin
     ensures { result ≡ event_of moment.now kind.now code.now value.now }
 {
     let now = number(moment, MOMENT_MAX)?;
-    let (kind, code) = kind_and_code(kind, code)?;
+    let (kind, code) = event_kind_and_code(kind, code)?;
     let value = signed_number(value)?;
     let event = Event { kind, code, value };
     Some(Line::Event {
@@ -111,8 +164,8 @@ fn line_of(source: &[u8], tap: &[u8], words: &[&[u8]]) -> Option<Line>
 }
 
 /// Whether an action line opens a client.
-fn is_open(line: &Line) -> bool
-    ensures { result ≡ is_open line.now }
+fn is_open_line(line: &Line) -> bool
+    ensures { result ≡ is_open_line line.now }
 {
     matches!(line, Line::Open)
 }
@@ -122,7 +175,7 @@ fn line_in_place(opened: bool, line: u32, item: Option<Line>) -> Option<Line>
     ensures { line_in_place opened line item ≡ ok_or result line }
 {
     let item = item?;
-    if line > LINES_MAX || (opened && is_open(&item)) {
+    if line > LINES_MAX || (opened && is_open_line(&item)) {
         return None;
     }
     Some(item)
@@ -161,7 +214,7 @@ fn action_lines(alloc: Global, source: &[u8], tap: &[u8], text: &[u8]) -> Result
     let mut rest = text;
     while let Some((first, behind)) = first_line(rest) {
         let item = action(alloc, source, tap, opened, line, first)?;
-        opened = opened || is_open(&item);
+        opened = opened || is_open_line(&item);
         lines.push(item).map_err(|_| ParseFault::NoMemory)?;
         line += 1;
         rest = behind;
@@ -207,7 +260,7 @@ pub fn parse(alloc: Global, text: &[u8]) -> Result<Record, ParseFault>
 {
     let rest = rest_behind(text, b"inputrecord 1").ok_or(refusal(1))?;
     let (device, rest) = name_and_rest(rest, b"device").ok_or(refusal(2))?;
-    let rest = rest_behind(rest, b"cap EV_KEY KEY_A").ok_or(refusal(3))?;
+    let rest = rest_behind_cap(rest).ok_or(refusal(3))?;
     let (source, rest) = name_and_rest(rest, b"source").ok_or(refusal(4))?;
     let (tap, rest) = name_and_rest(rest, b"tap").ok_or(refusal(5))?;
     if source == tap {

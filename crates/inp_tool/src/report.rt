@@ -6,7 +6,7 @@ ghost use Rattle.inp_tool.specs.Report.{device_line, source_line, tap_line, sigh
 use crate::line::SOURCE;
 use crate::text::{AxisText, CodeText, EventText, RefusalText, StepText, StopText};
 use crate::{JobEnd, Name, Record, Run, Runs, Sight, Stop};
-use inp_model::{EV_ABS, EV_KEY, EV_LED, EV_SND, EV_SW, EV_SYN, NoMemory, Reply, Step};
+use inp_model::{EV_KEY, EV_LED, EV_SND, EV_SW, EV_SYN, KEY_A, NoMemory, Reply, Step};
 use std::alloc::Global;
 use std::fmt::Write;
 
@@ -139,7 +139,8 @@ fn push_keys(text: &mut String, down: bool) -> Result<(), NoMemory>
     ensures pushed { OnOk result (string_bytes text.new ≡ string_bytes text.old ++ keys_line down) }
 {
     if down {
-        text.push_str("keys KEY_A\n")?;
+        let key = CodeText(EV_KEY, KEY_A);
+        write!(text, "keys {key}\n")?;
         Ok(())
     } else {
         text.push_str("keys\n")?;
@@ -165,6 +166,7 @@ fn push_reply(text: &mut String, step: Step, reply: Reply) -> Result<(), NoMemor
         Reply::Done { at } => Ok(write!(text, "done {at}")?),
         Reply::Opened { at, client, ring } => Ok(write!(text, "opened {at} {client} {ring}")?),
         Reply::Took { at, count } => Ok(write!(text, "took {at} {count}")?),
+        Reply::Discarded { at, count } => Ok(write!(text, "discarded {at} {count}")?),
         Reply::Bits { at, words } => {
             write!(text, "bits {at}")?;
             push_bits(text, query_kind(step), &words)
@@ -182,7 +184,7 @@ fn push_reply(text: &mut String, step: Step, reply: Reply) -> Result<(), NoMemor
     }
 }
 
-/// The type whose codes a step asks for.
+/// The type whose codes a step asks for, `EV_SYN` where it asks for none.
 fn query_kind(step: Step) -> u16
     ensures kind { result ≡ query_kind step }
 {
@@ -191,8 +193,7 @@ fn query_kind(step: Step) -> u16
         Step::GetSwitches { .. } => EV_SW,
         Step::GetLeds { .. } => EV_LED,
         Step::GetSounds { .. } => EV_SND,
-        Step::GetAxis { .. } | Step::GetSlots { .. } | Step::SyncSlots { .. } => EV_ABS,
-        Step::Inject { .. } | Step::Open | Step::Read { .. } => EV_SYN,
+        _ => EV_SYN,
     }
 }
 
@@ -229,3 +230,6 @@ fn is_bit_set(words: &[u64; 12], code: u16) -> bool
     let word = words[usize::from(code) / 64];
     (word >> (u32::from(code) % 64)) & 1 == 1
 }
+
+#[cfg(test)]
+mod tests;

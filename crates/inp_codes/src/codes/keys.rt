@@ -1,13 +1,13 @@
 //! The names of keys and buttons, at their codes.
 ghost use Rattle.std.specs.Prelude.{◌≡◌};
-ghost use Rattle.inp_codes.specs.ByNumber.{texts, indexed};
+ghost use Rattle.inp_codes.specs.ByNumber.{texts, names_by_number};
 ghost use Rattle.inp_codes.specs.CodeNames.{key_codes};
 
 use crate::by_number::names;
 
 /// The names of keys and buttons, at their codes.
 pub(crate) fn key_names() -> &'static [&'static str]
-    ensures { texts result.now ≡ indexed key_codes }
+    ensures { texts result.now ≡ names_by_number key_codes }
 {
     static NAMES: [&str; 336] = names![
         // 0

@@ -1,13 +1,13 @@
 //! The names of the codes of each event type but keys and buttons, at their codes.
 ghost use Rattle.std.specs.Prelude.{◌≡◌};
-ghost use Rattle.inp_codes.specs.ByNumber.{texts, indexed};
+ghost use Rattle.inp_codes.specs.ByNumber.{texts, names_by_number};
 ghost use Rattle.inp_codes.specs.CodeNames.{syn_codes, rel_codes, abs_codes, msc_codes, sw_codes, led_codes, snd_codes, rep_codes};
 
 use crate::by_number::names;
 
 /// The names of synchronisation events, at their codes.
 pub(crate) fn syn_names() -> &'static [&'static str]
-    ensures { texts result.now ≡ indexed syn_codes }
+    ensures { texts result.now ≡ names_by_number syn_codes }
 {
     static NAMES: [&str; 4] = names![
         SYN_REPORT SYN_CONFIG SYN_MT_REPORT SYN_DROPPED
@@ -17,7 +17,7 @@ pub(crate) fn syn_names() -> &'static [&'static str]
 
 /// The names of relative axes, at their codes.
 pub(crate) fn rel_names() -> &'static [&'static str]
-    ensures { texts result.now ≡ indexed rel_codes }
+    ensures { texts result.now ≡ names_by_number rel_codes }
 {
     static NAMES: [&str; 13] = names![
         // 0x00
@@ -32,7 +32,7 @@ pub(crate) fn rel_names() -> &'static [&'static str]
 
 /// The names of absolute axes, at their codes.
 pub(crate) fn abs_names() -> &'static [&'static str]
-    ensures { texts result.now ≡ indexed abs_codes }
+    ensures { texts result.now ≡ names_by_number abs_codes }
 {
     static NAMES: [&str; 62] = names![
         // 0x00
@@ -62,7 +62,7 @@ pub(crate) fn abs_names() -> &'static [&'static str]
 
 /// The names of miscellaneous events, at their codes.
 pub(crate) fn msc_names() -> &'static [&'static str]
-    ensures { texts result.now ≡ indexed msc_codes }
+    ensures { texts result.now ≡ names_by_number msc_codes }
 {
     static NAMES: [&str; 6] = names![
         MSC_SERIAL MSC_PULSELED MSC_GESTURE MSC_RAW MSC_SCAN MSC_TIMESTAMP
@@ -72,7 +72,7 @@ pub(crate) fn msc_names() -> &'static [&'static str]
 
 /// The names of switches, at their codes.
 pub(crate) fn sw_names() -> &'static [&'static str]
-    ensures { texts result.now ≡ indexed sw_codes }
+    ensures { texts result.now ≡ names_by_number sw_codes }
 {
     static NAMES: [&str; 11] = names![
         SW_LID SW_TABLET_MODE SW_HEADPHONE_INSERT SW_RFKILL_ALL SW_MICROPHONE_INSERT SW_DOCK
@@ -84,7 +84,7 @@ pub(crate) fn sw_names() -> &'static [&'static str]
 
 /// The names of LEDs, at their codes.
 pub(crate) fn led_names() -> &'static [&'static str]
-    ensures { texts result.now ≡ indexed led_codes }
+    ensures { texts result.now ≡ names_by_number led_codes }
 {
     static NAMES: [&str; 11] = names![
         LED_NUML LED_CAPSL LED_SCROLLL LED_COMPOSE LED_KANA LED_SLEEP LED_SUSPEND LED_MUTE LED_MISC
@@ -95,7 +95,7 @@ pub(crate) fn led_names() -> &'static [&'static str]
 
 /// The names of sounds, at their codes.
 pub(crate) fn snd_names() -> &'static [&'static str]
-    ensures { texts result.now ≡ indexed snd_codes }
+    ensures { texts result.now ≡ names_by_number snd_codes }
 {
     static NAMES: [&str; 3] = names![
         SND_CLICK SND_BELL SND_TONE
@@ -105,7 +105,7 @@ pub(crate) fn snd_names() -> &'static [&'static str]
 
 /// The names of the autorepeat values, at their codes.
 pub(crate) fn rep_names() -> &'static [&'static str]
-    ensures { texts result.now ≡ indexed rep_codes }
+    ensures { texts result.now ≡ names_by_number rep_codes }
 {
     static NAMES: [&str; 2] = names![
         REP_DELAY REP_PERIOD

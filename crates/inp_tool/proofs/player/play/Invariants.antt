@@ -1,10 +1,8 @@
 use Rattle.std.proofs.Common.{◌≡◌, drop}
-use Rattle.inp_tool.specs.Player.{at_first, after_all, CanPlay}
+use Rattle.inp_tool.specs.Player.{fresh_player, player_after_all}
 use Rattle.inp_tool.proofs.player.play.Given as goal
 
--- what is left leads where all leads, and can be done
+-- what is left leads where all leads
 abbrev pub invariant-loop-line : goal.invariant-loop-line
-invariant-loop-line l = record {
-  same : after_all l.player (drop l.line-index l.line-items) ≡ after_all at_first l.recorded.lines;
-  can_play : CanPlay l.player (drop l.line-index l.line-items);
-}
+invariant-loop-line l =
+    player_after_all l.player (drop l.line-index l.line-items) ≡ player_after_all fresh_player l.recorded.lines

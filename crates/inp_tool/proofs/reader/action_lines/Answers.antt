@@ -1,7 +1,7 @@
 use Rattle.std.proofs.Common.{◌≡◌, ◌∷◌, [], ◌++◌, ◌||◌, nat_eq, length, true, false, Err, Ok, ap, ◌∙◌, add-one, arith}
 use Rattle.std.proofs.lemmas.List.{append-nil}
 use Rattle.std.proofs.lemmas.Result.{err_from_is_err_and}
-use Rattle.inp_tool.specs.Record.{pieces, words, is_open, line_of, line_in_place, lines_from}
+use Rattle.inp_tool.specs.Record.{pieces, words, is_open_line, line_of, line_in_place, lines_from}
 use Rattle.inp_tool.proofs.Parts.{prepend, joined, line_in_place_within, lines_step, lines_refused, lines_end, meaning_err, meaning_refused}
 use Rattle.inp_tool.proofs.reader.action_lines.Goals as goal
 use Rattle.inp_tool.proofs.reader.action_lines.Goals.{then-opened, else-opened}
@@ -25,7 +25,7 @@ loop-first-preserved c =
     let placed : line_in_place c.loop-first.opened line (line_of source tap (words c.in-Some.first.now)) ≡ Ok item = c.in_ok-item.ensures in
     let bound = line_in_place_within c.loop-first.opened line (line_of source tap (words c.in-Some.first.now)) item placed in
     let step = lines_step source tap c.loop-first.opened line c.loop-first.rest.now c.in-Some.first.now c.in-Some.behind.now item cut placed in
-    let opened : c.if-opened.opened ≡ (c.loop-first.opened || is_open item) = elim c.if-opened.branch [ then-opened w ↦ grind arith | else-opened w ↦ grind arith ] in
+    let opened : c.if-opened.opened ≡ (c.loop-first.opened || is_open_line item) = elim c.if-opened.branch [ then-opened w ↦ grind arith | else-opened w ↦ grind arith ] in
     let pushed : c.push.new.self ≡ c.loop-first.lines ++ item ∷ [] = grind arith in
     let whole = joined c.loop-first.lines item (lines_from source tap false 6 (pieces c.args.text.now)) _ _ c.loop-first.invariant.so_far step in
     record { within = omega arith; so_far = rw (pushed, opened, add-one) whole }

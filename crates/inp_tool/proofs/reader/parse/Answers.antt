@@ -26,13 +26,13 @@ returns-in_err-rest-2 c =
     let device = has_device c.args.text.now c.in_ok-rest.rest.now c.name_and_rest.result c.in_ok-device.device c.in_ok-device.rest header c.name_and_rest.ensures.value (grind arith) in
     let fault : c.in_err-rest-2.field-0.0 ≡ IsRefused (record { line = 3; cause = NotBuilt }) = grind arith in
     let p = err_from_is_err_and c.from_residual-in_err-rest-2.result c.from_residual-in_err-rest-2.ensures.1 in
-    record { meaning = rw (p.1, p.2, fault) (meaning_refused 3 (meaning c.args.text.now) (refused_3 c.args.text.now c.in_ok-device.rest.now c.in_ok-device.device.now c.rest_behind-2.result device c.rest_behind-2.ensures (grind arith))) }
+    record { meaning = rw (p.1, p.2, fault) (meaning_refused 3 (meaning c.args.text.now) (refused_3 c.args.text.now c.in_ok-device.rest.now c.in_ok-device.device.now c.rest_behind_cap.result device c.rest_behind_cap.ensures (grind arith))) }
 
 pub returns-in_err-source : goal.returns-in_err-source
 returns-in_err-source c =
     let header = has_header c.args.text.now c.rest_behind.result c.in_ok-rest.rest c.rest_behind.ensures (grind arith) in
     let device = has_device c.args.text.now c.in_ok-rest.rest.now c.name_and_rest.result c.in_ok-device.device c.in_ok-device.rest header c.name_and_rest.ensures.value (grind arith) in
-    let cap = has_cap c.args.text.now c.in_ok-device.rest.now c.in_ok-device.device.now c.rest_behind-2.result c.in_ok-rest-2.rest device c.rest_behind-2.ensures (grind arith) in
+    let cap = has_cap c.args.text.now c.in_ok-device.rest.now c.in_ok-device.device.now c.rest_behind_cap.result c.in_ok-rest-2.rest device c.rest_behind_cap.ensures (grind arith) in
     let fault : c.in_err-source.field-0.0 ≡ IsRefused (record { line = 4; cause = NotBuilt }) = grind arith in
     let p = err_from_is_err_and c.from_residual-in_err-source.result c.from_residual-in_err-source.ensures.1 in
     record { meaning = rw (p.1, p.2, fault) (meaning_refused 4 (meaning c.args.text.now) (refused_4 c.args.text.now c.in_ok-rest-2.rest.now c.in_ok-device.device.now c.name_and_rest-2.result cap c.name_and_rest-2.ensures.value (grind arith))) }
@@ -41,7 +41,7 @@ pub returns-in_err-tap : goal.returns-in_err-tap
 returns-in_err-tap c =
     let header = has_header c.args.text.now c.rest_behind.result c.in_ok-rest.rest c.rest_behind.ensures (grind arith) in
     let device = has_device c.args.text.now c.in_ok-rest.rest.now c.name_and_rest.result c.in_ok-device.device c.in_ok-device.rest header c.name_and_rest.ensures.value (grind arith) in
-    let cap = has_cap c.args.text.now c.in_ok-device.rest.now c.in_ok-device.device.now c.rest_behind-2.result c.in_ok-rest-2.rest device c.rest_behind-2.ensures (grind arith) in
+    let cap = has_cap c.args.text.now c.in_ok-device.rest.now c.in_ok-device.device.now c.rest_behind_cap.result c.in_ok-rest-2.rest device c.rest_behind_cap.ensures (grind arith) in
     let source = has_source c.args.text.now c.in_ok-rest-2.rest.now c.in_ok-device.device.now c.name_and_rest-2.result c.in_ok-source.source c.in_ok-source.rest cap c.name_and_rest-2.ensures.value (grind arith) in
     let fault : c.in_err-tap.field-0.0 ≡ IsRefused (record { line = 5; cause = NotBuilt }) = grind arith in
     let p = err_from_is_err_and c.from_residual-in_err-tap.result c.from_residual-in_err-tap.ensures.1 in
@@ -51,7 +51,7 @@ pub returns-then-eq : goal.returns-then-eq
 returns-then-eq c =
     let header = has_header c.args.text.now c.rest_behind.result c.in_ok-rest.rest c.rest_behind.ensures (grind arith) in
     let device = has_device c.args.text.now c.in_ok-rest.rest.now c.name_and_rest.result c.in_ok-device.device c.in_ok-device.rest header c.name_and_rest.ensures.value (grind arith) in
-    let cap = has_cap c.args.text.now c.in_ok-device.rest.now c.in_ok-device.device.now c.rest_behind-2.result c.in_ok-rest-2.rest device c.rest_behind-2.ensures (grind arith) in
+    let cap = has_cap c.args.text.now c.in_ok-device.rest.now c.in_ok-device.device.now c.rest_behind_cap.result c.in_ok-rest-2.rest device c.rest_behind_cap.ensures (grind arith) in
     let source = has_source c.args.text.now c.in_ok-rest-2.rest.now c.in_ok-device.device.now c.name_and_rest-2.result c.in_ok-source.source c.in_ok-source.rest cap c.name_and_rest-2.ensures.value (grind arith) in
     let tap = has_tap c.args.text.now c.in_ok-source.rest.now c.in_ok-device.device.now c.in_ok-source.source.now c.name_and_rest-3.result c.in_ok-tap.tap c.in_ok-tap.rest source c.name_and_rest-3.ensures.value (grind arith) in
     let same : bytes_eq c.in_ok-source.source.now c.in_ok-tap.tap.now ≡ true = grind arith in
@@ -61,7 +61,7 @@ pub returns-in_err-lines : goal.returns-in_err-lines
 returns-in_err-lines c =
     let header = has_header c.args.text.now c.rest_behind.result c.in_ok-rest.rest c.rest_behind.ensures (grind arith) in
     let device = has_device c.args.text.now c.in_ok-rest.rest.now c.name_and_rest.result c.in_ok-device.device c.in_ok-device.rest header c.name_and_rest.ensures.value (grind arith) in
-    let cap = has_cap c.args.text.now c.in_ok-device.rest.now c.in_ok-device.device.now c.rest_behind-2.result c.in_ok-rest-2.rest device c.rest_behind-2.ensures (grind arith) in
+    let cap = has_cap c.args.text.now c.in_ok-device.rest.now c.in_ok-device.device.now c.rest_behind_cap.result c.in_ok-rest-2.rest device c.rest_behind_cap.ensures (grind arith) in
     let source = has_source c.args.text.now c.in_ok-rest-2.rest.now c.in_ok-device.device.now c.name_and_rest-2.result c.in_ok-source.source c.in_ok-source.rest cap c.name_and_rest-2.ensures.value (grind arith) in
     let tap = has_tap c.args.text.now c.in_ok-source.rest.now c.in_ok-device.device.now c.in_ok-source.source.now c.name_and_rest-3.result c.in_ok-tap.tap c.in_ok-tap.rest source c.name_and_rest-3.ensures.value (grind arith) in
     let other : bytes_eq c.in_ok-source.source.now c.in_ok-tap.tap.now ≡ false = grind arith in
@@ -73,7 +73,7 @@ pub returns : goal.returns
 returns c =
     let header = has_header c.args.text.now c.rest_behind.result c.in_ok-rest.rest c.rest_behind.ensures (grind arith) in
     let device = has_device c.args.text.now c.in_ok-rest.rest.now c.name_and_rest.result c.in_ok-device.device c.in_ok-device.rest header c.name_and_rest.ensures.value (grind arith) in
-    let cap = has_cap c.args.text.now c.in_ok-device.rest.now c.in_ok-device.device.now c.rest_behind-2.result c.in_ok-rest-2.rest device c.rest_behind-2.ensures (grind arith) in
+    let cap = has_cap c.args.text.now c.in_ok-device.rest.now c.in_ok-device.device.now c.rest_behind_cap.result c.in_ok-rest-2.rest device c.rest_behind_cap.ensures (grind arith) in
     let source = has_source c.args.text.now c.in_ok-rest-2.rest.now c.in_ok-device.device.now c.name_and_rest-2.result c.in_ok-source.source c.in_ok-source.rest cap c.name_and_rest-2.ensures.value (grind arith) in
     let tap = has_tap c.args.text.now c.in_ok-source.rest.now c.in_ok-device.device.now c.in_ok-source.source.now c.name_and_rest-3.result c.in_ok-tap.tap c.in_ok-tap.rest source c.name_and_rest-3.ensures.value (grind arith) in
     let other : bytes_eq c.in_ok-source.source.now c.in_ok-tap.tap.now ≡ false = grind arith in

@@ -1,25 +1,44 @@
-use Rattle.std.proofs.Common.{refl}
-use Rattle.inp_model.specs.declared.step.Step.TheVariants.{Inject, GetKeys, GetSwitches, GetLeds, GetSounds, GetAxis}
-use Rattle.inp_device.proofs.Answering.{makes_replied, makes_opened}
+use Rattle.std.proofs.Common.{List, [], ◌∷◌, ◌++◌, ◌<◌, length, reverse, if◌then◌else◌, ap, ◌∙◌, arith}
+use Rattle.std.specs.Prelude.{is_ok, vec_capacity}
+use Rattle.inp_model.specs.declared.step.Step.{Step}
+use Rattle.inp_model.specs.Reply.{refused}
+use Rattle.inp_device.proofs.Entering.{device_refused, ready, room, entered_kept, device_made, device_lacks}
 use Rattle.inp_device.proofs.device.Device.step.Goals as goal
 
-pub returns-in-Open-clause-makes : goal.returns-in-Open-clause-makes
-returns-in-Open-clause-makes c = makes_opened _ _ c.args.step _ _ _ _ c.in-Open.is c.open.ensures.opens
+pub returns-in-Some-clause-step : goal.returns-in-Some-clause-step
+returns-in-Some-clause-step c =
+    device_refused c.self.inside.present c.self.inside.steps.items c.self.inside.agains c.args.self.now c.args.step c.in-Some.reply c.refusal.result c.args.out.now c.args.cells.now c.self.view_is
+    (c.refusal.ensures.exact ∙ ap (λ (ss : List Step). refused c.self.inside.present.caps (reverse ss) c.args.step) c.deref.ensures.value) c.in-Some.is
 
-pub returns-in-Inject-clause-makes : goal.returns-in-Inject-clause-makes
-returns-in-Inject-clause-makes c = makes_replied _ _ c.args.step (Inject c.in-Inject.event c.in-Inject.now) _ _ _ _ _ c.in-Inject.is refl c.inject.ensures.replies
+pub accept-requires-clause-ready : goal.accept-requires-clause-ready
+accept-requires-clause-ready c =
+    ready c.self.inside.present c.self.inside.steps.items c.deref-2.result.now _ c.args.step c.refusal.result c.self.invariant c.deref-2.ensures.value
+    (c.refusal.ensures.exact ∙ ap (λ (ss : List Step). refused c.self.inside.present.caps (reverse ss) c.args.step) c.deref.ensures.value) c.in_default.is
 
-pub returns-in-GetKeys-clause-makes : goal.returns-in-GetKeys-clause-makes
-returns-in-GetKeys-clause-makes c = makes_replied _ _ c.args.step (GetKeys c.in-GetKeys.client) _ _ _ _ _ c.in-GetKeys.is refl c.get_keys.ensures.replies
+pub unwrap-requires : goal.unwrap-requires
+unwrap-requires c =
+    let below : length c.self.inside.steps.items < vec_capacity c.self.inside.steps =
+    room c.self.inside.present c.self.inside.steps.items c.deref.result.now _ c.args.step c.refusal.result c.self.invariant c.deref.ensures.value
+    (c.refusal.ensures.exact ∙ ap (λ (ss : List Step). refused c.self.inside.present.caps (reverse ss) c.args.step) c.deref.ensures.value) c.in_default.is in
+    c.push.ensures.succeeds (omega (arith, below, c.deref.ensures.len, ap length c.deref.ensures.value))
 
-pub returns-in-GetSwitches-clause-makes : goal.returns-in-GetSwitches-clause-makes
-returns-in-GetSwitches-clause-makes c = makes_replied _ _ c.args.step (GetSwitches c.in-GetSwitches.client) _ _ _ _ _ c.in-GetSwitches.is refl c.get_switches.ensures.replies
+pub invariant_of-self-in-Ok : goal.invariant_of-self-in-Ok
+invariant_of-self-in-Ok c =
+    entered_kept c.self.inside.present c.accept.new.self c.self.inside.steps.items c.deref-2.result.now c.push.new.self.items _ _ c.args.step c.in-Ok.reply _ _ _ _ c.refusal.result c.self.invariant c.deref-2.ensures.value
+    (c.refusal.ensures.exact ∙ ap (λ (ss : List Step). refused c.self.inside.present.caps (reverse ss) c.args.step) c.deref.ensures.value) c.in_default.is
+    c.in-Ok.ensures.made
+    (c.push.ensures.items ∙ ap (λ r. if is_ok r then c.self.inside.steps.items ++ c.args.step ∷ [] else c.self.inside.steps.items) c.unwrap.ensures)
+    c.push.ensures.capacity
 
-pub returns-in-GetLeds-clause-makes : goal.returns-in-GetLeds-clause-makes
-returns-in-GetLeds-clause-makes c = makes_replied _ _ c.args.step (GetLeds c.in-GetLeds.client) _ _ _ _ _ c.in-GetLeds.is refl c.get_leds.ensures.replies
+pub returns-in-Ok-clause-step : goal.returns-in-Ok-clause-step
+returns-in-Ok-clause-step c =
+    device_made c.self.inside.present c.accept.new.self c.self.inside.steps.items c.deref-2.result.now c.push.new.self.items c.self.inside.agains c.args.self.now c.args.step c.in-Ok.reply _ _ _ _ c.refusal.result c.self.view_is c.deref-2.ensures.value
+    (c.refusal.ensures.exact ∙ ap (λ (ss : List Step). refused c.self.inside.present.caps (reverse ss) c.args.step) c.deref.ensures.value) c.in_default.is
+    c.in-Ok.ensures.made
+    (c.push.ensures.items ∙ ap (λ r. if is_ok r then c.self.inside.steps.items ++ c.args.step ∷ [] else c.self.inside.steps.items) c.unwrap.ensures)
 
-pub returns-in-GetSounds-clause-makes : goal.returns-in-GetSounds-clause-makes
-returns-in-GetSounds-clause-makes c = makes_replied _ _ c.args.step (GetSounds c.in-GetSounds.client) _ _ _ _ _ c.in-GetSounds.is refl c.get_sounds.ensures.replies
-
-pub returns-in-GetAxis-clause-makes : goal.returns-in-GetAxis-clause-makes
-returns-in-GetAxis-clause-makes c = makes_replied _ _ c.args.step (GetAxis c.in-GetAxis.client c.in-GetAxis.code) _ _ _ _ _ c.in-GetAxis.is refl c.get_axis.ensures.replies
+pub returns-in-Err-clause-step : goal.returns-in-Err-clause-step
+returns-in-Err-clause-step c =
+    device_lacks c.self.inside.present c.accept.new.self c.self.inside.steps.items c.deref-2.result.now c.deref-in-Err.result.now c.self.inside.agains c.args.self.now c.args.step c.in-Err.field-0 c.refuse.result _ _ _ _ c.refusal.result c.self.view_is c.deref-2.ensures.value c.deref-in-Err.ensures.value
+    (c.refusal.ensures.exact ∙ ap (λ (ss : List Step). refused c.self.inside.present.caps (reverse ss) c.args.step) c.deref.ensures.value) c.in_default.is
+    c.in-Err.ensures.made c.refuse.ensures.refused

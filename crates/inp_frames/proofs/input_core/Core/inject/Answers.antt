@@ -1,19 +1,35 @@
-use Rattle.std.proofs.Common.{sym, subst, ◌∙◌}
-use Rattle.inp_frames.specs.Core.{CoreStandsFor}
-use Rattle.inp_frames.specs.contracts.input_core.Core.{the_view}
-use Rattle.inp_frames.proofs.Cutting.{took, stands-more, stands-cut}
+use Rattle.std.proofs.Common.{◌≡◌, Bool, false, true, if◌then◌else◌, [], ◌∷◌, sym, ap, ◌∙◌}
+use Rattle.inp_model.specs.declared.event.Event.{Event}
+use Rattle.inp_model.specs.Raw.{raw}
+use Rattle.inp_frames.specs.Core.{CoreValues}
+use Rattle.inp_frames.proofs.Handling.{Handles-none}
+use Rattle.inp_frames.proofs.Entering.{enters-inject, enters-write}
 use Rattle.inp_frames.proofs.input_core.Core.inject.Goals as goal
 
-pub returns-then-not-cut-clause-stands : goal.returns-then-not-cut-clause-stands
-returns-then-not-cut-clause-stands g c = λ r h.
-    let at : CoreStandsFor c.args.caps.now r (the_view c.self.inside) = subst (CoreStandsFor c.args.caps.now r) (sym c.self.view_is) h in
-    stands-more c.args.caps.now r c.args.event c.take-passed.new.state c.take-passed.new.slots c.add.new.self c.cut.new.self c.is_report.result c.cut.result
-    (took c.args.caps.now r c.args.event (the_view c.self.inside) c.take-passed.new.state c.take-passed.new.slots c.take-passed.result c.add.new.self at c.take-passed.ensures.state c.take-passed.ensures.slots c.take-passed.ensures.passed c.take-passed.ensures.at_frame c.add.ensures.added c.add.ensures.hint)
-    c.is_report.ensures.report c.cut.ensures.whole c.if-not-cut.true (c.cut.ensures.waiting c.if-not-cut.true) c.cut.ensures.hint
+-- the raw events that the event stands for: none while the device is inhibited, and else itself
+unless : (e : Event) (core : CoreValues) (kept flag : Bool) → kept ≡ flag → kept ≡ core.inhibited → (if core.inhibited then [] else e ∷ []) ≡ (if flag then [] else e ∷ [])
+unless e core kept flag p q = ap (λ (b : Bool). if b then [] else e ∷ []) (sym q ∙ p)
 
-pub returns-clause-stands : goal.returns-clause-stands
-returns-clause-stands g c = λ r h.
-    let at : CoreStandsFor c.args.caps.now r (the_view c.self.inside) = subst (CoreStandsFor c.args.caps.now r) (sym c.self.view_is) h in
-    stands-cut c.args.caps.now r c.args.event c.take-passed.new.state c.take-passed.new.slots c.pass_on.new.slots c.add.new.self c.pass_on.new.batch c.is_report.result c.cut.result
-    (took c.args.caps.now r c.args.event (the_view c.self.inside) c.take-passed.new.state c.take-passed.new.slots c.take-passed.result c.add.new.self at c.take-passed.ensures.state c.take-passed.ensures.slots c.take-passed.ensures.passed c.take-passed.ensures.at_frame c.add.ensures.added c.add.ensures.hint)
-    c.is_report.ensures.report c.cut.ensures.whole c.if-not-cut.false c.pass_on.ensures.empty (c.pass_on.ensures.hint ∙ c.cut.ensures.hint) c.pass_on.ensures.at_frame
+pub returns-then-ignored-clause-enters_inject : goal.returns-then-ignored-clause-enters_inject
+returns-then-ignored-clause-enters_inject g c = λ past h.
+    enters-inject c.args.caps.now past c.args.event c.args.now [] g.F.Frames.takes c.args.self.now c.args.self.now c.args.to.now c.args.to.now h
+    (unless c.args.event c.args.self.now c.self.inside.inhibited true c.if-ignored.true (ap (λ (core : CoreValues). core.inhibited) c.self.view_is))
+    (Handles-none c.args.caps.now (raw c.args.caps.now past) c.args.now g.F.Frames.takes c.args.self.now c.args.to.now h.raw_events)
+
+pub returns-then-ignored-clause-enters_write : goal.returns-then-ignored-clause-enters_write
+returns-then-ignored-clause-enters_write g c = λ past client h.
+    enters-write c.args.caps.now past client c.args.event c.args.now [] g.F.Frames.takes c.args.self.now c.args.self.now c.args.to.now c.args.to.now h
+    (unless c.args.event c.args.self.now c.self.inside.inhibited true c.if-ignored.true (ap (λ (core : CoreValues). core.inhibited) c.self.view_is))
+    (Handles-none c.args.caps.now (raw c.args.caps.now past) c.args.now g.F.Frames.takes c.args.self.now c.args.to.now h.raw_events)
+
+pub returns-clause-enters_inject : goal.returns-clause-enters_inject
+returns-clause-enters_inject g c = λ past h.
+    enters-inject c.args.caps.now past c.args.event c.args.now (c.args.event ∷ []) g.F.Frames.takes c.args.self.now c.gather.new.self c.args.to.now c.gather.new.to h
+    (unless c.args.event c.args.self.now c.self.inside.inhibited false c.if-ignored.false (ap (λ (core : CoreValues). core.inhibited) c.self.view_is))
+    (c.gather.ensures.handled (raw c.args.caps.now past) h.raw_events)
+
+pub returns-clause-enters_write : goal.returns-clause-enters_write
+returns-clause-enters_write g c = λ past client h.
+    enters-write c.args.caps.now past client c.args.event c.args.now (c.args.event ∷ []) g.F.Frames.takes c.args.self.now c.gather.new.self c.args.to.now c.gather.new.to h
+    (unless c.args.event c.args.self.now c.self.inside.inhibited false c.if-ignored.false (ap (λ (core : CoreValues). core.inhibited) c.self.view_is))
+    (c.gather.ensures.handled (raw c.args.caps.now past) h.raw_events)

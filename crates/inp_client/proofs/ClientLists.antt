@@ -1,0 +1,88 @@
+-- The list of clients as it is made of their numbers, for callers: `f` gives the client of each number.
+use Rattle.std.proofs.Common.{◌≡◌, ◌≢◌, ◌<◌, ℕ, Bool, true, false, not, ◌&&◌, ◌||◌, if◌then◌else◌, nat_eq, nat_lt, List, [], ◌∷◌, map, All, Some, refl, sym, ap, ◌∙◌, inl, inr}
+use Rattle.std.specs.List.{filter, list_any, range_with_len}
+use Rattle.std.specs.Option.{option_map_or}
+use Rattle.std.proofs.lemmas.Bool.{cases_eq, eq-eqb, ne_eqb, cond-true, cond-false, false≢true}
+use Rattle.std.proofs.lemmas.List.Elements.{All-map, All-filter}
+use Rattle.inp_client.specs.Client.{ClientView}
+use Rattle.inp_client.proofs.Lists.{any_below}
+use Rattle.inp_client.specs.Clients.{has_number, has_client, client_named, has_revoked_client, events_of, map_client, without_client, AllBelow}
+
+-- what is above all numbers stays so where a client is closed
+pub AllBelow-without_client : (n number : ℕ) (clients : List ClientView) → AllBelow n clients → AllBelow n (without_client number clients)
+AllBelow-without_client n number clients below = All-filter (λ c. not (has_number number c)) (λ c. c.number < n) clients below
+
+module _ (f : ℕ → ClientView) (numbered : (n : ℕ) → (f n).number ≡ n) where
+  has_number_of : (number n : ℕ) → has_number number (f n) ≡ nat_eq n number
+  has_number_of number n = ap (λ (m : ℕ). nat_eq m number) (numbered n)
+
+  -- the one with this number is changed
+  pub map_client-map : (number : ℕ) (change : ClientView → ClientView) (ns : List ℕ) → map_client number change (map f ns) ≡ map (λ n. if nat_eq n number then change (f n) else f n) ns
+  map_client-map number change [] = refl
+  map_client-map number change (n ∷ ns) =
+      ap (λ (b : Bool). (if b then change (f n) else f n) ∷ map_client number change (map f ns)) (has_number_of number n)
+      ∙ ap (λ (cs : List ClientView). (if nat_eq n number then change (f n) else f n) ∷ cs) (map_client-map number change ns)
+
+  -- the clients after a call on one of them, by what becomes of it and that the others stay
+  pub map_client-to : (number : ℕ) (change : ClientView → ClientView) (after : ℕ → ClientView) (ns : List ℕ) → after number ≡ change (f number) → ((n : ℕ) → n ≢ number → after n ≡ f n) → map_client number change (map f ns) ≡ map after ns
+  map_client-to number change after ns changed others = map_client-map number change ns ∙ each ns
+    where
+      one : (n : ℕ) → (if nat_eq n number then change (f n) else f n) ≡ after n
+      one n = elim (cases_eq n number) [
+        | inl e ↦ cond-true (nat_eq n number) _ _ (eq-eqb n number e) ∙ ap (λ (m : ℕ). change (f m)) e ∙ sym changed ∙ ap after (sym e)
+        | inr d ↦ cond-false (nat_eq n number) _ _ (ne_eqb n number d) ∙ sym (others n d)
+      ]
+
+      each : (ns : List ℕ) → map (λ n. if nat_eq n number then change (f n) else f n) ns ≡ map after ns
+      each [] = refl
+      each (n ∷ ns) = ap (λ (c : ClientView). c ∷ map (λ n. if nat_eq n number then change (f n) else f n) ns) (one n) ∙ ap (λ (cs : List ClientView). after n ∷ cs) (each ns)
+
+  -- the clients after a frame was offered to each
+  pub map-to : (change : ClientView → ClientView) (after : ℕ → ClientView) (ns : List ℕ) → ((n : ℕ) → after n ≡ change (f n)) → map change (map f ns) ≡ map after ns
+  map-to change after [] each = refl
+  map-to change after (n ∷ ns) each =
+      ap (λ (c : ClientView). c ∷ map change (map f ns)) (sym (each n)) ∙ ap (λ (cs : List ClientView). after n ∷ cs) (map-to change after ns each)
+
+  -- a client is open where its number is in the list
+  pub has_client-map : (number : ℕ) (ns : List ℕ) → has_client number (map f ns) ≡ list_any (λ n. nat_eq n number) ns
+  has_client-map number [] = refl
+  has_client-map number (n ∷ ns) =
+      ap (λ (b : Bool). b || has_client number (map f ns)) (has_number_of number n) ∙ ap (λ (b : Bool). nat_eq n number || b) (has_client-map number ns)
+
+  -- the same where the numbers are those below a bound that pass a test
+  pub has_client-filter : (number bound : ℕ) (p : ℕ → Bool) → has_client number (map f (filter p (range_with_len 0 bound))) ≡ (nat_lt number bound && p number)
+  has_client-filter number bound p = has_client-map number (filter p (range_with_len 0 bound)) ∙ any_below number bound p
+
+  -- the client that a number names
+  pub client_named-map : (number : ℕ) (ns : List ℕ) → list_any (λ n. nat_eq n number) ns ≡ true → client_named number (map f ns) ≡ Some (f number)
+  client_named-map number [] there = absurd (false≢true there)
+  client_named-map number (n ∷ ns) there =
+      elim (cases_eq n number) [
+        | inl e ↦ rw (has_number_of number n, eq-eqb n number e) (ap (λ (m : ℕ). Some (f m)) e)
+        | inr d ↦
+            let rest : list_any (λ n. nat_eq n number) ns ≡ true = rw (ne_eqb n number d) at there in
+            rw (has_number_of number n, ne_eqb n number d) (client_named-map number ns rest)
+      ]
+
+  pub events_of-map : (number : ℕ) (ns : List ℕ) → list_any (λ n. nat_eq n number) ns ≡ true → events_of number (map f ns) ≡ (f number).ring.events
+  events_of-map number ns there = ap (λ o. option_map_or (λ (c : ClientView). c.ring.events) o []) (client_named-map number ns there)
+
+  pub has_revoked_client-map : (number : ℕ) (ns : List ℕ) → list_any (λ n. nat_eq n number) ns ≡ true → has_revoked_client number (map f ns) ≡ (f number).revoked
+  has_revoked_client-map number ns there = ap (λ o. option_map_or (λ (c : ClientView). c.revoked) o false) (client_named-map number ns there)
+
+  -- the clients but one
+  pub without_client-map : (number : ℕ) (ns : List ℕ) → without_client number (map f ns) ≡ map f (filter (λ n. not (nat_eq n number)) ns)
+  without_client-map number [] = refl
+  without_client-map number (n ∷ ns) =
+      ap (λ (b : Bool). if not b then f n ∷ without_client number (map f ns) else without_client number (map f ns)) (has_number_of number n)
+      ∙ ap (λ (cs : List ClientView). if not (nat_eq n number) then f n ∷ cs else cs) (without_client-map number ns)
+      ∙ kept (not (nat_eq n number))
+    where
+      kept : (b : Bool) → (if b then f n ∷ map f (filter (λ n. not (nat_eq n number)) ns) else map f (filter (λ n. not (nat_eq n number)) ns))
+          ≡ map f (if b then n ∷ filter (λ n. not (nat_eq n number)) ns else filter (λ n. not (nat_eq n number)) ns)
+      kept true = refl
+      kept false = refl
+
+  -- a number above all in the list is above those of all clients
+  pub AllBelow-map : (number : ℕ) (ns : List ℕ) → All (λ n. n < number) ns → AllBelow number (map f ns)
+  AllBelow-map number ns below = All-map (λ c. c.number < number) f ns (λ k d within. rw (numbered _) (below k d within))

@@ -1,0 +1,120 @@
+-- Lists: a map, a filter, a search and a removal by what holds of each element.
+use Rattle.std.proofs.Common.{◌≡◌, ◌≢◌, ◌+◌, ◌<◌, ℕ, zero, suc, Bool, true, false, not, ◌&&◌, ◌||◌, if◌then◌else◌, nat_eq, nat_le, nat_lt, List, [], ◌∷◌, length, get_or, replicate, map, All, Some, refl, ap, ◌∙◌, inl, inr, zero-add, arith}
+use Rattle.std.specs.List.{filter, find, list_any, range_with_len, remove}
+use Rattle.std.proofs.lemmas.Bool.{cases_lt, cases_order, eq-eqb, ne_eqb, lt-ltb, le-ltb, le-leb, lt-leb}
+use Rattle.std.proofs.lemmas.List.FromFn.{get_or-map-range_with_len}
+use Rattle.std.proofs.lemmas.List.Elements.{All-head, All-tail, All-from_get_or}
+
+-- Each element of a list is made of the element at its place in another.
+pub map_over : {X Y Z : Type 0} (f : X → Z) (g : X → Y) (h : Y → Z) (xs : List X) → All (λ x. f x ≡ h (g x)) xs → map f xs ≡ map h (map g xs)
+map_over f g h [] each = refl
+map_over f g h (x ∷ xs) each =
+    ap (λ z. z ∷ map f xs) (All-head (λ x. f x ≡ h (g x)) x xs each)
+    ∙ ap (λ zs. h (g x) ∷ zs) (map_over f g h xs (All-tail (λ x. f x ≡ h (g x)) x xs each))
+
+pub map_same : {X Y : Type 0} (f g : X → Y) (xs : List X) → All (λ x. f x ≡ g x) xs → map f xs ≡ map g xs
+map_same f g [] each = refl
+map_same f g (x ∷ xs) each =
+    ap (λ z. z ∷ map f xs) (All-head (λ x. f x ≡ g x) x xs each)
+    ∙ ap (λ zs. g x ∷ zs) (map_same f g xs (All-tail (λ x. f x ≡ g x) x xs each))
+
+-- the first element that passes stands at i
+pub find_at : {X : Type 0} (p : X → Bool) (xs : List X) (i : ℕ) (d : X) → i < length xs → p (get_or xs i d) ≡ true → ((j : ℕ) → j < i → p (get_or xs j d) ≡ false) → find p xs ≡ Some (get_or xs i d)
+find_at p [] i d within passes before = absurd (omega arith)
+find_at p (x ∷ xs) zero d within passes before = rw passes refl
+find_at p (x ∷ xs) (suc i) d within passes before =
+    rw (before 0 (omega arith)) (find_at p xs i d (omega arith) passes (λ j below. before (suc j) (omega arith)))
+
+-- where no element passes, all stay
+none_removed : {X Y : Type 0} (p : Y → Bool) (g g' : X → Y) (xs : List X) → All (λ x. (p (g x) ≡ false) × (g' x ≡ g x)) xs → map g' xs ≡ filter (λ y. not (p y)) (map g xs)
+none_removed p g g' [] each = refl
+none_removed p g g' (x ∷ xs) each =
+    let first = All-head (λ x. (p (g x) ≡ false) × (g' x ≡ g x)) x xs each in
+    rw first.0 (ap (λ z. z ∷ map g' xs) first.1 ∙ ap (λ zs. g x ∷ zs) (none_removed p g g' xs (All-tail (λ x. (p (g x) ≡ false) × (g' x ≡ g x)) x xs each)))
+
+-- where the element at i passes alone, all others stay
+pub one_removed : {X Y : Type 0} (p : Y → Bool) (g g' : X → Y) (xs : List X) (i : ℕ) (d : X) → i < length xs → p (g (get_or xs i d)) ≡ true →
+    ((j : ℕ) → j < length xs → j ≢ i → (p (g (get_or xs j d)) ≡ false) × (g' (get_or xs j d) ≡ g (get_or xs j d))) → map g' (remove xs i) ≡ filter (λ y. not (p y)) (map g xs)
+one_removed p g g' [] i d within passes others = absurd (omega arith)
+one_removed p g g' (x ∷ xs) zero d within passes others =
+    rw passes (none_removed p g g' xs (All-from_get_or (λ x. (p (g x) ≡ false) × (g' x ≡ g x)) xs d (λ j in_j. others (suc j) (omega arith) (λ e. omega (arith, e)))))
+one_removed p g g' (x ∷ xs) (suc i) d within passes others =
+    let first = others 0 (omega arith) (λ e. omega (arith, e)) in
+    rw first.0 (ap (λ z. z ∷ map g' (remove xs i)) first.1 ∙ ap (λ zs. g x ∷ zs) (one_removed p g g' xs i d (omega arith) passes (λ j in_j differs. others (suc j) (omega arith) (λ e. differs (omega (arith, e))))))
+
+-- a filter that every element passes
+pub filter_all : {X : Type 0} (p : X → Bool) → ((x : X) → p x ≡ true) → (xs : List X) → filter p xs ≡ xs
+filter_all p passes [] = refl
+filter_all p passes (x ∷ xs) = rw (passes x) (ap (λ ys. x ∷ ys) (filter_all p passes xs))
+
+-- two tests that agree at each element
+pub filter_same : {X : Type 0} (p q : X → Bool) (xs : List X) → All (λ x. p x ≡ q x) xs → filter p xs ≡ filter q xs
+filter_same p q [] each = refl
+filter_same p q (x ∷ xs) each =
+    let rest = filter_same p q xs (All-tail (λ x. p x ≡ q x) x xs each) in
+    rw (All-head (λ x. p x ≡ q x) x xs each, rest) refl
+
+-- one filter behind the other
+pub filter-filter : {X : Type 0} (p q : X → Bool) (xs : List X) → filter q (filter p xs) ≡ filter (λ x. p x && q x) xs
+filter-filter p q [] = refl
+filter-filter {X} p q (x ∷ xs) = by_test (p x) (filter-filter p q xs)
+  where
+    by_test : (b : Bool) → filter q (filter p xs) ≡ filter (λ x. p x && q x) xs → filter q (if b then x ∷ filter p xs else filter p xs) ≡ (if b && q x then x ∷ filter (λ x. p x && q x) xs else filter (λ x. p x && q x) xs)
+    by_test true rest = ap (λ (ys : List X). if q x then x ∷ ys else ys) rest
+    by_test false rest = rest
+
+-- a copy is read past the end too, where the default is its value
+pub get_or-replicate_same : {X : Type 0} (n i : ℕ) (x : X) → get_or (replicate n x) i x ≡ x
+get_or-replicate_same zero i x = refl
+get_or-replicate_same (suc n) zero x = refl
+get_or-replicate_same (suc n) (suc i) x = get_or-replicate_same n i x
+
+-- Is a number among those of a range that pass a test?
+
+-- the first number of a range, and the rest
+any_first : (pass here rest : Bool) (n : ℕ) (ns : List ℕ) (number : ℕ) → nat_eq n number ≡ here → list_any (λ m. nat_eq m number) ns ≡ rest → list_any (λ m. nat_eq m number) (if pass then n ∷ ns else ns) ≡ ((pass && here) || rest)
+any_first true here rest n ns number e r = rw (e, r) refl
+any_first false here rest n ns number e r = r
+
+either_way : (pass rest : Bool) → ((pass && false) || rest) ≡ rest
+either_way true rest = refl
+either_way false rest = refl
+
+only_first : (pass : Bool) → ((pass && true) || false) ≡ pass
+only_first true = refl
+only_first false = refl
+
+any_in_range : (number : ℕ) (p : ℕ → Bool) (a k : ℕ) → list_any (λ n. nat_eq n number) (filter p (range_with_len a k)) ≡ ((nat_le a number && nat_lt number (a + k)) && p number)
+any_in_range number p a zero =
+    elim (cases_lt number a) [
+      | inl below ↦ rw (lt-leb a number below) refl
+      | inr above ↦ rw (le-leb a number above, le-ltb number (a + 0) (omega arith)) refl
+    ]
+any_in_range number p a (suc k) =
+    any_first (p a) (nat_eq a number) _ a (filter p (range_with_len (a + 1) k)) number refl (any_in_range number p (a + 1) k)
+    ∙ elim (cases_order a number) [
+      | inl same ↦
+          rw (eq-eqb a number same, lt-leb (a + 1) number (omega (arith, same)), le-leb a number (omega (arith, same)), lt-ltb number (a + suc k) (omega (arith, same)))
+          (only_first (p a) ∙ ap p same)
+      | inr (inl below) ↦
+          let bound : a + 1 + k ≡ a + suc k = omega arith in
+          rw (ne_eqb a number (λ e. omega (arith, e)), le-leb (a + 1) number (omega arith), le-leb a number (omega arith), bound)
+          (either_way (p a) (nat_lt number (a + suc k) && p number))
+      | inr (inr above) ↦
+          rw (ne_eqb a number (λ e. omega (arith, e)), lt-leb (a + 1) number (omega arith), lt-leb a number (omega arith))
+          (either_way (p a) false)
+    ]
+
+pub any_below : (number bound : ℕ) (p : ℕ → Bool) → list_any (λ n. nat_eq n number) (filter p (range_with_len 0 bound)) ≡ (nat_lt number bound && p number)
+any_below number bound p = any_in_range number p 0 bound ∙ rw (le-leb 0 number (omega arith), zero-add) refl
+
+-- One value of a list that is made of a function of the index, and a word of 64 of them set anew.
+
+pub get_or-map_range : {X : Type 0} (f : ℕ → X) (n i : ℕ) (d : X) → i < n → get_or (map f (range_with_len 0 n)) i d ≡ f i
+get_or-map_range f n i d within = get_or-map-range_with_len f 0 n i i d within (omega arith)
+
+-- two functions that agree on a range
+pub map_range_same : {X : Type 0} (f g : ℕ → X) (a n : ℕ) → ((i : ℕ) → f i ≡ g i) → map f (range_with_len a n) ≡ map g (range_with_len a n)
+map_range_same f g a zero same = refl
+map_range_same f g a (suc n) same =
+    ap (λ x. x ∷ map f (range_with_len (a + 1) n)) (same a) ∙ ap (λ xs. g a ∷ xs) (map_range_same f g (a + 1) n same)

@@ -1,0 +1,254 @@
+-- Masks by their bits.
+use Rattle.std.proofs.Common.{◌≡◌, ◌+◌, ◌-◌, ◌*◌, ◌/◌, ◌%◌, ◌<◌, ◌≤◌, ◌==◌, ℕ, zero, suc, Bool, true, false, ◌&&◌, ◌||◌, if◌then◌else◌, nat_eq, List, ◌∷◌, ◌++◌, length, get_or, take, drop, replicate, map, refl, sym, ap, subst, ◌∙◌, inl, inr, arith}
+use Rattle.std.specs.List.{range_with_len}
+use Rattle.std.specs.Int.{bit_at}
+use Rattle.std.proofs.lemmas.Bool.{false≢true, and_parts, or_cases, leb-true, eqb-true, cases_Bool, cases_lt, cond-true, cond-false, eq-eqb, ne_eqb}
+use Rattle.std.proofs.lemmas.List.{length-append, length-drop, length-take-le, get_or_append_left, get_or-append_right, get_or-take, get_or-drop}
+use Rattle.std.proofs.lemmas.List.FromFn.{length-map-range_with_len, fill_by_all}
+use Rattle.inp_bits.specs.Bits.{word_bits}
+use Rattle.inp_bits.specs.Words.{length-word_bits, get_or-word_bits}
+use Rattle.inp_model.specs.declared.event.TheConstants.{EV_SYN, EV_KEY, EV_REL, EV_ABS, EV_MSC, EV_SW, EV_LED, EV_SND, EV_REP, SYN_DROPPED, KEY_MAX, REL_MAX, ABS_MAX, MSC_MAX, SW_MAX, LED_MAX, SND_MAX}
+use Rattle.inp_model.specs.declared.event.Event.{Event}
+use Rattle.inp_model.specs.Past.{has_mask, mask_words}
+use Rattle.inp_model.specs.Description.{Description, AreCodes, IsDescription, is_kind, has_kind, has_code, supports}
+use Rattle.inp_client.proofs.Lists.{get_or-replicate_same, get_or-map_range, map_range_same}
+use Rattle.inp_client.specs.Masks.{MaskView, masks_with, full_masks, mask_bit_of, admits_of, with_word, mask_after, masks_after}
+
+-- Full masks admit every event.
+
+pub mask_bit_of-full_masks : (kind index : ℕ) → mask_bit_of full_masks kind index ≡ true
+unfolding full_masks
+mask_bit_of-full_masks kind index =
+    let codes : get_or (replicate 64 true) index true ≡ true = get_or-replicate_same 64 index true in
+    let keys : get_or (replicate 768 true) index true ≡ true = get_or-replicate_same 768 index true in
+    grind (arith, codes, keys)
+
+or_both : (a b : Bool) → (a || (true && (b || true))) ≡ true
+or_both true b = refl
+or_both false true = refl
+or_both false false = refl
+
+pub admits_of-full_masks : (e : Event) → admits_of full_masks e ≡ true
+admits_of-full_masks e =
+    rw (mask_bit_of-full_masks EV_SYN e.kind, mask_bit_of-full_masks e.kind e.code) (or_both (nat_eq e.kind EV_SYN) (nat_eq e.kind EV_REP))
+
+-- Masks that are made of a function to their bits.
+
+-- a fact that holds for each type that has a mask
+by_kind : (P : ℕ → Type 0) → P EV_SYN → P EV_KEY → P EV_REL → P EV_ABS → P EV_MSC → P EV_SW → P EV_LED → P EV_SND → (kind : ℕ) → has_mask kind ≡ true → P kind
+by_kind P syn key rel axis msc switch led snd kind has =
+    elim (or_cases _ _ has) [
+      | inl first ↦ elim (or_cases _ _ first) [
+        | inl low ↦ up_to_switches kind (leb-true _ _ low)
+        | inr e ↦ subst P (sym (eqb-true _ _ e)) led
+      ]
+      | inr e ↦ subst P (sym (eqb-true _ _ e)) snd
+    ]
+  where
+    up_to_switches : (kind : ℕ) → kind ≤ EV_SW → P kind
+    up_to_switches zero le = syn
+    up_to_switches (suc zero) le = key
+    up_to_switches (suc (suc zero)) le = rel
+    up_to_switches (suc (suc (suc zero))) le = axis
+    up_to_switches (suc (suc (suc (suc zero)))) le = msc
+    up_to_switches (suc (suc (suc (suc (suc zero))))) le = switch
+    up_to_switches (suc (suc (suc (suc (suc (suc k)))))) le = absurd (omega arith)
+
+module _ (bit : ℕ → ℕ → Bool) where
+  pub mask_bit_of-masks_with : (kind index : ℕ) → has_mask kind ≡ true → index < 64 * mask_words kind → mask_bit_of (masks_with bit) kind index ≡ bit kind index
+  unfolding masks_with
+  mask_bit_of-masks_with kind index has within =
+      by_kind (λ k. index < 64 * mask_words k → mask_bit_of (masks_with bit) k index ≡ bit k index)
+      (get_or-map_range (bit EV_SYN) 64 index true)
+      (get_or-map_range (bit EV_KEY) 768 index true)
+      (get_or-map_range (bit EV_REL) 64 index true)
+      (get_or-map_range (bit EV_ABS) 64 index true)
+      (get_or-map_range (bit EV_MSC) 64 index true)
+      (get_or-map_range (bit EV_SW) 64 index true)
+      (get_or-map_range (bit EV_LED) 64 index true)
+      (get_or-map_range (bit EV_SND) 64 index true)
+      kind has within
+
+  -- of an event of a type that a device can have, with a code that its mask has a bit for
+  pub admits_of-masks_with : (e : Event) → is_kind e.kind ≡ true → (has_mask e.kind ≡ true → e.code < 64 * mask_words e.kind) →
+      admits_of (masks_with bit) e ≡ (nat_eq e.kind EV_SYN || (bit EV_SYN e.kind && (nat_eq e.kind EV_REP || bit e.kind e.code)))
+  admits_of-masks_with e known within =
+      ap (λ (t : Bool). nat_eq e.kind EV_SYN || (t && (nat_eq e.kind EV_REP || mask_bit_of (masks_with bit) e.kind e.code))) types
+      ∙ ap (λ (b : Bool). nat_eq e.kind EV_SYN || (bit EV_SYN e.kind && b)) (elim (or_cases (has_mask e.kind) (nat_eq e.kind EV_REP) known) [
+        | inl has ↦ ap (λ (b : Bool). nat_eq e.kind EV_REP || b) (mask_bit_of-masks_with e.kind e.code has (within has))
+        | inr rep ↦ rw rep refl
+      ])
+    where
+      low : e.kind < 64
+      low = elim (or_cases (has_mask e.kind) (nat_eq e.kind EV_REP) known) [
+        | inl has ↦ by_kind (λ k. k < 64) (omega arith) (omega arith) (omega arith) (omega arith) (omega arith) (omega arith) (omega arith) (omega arith) e.kind has
+        | inr rep ↦ omega (arith, eqb-true e.kind EV_REP rep)
+      ]
+
+      types : mask_bit_of (masks_with bit) EV_SYN e.kind ≡ bit EV_SYN e.kind
+      types = mask_bit_of-masks_with EV_SYN e.kind refl low
+
+-- A word of a mask is set.
+
+pub with_word-map_range : (f : ℕ → Bool) (word bits n : ℕ) → 64 * word + 64 ≤ n → with_word word bits (map f (range_with_len 0 n)) ≡ map (λ i. if nat_eq word (i / 64) then bit_at bits (i % 64) == 1 else f i) (range_with_len 0 n)
+with_word-map_range f word bits n room =
+    fill_by_all (λ i. if nat_eq word (i / 64) then bit_at bits (i % 64) == 1 else f i) (with_word word bits all) n false long each
+  where
+    all : List Bool
+    all = map f (range_with_len 0 n)
+
+    front : List Bool
+    front = take (64 * word) all
+
+    long_all : length all ≡ n
+    long_all = length-map-range_with_len f 0 n
+
+    long_front : length front ≡ 64 * word
+    long_front = length-take-le (64 * word) all (omega (arith, long_all))
+
+    long_two : length (front ++ word_bits bits) ≡ 64 * word + 64
+    long_two = omega (arith, length-append front (word_bits bits), long_front, length-word_bits bits)
+
+    long : length (with_word word bits all) ≡ n
+    long = omega (arith, length-append (front ++ word_bits bits) (drop (64 * word + 64) all), long_two, length-drop (64 * word + 64) all, long_all)
+
+    in_front : (i : ℕ) → i < 64 * word → get_or (with_word word bits all) i false ≡ f i
+    in_front i below =
+        get_or_append_left (front ++ word_bits bits) (drop (64 * word + 64) all) false i (omega (arith, long_two))
+        ∙ get_or_append_left front (word_bits bits) false i (omega (arith, long_front))
+        ∙ get_or-take (64 * word) all i false below
+        ∙ get_or-map_range f n i false (omega arith)
+
+    in_word : (i : ℕ) → 64 * word ≤ i → i < 64 * word + 64 → get_or (with_word word bits all) i false ≡ (bit_at bits (i - 64 * word) == 1)
+    in_word i from below =
+        get_or_append_left (front ++ word_bits bits) (drop (64 * word + 64) all) false i (omega (arith, long_two))
+        ∙ get_or-append_right front (word_bits bits) (64 * word) i false long_front from
+        ∙ get_or-word_bits bits (i - 64 * word) (omega arith)
+
+    behind : (i : ℕ) → 64 * word + 64 ≤ i → i < n → get_or (with_word word bits all) i false ≡ f i
+    behind i from below =
+        get_or-append_right (front ++ word_bits bits) (drop (64 * word + 64) all) (64 * word + 64) i false long_two from
+        ∙ get_or-drop (64 * word + 64) all (i - (64 * word + 64)) false
+        ∙ ap (λ (j : ℕ). get_or all j false) (omega arith)
+        ∙ get_or-map_range f n i false below
+
+    each : (i : ℕ) → i < n → get_or (with_word word bits all) i false ≡ (if nat_eq word (i / 64) then bit_at bits (i % 64) == 1 else f i)
+    each i below = elim (cases_lt i (64 * word)) [
+      | inl before ↦ in_front i before ∙ sym (cond-false _ _ _ (ne_eqb word (i / 64) (λ e. omega (arith, e))))
+      | inr from ↦ elim (cases_lt i (64 * word + 64)) [
+        | inl within ↦
+            let same : i - 64 * word ≡ i % 64 = omega arith in
+            in_word i from within ∙ ap (λ (j : ℕ). bit_at bits j == 1) same ∙ sym (cond-true _ _ _ (eq-eqb word (i / 64) (omega arith)))
+        | inr past ↦ behind i past below ∙ sym (cond-false _ _ _ (ne_eqb word (i / 64) (λ e. omega (arith, e))))
+      ]
+    ]
+
+-- masks of these lengths, made of a function to their bits
+abbrev masks_sized : (ℕ → ℕ → Bool) → ℕ → ℕ → MaskView
+masks_sized bit short long = record {
+  types = map (bit EV_SYN) (range_with_len 0 short);
+  keys = map (bit EV_KEY) (range_with_len 0 long);
+  relatives = map (bit EV_REL) (range_with_len 0 short);
+  axes = map (bit EV_ABS) (range_with_len 0 short);
+  miscs = map (bit EV_MSC) (range_with_len 0 short);
+  switches = map (bit EV_SW) (range_with_len 0 short);
+  leds = map (bit EV_LED) (range_with_len 0 short);
+  sounds = map (bit EV_SND) (range_with_len 0 short);
+}
+
+abbrev parts : List Bool → List Bool → List Bool → List Bool → List Bool → List Bool → List Bool → List Bool → MaskView
+parts t0 t1 t2 t3 t4 t5 t6 t7 = record { types = t0; keys = t1; relatives = t2; axes = t3; miscs = t4; switches = t5; leds = t6; sounds = t7 }
+
+-- masks whose parts are equal are equal
+same_masks : (t0 u0 t1 u1 t2 u2 t3 u3 t4 u4 t5 u5 t6 u6 t7 u7 : List Bool) → t0 ≡ u0 → t1 ≡ u1 → t2 ≡ u2 → t3 ≡ u3 → t4 ≡ u4 → t5 ≡ u5 → t6 ≡ u6 → t7 ≡ u7 → parts t0 t1 t2 t3 t4 t5 t6 t7 ≡ parts u0 u1 u2 u3 u4 u5 u6 u7
+same_masks t0 u0 t1 u1 t2 u2 t3 u3 t4 u4 t5 u5 t6 u6 t7 u7 e0 e1 e2 e3 e4 e5 e6 e7 = cc
+
+module _ (bit after : ℕ → ℕ → Bool) (kind word bits : ℕ) (agrees : (k i : ℕ) → after k i ≡ (if nat_eq kind k && nat_eq word (i / 64) then bit_at bits (i % 64) == 1 else bit k i)) where
+  -- one mask of those that are made of a function
+  mask_after-map_range : (k n : ℕ) → (nat_eq kind k ≡ true → 64 * word + 64 ≤ n) → mask_after k kind word bits (map (bit k) (range_with_len 0 n)) ≡ map (after k) (range_with_len 0 n)
+  mask_after-map_range k n room =
+      elim (cases_Bool (nat_eq kind k)) [
+        | inl same ↦
+            cond-true (nat_eq kind k) _ _ same ∙ with_word-map_range (bit k) word bits n (room same)
+            ∙ map_range_same _ (after k) 0 n (λ i. sym (agrees k i ∙ ap (λ (b : Bool). if b && nat_eq word (i / 64) then bit_at bits (i % 64) == 1 else bit k i) same))
+        | inr other ↦
+            cond-false (nat_eq kind k) _ _ other
+            ∙ map_range_same (bit k) (after k) 0 n (λ i. sym (agrees k i ∙ ap (λ (b : Bool). if b && nat_eq word (i / 64) then bit_at bits (i % 64) == 1 else bit k i) other))
+      ]
+
+  -- all masks, where the mask of keys has `long` bits and each other one has `short`
+  masks_after-parts : (short long : ℕ) → ((k : ℕ) → nat_eq k EV_KEY ≡ false → nat_eq kind k ≡ true → 64 * word + 64 ≤ short) → (nat_eq kind EV_KEY ≡ true → 64 * word + 64 ≤ long) →
+      masks_after kind word bits (masks_sized bit short long) ≡ masks_sized after short long
+  masks_after-parts short long room room_keys =
+      let types = mask_after-map_range EV_SYN short (room EV_SYN refl) in
+      let keys = mask_after-map_range EV_KEY long room_keys in
+      let relatives = mask_after-map_range EV_REL short (room EV_REL refl) in
+      let axes = mask_after-map_range EV_ABS short (room EV_ABS refl) in
+      let miscs = mask_after-map_range EV_MSC short (room EV_MSC refl) in
+      let switches = mask_after-map_range EV_SW short (room EV_SW refl) in
+      let leds = mask_after-map_range EV_LED short (room EV_LED refl) in
+      let sounds = mask_after-map_range EV_SND short (room EV_SND refl) in
+      same_masks _ _ _ _ _ _ _ _ _ _ _ _ _ _ _ _ types keys relatives axes miscs switches leds sounds
+
+  -- all masks, by what becomes of each bit
+  pub masks_after-masks_with : word < mask_words kind → masks_after kind word bits (masks_with bit) ≡ masks_with after
+  unfolding masks_with
+  masks_after-masks_with below = masks_after-parts 64 768 room room_keys
+    where
+      room : (k : ℕ) → nat_eq k EV_KEY ≡ false → nat_eq kind k ≡ true → 64 * word + 64 ≤ 64
+      room k other same =
+          let no_key : nat_eq kind EV_KEY ≡ false = ap (λ (n : ℕ). nat_eq n EV_KEY) (eqb-true kind k same) ∙ other in
+          let words : mask_words kind ≡ 1 = cond-false (nat_eq kind EV_KEY) 12 1 no_key in
+          omega (arith, below, words)
+
+      room_keys : nat_eq kind EV_KEY ≡ true → 64 * word + 64 ≤ 768
+      room_keys key =
+          let words : mask_words kind ≡ 12 = cond-true (nat_eq kind EV_KEY) 12 1 key in
+          omega (arith, below, words)
+
+-- The masks of a new client.
+
+map_const : (f : ℕ → Bool) (a n : ℕ) → ((i : ℕ) → f i ≡ true) → replicate n true ≡ map f (range_with_len a n)
+map_const f a zero same = refl
+map_const f a (suc n) same =
+    ap (λ (b : Bool). b ∷ replicate n true) (sym (same a)) ∙ ap (λ (bs : List Bool). f a ∷ bs) (map_const f (a + 1) n same)
+
+module _ (bit : ℕ → ℕ → Bool) (set : (k i : ℕ) → bit k i ≡ true) where
+  full_parts : (short long : ℕ) → parts (replicate short true) (replicate long true) (replicate short true) (replicate short true) (replicate short true) (replicate short true) (replicate short true) (replicate short true) ≡ masks_sized bit short long
+  full_parts short long =
+      same_masks _ _ _ _ _ _ _ _ _ _ _ _ _ _ _ _
+      (map_const (bit EV_SYN) 0 short (set EV_SYN)) (map_const (bit EV_KEY) 0 long (set EV_KEY)) (map_const (bit EV_REL) 0 short (set EV_REL)) (map_const (bit EV_ABS) 0 short (set EV_ABS)) (map_const (bit EV_MSC) 0 short (set EV_MSC)) (map_const (bit EV_SW) 0 short (set EV_SW)) (map_const (bit EV_LED) 0 short (set EV_LED)) (map_const (bit EV_SND) 0 short (set EV_SND))
+
+  -- full masks are those whose bits are all set
+  pub full_masks-masks_with : full_masks ≡ masks_with bit
+  unfolding full_masks masks_with
+  full_masks-masks_with = full_parts 64 768
+
+-- What a device can pass is within the masks.
+
+code_within : (count greatest code : ℕ) (codes : List Bool) → AreCodes count greatest codes → get_or codes code false ≡ true → code ≤ greatest
+code_within count greatest code codes are on =
+    elim (cases_lt greatest code) [
+      | inl above ↦ absurd (false≢true (sym (are.within code above) ∙ on))
+      | inr within ↦ within
+    ]
+
+-- an event that a device supports is of a type that a device can have, and its mask has a bit for its code
+pub code_in_mask : (d : Description) (kind code : ℕ) → IsDescription d → supports d kind code ≡ true → (is_kind kind ≡ true) × (has_mask kind ≡ true → code < 64 * mask_words kind)
+code_in_mask d kind code is on =
+    let both = and_parts (has_kind d kind) (has_code d kind code) on in (
+      elim (cases_Bool (is_kind kind)) [
+        | inl known ↦ known
+        | inr unknown ↦ absurd (false≢true (sym (is.known kind unknown) ∙ both.0))
+      ],
+      λ has. by_kind (λ k. has_code d k code ≡ true → code < 64 * mask_words k)
+          (λ at. omega (arith, leb-true code SYN_DROPPED at))
+          (λ at. omega (arith, code_within 768 KEY_MAX code d.keys is.keys at))
+          (λ at. omega (arith, code_within 64 REL_MAX code d.relatives is.relatives at))
+          (λ at. omega (arith, code_within 64 ABS_MAX code d.axes is.axes at))
+          (λ at. omega (arith, code_within 64 MSC_MAX code d.miscs is.miscs at))
+          (λ at. omega (arith, code_within 64 SW_MAX code d.switches is.switches at))
+          (λ at. omega (arith, code_within 64 LED_MAX code d.leds is.leds at))
+          (λ at. omega (arith, code_within 64 SND_MAX code d.sounds is.sounds at))
+          kind has both.1,
+    )

@@ -1,0 +1,364 @@
+//! Clients, against queues worked out by hand.
+ghost use Rattle.std.specs.Prelude.{◌≡◌, ◌+◌, ◌<◌, ◌≤◌, ◌^◌, ℕ, true, IfOk};
+ghost use Rattle.inp_model.specs.Past.{has_mask, mask_words};
+ghost use Rattle.inp_client.specs.Clients.{AllBelow};
+
+use super::*;
+use inp_caps::{Caps, CapsBuilder};
+use inp_model::{
+    ABS_MT_SLOT, CLIENTS_MAX, Clock, EV_ABS, EV_KEY, EV_MSC, EV_REP, EV_SYN, Event, SYN_DROPPED,
+    SYN_REPORT, Taken,
+};
+use std::alloc::Global;
+use std::process::Abort;
+use std::test::Fail;
+
+const A: u16 = 30;
+
+const B: u16 = 48;
+
+/// How far the realtime clock is ahead in the tests, in microseconds.
+const REALTIME: u64 = 1_000_000;
+
+/// How far the clock that counts the time asleep is ahead in the tests, in microseconds.
+const BOOTTIME: u64 = 50;
+
+const REPORT: Event = Event {
+    kind: EV_SYN,
+    code: SYN_REPORT,
+    value: 0,
+};
+
+const LOSS: Event = Event {
+    kind: EV_SYN,
+    code: SYN_DROPPED,
+    value: 0,
+};
+
+fn event(kind: u16, code: u16, value: i32) -> Event {
+    Event { kind, code, value }
+}
+
+fn key(code: u16, value: i32) -> Event {
+    event(EV_KEY, code, value)
+}
+
+fn caps() -> Result<Caps, Fail> {
+    let mut builder = CapsBuilder::new();
+    builder.offsets(REALTIME, BOOTTIME)?;
+    Ok(builder.build())
+}
+
+/// An event as a client on the realtime clock reads it, where its frame ended at a moment and at the place 7.
+fn at(event: Event, now: u32) -> Taken {
+    timed(event, now, REALTIME)
+}
+
+fn timed(event: Event, now: u32, ahead: u64) -> Taken {
+    Taken {
+        event,
+        time: u64::from(now).saturating_add(ahead),
+        place: 7,
+    }
+}
+
+/// The clients 0, 1 and 2, with rings of 64 places.
+fn three(alloc: Global) -> Result<Clients, Fail> {
+    let mut clients = Clients::new(alloc)?;
+    open_up_to(&mut clients, 0, 3)?;
+    Ok(clients)
+}
+
+/// Opens the clients with the numbers from one up to another.
+fn open_up_to(clients: &mut Clients, first: u32, end: u32) -> Result<(), OpenRefused>
+    requires order { first ≤ end }
+    requires above { AllBelow first clients.old }
+    ensures above { AllBelow end clients.new }
+{
+    for number in first..end {
+        open_one(clients, number)?;
+    }
+    Ok(())
+}
+
+fn open_one(clients: &mut Clients, number: u32) -> Result<(), OpenRefused>
+    requires above { AllBelow number clients.old }
+    ensures above { AllBelow (number + 1) clients.new }
+{
+    clients.open(number, 64)
+}
+
+fn offer(clients: &mut Clients, caps: &Caps, frame: &[Event], now: u32, holder: Option<u32>) {
+    clients.offer(caps, frame, u64::from(now), 7, holder);
+}
+
+/// Reads all that a client may read, and says that it is this.
+fn expect(rt: &impl Abort, clients: &mut Clients, number: u32, wanted: &[Taken]) {
+    assert!(rt; clients.is_open(number), "client {number}");
+    let mut out = [timed(REPORT, 0, 0); 64];
+    let taken = clients.take(number, 64, &mut out);
+    assert_eq!(rt; &out[..taken as usize], wanted, "client {number}");
+}
+
+fn set_mask(rt: &impl Abort, clients: &mut Clients, number: u32, kind: u16, word: u16, bits: u64)
+    requires kind { has_mask kind ≡ true }
+    requires word { word < mask_words kind }
+{
+    assert!(rt; clients.is_open(number), "client {number}");
+    clients.set_mask(number, kind, word, bits);
+}
+
+fn set_clock(
+    rt: &impl Abort,
+    clients: &mut Clients,
+    caps: &Caps,
+    number: u32,
+    clock: Clock,
+    now: u32,
+) {
+    assert!(rt; clients.is_open(number), "client {number}");
+    clients.set_clock(caps, number, clock, u64::from(now), 7);
+}
+
+fn visible(rt: &impl Abort, clients: &Clients, number: u32) -> u32 {
+    assert!(rt; clients.is_open(number), "client {number}");
+    clients.visible(number)
+}
+
+#[test]
+fn masks_say_what_is_admitted(rt: HostRuntime) -> Result<(), Fail> {
+    let caps = caps()?;
+    let mut clients = three(rt.alloc())?;
+    // All keys but A; all types but EV_SYN and EV_REP; no code of EV_MSC.
+    set_mask(&rt, &mut clients, 0, EV_KEY, 0, 0xffff_ffff_bfff_ffff);
+    set_mask(&rt, &mut clients, 1, EV_SYN, 0, !0x10_0001);
+    set_mask(&rt, &mut clients, 2, EV_MSC, 0, 0);
+
+    offer(&mut clients, &caps, &[key(A, 1), REPORT], 1, None);
+    expect(&rt, &mut clients, 0, &[]);
+    expect(&rt, &mut clients, 1, &[at(key(A, 1), 1), at(REPORT, 1)]);
+    expect(&rt, &mut clients, 2, &[at(key(A, 1), 1), at(REPORT, 1)]);
+
+    offer(
+        &mut clients,
+        &caps,
+        &[key(A, 0), key(B, 1), REPORT],
+        2,
+        None,
+    );
+    expect(&rt, &mut clients, 0, &[at(key(B, 1), 2), at(REPORT, 2)]);
+
+    let delay = event(EV_REP, 0, 300);
+    let scan = event(EV_MSC, 4, 9);
+    offer(&mut clients, &caps, &[delay, scan, REPORT], 3, None);
+    expect(
+        &rt,
+        &mut clients,
+        0,
+        &[at(delay, 3), at(scan, 3), at(REPORT, 3)],
+    );
+    let left = [
+        at(key(A, 0), 2),
+        at(key(B, 1), 2),
+        at(REPORT, 2),
+        at(scan, 3),
+        at(REPORT, 3),
+    ];
+    expect(&rt, &mut clients, 1, &left);
+    let left = [
+        at(key(A, 0), 2),
+        at(key(B, 1), 2),
+        at(REPORT, 2),
+        at(delay, 3),
+        at(REPORT, 3),
+    ];
+    expect(&rt, &mut clients, 2, &left);
+    Ok(())
+}
+
+#[test]
+fn a_mask_leaves_what_is_queued(rt: HostRuntime) -> Result<(), Fail> {
+    let caps = caps()?;
+    let mut clients = three(rt.alloc())?;
+    offer(&mut clients, &caps, &[key(A, 1), REPORT], 1, None);
+    set_mask(&rt, &mut clients, 0, EV_KEY, 0, 0);
+    set_mask(&rt, &mut clients, 0, EV_KEY, 11, 0);
+    offer(
+        &mut clients,
+        &caps,
+        &[key(A, 0), key(0x2ff, 1), REPORT],
+        2,
+        None,
+    );
+    expect(&rt, &mut clients, 0, &[at(key(A, 1), 1), at(REPORT, 1)]);
+
+    // The bit is set again.
+    set_mask(&rt, &mut clients, 0, EV_KEY, 0, u64::MAX);
+    offer(&mut clients, &caps, &[key(A, 1), REPORT], 3, None);
+    expect(&rt, &mut clients, 0, &[at(key(A, 1), 3), at(REPORT, 3)]);
+    Ok(())
+}
+
+#[test]
+fn the_holder_gets_frames_alone_and_a_revoked_client_none(rt: HostRuntime) -> Result<(), Fail> {
+    let caps = caps()?;
+    let mut clients = three(rt.alloc())?;
+    offer(&mut clients, &caps, &[key(A, 1), REPORT], 1, Some(1));
+    expect(&rt, &mut clients, 0, &[]);
+    expect(&rt, &mut clients, 1, &[at(key(A, 1), 1), at(REPORT, 1)]);
+    expect(&rt, &mut clients, 2, &[]);
+
+    offer(&mut clients, &caps, &[key(A, 0), REPORT], 2, None);
+    assert!(rt; clients.is_open(1) && !clients.is_revoked(1));
+    clients.revoke(1);
+    assert!(rt; clients.is_open(1) && clients.is_revoked(1));
+    assert!(rt; clients.is_open(2) && !clients.is_revoked(2));
+    offer(&mut clients, &caps, &[key(B, 1), REPORT], 3, None);
+    offer(&mut clients, &caps, &[key(B, 0), REPORT], 4, Some(1));
+    expect(&rt, &mut clients, 1, &[at(key(A, 0), 2), at(REPORT, 2)]);
+    let left = [
+        at(key(A, 0), 2),
+        at(REPORT, 2),
+        at(key(B, 1), 3),
+        at(REPORT, 3),
+    ];
+    expect(&rt, &mut clients, 0, &left);
+    expect(&rt, &mut clients, 2, &left);
+    assert_eq!(rt; clients.count(), 3, "a revoked client is open");
+    Ok(())
+}
+
+#[test]
+fn another_clock_empties_a_queue(rt: HostRuntime) -> Result<(), Fail> {
+    let caps = caps()?;
+    let mut clients = three(rt.alloc())?;
+    set_clock(&rt, &mut clients, &caps, 0, Clock::Monotonic, 5);
+    assert_eq!(rt; visible(&rt, &clients, 0), 0);
+    offer(&mut clients, &caps, &[key(A, 1), REPORT], 10, None);
+    expect(
+        &rt,
+        &mut clients,
+        0,
+        &[timed(key(A, 1), 10, 0), timed(REPORT, 10, 0)],
+    );
+
+    // The same clock again, and another one.
+    set_clock(&rt, &mut clients, &caps, 1, Clock::Realtime, 20);
+    set_clock(&rt, &mut clients, &caps, 2, Clock::Boottime, 20);
+    assert_eq!(rt;
+        visible(&rt, &clients, 2),
+        0,
+        "SYN_DROPPED has no report yet"
+    );
+    offer(&mut clients, &caps, &[REPORT], 30, None);
+    expect(&rt, &mut clients, 0, &[]);
+    expect(&rt, &mut clients, 1, &[at(key(A, 1), 10), at(REPORT, 10)]);
+    expect(
+        &rt,
+        &mut clients,
+        2,
+        &[timed(LOSS, 20, BOOTTIME), timed(REPORT, 30, BOOTTIME)],
+    );
+    Ok(())
+}
+
+#[test]
+fn one_clients_queue_is_flushed_and_discarded(rt: HostRuntime) -> Result<(), Fail> {
+    let caps = caps()?;
+    let mut clients = three(rt.alloc())?;
+    let slot = event(EV_ABS, ABS_MT_SLOT, 1);
+    offer(&mut clients, &caps, &[key(A, 1), REPORT], 1, None);
+    offer(&mut clients, &caps, &[slot, key(B, 1), REPORT], 2, None);
+    assert!(rt; clients.is_open(0));
+    clients.flush(0, EV_KEY);
+    assert!(rt; clients.is_open(1));
+    clients.flush_slots(1);
+    expect(
+        &rt,
+        &mut clients,
+        0,
+        &[at(REPORT, 1), at(slot, 2), at(REPORT, 2)],
+    );
+    let left = [
+        at(key(A, 1), 1),
+        at(REPORT, 1),
+        at(key(B, 1), 2),
+        at(REPORT, 2),
+    ];
+    expect(&rt, &mut clients, 1, &left);
+
+    offer(&mut clients, &caps, &[key(A, 0)], 3, None);
+    assert!(rt; clients.is_open(2));
+    assert_eq!(rt; clients.discard(2), 5);
+    assert_eq!(rt; visible(&rt, &clients, 2), 0, "A 0 has no report yet");
+    Ok(())
+}
+
+/// Closes each client with an even number below 64.
+fn close_even(clients: &mut Clients)
+    ensures below { (n : ℕ) → AllBelow n clients.old → AllBelow n clients.new }
+{
+    for half in 0..32 {
+        close_if_open(clients, 2 * half);
+    }
+}
+
+fn close_if_open(clients: &mut Clients, number: u32)
+    ensures below { (n : ℕ) → AllBelow n clients.old → AllBelow n clients.new }
+{
+    if clients.is_open(number) {
+        clients.close(number);
+    }
+}
+
+#[test]
+fn sixty_four_clients_with_a_mask_each(rt: HostRuntime) -> Result<(), Fail> {
+    let caps = caps()?;
+    let mut clients = Clients::new(rt.alloc())?;
+    open_up_to(&mut clients, 0, 64)?;
+    assert_eq!(rt; open_up_to(&mut clients, 64, 65), Err(OpenRefused::TooMany));
+    close_even(&mut clients);
+    assert_eq!(rt; clients.count(), 32);
+    open_up_to(&mut clients, 65, 97)?;
+    assert_eq!(rt; clients.count(), CLIENTS_MAX);
+    assert_eq!(rt; open_up_to(&mut clients, 97, 98), Err(OpenRefused::TooMany));
+
+    // The client `number` admits the key `number % 64` alone, of the first 64.
+    for number in 0..97 {
+        if clients.is_open(number) {
+            clients.set_mask(number, EV_KEY, 0, 1 << (number % 64));
+        }
+    }
+    offer(
+        &mut clients,
+        &caps,
+        &[key(1, 1), key(6, 1), key(9, 1), REPORT],
+        5,
+        None,
+    );
+    for number in 0..98 {
+        let is_there = number < 64 && number % 2 == 1 || number >= 65 && number < 97;
+        assert_eq!(rt; clients.is_open(number), is_there, "client {number}");
+        if is_there {
+            expect_own_key(&rt, &mut clients, number);
+        }
+    }
+    Ok(())
+}
+
+/// Reads what a client has of the keys 1, 6 and 9, where it admits the key `number % 64` alone.
+fn expect_own_key(rt: &impl Abort, clients: &mut Clients, number: u32) {
+    match number % 64 {
+        1 => expect(rt, clients, number, &[at(key(1, 1), 5), at(REPORT, 5)]),
+        6 => expect(rt, clients, number, &[at(key(6, 1), 5), at(REPORT, 5)]),
+        9 => expect(rt, clients, number, &[at(key(9, 1), 5), at(REPORT, 5)]),
+        _ => expect(rt, clients, number, &[]),
+    }
+}
+
+#[test]
+fn a_refusal_has_its_text(rt: HostRuntime) -> Result<(), Fail> {
+    let text = format!(in rt.alloc(); "{}, {}", OpenRefused::TooMany, OpenRefused::NoMemory)?;
+    assert_eq!(rt; text.as_str(), "too many clients are open, out of memory");
+    Ok(())
+}

@@ -1,0 +1,310 @@
+-- The clients after each kind of step.
+use Rattle.std.proofs.Common.{◌≡◌, ℕ, ◌/◌, ◌%◌, ◌<◌, min, Bool, true, false, ◌&&◌, not, if◌then◌else◌, nat_eq, nat_lt, List, [], ◌∷◌, ◌++◌, length, map, drop, refl, sym, ap, ◌∙◌, arith, Some, None}
+use Rattle.std.specs.Prelude.{filter, unwrap_or, ◌==◌}
+use Rattle.std.specs.Int.{bit_at}
+use Rattle.std.specs.List.{list_any, range_with_len}
+use Rattle.std.proofs.Math.Path.{fun_ext}
+use Rattle.std.proofs.lemmas.Bool.Decides.{nat_tests}
+use Rattle.std.proofs.lemmas.List.{map-append, drop-map}
+use Rattle.inp_model.specs.declared.taken.Taken.{Taken}
+use Rattle.inp_model.specs.declared.clock.Clock.{Clock}
+use Rattle.inp_model.specs.declared.step.Step.{Step}
+use Rattle.inp_model.specs.declared.step.Step.TheVariants.{Inject, Tick, Open, Close, Read, Discard, GetKeys, GetSwitches, GetLeds, GetSounds, GetAxis, GetSlots, SyncSlots, Write, Grab, Ungrab, Mask, Clock as ToClock, Revoke, Inhibit, Uninhibit, End}
+use Rattle.inp_model.specs.Description.{Description, ring}
+use Rattle.inp_model.specs.Step.{Query, Codes, Slots, client_of, query_of, is_part_of, moment_of}
+use Rattle.inp_model.specs.Past.{opens, is_open, open_clients, is_revoked, holder, clock_of, mask_bit, mask_words}
+use Rattle.inp_model.specs.Cut.{cuts}
+use Rattle.inp_model.specs.Raw.{raw_of_step}
+use Rattle.inp_model.specs.Frame.{cuts_of_step, frames_of_step}
+use Rattle.inp_model.specs.Queue as model
+use Rattle.inp_model.specs.Queue.{Entry, entry_dropped_at, put_all, visible, flush, flush_for, is_same_clock, clock_changed, clock_entry, entries, left_by_call, queue}
+use Rattle.inp_model.specs.Reply.{taken_of}
+use Rattle.inp_client.specs.Masks.{masks_with, full_masks}
+use Rattle.inp_client.specs.Client.{ClientView, new_client, with_events, after_take, after_flush, after_mask, after_clock, after_revoke}
+use Rattle.inp_client.specs.Clients.{has_client, has_revoked_client, events_of, map_client, without_client}
+use Rattle.inp_device.specs.Present.{client_after, clients_after, MasksEnd, IsFresh}
+use Rattle.inp_device.proofs.OpenClients.{is_open-lt, open_clients-open, open_clients-close}
+use Rattle.inp_device.proofs.Queues.{flush-map}
+use Rattle.inp_device.proofs.MaskWords.{masks_with-set}
+use Rattle.inp_client.proofs.Lists.{any_below}
+use Rattle.inp_client.proofs.ClientLists.{has_client-filter, events_of-map, has_revoked_client-map, without_client-map}
+use Rattle.inp_device.proofs.Named.{IsNumbered, nat_eq-same, nat_eq-other, map-filter_same, map_client-filter}
+use Rattle.inp_device.proofs.Offers.{client_with, after_offers, after_offers-with}
+
+numbered : (d : Description) (past : List Step) → IsNumbered (client_after d past)
+numbered d past n = refl
+
+-- Who is open
+
+lt_true : (m n : ℕ) → m < n → nat_lt m n ≡ true
+lt_true m n h = grind (arith, nat_tests, h)
+
+-- an open client is among the open clients
+among_open : (past : List Step) (n : ℕ) → is_open past n ≡ true → list_any (λ k. nat_eq k n) (open_clients past) ≡ true
+among_open past n h =
+    any_below n (opens past) (is_open past)
+    ∙ ap (λ b. b && is_open past n) (lt_true n (opens past) (is_open-lt past n h)) ∙ h
+
+and_below : (past : List Step) (n : ℕ) (b : Bool) → b ≡ is_open past n → (nat_lt n (opens past) && b) ≡ b
+and_below past n true h = ap (λ c. c && true) (lt_true n (opens past) (is_open-lt past n (sym h)))
+and_below past n false h = and_false (nat_lt n (opens past))
+  where
+    and_false : (c : Bool) → (c && false) ≡ false
+    and_false true = refl
+    and_false false = refl
+
+-- the code's test of a client is the past's
+pub has_client-after : (d : Description) (past : List Step) (n : ℕ) → has_client n (clients_after d past) ≡ is_open past n
+has_client-after d past n = has_client-filter (client_after d past) (numbered d past) n (opens past) (is_open past) ∙ and_below past n (is_open past n) refl
+
+pub events_of-after : (d : Description) (past : List Step) (n : ℕ) → is_open past n ≡ true → events_of n (clients_after d past) ≡ map taken_of (queue d past n)
+events_of-after d past n h = events_of-map (client_after d past) (numbered d past) n (open_clients past) (among_open past n h)
+
+pub has_revoked_client-after : (d : Description) (past : List Step) (n : ℕ) → is_open past n ≡ true → has_revoked_client n (clients_after d past) ≡ is_revoked past n
+has_revoked_client-after d past n h = has_revoked_client-map (client_after d past) (numbered d past) n (open_clients past) (among_open past n h)
+
+-- Steps that end no frame
+
+-- a step of one client that opens and closes none: the clients are as the call changes that one
+changed_by : (d : Description) (past : List Step) (x : Step) (n : ℕ) (change : ClientView → ClientView) → open_clients (x ∷ past) ≡ open_clients past
+    → (is_open past n ≡ true → client_after d (x ∷ past) n ≡ change (client_after d past n)) → ((k : ℕ) → (k ≡ n → ⊥) → client_after d (x ∷ past) k ≡ client_after d past k)
+    → clients_after d (x ∷ past) ≡ map_client n change (clients_after d past)
+changed_by d past x n change same here there =
+    ap (map (client_after d (x ∷ past))) same
+    ∙ map_client-filter n change (client_after d past) (client_after d (x ∷ past)) (is_open past) (range_with_len 0 (opens past)) (numbered d past) here there
+
+-- a queue after a step that names a client, by whether it is this one
+by_name : (n k : ℕ) (changed q : List Entry) → (k ≡ n → ⊥) → (if nat_eq n k then changed else q) ≡ q
+by_name n k changed q other = ap (λ b. if b then changed else q) (nat_eq-other n k (λ e. other (sym e)))
+
+at_name : (n : ℕ) (changed q : List Entry) → (if nat_eq n n then changed else q) ≡ changed
+at_name n changed q = ap (λ b. if b then changed else q) (nat_eq-same n)
+
+-- the events of a client's queue that a read or a discard leaves
+left_of : (d : Description) (past : List Step) (n count : ℕ) (q : List Entry) → client_with d past n (drop count q) ≡ after_take count (client_with d past n q)
+left_of d past n count q = ap (λ (ts : List Taken). with_events ts (client_with d past n q)) (sym (drop-map taken_of count q))
+
+flush_of : (d : Description) (past : List Step) (n : ℕ) (query : Query) (q : List Entry) → client_with d past n (flush model.event_of (is_part_of query) q) ≡ after_flush query (client_with d past n q)
+flush_of d past n query q = ap (λ (ts : List Taken). with_events ts (client_with d past n q)) (flush-map (is_part_of query) q)
+
+pub clients_after-read : (d : Description) (past : List Step) (n count taken : ℕ) → taken ≡ min count (visible model.event_of (queue d past n)) → clients_after d (Read n count ∷ past) ≡ map_client n (after_take taken) (clients_after d past)
+unfolding opens is_open is_revoked clock_of mask_bit queue raw_of_step cuts
+clients_after-read d past n count taken chosen =
+    changed_by d past (Read n count) n (after_take taken) refl
+    (λ opened. ap (client_with d past n) (at_name n (drop (min count (visible model.event_of (queue d past n))) (queue d past n)) (queue d past n) ∙ ap (λ (m : ℕ). drop m (queue d past n)) (sym chosen)) ∙ left_of d past n taken (queue d past n))
+    (λ k other. ap (client_with d past k) (by_name n k (drop (min count (visible model.event_of (queue d past k))) (queue d past k)) (queue d past k) other))
+
+pub clients_after-discard : (d : Description) (past : List Step) (n removed : ℕ) → removed ≡ visible model.event_of (queue d past n) → clients_after d (Discard n ∷ past) ≡ map_client n (after_take removed) (clients_after d past)
+unfolding opens is_open is_revoked clock_of mask_bit queue raw_of_step cuts
+clients_after-discard d past n removed chosen =
+    changed_by d past (Discard n) n (after_take removed) refl
+    (λ opened. ap (client_with d past n) (at_name n (drop (visible model.event_of (queue d past n)) (queue d past n)) (queue d past n) ∙ ap (λ (m : ℕ). drop m (queue d past n)) (sym chosen)) ∙ left_of d past n removed (queue d past n))
+    (λ k other. ap (client_with d past k) (by_name n k (drop (visible model.event_of (queue d past k)) (queue d past k)) (queue d past k) other))
+
+-- a step that asks for something whole
+asked : (d : Description) (past : List Step) (x : Step) (n : ℕ) (query : Query) → open_clients (x ∷ past) ≡ open_clients past
+    → ((k : ℕ) → client_after d (x ∷ past) k ≡ client_with d past k (if nat_eq n k then flush model.event_of (is_part_of query) (queue d past k) else queue d past k))
+    → clients_after d (x ∷ past) ≡ map_client n (after_flush query) (clients_after d past)
+asked d past x n query same is =
+    changed_by d past x n (after_flush query) same
+    (λ opened. is n ∙ ap (client_with d past n) (at_name n (flush model.event_of (is_part_of query) (queue d past n)) (queue d past n)) ∙ flush_of d past n query (queue d past n))
+    (λ k other. is k ∙ ap (client_with d past k) (by_name n k (flush model.event_of (is_part_of query) (queue d past k)) (queue d past k) other))
+
+some_same : {X : Type 0} (x y : X) → Some x ≡ Some y → x ≡ y
+some_same x y e = cc
+
+-- the queries of bits, and of all slots
+pub clients_after-query : (d : Description) (past : List Step) (x : Step) (n : ℕ) (query : Query) → client_of x ≡ Some n → query_of x ≡ Some query → clients_after d (x ∷ past) ≡ map_client n (after_flush query) (clients_after d past)
+unfolding opens is_open is_revoked clock_of mask_bit queue raw_of_step cuts
+clients_after-query d past (GetKeys m) n query named whole =
+    let same : m ≡ n = some_same m n named in
+    let asks : Codes 1 ≡ query = some_same (Codes 1) query whole in
+    asked d past (GetKeys m) m (Codes 1) refl (λ k. refl) ∙ ap (λ (j : ℕ). map_client j (after_flush (Codes 1)) (clients_after d past)) same ∙ ap (λ q. map_client n (after_flush q) (clients_after d past)) asks
+clients_after-query d past (GetSwitches m) n query named whole =
+    let same : m ≡ n = some_same m n named in
+    let asks : Codes 5 ≡ query = some_same (Codes 5) query whole in
+    asked d past (GetSwitches m) m (Codes 5) refl (λ k. refl) ∙ ap (λ (j : ℕ). map_client j (after_flush (Codes 5)) (clients_after d past)) same ∙ ap (λ q. map_client n (after_flush q) (clients_after d past)) asks
+clients_after-query d past (GetLeds m) n query named whole =
+    let same : m ≡ n = some_same m n named in
+    let asks : Codes 17 ≡ query = some_same (Codes 17) query whole in
+    asked d past (GetLeds m) m (Codes 17) refl (λ k. refl) ∙ ap (λ (j : ℕ). map_client j (after_flush (Codes 17)) (clients_after d past)) same ∙ ap (λ q. map_client n (after_flush q) (clients_after d past)) asks
+clients_after-query d past (GetSounds m) n query named whole =
+    let same : m ≡ n = some_same m n named in
+    let asks : Codes 18 ≡ query = some_same (Codes 18) query whole in
+    asked d past (GetSounds m) m (Codes 18) refl (λ k. refl) ∙ ap (λ (j : ℕ). map_client j (after_flush (Codes 18)) (clients_after d past)) same ∙ ap (λ q. map_client n (after_flush q) (clients_after d past)) asks
+clients_after-query d past (SyncSlots m) n query named whole =
+    let same : m ≡ n = some_same m n named in
+    let asks : Slots ≡ query = some_same Slots query whole in
+    asked d past (SyncSlots m) m Slots refl (λ k. refl) ∙ ap (λ (j : ℕ). map_client j (after_flush Slots) (clients_after d past)) same ∙ ap (λ q. map_client n (after_flush q) (clients_after d past)) asks
+clients_after-query d past x n query named whole = absurd (cc whole)
+
+pub clients_after-revoke : (d : Description) (past : List Step) (n : ℕ) → clients_after d (Revoke n ∷ past) ≡ map_client n after_revoke (clients_after d past)
+unfolding opens is_open is_revoked clock_of mask_bit queue raw_of_step cuts
+clients_after-revoke d past n =
+    changed_by d past (Revoke n) n after_revoke refl
+    (λ opened. here (nat_eq n n) (nat_eq-same n))
+    (λ k other. there k (nat_eq n k) (nat_eq-other n k (λ e. other (sym e))))
+  where
+    with_flag : ℕ → Bool → List Entry → ClientView
+    with_flag k revoked q = record (client_with d past k q) { revoked = revoked }
+
+    here : (b : Bool) → b ≡ true → with_flag n (if b then true else is_revoked past n) (if b then queue d past n else queue d past n) ≡ after_revoke (client_after d past n)
+    here true h = refl
+    here false h = absurd (cc h)
+
+    there : (k : ℕ) (b : Bool) → b ≡ false → with_flag k (if b then true else is_revoked past k) (if b then queue d past k else queue d past k) ≡ client_after d past k
+    there k true h = absurd (cc h)
+    there k false h = refl
+
+-- the masks of a client, by whether it is the one named
+mask_there : (d : Description) (past : List Step) (n k kind word bits : ℕ) (b : Bool) → b ≡ false
+    → (let changed : ℕ → ℕ → Bool = λ this i. unwrap_or (if b && nat_eq kind this && nat_eq word (i / 64) then Some (bit_at bits (i % 64) == 1) else None) (mask_bit past k this i) in
+    let c : ClientView = record (client_with d past k (if b then queue d past k else queue d past k)) { masks = masks_with changed } in c ≡ client_after d past k)
+mask_there d past n k kind word bits true h = absurd (cc h)
+mask_there d past n k kind word bits false h = refl
+
+mask_here : (d : Description) (past : List Step) (n kind word bits : ℕ) (b : Bool) → word < mask_words kind → b ≡ true
+    → (let changed : ℕ → ℕ → Bool = λ this i. unwrap_or (if b && nat_eq kind this && nat_eq word (i / 64) then Some (bit_at bits (i % 64) == 1) else None) (mask_bit past n this i) in
+    let c : ClientView = record (client_with d past n (if b then queue d past n else queue d past n)) { masks = masks_with changed } in c ≡ after_mask kind word bits (client_after d past n))
+mask_here d past n kind word bits true fits h = ap (λ m. record (client_after d past n) { masks = m }) (masks_with-set (mask_bit past n) kind word bits fits)
+mask_here d past n kind word bits false fits h = absurd (cc h)
+
+pub clients_after-mask : (d : Description) (past : List Step) (n kind word bits : ℕ) → word < mask_words kind → clients_after d (Mask n kind word bits ∷ past) ≡ map_client n (after_mask kind word bits) (clients_after d past)
+unfolding opens is_open is_revoked clock_of mask_bit queue raw_of_step cuts
+clients_after-mask d past n kind word bits fits =
+    changed_by d past (Mask n kind word bits) n (after_mask kind word bits) refl
+    (λ opened. mask_here d past n kind word bits (nat_eq n n) fits (nat_eq-same n))
+    (λ k other. mask_there d past n k kind word bits (nat_eq n k) (nat_eq-other n k (λ e. other (sym e))))
+
+-- a change of clock, seen as the events that a client reads
+clock_changed-map : (d : Description) (past : List Step) (same : Bool) (e : Entry) (q : List Entry) → map taken_of (clock_changed same e q) ≡ clock_changed same (taken_of e) (map taken_of q)
+clock_changed-map d past same e [] = refl
+clock_changed-map d past true e (x ∷ q) = refl
+clock_changed-map d past false e (x ∷ q) = refl
+
+clock_there : (d : Description) (past : List Step) (k : ℕ) (clock : Clock) (changed : List Entry) (b : Bool) → b ≡ false
+    → (let c : ClientView = record (client_with d past k (if b then changed else queue d past k)) { clock = unwrap_or (if b then Some clock else None) (clock_of past k) } in c ≡ client_after d past k)
+clock_there d past k clock changed true h = absurd (cc h)
+clock_there d past k clock changed false h = refl
+
+clock_here : (d : Description) (past : List Step) (n : ℕ) (clock : Clock) (now : ℕ) (b : Bool) → b ≡ true
+    → (let c : ClientView = record (client_with d past n (if b then clock_changed (is_same_clock (clock_of past n) clock) (clock_entry d past clock now) (queue d past n) else queue d past n)) { clock = unwrap_or (if b then Some clock else None) (clock_of past n) } in c ≡ after_clock d clock now (length past) (client_after d past n))
+clock_here d past n clock now true h =
+    ap (λ (ts : List Taken). record (with_events ts (client_after d past n)) { clock = clock }) (clock_changed-map d past (is_same_clock (clock_of past n) clock) (clock_entry d past clock now) (queue d past n))
+clock_here d past n clock now false h = absurd (cc h)
+
+pub clients_after-clock : (d : Description) (past : List Step) (n : ℕ) (clock : Clock) (now : ℕ) → clients_after d (ToClock n clock now ∷ past) ≡ map_client n (after_clock d clock now (length past)) (clients_after d past)
+unfolding opens is_open is_revoked clock_of mask_bit queue raw_of_step cuts
+clients_after-clock d past n clock now =
+    changed_by d past (ToClock n clock now) n (after_clock d clock now (length past)) refl
+    (λ opened. clock_here d past n clock now (nat_eq n n) (nat_eq-same n))
+    (λ k other. clock_there d past k clock (clock_changed (is_same_clock (clock_of past n) clock) (clock_entry d past clock now) (queue d past k)) (nat_eq n k) (nat_eq-other n k (λ e. other (sym e))))
+
+-- Clients that open and close
+
+close_by : (b : Bool) (q : List Entry) → (if b then q else q) ≡ q
+close_by true q = refl
+close_by false q = refl
+
+map_same : {X : Type 0} → (f g : ℕ → X) (ns : List ℕ) → ((k : ℕ) → f k ≡ g k) → map f ns ≡ map g ns
+map_same f g [] same = refl
+map_same f g (n ∷ ns) same = ap (λ x. x ∷ map f ns) (same n) ∙ ap (λ xs. g n ∷ xs) (map_same f g ns same)
+
+pub clients_after-close : (d : Description) (past : List Step) (n : ℕ) → clients_after d (Close n ∷ past) ≡ without_client n (clients_after d past)
+unfolding is_revoked clock_of mask_bit queue raw_of_step cuts
+clients_after-close d past n =
+    ap (map (client_after d (Close n ∷ past))) (open_clients-close past n)
+    ∙ map_same (client_after d (Close n ∷ past)) (client_after d past) (filter (λ k. not (nat_eq k n)) (open_clients past)) (λ k. ap (client_with d past k) (close_by (nat_eq n k) (queue d past k)))
+    ∙ sym (without_client-map (client_after d past) (numbered d past) n (open_clients past))
+
+masks_with-true : masks_with (λ kind index. true) ≡ full_masks
+unfolding masks_with full_masks
+masks_with-true = refl
+
+masks_with-full : (bit : ℕ → ℕ → Bool) → ((kind index : ℕ) → bit kind index ≡ true) → masks_with bit ≡ full_masks
+masks_with-full bit set = ap masks_with (fun_ext (λ kind. fun_ext (λ index. set kind index))) ∙ masks_with-true
+
+-- a client that is new has no events, all bits of its masks, and the realtime clock
+new_client-is : (d : Description) (past : List Step) (n : ℕ) → IsFresh past n → client_with d past n [] ≡ new_client n (ring d)
+new_client-is d past n fresh =
+    ap (λ m. record (client_with d past n []) { masks = m }) (masks_with-full (mask_bit past n) fresh.bits)
+    ∙ ap (λ c. record (new_client n (ring d)) { clock = c; revoked = is_revoked past n }) fresh.clock
+    ∙ ap (λ b. record (new_client n (ring d)) { revoked = b }) fresh.revoked
+
+open_by : (b : Bool) (q : List Entry) → b ≡ false → (if (if b then true else false) then [] else q) ≡ q
+open_by true q h = absurd (cc h)
+open_by false q h = refl
+
+opened_by : (b : Bool) (q : List Entry) → b ≡ true → (if (if b then true else false) then [] else q) ≡ []
+opened_by true q h = refl
+opened_by false q h = absurd (cc h)
+
+pub clients_after-open : (d : Description) (past : List Step) → IsFresh past (opens past) → clients_after d (Open ∷ past) ≡ clients_after d past ++ new_client (opens past) (ring d) ∷ []
+unfolding is_revoked clock_of mask_bit queue raw_of_step cuts
+clients_after-open d past fresh =
+    let n = opens past in
+    let f = client_after d (Open ∷ past) in
+    ap (map f) (open_clients-open past)
+    ∙ map-append f (open_clients past) (n ∷ [])
+    ∙ ap (λ (cs : List ClientView). cs ++ f n ∷ [])
+    (map-filter_same f (client_after d past) (is_open past) (range_with_len 0 n) (λ k opened. ap (client_with d past k) (open_by (nat_eq n k) (queue d past k) (nat_eq-other n k (λ e. absurd (omega (arith, e, is_open-lt past k opened)))))))
+    ∙ ap (λ c. clients_after d past ++ c ∷ []) (ap (client_with d past n) (opened_by (nat_eq n n) (queue d past n) (nat_eq-same n)) ∙ new_client-is d past n fresh)
+
+-- Steps that may end frames
+
+map_map : {X : Type 0} → (f : ClientView → X) (g : ℕ → ClientView) (ns : List ℕ) → map f (map g ns) ≡ map (λ n. f (g n)) ns
+map_map f g [] = refl
+map_map f g (n ∷ ns) = ap (λ xs. f (g n) ∷ xs) (map_map f g ns)
+
+-- the clients were offered the frames of the step
+framed : (d : Description) (past : List Step) (x : Step) → MasksEnd past → open_clients (x ∷ past) ≡ open_clients past
+    → ((k : ℕ) → client_after d (x ∷ past) k ≡ client_with d past k (put_all model.event_of entry_dropped_at (ring d) (queue d past k) (entries d k (frames_of_step d past x))))
+    → map (after_offers d (moment_of x) (length past) (holder past) (cuts_of_step d past x)) (clients_after d past) ≡ clients_after d (x ∷ past)
+framed d past x ends same is =
+    let offers = after_offers d (moment_of x) (length past) (holder past) (cuts_of_step d past x) in
+    map_map offers (client_after d past) (open_clients past)
+    ∙ map-filter_same (λ k. offers (client_after d past k)) (client_after d (x ∷ past)) (is_open past) (range_with_len 0 (opens past))
+    (λ k opened. after_offers-with d past k (moment_of x) (cuts_of_step d past x) (queue d past k) opened (ends k) ∙ sym (is k))
+    ∙ ap (map (client_after d (x ∷ past))) (sym same)
+
+-- a step that stands for raw events
+abbrev pub makes_events : Step → Bool
+makes_events (Inject e now) = true
+makes_events (Write client e now) = true
+makes_events (Tick now) = true
+makes_events (Inhibit now) = true
+makes_events _ = false
+
+pub clients_after-frames : (d : Description) (past : List Step) (x : Step) → makes_events x ≡ true → MasksEnd past → map (after_offers d (moment_of x) (length past) (holder past) (cuts_of_step d past x)) (clients_after d past) ≡ clients_after d (x ∷ past)
+unfolding opens is_open is_revoked clock_of mask_bit queue
+clients_after-frames d past (Inject e now) h ends = framed d past (Inject e now) ends refl (λ k. refl)
+clients_after-frames d past (Tick now) h ends = framed d past (Tick now) ends refl (λ k. refl)
+clients_after-frames d past (Inhibit now) h ends = framed d past (Inhibit now) ends refl (λ k. refl)
+clients_after-frames d past (Write client e now) h ends =
+    framed d past (Write client e now) ends refl
+    (λ k. ap (λ (q : List Entry). client_with d past k (put_all model.event_of entry_dropped_at (ring d) q (entries d k (frames_of_step d past (Write client e now))))) (close_by (nat_eq client k) (queue d past k)))
+clients_after-frames d past _ h ends = absurd (cc h)
+
+-- Steps that leave the clients
+
+abbrev pub leaves_clients : Step → Bool
+leaves_clients (GetAxis client code) = true
+leaves_clients (GetSlots client code) = true
+leaves_clients (Grab client) = true
+leaves_clients (Ungrab client) = true
+leaves_clients Uninhibit = true
+leaves_clients End = true
+leaves_clients _ = false
+
+left : (d : Description) (past : List Step) (x : Step) → open_clients (x ∷ past) ≡ open_clients past → ((k : ℕ) → client_after d (x ∷ past) k ≡ client_after d past k) → clients_after d (x ∷ past) ≡ clients_after d past
+left d past x same is = ap (map (client_after d (x ∷ past))) same ∙ map_same (client_after d (x ∷ past)) (client_after d past) (open_clients past) is
+
+pub clients_after-left : (d : Description) (past : List Step) (x : Step) → leaves_clients x ≡ true → clients_after d (x ∷ past) ≡ clients_after d past
+unfolding opens is_open is_revoked clock_of mask_bit queue raw_of_step cuts
+clients_after-left d past (GetAxis client code) h = left d past (GetAxis client code) refl (λ k. ap (client_with d past k) (close_by (nat_eq client k) (queue d past k)))
+clients_after-left d past (GetSlots client code) h = left d past (GetSlots client code) refl (λ k. ap (client_with d past k) (close_by (nat_eq client k) (queue d past k)))
+clients_after-left d past (Grab client) h = left d past (Grab client) refl (λ k. ap (client_with d past k) (close_by (nat_eq client k) (queue d past k)))
+clients_after-left d past (Ungrab client) h = left d past (Ungrab client) refl (λ k. ap (client_with d past k) (close_by (nat_eq client k) (queue d past k)))
+clients_after-left d past Uninhibit h = left d past Uninhibit refl (λ k. refl)
+clients_after-left d past End h = left d past End refl (λ k. refl)
+clients_after-left d past _ h = absurd (cc h)

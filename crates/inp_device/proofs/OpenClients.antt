@@ -1,0 +1,96 @@
+-- The open clients, before and after a step.
+use Rattle.std.proofs.Common.{◌≡◌, ℕ, zero, suc, ◌+◌, ◌<◌, ◌≤◌, Bool, true, false, ◌&&◌, not, if◌then◌else◌, nat_eq, List, [], ◌∷◌, ◌++◌, length, refl, sym, ap, ◌∙◌, arith}
+use Rattle.std.specs.Prelude.{filter}
+use Rattle.std.specs.List.{range_with_len}
+use Rattle.std.proofs.lemmas.List.Elements.{filter-append, filter_agree}
+use Rattle.std.proofs.lemmas.Bool.Decides.{nat_tests}
+use Rattle.inp_bits.proofs.Indices.{filter_same}
+use Rattle.inp_client.proofs.Lists.{filter-filter}
+use Rattle.inp_model.specs.declared.step.Step.{Step}
+use Rattle.inp_model.specs.declared.step.Step.TheVariants.{Open, Close}
+use Rattle.inp_model.specs.Step.{is_open_step, is_close_of}
+use Rattle.inp_model.specs.Past.{opens, is_open, open_clients}
+
+-- whether a client is open after a step, by whether the step opens or closes it
+abbrev open_by : Bool → Bool → Bool → Bool
+open_by opening closing before = if opening then true else if closing then false else before
+
+lt_more : (opening closing before : Bool) (n c : ℕ) → (before ≡ true → c < n) → open_by (opening && nat_eq n c) closing before ≡ true → c < (if opening then suc n else n)
+lt_more true closing before n c h is = grind (arith, nat_tests, h, is)
+lt_more false true before n c h is = absurd (cc is)
+lt_more false false before n c h is = h is
+
+-- a client that is open was opened
+pub is_open-lt : (past : List Step) (c : ℕ) → is_open past c ≡ true → c < opens past
+unfolding is_open opens
+is_open-lt [] c h = absurd (cc h)
+is_open-lt (x ∷ past) c h = lt_more (is_open_step x) (is_close_of c x) (is_open past c) (opens past) c (is_open-lt past c) h
+
+opens_more : (opening : Bool) (n m : ℕ) → n ≤ m → (if opening then suc n else n) ≤ suc m
+opens_more true n m h = omega (arith, h)
+opens_more false n m h = omega (arith, h)
+
+-- no more clients were opened than there are steps
+pub opens-le : (past : List Step) → opens past ≤ length past
+unfolding opens
+opens-le [] = omega arith
+opens-le (x ∷ past) = opens_more (is_open_step x) (opens past) (length past) (opens-le past)
+
+pub range-more : (a n : ℕ) → range_with_len a (suc n) ≡ range_with_len a n ++ (a + n) ∷ []
+range-more a zero = let same : a ≡ a + zero = omega arith in ap (λ (k : ℕ). k ∷ []) same
+range-more a (suc n) =
+    let same : (a + 1) + n ≡ a + suc n = omega arith in
+    ap (λ (ks : List ℕ). a ∷ ks) (range-more (a + 1) n)
+    ∙ ap (λ (k : ℕ). a ∷ (range_with_len (a + 1) n ++ k ∷ [])) same
+
+-- a step that opens and closes no client
+abbrev pub changes_no_client : Step → Bool
+changes_no_client Open = false
+changes_no_client (Close client) = false
+changes_no_client x = true
+
+pub open_clients-keeps : (past : List Step) (x : Step) → changes_no_client x ≡ true → open_clients (x ∷ past) ≡ open_clients past
+unfolding is_open opens
+open_clients-keeps past Open h = absurd (cc h)
+open_clients-keeps past (Close client) h = absurd (cc h)
+open_clients-keeps past x h = refl
+
+not_nat_eq : (m n : ℕ) → m < n → nat_eq n m ≡ false
+not_nat_eq m n h = grind (arith, nat_tests, h)
+
+same_nat_eq : (n : ℕ) → nat_eq n n ≡ true
+same_nat_eq n = grind (arith, nat_tests)
+
+filter-one : (p : ℕ → Bool) (k : ℕ) → p k ≡ true → filter p (k ∷ []) ≡ k ∷ []
+filter-one p k h = ap (λ b. if b then k ∷ [] else []) h
+
+-- the new client comes last
+pub open_clients-open : (past : List Step) → open_clients (Open ∷ past) ≡ open_clients past ++ opens past ∷ []
+unfolding is_open opens
+open_clients-open past =
+    let n = opens past in
+    let p : ℕ → Bool = λ k. if nat_eq n k then true else is_open past k in
+    ap (filter p) (range-more 0 n)
+    ∙ filter-append p (range_with_len 0 n) ((0 + n) ∷ [])
+    ∙ ap (λ (ks : List ℕ). ks ++ filter p ((0 + n) ∷ [])) (filter_same p (is_open past) 0 n (λ k l h. ap (λ b. if b then true else is_open past k) (not_nat_eq k n (omega (arith, h)))))
+    ∙ ap (λ (ks : List ℕ). filter (is_open past) (range_with_len 0 n) ++ ks)
+    (let zero_plus : 0 + n ≡ n = omega arith in
+    ap (λ (k : ℕ). filter p (k ∷ [])) zero_plus
+    ∙ filter-one p n (ap (λ b. if b then true else is_open past n) (same_nat_eq n)))
+
+nat_eq-swap : (m n : ℕ) → nat_eq m n ≡ nat_eq n m
+nat_eq-swap m n = grind (arith, nat_tests)
+
+closed : (closing before : Bool) → (if closing then false else before) ≡ (before && not closing)
+closed true true = refl
+closed true false = refl
+closed false true = refl
+closed false false = refl
+
+-- the client that is closed is left out
+pub open_clients-close : (past : List Step) (client : ℕ) → open_clients (Close client ∷ past) ≡ filter (λ k. not (nat_eq k client)) (open_clients past)
+unfolding is_open opens
+open_clients-close past client =
+    filter_agree (λ k. if nat_eq client k then false else is_open past k) (λ k. is_open past k && not (nat_eq k client))
+    (λ k. closed (nat_eq client k) (is_open past k) ∙ ap (λ b. is_open past k && not b) (nat_eq-swap client k)) (range_with_len 0 (opens past))
+    ∙ sym (filter-filter (is_open past) (λ k. not (nat_eq k client)) (range_with_len 0 (opens past)))

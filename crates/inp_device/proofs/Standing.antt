@@ -1,0 +1,229 @@
+-- What is kept stands for the past with one step more.
+use Rattle.std.proofs.Common.{◌≡◌, ℕ, suc, ◌<◌, ◌≤◌, ◌/◌, ◌%◌, ◌==◌, Bool, true, false, ◌&&◌, not, if◌then◌else◌, nat_eq, nat_le, List, [], ◌∷◌, length, map, refl, sym, ap, subst, ◌∙◌, arith, Option, Some, None, is_some}
+use Rattle.std.specs.Prelude.{unwrap_or}
+use Rattle.std.specs.Int.{bit_at}
+use Rattle.std.proofs.lemmas.Bool.Decides.{nat_tests}
+use Rattle.inp_model.specs.declared.event.Event.{Event}
+use Rattle.inp_model.specs.declared.step.Step.{Step}
+use Rattle.inp_model.specs.declared.step.Step.TheVariants.{Open, Close, Grab, Ungrab, Mask, Clock as ToClock, Revoke, End}
+use Rattle.inp_model.specs.Description.{Description}
+use Rattle.inp_model.specs.Step.{is_open_step, is_end_step, ends_grab_of, is_same, moment_of}
+use Rattle.inp_model.specs.Past.{opens, is_revoked, holder, holder_kept, clock_of, mask_bit, has_mask, mask_words, ends}
+use Rattle.inp_model.specs.Reply.{is_busy, is_not_grabber}
+use Rattle.inp_model.specs.Cut.{Cut}
+use Rattle.inp_model.specs.Frame.{cuts_of_step}
+use Rattle.inp_frames.specs.Core.{CoreStandsFor, IsFor, IsEntered}
+use Rattle.inp_frames.specs.Frames.{TakesAll}
+use Rattle.inp_frames.proofs.Keeping.{makes_no_events, CoreStandsFor-keeps}
+use Rattle.inp_client.specs.Client.{ClientView, after_offer}
+use Rattle.inp_device.specs.declared.handler.Handler.{Handler}
+use Rattle.inp_device.specs.declared.present.Present.{Present}
+use Rattle.inp_device.specs.Handler.{after_frame}
+use Rattle.inp_device.specs.Present.{clients_after, MasksEnd, IsFresh, AreFresh, HandlerStandsFor, StandsFor}
+use Rattle.inp_device.proofs.OpenClients.{is_open-lt}
+use Rattle.inp_device.proofs.MaskWords.{MasksEnd-mask}
+use Rattle.inp_device.proofs.Offers.{after_offers}
+use Rattle.inp_device.proofs.Calls.{clients_after-frames, makes_events}
+use Rattle.inp_device.proofs.Allowed.{IsAllowed, named_open}
+
+-- Clients that no step named
+
+other_number : (m n o : ℕ) → m < o → o ≤ n → nat_eq m n ≡ false
+other_number m n o h l = grind (arith, nat_tests, h, l)
+
+fresh_mask : (past : List Step) (n client kind word bits : ℕ) → nat_eq client n ≡ false → IsFresh past n → IsFresh (Mask client kind word bits ∷ past) n
+unfolding mask_bit clock_of is_revoked
+fresh_mask past n client kind word bits h was = record {
+  bits = λ this i. ap (λ b. unwrap_or (if b && nat_eq kind this && nat_eq word (i / 64) then Some (bit_at bits (i % 64) == 1) else None) (mask_bit past n this i)) h ∙ was.bits this i;
+  clock = was.clock;
+  revoked = was.revoked;
+}
+
+pub AreFresh-step : (d : Description) (past : List Step) (x : Step) → IsAllowed d past x → AreFresh past → AreFresh (x ∷ past)
+unfolding opens mask_bit clock_of is_revoked
+AreFresh-step d past Open ok was n h = let below : opens past ≤ n = omega (arith, h) in record { bits = (was n below).bits; clock = (was n below).clock; revoked = (was n below).revoked }
+AreFresh-step d past (Mask client kind word bits) ok was n h =
+    let low : client < opens past = is_open-lt past client (named_open past (Mask client kind word bits) client refl ok.client) in
+    fresh_mask past n client kind word bits (other_number client n (opens past) low h) (was n h)
+AreFresh-step d past (ToClock client clock now) ok was n h =
+    let low : client < opens past = is_open-lt past client (named_open past (ToClock client clock now) client refl ok.client) in
+    record { bits = (was n h).bits; clock = ap (λ b. unwrap_or (if b then Some clock else None) (clock_of past n)) (other_number client n (opens past) low h) ∙ (was n h).clock; revoked = (was n h).revoked }
+AreFresh-step d past (Revoke client) ok was n h =
+    let low : client < opens past = is_open-lt past client (named_open past (Revoke client) client refl ok.client) in
+    record { bits = (was n h).bits; clock = (was n h).clock; revoked = ap (λ b. if b then true else is_revoked past n) (other_number client n (opens past) low h) ∙ (was n h).revoked }
+AreFresh-step d past x ok was n h = record { bits = (was n h).bits; clock = (was n h).clock; revoked = (was n h).revoked }
+
+not_false : (b : Bool) → not b ≡ false → b ≡ true
+not_false true h = refl
+not_false false h = absurd (cc h)
+
+le_false : (m n : ℕ) → nat_le m n ≡ false → n < m
+le_false m n h = grind (arith, nat_tests, h)
+
+pub MasksEnd-step : (d : Description) (past : List Step) (x : Step) → IsAllowed d past x → MasksEnd past → MasksEnd (x ∷ past)
+unfolding mask_bit
+MasksEnd-step d past (Mask client kind word bits) ok was = MasksEnd-mask past client kind word bits (not_false (has_mask kind) ok.kind) (le_false (mask_words kind) word ok.code) was
+MasksEnd-step d past x ok was = was
+
+-- the handler stands for the past with the step
+pub handler_stands : (d : Description) (past : List Step) (x : Step) (old new : Handler) → IsAllowed d past x → HandlerStandsFor d past old → new.caps ≡ old.caps → new.clients ≡ clients_after d (x ∷ past) → HandlerStandsFor d (x ∷ past) new
+handler_stands d past x old new ok was caps clients = record {
+  caps = caps ∙ was.caps;
+  clients = clients;
+  masks = MasksEnd-step d past x ok was.masks;
+  fresh = AreFresh-step d past x ok was.fresh;
+}
+
+-- The grab
+
+kept : (x : Step) (o : Option ℕ) → ((c : ℕ) → ends_grab_of c x ≡ false) → holder_kept x o ≡ o
+kept x None h = refl
+kept x (Some c) h = ap (λ b. if b then None else Some c) (h c)
+
+abbrev pub leaves_grab : Step → Bool
+leaves_grab (Close client) = false
+leaves_grab (Grab client) = false
+leaves_grab (Ungrab client) = false
+leaves_grab (Revoke client) = false
+leaves_grab _ = true
+
+pub holder-keeps : (past : List Step) (x : Step) → leaves_grab x ≡ true → holder (x ∷ past) ≡ holder past
+unfolding holder
+holder-keeps past (Close client) h = absurd (cc h)
+holder-keeps past (Grab client) h = absurd (cc h)
+holder-keeps past (Ungrab client) h = absurd (cc h)
+holder-keeps past (Revoke client) h = absurd (cc h)
+holder-keeps past x h = kept x (holder past) (λ c. refl)
+
+swap : (m n : ℕ) → nat_eq m n ≡ nat_eq n m
+swap m n = grind (arith, nat_tests)
+
+released : (o : Option ℕ) (client : ℕ) (x : Step) → ((c : ℕ) → ends_grab_of c x ≡ nat_eq client c) → (if is_same o client then None else o) ≡ holder_kept x o
+released None client x h = refl
+released (Some c) client x h = ap (λ b. if b then None else Some c) (swap c client ∙ sym (h c))
+
+-- the holder after a client was closed
+pub holder-close : (past : List Step) (client : ℕ) → (if is_same (holder past) client then None else holder past) ≡ holder (Close client ∷ past)
+unfolding holder
+holder-close past client = released (holder past) client (Close client) (λ c. refl)
+
+pub holder-revoke : (past : List Step) (client : ℕ) → (if is_same (holder past) client then None else holder past) ≡ holder (Revoke client ∷ past)
+unfolding holder
+holder-revoke past client = released (holder past) client (Revoke client) (λ c. refl)
+
+pub no_holder : (past : List Step) (client : ℕ) → is_busy past (Grab client) ≡ false → holder past ≡ None
+no_holder past client h = none_of (holder past) h
+  where
+    none_of : (o : Option ℕ) → is_some o ≡ false → o ≡ None
+    none_of None e = refl
+    none_of (Some c) e = absurd (cc e)
+
+pub holder-grab : (past : List Step) (client : ℕ) → Some client ≡ holder (Grab client ∷ past)
+unfolding holder
+holder-grab past client = refl
+
+given_up : (o : Option ℕ) (client : ℕ) → is_same o client ≡ true → None ≡ holder_kept (Ungrab client) o
+given_up None client h = refl
+given_up (Some c) client h = sym (ap (λ b. if b then None else Some c) (swap client c ∙ h))
+
+pub own_grab : (past : List Step) (client : ℕ) → is_not_grabber past (Ungrab client) ≡ false → is_same (holder past) client ≡ true
+own_grab past client h = not_false (is_same (holder past) client) h
+
+pub holder-ungrab : (past : List Step) (client : ℕ) → is_same (holder past) client ≡ true → None ≡ holder (Ungrab client ∷ past)
+unfolding holder
+holder-ungrab past client h = given_up (holder past) client h
+
+-- How many clients were opened, and how many sources are done
+
+pub opens-keeps : (past : List Step) (x : Step) → is_open_step x ≡ false → opens (x ∷ past) ≡ opens past
+unfolding opens
+opens-keeps past x h = ap (λ b. if b then suc (opens past) else opens past) h
+
+pub opens-open : (past : List Step) → opens (Open ∷ past) ≡ suc (opens past)
+unfolding opens
+opens-open past = refl
+
+pub ends-keeps : (past : List Step) (x : Step) → is_end_step x ≡ false → ends (x ∷ past) ≡ ends past
+unfolding ends
+ends-keeps past x h = ap (λ b. if b then suc (ends past) else ends past) h
+
+pub ends-end : (past : List Step) → ends (End ∷ past) ≡ suc (ends past)
+unfolding ends
+ends-end past = refl
+
+ends_more : (ending : Bool) (n m : ℕ) → n ≤ m → (if ending then suc n else n) ≤ suc m
+ends_more true n m h = omega (arith, h)
+ends_more false n m h = omega (arith, h)
+
+-- no more sources are done than there are steps
+pub ends-le : (past : List Step) → ends past ≤ length past
+unfolding ends
+ends-le [] = omega arith
+ends-le (x ∷ past) = ends_more (is_end_step x) (ends past) (length past) (ends-le past)
+
+-- A step that asks the core for nothing
+
+-- what else the step leaves
+pub record Leaves (d : Description) (past : List Step) (x : Step) (old new : Present) : Type 0 where
+  pub caps : new.caps ≡ old.caps
+  pub core : new.core ≡ old.core
+  pub handler : new.handler.caps ≡ old.handler.caps
+  pub clients : new.handler.clients ≡ clients_after d (x ∷ past)
+  pub holder : new.handles.holder ≡ holder (x ∷ past)
+  pub opens : new.opens ≡ opens (x ∷ past)
+  pub ends : new.ends ≡ ends (x ∷ past)
+
+pub stands_called : (d : Description) (past : List Step) (x : Step) (old new : Present) → StandsFor d past old → IsAllowed d past x → makes_no_events x ≡ true → Leaves d past x old new → StandsFor d (x ∷ past) new
+stands_called d past x old new was ok none is = record {
+  caps = is.caps ∙ was.caps;
+  core = subst (CoreStandsFor d (x ∷ past)) (sym is.core) (CoreStandsFor-keeps d past x old.core none was.core);
+  made = subst (IsFor d) (sym is.core) was.made;
+  handler = handler_stands d past x old.handler new.handler ok was.handler is.handler is.clients;
+  holder = is.holder;
+  opens = is.opens;
+  ends = is.ends;
+}
+
+-- A step that may end frames
+
+map_id : (cs : List ClientView) → map (λ c. c) cs ≡ cs
+map_id [] = refl
+map_id (c ∷ cs) = ap (λ (xs : List ClientView). c ∷ xs) (map_id cs)
+
+map_map : (f g : ClientView → ClientView) (cs : List ClientView) → map f (map g cs) ≡ map (λ c. f (g c)) cs
+map_map f g [] = refl
+map_map f g (c ∷ cs) = ap (λ (xs : List ClientView). f (g c) ∷ xs) (map_map f g cs)
+
+-- how the handler takes frames
+abbrev pub takes : Handler → List Event → ℕ → Handler → Type 0
+takes before events now after = after ≡ after_frame before events now
+
+took_all : (now : ℕ) (cs : List Cut) (old new : Handler) → TakesAll takes now cs old new → new ≡ record old { clients = map (after_offers old.caps now old.place old.holder cs) old.clients }
+took_all now [] old new took = took ∙ ap (λ (xs : List ClientView). record old { clients = xs }) (sym (map_id old.clients))
+took_all now (c ∷ cs) old new took =
+    took_all now cs took.0 new took.2
+    ∙ ap (λ (h : Handler). record h { clients = map (after_offers h.caps now h.place h.holder cs) h.clients }) took.1
+    ∙ ap (λ (xs : List ClientView). record old { clients = xs }) (map_map (after_offers old.caps now old.place old.holder cs) (after_offer old.caps c.events now old.place old.holder) old.clients)
+
+pub stands_framed : (d : Description) (past : List Step) (x : Step) (old new : Present) (begun : Handler) → StandsFor d past old → IsAllowed d past x → makes_events x ≡ true
+    → begun ≡ record old.handler { place = length past; holder = old.handles.holder } → IsEntered d past x new.core takes begun new.handler → IsFor d new.core
+    → new.caps ≡ old.caps → new.handles.holder ≡ old.handles.holder → new.opens ≡ old.opens → new.ends ≡ old.ends
+    → leaves_grab x ≡ true → is_open_step x ≡ false → is_end_step x ≡ false → StandsFor d (x ∷ past) new
+stands_framed d past x old new begun was ok makes begins entered made caps handles opened ended grab opening ending =
+    let after : Handler → Handler = λ h. record h { clients = map (after_offers h.caps (moment_of x) h.place h.holder (cuts_of_step d past x)) h.clients } in
+    let handler : new.handler ≡ after (record old.handler { place = length past; holder = old.handles.holder }) = took_all (moment_of x) (cuts_of_step d past x) begun new.handler entered.takes_all ∙ ap after begins in
+    let clients : new.handler.clients ≡ clients_after d (x ∷ past) =
+    ap (λ (h : Handler). h.clients) handler
+    ∙ ap (λ e. map (after_offers e (moment_of x) (length past) old.handles.holder (cuts_of_step d past x)) old.handler.clients) was.handler.caps
+    ∙ ap (λ o. map (after_offers d (moment_of x) (length past) o (cuts_of_step d past x)) old.handler.clients) was.holder
+    ∙ ap (map (after_offers d (moment_of x) (length past) (holder past) (cuts_of_step d past x))) was.handler.clients
+    ∙ clients_after-frames d past x makes was.handler.masks in
+    record {
+      caps = caps ∙ was.caps;
+      core = entered.stands_for;
+      made = made;
+      handler = handler_stands d past x old.handler new.handler ok was.handler (ap (λ (h : Handler). h.caps) handler) clients;
+      holder = handles ∙ was.holder ∙ sym (holder-keeps past x grab);
+      opens = opened ∙ was.opens ∙ sym (opens-keeps past x opening);
+      ends = ended ∙ was.ends ∙ sym (ends-keeps past x ending);
+    }

@@ -1,0 +1,21 @@
+use Rattle.std.proofs.Common.{reverse, refl}
+use Rattle.inp_model.specs.declared.step.Step.TheVariants.{Open}
+use Rattle.std.proofs.Common.{arith}
+use Rattle.inp_device.proofs.Making.{opens_above, opens_fit, made_open, stands_same}
+use Rattle.inp_device.proofs.present.Present.open.Goals as goal
+
+pub open-requires-clause-above : goal.open-requires-clause-above
+open-requires-clause-above c = opens_above c.args.history.now c.args.self.now c.requires.ready
+
+pub overflow_add-self : goal.overflow_add-self
+overflow_add-self c = omega (arith, opens_fit c.args.history.now Open c.args.self.now c.requires.ready, c.requires.ready.few)
+
+pub returns-in-Ok : goal.returns-in-Ok
+returns-in-Ok c = record {
+  made = made_open c.args.history.now c.args.self.now _ c.ring-ring.result c.requires.ready c.ring-ring.ensures.ring refl refl refl c.in-Ok.ensures.ok refl refl refl;
+}
+
+pub returns-in-Err-NoMemory : goal.returns-in-Err-NoMemory
+returns-in-Err-NoMemory c = record {
+  made = (refl, refl, refl, stands_same c.args.self.now.caps (reverse c.args.history.now) c.args.self.now _ c.requires.ready.stands refl refl refl c.in-Err-NoMemory.ensures.err refl refl refl);
+}

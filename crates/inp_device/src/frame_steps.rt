@@ -1,0 +1,69 @@
+//! The steps that may end frames: what is injected, written or repeated, and inhibitions.
+ghost use Rattle.std.specs.Prelude.{◌≤◌, []};
+ghost use Rattle.inp_model.specs.declared.stamped.TheConstants.{MOMENT_MAX};
+ghost use Rattle.inp_model.specs.declared.step.Step.TheVariants.{Inject, Tick, Write, Inhibit, Uninhibit};
+ghost use Rattle.inp_device.specs.Present.{IsReadyFor, IsMade};
+
+use crate::present::Present;
+use crate::replies::done;
+use inp_model::{Event, Reply, Step};
+
+impl Present {
+    /// The driver injects an event.
+    pub fn inject(&mut self, history: &[Step], event: Event, now: u64) -> Reply
+        requires moment { now ≤ MOMENT_MAX }
+        requires ready { IsReadyFor history.now (Inject event now) self.old }
+        ensures made { IsMade history.now (Inject event now) self.old result [] [] [] [] self.new }
+    {
+        self.handler
+            .begin(history.len() as u32, self.handles.holder());
+        self.core.inject(&self.caps, event, now, &mut self.handler);
+        done(history)
+    }
+
+    /// A client writes an event, which is injected as any other.
+    pub fn write(&mut self, history: &[Step], client: u32, event: Event, now: u64) -> Reply
+        requires moment { now ≤ MOMENT_MAX }
+        requires ready { IsReadyFor history.now (Write client event now) self.old }
+        ensures made { IsMade history.now (Write client event now) self.old result [] [] [] []
+            self.new }
+    {
+        self.handler
+            .begin(history.len() as u32, self.handles.holder());
+        self.core.inject(&self.caps, event, now, &mut self.handler);
+        done(history)
+    }
+
+    /// The timer of the autorepeat may fire.
+    pub fn tick(&mut self, history: &[Step], now: u64) -> Reply
+        requires moment { now ≤ MOMENT_MAX }
+        requires ready { IsReadyFor history.now (Tick now) self.old }
+        ensures made { IsMade history.now (Tick now) self.old result [] [] [] [] self.new }
+    {
+        self.handler
+            .begin(history.len() as u32, self.handles.holder());
+        self.core.tick(&self.caps, now, &mut self.handler);
+        done(history)
+    }
+
+    /// The device is inhibited.
+    pub fn inhibit(&mut self, history: &[Step], now: u64) -> Reply
+        requires moment { now ≤ MOMENT_MAX }
+        requires ready { IsReadyFor history.now (Inhibit now) self.old }
+        ensures made { IsMade history.now (Inhibit now) self.old result [] [] [] [] self.new }
+    {
+        self.handler
+            .begin(history.len() as u32, self.handles.holder());
+        self.core.inhibit(&self.caps, now, &mut self.handler);
+        done(history)
+    }
+
+    /// The device is no longer inhibited.
+    pub fn uninhibit(&mut self, history: &[Step]) -> Reply
+        requires ready { IsReadyFor history.now Uninhibit self.old }
+        ensures made { IsMade history.now Uninhibit self.old result [] [] [] [] self.new }
+    {
+        self.core.uninhibit();
+        done(history)
+    }
+}

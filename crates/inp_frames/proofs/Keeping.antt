@@ -1,0 +1,78 @@
+-- For whoever keeps a core beside the clients of a device: a step that asks the core for nothing ends no frame, and the
+-- core stands for the past with it as it is.
+use Rattle.std.proofs.Common.{◌≡◌, Bool, true, false, List, [], ◌∷◌, refl, sym, subst, ◌∙◌}
+use Rattle.inp_model.specs.declared.event.Event.{Event}
+use Rattle.inp_model.specs.declared.step.Step.{Step}
+use Rattle.inp_model.specs.declared.step.Step.TheVariants.{Inject, Tick, Write, Inhibit, Uninhibit}
+use Rattle.inp_model.specs.Description.{Description}
+use Rattle.inp_model.specs.Past.{is_inhibited}
+use Rattle.inp_model.specs.Cut.{cuts}
+use Rattle.inp_model.specs.Timer.{repeats_keys}
+use Rattle.inp_model.specs.Raw.{raw, timer, raw_of_step, raw_and_timer}
+use Rattle.inp_model.specs.Frame.{cuts_of_step}
+use Rattle.inp_frames.specs.Core.{CoreValues, StandsAfter, CoreStandsFor}
+use Rattle.inp_frames.proofs.Handling.{either}
+
+-- a step that stands for no raw events and leaves the timer and the inhibition
+abbrev pub makes_no_events : Step → Bool
+makes_no_events (Inject e now) = false
+makes_no_events (Write client e now) = false
+makes_no_events (Tick now) = false
+makes_no_events (Inhibit now) = false
+makes_no_events Uninhibit = false
+makes_no_events _ = true
+
+pub raw-none : (d : Description) (past : List Step) (x : Step) → makes_no_events x ≡ true → raw d (x ∷ past) ≡ raw d past
+unfolding raw raw_and_timer
+raw-none d past (Inject e now) h = absurd (cc h)
+raw-none d past (Write client e now) h = absurd (cc h)
+raw-none d past (Tick now) h = absurd (cc h)
+raw-none d past (Inhibit now) h = absurd (cc h)
+raw-none d past Uninhibit h = absurd (cc h)
+raw-none d past _ h = refl
+
+timer-none : (d : Description) (past : List Step) (x : Step) → makes_no_events x ≡ true → timer d (x ∷ past) ≡ timer d past
+unfolding timer raw_and_timer cuts
+timer-none d past (Inject e now) h = absurd (cc h)
+timer-none d past (Write client e now) h = absurd (cc h)
+timer-none d past (Tick now) h = absurd (cc h)
+timer-none d past (Inhibit now) h = absurd (cc h)
+timer-none d past Uninhibit h = absurd (cc h)
+timer-none d past _ h = either (repeats_keys d) (raw_and_timer d past).timer
+
+is_inhibited-none : (past : List Step) (x : Step) → makes_no_events x ≡ true → is_inhibited (x ∷ past) ≡ is_inhibited past
+unfolding is_inhibited
+is_inhibited-none past (Inject e now) h = absurd (cc h)
+is_inhibited-none past (Write client e now) h = absurd (cc h)
+is_inhibited-none past (Tick now) h = absurd (cc h)
+is_inhibited-none past (Inhibit now) h = absurd (cc h)
+is_inhibited-none past Uninhibit h = absurd (cc h)
+is_inhibited-none past _ h = refl
+
+pub CoreStandsFor-keeps : (d : Description) (past : List Step) (x : Step) (core : CoreValues) → makes_no_events x ≡ true → CoreStandsFor d past core → CoreStandsFor d (x ∷ past) core
+CoreStandsFor-keeps d past x core h k = record {
+  raw_events = subst (λ (r : List Event). StandsAfter d r core) (sym (raw-none d past x h)) k.raw_events;
+  timer = k.timer ∙ sym (timer-none d past x h);
+  inhibited = k.inhibited ∙ sym (is_inhibited-none past x h);
+}
+
+pub cuts_of_step-none : (d : Description) (past : List Step) (x : Step) → makes_no_events x ≡ true → cuts_of_step d past x ≡ []
+unfolding raw_of_step cuts
+cuts_of_step-none d past (Inject e now) h = absurd (cc h)
+cuts_of_step-none d past (Write client e now) h = absurd (cc h)
+cuts_of_step-none d past (Tick now) h = absurd (cc h)
+cuts_of_step-none d past (Inhibit now) h = absurd (cc h)
+cuts_of_step-none d past Uninhibit h = absurd (cc h)
+cuts_of_step-none d past _ h = refl
+
+pub cuts_of_step-uninhibit : (d : Description) (past : List Step) → cuts_of_step d past Uninhibit ≡ []
+unfolding raw_of_step cuts
+cuts_of_step-uninhibit d past = refl
+
+pub CoreStandsFor-uninhibit : (d : Description) (past : List Step) (core : CoreValues) → CoreStandsFor d past core → CoreStandsFor d (Uninhibit ∷ past) (record core { inhibited = false })
+unfolding raw timer raw_and_timer cuts is_inhibited
+CoreStandsFor-uninhibit d past core k = record {
+  raw_events = record { made = record { hint = k.raw_events.made.hint; slots = k.raw_events.made.slots }; state = k.raw_events.state; slots = k.raw_events.slots; at_frame = k.raw_events.at_frame; batch = k.raw_events.batch };
+  timer = k.timer ∙ sym (either (repeats_keys d) (raw_and_timer d past).timer);
+  inhibited = refl;
+}

@@ -1,0 +1,136 @@
+-- A step read on its own. A new step decides in `client_of` and `moment_of`, which have a row for each; in the other
+-- tests and selectors a step that has no row says nothing.
+use Rattle.std.specs.Prelude.{◌==◌, ℕ, ◌/◌, ◌%◌, Bool, true, false, ◌&&◌, if◌then◌else◌, nat_eq, Option, Some, None}
+use Rattle.std.specs.Int.{bit_at}
+use Rattle.inp_model.specs.declared.event.TheConstants.{EV_KEY, EV_SW, EV_LED, EV_SND}
+use Rattle.inp_model.specs.declared.event.Event.{Event}
+use Rattle.inp_model.specs.declared.clock.Clock.{Clock}
+use Rattle.inp_model.specs.declared.step.Step.{Step}
+use Rattle.inp_model.specs.declared.step.Step.TheVariants.{Inject, Tick, Open, Close, Read, Discard, GetKeys, GetSwitches, GetLeds, GetSounds, GetAxis, GetSlots, SyncSlots, Write, Grab, Ungrab, Mask, Clock as ToClock, Revoke, Inhibit, Uninhibit, End}
+use Rattle.inp_model.specs.Event.{is_multi_touch}
+
+-- the client that a step names
+abbrev pub client_of : Step → Option ℕ
+client_of (Inject e now) = None
+client_of (Tick now) = None
+client_of Open = None
+client_of (Close client) = Some client
+client_of (Read client count) = Some client
+client_of (Discard client) = Some client
+client_of (GetKeys client) = Some client
+client_of (GetSwitches client) = Some client
+client_of (GetLeds client) = Some client
+client_of (GetSounds client) = Some client
+client_of (GetAxis client code) = Some client
+client_of (GetSlots client code) = Some client
+client_of (SyncSlots client) = Some client
+client_of (Write client e now) = Some client
+client_of (Grab client) = Some client
+client_of (Ungrab client) = Some client
+client_of (Mask client kind word bits) = Some client
+client_of (ToClock client clock now) = Some client
+client_of (Revoke client) = Some client
+client_of (Inhibit now) = None
+client_of Uninhibit = None
+client_of End = None
+
+-- the moment of a step, 0 where it has none (docs/RULES.md, "Places and moments")
+abbrev pub moment_of : Step → ℕ
+moment_of (Inject e now) = now
+moment_of (Tick now) = now
+moment_of Open = 0
+moment_of (Close client) = 0
+moment_of (Read client count) = 0
+moment_of (Discard client) = 0
+moment_of (GetKeys client) = 0
+moment_of (GetSwitches client) = 0
+moment_of (GetLeds client) = 0
+moment_of (GetSounds client) = 0
+moment_of (GetAxis client code) = 0
+moment_of (GetSlots client code) = 0
+moment_of (SyncSlots client) = 0
+moment_of (Write client e now) = now
+moment_of (Grab client) = 0
+moment_of (Ungrab client) = 0
+moment_of (Mask client kind word bits) = 0
+moment_of (ToClock client clock now) = now
+moment_of (Revoke client) = 0
+moment_of (Inhibit now) = now
+moment_of Uninhibit = 0
+moment_of End = 0
+
+-- a client opens (docs/RULES.md, "Opening and closing")
+abbrev pub is_open_step : Step → Bool
+is_open_step Open = true
+is_open_step _ = false
+
+-- this client is closed (docs/RULES.md, "Opening and closing")
+abbrev pub is_close_of : ℕ → Step → Bool
+is_close_of client (Close named) = nat_eq named client
+is_close_of client _ = false
+
+-- this client is revoked (docs/RULES.md, "Revocation")
+abbrev pub is_revoke_of : ℕ → Step → Bool
+is_revoke_of client (Revoke named) = nat_eq named client
+is_revoke_of client _ = false
+
+-- the client that takes the grab, if one does (docs/RULES.md, "The grab")
+abbrev pub grabber_of : Step → Option ℕ
+grabber_of (Grab client) = Some client
+grabber_of _ = None
+
+-- this client, which holds the grab, no longer does: it gives it up, is closed or is revoked
+-- (docs/RULES.md, "The grab")
+abbrev pub ends_grab_of : ℕ → Step → Bool
+ends_grab_of client (Ungrab named) = nat_eq named client
+ends_grab_of client (Close named) = nat_eq named client
+ends_grab_of client (Revoke named) = nat_eq named client
+ends_grab_of client _ = false
+
+-- the clock that this client chooses, if it does (docs/RULES.md, "Clocks")
+abbrev pub clock_for : ℕ → Step → Option Clock
+clock_for client (ToClock named clock now) = if nat_eq named client then Some clock else None
+clock_for client _ = None
+
+-- what this client sets the bit of one of its masks to, if it does (docs/RULES.md, "Masks")
+abbrev pub mask_bit_for : ℕ → ℕ → ℕ → Step → Option Bool
+mask_bit_for client kind index (Mask named of_kind word bits) =
+    if nat_eq named client && nat_eq of_kind kind && nat_eq word (index / 64) then Some (bit_at bits (index % 64) == 1) else None
+mask_bit_for client kind index _ = None
+
+-- the device is inhibited, or it no longer is (docs/RULES.md, "Inhibition")
+abbrev pub inhibition_of : Step → Option Bool
+inhibition_of (Inhibit now) = Some true
+inhibition_of Uninhibit = Some false
+inhibition_of _ = None
+
+-- a source is done (docs/RULES.md, "The end of a source")
+abbrev pub is_end_step : Step → Bool
+is_end_step End = true
+is_end_step _ = false
+
+-- the client is the one named, if one is
+abbrev pub is_same : Option ℕ → ℕ → Bool
+is_same None client = false
+is_same (Some named) client = nat_eq named client
+
+-- What a query tells whole, so that the client's queued events of it are removed (docs/RULES.md, "Queries").
+pub data Query : Type 0 where
+  -- all codes of a type, as all keys
+  Codes : ℕ → Query
+  -- all values of all slots
+  Slots : Query
+
+-- what a step tells whole, if it does
+abbrev pub query_of : Step → Option Query
+query_of (GetKeys client) = Some (Codes EV_KEY)
+query_of (GetSwitches client) = Some (Codes EV_SW)
+query_of (GetLeds client) = Some (Codes EV_LED)
+query_of (GetSounds client) = Some (Codes EV_SND)
+query_of (SyncSlots client) = Some Slots
+query_of _ = None
+
+-- an event that tells a part of what the query tells whole
+abbrev pub is_part_of : Query → Event → Bool
+is_part_of (Codes kind) e = nat_eq e.kind kind
+is_part_of Slots e = is_multi_touch e

@@ -1,0 +1,16 @@
+use Rattle.std.proofs.Common.{◌≡◌, ℤ, List, ◌*◌, ◌++◌, length, sym, ap, ◌∙◌, arith}
+use Rattle.inp_recon.specs.Cells.{first_row}
+use Rattle.inp_recon.proofs.NoContact.{first_cells-none, first_cells-more, length-first_cells}
+use Rattle.inp_recon.proofs.cells.Cells.new.Goals as goal
+
+pub loop-init : goal.loop-init
+loop-init c = c.new-cells.ensures.items ∙ sym first_cells-none
+
+pub loop-preserved : goal.loop-preserved
+loop-preserved c =
+    c.in_ok-extend_from_slice.ensures.items ∙ ap (λ (cells : List ℤ). cells ++ first_row) c.loop.invariant ∙ sym (first_cells-more c.loop.counter)
+
+pub invariant_of-result : goal.invariant_of-result
+invariant_of-result c =
+    let all : length c.loop.cells.items ≡ 14 * c.loop.counter = ap length c.loop.invariant ∙ length-first_cells c.loop.counter in
+    omega arith
