@@ -1,0 +1,85 @@
+-- What a one-thread device answers to a query, as far as a view is set by it.
+use Rattle.std.proofs.Common.{◌≡◌, List, [], ◌∷◌, ◌++◌, refl, sym, ap, subst, ◌∙◌, Bool, true, false, if◌then◌else◌, Option, Some, None, ℤ, ℕ, ◌*◌, ◌+◌, ◌≤◌, length, take, drop, map, inl, inr, ◌⊎◌, arith, length-append, zero, suc}
+use Rattle.std.specs.Prelude.{flat_map}
+use Rattle.std.proofs.lemmas.List.{take-append-le}
+use Rattle.std.specs.List.{range_with_len}
+use Rattle.inp_model.specs.declared.event.Event.{Event}
+use Rattle.inp_model.specs.declared.multi_touch.TheConstants.{ABS_MT_TOUCH_MAJOR}
+use Rattle.inp_model.specs.declared.step.Step.{Step}
+use Rattle.inp_model.specs.declared.step.Step.TheVariants.{Open, SyncSlots}
+use Rattle.inp_model.specs.declared.reply.Reply.{Reply}
+use Rattle.inp_model.specs.declared.reply.Reply.TheVariants.{Cells}
+use Rattle.inp_model.specs.Description.{Description}
+use Rattle.inp_model.specs.Evdev.{EvdevView, IsCall}
+use Rattle.inp_model.specs.Past.{past_at}
+use Rattle.inp_model.specs.Raw.{raw}
+use Rattle.inp_model.specs.Run.{place_of}
+use Rattle.inp_model.specs.Reply.{Answer, Case, alone, answer, answer_by, accepted, refused, refusals, first_reply, is_accepted, written, IsAnswer, rows, row}
+use Rattle.inp_recon.specs.declared.view.View.{View}
+use Rattle.inp_recon.specs.View.{view_after_answer, slot_after_reply, cells_after_reply}
+
+-- No refusal is an accepted reply
+
+abbrev AllRefuse : List Case → Type 0
+AllRefuse [] = Unit {0}
+AllRefuse (case ∷ cases) = (is_accepted case.reply ≡ false) × AllRefuse cases
+
+first_if : (holds : Bool) (given reply : Reply) (rest : Option Reply) → is_accepted given ≡ false → (rest ≡ Some reply → is_accepted reply ≡ false) → (if holds then Some given else rest) ≡ Some reply → is_accepted reply ≡ false
+first_if true given reply rest h later e = let same : given ≡ reply = cc in ap is_accepted (sym same) ∙ h
+first_if false given reply rest h later e = later e
+
+first_reply-refuses : (cases : List Case) (reply : Reply) → AllRefuse cases → first_reply cases ≡ Some reply → is_accepted reply ≡ false
+first_reply-refuses [] reply h e = absurd cc
+first_reply-refuses (case ∷ cases) reply h e = first_if case.holds case.reply reply (first_reply cases) h.0 (first_reply-refuses cases reply h.1) e
+
+pub refused-not_accepted : (d : Description) (past : List Step) (x : Step) (reply : Reply) → refused d past x ≡ Some reply → is_accepted reply ≡ false
+refused-not_accepted d past x reply h =
+    first_reply-refuses (refusals d past x) reply (refl, (refl, (refl, (refl, (refl, (refl, (refl, (refl, (refl, tt))))))))) h
+
+-- All values of all slots
+
+length-row : (d : Description) (r : List Event) (slot : ℕ) → length (row d r slot) ≡ 14
+length-row d r slot = refl
+
+length-flat_map : (f : ℕ → List ℤ) (k first n : ℕ) → ((i : ℕ) → length (f i) ≡ k) → length (flat_map f (range_with_len first n)) ≡ k * n
+length-flat_map f k first zero h = omega arith
+length-flat_map f k first (suc n) h =
+    omega (arith, length-append (f first) (flat_map f (range_with_len (first + 1) n)), h first, length-flat_map f k (first + 1) n h)
+
+length-rows : (d : Description) (r : List Event) → length (rows d r) ≡ 14 * d.slots
+length-rows d r = length-flat_map (row d r) 14 0 d.slots (length-row d r)
+
+-- What an answer sets
+
+-- a buffer begins with what was written to it
+take-written : (front buffer : List ℤ) (n : ℕ) → length front ≡ n → take n (written front buffer) ≡ take n front
+take-written front buffer n h = take-append-le n front (drop (length front) buffer) (omega (arith, h))
+
+not_accepted_cells : (reply : Reply) (front buffer cells : List ℤ) → is_accepted reply ≡ false → cells_after_reply reply front cells ≡ cells_after_reply reply buffer cells
+not_accepted_cells (Cells at count slot) front buffer cells h = absurd cc
+not_accepted_cells _ front buffer cells h = refl
+
+told_by : (d : Description) (past : List Step) (client : ℕ) (cells own : List ℤ) (o : Option Reply) → refused d past (SyncSlots client) ≡ o → length own ≡ 14 * d.slots
+    → (let given : Answer = answer_by o (accepted d past (SyncSlots client)) in cells_after_reply given.reply (written given.cells cells) own ≡ cells_after_reply given.reply given.cells own)
+told_by d past client cells own None e fits = take-written (rows d (raw d past)) cells (length own) (length-rows d (raw d past) ∙ sym fits)
+told_by d past client cells own (Some reply) e fits = not_accepted_cells reply (written [] cells) [] own (refused-not_accepted d past (SyncSlots client) reply e)
+
+told_cells : (d : Description) (past : List Step) (client : ℕ) (given : Answer) (cells own : List ℤ) → IsAnswer d past (SyncSlots client) given → length own ≡ 14 * d.slots → cells_after_reply given.reply (written given.cells cells) own ≡ cells_after_reply given.reply given.cells own
+told_cells d past client given cells own (inl e) fits =
+    let P : Answer → Type 0 = λ a. cells_after_reply a.reply (written a.cells cells) own ≡ cells_after_reply a.reply a.cells own in
+    subst P (sym e) (told_by d past client cells own (refused d past (SyncSlots client)) refl fits)
+told_cells d past client given cells own (inr l) fits = let no : SyncSlots client ≡ Open = l.0 in absurd cc
+
+-- a view is set by the answer alone, and not by what else is in the buffer
+answered : (d : Description) (past : List Step) (x : Step) (given : Answer) (view : View) (cells : List ℤ) → IsAnswer d past x given → length view.cells ≡ 14 * d.slots → view_after_answer view x given.reply (written given.cells cells) ≡ view_after_answer view x given.reply given.cells
+unfolding view_after_answer
+answered d past (SyncSlots client) given view cells h fits =
+    ap (λ (cs : List ℤ). record view { slot = slot_after_reply given.reply view.slot; cells = cs }) (told_cells d past client given cells view.cells h fits)
+answered d past _ given view cells h fits = refl
+
+pub view-answered : (d : Description) (before after : EvdevView) (x : Step) (given : Answer) (reply : Reply) (cells new_cells : List ℤ) (view asked : View) → before.description ≡ d → length view.cells ≡ 14 * d.slots
+    → IsCall before after (record { step = x; answer = given }) → reply ≡ given.reply → new_cells ≡ written given.cells cells → asked ≡ view_after_answer view x reply new_cells → asked ≡ view_after_answer view x given.reply given.cells
+view-answered d before after x given reply cells new_cells view asked same fits call replied wrote set =
+    let slots : length view.cells ≡ 14 * after.description.slots = fits ∙ ap (λ (e : Description). 14 * e.slots) (sym (call.description ∙ same)) in
+    set ∙ ap (λ (r : Reply). view_after_answer view x r new_cells) replied ∙ ap (λ (cs : List ℤ). view_after_answer view x given.reply cs) wrote
+    ∙ answered after.description (past_at after.seen (place_of given.reply)) x given view cells call.placed.exact slots

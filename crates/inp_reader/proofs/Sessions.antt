@@ -1,0 +1,147 @@
+-- Facts on `Says` for the talks of `start` and `next`.
+use Rattle.std.proofs.Common.{◌≡◌, ℕ, List, [], ◌∷◌, ◌++◌, refl, sym, ap, subst, ◌∙◌, append-nil, Bool, true, false, if◌then◌else◌}
+use Rattle.std.specs.Prelude.{Result, Ok, Err}
+use Rattle.inp_model.specs.declared.event.Event.{Event}
+use Rattle.inp_model.specs.declared.taken.Taken.{Taken}
+use Rattle.inp_model.specs.declared.step.Step.{Step}
+use Rattle.inp_model.specs.declared.step.Step.TheVariants.{Open, Read}
+use Rattle.inp_model.specs.declared.reply.Reply.{Reply}
+use Rattle.inp_model.specs.declared.reply.Reply.TheVariants.{Opened}
+use Rattle.inp_model.specs.Description.{Description}
+use Rattle.inp_model.specs.Evdev.{EvdevView, IsCall}
+use Rattle.inp_model.specs.Reply.{Answer, is_accepted}
+use Rattle.inp_recon.specs.declared.view.View.{View}
+use Rattle.inp_reader.specs.declared.call_made.CallMade.{CallMade}
+use Rattle.inp_reader.specs.declared.mode.Mode.{Mode}
+use Rattle.inp_reader.specs.declared.phase.Phase.TheVariants.{Plain, Needed}
+use Rattle.inp_reader.specs.declared.next.Next.{Next}
+use Rattle.inp_reader.specs.declared.started.Started.{Started}
+use Rattle.inp_reader.specs.declared.started.Started.TheVariants.{Opened as StartedOn}
+use Rattle.inp_reader.specs.Talk.{Talk, finish, ask, and_then}
+use Rattle.inp_reader.specs.Asking.{Asks, Reads}
+use Rattle.inp_reader.specs.Reading.{Reading, ask_each, read_or_hand_out, read_talk, after_read, hand_out, stop_of, start_stop_of, after_open, after_queries, start_talk, go_on, go_on_after, after_full_sync, after_failed_sync}
+use Rattle.inp_reader.specs.Says.{Says, kept_of}
+use Rattle.inp_reader.proofs.Saying.{says-nothing, says-then, says-call}
+
+-- no call, and the calls that were kept stay
+pub says-still : {A : Type 0} (told : EvdevView) (old new : List CallMade) (talk : Talk A) (result : A) → new ≡ old → talk ≡ finish result → Says told told old new talk result
+says-still told old new talk result h k = subst (λ (ms : List CallMade). Says told told old ms talk result) (sym h) (says-nothing told old talk result k)
+
+-- one call, and then what its answer says
+pub says-first : {A : Type 0} (before between after : EvdevView) (old mid new : List CallMade) (x : Step) (answer : Answer) (rest : Answer → Talk A) (result : A) → IsCall before between (record { step = x; answer = answer }) → mid ≡ old ++ kept_of x answer.reply → Says between after mid new (rest answer) result → Says before after old new (ask x rest) result
+says-first before between after old mid new x answer rest result call kept s =
+    says-then before between after old mid new (ask x finish) rest answer result (says-call before between old mid x answer call kept) s
+
+-- the same view
+pub says-view : (before after : EvdevView) (old new : List CallMade) (xs : List Step) (view same : View) (result : Result View Reply) → view ≡ same → Says before after old new (ask_each xs view) result → Says before after old new (ask_each xs same) result
+says-view before after old new xs view same result h s = subst (λ (v : View). Says before after old new (ask_each xs v) result) h s
+
+-- Reading
+
+hand_out-queue : (r : Reading) (queue q : List Taken) → hand_out (record r { queue = queue }) q ≡ hand_out r q
+hand_out-queue r queue [] = refl
+hand_out-queue r queue (taken ∷ rest) = refl
+
+says-by_read : (before after : EvdevView) (old new : List CallMade) (r : Reading) (answer : Answer) (reply : Reply) (result : Next × Reading) → r.queue ≡ [] → IsCall before after (record { step = Read r.client 64; answer = answer }) → reply ≡ answer.reply → new ≡ old ++ kept_of (Read r.client 64) reply
+    → after_read r answer ≡ result → Says before after old new (read_talk r) result
+unfolding read_talk
+says-by_read before after old new r answer reply result empty call replied kept is =
+    let talk : read_or_hand_out r r.queue ≡ ask (Read r.client 64) (λ (a : Answer). finish (after_read r a)) = ap (λ (q : List Taken). read_or_hand_out r q) empty in
+    let s : Says before after old new (ask (Read r.client 64) (λ (a : Answer). finish (after_read r a))) result =
+    says-first before after after old new new (Read r.client 64) answer (λ (a : Answer). finish (after_read r a)) result call
+    (kept ∙ ap (λ (rep : Reply). old ++ kept_of (Read r.client 64) rep) replied)
+    (says-still after new new (finish (after_read r answer)) result refl (ap (λ (o : Next × Reading). finish o) is)) in
+    subst (λ (t : Talk (Next × Reading)). Says before after old new t result) (sym talk) s
+
+-- a read that took events
+pub says-took : (before after : EvdevView) (old new : List CallMade) (r s : Reading) (reply : Reply) (queue : List Taken) (result : Next × Reading) → r.queue ≡ [] → Reads before after r.client reply queue → new ≡ old ++ kept_of (Read r.client 64) reply
+    → s ≡ record r { queue = queue } → is_accepted reply ≡ true → result ≡ hand_out s queue → Says before after old new (read_talk r) result
+says-took before after old new r s reply queue result empty reads kept mid accepted handed =
+    let a : Answer = reads.answer in
+    let is : is_accepted a.reply ≡ true = ap is_accepted (sym reads.replied) ∙ accepted in
+    let queued : queue ≡ a.events = reads.queued ∙ ap (λ (b : Bool). if b then a.events else []) is in
+    let out : result ≡ hand_out r a.events = handed ∙ ap (λ (t : Reading). hand_out t queue) mid ∙ hand_out-queue r queue queue ∙ ap (λ (q : List Taken). hand_out r q) queued in
+    let after_it : after_read r a ≡ hand_out r a.events = ap (λ (b : Bool). if b then hand_out r a.events else (stop_of a.reply, r)) is in
+    says-by_read before after old new r a reply result empty reads.is_call reads.replied kept (after_it ∙ sym out)
+
+-- a read that was not accepted
+pub says-read_nothing : (before after : EvdevView) (old new : List CallMade) (r s : Reading) (reply : Reply) (queue : List Taken) (next : Next) → r.queue ≡ [] → Reads before after r.client reply queue → new ≡ old ++ kept_of (Read r.client 64) reply
+    → s ≡ record r { queue = queue } → is_accepted reply ≡ false → next ≡ stop_of reply → Says before after old new (read_talk r) (next, s)
+says-read_nothing before after old new r s reply queue next empty reads kept mid refused stopped =
+    let a : Answer = reads.answer in
+    let is : is_accepted a.reply ≡ false = ap is_accepted (sym reads.replied) ∙ refused in
+    let queued : queue ≡ r.queue = reads.queued ∙ ap (λ (b : Bool). if b then a.events else []) is ∙ sym empty in
+    let same : s ≡ r = mid ∙ ap (λ (q : List Taken). record r { queue = q }) queued in
+    let stop : stop_of a.reply ≡ next = ap (λ (rep : Reply). stop_of rep) (sym reads.replied) ∙ sym stopped in
+    let after_it : after_read r a ≡ (stop_of a.reply, r) = ap (λ (b : Bool). if b then hand_out r a.events else (stop_of a.reply, r)) is in
+    let result : Next × Reading = (next, s) in
+    says-by_read before after old new r a reply result empty reads.is_call reads.replied kept
+    (after_it ∙ ap (λ (n : Next). (n, r)) stop ∙ ap (λ (t : Reading). (next, t)) (sym same))
+
+-- an event of the queue
+hand_out-queued : (r : Reading) (q : List Taken) → (q ≡ [] → ⊥) → read_or_hand_out r q ≡ finish (hand_out r q)
+hand_out-queued r [] h = absurd (h refl)
+hand_out-queued r (taken ∷ rest) h = refl
+
+pub says-queued : (told : EvdevView) (old new : List CallMade) (r : Reading) (result : Next × Reading) → (r.queue ≡ [] → ⊥) → new ≡ old → result ≡ hand_out r r.queue → Says told told old new (read_talk r) result
+unfolding read_talk
+says-queued told old new r result h kept handed =
+    says-still told old new (read_or_hand_out r r.queue) result kept (hand_out-queued r r.queue h ∙ ap (λ (o : Next × Reading). finish o) (sym handed))
+
+-- Synchronising
+
+-- a synchronisation that was stopped
+pub says-unsynchronised : (before after : EvdevView) (old new : List CallMade) (talk : Talk (Result View Reply)) (mode : Mode) (r s : Reading) (reply : Reply) (next : Next) → Says before after old new talk (Err reply) → s ≡ after_failed_sync r → next ≡ stop_of reply → Says before after old new (and_then talk (go_on_after mode r)) (next, s)
+says-unsynchronised before after old new talk mode r s reply next h same stopped =
+    let result : Next × Reading = (next, s) in
+    says-then before after after old new new talk (go_on_after mode r) (Err reply) result h
+    (says-still after new new (go_on_after mode r (Err reply)) result refl
+    (ap (λ (n : Next). finish (n, after_failed_sync r)) (sym stopped) ∙ ap (λ (t : Reading). finish (next, t)) (sym same)))
+
+-- a synchronisation, and what follows it
+pub says-synchronised : (before between after : EvdevView) (old mid new : List CallMade) (talk : Talk (Result View Reply)) (mode : Mode) (r s : Reading) (view : View) (result : Next × Reading) → Says before between old mid talk (Ok view) → s ≡ after_full_sync r view → Says between after mid new (go_on mode s) result → Says before after old new (and_then talk (go_on_after mode r)) result
+says-synchronised before between after old mid new talk mode r s view result h same k =
+    says-then before between after old mid new talk (go_on_after mode r) (Ok view) result h
+    (subst (λ (t : Reading). Says between after mid new (go_on mode t) result) same k)
+
+-- Starting
+
+-- the queries of a start, of which one was refused
+pub says-begun_in_part : (before after : EvdevView) (old new : List CallMade) (xs : List Step) (client ring : ℕ) (r : Reading) (queue : List Taken) (left : List Event) (reply : Reply) (started : Started) → Says before after old new (ask_each xs r.view) (Err reply) → queue ≡ [] → left ≡ [] → started ≡ start_stop_of reply
+    → Says before after old new (and_then (ask_each xs r.view) (λ asked. finish (after_queries client ring r asked))) (started, record { client = client; queue = queue; view = r.view; phase = Needed; left = left })
+says-begun_in_part before after old new xs client ring r queue left reply started h none nothing stopped =
+    let result : Started × Reading = (started, record { client = client; queue = queue; view = r.view; phase = Needed; left = left }) in
+    let made : Started → List Taken → List Event → Talk (Started × Reading) = λ n q l. finish (n, record { client = client; queue = q; view = r.view; phase = Needed; left = l }) in
+    says-then before after after old new new (ask_each xs r.view) (λ (asked : Result View Reply). finish (after_queries client ring r asked)) (Err reply) result h
+    (says-still after new new (finish (after_queries client ring r (Err reply))) result refl
+    (ap (λ (n : Started). made n [] []) (sym stopped) ∙ ap (λ (q : List Taken). made started q []) (sym none) ∙ ap (λ (l : List Event). made started queue l) (sym nothing)))
+
+-- the queries of a start
+pub says-begun : (before after : EvdevView) (old new : List CallMade) (xs : List Step) (client ring : ℕ) (r : Reading) (queue : List Taken) (left : List Event) (view asked : View) → Says before after old new (ask_each xs r.view) (Ok asked) → queue ≡ [] → left ≡ [] → view ≡ asked
+    → Says before after old new (and_then (ask_each xs r.view) (λ asked. finish (after_queries client ring r asked))) (StartedOn client ring, record { client = client; queue = queue; view = view; phase = Plain; left = left })
+says-begun before after old new xs client ring r queue left view asked h none nothing same =
+    let result : Started × Reading = (StartedOn client ring, record { client = client; queue = queue; view = view; phase = Plain; left = left }) in
+    let made : View → List Taken → List Event → Talk (Started × Reading) = λ v q l. finish (StartedOn client ring, record { client = client; queue = q; view = v; phase = Plain; left = l }) in
+    says-then before after after old new new (ask_each xs r.view) (λ (asked : Result View Reply). finish (after_queries client ring r asked)) (Ok asked) result h
+    (says-still after new new (finish (after_queries client ring r (Ok asked))) result refl
+    (ap (λ (v : View). made v [] []) (sym same) ∙ ap (λ (q : List Taken). made view q []) (sym none) ∙ ap (λ (l : List Event). made view queue l) (sym nothing)))
+
+-- a start, once its Open was accepted
+pub says-opened : (before between after : EvdevView) (old mid new : List CallMade) (d : Description) (r : Reading) (reply : Reply) (result : Started × Reading) → (answer : Answer) → reply ≡ answer.reply → IsCall before between (record { step = Open; answer = answer }) → mid ≡ old ++ kept_of Open answer.reply
+    → Says between after mid new (after_open d r reply) result → Says before after old new (start_talk d r) result
+unfolding start_talk
+says-opened before between after old mid new d r reply result answer replied call kept s =
+    says-first before between after old mid new Open answer (λ (a : Answer). after_open d r a.reply) result call kept
+    (subst (λ (rep : Reply). Says between after mid new (after_open d r rep) result) replied s)
+
+after_open-stopped : (d : Description) (r : Reading) (reply : Reply) → ((at client ring : ℕ) → reply ≡ Opened at client ring → ⊥) → after_open d r reply ≡ finish (start_stop_of reply, r)
+after_open-stopped d r (Opened at client ring) h = absurd (h at client ring refl)
+after_open-stopped d r _ h = refl
+
+-- a start whose Open was refused
+pub says-not_opened : (before after : EvdevView) (old new : List CallMade) (d : Description) (r : Reading) (reply : Reply) (started : Started) (answer : Answer) → reply ≡ answer.reply → IsCall before after (record { step = Open; answer = answer }) → new ≡ old ++ kept_of Open answer.reply
+    → ((at client ring : ℕ) → reply ≡ Opened at client ring → ⊥) → started ≡ start_stop_of reply → Says before after old new (start_talk d r) (started, r)
+says-not_opened before after old new d r reply started answer replied call kept h stopped =
+    let result : Started × Reading = (started, r) in
+    says-opened before after after old new new d r reply result answer replied call kept
+    (says-still after new new (after_open d r reply) result refl (after_open-stopped d r reply h ∙ ap (λ (n : Started). finish (n, r)) (sym stopped)))

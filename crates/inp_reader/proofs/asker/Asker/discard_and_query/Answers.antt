@@ -1,0 +1,13 @@
+use Rattle.std.proofs.Common.{sym, ◌∙◌, [], ◌∷◌}
+use Rattle.inp_model.specs.declared.step.Step.TheVariants.{Discard}
+use Rattle.inp_reader.specs.Reading.{queries}
+use Rattle.inp_reader.proofs.Saying.{says-stop-if, says-go-on}
+use Rattle.inp_reader.proofs.asker.Asker.discard_and_query.Goals as goal
+
+pub returns-then-is_some-clause-says : goal.returns-then-is_some-clause-says
+returns-then-is_some-clause-says g c =
+    says-stop-if _ _ _ _ (Discard c.args.client ∷ []) (queries c.args.caps.now c.args.client) c.args.self.now.view c.query-stop.new.self.view c.query-stop.result (sym c.is_some.ensures ∙ c.if-is_some.true) c.query-stop.ensures.says
+
+pub returns-clause-says : goal.returns-clause-says
+returns-clause-says g c =
+    says-go-on _ _ _ _ _ _ (Discard c.args.client ∷ []) (queries c.args.caps.now c.args.client) c.args.self.now.view c.query-stop.new.self.view c.query-stop.result _ (sym c.is_some.ensures ∙ c.if-is_some.false) c.query-stop.ensures.says c.query_all.ensures.says

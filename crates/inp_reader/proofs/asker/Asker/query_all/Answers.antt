@@ -1,0 +1,38 @@
+use Rattle.std.proofs.Common.{sym, ◌∙◌, ◌++◌, ap, nat_lt}
+use Rattle.inp_model.specs.declared.step.Step.TheVariants.{SyncSlots}
+use Rattle.inp_reader.specs.Reading.{queries, bit_queries, axis_queries, plain_axes, slot_queries}
+use Rattle.inp_reader.proofs.Saying.{says-stop-if, says-go-on, says-only_if}
+use Rattle.inp_reader.proofs.asker.Asker.query_all.Goals as goal
+
+pub returns-then-is_some-clause-says : goal.returns-then-is_some-clause-says
+unfolding queries
+returns-then-is_some-clause-says g c =
+    let d = c.args.caps.now in
+    let bits = bit_queries d c.args.client in
+    let axes = axis_queries c.args.client (plain_axes d) in
+    let view = c.args.self.now.view in
+    let stopped = sym c.is_some.ensures ∙ c.if-is_some.true in
+    says-stop-if _ _ _ _ (bits ++ axes) (slot_queries d c.args.client) view c.query_bits-stop.new.self.view c.query_bits-stop.result stopped
+    (says-stop-if _ _ _ _ bits axes view c.query_bits-stop.new.self.view c.query_bits-stop.result stopped c.query_bits-stop.ensures.says)
+
+pub returns-then-is_some-2-clause-says : goal.returns-then-is_some-2-clause-says
+unfolding queries
+returns-then-is_some-2-clause-says g c =
+    let d = c.args.caps.now in
+    let bits = bit_queries d c.args.client in
+    let axes = axis_queries c.args.client (plain_axes d) in
+    let view = c.args.self.now.view in
+    says-stop-if _ _ _ _ (bits ++ axes) (slot_queries d c.args.client) view c.query_plain_axes-stop.new.self.view c.query_plain_axes-stop.result (sym c.is_some-2.ensures ∙ c.if-is_some-2.true)
+    (says-go-on _ _ _ _ _ _ bits axes view c.query_bits-stop.new.self.view c.query_bits-stop.result _ (sym c.is_some.ensures ∙ c.if-is_some.false) c.query_bits-stop.ensures.says c.query_plain_axes-stop.ensures.says)
+
+pub returns-clause-says : goal.returns-clause-says
+unfolding queries
+returns-clause-says g c =
+    let d = c.args.caps.now in
+    let bits = bit_queries d c.args.client in
+    let axes = axis_queries c.args.client (plain_axes d) in
+    let view = c.args.self.now.view in
+    let last = says-only_if _ _ _ _ _ _ (SyncSlots c.args.client) c.query_plain_axes-stop.new.self.view _ (ap (λ n. nat_lt 0 n) c.slots-has_slots.ensures.slots) c.query_if.ensures.says in
+    says-go-on _ _ _ _ _ _ (bits ++ axes) (slot_queries d c.args.client) view c.query_plain_axes-stop.new.self.view c.query_plain_axes-stop.result _ (sym c.is_some-2.ensures ∙ c.if-is_some-2.false)
+    (says-go-on _ _ _ _ _ _ bits axes view c.query_bits-stop.new.self.view c.query_bits-stop.result _ (sym c.is_some.ensures ∙ c.if-is_some.false) c.query_bits-stop.ensures.says c.query_plain_axes-stop.ensures.says)
+    last

@@ -1,0 +1,45 @@
+use Rattle.std.proofs.Common.{sym, ◌∙◌, ◌++◌}
+use Rattle.inp_model.specs.declared.event.TheConstants.{EV_KEY, EV_LED, EV_SW}
+use Rattle.inp_model.specs.declared.step.Step.TheVariants.{GetKeys, GetLeds, GetSwitches}
+use Rattle.inp_model.specs.Description.{has_kind}
+use Rattle.inp_reader.specs.Reading.{only_if}
+use Rattle.inp_reader.proofs.Saying.{says-stop-if, says-go-on, says-only_if}
+use Rattle.inp_reader.proofs.asker.Asker.query_bits.Goals as goal
+
+pub returns-then-is_some-clause-says : goal.returns-then-is_some-clause-says
+returns-then-is_some-clause-says g c =
+    let d = c.args.caps.now in
+    let keys = only_if (has_kind d EV_KEY) (GetKeys c.args.client) in
+    let leds = only_if (has_kind d EV_LED) (GetLeds c.args.client) in
+    let switches = only_if (has_kind d EV_SW) (GetSwitches c.args.client) in
+    let view = c.args.self.now.view in
+    let stopped = sym c.is_some.ensures ∙ c.if-is_some.true in
+    let asked = says-only_if _ _ _ _ _ _ (GetKeys c.args.client) view _ c.has_kind-has_keys.ensures.kind c.query_if-stop.ensures.says in
+    says-stop-if _ _ _ _ (keys ++ leds) switches view c.query_if-stop.new.self.view c.query_if-stop.result stopped
+    (says-stop-if _ _ _ _ keys leds view c.query_if-stop.new.self.view c.query_if-stop.result stopped asked)
+
+pub returns-then-is_some-2-clause-says : goal.returns-then-is_some-2-clause-says
+returns-then-is_some-2-clause-says g c =
+    let d = c.args.caps.now in
+    let keys = only_if (has_kind d EV_KEY) (GetKeys c.args.client) in
+    let leds = only_if (has_kind d EV_LED) (GetLeds c.args.client) in
+    let switches = only_if (has_kind d EV_SW) (GetSwitches c.args.client) in
+    let view = c.args.self.now.view in
+    let first = says-only_if _ _ _ _ _ _ (GetKeys c.args.client) view _ c.has_kind-has_keys.ensures.kind c.query_if-stop.ensures.says in
+    let second = says-only_if _ _ _ _ _ _ (GetLeds c.args.client) c.query_if-stop.new.self.view _ c.has_kind-has_leds.ensures.kind c.query_if-stop-2.ensures.says in
+    says-stop-if _ _ _ _ (keys ++ leds) switches view c.query_if-stop-2.new.self.view c.query_if-stop-2.result (sym c.is_some-2.ensures ∙ c.if-is_some-2.true)
+    (says-go-on _ _ _ _ _ _ keys leds view c.query_if-stop.new.self.view c.query_if-stop.result _ (sym c.is_some.ensures ∙ c.if-is_some.false) first second)
+
+pub returns-clause-says : goal.returns-clause-says
+returns-clause-says g c =
+    let d = c.args.caps.now in
+    let keys = only_if (has_kind d EV_KEY) (GetKeys c.args.client) in
+    let leds = only_if (has_kind d EV_LED) (GetLeds c.args.client) in
+    let switches = only_if (has_kind d EV_SW) (GetSwitches c.args.client) in
+    let view = c.args.self.now.view in
+    let first = says-only_if _ _ _ _ _ _ (GetKeys c.args.client) view _ c.has_kind-has_keys.ensures.kind c.query_if-stop.ensures.says in
+    let second = says-only_if _ _ _ _ _ _ (GetLeds c.args.client) c.query_if-stop.new.self.view _ c.has_kind-has_leds.ensures.kind c.query_if-stop-2.ensures.says in
+    let third = says-only_if _ _ _ _ _ _ (GetSwitches c.args.client) c.query_if-stop-2.new.self.view _ c.has_kind-has_switches.ensures.kind c.query_if.ensures.says in
+    says-go-on _ _ _ _ _ _ (keys ++ leds) switches view c.query_if-stop-2.new.self.view c.query_if-stop-2.result _ (sym c.is_some-2.ensures ∙ c.if-is_some-2.false)
+    (says-go-on _ _ _ _ _ _ keys leds view c.query_if-stop.new.self.view c.query_if-stop.result _ (sym c.is_some.ensures ∙ c.if-is_some.false) first second)
+    third

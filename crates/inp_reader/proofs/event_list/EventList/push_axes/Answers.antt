@@ -1,0 +1,28 @@
+use Rattle.std.proofs.Common.{◌≡◌, ◌∙◌, ◌++◌, ap, arith, not, map, ℕ, Bool}
+use Rattle.std.specs.Ordering.{int_eq}
+use Rattle.inp_model.specs.declared.event.Event.{Event}
+use Rattle.inp_reader.specs.Synthesis.{where_below, differs_at, axis_event, value_at}
+use Rattle.inp_reader.proofs.Synthesising.{events-more}
+use Rattle.inp_reader.proofs.event_list.EventList.push_axes.Goals as goal
+
+pub loop-code-preserved : goal.loop-code-preserved
+loop-code-preserved c =
+    let old = c.args.old.now in
+    let new = c.args.new.now in
+    let f : ℕ → Event = λ code. axis_event new code code in
+    let test : ℕ → Bool = differs_at old new in
+    let is : c.values_differ-wanted.result ≡ test c.loop-code.code =
+    c.values_differ-wanted.ensures ∙ ap (λ (e : Event). not (int_eq e.value c.axis_event-event.result.value)) c.axis_event.ensures
+    ∙ ap (λ (e : Event). not (int_eq (value_at old c.loop-code.code) e.value)) c.axis_event-event.ensures in
+    record {
+      pushed = events-more f test c.loop-code.code c.values_differ-wanted.result c.axis_event-event.result _ _ _ c.push_if.ensures.pushed c.loop-code.invariant.pushed is c.axis_event-event.ensures;
+      few = omega (arith, c.push_if.ensures.few, c.loop-code.invariant.few);
+    }
+
+pub returns-clause-pushed : goal.returns-clause-pushed
+returns-clause-pushed c =
+    let old = c.args.old.now in
+    let new = c.args.new.now in
+    let f : ℕ → Event = λ code. axis_event new code code in
+    let all : c.loop-code.code ≡ 64 = omega (arith, c.loop-code-test.false, c.loop-code.auto.code-end) in
+    c.loop-code.invariant.pushed ∙ ap (λ (n : ℕ). c.args.self.now ++ map f (where_below n (differs_at old new))) all

@@ -1,0 +1,11 @@
+use Rattle.std.proofs.Common.{rules, ap, sym, ◌∙◌, arith, ◌≡◌, ◌≤◌, nat_eq, IsTrue, true, []}
+use Rattle.std.proofs.lemmas.Bool.Decides.{nat_tests}
+use Rattle.inp_reader.proofs.Queues.{part-empty, no_part, is_same}
+use Rattle.inp_reader.proofs.queue.Queue.is_empty.Goals as goal
+
+pub returns : goal.returns
+returns c = (
+  λ h. sym c.self.view_is ∙ no_part c.self.inside.buffer c.self.inside.next c.self.inside.end h,
+  λ h. is_same c.self.inside.next c.self.inside.end
+      (part-empty c.self.inside.buffer c.self.inside.next c.self.inside.end c.self.invariant.0 (omega (arith, c.self.invariant.1, c.self.invariant.2)) (c.self.view_is ∙ h)),
+)

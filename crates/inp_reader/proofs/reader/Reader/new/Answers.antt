@@ -1,0 +1,18 @@
+use Rattle.std.proofs.Common.{ap, sym, ◌∙◌, ◌*◌, length, arith, ◌≡◌, ℕ}
+use Rattle.inp_model.specs.Description.{Description}
+use Rattle.inp_recon.specs.declared.view.View.{View}
+use Rattle.inp_recon.specs.View.{first_view}
+use Rattle.inp_recon.proofs.Sizes.{IsSizedFor-first_view}
+use Rattle.inp_reader.proofs.reader.Reader.new.Goals as goal
+
+pub invariant_of-result : goal.invariant_of-result
+invariant_of-result c =
+    let same : 14 * c.args.caps.now.slots ≡ 14 * c.copy.result.slots = ap (λ (d : Description). 14 * d.slots) (sym c.copy.ensures.same) in
+    let fits : length (first_view c.args.caps.now).cells ≡ 14 * c.args.caps.now.slots = (IsSizedFor-first_view c.args.caps.now).cells in
+    record {
+      view = ap (λ (v : View). length v.cells) c.in_ok-new-4.ensures.view ∙ fits ∙ same;
+      asked = ap (λ (v : View). length v.cells) c.in_ok-new-3.ensures.view ∙ fits ∙ same;
+      cells = c.in_ok-new-2.ensures ∙ ap (λ (n : ℕ). 14 * n) c.slots.ensures.slots ∙ same;
+      few = omega (arith, ap length c.in_ok-new.ensures);
+      slots = omega (arith, c.slots.ensures.range, c.slots.ensures.slots, ap (λ (d : Description). d.slots) c.copy.ensures.same);
+    }

@@ -1,0 +1,201 @@
+-- What a reader keeps, and what `start` and `next` ask and answer (docs/RULES.md, "The reader").
+use Rattle.std.specs.Prelude.{ℕ, ◌+◌, ◌-◌, Bool, true, false, ◌&&◌, not, if◌then◌else◌, nat_eq, nat_lt, List, [], ◌∷◌, ◌++◌, map, filter, Option, Some, None, Result, Ok, Err}
+use Rattle.std.specs.List.{range_with_len}
+use Rattle.inp_model.specs.declared.event.TheConstants.{EV_SYN, EV_KEY, EV_ABS, EV_SW, EV_LED, ABS_MAX, SYN_DROPPED}
+use Rattle.inp_model.specs.declared.multi_touch.TheConstants.{ABS_MT_SLOT, ABS_MT_TOOL_Y}
+use Rattle.inp_model.specs.declared.event.Event.{Event}
+use Rattle.inp_model.specs.declared.taken.Taken.{Taken}
+use Rattle.inp_model.specs.declared.step.Step.{Step}
+use Rattle.inp_model.specs.declared.step.Step.TheVariants.{Open, Read, Discard, GetKeys, GetSwitches, GetLeds, GetAxis, SyncSlots}
+use Rattle.inp_model.specs.declared.reply.Reply.{Reply}
+use Rattle.inp_model.specs.declared.reply.Reply.TheVariants.{Opened, Again as NothingVisible, Refused as StepRefused}
+use Rattle.inp_model.specs.declared.reply.Refusal.{Refusal}
+use Rattle.inp_model.specs.declared.reply.Refusal.TheVariants.{BadClient, NoDevice as Revoked, LogFull}
+use Rattle.inp_model.specs.Description.{Description, has_kind, supports}
+use Rattle.inp_model.specs.Reply.{Answer, is_accepted}
+use Rattle.inp_recon.specs.declared.view.View.{View}
+use Rattle.inp_recon.specs.View.{view_after_event, view_after_answer}
+use Rattle.inp_reader.specs.declared.call_made.CallMade.{CallMade}
+use Rattle.inp_reader.specs.declared.mode.Mode.{Mode}
+use Rattle.inp_reader.specs.declared.mode.Mode.TheVariants.{Normal, Sync as Synchronising}
+use Rattle.inp_reader.specs.declared.phase.Phase.{Phase}
+use Rattle.inp_reader.specs.declared.phase.Phase.TheVariants.{Plain, Needed, Handing}
+use Rattle.inp_reader.specs.declared.started.Started.{Started}
+use Rattle.inp_reader.specs.declared.started.Started.TheVariants.{Opened as StartedOn, Refused}
+use Rattle.inp_reader.specs.declared.next.Next.{Next}
+use Rattle.inp_reader.specs.declared.next.Next.TheVariants.{Success, Dropped, Sync, Again, Synced, NoDevice, Closed, Full}
+use Rattle.inp_reader.specs.Talk.{Talk, finish, ask, and_then}
+use Rattle.inp_reader.specs.Synthesis.{synth}
+
+pub record Reading : Type 0 where
+  -- the client that it reads as
+  pub client : ℕ
+  -- the events that it has read and not handed out
+  pub queue : List Taken
+  -- what the device is, as far as the reader has handed it out
+  pub view : View
+  pub phase : Phase
+  -- the synthesised events that it has not handed out; there are none unless the phase is Handing
+  pub left : List Event
+
+-- what a reader is seen as
+pub record ReaderView : Type 0 where
+  -- the description of the devices that it reads
+  pub description : Description
+  pub reading : Reading
+  -- the calls of the last `start` or `next`, those answered Again left out
+  pub made : List CallMade
+
+-- the next call synchronises first
+abbrev pub with_sync_needed : Reading → Reading
+with_sync_needed r = record r { phase = Needed; left = [] }
+
+-- Queries
+
+-- the supported axes among so many codes from the first on, ascending
+unfoldable pub axes_among : Description → ℕ → ℕ → List ℕ
+axes_among d first count = filter (supports d EV_ABS) (range_with_len first count)
+
+-- the axes with a value of their own, ascending: those before and those behind the axes of slots
+abbrev pub plain_axes : Description → List ℕ
+plain_axes d = axes_among d 0 ABS_MT_SLOT ++ axes_among d (ABS_MT_TOOL_Y + 1) (ABS_MAX - ABS_MT_TOOL_Y)
+
+abbrev pub only_if : Bool → Step → List Step
+only_if wanted x = if wanted then x ∷ [] else []
+
+-- all keys, LEDs and switches, where the device has their type
+abbrev pub bit_queries : Description → ℕ → List Step
+bit_queries d client =
+    only_if (has_kind d EV_KEY) (GetKeys client) ++ only_if (has_kind d EV_LED) (GetLeds client) ++ only_if (has_kind d EV_SW) (GetSwitches client)
+
+abbrev pub axis_queries : ℕ → List ℕ → List Step
+axis_queries client codes = map (GetAxis client) codes
+
+-- all slots, where the device has any
+abbrev pub slot_queries : Description → ℕ → List Step
+slot_queries d client = only_if (nat_lt 0 d.slots) (SyncSlots client)
+
+-- what a reader asks for to see the device whole: all that the device has, once and in this order
+unfoldable pub queries : Description → ℕ → List Step
+queries d client = bit_queries d client ++ axis_queries client (plain_axes d) ++ slot_queries d client
+
+-- asks for these steps in order and sets a view by their answers, until one is not accepted
+unfoldable pub ask_each : List Step → View → Talk (Result View Reply)
+ask_each [] view = finish (Ok view)
+ask_each (x ∷ xs) view =
+    ask x (λ answer.
+    if is_accepted answer.reply then ask_each xs (view_after_answer view x answer.reply answer.cells)
+    else finish (Err answer.reply))
+
+-- Starting
+
+-- how a start ends on a step that was not accepted; the reply is a refusal
+abbrev pub start_stop_of : Reply → Started
+start_stop_of (StepRefused at why) = Refused at why
+start_stop_of _ = Refused 0 BadClient
+
+-- a start on this client, once its queries ended
+abbrev pub after_queries : ℕ → ℕ → Reading → Result View Reply → Started × Reading
+after_queries client ring r (Ok view) =
+    (StartedOn client ring, record { client = client; queue = []; view = view; phase = Plain; left = [] })
+after_queries client ring r (Err reply) =
+    (start_stop_of reply, record { client = client; queue = []; view = r.view; phase = Needed; left = [] })
+
+-- a start, once its Open was answered
+abbrev pub after_open : Description → Reading → Reply → Talk (Started × Reading)
+after_open d r (Opened at client ring) = and_then (ask_each (queries d client) r.view) (λ asked. finish (after_queries client ring r asked))
+after_open d r reply = finish (start_stop_of reply, r)
+
+-- opens a client and asks for all that the device has (docs/RULES.md, "The reader")
+unfoldable pub start_talk : Description → Reading → Talk (Started × Reading)
+start_talk d r = ask Open (λ answer. after_open d r answer.reply)
+
+-- Reading
+
+-- the event tells that events were lost
+abbrev pub is_dropped : Event → Bool
+is_dropped e = nat_eq e.kind EV_SYN && nat_eq e.code SYN_DROPPED
+
+-- how `next` ends on a step that was not accepted; the reply is Again at a read alone, and else one of three refusals
+abbrev pub stop_of : Reply → Next
+stop_of (NothingVisible at ends) = Again at ends
+stop_of (StepRefused at Revoked) = NoDevice
+stop_of (StepRefused at LogFull) = Full at
+stop_of _ = Closed
+
+-- hands out an event of the reader's queue, and sets the view by it
+abbrev pub hand_out_event : Reading → Taken → List Taken → Next × Reading
+hand_out_event r taken rest =
+    let view = view_after_event r.view taken.event in
+    if is_dropped taken.event then (Dropped taken, record r { queue = rest; view = view; phase = Needed })
+    else (Success taken, record r { queue = rest; view = view })
+
+-- hands out the first event of a queue; a read that was accepted has taken one
+abbrev pub hand_out : Reading → List Taken → Next × Reading
+hand_out r [] = (Closed, record r { queue = [] })
+hand_out r (taken ∷ rest) = hand_out_event r taken rest
+
+-- after a read
+abbrev pub after_read : Reading → Answer → Next × Reading
+after_read r answer = if is_accepted answer.reply then hand_out r answer.events else (stop_of answer.reply, r)
+
+-- in phase Plain: reads where the queue is empty, and hands out the first event (docs/RULES.md, "The reader")
+abbrev pub read_or_hand_out : Reading → List Taken → Talk (Next × Reading)
+read_or_hand_out r [] = ask (Read r.client 64) (λ answer. finish (after_read r answer))
+read_or_hand_out r (taken ∷ rest) = finish (hand_out_event r taken rest)
+
+unfoldable pub read_talk : Reading → Talk (Next × Reading)
+read_talk r = read_or_hand_out r r.queue
+
+-- Synchronising
+
+-- hands out the next synthesised event, if one is left
+abbrev pub hand_synthesised : Reading → List Event → Next × Reading
+hand_synthesised r [] = (Synced, record r { phase = Plain; left = [] })
+hand_synthesised r (event ∷ left) = (Sync event, record r { left = left })
+
+abbrev pub handing : Reading → Next × Reading
+handing r = hand_synthesised r r.left
+
+-- without the synthesised events
+abbrev pub as_plain : Reading → Reading
+as_plain r = record r { phase = Plain; left = [] }
+
+-- after the calls of a synchronisation
+abbrev pub after_full_sync : Reading → View → Reading
+after_full_sync r view = record r { queue = []; view = view; phase = Handing; left = synth r.view view }
+
+abbrev pub after_failed_sync : Reading → Reading
+after_failed_sync r = record r { queue = []; phase = Needed; left = [] }
+
+-- what a synchronisation leaves
+abbrev pub after_sync : Reading → Result View Reply → Reading
+after_sync r (Ok view) = after_full_sync r view
+after_sync r (Err reply) = after_failed_sync r
+
+-- in phase Handing: the next synthesised event, or without them
+abbrev pub go_on : Mode → Reading → Talk (Next × Reading)
+go_on Normal r = read_talk (as_plain r)
+go_on Synchronising r = finish (handing r)
+
+abbrev pub go_on_after : Mode → Reading → Result View Reply → Talk (Next × Reading)
+go_on_after mode r (Ok view) = go_on mode (after_full_sync r view)
+go_on_after mode r (Err reply) = finish (stop_of reply, after_failed_sync r)
+
+-- removes what is visible to the client, and asks for all that the device has
+unfoldable pub sync_talk : Description → Reading → Talk (Result View Reply)
+sync_talk d r = ask_each (Discard r.client ∷ queries d r.client) r.view
+
+-- in phase Plain: reads, or there is nothing to hand out
+abbrev pub plain_talk : Mode → Reading → Talk (Next × Reading)
+plain_talk Normal r = read_talk r
+plain_talk Synchronising r = finish (Synced, r)
+
+abbrev pub talk_in : Description → Mode → Phase → Reading → Talk (Next × Reading)
+talk_in d mode Plain r = plain_talk mode r
+talk_in d mode Needed r = and_then (sync_talk d r) (go_on_after mode r)
+talk_in d mode Handing r = go_on mode r
+
+-- the next event in a mode, by the phase (docs/RULES.md, "The reader")
+abbrev pub next_talk : Description → Mode → Reading → Talk (Next × Reading)
+next_talk d mode r = talk_in d mode r.phase r

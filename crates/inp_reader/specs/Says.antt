@@ -1,0 +1,30 @@
+-- When the calls that a reader makes are those of a talk.
+use Rattle.std.specs.Prelude.{◌≡◌, if◌then◌else◌, Bool, true, false, List, [], ◌∷◌, ◌++◌}
+use Rattle.inp_model.specs.declared.step.Step.{Step}
+use Rattle.inp_model.specs.declared.reply.Reply.{Reply}
+use Rattle.inp_model.specs.Evdev.{EvdevView, IsCall, is_again}
+use Rattle.inp_model.specs.Run.{Call}
+use Rattle.inp_reader.specs.declared.call_made.CallMade.{CallMade}
+use Rattle.inp_reader.specs.Talk.{Talk, EndsWith}
+
+-- what is kept of a call; one that was answered Again is not
+abbrev pub kept_of : Step → Reply → List CallMade
+kept_of x reply = if is_again reply then [] else record { step = x; reply = reply } ∷ []
+
+-- what is kept of calls, in order
+abbrev pub made_of : List Call → List CallMade
+made_of [] = []
+made_of (call ∷ calls) = kept_of call.step call.answer.reply ++ made_of calls
+
+-- calls on an evdev, one after another
+unfoldable pub AreCalls : EvdevView → EvdevView → List Call → Type 0
+AreCalls before after [] = after ≡ before
+AreCalls before after (call ∷ calls) = (between : EvdevView) × IsCall before between call × AreCalls between after calls
+
+-- The calls that were made on an evdev are those of the talk, this is its result, and they are kept behind those that
+-- were kept before.
+pub record Says {A : Type 0} (before after : EvdevView) (old new : List CallMade) (talk : Talk A) (result : A) : Type 0 where
+  pub calls : List Call
+  pub talk_ends : EndsWith talk calls result
+  pub are_calls : AreCalls before after calls
+  pub kept : new ≡ old ++ made_of calls

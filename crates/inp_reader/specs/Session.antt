@@ -1,0 +1,38 @@
+-- How a reader's parts are kept.
+use Rattle.std.specs.Prelude.{◌≡◌, ◌≤◌, ℕ, ◌*◌, List, length}
+use Rattle.inp_model.specs.declared.limits.TheConstants.{SLOTS_MAX}
+use Rattle.inp_model.specs.Description.{Description}
+use Rattle.inp_model.specs.Evdev.{EvdevView}
+use Rattle.inp_recon.specs.declared.view.View.{View}
+use Rattle.inp_reader.specs.declared.asker.Asker.{Asker}
+use Rattle.inp_reader.specs.declared.session.Session.{Session}
+use Rattle.inp_reader.specs.declared.reader.Reader.TheInside.{Inside}
+use Rattle.inp_reader.specs.Reading.{Reading, ReaderView}
+
+-- the view and the buffer have as many cells as the device that is asked
+pub record IsReady (d : Description) (told : EvdevView) (a : Asker) : Type 0 where
+  pub description : told.description ≡ d
+  pub view : length a.view.cells ≡ 14 * d.slots
+  pub cells : length a.cells ≡ 14 * d.slots
+
+abbrev pub reading_of : Session → Reading
+reading_of s = record { client = s.client; queue = s.queue; view = s.view; phase = s.phase; left = s.left }
+
+-- the same of both views of a session
+pub record IsSession (d : Description) (told : EvdevView) (s : Session) : Type 0 where
+  pub description : told.description ≡ d
+  pub view : length s.view.cells ≡ 14 * d.slots
+  pub asked : length s.asker.view.cells ≡ 14 * d.slots
+  pub cells : length s.asker.cells ≡ 14 * d.slots
+  pub slots : d.slots ≤ SLOTS_MAX
+
+abbrev pub reader_view : Inside → ReaderView
+reader_view r = record { description = r.caps; reading = reading_of r.session; made = r.session.asker.made }
+
+-- a reader's views and its buffer have as many cells as its devices, and it keeps few calls
+pub record IsReader (r : Inside) : Type 0 where
+  pub view : length r.session.view.cells ≡ 14 * r.caps.slots
+  pub asked : length r.session.asker.view.cells ≡ 14 * r.caps.slots
+  pub cells : length r.session.asker.cells ≡ 14 * r.caps.slots
+  pub few : length r.session.asker.made ≤ 64
+  pub slots : r.caps.slots ≤ SLOTS_MAX

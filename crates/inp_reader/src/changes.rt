@@ -1,0 +1,144 @@
+//! What two views differ in, at one place.
+ghost use Rattle.std.specs.Prelude.{◌≡◌, ◌≤◌, ◌<◌, ◌+◌, ◌*◌, pos, not, length};
+ghost use Rattle.std.specs.Ordering.{int_eq};
+ghost use Rattle.inp_model.specs.Event.{is_negative, slot_event};
+ghost use Rattle.inp_recon.specs.Cells.{slot_count};
+ghost use Rattle.inp_reader.specs.Synthesis.{bit_event, bits_differ_at, axis_event, index_in_slot, is_replaced, is_changed, lift};
+
+use inp_bits::Bits;
+use inp_model::{ABS_MT_SLOT, ABS_MT_TOUCH_MAJOR, ABS_MT_TRACKING_ID, EV_ABS, Event};
+use inp_recon::View;
+
+/// How many values a slot has.
+const SLOT_VALUES: u16 = 14;
+
+/// The place of the tracking id among a slot's values.
+const TRACKING_ID: u16 = ABS_MT_TRACKING_ID - ABS_MT_TOUCH_MAJOR;
+
+// Whether the values of two events differ.
+pub(crate) fn values_differ(one: Event, other: Event) -> bool
+    ensures { result ≡ not (int_eq one.value other.value) }
+{
+    one.value != other.value
+}
+
+// Whether two lists differ at a code.
+pub(crate) fn bits_differ<const W: usize>(old: &Bits<W>, new: &Bits<W>, code: u16) -> bool
+    requires { code < 64 * W }
+    ensures { result ≡ bits_differ_at old.now new.now code }
+{
+    old.get(u32::from(code)) != new.get(u32::from(code))
+}
+
+// That a code is on, or off.
+pub(crate) fn bit_event<const W: usize>(kind: u16, bits: &Bits<W>, code: u16) -> Event
+    requires { code < 64 * W }
+    ensures { result ≡ bit_event kind bits.now code }
+{
+    let value = if bits.get(u32::from(code)) { 1 } else { 0 };
+    Event { kind, code, value }
+}
+
+// The value of an axis.
+pub(crate) fn axis_event(values: &[i32; 64], code: u16) -> Event
+    requires { code < 64 }
+    ensures { result ≡ axis_event values.now code code }
+{
+    Event {
+        kind: EV_ABS,
+        code,
+        value: values[usize::from(code)],
+    }
+}
+
+// A value of a slot.
+pub(crate) fn cell_event(view: &View, slot: u32, k: u16) -> Event
+    requires place { k < 14 }
+    requires within { 14 * slot + 14 ≤ length view.now.cells }
+    requires few { length view.now.cells ≤ 14 * 64 }
+    ensures { result ≡ axis_event view.now.cells (index_in_slot slot k) (48 + k) }
+{
+    let index = 14 * slot as usize + usize::from(k);
+    Event {
+        kind: EV_ABS,
+        code: ABS_MT_TOUCH_MAJOR + k,
+        value: *view.cells.get(index),
+    }
+}
+
+// The end of a contact.
+pub(crate) fn lift() -> Event
+    ensures { result ≡ lift }
+{
+    Event {
+        kind: EV_ABS,
+        code: ABS_MT_TRACKING_ID,
+        value: -1,
+    }
+}
+
+// How many slots there are.
+pub(crate) fn slots_of(view: &View) -> u32
+    requires { length view.now.cells ≤ 14 * 64 }
+    ensures slots { result ≡ slot_count view.now.cells }
+    ensures whole { length view.now.cells ≡ 14 * result }
+{
+    (view.cells.len() / 14) as u32
+}
+
+// Whether a slot has a contact in both views, and not the same one.
+pub(crate) fn is_replaced(old: &View, new: &View, slot: u32) -> bool
+    requires within { 14 * slot + 14 ≤ length old.now.cells }
+    requires cells { length old.now.cells ≡ length new.now.cells }
+    requires few { length old.now.cells ≤ 14 * 64 }
+    ensures { result ≡ is_replaced old.now new.now slot }
+{
+    let before = cell_event(old, slot, TRACKING_ID);
+    let after = cell_event(new, slot, TRACKING_ID);
+    !is_negative(before) && !is_negative(after) && values_differ(before, after)
+}
+
+// Whether the value of an event is negative.
+fn is_negative(event: Event) -> bool
+    ensures { result ≡ is_negative event }
+{
+    event.value < 0
+}
+
+// Whether a value of a slot differs.
+pub(crate) fn is_changed(old: &View, new: &View, slot: u32) -> bool
+    requires within { 14 * slot + 14 ≤ length old.now.cells }
+    requires cells { length old.now.cells ≡ length new.now.cells }
+    requires few { length old.now.cells ≤ 14 * 64 }
+    ensures { result ≡ is_changed old.now new.now slot }
+{
+    for k in 0..SLOT_VALUES {
+        if values_differ(cell_event(old, slot, k), cell_event(new, slot, k)) {
+            return true;
+        }
+    }
+    false
+}
+
+// The event that makes a slot the current one.
+pub(crate) fn event_of_slot(slot: u32) -> Event
+    requires { slot < 64 }
+    ensures { result ≡ slot_event (pos slot) }
+{
+    Event {
+        kind: EV_ABS,
+        code: ABS_MT_SLOT,
+        value: slot as i32,
+    }
+}
+
+// The event that makes a view's current slot the current one.
+pub(crate) fn event_of_current(view: &View) -> Event
+    ensures { result ≡ slot_event view.now.slot }
+{
+    Event {
+        kind: EV_ABS,
+        code: ABS_MT_SLOT,
+        value: view.slot,
+    }
+}

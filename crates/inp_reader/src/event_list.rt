@@ -1,0 +1,249 @@
+//! The making of the synthesised events.
+ghost use Rattle.std.specs.Prelude.{◌≡◌, ◌≤◌, ◌<◌, ◌+◌, ◌*◌, ◌-◌, pos, [], ◌∷◌, ◌++◌, length, take, drop, slice_get, slice_index_or, if◌then◌else◌, List, Some, IfOk};
+ghost use Rattle.inp_model.specs.declared.event.Event.{Event};
+ghost use Rattle.inp_recon.specs.Cells.{slot_count};
+ghost use Rattle.inp_recon.specs.View.{view_after_events};
+ghost use Rattle.inp_reader.specs.Synthesis.{synth, with_report, unless_same, bit_changes, axis_changes, class_changes, changes_in, cell_changes, lifts};
+
+use crate::changes::{
+    axis_event, bit_event, bits_differ, cell_event, event_of_current, event_of_slot, is_changed,
+    is_replaced, lift, slots_of, values_differ,
+};
+use inp_bits::Bits;
+use inp_model::{EV_KEY, EV_LED, EV_SW, EV_SYN, Event, NoMemory, SYN_REPORT};
+use inp_recon::View;
+use std::alloc::Global;
+use std::marker::Model;
+
+/// How many synthesised events there is room for: 1,024, and 20 a slot, for 64 slots.
+const EVENTS_MAX: usize = 2304;
+
+const _: () = prove!(EVENTS_MAX == 1024 + 20 * 64);
+
+/// How many values a slot has.
+const SLOT_VALUES: u16 = 14;
+
+/// Events, in the order in which they are added, with room for all synthesised events. A contract sees the list.
+#[derive(Drop)]
+pub(crate) struct EventList {
+    events: Vec<Event>,
+}
+
+impl Model for EventList {
+    ghost use Rattle.std.specs.Prelude.{List, ◌≤◌, vec_capacity};
+    ghost use Rattle.inp_model.specs.declared.event.Event.{Event};
+
+    ghost Value = { List Event };
+
+    ghost view = { λ list. list.events.items };
+
+    ghost invariant = { λ list. 2304 ≤ vec_capacity list.events };
+}
+
+impl EventList {
+    // No event. It is refused for memory alone.
+    pub(crate) fn new(alloc: Global) -> Result<EventList, NoMemory>
+        ensures { IfOk result (λ list. list ≡ []) }
+    {
+        let events = Vec::with_capacity(alloc, EVENTS_MAX)?;
+        Ok(EventList { events })
+    }
+
+    // Drops all events.
+    pub(crate) fn clear(&mut self)
+        ensures { self.new ≡ [] }
+    {
+        self.events.clear();
+    }
+
+    // How many events there are.
+    pub(crate) fn len(&self) -> usize
+        ensures { result ≡ length self.now }
+    {
+        self.events.len()
+    }
+
+    // The event at an index.
+    pub(crate) fn get(&self, index: usize) -> Event
+        requires { index < length self.now }
+        ensures { slice_get self.now index ≡ Some result }
+    {
+        self.events[index]
+    }
+
+    // Adds an event.
+    fn push(&mut self, event: Event)
+        requires { length self.old < 2304 }
+        ensures pushed { self.new ≡ self.old ++ event ∷ [] }
+        ensures few { length self.new ≤ length self.old + 1 }
+    {
+        self.events.push(event).unwrap();
+    }
+
+    // Adds an event, if it is wanted.
+    fn push_if(&mut self, wanted: bool, event: Event)
+        requires { length self.old < 2304 }
+        ensures pushed { self.new ≡ self.old ++ (if wanted then event ∷ [] else []) }
+        ensures few { length self.new ≤ length self.old + 1 }
+    {
+        if wanted {
+            self.push(event);
+        }
+    }
+
+    // Adds the report behind the events from an index on, if there are any.
+    fn push_report(&mut self, start: usize)
+        requires { length self.old < 2304 }
+        ensures reported { (front group : List Event) → self.old ≡ front ++ group → length front ≡ start
+            → self.new ≡ front ++ with_report group }
+        ensures few { length self.new ≤ length self.old + 1 }
+    {
+        let report = Event {
+            kind: EV_SYN,
+            code: SYN_REPORT,
+            value: 0,
+        };
+        let has_events = self.len() > start;
+        self.push_if(has_events, report);
+    }
+
+    // Adds the event that makes a slot the current one, if it is not.
+    fn push_to_slot(&mut self, current: Event, slot: Event)
+        requires { length self.old < 2304 }
+        ensures pushed { self.new ≡ self.old ++ unless_same current slot }
+        ensures few { length self.new ≤ length self.old + 1 }
+    {
+        if values_differ(current, slot) {
+            self.push(slot);
+        }
+    }
+
+    // Adds the changes of a class of codes.
+    fn push_bits<const W: usize>(&mut self, kind: u16, old: &Bits<W>, new: &Bits<W>)
+        requires words { W ≤ 12 }
+        requires few { length self.old + 64 * W ≤ 2304 }
+        ensures pushed { self.new ≡ self.old ++ bit_changes kind (64 * W) old.now new.now }
+        ensures few { length self.new ≤ length self.old + 64 * W }
+    {
+        for code in 0..64 * W {
+            let code = code as u16;
+            let wanted = bits_differ(old, new, code);
+            self.push_if(wanted, bit_event(kind, new, code));
+        }
+    }
+
+    // Adds the changes of axes.
+    fn push_axes(&mut self, old: &[i32; 64], new: &[i32; 64])
+        requires few { length self.old + 64 ≤ 2304 }
+        ensures pushed { self.new ≡ self.old ++ axis_changes old.now new.now }
+        ensures few { length self.new ≤ length self.old + 64 }
+    {
+        for code in 0..64u16 {
+            let event = axis_event(new, code);
+            let wanted = values_differ(axis_event(old, code), event);
+            self.push_if(wanted, event);
+        }
+    }
+
+    // Adds the changes of keys, LEDs, switches and axes.
+    fn push_classes(&mut self, old: &View, new: &View)
+        requires few { length self.old + 960 ≤ 2304 }
+        ensures pushed { self.new ≡ self.old ++ class_changes old.now new.now }
+        ensures few { length self.new ≤ length self.old + 960 }
+    {
+        self.push_bits(EV_KEY, &old.keys, &new.keys);
+        self.push_bits(EV_LED, &old.leds, &new.leds);
+        self.push_bits(EV_SW, &old.switches, &new.switches);
+        self.push_axes(&old.axes, &new.axes);
+    }
+
+    // Adds the end of each contact that another one followed in its slot.
+    fn push_lifts(&mut self, old: &View, new: &View)
+        requires cells { length old.now.cells ≡ length new.now.cells }
+        requires slots { length old.now.cells ≤ 14 * 64 }
+        requires few { length self.old + 128 ≤ 2304 }
+        ensures pushed { self.new ≡ self.old ++ lifts old.now new.now }
+        ensures few { length self.new ≤ length self.old + 128 }
+    {
+        let mut current = event_of_current(old);
+        for slot in 0..slots_of(old) {
+            if !is_replaced(old, new, slot) {
+                continue;
+            }
+            let this = event_of_slot(slot);
+            self.push_to_slot(current, this);
+            self.push(lift());
+            current = this;
+        }
+    }
+
+    // Adds the changes of one slot.
+    fn push_slot(&mut self, old: &View, new: &View, slot: u32)
+        requires within { 14 * slot + 14 ≤ length old.now.cells }
+        requires cells { length old.now.cells ≡ length new.now.cells }
+        requires slots { length old.now.cells ≤ 14 * 64 }
+        requires few { length self.old + 14 ≤ 2304 }
+        ensures pushed { self.new ≡ self.old ++ changes_in old.now new.now slot }
+        ensures few { length self.new ≤ length self.old + 14 }
+    {
+        for k in 0..SLOT_VALUES {
+            let event = cell_event(new, slot, k);
+            let wanted = values_differ(cell_event(old, slot, k), event);
+            self.push_if(wanted, event);
+        }
+    }
+
+    // Adds the changes of all slots.
+    fn push_cells(&mut self, old: &View, new: &View)
+        requires cells { length old.now.cells ≡ length new.now.cells }
+        requires slots { length old.now.cells ≤ 14 * 64 }
+        requires few { length self.old + 960 ≤ 2304 }
+        ensures pushed { self.new ≡ self.old ++ cell_changes old.now new.now }
+        ensures few { length self.new ≤ length self.old + 960 }
+    {
+        let mut current = event_of_current(old);
+        for slot in 0..slots_of(old) {
+            if !is_changed(old, new, slot) {
+                continue;
+            }
+            let this = event_of_slot(slot);
+            self.push_to_slot(current, this);
+            self.push_slot(old, new, slot);
+            current = this;
+        }
+    }
+
+    // Takes the events from one index to before another over into a view.
+    fn apply(&self, first: usize, end: usize, view: &mut View)
+        requires order { first ≤ end }
+        requires within { end ≤ length self.now }
+        ensures taken { view.new ≡ view_after_events view.old (take (end - first) (drop first self.now)) }
+        ensures cells { length view.new.cells ≡ length view.old.cells }
+    {
+        for index in first..end {
+            view.take_event(self.get(index));
+        }
+    }
+
+    // Makes the events that lead from the old view to the new one. The old view is used up.
+    pub(crate) fn fill(&mut self, old: &mut View, new: &View)
+        requires cells { length old.old.cells ≡ length new.now.cells }
+        requires few { length old.old.cells ≤ 14 * 64 }
+        ensures synth { self.new ≡ synth old.old new.now }
+        ensures cells { length old.new.cells ≡ length old.old.cells }
+    {
+        self.clear();
+        self.push_lifts(old, new);
+        let ended = self.len();
+        self.push_report(0);
+        let start = self.len();
+        self.push_classes(old, new);
+        self.apply(0, ended, old);
+        let first = self.len();
+        self.push_cells(old, new);
+        let end = self.len();
+        self.apply(first, end, old);
+        self.push_to_slot(event_of_current(old), event_of_current(new));
+        self.push_report(start);
+    }
+}

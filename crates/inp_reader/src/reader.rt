@@ -1,0 +1,176 @@
+//! The reader.
+ghost use Rattle.std.specs.Prelude.{◌≡◌, ◌≤◌, [], length, IfOk};
+ghost use Rattle.inp_recon.specs.View.{first_view};
+ghost use Rattle.inp_reader.specs.declared.phase.Phase.TheVariants.{Plain};
+ghost use Rattle.inp_reader.specs.Says.{Says};
+ghost use Rattle.inp_reader.specs.Reading.{start_talk, next_talk, with_sync_needed};
+
+use crate::asker::Asker;
+use crate::calls_made::CallsMade;
+use crate::cell_buffer::CellBuffer;
+use crate::queue::Queue;
+use crate::session::Session;
+use crate::synthesis::Synthesis;
+use crate::{CallMade, Mode, Next, Phase, Started};
+use inp_caps::Caps;
+use inp_model::{Evdev, NoMemory};
+use inp_recon::View;
+use std::alloc::Global;
+use std::marker::Model;
+
+/// The client of a reader that has not started, which is never open.
+pub const NO_CLIENT: u32 = u32::MAX;
+
+const _: () = prove!(NO_CLIENT == 4_294_967_295);
+
+/// A client of a device that reads its events and knows its state by them, as libevdev's `struct libevdev` does.
+///
+/// It has a view of the device, which is set by each event that is handed out. Where the device told that events were
+/// lost (SYN_DROPPED) the view no longer holds, and the reader synchronises: it drops what it has read, removes what is
+/// left to read, and asks for the whole state. In between it hands out events of its own, which lead from the old view
+/// to the new one.
+///
+/// Each call is lent the device, which must be of the description that the reader was made for. A contract sees a reader
+/// as its description, what it keeps ([`Reading`](crate)), and the calls that it made last.
+#[derive(Drop)]
+pub struct Reader {
+    caps: Caps,
+    session: Session,
+}
+
+impl Model for Reader {
+    ghost use Rattle.inp_reader.specs.Reading.{ReaderView};
+
+    ghost Value = { ReaderView };
+
+    ghost use Rattle.inp_reader.specs.Session.{reader_view, IsReader};
+
+    ghost view = { reader_view };
+
+    ghost invariant = { IsReader };
+}
+
+impl Reader {
+    /// A reader for devices of this description. It has no client yet: its client is `NO_CLIENT`, its phase Plain.
+    ///
+    /// It takes all memory that it will need, about 40 kB and 170 bytes a slot. `NoMemory` comes where there is none.
+    pub fn new(alloc: Global, caps: &Caps) -> Result<Reader, NoMemory>
+        ensures description { IfOk result (λ reader. reader.description ≡ caps.now) }
+        ensures reading { IfOk result (λ reader. reader.reading ≡ record {
+          client = NO_CLIENT;
+          queue = [];
+          view = first_view caps.now;
+          phase = Plain;
+          left = [];
+        }) }
+        ensures made { IfOk result (λ reader. reader.made ≡ []) }
+    {
+        let asker = Asker {
+            made: CallsMade::new(alloc)?,
+            cells: CellBuffer::new(alloc, caps.slots())?,
+            view: View::new(alloc, caps)?,
+        };
+        let session = Session {
+            client: NO_CLIENT,
+            queue: Queue::new(),
+            view: View::new(alloc, caps)?,
+            phase: Phase::Plain,
+            left: Synthesis::new(alloc)?,
+            asker,
+        };
+        Ok(Reader {
+            caps: caps.copy(),
+            session,
+        })
+    }
+
+    /// Opens a client and asks for the whole state: keys, LEDs and switches, each where the device has the type; each
+    /// axis outside 0x2f to 0x3d, ascending; and all slots, where there are any (libevdev's `libevdev_set_fd`).
+    ///
+    /// | Answer | What it means | The reader then |
+    /// |---|---|---|
+    /// | `Opened` | all calls were accepted | has the new client; its view is what the calls answered, its queue is empty, its phase Plain |
+    /// | `Refused` | a call was refused so | is as before where that call was the open; else it has the new client, the view as before, an empty queue and the phase Needed |
+    ///
+    /// An older client is not closed. Only the open may meet want of memory.
+    pub fn start<E: Evdev>(&mut self, dev: &mut E) -> Started
+        requires description { (E.told dev.old).description ≡ self.old.description }
+        ensures says { Says (E.told dev.old) (E.told dev.new) [] self.new.made
+            (start_talk self.old.description self.old.reading) (result, self.new.reading) }
+        ensures reader { self.new.description ≡ self.old.description }
+        ensures device { (E.told dev.new).description ≡ (E.told dev.old).description }
+    {
+        self.session.asker.made.clear();
+        self.session.start(dev, &self.caps)
+    }
+
+    /// The next event (libevdev's `libevdev_next_event`).
+    ///
+    /// In phase Plain a `Normal` call reads, where nothing is queued, and hands out the first event; a `Sync` call
+    /// answers `Synced`. In phase Needed either call synchronises first. Then, and in phase Handing, a `Sync` call hands
+    /// out the next synthesised event, and a `Normal` call drops those that are left and goes on as in phase Plain.
+    ///
+    /// | Answer | What it means | The reader then |
+    /// |---|---|---|
+    /// | `Success` | an event of the device | its view is set by the event |
+    /// | `Dropped` | events were lost; the event is SYN_DROPPED | its phase is Needed |
+    /// | `Sync` | a synthesised event | its phase is Handing, and its view the synchronised one |
+    /// | `Synced` | nothing is left to synchronise | its phase is Plain |
+    /// | `Again` | nothing is visible to the client | its phase is Plain |
+    /// | `NoDevice` | the client was revoked | see below |
+    /// | `Closed` | the client is not open | see below |
+    /// | `Full` | the history is as long as it may be | see below |
+    ///
+    /// After the last three in a read, the reader is as it was just before that read. After them in a synchronisation
+    /// its queue is empty, its phase Needed and its view as before; the next call synchronises anew.
+    ///
+    /// Key value 2, an autorepeat, is handed out and does not change the view (this project's choice). It takes no
+    /// memory. It makes at most 55 calls, but for a synchronisation at most one.
+    pub fn next<E: Evdev>(&mut self, dev: &mut E, mode: Mode) -> Next
+        requires description { (E.told dev.old).description ≡ self.old.description }
+        ensures says { Says (E.told dev.old) (E.told dev.new) [] self.new.made
+            (next_talk self.old.description mode self.old.reading) (result, self.new.reading) }
+        ensures reader { self.new.description ≡ self.old.description }
+        ensures device { (E.told dev.new).description ≡ (E.told dev.old).description }
+    {
+        self.session.asker.made.clear();
+        self.session.next(dev, &self.caps, mode)
+    }
+
+    /// Makes the phase Needed, so that the next call of [`next`](Reader::next) synchronises first (libevdev's
+    /// `LIBEVDEV_READ_FLAG_FORCE_SYNC`). The view and the queue stay until then.
+    pub fn force_sync(&mut self)
+        ensures needed { self.new ≡ record self.old { reading = with_sync_needed self.old.reading } }
+    {
+        self.session.force_sync();
+    }
+
+    /// What the device is, as far as the reader has handed it out.
+    pub fn view(&self) -> &View
+        ensures view { result.now ≡ self.now.reading.view }
+    {
+        &self.session.view
+    }
+
+    /// The client that is read as, or `NO_CLIENT` where no start opened one.
+    pub fn client(&self) -> u32
+        ensures client { result ≡ self.now.reading.client }
+    {
+        self.session.client
+    }
+
+    /// Whether the reader is to synchronise.
+    pub fn phase(&self) -> Phase
+        ensures phase { result ≡ self.now.reading.phase }
+    {
+        self.session.phase
+    }
+
+    /// The calls of the last `start` or `next`, in order, those answered Again left out. They are at most 64.
+    pub fn made(&self) -> &[CallMade]
+        ensures made { result.now ≡ self.now.made }
+        ensures few { length result.now ≤ 64 }
+    {
+        self.session.asker.made.as_slice()
+    }
+}

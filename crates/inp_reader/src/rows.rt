@@ -1,0 +1,12 @@
+//! What the definitions compute on short histories.
+ghost use Rattle.inp_reader.specs.Examples.{SynchronisesAfterALoss, EndsAContactFirst, StartsInPart, SyncsWithoutACall, StopsForGood};
+
+/// What the definitions of this crate compute on short histories that were worked out by hand. It does nothing: its
+/// contract is the point.
+pub fn examples()
+    ensures loss { SynchronisesAfterALoss }
+    ensures contact { EndsAContactFirst }
+    ensures part { StartsInPart }
+    ensures plain { SyncsWithoutACall }
+    ensures stops { StopsForGood }
+{}

@@ -1,0 +1,280 @@
+//! What a reader keeps, and what it does.
+ghost use Rattle.std.specs.Prelude.{◌≡◌, ◌≤◌, ◌<◌, ◌+◌, [], ◌++◌, length};
+ghost use Rattle.inp_model.specs.declared.step.Step.TheVariants.{Read};
+ghost use Rattle.inp_reader.specs.Asking.{Reads, asked_result};
+ghost use Rattle.inp_reader.specs.Reading.{ask_each, queries, start_talk, after_queries, after_read, read_talk, hand_out, handing, as_plain, after_sync, sync_talk, go_on, go_on_after, plain_talk, next_talk, with_sync_needed};
+ghost use Rattle.inp_reader.specs.Says.{Says, kept_of};
+ghost use Rattle.inp_reader.specs.Session.{reading_of, IsSession};
+ghost use Rattle.inp_reader.specs.Talk.{ask, finish, and_then};
+
+use crate::asker::Asker;
+use crate::queue::Queue;
+use crate::stops::{is_dropped, start_stop_of, stop_of};
+use crate::synthesis::Synthesis;
+use crate::{Mode, Next, Phase, Started};
+use inp_caps::Caps;
+use inp_model::{Evdev, Reply, Step};
+use inp_recon::View;
+
+/// All that a reader keeps but the description.
+#[derive(Drop)]
+pub(crate) struct Session {
+    /// The client that is read as.
+    pub(crate) client: u32,
+    /// The events that were read and not handed out.
+    pub(crate) queue: Queue,
+    /// What the device is, as far as it was handed out.
+    pub(crate) view: View,
+    /// Whether to synchronise.
+    pub(crate) phase: Phase,
+    /// The synthesised events that were not handed out.
+    pub(crate) left: Synthesis,
+    /// Who makes the calls.
+    pub(crate) asker: Asker,
+}
+
+impl Session {
+    // Hands out the first event of the queue, and sets the view by it.
+    fn hand_out(&mut self) -> Next
+        ensures handed { (result, reading_of self.new)
+            ≡ hand_out (reading_of self.old) self.old.queue }
+        ensures asker { self.new.asker ≡ self.old.asker }
+        ensures cells { length self.new.view.cells ≡ length self.old.view.cells }
+    {
+        match self.queue.take_first() {
+            None => Next::Closed,
+            Some(event) => {
+                self.view.take_event(event.event);
+                if is_dropped(event.event) {
+                    self.phase = Phase::Needed;
+                    Next::Dropped { event }
+                } else {
+                    Next::Success { event }
+                }
+            }
+        }
+    }
+
+    // Reads into the queue, which is empty.
+    fn read_queue<E: Evdev>(&mut self, dev: &mut E) -> Reply
+        requires empty { self.old.queue ≡ [] }
+        requires few { length self.old.asker.made < 64 }
+        ensures reads { Reads (E.told dev.old) (E.told dev.new) self.old.client result self.new.queue }
+        ensures asker { let made = self.old.asker.made ++ kept_of (Read self.old.client 64) result in
+            self.new.asker ≡ record self.old.asker { made = made } }
+        ensures reading { reading_of self.new
+            ≡ record (reading_of self.old) { queue = self.new.queue } }
+    {
+        let reply = self.queue.read(dev, self.client);
+        let step = Step::Read {
+            client: self.client,
+            count: 64,
+        };
+        self.asker.keep(step, reply);
+        reply
+    }
+
+    // Reads, and hands out the first event.
+    fn read<E: Evdev>(&mut self, dev: &mut E, caps: &Caps) -> Next
+        requires empty { self.old.queue ≡ [] }
+        requires session { IsSession caps.now (E.told dev.old) self.old }
+        requires few { length self.old.asker.made < 64 }
+        ensures says { Says (E.told dev.old) (E.told dev.new) self.old.asker.made self.new.asker.made
+            (read_talk (reading_of self.old)) (result, reading_of self.new) }
+        ensures session { IsSession caps.now (E.told dev.new) self.new }
+        ensures few { length self.new.asker.made ≤ length self.old.asker.made + 1 }
+    {
+        let reply = self.read_queue(dev);
+        if reply.is_accepted() {
+            self.hand_out()
+        } else {
+            stop_of(reply)
+        }
+    }
+
+    // In phase Plain: the next event, read where none is queued.
+    fn next_event<E: Evdev>(&mut self, dev: &mut E, caps: &Caps) -> Next
+        requires session { IsSession caps.now (E.told dev.old) self.old }
+        requires few { length self.old.asker.made < 64 }
+        ensures says { Says (E.told dev.old) (E.told dev.new) self.old.asker.made self.new.asker.made
+            (read_talk (reading_of self.old)) (result, reading_of self.new) }
+        ensures session { IsSession caps.now (E.told dev.new) self.new }
+        ensures few { length self.new.asker.made ≤ length self.old.asker.made + 1 }
+    {
+        if self.queue.is_empty() {
+            self.read(dev, caps)
+        } else {
+            self.hand_out()
+        }
+    }
+
+    // Hands out the next synthesised event.
+    fn hand_synthesised(&mut self) -> Next
+        ensures handed { (result, reading_of self.new) ≡ handing (reading_of self.old) }
+        ensures asker { self.new.asker ≡ self.old.asker }
+        ensures cells { self.new.view ≡ self.old.view }
+    {
+        match self.left.take_first() {
+            Some(event) => Next::Sync { event },
+            None => {
+                self.phase = Phase::Plain;
+                Next::Synced
+            }
+        }
+    }
+
+    // Drops the synthesised events.
+    fn drop_synthesised(&mut self)
+        ensures reading { reading_of self.new ≡ as_plain (reading_of self.old) }
+        ensures asker { self.new.asker ≡ self.old.asker }
+        ensures view { self.new.view ≡ self.old.view }
+    {
+        self.left.clear();
+        self.phase = Phase::Plain;
+    }
+
+    // In phase Handing: the next synthesised event, or the next event without them.
+    fn go_on<E: Evdev>(&mut self, dev: &mut E, caps: &Caps, mode: Mode) -> Next
+        requires session { IsSession caps.now (E.told dev.old) self.old }
+        requires few { length self.old.asker.made < 64 }
+        ensures says { Says (E.told dev.old) (E.told dev.new) self.old.asker.made self.new.asker.made
+            (go_on mode (reading_of self.old)) (result, reading_of self.new) }
+        ensures session { IsSession caps.now (E.told dev.new) self.new }
+        ensures few { length self.new.asker.made ≤ length self.old.asker.made + 1 }
+    {
+        match mode {
+            Mode::Sync => self.hand_synthesised(),
+            Mode::Normal => {
+                self.drop_synthesised();
+                self.next_event(dev, caps)
+            }
+        }
+    }
+
+    // The next call synchronises first.
+    pub(crate) fn force_sync(&mut self)
+        ensures reading { reading_of self.new ≡ with_sync_needed (reading_of self.old) }
+        ensures asker { self.new.asker ≡ self.old.asker }
+        ensures view { self.new.view ≡ self.old.view }
+    {
+        self.left.clear();
+        self.phase = Phase::Needed;
+    }
+
+    // Removes what is left to read, asks for all that the device has, and makes the synthesised events. The reply of a
+    // call that is not accepted comes back.
+    fn synchronise<E: Evdev>(&mut self, dev: &mut E, caps: &Caps) -> Option<Reply>
+        requires session { IsSession caps.now (E.told dev.old) self.old }
+        requires few { length self.old.asker.made + 54 ≤ 64 }
+        ensures says { Says (E.told dev.old) (E.told dev.new) self.old.asker.made self.new.asker.made
+            (sync_talk caps.now (reading_of self.old)) (asked_result result self.new.asker.view) }
+        ensures reading { reading_of self.new
+            ≡ after_sync (reading_of self.old) (asked_result result self.new.asker.view) }
+        ensures session { IsSession caps.now (E.told dev.new) self.new }
+        ensures few { length self.new.asker.made ≤ length self.old.asker.made + 54 }
+    {
+        self.queue.clear();
+        self.asker.view.copy_from(&self.view);
+        let stop = self.asker.discard_and_query(dev, caps, self.client);
+        if stop.is_some() {
+            self.left.clear();
+            self.phase = Phase::Needed;
+            return stop;
+        }
+        self.left.fill(&mut self.view, &self.asker.view);
+        self.view.copy_from(&self.asker.view);
+        self.phase = Phase::Handing;
+        stop
+    }
+
+    // In phase Needed: synchronises, and goes on.
+    fn next_after_loss<E: Evdev>(&mut self, dev: &mut E, caps: &Caps, mode: Mode) -> Next
+        requires session { IsSession caps.now (E.told dev.old) self.old }
+        requires few { length self.old.asker.made + 55 ≤ 64 }
+        ensures says { Says (E.told dev.old) (E.told dev.new) self.old.asker.made self.new.asker.made
+            (and_then (sync_talk caps.now (reading_of self.old))
+            (go_on_after mode (reading_of self.old))) (result, reading_of self.new) }
+        ensures session { IsSession caps.now (E.told dev.new) self.new }
+        ensures few { length self.new.asker.made ≤ length self.old.asker.made + 55 }
+    {
+        match self.synchronise(dev, caps) {
+            Some(reply) => stop_of(reply),
+            None => self.go_on(dev, caps, mode),
+        }
+    }
+
+    // In phase Plain.
+    fn next_in_plain<E: Evdev>(&mut self, dev: &mut E, caps: &Caps, mode: Mode) -> Next
+        requires session { IsSession caps.now (E.told dev.old) self.old }
+        requires few { length self.old.asker.made < 64 }
+        ensures says { Says (E.told dev.old) (E.told dev.new) self.old.asker.made self.new.asker.made
+            (plain_talk mode (reading_of self.old)) (result, reading_of self.new) }
+        ensures session { IsSession caps.now (E.told dev.new) self.new }
+        ensures few { length self.new.asker.made ≤ length self.old.asker.made + 1 }
+    {
+        match mode {
+            Mode::Normal => self.next_event(dev, caps),
+            Mode::Sync => Next::Synced,
+        }
+    }
+
+    // The next event in a mode.
+    pub(crate) fn next<E: Evdev>(&mut self, dev: &mut E, caps: &Caps, mode: Mode) -> Next
+        requires session { IsSession caps.now (E.told dev.old) self.old }
+        requires few { length self.old.asker.made + 55 ≤ 64 }
+        ensures says { Says (E.told dev.old) (E.told dev.new) self.old.asker.made self.new.asker.made
+            (next_talk caps.now mode (reading_of self.old)) (result, reading_of self.new) }
+        ensures session { IsSession caps.now (E.told dev.new) self.new }
+        ensures few { length self.new.asker.made ≤ length self.old.asker.made + 55 }
+    {
+        match self.phase {
+            Phase::Plain => self.next_in_plain(dev, caps, mode),
+            Phase::Needed => self.next_after_loss(dev, caps, mode),
+            Phase::Handing => self.go_on(dev, caps, mode),
+        }
+    }
+
+    // Reads as a client that was just opened: asks for all that the device has.
+    fn begin<E: Evdev>(&mut self, dev: &mut E, caps: &Caps, client: u32, ring: u32) -> Started
+        requires session { IsSession caps.now (E.told dev.old) self.old }
+        requires few { length self.old.asker.made + 53 ≤ 64 }
+        ensures says { Says (E.told dev.old) (E.told dev.new) self.old.asker.made self.new.asker.made
+            (and_then (ask_each (queries caps.now client) self.old.view)
+            (λ asked. finish (after_queries client ring (reading_of self.old) asked)))
+            (result, reading_of self.new) }
+        ensures session { IsSession caps.now (E.told dev.new) self.new }
+        ensures few { length self.new.asker.made ≤ length self.old.asker.made + 53 }
+    {
+        self.client = client;
+        self.queue.clear();
+        self.left.clear();
+        self.asker.view.copy_from(&self.view);
+        match self.asker.query_all(dev, caps, client) {
+            Some(reply) => {
+                self.phase = Phase::Needed;
+                start_stop_of(reply)
+            }
+            None => {
+                self.view.copy_from(&self.asker.view);
+                self.phase = Phase::Plain;
+                Started::Opened { client, ring }
+            }
+        }
+    }
+
+    // Opens a client, and asks for all that the device has.
+    pub(crate) fn start<E: Evdev>(&mut self, dev: &mut E, caps: &Caps) -> Started
+        requires session { IsSession caps.now (E.told dev.old) self.old }
+        requires few { length self.old.asker.made + 54 ≤ 64 }
+        ensures says { Says (E.told dev.old) (E.told dev.new) self.old.asker.made self.new.asker.made
+            (start_talk caps.now (reading_of self.old)) (result, reading_of self.new) }
+        ensures session { IsSession caps.now (E.told dev.new) self.new }
+        ensures few { length self.new.asker.made ≤ length self.old.asker.made + 54 }
+    {
+        let reply = self.asker.ask(dev, caps, Step::Open);
+        match reply {
+            Reply::Opened { client, ring, .. } => self.begin(dev, caps, client, ring),
+            _ => start_stop_of(reply),
+        }
+    }
+}
