@@ -1,0 +1,2 @@
+mod Booleans
+pub mod Names

@@ -1,0 +1,4 @@
+pub mod Name
+pub mod Command
+pub mod Record
+pub mod Kept

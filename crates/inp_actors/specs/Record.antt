@@ -1,0 +1,49 @@
+-- What a record holds, and what it keeps (docs/FORMATS.md, "The record").
+use Rattle.std.specs.Prelude.{◌≡◌, ℕ, ◌^◌, ◌<◌, ◌≤◌, true, List, [], ◌∷◌, length, flat_map, slice_get, Some}
+use Rattle.std.specs.List.{range_with_len}
+use Rattle.inp_model.specs.declared.stamped.TheConstants.{MOMENT_MAX}
+use Rattle.inp_model.specs.declared.stamped.Stamped.{Stamped}
+use Rattle.inp_actors.specs.declared.command.Command.{Command}
+use Rattle.inp_actors.specs.declared.command.Command.TheVariants.{Stream}
+use Rattle.inp_actors.specs.declared.device_text.DeviceText.{DeviceText}
+use Rattle.inp_actors.specs.declared.actor_text.ActorText.{ActorText}
+use Rattle.inp_actors.specs.declared.line.Line.{Line}
+use Rattle.inp_actors.specs.Command.{is_command_of, is_in_range}
+
+pub record RecordView : Type 0 where
+  pub devices : List DeviceText
+  pub actors : List ActorText
+  pub lines : List Line
+  -- the events of each stream command, in line order
+  pub streams : List (List Stamped)
+
+-- the number of the stream that a command takes, if it takes one
+abbrev pub stream_of : Command → List ℕ
+stream_of (Stream file index) = index ∷ []
+stream_of _ = []
+
+-- the numbers of the streams that lines take, in line order
+abbrev pub streams_of : List Line → List ℕ
+streams_of lines = flat_map (λ line. stream_of line.command) lines
+
+-- the moments of these events are within their limit
+abbrev pub AreInTime : List Stamped → Type 0
+AreInTime stamps = (i : ℕ) (s : Stamped) → slice_get stamps i ≡ Some s → s.now ≤ MOMENT_MAX
+
+-- What each record keeps.
+pub record IsRecord (r : RecordView) : Type 0 where
+  -- each actor is one of a device, and each line one of an actor
+  pub devices : (i : ℕ) (actor : ActorText) → slice_get r.actors i ≡ Some actor → actor.device < length r.devices
+  pub actors : (i : ℕ) (line : Line) → slice_get r.lines i ≡ Some line → line.actor < length r.actors
+  -- each line's command is one that its actor's role has
+  pub commands : (i : ℕ) (line : Line) (actor : ActorText) → slice_get r.lines i ≡ Some line → slice_get r.actors line.actor ≡ Some actor → is_command_of actor.role line.command ≡ true
+  -- each number is one that a line may have
+  pub ranges : (i : ℕ) (line : Line) → slice_get r.lines i ≡ Some line → is_in_range line.command ≡ true
+  -- the stream commands have the streams, in line order
+  pub numbered : streams_of r.lines ≡ range_with_len 0 (length r.streams)
+  pub in_time : (i : ℕ) (stamps : List Stamped) → slice_get r.streams i ≡ Some stamps → AreInTime stamps
+  -- the lists can be numbered by 32 bits
+  pub few_devices : length r.devices < 2 ^ 32
+  pub few_actors : length r.actors < 2 ^ 32
+  pub few_lines : length r.lines < 2 ^ 32
+  pub few_streams : length r.streams < 2 ^ 32

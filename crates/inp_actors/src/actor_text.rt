@@ -1,0 +1,18 @@
+//! The actors of a record.
+
+use crate::{Name, Role};
+use inp_model::Items;
+
+/// An actor of a record.
+#[derive(Drop)]
+pub struct ActorText {
+    /// Its name.
+    pub name: Name,
+    /// What it is.
+    pub role: Role,
+    /// The number of its device, from 0.
+    pub device: u32,
+}
+
+/// The actors of a record, in file order. They are numbered from 0 over the whole record.
+pub type Actors = Items<ActorText>;

@@ -1,0 +1,31 @@
+//! What a recorded device file says, as data: devices, the actors on them, what these do, and the streams of events that
+//! sources take from files.
+//!
+//! This crate is for whoever reads a record from text, plays one, or prints what came of it; they meet in [`Record`] and
+//! need to know nothing of one another. It stands on `inp_model` for events and clocks, and on `inp_caps` for
+//! descriptions.
+//!
+//! Its contract: a [`Record`] is seen as its four lists and keeps what `IsRecord` says (`specs/Record.antt`): its indices
+//! are in range, each line's command is one that its actor's role has, and each number is one that a line may have. So
+//! whoever plays a record has nothing to refuse. Nothing here takes memory but the lists' `push`.
+#![tactic(auto)]
+
+mod actor_text;
+mod command;
+mod device_text;
+mod file_name;
+mod line;
+mod name;
+mod record;
+mod role;
+#[cfg(test)]
+mod tests;
+
+pub use actor_text::{ActorText, Actors};
+pub use command::{Command, READ_MAX};
+pub use device_text::{DeviceText, Devices};
+pub use file_name::FileName;
+pub use line::{Line, Lines};
+pub use name::{NAME_MAX, Name, is_name};
+pub use record::{Record, Stamps, Streams};
+pub use role::Role;
