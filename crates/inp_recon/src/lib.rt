@@ -5,15 +5,23 @@
 //! replies, on `inp_bits` for the lists of codes, and on `inp_caps` for the description.
 //!
 //! Its contract: `specs/View.antt` says, part by part, what an event and an answer make of a view.
-//! [`View::take_event`] and [`View::answer`] are one step of that fold each, as an equation on the whole view. No clause
-//! says that a view is the device's state: that depends on which events were read, and whether any were lost.
+//! [`View::take_event`] and [`View::answer`] are one step of that fold each, as an equation on the whole view.
+//!
+//! [`laws::faithful`] says when a view is the device's state: at each report of a frame that the client could follow,
+//! having asked for everything and lost nothing, while nothing was kept from it. It is a law over the definitions
+//! alone, for every description, every history of accepted steps and every client (`specs/Faithful.antt`). It speaks of
+//! the fold of the definitions, which is what these calls keep for a client that hands them each of its answers and of
+//! the events that it took. Nothing is said of a view in the middle of a frame, at a frame before the last query, or
+//! between a loss and the next synchronisation.
 //!
 //! A view takes memory when it is made, and never again. Lemmas for callers: no event and no answer changes how long the
-//! lists of a view are (`proofs/Sizes.antt`), and events may be taken in two parts (`proofs/Folds.antt`).
+//! lists of a view are (`proofs/Sizes.antt`), events may be taken in two parts (`proofs/Folds.antt`), and between two
+//! steps a client's queue is empty, ends in a report, or is one SYN_DROPPED alone (`proofs/Shape.antt`).
 #![tactic(auto)]
 
 mod cells;
 mod flags;
+pub mod laws;
 #[cfg(test)]
 mod tests;
 mod view;
@@ -21,4 +29,4 @@ mod view_examples;
 
 pub use cells::Cells;
 pub use view::View;
-pub use view_examples::examples;
+pub use view_examples::{examples, faithful_examples};

@@ -1,4 +1,5 @@
 //! What the definitions compute of a few events and answers.
+ghost use Rattle.inp_recon.specs.FaithfulExamples.{FollowsTheDevice, MeetsTheLaw, FollowsSlots, NeedsALaterFrame, IsRightFromTheNextFrameOn, NeedsAllQueries, NeedsNoLoss, NeedsNoGrab, NeedsNoGrabOfKeys, NeedsNoMask, FindsTheRead, ViewsEachEvent};
 ghost use Rattle.inp_recon.specs.Examples.{BeginsWithoutContacts, TakesNoRepeat, TakesSwitchesAndLeds, TakesAnAxis, TakesNoOther, TakesNoOtherSlot, GoesOnInTheSlotTold, TellsKeys, TellsAnAxis, TellsNoOther};
 
 /// What the definitions of this crate compute of a few events and answers that were worked out by hand. It does
@@ -14,4 +15,21 @@ pub fn examples()
     ensures keys { TellsKeys }
     ensures axis { TellsAnAxis }
     ensures no_other { TellsNoOther }
+{}
+
+/// When the view of a client is the device's state, and what each condition for it is good for: what the definitions of
+/// this crate compute of short histories that were worked out by hand. It does nothing: its contract is the point.
+pub fn faithful_examples()
+    ensures follows { FollowsTheDevice }
+    ensures law { MeetsTheLaw }
+    ensures slots { FollowsSlots }
+    ensures later { NeedsALaterFrame }
+    ensures next_frame { IsRightFromTheNextFrameOn }
+    ensures queries { NeedsAllQueries }
+    ensures losses { NeedsNoLoss }
+    ensures grab { NeedsNoGrab }
+    ensures grab_of_keys { NeedsNoGrabOfKeys }
+    ensures mask { NeedsNoMask }
+    ensures read_of_event { FindsTheRead }
+    ensures view_at_event { ViewsEachEvent }
 {}

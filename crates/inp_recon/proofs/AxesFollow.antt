@@ -1,0 +1,261 @@
+-- The axes of a view follow the device. A query of an axis removes nothing from the queue: what is queued of it leads
+-- to its present value.
+use Rattle.std.proofs.Common.{◌≡◌, ◌<◌, ℕ, ℤ, pos, Bool, true, false, ◌&&◌, not, if◌then◌else◌, cond, nat_eq, List, [], ◌∷◌, ◌++◌, length, map, get_or, refl, sym, ap, subst, ◌∙◌, Some, arith}
+use Rattle.std.proofs.lemmas.Bool.{eqb-true, not-true}
+use Rattle.inp_model.specs.declared.event.TheConstants.{EV_ABS}
+use Rattle.inp_model.specs.declared.multi_touch.TheConstants.{ABS_MT_SLOT}
+use Rattle.inp_model.specs.declared.event.Event.{Event}
+use Rattle.inp_model.specs.declared.step.Step.{Step}
+use Rattle.inp_model.specs.declared.step.Step.TheVariants.{Open, Discard, GetAxis}
+use Rattle.inp_model.specs.Description.{Description, supports, info, no_info, is_multi_touch_code}
+use Rattle.inp_model.specs.Event.{is_multi_touch}
+use Rattle.inp_model.specs.Step.{Codes, Slots, client_of, moment_of, is_same, query_of}
+use Rattle.inp_model.specs.State.{axis_value}
+use Rattle.inp_model.specs.Passed.{announced}
+use Rattle.inp_model.specs.Past.{is_open}
+use Rattle.inp_model.specs.Cut.{Cut, raw_after, pending, cuts}
+use Rattle.inp_model.specs.Raw.{raw, raw_of_step}
+use Rattle.inp_model.specs.Frame.{Frame, frame_of, frames}
+use Rattle.inp_model.specs.Queue.{Entry, event_of, queue, taken_by}
+use Rattle.inp_model.specs.Reply.{accepted, present_value, axis_answer}
+use Rattle.inp_recon.specs.declared.view.View.{View}
+use Rattle.inp_recon.specs.View.{IsSizedFor, with_value_at, view_after_event, view_after_events, view_after_answer}
+use Rattle.inp_recon.specs.ClientView.{client_view}
+use Rattle.inp_recon.specs.Synchronised.{OneAxis, asks_for, is_start, start_place, has_axis, taken_since_start, has_no_loss, has_asked}
+use Rattle.inp_recon.specs.Undisturbed.{is_whole_for}
+use Rattle.inp_recon.proofs.Each.{Each, Each-left, Each-right, and-left, and-right, all-left, all-right}
+use Rattle.inp_recon.proofs.Over.{over, over-append, IsIdle}
+use Rattle.inp_recon.proofs.LastWrite.{again, suffix-same, pending-again}
+use Rattle.inp_recon.proofs.CallsLeft.{left_in_queue, left_by}
+use Rattle.inp_recon.proofs.FrameEntries.{Receives}
+use Rattle.inp_recon.proofs.FrameSteps.{frames_by, offered_to, passed_by, passes_all, all_grown}
+use Rattle.inp_recon.proofs.Shape.{start-empties}
+use Rattle.inp_recon.proofs.Steps.{raw-step, queue-step, frames-step, start-same, start-before, receives-before}
+use Rattle.inp_recon.proofs.FlagClasses.{kind_asked}
+use Rattle.inp_recon.proofs.AxisPasses.{sets_axis, value_of, axis_after, unkind-idle, multi_touch-idle, axis-unviewed, axis-passes}
+use Rattle.inp_recon.proofs.Following.{Spares, AreWhole, call-keeps, Stands, stands}
+use Rattle.inp_recon.proofs.ViewSteps.{get-after_events, get-follows, get_or-with_value_at}
+
+-- another query spares the axis
+pub no_abs_query : (x : Step) → query_of x ≡ Some (Codes EV_ABS) → ⊥
+unfolding kind_asked
+no_abs_query (GetAxis named code) e = omega (arith, ap kind_asked e)
+no_abs_query x e = omega (arith, ap kind_asked e)
+
+-- a start stands for no raw event
+start_raw : (d : Description) (past : List Step) (client : ℕ) (x : Step) → is_start past client x ≡ true → raw_of_step d past x ≡ []
+unfolding raw_of_step
+start_raw d past client Open h = refl
+start_raw d past client (Discard reader) h = refl
+start_raw d past client x h = let bad : false ≡ true = h in absurd cc
+
+no_frames : (d : Description) (client : ℕ) (past : List Step) (now : ℕ) (r : List Event) (q : List Entry) → offered_to d client q (frames_by d past now r []) ≡ q
+unfolding cuts
+no_frames d client past now r q = refl
+
+whole_here : (client : ℕ) (past : List Step) (now start : ℕ) → start < length past → (cs : List Cut) → AreWhole start client (map (frame_of past now) cs) → Each (λ f. is_whole_for client f ≡ true) (map (frame_of past now) cs)
+whole_here client past now start later [] w = tt
+whole_here client past now start later (c ∷ cs) w = (w.0 later, whole_here client past now start later cs w.1)
+
+module _ (d : Description) (client code : ℕ) (has : has_axis d code ≡ true) (within : code < 64) where
+  axis-spares : Spares client (OneAxis code) (axis_after code)
+  axis-spares x asks own (Codes k) asked e part = by (nat_eq k EV_ABS) refl
+    where
+      by : (b : Bool) → nat_eq k EV_ABS ≡ b → IsIdle (axis_after code) e
+      by true h = absurd (no_abs_query x (asked ∙ ap (λ (n : ℕ). Some (Codes n)) (eqb-true k EV_ABS h)))
+      by false h = unkind-idle code e (ap (λ (n : ℕ). nat_eq n EV_ABS) (eqb-true e.kind k part) ∙ h)
+  axis-spares x asks own Slots asked e part = multi_touch-idle code e part
+
+  abbrev pub axis_of : View → ℤ
+  axis_of v = get_or v.axes code (pos 0)
+
+  axis_event : (v : View) (e : Event) → IsSizedFor d.slots v → axis_of (view_after_event v e) ≡ axis_after code (axis_of v) e
+  unfolding view_after_event
+  axis_event v e h = by (nat_eq e.kind EV_ABS && not (is_multi_touch e))
+    where
+      set_it : get_or (with_value_at 64 v.axes e.code e.value) code (pos 0) ≡ (if nat_eq e.code code then e.value else axis_of v)
+      set_it = get_or-with_value_at 64 v.axes e.code code e.value (pos 0) h.axes within
+
+      by : (b : Bool) → get_or (if b then with_value_at 64 v.axes e.code e.value else v.axes) code (pos 0) ≡ (if b && nat_eq e.code code then e.value else axis_of v)
+      by true = set_it
+      by false = refl
+
+  -- what is told of the axis
+  told_value : (r : List Event) → (axis_answer d r code).value ≡ axis_value d r code
+  told_value r =
+      ap (λ (b : Bool). (if b then record (info d code) { value = present_value d r code } else no_info).value) (and-left (supports d EV_ABS code) _ has)
+      ∙ not_slot (nat_eq code ABS_MT_SLOT) refl
+      ∙ ap (λ (b : Bool). if b then pos 0 else axis_value d r code) plain
+    where
+      plain : is_multi_touch_code code ≡ false
+      plain = not-true (is_multi_touch_code code) (and-right (supports d EV_ABS code) _ has)
+
+      not_slot : (b : Bool) → nat_eq code ABS_MT_SLOT ≡ b → (if nat_eq code ABS_MT_SLOT then announced d r else if is_multi_touch_code code then pos 0 else axis_value d r code) ≡ (if is_multi_touch_code code then pos 0 else axis_value d r code)
+      not_slot true h =
+          let is : code ≡ ABS_MT_SLOT = eqb-true code ABS_MT_SLOT h in
+          let bad : true ≡ false = sym (ap is_multi_touch_code is) ∙ plain in
+          absurd cc
+      not_slot false h = ap (λ (b : Bool). if b then announced d r else if is_multi_touch_code code then pos 0 else axis_value d r code) h
+
+  axis_answered : (past : List Step) (x : Step) (v : View) → IsSizedFor d.slots v → is_same (client_of x) client ≡ true
+      → axis_of (view_after_answer v x (accepted d past x).reply (accepted d past x).cells) ≡ cond (asks_for (OneAxis code) client x) (axis_value d (raw d past) code) (axis_of v)
+  unfolding view_after_answer
+  axis_answered past (GetAxis named asked) v h own = by (nat_eq asked code) refl
+    where
+      plain : is_multi_touch_code code ≡ false
+      plain = not-true (is_multi_touch_code code) (and-right (supports d EV_ABS code) _ has)
+
+      value : ℤ
+      value = (axis_answer d (raw d past) asked).value
+
+      asks : (b : Bool) → nat_eq asked code ≡ b → cond (nat_eq named client && nat_eq asked code) (axis_value d (raw d past) code) (axis_of v) ≡ cond b (axis_value d (raw d past) code) (axis_of v)
+      asks b e = ap (λ (o : Bool). cond (o && nat_eq asked code) (axis_value d (raw d past) code) (axis_of v)) own ∙ ap (λ (o : Bool). cond o (axis_value d (raw d past) code) (axis_of v)) e
+
+      set_it : get_or (with_value_at 64 v.axes asked value) code (pos 0) ≡ (if nat_eq asked code then value else axis_of v)
+      set_it = get_or-with_value_at 64 v.axes asked code value (pos 0) h.axes within
+
+      other : (b : Bool) → nat_eq asked code ≡ false → get_or (if b then v.axes else with_value_at 64 v.axes asked value) code (pos 0) ≡ axis_of v
+      other true e = refl
+      other false e = set_it ∙ ap (λ (o : Bool). if o then value else axis_of v) e
+
+      by : (b : Bool) → nat_eq asked code ≡ b → get_or (if is_multi_touch_code asked then v.axes else with_value_at 64 v.axes asked value) code (pos 0) ≡ cond (nat_eq named client && nat_eq asked code) (axis_value d (raw d past) code) (axis_of v)
+      by true e =
+          let is : asked ≡ code = eqb-true asked code e in
+          ap (λ (b : Bool). get_or (if b then v.axes else with_value_at 64 v.axes asked value) code (pos 0)) (ap is_multi_touch_code is ∙ plain)
+          ∙ set_it
+          ∙ ap (λ (o : Bool). if o then value else axis_of v) e
+          ∙ ap (λ (n : ℕ). (axis_answer d (raw d past) n).value) is
+          ∙ told_value (raw d past)
+          ∙ sym (asks true e)
+      by false e = other (is_multi_touch_code asked) e ∙ sym (asks false e)
+  axis_answered past x v h own = refl
+
+  pub axis-after_events : (v : View) (es : List Event) → IsSizedFor d.slots v → axis_of (view_after_events v es) ≡ over (axis_after code) (axis_of v) es
+  axis-after_events = get-after_events d client (axis_after code) (OneAxis code) (λ r. axis_value d r code) axis_of axis_event axis_answered
+
+  axis_follows : (past : List Step) (x : Step) → axis_of (client_view d (x ∷ past) client) ≡ cond (asks_for (OneAxis code) client x) (axis_value d (raw d past) code) (over (axis_after code) (axis_of (client_view d past client)) (map event_of (taken_by d past client x)))
+  axis_follows = get-follows d client (axis_after code) (OneAxis code) (λ r. axis_value d r code) axis_of axis_event axis_answered
+
+  -- ---- what is queued of the axis, and what waits, leads to its present value
+
+  abbrev present : List Event → ℤ
+  present r = axis_value d r code
+
+  abbrev LeadsBack : List Event → List Entry → Type 0
+  LeadsBack r q = over (axis_after code) (over (axis_after code) (present r) (map event_of q)) (pending d r) ≡ present r
+
+  -- the frames of a step
+  frames_lead : (past : List Step) (x : Step) (q : List Entry) → Receives past client
+      → Each (λ f. is_whole_for client f ≡ true) (frames_by d past (moment_of x) (raw d past) (raw_of_step d past x))
+      → has_no_loss (offered_to d client q (frames_by d past (moment_of x) (raw d past) (raw_of_step d past x))) ≡ true
+      → (has_no_loss q ≡ true → LeadsBack (raw d past) q)
+      → LeadsBack (raw_after (raw d past) (raw_of_step d past x)) (offered_to d client q (frames_by d past (moment_of x) (raw d past) (raw_of_step d past x)))
+  frames_lead past x q receives whole none before =
+      let t : ℤ → Event → ℤ = axis_after code in
+      let r : List Event = raw d past in
+      let es : List Event = raw_of_step d past x in
+      let ps : List Event = passed_by d r es in
+      let g = all_grown d client t (axis-unviewed code) past (moment_of x) receives es r q whole none in
+      let is : over t (present r) ps ≡ present (raw_after r es) = passes_all d t present (axis-passes d code has) es r in
+      let led : over t (present r) (map event_of q ++ pending d r) ≡ present r = over-append t (present r) (map event_of q) (pending d r) ∙ before g.kept in
+      g.same (present (raw_after r es))
+      ∙ ap (λ v. over t (over t (over t v (map event_of q)) (pending d r)) ps) (sym is)
+      ∙ ap (λ v. over t v ps) (sym (over-append t (over t (present r) ps) (map event_of q) (pending d r)))
+      ∙ sym (over-append t (over t (present r) ps) (map event_of q ++ pending d r) ps)
+      ∙ again (sets_axis code) value_of (present r) (map event_of q ++ pending d r) ps led
+      ∙ is
+
+  -- the client's own call
+  call_leads : (past : List Step) (x : Step) → is_start past client x ≡ false → asks_for (OneAxis code) client x ≡ false → has_no_loss (taken_by d past client x) ≡ true → has_no_loss (left_in_queue d past client x) ≡ true
+      → (has_no_loss (queue d past client) ≡ true → LeadsBack (raw d past) (queue d past client))
+      → LeadsBack (raw d past) (left_in_queue d past client x)
+  call_leads past x start asks none kept before =
+      let t : ℤ → Event → ℤ = axis_after code in
+      let r : List Event = raw d past in
+      let left : List Entry = left_in_queue d past client x in
+      let taken : List Entry = taken_by d past client x in
+      let k = call-keeps d client t (axis-unviewed code) present (axis-passes d code has) (OneAxis code) axis-spares x (queue d past client) taken left (left_by d past client x start) asks none kept in
+      let whole : over t (over t (present r) (map event_of taken)) (map event_of left ++ pending d r) ≡ present r =
+      over-append t (over t (present r) (map event_of taken)) (map event_of left) (pending d r)
+      ∙ ap (λ v. over t v (pending d r)) (k.1 (present r))
+      ∙ before k.0 in
+      sym (over-append t (present r) (map event_of left) (pending d r))
+      ∙ suffix-same (sets_axis code) value_of (present r) (over t (present r) (map event_of taken)) (map event_of left ++ pending d r) whole
+
+  -- a query of the axis leaves the queue
+  query_leaves : (past : List Step) (x : Step) → asks_for (OneAxis code) client x ≡ true → left_in_queue d past client x ≡ queue d past client
+  query_leaves past (GetAxis named asked) h = by (nat_eq named client)
+    where
+      by : (b : Bool) → (if b then queue d past client else queue d past client) ≡ queue d past client
+      by true = refl
+      by false = refl
+  query_leaves past x h = let bad : false ≡ true = h in absurd cc
+
+  -- at a start nothing is queued, and no frame comes
+  start_leads : (past : List Step) (x : Step) → is_start past client x ≡ true → has_no_loss (queue d (x ∷ past) client) ≡ true → LeadsBack (raw d (x ∷ past)) (queue d (x ∷ past) client)
+  start_leads past x start kept =
+      let es : List Event = raw_of_step d past x in
+      let none : es ≡ [] = start_raw d past client x start in
+      let same_queue : queue d (x ∷ past) client ≡ left_in_queue d past client x =
+      queue-step d past client x ∙ ap (λ (l : List Event). offered_to d client (left_in_queue d past client x) (frames_by d past (moment_of x) (raw d past) l)) none
+      ∙ no_frames d client past (moment_of x) (raw d past) (left_in_queue d past client x) in
+      let same_raw : raw d (x ∷ past) ≡ raw d past = raw-step d past x ∙ ap (raw_after (raw d past)) none in
+      let empty : queue d (x ∷ past) client ≡ [] = same_queue ∙ start-empties d past client x start (ap has_no_loss (sym same_queue) ∙ kept) in
+      subst (LeadsBack (raw d (x ∷ past))) (sym empty)
+      (pending-again (sets_axis code) value_of d present (axis-passes d code has) (raw d (x ∷ past)))
+
+  pub axis-leads : (past : List Step) → Receives past client → has_no_loss (taken_since_start d past client) ≡ true → AreWhole (start_place past client) client (frames d past) → has_no_loss (queue d past client) ≡ true → LeadsBack (raw d past) (queue d past client)
+  unfolding taken_since_start is_open
+  axis-leads [] receives none whole kept = let bad : false ≡ true = receives.is_there in absurd cc
+  axis-leads (x ∷ past) receives none whole kept = by (is_start past client x) refl (axis-leads past)
+    where
+      r : List Event
+      r = raw d past
+
+      es : List Event
+      es = raw_of_step d past x
+
+      fs : List Frame
+      fs = frames_by d past (moment_of x) r es
+
+      left : List Entry
+      left = left_in_queue d past client x
+
+      IH : Type 0
+      IH = Receives past client → has_no_loss (taken_since_start d past client) ≡ true → AreWhole (start_place past client) client (frames d past) → has_no_loss (queue d past client) ≡ true → LeadsBack r (queue d past client)
+
+      other : is_start past client x ≡ false → IH → LeadsBack (raw d (x ∷ past)) (queue d (x ∷ past) client)
+      other start ih =
+          let before : Receives past client = receives-before past client x start receives in
+          let took : has_no_loss (taken_since_start d past client ++ taken_by d past client x) ≡ true =
+          ap (λ (c : Bool). has_no_loss (if c then [] else taken_since_start d past client ++ taken_by d past client x)) (sym start) ∙ none in
+          let all : AreWhole (start_place past client) client (frames d past ++ fs) =
+          subst (λ (n : ℕ). AreWhole n client (frames d past ++ fs)) (start-same past client x start)
+          (subst (AreWhole (start_place (x ∷ past) client) client) (frames-step d past x) whole) in
+          let mine : Each (λ f. is_whole_for client f ≡ true) fs = whole_here client past (moment_of x) (start_place past client) (start-before past client before) (cuts d r es) (Each-right _ (frames d past) fs all) in
+          let there = ih before (all-left _ (taken_since_start d past client) (taken_by d past client x) took) (Each-left _ (frames d past) fs all) in
+          subst (λ (l : List Event). LeadsBack l (queue d (x ∷ past) client)) (sym (raw-step d past x))
+          (subst (LeadsBack (raw_after r es)) (sym (queue-step d past client x))
+          (frames_lead past x left before mine (ap has_no_loss (sym (queue-step d past client x)) ∙ kept)
+          (at (asks_for (OneAxis code) client x) refl (all-right _ (taken_since_start d past client) (taken_by d past client x) took) there)))
+        where
+          at : (b : Bool) → asks_for (OneAxis code) client x ≡ b → has_no_loss (taken_by d past client x) ≡ true → (has_no_loss (queue d past client) ≡ true → LeadsBack r (queue d past client)) → has_no_loss left ≡ true → LeadsBack r left
+          at true asks took there kept = subst (LeadsBack r) (sym (query_leaves past x asks)) (there (ap has_no_loss (sym (query_leaves past x asks)) ∙ kept))
+          at false asks took there kept = call_leads past x start asks took kept there
+
+      by : (c : Bool) → is_start past client x ≡ c → IH → LeadsBack (raw d (x ∷ past)) (queue d (x ∷ past) client)
+      by true start ih = start_leads past x start kept
+      by false start ih = other start ih
+
+  -- ---- an axis that was asked for
+
+  fresh : (past : List Step) (x : Step) → is_start past client x ≡ false → asks_for (OneAxis code) client x ≡ true → Receives past client → has_no_loss (taken_since_start d past client) ≡ true
+      → AreWhole (start_place past client) client (frames d past) → has_no_loss (left_in_queue d past client x) ≡ true
+      → LeadsBack (raw d past) (left_in_queue d past client x)
+  fresh past x start asks receives none whole kept =
+      subst (LeadsBack (raw d past)) (sym (query_leaves past x asks)) (axis-leads past receives none whole (ap has_no_loss (sym (query_leaves past x asks)) ∙ kept))
+
+  pub axis-stands : (past : List Step) → Receives past client → has_no_loss (taken_since_start d past client) ≡ true → has_asked (OneAxis code) past client ≡ true
+      → Stands d client (axis_after code) (axis-unviewed code) present (axis-passes d code has) (λ past. axis_of (client_view d past client)) past
+  axis-stands =
+      stands d client (axis_after code) (axis-unviewed code) present (axis-passes d code has) (OneAxis code) axis-spares present (λ past. axis_of (client_view d past client)) axis_follows fresh

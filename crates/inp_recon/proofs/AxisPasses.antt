@@ -1,0 +1,132 @@
+-- An axis with a value of its own: what is passed for a raw event leads from its value before to its value behind.
+use Rattle.std.proofs.Common.{◌≡◌, ◌≤◌, ℕ, ℤ, Bool, true, false, ◌&&◌, not, if◌then◌else◌, nat_eq, nat_le, List, [], ◌∷◌, ◌++◌, refl, sym, ap, subst, ◌∙◌, Some, None, option_to_list, option_map, is_some, arith}
+use Rattle.std.specs.Ordering.{int_eq}
+use Rattle.std.proofs.lemmas.Bool.{eqb-true, eq-eqb, leb-true, le-leb, not-true, and_right}
+use Rattle.std.proofs.lemmas.Bool.Decides.{Decides-int_eq}
+use Rattle.inp_model.specs.declared.event.TheConstants.{EV_ABS}
+use Rattle.inp_model.specs.declared.multi_touch.TheConstants.{ABS_MT_SLOT, ABS_MT_TOUCH_MAJOR, ABS_MT_TOOL_Y}
+use Rattle.inp_model.specs.declared.event.Event.{Event}
+use Rattle.inp_model.specs.Description.{Description, supports, info, is_multi_touch_code, is_slot_code}
+use Rattle.inp_model.specs.Event.{is_multi_touch, slot_event}
+use Rattle.inp_model.specs.Defuzz.{defuzz}
+use Rattle.inp_model.specs.State.{axis_value, staged}
+use Rattle.inp_model.specs.Passed.{passes_as, axis_passes, multi_touch_passes, multi_touch_value, announced, passed}
+use Rattle.inp_recon.specs.Synchronised.{has_axis}
+use Rattle.inp_recon.specs.Undisturbed.{is_viewed}
+use Rattle.inp_recon.proofs.Each.{Each, and-left, and-right}
+use Rattle.inp_recon.proofs.Over.{over, over-idle, IsIdle}
+use Rattle.inp_recon.proofs.LastWrite.{set_by}
+use Rattle.inp_recon.proofs.EventKinds.{event, is_event, unviewed-other}
+use Rattle.inp_recon.proofs.FlagPasses.{passed-each}
+
+-- the event sets this axis
+abbrev pub sets_axis : ℕ → Event → Bool
+sets_axis code e = (nat_eq e.kind EV_ABS && not (is_multi_touch e)) && nat_eq e.code code
+
+abbrev pub value_of : Event → ℤ
+value_of e = e.value
+
+-- the value of an axis after an event
+abbrev pub axis_after : ℕ → ℤ → Event → ℤ
+axis_after code = set_by (sets_axis code) value_of
+
+pub unset-idle : (code : ℕ) (e : Event) → sets_axis code e ≡ false → IsIdle (axis_after code) e
+unset-idle code e h v = ap (λ (b : Bool). if b then e.value else v) h
+
+not_set : (kind other same : Bool) → (kind && same) ≡ false → ((kind && not other) && same) ≡ false
+not_set true true same h = refl
+not_set true false same h = h
+not_set false other same h = refl
+
+pub unkind-idle : (code : ℕ) (e : Event) → nat_eq e.kind EV_ABS ≡ false → IsIdle (axis_after code) e
+unkind-idle code e h = unset-idle code e (ap (λ (b : Bool). (b && not (is_multi_touch e)) && nat_eq e.code code) h)
+
+pub multi_touch-idle : (code : ℕ) (e : Event) → is_multi_touch e ≡ true → IsIdle (axis_after code) e
+multi_touch-idle code e h = unset-idle code e (ap (λ (b : Bool). (nat_eq e.kind EV_ABS && not b) && nat_eq e.code code) h ∙ by (nat_eq e.kind EV_ABS))
+  where
+    by : (k : Bool) → ((k && false) && nat_eq e.code code) ≡ false
+    by true = refl
+    by false = refl
+
+pub axis-unviewed : (code : ℕ) (e : Event) → is_viewed e.kind ≡ false → IsIdle (axis_after code) e
+axis-unviewed code e h = unkind-idle code e (unviewed-other e.kind EV_ABS refl h)
+
+-- an axis with a value of its own is none of those of slots
+plain-slot : (code : ℕ) → is_multi_touch_code code ≡ false → is_slot_code code ≡ false
+plain-slot code h = by (is_slot_code code) refl
+  where
+    by : (b : Bool) → is_slot_code code ≡ b → b ≡ false
+    by true k =
+        let low : ABS_MT_TOUCH_MAJOR ≤ code = leb-true ABS_MT_TOUCH_MAJOR code (and-left _ _ k) in
+        let low2 : nat_le ABS_MT_SLOT code ≡ true = le-leb ABS_MT_SLOT code (omega (arith, low)) in
+        let bad : true ≡ false = sym (and-right (nat_le ABS_MT_TOUCH_MAJOR code) (nat_le code ABS_MT_TOOL_Y) k) ∙ ap (λ (b : Bool). b && nat_le code ABS_MT_TOOL_Y) (sym low2) ∙ h in
+        absurd cc
+    by false k = refl
+
+module _ (d : Description) (code : ℕ) (has : has_axis d code ≡ true) where
+  plain : is_multi_touch_code code ≡ false
+  plain = not-true (is_multi_touch_code code) (and-right (supports d EV_ABS code) _ has)
+
+  supported : supports d EV_ABS code ≡ true
+  supported = and-left _ _ has
+
+  -- an event that does not set the axis
+  other-each : (r : List Event) (e : Event) → (nat_eq e.kind EV_ABS && nat_eq e.code code) ≡ false → Each (IsIdle (axis_after code)) (passed d r e)
+  other-each r e h =
+      passed-each (IsIdle (axis_after code)) d r e (λ slot. multi_touch-idle code (slot_event slot) refl)
+      (λ value. unset-idle code (record e { value = value }) (not_set (nat_eq e.kind EV_ABS) (is_multi_touch (record e { value = value })) (nat_eq e.code code) h))
+
+  other-same : (r : List Event) (e : Event) → (nat_eq e.kind EV_ABS && nat_eq e.code code) ≡ false → axis_value d (e ∷ r) code ≡ axis_value d r code
+  unfolding axis_value
+  other-same r e h = ap (λ (b : Bool). if (supports d EV_ABS code && b) && not (is_multi_touch e) then defuzz e.value (axis_value d r code) (info d code).fuzz else axis_value d r code) h ∙ by (supports d EV_ABS code)
+    where
+      by : (s : Bool) → (if (s && false) && not (is_multi_touch e) then defuzz e.value (axis_value d r code) (info d code).fuzz else axis_value d r code) ≡ axis_value d r code
+      by true = refl
+      by false = refl
+
+  -- an event on the axis is passed as the value that the axis takes, where that is another one
+  passed_at : (r : List Event) (value : ℤ) → let e : Event = event EV_ABS code value in
+      passed d r e ≡ option_to_list (option_map (λ v. event EV_ABS code v) (if not (int_eq (axis_value d r code) (axis_value d (e ∷ r) code)) then Some (axis_value d (e ∷ r) code) else None))
+  passed_at r value =
+      let e : Event = event EV_ABS code value in
+      let old : ℤ = axis_value d r code in
+      let new : ℤ = axis_value d (e ∷ r) code in
+      ap (λ (b : Bool). (if (b && is_some (passes_as d r e)) && not (int_eq (staged d r) (announced d r)) then slot_event (staged d r) ∷ [] else []) ++ option_to_list (option_map (λ v. event EV_ABS code v) (passes_as d r e))) (plain-slot code plain)
+      ∙ ap (λ (b : Bool). option_to_list (option_map (λ v. event EV_ABS code v) (if supports d EV_ABS code && (if b then multi_touch_passes d r e else axis_passes d r e) then Some (if b then multi_touch_value d r e else new) else None))) plain
+      ∙ ap (λ (b : Bool). option_to_list (option_map (λ v. event EV_ABS code v) (if b && not (int_eq old new) then Some new else None))) supported
+
+  at_axis : (r : List Event) (value : ℤ) → over (axis_after code) (axis_value d r code) (passed d r (event EV_ABS code value)) ≡ axis_value d (event EV_ABS code value ∷ r) code
+  at_axis r value =
+      ap (over (axis_after code) old) (passed_at r value)
+      ∙ by (int_eq old new) refl
+    where
+      old : ℤ
+      old = axis_value d r code
+
+      new : ℤ
+      new = axis_value d (event EV_ABS code value ∷ r) code
+
+      mine : sets_axis code (event EV_ABS code new) ≡ true
+      mine = ap (λ (b : Bool). not b && nat_eq code code) plain ∙ eq-eqb code code refl
+
+      by : (b : Bool) → int_eq old new ≡ b → over (axis_after code) old (option_to_list (option_map (λ v. event EV_ABS code v) (if not (int_eq old new) then Some new else None))) ≡ new
+      by true h =
+          ap (λ (b : Bool). over (axis_after code) old (option_to_list (option_map (λ v. event EV_ABS code v) (if not b then Some new else None)))) h
+          ∙ (Decides-int_eq old new).0 h
+      by false h =
+          ap (λ (b : Bool). over (axis_after code) old (option_to_list (option_map (λ v. event EV_ABS code v) (if not b then Some new else None)))) h
+          ∙ ap (λ (b : Bool). if b then new else old) mine
+
+  pub axis-passes : (r : List Event) (e : Event) → over (axis_after code) (axis_value d r code) (passed d r e) ≡ axis_value d (e ∷ r) code
+  axis-passes r e = by (nat_eq e.kind EV_ABS) refl (nat_eq e.code code) refl
+    where
+      Goal : Event → Type 0
+      Goal e = over (axis_after code) (axis_value d r code) (passed d r e) ≡ axis_value d (e ∷ r) code
+
+      other : (nat_eq e.kind EV_ABS && nat_eq e.code code) ≡ false → Goal e
+      other h = over-idle (axis_after code) (axis_value d r code) (passed d r e) (other-each r e h) ∙ sym (other-same r e h)
+
+      by : (a : Bool) → nat_eq e.kind EV_ABS ≡ a → (b : Bool) → nat_eq e.code code ≡ b → Goal e
+      by true h true k = subst Goal (sym (is_event e EV_ABS code (eqb-true e.kind EV_ABS h) (eqb-true e.code code k))) (at_axis r e.value)
+      by true h false k = other (and_right _ _ k)
+      by false h b k = other (ap (λ (x : Bool). x && nat_eq e.code code) h)

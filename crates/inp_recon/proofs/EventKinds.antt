@@ -1,0 +1,40 @@
+-- Events by their types and codes.
+use Rattle.std.proofs.Common.{◌≡◌, ℕ, ℤ, Bool, true, false, nat_eq, refl, sym, ap, subst, ◌∙◌}
+use Rattle.std.proofs.lemmas.Bool.{eqb-true}
+use Rattle.inp_model.specs.declared.event.TheConstants.{EV_SYN, SYN_REPORT, SYN_DROPPED}
+use Rattle.inp_model.specs.declared.event.Event.{Event}
+use Rattle.inp_model.specs.Event.{is_report}
+use Rattle.inp_recon.specs.Synchronised.{is_dropped}
+use Rattle.inp_recon.specs.Undisturbed.{is_viewed}
+use Rattle.inp_recon.proofs.Each.{and-left, and-right}
+
+abbrev pub event : ℕ → ℕ → ℤ → Event
+event kind code value = record { kind = kind; code = code; value = value }
+
+pub is_event : (e : Event) (kind code : ℕ) → e.kind ≡ kind → e.code ≡ code → e ≡ event kind code e.value
+is_event e kind code h k = ap (λ (x : ℕ). event x e.code e.value) h ∙ ap (λ (x : ℕ). event kind x e.value) k
+
+pub report_is : (e : Event) → is_report e ≡ true → e ≡ event EV_SYN SYN_REPORT e.value
+report_is e h = is_event e EV_SYN SYN_REPORT (eqb-true e.kind EV_SYN (and-left _ _ h)) (eqb-true e.code SYN_REPORT (and-right _ _ h))
+
+pub dropped_is : (e : Event) → is_dropped e ≡ true → e ≡ event EV_SYN SYN_DROPPED e.value
+dropped_is e h = is_event e EV_SYN SYN_DROPPED (eqb-true e.kind EV_SYN (and-left _ _ h)) (eqb-true e.code SYN_DROPPED (and-right _ _ h))
+
+-- what holds of each report
+pub of_reports : (P : Event → Type 0) → ((value : ℤ) → P (event EV_SYN SYN_REPORT value)) → (e : Event) → is_report e ≡ true → P e
+of_reports P h e report = subst P (sym (report_is e report)) (h e.value)
+
+-- what holds of each loss
+pub of_losses : (P : Event → Type 0) → ((value : ℤ) → P (event EV_SYN SYN_DROPPED value)) → (e : Event) → is_dropped e ≡ true → P e
+of_losses P h e loss = subst P (sym (dropped_is e loss)) (h e.value)
+
+pub report-unviewed : (e : Event) → is_report e ≡ true → is_viewed e.kind ≡ false
+report-unviewed = of_reports (λ e. is_viewed e.kind ≡ false) (λ value. refl)
+
+-- an event of a type that is not viewed is of none of these
+pub unviewed-other : (kind k : ℕ) → is_viewed k ≡ true → is_viewed kind ≡ false → nat_eq kind k ≡ false
+unviewed-other kind k h n = by (nat_eq kind k) refl
+  where
+    by : (b : Bool) → nat_eq kind k ≡ b → b ≡ false
+    by true e = absurd (let same : kind ≡ k = eqb-true kind k e in let bad : false ≡ true = sym n ∙ ap is_viewed same ∙ h in cc)
+    by false e = refl

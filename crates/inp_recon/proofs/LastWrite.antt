@@ -1,0 +1,76 @@
+-- A value that is as the last event on it says: what comes twice counts once.
+use Rattle.std.proofs.Common.{◌≡◌, ◌⊎◌, Bool, true, false, if◌then◌else◌, List, [], ◌∷◌, ◌++◌, refl, sym, ap, ◌∙◌, inl, inr}
+use Rattle.inp_model.specs.declared.event.Event.{Event}
+use Rattle.inp_model.specs.Description.{Description}
+use Rattle.inp_model.specs.Event.{is_report}
+use Rattle.inp_model.specs.Passed.{passed}
+use Rattle.inp_model.specs.Cut.{pending}
+use Rattle.inp_recon.proofs.Over.{over, over-append}
+use Rattle.inp_recon.proofs.Cutting.{NoCut, OneCut, cut_cases}
+
+-- an event on the value sets it
+abbrev pub set_by : {V : Type 0} → (Event → Bool) → (Event → V) → V → Event → V
+set_by is_on value v e = if is_on e then value e else v
+
+module _ {V : Type 0} (is_on : Event → Bool) (value : Event → V) where
+  -- events set the value, whatever it was, or leave it
+  settles : (es : List Event) → ((v w : V) → over (set_by is_on value) v es ≡ over (set_by is_on value) w es) ⊎ ((v : V) → over (set_by is_on value) v es ≡ v)
+  settles [] = inr (λ v. refl)
+  settles (e ∷ es) = by (is_on e) refl (settles es)
+    where
+      t : V → Event → V
+      t = set_by is_on value
+
+      by : (b : Bool) → is_on e ≡ b → ((v w : V) → over t v es ≡ over t w es) ⊎ ((v : V) → over t v es ≡ v) → ((v w : V) → over t (t v e) es ≡ over t (t w e) es) ⊎ ((v : V) → over t (t v e) es ≡ v)
+      by b h (inl sets) = inl (λ v w. sets (t v e) (t w e))
+      by true h (inr leaves) = inl (λ v w. leaves (t v e) ∙ ap (λ (c : Bool). if c then value e else v) h ∙ ap (λ (c : Bool). if c then value e else w) (sym h) ∙ sym (leaves (t w e)))
+      by false h (inr leaves) = inr (λ v. leaves (t v e) ∙ ap (λ (c : Bool). if c then value e else v) h)
+
+  -- Events that leave the value as it is, with more events behind them: they leave what those make of it, too.
+  pub again : (v : V) (es more : List Event) → over (set_by is_on value) v es ≡ v → over (set_by is_on value) (over (set_by is_on value) v more) (es ++ more) ≡ over (set_by is_on value) v more
+  again v es more h = by (settles more)
+    where
+      t : V → Event → V
+      t = set_by is_on value
+
+      by : ((v w : V) → over t v more ≡ over t w more) ⊎ ((v : V) → over t v more ≡ v) → over t (over t v more) (es ++ more) ≡ over t v more
+      by (inl sets) = over-append t (over t v more) es more ∙ sets (over t (over t v more) es) v
+      by (inr leaves) =
+          over-append t (over t v more) es more
+          ∙ ap (λ w. over t (over t w es) more) (leaves v)
+          ∙ ap (λ w. over t w more) h
+
+  -- events that leave the value as it is end in some that do
+  pub suffix-same : (v w : V) (es : List Event) → over (set_by is_on value) w es ≡ v → over (set_by is_on value) v es ≡ v
+  suffix-same v w es h = by (settles es)
+    where
+      by : ((v w : V) → over (set_by is_on value) v es ≡ over (set_by is_on value) w es) ⊎ ((v : V) → over (set_by is_on value) v es ≡ v) → over (set_by is_on value) v es ≡ v
+      by (inl sets) = sets v w ∙ h
+      by (inr leaves) = leaves v
+
+  -- The state now with the batch behind it is the state now.
+  pub pending-again : (d : Description) (st : List Event → V) → ((r : List Event) (e : Event) → over (set_by is_on value) (st r) (passed d r e) ≡ st (e ∷ r)) → (r : List Event) → over (set_by is_on value) (st r) (pending d r) ≡ st r
+  unfolding pending
+  pending-again d st passes [] = refl
+  pending-again d st passes (e ∷ r) = by (cut_cases d r e) (pending-again d st passes r)
+    where
+      t : V → Event → V
+      t = set_by is_on value
+
+      none : pending d (e ∷ r) ≡ [] → over t (st (e ∷ r)) (pending d (e ∷ r)) ≡ st (e ∷ r)
+      none h = ap (over t (st (e ∷ r))) h
+
+      waits : (pending d (e ∷ r) ≡ pending d r ++ passed d r e) → over t (st r) (pending d r) ≡ st r → over t (st (e ∷ r)) (pending d (e ∷ r)) ≡ st (e ∷ r)
+      waits more ih =
+          ap (over t (st (e ∷ r))) more
+          ∙ ap (λ w. over t w (pending d r ++ passed d r e)) (sym (passes r e))
+          ∙ again (st r) (pending d r) (passed d r e) ih
+          ∙ passes r e
+
+      by : NoCut d r e ⊎ OneCut d r e → over t (st r) (pending d r) ≡ st r → over t (st (e ∷ r)) (pending d (e ∷ r)) ≡ st (e ∷ r)
+      by (inr h) ih = none h.left
+      by (inl h) ih = left h.left
+        where
+          left : (pending d (e ∷ r) ≡ pending d r ++ passed d r e) ⊎ ((pending d (e ∷ r) ≡ []) × (pending d r ≡ []) × (is_report e ≡ true)) → over t (st (e ∷ r)) (pending d (e ∷ r)) ≡ st (e ∷ r)
+          left (inl more) = waits more ih
+          left (inr report) = none report.0

@@ -1,0 +1,256 @@
+-- Between two steps a queue is empty, ends in a report, or is one SYN_DROPPED alone.
+use Rattle.std.proofs.Common.{◌≡◌, ◌⊎◌, ℕ, zero, suc, Bool, true, false, ◌&&◌, ◌||◌, not, if◌then◌else◌, nat_eq, nat_lt, List, [], ◌∷◌, ◌++◌, length, map, filter, drop, refl, sym, ap, subst, ◌∙◌, inl, inr, arith}
+use Rattle.std.proofs.lemmas.Bool.{ne_eqb}
+use Rattle.inp_model.specs.declared.event.Event.{Event}
+use Rattle.inp_model.specs.declared.step.Step.{Step}
+use Rattle.inp_model.specs.Description.{Description, ring}
+use Rattle.inp_model.specs.Event.{is_report}
+use Rattle.inp_model.specs.Step.{moment_of, is_part_of}
+use Rattle.inp_model.specs.Past.{admits}
+use Rattle.inp_model.specs.Cut.{Cut, cut, cuts}
+use Rattle.inp_model.specs.Raw.{raw, raw_of_step}
+use Rattle.inp_model.specs.Frame.{Frame, frame_of}
+use Rattle.inp_model.specs.Queue.{Entry, event_of, entry_dropped_at, is_empty, ends_in_report, put, put_all, visible, follows_kept, stays, flush_behind, flush, entry, entries_of, entries, queue}
+use Rattle.inp_recon.specs.Synchronised.{is_dropped, has_no_loss, is_start}
+use Rattle.inp_recon.proofs.Each.{and-right}
+use Rattle.inp_recon.proofs.Queueing.{put_all-append}
+use Rattle.inp_recon.proofs.Cutting.{NoCut, OneCut, cut_cases}
+use Rattle.inp_recon.proofs.CallsLeft.{LeftBy, ByRead, ByLoss, ByFlush, ByNone, KeepsLosses, left_by, left_in_queue}
+use Rattle.inp_recon.proofs.FrameEntries.{entries_split}
+use Rattle.inp_recon.proofs.FrameSteps.{frames_by, offered_to}
+use Rattle.inp_recon.proofs.Steps.{queue-step, start_left}
+
+pub data IsShaped (q : List Entry) : Type 0 where
+  IsEmpty : q ≡ [] → IsShaped q
+  EndsInReport : ends_in_report event_of q ≡ true → IsShaped q
+  IsLoss : (e : Entry) → q ≡ e ∷ [] → is_dropped (event_of e) ≡ true → IsShaped q
+
+-- ---- a part of a queue
+
+drop-ends : (n : ℕ) (q : List Entry) → ends_in_report event_of q ≡ true → IsShaped (drop n q)
+drop-ends zero q h = EndsInReport h
+drop-ends (suc n) [] h = IsEmpty refl
+drop-ends (suc zero) (x ∷ []) h = IsEmpty refl
+drop-ends (suc (suc n)) (x ∷ []) h = IsEmpty refl
+drop-ends (suc n) (x ∷ y ∷ q) h = drop-ends n (y ∷ q) h
+
+drop-loss : (n : ℕ) (e : Entry) → is_dropped (event_of e) ≡ true → IsShaped (drop n (e ∷ []))
+drop-loss zero e h = IsLoss e refl h
+drop-loss (suc zero) e h = IsEmpty refl
+drop-loss (suc (suc n)) e h = IsEmpty refl
+
+drop-none : (n : ℕ) → drop {A = Entry} n [] ≡ []
+drop-none zero = refl
+drop-none (suc n) = refl
+
+pub drop-shaped : (n : ℕ) (q : List Entry) → IsShaped q → IsShaped (drop n q)
+drop-shaped n q (IsEmpty is) = IsEmpty (ap (drop n) is ∙ drop-none n)
+drop-shaped n q (EndsInReport ends) = drop-ends n q ends
+drop-shaped n q (IsLoss e is loss) = subst (λ (l : List Entry). IsShaped (drop n l)) (sym is) (drop-loss n e loss)
+
+-- all of a queue that ends in a report is visible
+visible-ends : (q : List Entry) → ends_in_report event_of q ≡ true → visible event_of q ≡ length q
+visible-ends [] h = let bad : false ≡ true = h in absurd cc
+visible-ends (x ∷ []) h = ap (λ (b : Bool). if b then 1 else 0) h
+visible-ends (x ∷ y ∷ q) h =
+    ap (λ (n : ℕ). if nat_eq n 0 then (if is_report (event_of x) then 1 else 0) else suc n) (visible-ends (y ∷ q) h)
+    ∙ ap (λ (b : Bool). if b then (if is_report (event_of x) then 1 else 0) else suc (suc (length q))) (ne_eqb (suc (length q)) 0 (λ e. omega arith))
+
+drop-all : (q : List Entry) → drop (length q) q ≡ []
+drop-all [] = refl
+drop-all (x ∷ q) = drop-all q
+
+-- what a discard leaves is nothing, or a loss
+pub discarded : (q : List Entry) → IsShaped q → (drop (visible event_of q) q ≡ []) ⊎ (has_no_loss (drop (visible event_of q) q) ≡ false)
+discarded q (IsEmpty is) = inl (ap (λ (l : List Entry). drop (visible event_of l) l) is)
+discarded q (EndsInReport ends) = inl (ap (λ (n : ℕ). drop n q) (visible-ends q ends) ∙ drop-all q)
+discarded q (IsLoss e is loss) = by (is_report (event_of e))
+  where
+    left : Bool → List Entry
+    left b = drop (if b then 1 else 0) (e ∷ [])
+
+    by : (b : Bool) → (drop (visible event_of q) q ≡ []) ⊎ (has_no_loss (drop (visible event_of q) q) ≡ false)
+    by b = at (is_report (event_of e)) (ap (λ (l : List Entry). drop (visible event_of l) l) is)
+      where
+        at : (b : Bool) → drop (visible event_of q) q ≡ left b → (drop (visible event_of q) q ≡ []) ⊎ (has_no_loss (drop (visible event_of q) q) ≡ false)
+        at true h = inl h
+        at false h = inr (ap has_no_loss h ∙ ap (λ (b : Bool). not b && true) loss)
+
+-- ---- a flushed queue
+
+ends-more : (b : Bool) (x : Entry) (q : List Entry) → ends_in_report event_of q ≡ true → ends_in_report event_of ((if b then x ∷ [] else []) ++ q) ≡ true
+ends-more false x q h = h
+ends-more true x [] h = let bad : false ≡ true = h in absurd cc
+ends-more true x (y ∷ q) h = h
+
+-- Where all that is left of a queue goes, nothing was kept since the last report before it.
+AllGoes : (Event → Bool) → List Entry → List Entry → Type 0
+AllGoes drops before flushed = (flushed ≡ []) × (follows_kept event_of drops before ≡ false)
+
+FlushesWell : (Event → Bool) → List Entry → List Entry → Type 0
+FlushesWell drops before flushed = AllGoes drops before flushed ⊎ (ends_in_report event_of flushed ≡ true)
+
+flush_last : (drops : Event → Bool) (before : List Entry) (x : Entry) → is_report (event_of x) ≡ true → FlushesWell drops before ((if stays event_of drops before x then x ∷ [] else []) ++ [])
+unfolding FlushesWell AllGoes
+flush_last drops before x report = by (follows_kept event_of drops before) refl
+  where
+    kept : (b : Bool) → follows_kept event_of drops before ≡ b → stays event_of drops before x ≡ b
+    kept b h = ap (λ (c : Bool). if c then follows_kept event_of drops before else not (drops (event_of x))) report ∙ h
+
+    by : (b : Bool) → follows_kept event_of drops before ≡ b → FlushesWell drops before ((if stays event_of drops before x then x ∷ [] else []) ++ [])
+    by true h = inr (ap (λ (b : Bool). ends_in_report event_of ((if b then x ∷ [] else []) ++ [])) (kept true h) ∙ report)
+    by false h = inl (ap (λ (b : Bool). (if b then x ∷ [] else []) ++ []) (kept false h), h)
+
+flush_more : (drops : Event → Bool) (before : List Entry) (x : Entry) (rest : List Entry) → FlushesWell drops (x ∷ before) rest → FlushesWell drops before ((if stays event_of drops before x then x ∷ [] else []) ++ rest)
+unfolding FlushesWell AllGoes
+flush_more drops before x rest (inr ends) = inr (ends-more (stays event_of drops before x) x rest ends)
+flush_more drops before x rest (inl goes) = by (is_report (event_of x)) refl
+  where
+    all : FlushesWell drops before ((if stays event_of drops before x then x ∷ [] else []) ++ []) → FlushesWell drops before ((if stays event_of drops before x then x ∷ [] else []) ++ rest)
+    all h = subst (λ (l : List Entry). FlushesWell drops before ((if stays event_of drops before x then x ∷ [] else []) ++ l)) (sym goes.0) h
+
+    -- it is no report, and nothing was kept up to it: it goes, and so did what was before it
+    other : is_report (event_of x) ≡ false → (b : Bool) → drops (event_of x) ≡ b → FlushesWell drops before ((if stays event_of drops before x then x ∷ [] else []) ++ [])
+    other no_report true h =
+        let none : stays event_of drops before x ≡ false = ap (λ (c : Bool). if c then follows_kept event_of drops before else not (drops (event_of x))) no_report ∙ ap not h in
+        let before_it : follows_kept event_of drops before ≡ false =
+        ap (λ (c : Bool). if c then follows_kept event_of drops before else true) (sym h)
+        ∙ ap (λ (c : Bool). if c then false else if drops (event_of x) then follows_kept event_of drops before else true) (sym no_report)
+        ∙ goes.1 in
+        inl (ap (λ (c : Bool). (if c then x ∷ [] else []) ++ []) none, before_it)
+    other no_report false h =
+        let bad : true ≡ false =
+        ap (λ (c : Bool). if c then follows_kept event_of drops before else true) (sym h)
+        ∙ ap (λ (c : Bool). if c then false else if drops (event_of x) then follows_kept event_of drops before else true) (sym no_report)
+        ∙ goes.1 in
+        absurd cc
+
+    by : (b : Bool) → is_report (event_of x) ≡ b → FlushesWell drops before ((if stays event_of drops before x then x ∷ [] else []) ++ rest)
+    by true h = all (flush_last drops before x h)
+    by false h = all (other h (drops (event_of x)) refl)
+
+flush_behind-well : (drops : Event → Bool) (before q : List Entry) → ends_in_report event_of q ≡ true → FlushesWell drops before (flush_behind event_of drops before q)
+flush_behind-well drops before [] h = let bad : false ≡ true = h in absurd cc
+flush_behind-well drops before (x ∷ []) h = flush_last drops before x h
+flush_behind-well drops before (x ∷ y ∷ q) h = flush_more drops before x (flush_behind event_of drops (x ∷ before) (y ∷ q)) (flush_behind-well drops (x ∷ before) (y ∷ q) h)
+
+flush-shaped : (drops : Event → Bool) → KeepsLosses drops → (q : List Entry) → IsShaped q → IsShaped (flush event_of drops q)
+unfolding FlushesWell AllGoes
+flush-shaped drops keeps q (IsEmpty is) = IsEmpty (ap (flush event_of drops) is)
+flush-shaped drops keeps q (EndsInReport ends) = by (flush_behind-well drops [] q ends)
+  where
+    by : FlushesWell drops [] (flush_behind event_of drops [] q) → IsShaped (flush event_of drops q)
+    by (inl goes) = let bad : true ≡ false = goes.1 in absurd cc
+    by (inr ends) = EndsInReport ends
+flush-shaped drops keeps q (IsLoss e is loss) =
+    let k = keeps (event_of e) loss in
+    let stays_there : stays event_of drops [] e ≡ true = ap (λ (c : Bool). if c then true else not (drops (event_of e))) k.0 ∙ ap not k.1 in
+    IsLoss e (ap (flush event_of drops) is ∙ ap (λ (c : Bool). (if c then e ∷ [] else []) ++ []) stays_there) loss
+
+-- ---- frames
+
+ends-push : (q : List Entry) (x : Entry) → is_report (event_of x) ≡ true → ends_in_report event_of (q ++ x ∷ []) ≡ true
+ends-push [] x h = h
+ends-push (y ∷ []) x h = h
+ends-push (y ∷ z ∷ q) x h = ends-push (z ∷ q) x h
+
+-- a report is put, whatever was there
+put_report : (places : ℕ) (q : List Entry) (x : Entry) → is_report (event_of x) ≡ true → IsShaped (put event_of entry_dropped_at places q x)
+put_report places q x report = by (is_report (event_of x) && (is_empty q || ends_in_report event_of q)) refl (nat_lt (suc (length q)) places)
+  where
+    left_out : (a b : Bool) → is_empty q ≡ a → ends_in_report event_of q ≡ b → (a || b) ≡ true → IsShaped q
+    left_out true b h k e = IsEmpty (none q h)
+      where
+        none : (l : List Entry) → is_empty l ≡ true → l ≡ []
+        none [] h = refl
+        none (y ∷ l) h = let bad : false ≡ true = h in absurd cc
+    left_out false b h k e = EndsInReport (k ∙ e)
+
+    by : (out : Bool) → (is_report (event_of x) && (is_empty q || ends_in_report event_of q)) ≡ out → (fits : Bool) → IsShaped (if out then q else if fits then q ++ x ∷ [] else entry_dropped_at x ∷ x ∷ [])
+    by true h fits = left_out (is_empty q) (ends_in_report event_of q) refl refl (and-right _ _ h)
+    by false h true = EndsInReport (ends-push q x report)
+    by false h false = EndsInReport report
+
+frame-shaped : (d : Description) (client : ℕ) (f : Frame) (body : List Event) (report : Event) → f.cut.events ≡ body ++ report ∷ [] → is_report report ≡ true → (q : List Entry) → IsShaped q → IsShaped (put_all event_of entry_dropped_at (ring d) q (entries_of d client f))
+frame-shaped d client f body report is ends q h = by (entries_split d client f body report is ends)
+  where
+    front : List Entry
+    front = map (entry d client f) (filter (admits f.before client) body)
+
+    last : Entry
+    last = entry d client f report
+
+    by : (entries_of d client f ≡ []) ⊎ (entries_of d client f ≡ front ++ last ∷ []) → IsShaped (put_all event_of entry_dropped_at (ring d) q (entries_of d client f))
+    by (inl none) = subst (λ (l : List Entry). IsShaped (put_all event_of entry_dropped_at (ring d) q l)) (sym none) h
+    by (inr split) =
+        subst (λ (l : List Entry). IsShaped (put_all event_of entry_dropped_at (ring d) q l)) (sym split)
+        (subst IsShaped (sym (put_all-append (ring d) q front (last ∷ []))) (put_report (ring d) (put_all event_of entry_dropped_at (ring d) q front) last ends))
+
+frames-shaped : (d : Description) (client : ℕ) (past : List Step) (now : ℕ) (es r : List Event) (q : List Entry) → IsShaped q → IsShaped (offered_to d client q (frames_by d past now r es))
+unfolding cuts
+frames-shaped d client past now [] r q h = h
+frames-shaped d client past now (e ∷ es) r q h = by (cut_cases d r e) (frames-shaped d client past now es (e ∷ r))
+  where
+    F : Cut → Frame
+    F = frame_of past now
+
+    rest : List Cut
+    rest = cuts d (e ∷ r) es
+
+    Goal : List Cut → Type 0
+    Goal cs = IsShaped (offered_to d client q (map F (cs ++ rest)))
+
+    by : NoCut d r e ⊎ OneCut d r e → ((p : List Entry) → IsShaped p → IsShaped (offered_to d client p (map F rest))) → Goal (cut d r e)
+    by (inl k) ih = subst Goal (sym k.none) (ih q h)
+    by (inr k) ih =
+        let f : Frame = F (record { events = k.body ++ k.report ∷ []; until = e ∷ r }) in
+        subst Goal (sym k.one)
+        (subst IsShaped (sym (put_all-append (ring d) q (entries_of d client f) (entries d client (map F rest))))
+        (ih (put_all event_of entry_dropped_at (ring d) q (entries_of d client f)) (frame-shaped d client f k.body k.report refl k.ends q h)))
+
+-- ---- every queue
+
+left-shaped : (d : Description) (past : List Step) (client : ℕ) (x : Step) → IsShaped (queue d past client) → IsShaped (left_in_queue d past client x)
+left-shaped d past client x h = by (is_start past client x) refl
+  where
+    q : List Entry
+    q = queue d past client
+
+    at_start : (left_in_queue d past client x ≡ []) ⊎ (left_in_queue d past client x ≡ drop (visible event_of q) q) → IsShaped (left_in_queue d past client x)
+    at_start (inl e) = IsEmpty e
+    at_start (inr e) = subst IsShaped (sym e) (drop-shaped (visible event_of q) q h)
+
+    at_call : (taken : List Entry) → LeftBy x client q taken (left_in_queue d past client x) → IsShaped (left_in_queue d past client x)
+    at_call taken (ByRead n t e) = subst IsShaped (sym e) (drop-shaped n q h)
+    at_call taken (ByLoss lost is frame t e) = IsLoss lost e is
+    at_call taken (ByFlush query asked own kind keeps t e) = subst IsShaped (sym e) (flush-shaped (is_part_of query) keeps q h)
+    at_call taken (ByNone t e) = subst IsShaped (sym e) h
+
+    by : (b : Bool) → is_start past client x ≡ b → IsShaped (left_in_queue d past client x)
+    by true e = at_start (start_left d past client x e)
+    by false e = at_call _ (left_by d past client x e)
+
+pub queue-shaped : (d : Description) (past : List Step) (client : ℕ) → IsShaped (queue d past client)
+unfolding queue
+queue-shaped d [] client = IsEmpty refl
+queue-shaped d (x ∷ past) client = more (queue-shaped d past client)
+  where
+    more : IsShaped (queue d past client) → IsShaped (queue d (x ∷ past) client)
+    more h =
+        subst IsShaped (sym (queue-step d past client x))
+        (frames-shaped d client past (moment_of x) (raw_of_step d past x) (raw d past) (left_in_queue d past client x) (left-shaped d past client x h))
+
+-- a start leaves nothing in the queue, or a loss
+pub start-empties : (d : Description) (past : List Step) (client : ℕ) (x : Step) → is_start past client x ≡ true → has_no_loss (left_in_queue d past client x) ≡ true → left_in_queue d past client x ≡ []
+start-empties d past client x start none = by (start_left d past client x start)
+  where
+    q : List Entry
+    q = queue d past client
+
+    at : left_in_queue d past client x ≡ drop (visible event_of q) q → (drop (visible event_of q) q ≡ []) ⊎ (has_no_loss (drop (visible event_of q) q) ≡ false) → left_in_queue d past client x ≡ []
+    at e (inl empty) = e ∙ empty
+    at e (inr loss) = let bad : true ≡ false = sym none ∙ ap has_no_loss e ∙ loss in absurd cc
+
+    by : (left_in_queue d past client x ≡ []) ⊎ (left_in_queue d past client x ≡ drop (visible event_of q) q) → left_in_queue d past client x ≡ []
+    by (inl e) = e
+    by (inr e) = at e (discarded q (queue-shaped d past client))

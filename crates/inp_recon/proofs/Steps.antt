@@ -1,0 +1,222 @@
+-- What a step adds to a past: raw events, frames and entries, and where their places lie.
+use Rattle.std.proofs.Common.{◌≡◌, ◌⊎◌, ◌<◌, ◌≤◌, ℕ, suc, Bool, true, false, ◌||◌, if◌then◌else◌, nat_eq, List, [], ◌∷◌, ◌++◌, length, map, drop, refl, sym, ap, subst, ◌∙◌, Some, None, inl, inr, arith}
+use Rattle.inp_model.specs.declared.event.Event.{Event}
+use Rattle.inp_model.specs.declared.step.Step.{Step}
+use Rattle.inp_model.specs.declared.step.Step.TheVariants.{Open, Discard}
+use Rattle.inp_model.specs.Description.{Description, ring}
+use Rattle.inp_model.specs.Step.{moment_of, is_close_of, is_revoke_of, is_part_of}
+use Rattle.inp_model.specs.Past.{opens, is_opening, is_open, is_revoked}
+use Rattle.inp_model.specs.Cut.{Cut, raw_after, cut, cuts}
+use Rattle.inp_model.specs.Raw.{raw, raw_and_timer, raw_of_step}
+use Rattle.inp_model.specs.Frame.{Frame, place, frame_of, frames_of_step, frames}
+use Rattle.inp_model.specs.Queue.{Entry, event_of, visible, entry, entries_of, entries, queue, is_offered}
+use Rattle.inp_recon.specs.Synchronised.{is_dropped, is_start, is_query_of, start_place, sync_place}
+use Rattle.inp_recon.proofs.Each.{Each, Each-append, Each-weaker, Each-drop}
+use Rattle.inp_recon.proofs.Queueing.{put_all-each, flush-each}
+use Rattle.inp_recon.proofs.Cutting.{NoCut, OneCut, cut_cases}
+use Rattle.inp_recon.proofs.CallsLeft.{LeftBy, ByRead, ByLoss, ByFlush, ByNone, left_by, left_in_queue}
+use Rattle.inp_recon.proofs.FrameEntries.{Receives}
+use Rattle.inp_recon.proofs.FrameSteps.{frames_by, offered_to}
+
+pub raw-step : (d : Description) (past : List Step) (x : Step) → raw d (x ∷ past) ≡ raw_after (raw d past) (raw_of_step d past x)
+unfolding raw raw_and_timer raw_of_step
+raw-step d past x = refl
+
+pub queue-step : (d : Description) (past : List Step) (client : ℕ) (x : Step) → queue d (x ∷ past) client ≡ offered_to d client (left_in_queue d past client x) (frames_by d past (moment_of x) (raw d past) (raw_of_step d past x))
+unfolding queue
+queue-step d past client x = refl
+
+pub frames-step : (d : Description) (past : List Step) (x : Step) → frames d (x ∷ past) ≡ frames d past ++ frames_by d past (moment_of x) (raw d past) (raw_of_step d past x)
+unfolding frames
+frames-step d past x = refl
+
+-- ---- a client's last start and last query
+
+or-false : (a b : Bool) → (a || b) ≡ false → (a ≡ false) × (b ≡ false)
+or-false true b h = absurd (let e : true ≡ false = h in cc)
+or-false false b h = (refl, h)
+
+pub start-same : (past : List Step) (client : ℕ) (x : Step) → is_start past client x ≡ false → start_place (x ∷ past) client ≡ start_place past client
+unfolding start_place
+start-same past client x h = ap (λ (b : Bool). if b then length past else start_place past client) h
+
+pub sync-same : (past : List Step) (client : ℕ) (x : Step) → is_start past client x ≡ false → is_query_of client x ≡ false → sync_place (x ∷ past) client ≡ sync_place past client
+unfolding sync_place
+sync-same past client x h k =
+    ap (λ (b : Bool). if b || is_query_of client x then length past else sync_place past client) h
+    ∙ ap (λ (b : Bool). if b then length past else sync_place past client) k
+
+pub sync-query : (past : List Step) (client : ℕ) (x : Step) → is_query_of client x ≡ true → sync_place (x ∷ past) client ≡ length past
+unfolding sync_place
+sync-query past client x h = by (is_start past client x)
+  where
+    by : (b : Bool) → (if b || is_query_of client x then length past else sync_place past client) ≡ length past
+    by true = refl
+    by false = ap (λ (b : Bool). if b then length past else sync_place past client) h
+
+either_le : (b : Bool) (m n k : ℕ) → m ≤ k → n ≤ k → (if b then m else n) ≤ k
+either_le true m n k h j = h
+either_le false m n k h j = j
+
+start-within : (past : List Step) (client : ℕ) → start_place past client ≤ length past
+unfolding start_place
+start-within [] client = omega arith
+start-within (x ∷ past) client =
+    let before : start_place past client ≤ length past = start-within past client in
+    either_le (is_start past client x) (length past) (start_place past client) (suc (length past)) (omega arith) (omega arith)
+
+start-below : (past : List Step) (client : ℕ) (x : Step) → start_place (x ∷ past) client < suc (length past)
+unfolding start_place
+start-below past client x =
+    let before : start_place past client ≤ length past = start-within past client in
+    let k : (if is_start past client x then length past else start_place past client) ≤ length past =
+    either_le (is_start past client x) (length past) (start_place past client) (length past) (omega arith) before in
+    omega (arith, k)
+
+-- the start of an open client is an entry of the past
+pub start-before : (past : List Step) (client : ℕ) → Receives past client → start_place past client < length past
+unfolding is_open
+start-before [] client h = absurd (let e : false ≡ true = h.is_there in cc)
+start-before (x ∷ past) client h = start-below past client x
+
+-- ---- a client that receives frames, before the step
+
+still_open : (opening closing before : Bool) → opening ≡ false → (if opening then true else if closing then false else before) ≡ true → before ≡ true
+still_open true closing before h k = absurd (let e : true ≡ false = h in cc)
+still_open false true before h k = absurd (let e : false ≡ true = k in cc)
+still_open false false before h k = k
+
+not_yet_revoked : (revoking before : Bool) → (if revoking then true else before) ≡ false → before ≡ false
+not_yet_revoked true before h = absurd (let e : true ≡ false = h in cc)
+not_yet_revoked false before h = h
+
+pub receives-before : (past : List Step) (client : ℕ) (x : Step) → is_start past client x ≡ false → Receives (x ∷ past) client → Receives past client
+unfolding is_open is_revoked
+receives-before past client x start h = record {
+  is_there = still_open (is_opening past client x) (is_close_of client x) (is_open past client) (or-false _ _ start).0 h.is_there;
+  unrevoked = not_yet_revoked (is_revoke_of client x) (is_revoked past client) h.unrevoked;
+}
+
+-- ---- what a start leaves in the queue
+
+pub start_left : (d : Description) (past : List Step) (client : ℕ) (x : Step) → is_start past client x ≡ true → (left_in_queue d past client x ≡ []) ⊎ (left_in_queue d past client x ≡ drop (visible event_of (queue d past client)) (queue d past client))
+start_left d past client Open h =
+    let q : List Entry = queue d past client in
+    inl (ap (λ (b : Bool). if (if b then true else false) then [] else q) (opening (nat_eq (opens past) client) h))
+  where
+    opening : (b : Bool) → (b || false) ≡ true → b ≡ true
+    opening true h = refl
+    opening false h = h
+start_left d past client (Discard reader) h =
+    let q : List Entry = queue d past client in
+    inr (ap (λ (b : Bool). if b then drop (visible event_of q) q else q) h)
+start_left d past client x h = absurd (let e : false ≡ true = h in cc)
+
+-- what holds of each entry of a queue holds of those that a step leaves there
+pub left-each : (G : Entry → Type 0) → ((e : Entry) → is_dropped (event_of e) ≡ true → e.frame ≡ None → G e) → (d : Description) (past : List Step) (client : ℕ) (x : Step) → Each G (queue d past client) → Each G (left_in_queue d past client x)
+left-each G loss d past client x h = by (is_start past client x) refl
+  where
+    q : List Entry
+    q = queue d past client
+
+    at_start : (left_in_queue d past client x ≡ []) ⊎ (left_in_queue d past client x ≡ drop (visible event_of q) q) → Each G (left_in_queue d past client x)
+    at_start (inl e) = subst (Each G) (sym e) tt
+    at_start (inr e) = subst (Each G) (sym e) (Each-drop G (visible event_of q) q h)
+
+    at_call : (taken : List Entry) → LeftBy x client q taken (left_in_queue d past client x) → Each G (left_in_queue d past client x)
+    at_call taken (ByRead n t e) = subst (Each G) (sym e) (Each-drop G n q h)
+    at_call taken (ByLoss lost is frame t e) = subst (Each G) (sym e) (loss lost is frame, tt)
+    at_call taken (ByFlush query asked own kind keeps t e) = subst (Each G) (sym e) (flush-each G (is_part_of query) q h)
+    at_call taken (ByNone t e) = subst (Each G) (sym e) h
+
+    by : (b : Bool) → is_start past client x ≡ b → Each G (left_in_queue d past client x)
+    by true e = at_start (start_left d past client x e)
+    by false e = at_call _ (left_by d past client x e)
+
+-- ---- each queued entry was entered before the past's end
+
+abbrev pub IsPlacedBelow : ℕ → Entry → Type 0
+IsPlacedBelow n x = (f : Frame) → x.frame ≡ Some f → place f < n
+
+entries_of-each : (G : Entry → Type 0) (d : Description) (client : ℕ) (f : Frame) → ((e : Event) → G (entry d client f e)) → Each G (entries_of d client f)
+entries_of-each G d client f h = by (is_offered f.before client) _
+  where
+    each : (es : List Event) → Each G (map (entry d client f) es)
+    each [] = tt
+    each (e ∷ es) = (h e, each es)
+
+    by : (b : Bool) (es : List Event) → Each G (if b then map (entry d client f) es else [])
+    by true es = each es
+    by false es = tt
+
+pub entries-each : (G : Entry → Type 0) (d : Description) (client : ℕ) (past : List Step) (now : ℕ) → ((c : Cut) (e : Event) → G (entry d client (frame_of past now c) e)) → (cs : List Cut) → Each G (entries d client (map (frame_of past now) cs))
+entries-each G d client past now h [] = tt
+entries-each G d client past now h (c ∷ cs) =
+    Each-append G (entries_of d client (frame_of past now c)) (entries d client (map (frame_of past now) cs))
+    (entries_of-each G d client (frame_of past now c) (h c)) (entries-each G d client past now h cs)
+
+pub queue-placed : (d : Description) (past : List Step) (client : ℕ) → Each (IsPlacedBelow (length past)) (queue d past client)
+unfolding queue
+queue-placed d [] client = tt
+queue-placed d (x ∷ past) client = more (queue-placed d past client)
+  where
+    n : ℕ
+    n = suc (length past)
+
+    none : (e : Entry) → e.frame ≡ None → IsPlacedBelow n e
+    none e h = λ f k. let bad : None ≡ Some f = sym h ∙ k in cc
+
+    here : (c : Cut) (e : Event) → IsPlacedBelow n (entry d client (frame_of past (moment_of x) c) e)
+    here c e = λ f k. let is : frame_of past (moment_of x) c ≡ f = cc in subst (λ (g : Frame). place g < n) is (omega arith)
+
+    more : Each (IsPlacedBelow (length past)) (queue d past client) → Each (IsPlacedBelow n) (queue d (x ∷ past) client)
+    more h =
+        let old : Each (IsPlacedBelow n) (queue d past client) =
+        Each-weaker (IsPlacedBelow (length past)) (IsPlacedBelow n) (λ e k f i. (let m : place f < length past = k f i in omega (arith, m))) (queue d past client) h in
+        subst (Each (IsPlacedBelow n)) (sym (queue-step d past client x))
+        (put_all-each (IsPlacedBelow n) (λ e k. k) (ring d) (left_in_queue d past client x) _
+        (left-each (IsPlacedBelow n) (λ e loss k. none e k) d past client x old)
+        (entries-each (IsPlacedBelow n) d client past (moment_of x) here (cuts d (raw d past) (raw_of_step d past x))))
+
+-- ---- frames in order
+
+abbrev pub IsEndedWithin : ℕ → Frame → Type 0
+IsEndedWithin n f = length f.cut.until ≤ n
+
+pub raw_after-longer : (r es : List Event) → length r ≤ length (raw_after r es)
+raw_after-longer r [] = omega arith
+raw_after-longer r (e ∷ es) = let k : length (e ∷ r) ≤ length (raw_after (e ∷ r) es) = raw_after-longer (e ∷ r) es in omega (arith, k)
+
+frames_by-within : (d : Description) (past : List Step) (now : ℕ) (es r : List Event) → Each (IsEndedWithin (length (raw_after r es))) (frames_by d past now r es)
+unfolding cuts
+frames_by-within d past now [] r = tt
+frames_by-within d past now (e ∷ es) r = by (cut_cases d r e) (frames_by-within d past now es (e ∷ r))
+  where
+    n : ℕ
+    n = length (raw_after (e ∷ r) es)
+
+    rest : List Cut
+    rest = cuts d (e ∷ r) es
+
+    by : NoCut d r e ⊎ OneCut d r e → Each (IsEndedWithin n) (map (frame_of past now) rest) → Each (IsEndedWithin n) (map (frame_of past now) (cut d r e ++ rest))
+    by (inl h) ih = subst (λ (cs : List Cut). Each (IsEndedWithin n) (map (frame_of past now) (cs ++ rest))) (sym h.none) ih
+    by (inr h) ih = subst (λ (cs : List Cut). Each (IsEndedWithin n) (map (frame_of past now) (cs ++ rest))) (sym h.one) (raw_after-longer (e ∷ r) es, ih)
+
+pub frames-within : (d : Description) (past : List Step) → Each (IsEndedWithin (length (raw d past))) (frames d past)
+unfolding frames
+frames-within d [] = tt
+frames-within d (x ∷ past) = more (frames-within d past)
+  where
+    r : List Event
+    r = raw d past
+
+    es : List Event
+    es = raw_of_step d past x
+
+    more : Each (IsEndedWithin (length r)) (frames d past) → Each (IsEndedWithin (length (raw d (x ∷ past)))) (frames d past ++ frames_of_step d past x)
+    more h =
+        let longer : length r ≤ length (raw_after r es) = raw_after-longer r es in
+        subst (λ (l : List Event). Each (IsEndedWithin (length l)) (frames d past ++ frames_of_step d past x)) (sym (raw-step d past x))
+        (Each-append (IsEndedWithin (length (raw_after r es))) (frames d past) (frames_of_step d past x)
+        (Each-weaker (IsEndedWithin (length r)) (IsEndedWithin (length (raw_after r es))) (λ f k. omega (arith, k, longer)) (frames d past) h)
+        (frames_by-within d past (moment_of x) es r))

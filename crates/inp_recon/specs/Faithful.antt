@@ -1,0 +1,74 @@
+-- When a client's view is the device's state (docs/RULES.md, "Faithful views").
+use Rattle.std.specs.Prelude.{ℕ, suc, ◌≡◌, ◌<◌, pos, true, false, List, [], ◌∷◌, map, take, slice_get, slice_index_or, Some, None}
+use Rattle.inp_model.specs.declared.event.Event.{Event}
+use Rattle.inp_model.specs.declared.step.Step.{Step}
+use Rattle.inp_model.specs.declared.step.Step.TheVariants.{Read}
+use Rattle.inp_model.specs.Description.{Description, IsDescription}
+use Rattle.inp_model.specs.Event.{is_report}
+use Rattle.inp_model.specs.State.{key_down, switch_on, led_on, axis_value}
+use Rattle.inp_model.specs.Passed.{announced}
+use Rattle.inp_model.specs.Frame.{Frame, place}
+use Rattle.inp_model.specs.Queue.{Entry, event_of, taken_by, took}
+use Rattle.inp_model.specs.Reply.{refused, rows}
+use Rattle.inp_recon.specs.declared.view.View.{View}
+use Rattle.inp_recon.specs.View.{view_after_events}
+use Rattle.inp_recon.specs.ClientView.{client_view, past_before_read, read_up_to, view_at}
+use Rattle.inp_recon.specs.Synchronised.{has_axis, sync_place, is_synchronised}
+use Rattle.inp_recon.specs.Undisturbed.{is_undisturbed}
+
+-- the view shows the device's state after the raw events r
+pub record IsDeviceState (d : Description) (r : List Event) (v : View) : Type 0 where
+  pub keys : (code : ℕ) → slice_index_or v.keys code false ≡ key_down d r code
+  pub switches : (code : ℕ) → slice_index_or v.switches code false ≡ switch_on d r code
+  pub leds : (code : ℕ) → slice_index_or v.leds code false ≡ led_on d r code
+  -- of each supported axis outside 0x2f to 0x3d
+  pub axes : (code : ℕ) → has_axis d code ≡ true → slice_index_or v.axes code (pos 0) ≡ axis_value d r code
+  -- all values of all slots, none on a device without slots
+  pub cells : v.cells ≡ rows d r
+  -- the slot that was announced last
+  pub slot : 0 < d.slots → v.slot ≡ announced d r
+
+-- each step was accepted after the past before it
+abbrev pub IsHistory : Description → List Step → Type 0
+IsHistory d [] = Unit {0}
+IsHistory d (x ∷ past) = IsHistory d past × (refused d past x ≡ None)
+
+-- item j of a client's entries is a report of this frame
+pub record IsReportAt (entries : List Entry) (j : ℕ) (f : Frame) : Type 0 where
+  pub entry : Entry
+  pub at : slice_get entries j ≡ Some entry
+  pub report : is_report (event_of entry) ≡ true
+  pub frame : entry.frame ≡ Some f
+
+-- After this past a client that has taken these entries of its queue is synchronised, the frame was passed behind its
+-- last query, and nothing was kept from the client up to the frame.
+pub record IsFollowed (d : Description) (past : List Step) (client : ℕ) (taken : List Entry) (f : Frame) : Type 0 where
+  pub synchronised : is_synchronised d past client taken ≡ true
+  pub behind : sync_place past client < place f
+  pub undisturbed : is_undisturbed d past client f ≡ true
+
+-- The view at each report that a client took is the device's state at the end of its frame, where it is followed.
+abbrev pub IsFaithful : Description → List Step → ℕ → Type 0
+IsFaithful d past client =
+    (i : ℕ) (f : Frame) → IsReportAt (took d past client) i f
+    → IsFollowed d (past_before_read d past client i) client (read_up_to d past client i) f
+    → IsDeviceState d f.cut.until (view_at d past client i)
+
+-- the same of a read after this past, at item j of what it takes
+abbrev pub IsFaithfulRead : Description → List Step → ℕ → ℕ → Type 0
+IsFaithfulRead d past client count =
+    let taken = taken_by d past client (Read client count) in
+    (j : ℕ) (f : Frame) → IsReportAt taken j f
+    → IsFollowed d past client (take (suc j) taken) f
+    → IsDeviceState d f.cut.until (view_after_events (client_view d past client) (map event_of (take (suc j) taken)))
+
+-- every history is faithful to every client
+abbrev pub AreFaithful : Type 0
+AreFaithful =
+    (d : Description) (past : List Step) (client : ℕ) → IsDescription d → IsHistory d past → IsFaithful d past client
+
+-- every accepted read is faithful
+abbrev pub AreReadsFaithful : Type 0
+AreReadsFaithful =
+    (d : Description) (past : List Step) (client count : ℕ) → IsDescription d → IsHistory d (Read client count ∷ past)
+    → IsFaithfulRead d past client count
