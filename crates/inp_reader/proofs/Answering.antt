@@ -1,10 +1,9 @@
 -- What a one-thread device answers to a query, as far as a view is set by it.
-use Rattle.std.proofs.Common.{◌≡◌, List, [], ◌∷◌, ◌++◌, refl, sym, ap, subst, ◌∙◌, Bool, true, false, if◌then◌else◌, Option, Some, None, ℤ, ℕ, ◌*◌, ◌+◌, ◌≤◌, length, take, drop, map, inl, inr, ◌⊎◌, arith, length-append, zero, suc}
+use Rattle.std.proofs.Common.{◌≡◌, List, [], ◌∷◌, refl, sym, ap, subst, ◌∙◌, Bool, true, false, if◌then◌else◌, Option, Some, None, ℤ, ℕ, ◌*◌, ◌+◌, length, take, drop, inl, inr, arith, length-append, zero, suc}
 use Rattle.std.specs.Prelude.{flat_map}
 use Rattle.std.proofs.lemmas.List.{take-append-le}
 use Rattle.std.specs.List.{range_with_len}
 use Rattle.inp_model.specs.declared.event.Event.{Event}
-use Rattle.inp_model.specs.declared.multi_touch.TheConstants.{ABS_MT_TOUCH_MAJOR}
 use Rattle.inp_model.specs.declared.step.Step.{Step}
 use Rattle.inp_model.specs.declared.step.Step.TheVariants.{Open, SyncSlots}
 use Rattle.inp_model.specs.declared.reply.Reply.{Reply}
@@ -14,7 +13,7 @@ use Rattle.inp_model.specs.Evdev.{EvdevView, IsCall}
 use Rattle.inp_model.specs.Past.{past_at}
 use Rattle.inp_model.specs.Raw.{raw}
 use Rattle.inp_model.specs.Run.{place_of}
-use Rattle.inp_model.specs.Reply.{Answer, Case, alone, answer, answer_by, accepted, refused, refusals, first_reply, is_accepted, written, IsAnswer, rows, row}
+use Rattle.inp_model.specs.Reply.{Answer, Case, answer_by, accepted, refused, refusals, first_reply, is_accepted, written, IsAnswer, rows, row}
 use Rattle.inp_recon.specs.declared.view.View.{View}
 use Rattle.inp_recon.specs.View.{view_after_answer, slot_after_reply, cells_after_reply}
 
@@ -46,7 +45,7 @@ length-flat_map f k first zero h = omega arith
 length-flat_map f k first (suc n) h =
     omega (arith, length-append (f first) (flat_map f (range_with_len (first + 1) n)), h first, length-flat_map f k (first + 1) n h)
 
-length-rows : (d : Description) (r : List Event) → length (rows d r) ≡ 14 * d.slots
+pub length-rows : (d : Description) (r : List Event) → length (rows d r) ≡ 14 * d.slots
 length-rows d r = length-flat_map (row d r) 14 0 d.slots (length-row d r)
 
 -- What an answer sets

@@ -1,5 +1,5 @@
 -- The synthesised events, index by index.
-use Rattle.std.proofs.Common.{◌≡◌, ℕ, zero, suc, ◌+◌, ◌-◌, ◌*◌, ◌<◌, ◌≤◌, ℤ, pos, Bool, true, false, cond, if◌then◌else◌, List, [], ◌∷◌, ◌++◌, length, map, take, drop, refl, sym, ap, ◌∙◌, arith, append-nil, append_assoc, zero-add, ◌||◌, Some, get_or, length-drop, length-append}
+use Rattle.std.proofs.Common.{◌≡◌, ℕ, suc, ◌+◌, ◌-◌, ◌<◌, ◌≤◌, ℤ, pos, Bool, true, false, cond, if◌then◌else◌, List, [], ◌∷◌, ◌++◌, length, map, take, drop, refl, sym, ap, ◌∙◌, arith, append-nil, append_assoc, zero-add, ◌||◌, Some, get_or, length-drop, length-append}
 use Rattle.std.specs.List.{slice_get}
 use Rattle.std.specs.List.{range_with_len, filter, list_any}
 use Rattle.std.proofs.lemmas.List.{map-append, take_more, get_or-drop, take-append-le}
@@ -46,20 +46,20 @@ abbrev pub last_slot : List ℕ → ℤ → ℤ
 last_slot [] current = current
 last_slot (slot ∷ slots) current = last_slot slots (pos slot)
 
-last_slot-more : (slots : List ℕ) (slot : ℕ) (current : ℤ) → last_slot (slots ++ slot ∷ []) current ≡ pos slot
+pub last_slot-more : (slots : List ℕ) (slot : ℕ) (current : ℤ) → last_slot (slots ++ slot ∷ []) current ≡ pos slot
 last_slot-more [] slot current = refl
 last_slot-more (s ∷ slots) slot current = last_slot-more slots slot (pos s)
 
-in_slots-more : (f : ℕ → List Event) (slots : List ℕ) (slot : ℕ) (current : ℤ) → in_slots f (slots ++ slot ∷ []) current ≡ in_slots f slots current ++ (to_slot (last_slot slots current) (pos slot) ++ f slot)
+pub in_slots-more : (f : ℕ → List Event) (slots : List ℕ) (slot : ℕ) (current : ℤ) → in_slots f (slots ++ slot ∷ []) current ≡ in_slots f slots current ++ (to_slot (last_slot slots current) (pos slot) ++ f slot)
 in_slots-more f [] slot current = append-nil (to_slot current (pos slot) ++ f slot)
 in_slots-more f (s ∷ slots) slot current =
     ap (λ (xs : List Event). to_slot current (pos s) ++ f s ++ xs) (in_slots-more f slots slot (pos s))
     ∙ sym (append_assoc (to_slot current (pos s) ++ f s) (in_slots f slots (pos s)) (to_slot (last_slot slots (pos s)) (pos slot) ++ f slot))
 
-where_below-skip : (test : ℕ → Bool) (n : ℕ) → test n ≡ false → where_below (n + 1) test ≡ where_below n test
+pub where_below-skip : (test : ℕ → Bool) (n : ℕ) → test n ≡ false → where_below (n + 1) test ≡ where_below n test
 where_below-skip test n h = where_below-more n test ∙ ap (λ (b : Bool). where_below n test ++ cond b (n ∷ []) []) h ∙ append-nil (where_below n test)
 
-where_below-next : (test : ℕ → Bool) (n : ℕ) → test n ≡ true → where_below (n + 1) test ≡ where_below n test ++ n ∷ []
+pub where_below-next : (test : ℕ → Bool) (n : ℕ) → test n ≡ true → where_below (n + 1) test ≡ where_below n test ++ n ∷ []
 where_below-next test n h = where_below-more n test ∙ ap (λ (b : Bool). where_below n test ++ cond b (n ∷ []) []) h
 
 -- what a walk over slots has added, and the current slot behind it

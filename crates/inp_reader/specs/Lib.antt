@@ -1,7 +1,14 @@
 pub mod Talk
 pub mod Synthesis
+pub mod Laws
 pub mod Reading
 pub mod Says
+pub mod Leaving
+pub mod Standing
+pub mod Spare
+pub mod KeptViews
+pub mod Showing
 pub mod Asking
 pub mod Session
 pub mod Examples
+pub mod StandingExamples

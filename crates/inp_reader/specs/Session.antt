@@ -1,13 +1,13 @@
 -- How a reader's parts are kept.
-use Rattle.std.specs.Prelude.{◌≡◌, ◌≤◌, ℕ, ◌*◌, List, length}
+use Rattle.std.specs.Prelude.{◌≡◌, ◌≤◌, ◌*◌, length}
 use Rattle.inp_model.specs.declared.limits.TheConstants.{SLOTS_MAX}
-use Rattle.inp_model.specs.Description.{Description}
+use Rattle.inp_model.specs.Description.{Description, IsDescription}
 use Rattle.inp_model.specs.Evdev.{EvdevView}
-use Rattle.inp_recon.specs.declared.view.View.{View}
 use Rattle.inp_reader.specs.declared.asker.Asker.{Asker}
 use Rattle.inp_reader.specs.declared.session.Session.{Session}
 use Rattle.inp_reader.specs.declared.reader.Reader.TheInside.{Inside}
 use Rattle.inp_reader.specs.Reading.{Reading, ReaderView}
+use Rattle.inp_reader.specs.Spare.{HasSpare}
 
 -- the view and the buffer have as many cells as the device that is asked
 pub record IsReady (d : Description) (told : EvdevView) (a : Asker) : Type 0 where
@@ -29,10 +29,13 @@ pub record IsSession (d : Description) (told : EvdevView) (s : Session) : Type 0
 abbrev pub reader_view : Inside → ReaderView
 reader_view r = record { description = r.caps; reading = reading_of r.session; made = r.session.asker.made }
 
--- a reader's views and its buffer have as many cells as its devices, and it keeps few calls
+-- a reader's views and its buffer have as many cells as its devices, it keeps few calls, its view keeps what its devices
+-- cannot have as in a new view, and its description keeps its ranges
 pub record IsReader (r : Inside) : Type 0 where
   pub view : length r.session.view.cells ≡ 14 * r.caps.slots
   pub asked : length r.session.asker.view.cells ≡ 14 * r.caps.slots
   pub cells : length r.session.asker.cells ≡ 14 * r.caps.slots
   pub few : length r.session.asker.made ≤ 64
   pub slots : r.caps.slots ≤ SLOTS_MAX
+  pub spare : HasSpare r.caps (reading_of r.session)
+  pub described : IsDescription r.caps

@@ -15,7 +15,8 @@ use inp_recon::View;
 use std::alloc::Global;
 use std::marker::Model;
 
-/// How many synthesised events there is room for: 1,024, and 20 a slot, for 64 slots.
+/// How many synthesised events there is room for: 1,024, and 20 a slot, for 64 slots. More than 948, and 17 a slot, there
+/// never are.
 const EVENTS_MAX: usize = 2304;
 
 const _: () = prove!(EVENTS_MAX == 1024 + 20 * 64);

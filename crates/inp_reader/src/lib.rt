@@ -9,8 +9,19 @@
 //! Its contract: `specs/Reading.antt` says what `start` and `next` ask of an evdev, one step by the answers before it,
 //! and what they answer and leave (a `Talk`, `specs/Talk.antt`). [`Reader::start`] and [`Reader::next`] promise that the
 //! calls they made are those of that talk, and that the answer and the reader are its result (`Says`,
-//! `specs/Says.antt`). `specs/Synthesis.antt` says which events lead from one view to another. [`examples`] shows what
-//! these definitions compute on short histories.
+//! `specs/Says.antt`). `specs/Synthesis.antt` says which events lead from one view to another. [`laws`] states what
+//! holds of them: they do lead there, none but a report leaves the view as it was, and there are few
+//! (`specs/Laws.antt`); and the views that a reader keeps are such that this holds (`specs/KeptViews.antt`).
+//! [`examples`] shows what these definitions compute on short histories.
+//!
+//! What follows from the calls is said beside it. `specs/Leaving.antt`: they are a legal run of the history that is seen
+//! afterwards, the caller's own places grow by theirs, and its count of answers Again rises where `next` answers so.
+//! `specs/Standing.antt`: a reader *stands* at the end of a history where, since its client was opened or last removed what
+//! was visible, it asked for the whole state once and then read; what it handed out and what it has queued are all that it
+//! read, in order; and its view is what the answers and the events that it handed out make of a new view. It stands after a
+//! start that opened a client, and each later call keeps it so, as long as nobody else uses its client.
+//! `specs/Showing.antt`: at each report that it hands out its view is then the device's state at the end of that frame,
+//! where its client could follow the device up to there.
 //!
 //! A reader takes all its memory when it is made; only the open of a start may meet want of memory. It makes at most 64
 //! calls in a `start` or a `next`, one but for a synchronisation.
@@ -22,6 +33,7 @@ mod calls_made;
 mod cell_buffer;
 mod changes;
 mod event_list;
+pub mod laws;
 mod mode;
 mod next;
 mod phase;

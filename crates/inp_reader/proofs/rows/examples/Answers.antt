@@ -1,5 +1,11 @@
 -- Each example computes.
-use Rattle.std.proofs.Common.{refl}
+use Rattle.std.proofs.Common.{refl, lit<, pos, List, [], ◌∷◌, take, drop}
+use Rattle.inp_model.specs.Description.{one_key}
+use Rattle.inp_model.specs.Examples.{key, at, stroke}
+use Rattle.inp_model.specs.Run.{Call}
+use Rattle.inp_reader.specs.declared.mode.Mode.TheVariants.{Normal}
+use Rattle.inp_reader.specs.Examples.{after_all}
+use Rattle.inp_reader.specs.Standing.{calls_since}
 use Rattle.inp_model.proofs.Computing.{computing}
 use Rattle.inp_reader.proofs.Computing.{computing_reader}
 use Rattle.inp_reader.proofs.rows.examples.Goals as goal
@@ -23,3 +29,34 @@ returns-clause-plain c = (refl, refl, refl)
 pub returns-clause-stops : goal.returns-clause-stops
 unfolding computing computing_reader
 returns-clause-stops c = (refl, refl, refl)
+
+pub returns-clause-follows : goal.returns-clause-follows
+unfolding computing computing_reader
+returns-clause-follows c = (refl, refl, refl, refl)
+
+pub returns-clause-stands : goal.returns-clause-stands
+unfolding computing computing_reader
+returns-clause-stands c = record {
+  opened = lit< tt;
+  in_step = λ needed. record {
+    asked = take 1 calls;
+    reads = drop 1 calls;
+    handed = at 3 0 (key (pos 1)) ∷ [];
+    calls = refl;
+    queries = refl;
+    reads_only = (refl, tt);
+    taken = refl;
+    view = refl;
+  };
+}
+  where
+    calls : List Call
+    calls = calls_since one_key (after_all one_key [] (stroke (pos 1) 0) (Normal ∷ [])).past 0
+
+pub returns-clause-uses : goal.returns-clause-uses
+unfolding computing computing_reader
+returns-clause-uses c = (refl, refl, refl)
+
+pub returns-clause-anew : goal.returns-clause-anew
+unfolding computing computing_reader
+returns-clause-anew c = refl

@@ -1,0 +1,500 @@
+-- The view that a client makes of a history, by what it read and asked for since its start.
+use Rattle.std.proofs.Common.{◌≡◌, ◌≤◌, ◌<◌, ◌⊎◌, inl, inr, ℕ, zero, suc, ◌+◌, ◌-◌, nat_eq, nat_lt, Bool, true, false, ◌&&◌, ◌||◌, List, [], ◌∷◌, ◌++◌, length, map, take, drop, refl, sym, ap, subst, ◌∙◌, arith, append-nil, append_assoc, length-append, if◌then◌else◌, ℤ, Option, Some, None}
+use Rattle.std.proofs.lemmas.Bool.{true≢false, false≢true, eqb-true, cond-false, cond-true, and_parts, cases_lt, lt-ltb, le-ltb, ltb-true, ltb-false}
+use Rattle.std.proofs.lemmas.List.{map-append, take-append-le, length-map, take-map}
+use Rattle.std.proofs.lemmas.List.Concat.{flat_map-append}
+use Rattle.inp_model.specs.declared.event.Event.{Event}
+use Rattle.inp_model.specs.declared.taken.Taken.{Taken}
+use Rattle.inp_model.specs.declared.step.Step.{Step}
+use Rattle.inp_model.specs.declared.step.Step.TheVariants.{Open, Read, Discard, GetKeys, GetSwitches, GetLeds, GetAxis, SyncSlots}
+use Rattle.inp_model.specs.declared.reply.Reply.{Reply}
+use Rattle.inp_model.specs.Description.{Description}
+use Rattle.inp_model.specs.Queue.{Entry, event_of, taken_by, took}
+use Rattle.inp_model.specs.Reply.{Answer, IsAnswer, answer, answer_by, accepted, refused, is_accepted, taken_of}
+use Rattle.inp_model.specs.Run.{Call}
+use Rattle.inp_model.specs.Step.{client_of, is_same}
+use Rattle.inp_recon.specs.declared.view.View.{View}
+use Rattle.inp_recon.specs.View.{IsSizedFor, first_view, view_after_events, view_after_answer}
+use Rattle.inp_recon.specs.ClientView.{view_after_step, client_view, past_before_read, view_at}
+use Rattle.inp_recon.specs.Faithful.{IsHistory}
+use Rattle.inp_recon.proofs.Folds.{view_after_events-append}
+use Rattle.inp_recon.proofs.Sizes.{IsSizedFor-first_view}
+use Rattle.inp_recon.proofs.ViewSteps.{client_view-sized}
+use Rattle.inp_reader.specs.Reading.{queries}
+use Rattle.inp_recon.specs.Synchronised.{is_start}
+use Rattle.inp_reader.specs.Standing.{is_use, is_use_of, calls_since, steps_of, view_after_answers, taken_by_calls, events_of, is_read, AreReads}
+use Rattle.inp_reader.proofs.Calls.{AreAnswered, AreAccepted}
+use Rattle.inp_reader.proofs.Agains.{NoneIsRead, NoneIsRead-queries}
+
+-- One call
+
+-- a view after calls, what they took and then their answers
+unfoldable pub fold_calls : View → List Call → View
+fold_calls v [] = v
+fold_calls v (call ∷ calls) = fold_calls (view_after_answer (view_after_events v (events_of call.answer.events)) call.step call.answer.reply call.answer.cells) calls
+
+fold_calls-push : (v : View) (calls : List Call) (call : Call) → fold_calls v (calls ++ call ∷ []) ≡ view_after_answer (view_after_events (fold_calls v calls) (events_of call.answer.events)) call.step call.answer.reply call.answer.cells
+unfolding fold_calls
+fold_calls-push v [] call = refl
+fold_calls-push v (c ∷ calls) call = fold_calls-push (view_after_answer (view_after_events v (events_of c.answer.events)) c.step c.answer.reply c.answer.cells) calls call
+
+-- a history's answers are those to accepted steps
+accepted-answer : (d : Description) (past : List Step) (x : Step) → refused d past x ≡ None → answer d past x ≡ accepted d past x
+accepted-answer d past x h = ap (λ (o : Option Reply). answer_by o (accepted d past x)) h
+
+map-taken : (es : List Entry) → events_of (map taken_of es) ≡ map event_of es
+map-taken [] = refl
+map-taken (e ∷ es) = ap (λ (xs : List Event). event_of e ∷ xs) (map-taken es)
+
+-- what a client's own step takes, as its answer tells
+same-read : (d : Description) (past : List Step) (named client count : ℕ) → nat_eq named client ≡ true → taken_by d past named (Read named count) ≡ taken_by d past client (Read named count)
+same-read d past named client count h = ap (λ (n : ℕ). taken_by d past n (Read named count)) (eqb-true named client h)
+
+pub taken-told : (d : Description) (past : List Step) (client : ℕ) (x : Step) → is_use_of client x ≡ true → (accepted d past x).events ≡ map taken_of (taken_by d past client x)
+taken-told d past client (Read named count) used = ap (λ (es : List Entry). map taken_of es) (same-read d past named client count used)
+taken-told d past client _ used = refl
+
+no-events : (v : View) → view_after_events v [] ≡ v
+unfolding view_after_events
+no-events v = refl
+
+-- a step that is no use of a client takes nothing and tells nothing
+idle-own : (d : Description) (past : List Step) (client : ℕ) (x : Step) (v : View) → is_use x ≡ false → view_after_answer (view_after_events v (map event_of (taken_by d past client x))) x (accepted d past x).reply (accepted d past x).cells ≡ v
+unfolding view_after_answer
+idle-own d past client (Read named count) v h = absurd (true≢false h)
+idle-own d past client (GetKeys named) v h = absurd (true≢false h)
+idle-own d past client (GetSwitches named) v h = absurd (true≢false h)
+idle-own d past client (GetLeds named) v h = absurd (true≢false h)
+idle-own d past client (GetAxis named code) v h = absurd (true≢false h)
+idle-own d past client (SyncSlots named) v h = absurd (true≢false h)
+idle-own d past client _ v h = no-events v
+
+idle-step : (d : Description) (past : List Step) (client : ℕ) (x : Step) (v : View) → is_use_of client x ≡ false → view_after_step d past client x v ≡ v
+idle-step d past client x v h = by (is_same (client_of x) client) refl
+  where
+    nothing : (y : Step) → is_use y ≡ false → view_after_answer (view_after_events v (map event_of (taken_by d past client y))) y (accepted d past y).reply (accepted d past y).cells ≡ v
+    nothing y k = idle-own d past client y v k
+
+    by : (b : Bool) → is_same (client_of x) client ≡ b → (if b then view_after_answer (view_after_events v (map event_of (taken_by d past client x))) x (accepted d past x).reply (accepted d past x).cells else v) ≡ v
+    by true same = nothing x (not_used (is_use x) (is_same (client_of x) client) h same)
+      where
+        not_used : (a b : Bool) → (a && b) ≡ false → b ≡ true → a ≡ false
+        not_used true b k is = absurd (true≢false (sym is ∙ k))
+        not_used false b k is = refl
+    by false same = refl
+
+-- The view at a client's last start, and what it had taken before
+
+unfoldable pub view_at_start : Description → List Step → ℕ → View
+view_at_start d [] client = first_view d
+view_at_start d (x ∷ past) client = if is_start past client x then client_view d past client else view_at_start d past client
+
+unfoldable pub taken_at_start : Description → List Step → ℕ → List Entry
+taken_at_start d [] client = []
+taken_at_start d (x ∷ past) client = if is_start past client x then took d past client else taken_at_start d past client
+
+start_of : (b c : Bool) → (b || c) ≡ true → (b ≡ true) ⊎ (c ≡ true)
+start_of true c h = inl refl
+start_of false c h = inr h
+
+-- a start changes nothing of the view, and takes nothing
+start-idle : (d : Description) (past : List Step) (client : ℕ) (x : Step) (v : View) → is_start past client x ≡ true → (view_after_step d past client x v ≡ v) × (taken_by d past client x ≡ [])
+unfolding view_after_answer
+start-idle d past client Open v h = (refl, refl)
+start-idle d past client (Discard named) v h = (by (nat_eq named client), refl)
+  where
+    by : (b : Bool) → (if b then view_after_answer (view_after_events v []) (Discard named) (accepted d past (Discard named)).reply (accepted d past (Discard named)).cells else v) ≡ v
+    by true = no-events v
+    by false = refl
+start-idle d past client _ v h = absurd (false≢true h)
+
+-- what comes of one step: it is a start, another use, or neither
+step_if : {A : Type 0} (starts used : Bool) (a b c : A) (P : A → Type 0) → (starts ≡ true → P a) → (starts ≡ false → used ≡ true → P b) → (starts ≡ false → used ≡ false → P c) → P (if starts then a else if used then b else c)
+step_if true used a b c P h k l = h refl
+step_if false true a b c P h k l = k refl refl
+step_if false false a b c P h k l = l refl refl
+
+used-view : (d : Description) (past : List Step) (client : ℕ) (x : Step) (v : View) → refused d past x ≡ None → is_use_of client x ≡ true
+    → view_after_step d past client x v ≡ view_after_answer (view_after_events v (events_of (answer d past x).events)) x (answer d past x).reply (answer d past x).cells
+used-view d past client x v accepts used =
+    let told : answer d past x ≡ accepted d past x = accepted-answer d past x accepts in
+    let events : map event_of (taken_by d past client x) ≡ events_of (answer d past x).events =
+    sym (map-taken (taken_by d past client x)) ∙ ap (λ (ts : List Taken). events_of ts) (sym (taken-told d past client x used)) ∙ ap (λ (a : Answer). events_of a.events) (sym told) in
+    let both : (is_use x ≡ true) × (is_same (client_of x) client ≡ true) = and_parts (is_use x) (is_same (client_of x) client) used in
+    cond-true (is_same (client_of x) client) (view_after_answer (view_after_events v (map event_of (taken_by d past client x))) x (accepted d past x).reply (accepted d past x).cells) v both.1
+    ∙ ap (λ (es : List Event). view_after_answer (view_after_events v es) x (accepted d past x).reply (accepted d past x).cells) events
+    ∙ ap (λ (a : Answer). view_after_answer (view_after_events v (events_of (answer d past x).events)) x a.reply a.cells) (sym told)
+
+-- the view is the one at the start, and what the calls since then make of it
+pub client_view-since : (d : Description) (past : List Step) (client : ℕ) → IsHistory d past → client_view d past client ≡ fold_calls (view_at_start d past client) (calls_since d past client)
+unfolding client_view calls_since view_at_start fold_calls
+client_view-since d [] client h = refl
+client_view-since d (x ∷ past) client h = by (is_start past client x) (is_use_of client x) refl refl (client_view-since d past client h.0)
+  where
+    call : Call
+    call = record { step = x; answer = answer d past x }
+
+    v : View
+    v = client_view d past client
+
+    by : (starts used : Bool) → is_start past client x ≡ starts → is_use_of client x ≡ used → client_view d past client ≡ fold_calls (view_at_start d past client) (calls_since d past client)
+        → view_after_step d past client x v ≡ fold_calls (if starts then v else view_at_start d past client) (if starts then [] else if used then calls_since d past client ++ call ∷ [] else calls_since d past client)
+    by true used s u rest = (start-idle d past client x v s).0
+    by false true s u rest =
+        used-view d past client x v h.1 u
+        ∙ ap (λ (w : View). view_after_answer (view_after_events w (events_of call.answer.events)) x call.answer.reply call.answer.cells) rest
+        ∙ sym (fold_calls-push (view_at_start d past client) (calls_since d past client) call)
+    by false false s u rest = idle-step d past client x v u ∙ rest
+
+idle-taken : (d : Description) (past : List Step) (client : ℕ) (x : Step) → is_use_of client x ≡ false → taken_by d past client x ≡ []
+idle-taken d past client (Read named count) h = cond-false (nat_eq named client) _ [] h
+idle-taken d past client _ h = refl
+
+taken_by_calls-push : (calls : List Call) (call : Call) → taken_by_calls (calls ++ call ∷ []) ≡ taken_by_calls calls ++ call.answer.events
+taken_by_calls-push calls call =
+    flat_map-append (λ (c : Call). c.answer.events) calls (call ∷ []) ∙ ap (λ (ts : List Taken). taken_by_calls calls ++ ts) (append-nil call.answer.events)
+
+used-taken : (d : Description) (past : List Step) (client : ℕ) (x : Step) → refused d past x ≡ None → is_use_of client x ≡ true → map taken_of (taken_by d past client x) ≡ (answer d past x).events
+used-taken d past client x accepts used = sym (taken-told d past client x used) ∙ ap (λ (a : Answer). a.events) (sym (accepted-answer d past x accepts))
+
+-- all that it took is what it had taken at its start, and what the calls since then took
+pub took-since : (d : Description) (past : List Step) (client : ℕ) → IsHistory d past → map taken_of (took d past client) ≡ map taken_of (taken_at_start d past client) ++ taken_by_calls (calls_since d past client)
+unfolding took calls_since taken_at_start
+took-since d [] client h = refl
+took-since d (x ∷ past) client h = by (is_start past client x) (is_use_of client x) refl refl (took-since d past client h.0)
+  where
+    call : Call
+    call = record { step = x; answer = answer d past x }
+
+    T : List Entry
+    T = took d past client
+
+    E : List Entry
+    E = taken_by d past client x
+
+    B : List Entry
+    B = taken_at_start d past client
+
+    C : List Call
+    C = calls_since d past client
+
+    by : (starts used : Bool) → is_start past client x ≡ starts → is_use_of client x ≡ used → map taken_of (took d past client) ≡ map taken_of (taken_at_start d past client) ++ taken_by_calls (calls_since d past client)
+        → map taken_of (T ++ E) ≡ map taken_of (if starts then T else B) ++ taken_by_calls (if starts then [] else if used then C ++ call ∷ [] else C)
+    by true used s u rest = ap (λ (es : List Entry). map taken_of (T ++ es)) (start-idle d past client x (first_view d) s).1 ∙ ap (λ (es : List Entry). map taken_of es) (append-nil T) ∙ sym (append-nil (map taken_of T))
+    by false true s u rest =
+        map-append taken_of T E ∙ ap (λ (ts : List Taken). ts ++ map taken_of E) rest
+        ∙ append_assoc (map taken_of B) (taken_by_calls C) (map taken_of E)
+        ∙ ap (λ (ts : List Taken). map taken_of B ++ (taken_by_calls C ++ ts)) (used-taken d past client x h.1 u)
+        ∙ ap (λ (ts : List Taken). map taken_of B ++ ts) (sym (taken_by_calls-push C call))
+    by false false s u rest = ap (λ (es : List Entry). map taken_of (T ++ es)) (idle-taken d past client x u) ∙ ap (λ (es : List Entry). map taken_of es) (append-nil T) ∙ rest
+
+pub length-took : (d : Description) (past : List Step) (client : ℕ) → IsHistory d past → length (took d past client) ≡ length (taken_at_start d past client) + length (taken_by_calls (calls_since d past client))
+length-took d past client h =
+    sym (length-map (took d past client) taken_of) ∙ ap (λ (ts : List Taken). length ts) (took-since d past client h)
+    ∙ length-append (map taken_of (taken_at_start d past client)) (taken_by_calls (calls_since d past client))
+    ∙ ap (λ (n : ℕ). n + length (taken_by_calls (calls_since d past client))) (length-map (taken_at_start d past client) taken_of)
+
+-- The view at an event
+
+-- the view when event j of what calls took was taken
+unfoldable pub view_upto : View → List Call → ℕ → View
+view_upto v [] j = v
+view_upto v (call ∷ calls) j =
+    if nat_lt j (length call.answer.events) then view_after_events v (events_of (take (suc j) call.answer.events))
+    else view_upto (view_after_answer (view_after_events v (events_of call.answer.events)) call.step call.answer.reply call.answer.cells) calls (j - length call.answer.events)
+
+upto-before : (v : View) (calls : List Call) (call : Call) (j : ℕ) → j < length (taken_by_calls calls) → view_upto v (calls ++ call ∷ []) j ≡ view_upto v calls j
+unfolding view_upto
+upto-before v [] call j h = absurd (omega (arith, h))
+upto-before v (c ∷ calls) call j h = by (nat_lt j n) refl (λ k. upto-before next calls call (j - n) k)
+  where
+    n : ℕ
+    n = length c.answer.events
+
+    next : View
+    next = view_after_answer (view_after_events v (events_of c.answer.events)) c.step c.answer.reply c.answer.cells
+
+    by : (b : Bool) → nat_lt j n ≡ b → (j - n < length (taken_by_calls calls) → view_upto next (calls ++ call ∷ []) (j - n) ≡ view_upto next calls (j - n))
+        → (if b then view_after_events v (events_of (take (suc j) c.answer.events)) else view_upto next (calls ++ call ∷ []) (j - n)) ≡ (if b then view_after_events v (events_of (take (suc j) c.answer.events)) else view_upto next calls (j - n))
+    by true is rest = refl
+    by false is rest = rest (let above : n ≤ j = ltb-false j n is in omega (arith, h, above, length-append c.answer.events (taken_by_calls calls)))
+
+upto-last : (v : View) (calls : List Call) (call : Call) (j : ℕ) → length (taken_by_calls calls) ≤ j → j < length (taken_by_calls calls) + length call.answer.events
+    → view_upto v (calls ++ call ∷ []) j ≡ view_after_events (fold_calls v calls) (events_of (take (suc j - length (taken_by_calls calls)) call.answer.events))
+unfolding view_upto fold_calls
+upto-last v [] call j h k =
+    let within : j < length call.answer.events = omega (arith, k) in
+    let same : suc j ≡ suc j - 0 = omega arith in
+    cond-true (nat_lt j (length call.answer.events)) (view_after_events v (events_of (take (suc j) call.answer.events))) (view_after_answer (view_after_events v (events_of call.answer.events)) call.step call.answer.reply call.answer.cells) (lt-ltb j (length call.answer.events) within)
+    ∙ ap (λ (n : ℕ). view_after_events v (events_of (take n call.answer.events))) same
+upto-last v (c ∷ calls) call j h k =
+    let n : ℕ = length c.answer.events in
+    let m : ℕ = length (taken_by_calls calls) in
+    let next : View = view_after_answer (view_after_events v (events_of c.answer.events)) c.step c.answer.reply c.answer.cells in
+    let long : length (taken_by_calls (c ∷ calls)) ≡ n + m = length-append c.answer.events (taken_by_calls calls) in
+    let above : n ≤ j = omega (arith, h, long) in
+    let same : suc (j - n) - m ≡ suc j - length (taken_by_calls (c ∷ calls)) = omega (arith, h, long, above) in
+    cond-false (nat_lt j n) (view_after_events v (events_of (take (suc j) c.answer.events))) (view_upto next (calls ++ call ∷ []) (j - n)) (le-ltb j n above)
+    ∙ upto-last next calls call (j - n) (omega (arith, h, long)) (omega (arith, k, long, above))
+    ∙ ap (λ (i : ℕ). view_after_events (fold_calls next calls) (events_of (take i call.answer.events))) same
+
+-- one more step leaves the view at an earlier event
+at-earlier : (d : Description) (past : List Step) (client i : ℕ) (x : Step) → i < length (took d past client) → view_at d (x ∷ past) client i ≡ view_at d past client i
+unfolding took past_before_read
+at-earlier d past client i x h =
+    let T : List Entry = took d past client in
+    let E : List Entry = taken_by d past client x in
+    let earlier : List Step = past_before_read d past client i in
+    let same : (if nat_lt i (length T) then earlier else past) ≡ earlier = cond-true (nat_lt i (length T)) earlier past (lt-ltb i (length T) h) in
+    let front : take (suc i) (T ++ E) ≡ take (suc i) T = take-append-le (suc i) T E (omega (arith, h)) in
+    ap (λ (p : List Step). view_after_events (client_view d p client) (map event_of (drop (length (took d p client)) (take (suc i) (T ++ E))))) same
+    ∙ ap (λ (es : List Entry). view_after_events (client_view d earlier client) (map event_of (drop (length (took d earlier client)) es))) front
+
+take-behind : (xs ys : List Entry) (n : ℕ) → length xs ≤ n → drop (length xs) (take n (xs ++ ys)) ≡ take (n - length xs) ys
+take-behind [] ys n h = ap (λ (k : ℕ). take k ys) (omega arith)
+take-behind (x ∷ xs) ys zero h = absurd (omega (arith, h))
+take-behind (x ∷ xs) ys (suc n) h =
+    let e : n - length xs ≡ suc n - suc (length xs) = omega arith in
+    take-behind xs ys n (omega (arith, h)) ∙ ap (λ (k : ℕ). take k ys) e
+
+-- the view at an event of the last step
+at-last : (d : Description) (past : List Step) (client i : ℕ) (x : Step) → length (took d past client) ≤ i → view_at d (x ∷ past) client i ≡ view_after_events (client_view d past client) (map event_of (take (suc i - length (took d past client)) (taken_by d past client x)))
+unfolding took past_before_read
+at-last d past client i x h =
+    let T : List Entry = took d past client in
+    let E : List Entry = taken_by d past client x in
+    let earlier : List Step = past_before_read d past client i in
+    let same : (if nat_lt i (length T) then earlier else past) ≡ past = cond-false (nat_lt i (length T)) earlier past (le-ltb i (length T) h) in
+    ap (λ (p : List Step). view_after_events (client_view d p client) (map event_of (drop (length (took d p client)) (take (suc i) (T ++ E))))) same
+    ∙ ap (λ (es : List Entry). view_after_events (client_view d past client) (map event_of es)) (take-behind T E (suc i) (omega (arith, h)))
+
+taken-events : (d : Description) (past : List Step) (client n : ℕ) (x : Step) → refused d past x ≡ None → is_use_of client x ≡ true → map event_of (take n (taken_by d past client x)) ≡ events_of (take n (answer d past x).events)
+taken-events d past client n x accepts used =
+    sym (map-taken (take n (taken_by d past client x))) ∙ ap (λ (ts : List Taken). events_of ts) (sym (take-map taken_of n (taken_by d past client x)) ∙ ap (λ (ts : List Taken). take n ts) (used-taken d past client x accepts used))
+
+-- the view at event j of what the client took since its start
+pub view_at-since : (d : Description) (past : List Step) (client j : ℕ) → IsHistory d past → j < length (taken_by_calls (calls_since d past client)) → view_at d past client (length (taken_at_start d past client) + j) ≡ view_upto (view_at_start d past client) (calls_since d past client) j
+unfolding calls_since view_at_start taken_at_start
+view_at-since d [] client j h k = absurd (omega (arith, k))
+view_at-since d (x ∷ past) client j h k = by (is_start past client x) (is_use_of client x) refl refl k (λ m. view_at-since d past client j h.0 m)
+  where
+    call : Call
+    call = record { step = x; answer = answer d past x }
+
+    T : List Entry
+    T = took d past client
+
+    B : List Entry
+    B = taken_at_start d past client
+
+    C : List Call
+    C = calls_since d past client
+
+    v : View
+    v = view_at_start d past client
+
+    long : length T ≡ length B + length (taken_by_calls C)
+    long = length-took d past client h.0
+
+    by : (starts used : Bool) → is_start past client x ≡ starts → is_use_of client x ≡ used → j < length (taken_by_calls (if starts then [] else if used then C ++ call ∷ [] else C))
+        → (j < length (taken_by_calls C) → view_at d past client (length B + j) ≡ view_upto v C j)
+        → view_at d (x ∷ past) client (length (if starts then T else B) + j) ≡ view_upto (if starts then client_view d past client else v) (if starts then [] else if used then C ++ call ∷ [] else C) j
+    by true used s u below rest = absurd (omega (arith, below))
+    by false true s u below rest = elim (cases_lt j (length (taken_by_calls C))) [
+      | inl before ↦ at-earlier d past client (length B + j) x (omega (arith, long, before)) ∙ rest before ∙ sym (upto-before v C call j before)
+      | inr behind ↦
+          (let n : ℕ = suc (length B + j) - length T in
+          let same : n ≡ suc j - length (taken_by_calls C) = omega (arith, long, behind) in
+          let within : j < length (taken_by_calls C) + length call.answer.events = omega (arith, below, ap (λ (ts : List Taken). length ts) (taken_by_calls-push C call), length-append (taken_by_calls C) call.answer.events) in
+          at-last d past client (length B + j) x (omega (arith, long, behind))
+          ∙ ap (λ (es : List Event). view_after_events (client_view d past client) es) (taken-events d past client n x h.1 u)
+          ∙ ap (λ (w : View). view_after_events w (events_of (take n call.answer.events))) (client_view-since d past client h.0)
+          ∙ ap (λ (m : ℕ). view_after_events (fold_calls v C) (events_of (take m call.answer.events))) same
+          ∙ sym (upto-last v C call j behind within))
+    ]
+    by false false s u below rest = at-earlier d past client (length B + j) x (omega (arith, long, below)) ∙ rest below
+
+-- Queries, and then reads
+
+-- none of these calls took anything
+unfoldable NoneTakes : List Call → Type 0
+NoneTakes [] = Unit {0}
+NoneTakes (call ∷ calls) = (call.answer.events ≡ []) × NoneTakes calls
+
+fold-asked : (v : View) (calls : List Call) → NoneTakes calls → fold_calls v calls ≡ view_after_answers v calls
+unfolding NoneTakes fold_calls
+fold-asked v [] h = refl
+fold-asked v (call ∷ calls) h =
+    let same : view_after_events v (events_of call.answer.events) ≡ v = ap (λ (ts : List Taken). view_after_events v (events_of ts)) h.0 ∙ no-events v in
+    ap (λ (w : View). fold_calls (view_after_answer w call.step call.answer.reply call.answer.cells) calls) same
+    ∙ fold-asked (view_after_answer v call.step call.answer.reply call.answer.cells) calls h.1
+
+upto-asked : (v : View) (calls more : List Call) (j : ℕ) → NoneTakes calls → view_upto v (calls ++ more) j ≡ view_upto (view_after_answers v calls) more j
+unfolding NoneTakes view_upto
+upto-asked v [] more j h = refl
+upto-asked v (call ∷ calls) more j h =
+    let next : View = view_after_answer (view_after_events v (events_of call.answer.events)) call.step call.answer.reply call.answer.cells in
+    let n : ℕ = length call.answer.events in
+    let none : n ≡ 0 = ap (λ (ts : List Taken). length ts) h.0 in
+    let same : view_after_events v (events_of call.answer.events) ≡ v = ap (λ (ts : List Taken). view_after_events v (events_of ts)) h.0 ∙ no-events v in
+    let whole : j - n ≡ j = omega (arith, none) in
+    cond-false (nat_lt j n) (view_after_events v (events_of (take (suc j) call.answer.events))) (view_upto next (calls ++ more) (j - n)) (le-ltb j n (omega (arith, none)))
+    ∙ ap (λ (i : ℕ). view_upto next (calls ++ more) i) whole
+    ∙ ap (λ (w : View). view_upto (view_after_answer w call.step call.answer.reply call.answer.cells) (calls ++ more) j) same
+    ∙ upto-asked (view_after_answer v call.step call.answer.reply call.answer.cells) calls more j h.1
+
+read-view : (x : Step) (v : View) (reply : Reply) (cells : List ℤ) → is_read x ≡ true → view_after_answer v x reply cells ≡ v
+unfolding view_after_answer
+read-view (Read client count) v reply cells h = refl
+read-view _ v reply cells h = absurd (false≢true h)
+
+take-more : (xs ys : List Taken) (n : ℕ) → length xs ≤ n → take n (xs ++ ys) ≡ xs ++ take (n - length xs) ys
+take-more [] ys n h = ap (λ (k : ℕ). take k ys) (omega arith)
+take-more (x ∷ xs) ys zero h = absurd (omega (arith, h))
+take-more (x ∷ xs) ys (suc n) h =
+    let e : n - length xs ≡ suc n - suc (length xs) = omega arith in
+    ap (λ (zs : List Taken). x ∷ zs) (take-more xs ys n (omega (arith, h))) ∙ ap (λ (k : ℕ). x ∷ xs ++ take k ys) e
+
+upto-reads : (v : View) (reads : List Call) (j : ℕ) → AreReads reads → j < length (taken_by_calls reads) → view_upto v reads j ≡ view_after_events v (events_of (take (suc j) (taken_by_calls reads)))
+unfolding view_upto
+upto-reads v [] j are h = absurd (omega (arith, h))
+upto-reads v (call ∷ reads) j are h = by (nat_lt j n) refl (λ k. upto-reads (view_after_events v (events_of E)) reads (j - n) are.1 k)
+  where
+    E : List Taken
+    E = call.answer.events
+
+    n : ℕ
+    n = length call.answer.events
+
+    R : List Taken
+    R = taken_by_calls reads
+
+    next : View
+    next = view_after_answer (view_after_events v (events_of E)) call.step call.answer.reply call.answer.cells
+
+    by : (b : Bool) → nat_lt j n ≡ b → (j - n < length R → view_upto (view_after_events v (events_of E)) reads (j - n) ≡ view_after_events (view_after_events v (events_of E)) (events_of (take (suc (j - n)) R)))
+        → (if b then view_after_events v (events_of (take (suc j) E)) else view_upto next reads (j - n)) ≡ view_after_events v (events_of (take (suc j) (E ++ R)))
+    by true is rest =
+        let below : j < n = ltb-true j n is in
+        ap (λ (ts : List Taken). view_after_events v (events_of ts)) (sym (take-append-le (suc j) E R (omega (arith, below))))
+    by false is rest =
+        let above : n ≤ j = ltb-false j n is in
+        let same : suc (j - n) ≡ suc j - n = omega (arith, above) in
+        ap (λ (w : View). view_upto w reads (j - n)) (read-view call.step (view_after_events v (events_of E)) call.answer.reply call.answer.cells are.0)
+        ∙ rest (omega (arith, h, above, length-append E R))
+        ∙ sym (view_after_events-append v (events_of E) (events_of (take (suc (j - n)) R)))
+        ∙ ap (λ (es : List Event). view_after_events v es) (sym (map-append (λ (t : Taken). t.event) E (take (suc (j - n)) R)))
+        ∙ ap (λ (m : ℕ). view_after_events v (events_of (E ++ take m R))) same
+        ∙ ap (λ (ts : List Taken). view_after_events v (events_of ts)) (sym (take-more E R (suc j) (omega (arith, above))))
+
+-- a query takes nothing
+no_read-takes : (d : Description) (past : List Step) (x : Step) → is_read x ≡ false → (answer d past x).events ≡ []
+no_read-takes d past x h = by (refused d past x)
+  where
+    nothing : (y : Step) → is_read y ≡ false → (accepted d past y).events ≡ []
+    nothing (Read client count) k = absurd (true≢false k)
+    nothing _ k = refl
+
+    by : (o : Option Reply) → (answer_by o (accepted d past x)).events ≡ []
+    by None = nothing x h
+    by (Some reply) = refl
+
+-- each call since the start is answered so after some past
+unfoldable AreOfPasts : Description → List Call → Type 0
+AreOfPasts d [] = Unit {0}
+AreOfPasts d (call ∷ calls) = (past : List Step) × (call.answer ≡ answer d past call.step) × AreOfPasts d calls
+
+of_pasts-push : (d : Description) (calls : List Call) (call : Call) → AreOfPasts d calls → ((past : List Step) × (call.answer ≡ answer d past call.step)) → AreOfPasts d (calls ++ call ∷ [])
+unfolding AreOfPasts
+of_pasts-push d [] call h k = (k.0, k.1, tt)
+of_pasts-push d (c ∷ calls) call h k = (h.0, h.1, of_pasts-push d calls call h.2 k)
+
+of_pasts-since : (d : Description) (past : List Step) (client : ℕ) → AreOfPasts d (calls_since d past client)
+unfolding calls_since AreOfPasts
+of_pasts-since d [] client = tt
+of_pasts-since d (x ∷ past) client = by (is_start past client x) (is_use_of client x) (of_pasts-since d past client)
+  where
+    call : Call
+    call = record { step = x; answer = answer d past x }
+
+    by : (starts used : Bool) → AreOfPasts d (calls_since d past client) → AreOfPasts d (if starts then [] else if used then calls_since d past client ++ call ∷ [] else calls_since d past client)
+    by true used h = tt
+    by false true h = of_pasts-push d (calls_since d past client) call h (past, refl)
+    by false false h = h
+
+none-takes : (d : Description) (asked reads : List Call) → AreOfPasts d (asked ++ reads) → NoneIsRead (steps_of asked) → NoneTakes asked
+unfolding AreOfPasts NoneTakes
+none-takes d [] reads h no_reads = tt
+none-takes d (call ∷ asked) reads h no_reads =
+    (ap (λ (a : Answer). a.events) h.1 ∙ no_read-takes d h.0 call.step no_reads.0, none-takes d asked reads h.2 no_reads.1)
+
+-- The view at event j of what came behind the queries, which are all of a start.
+pub view_at-behind : (d : Description) (past : List Step) (client j : ℕ) (asked reads : List Call) → IsHistory d past → calls_since d past client ≡ asked ++ reads → steps_of asked ≡ queries d client → AreReads reads → j < length (taken_by_calls reads)
+    → view_at d past client (length (taken_at_start d past client) + j) ≡ view_after_events (view_after_answers (view_at_start d past client) asked) (events_of (take (suc j) (taken_by_calls reads)))
+view_at-behind d past client j asked reads h since steps are below =
+    let no_reads : NoneIsRead (steps_of asked) = subst (λ (xs : List Step). NoneIsRead xs) (sym steps) (NoneIsRead-queries d client) in
+    let of_pasts : AreOfPasts d (asked ++ reads) = subst (λ (cs : List Call). AreOfPasts d cs) since (of_pasts-since d past client) in
+    let none : NoneTakes asked = none-takes d asked reads of_pasts no_reads in
+    let all : taken_by_calls (calls_since d past client) ≡ taken_by_calls asked ++ taken_by_calls reads = ap (λ (cs : List Call). taken_by_calls cs) since ∙ flat_map-append (λ (c : Call). c.answer.events) asked reads in
+    let within : j < length (taken_by_calls (calls_since d past client)) = omega (arith, below, ap (λ (ts : List Taken). length ts) all, length-append (taken_by_calls asked) (taken_by_calls reads)) in
+    view_at-since d past client j h within
+    ∙ ap (λ (cs : List Call). view_upto (view_at_start d past client) cs j) since
+    ∙ upto-asked (view_at_start d past client) asked reads j none
+    ∙ upto-reads (view_after_answers (view_at_start d past client) asked) reads j are below
+
+-- what the client took since its start, where all queries came first
+pub taken-behind : (d : Description) (past : List Step) (client : ℕ) (asked reads : List Call) → calls_since d past client ≡ asked ++ reads → steps_of asked ≡ queries d client → taken_by_calls (calls_since d past client) ≡ taken_by_calls reads
+unfolding NoneTakes
+taken-behind d past client asked reads since steps =
+    let no_reads : NoneIsRead (steps_of asked) = subst (λ (xs : List Step). NoneIsRead xs) (sym steps) (NoneIsRead-queries d client) in
+    let of_pasts : AreOfPasts d (asked ++ reads) = subst (λ (cs : List Call). AreOfPasts d cs) since (of_pasts-since d past client) in
+    ap (λ (cs : List Call). taken_by_calls cs) since ∙ flat_map-append (λ (c : Call). c.answer.events) asked reads ∙ ap (λ (ts : List Taken). ts ++ taken_by_calls reads) (none-taken asked (none-takes d asked reads of_pasts no_reads))
+  where
+    none-taken : (calls : List Call) → NoneTakes calls → taken_by_calls calls ≡ []
+    none-taken [] k = refl
+    none-taken (call ∷ calls) k = ap (λ (ts : List Taken). ts ++ taken_by_calls calls) k.0 ∙ none-taken calls k.1
+
+-- each call since the start was accepted, and answered as the one-thread device answers it
+
+accepted-accepts : (d : Description) (past : List Step) (x : Step) → is_accepted (accepted d past x).reply ≡ true
+accepted-accepts d past Open = refl
+accepted-accepts d past _ = refl
+
+good-push : (d : Description) (calls : List Call) (call : Call) (past : List Step) → IsAnswer d past call.step call.answer → is_accepted call.answer.reply ≡ true → AreAnswered d calls × AreAccepted calls → AreAnswered d (calls ++ call ∷ []) × AreAccepted (calls ++ call ∷ [])
+unfolding AreAnswered AreAccepted
+good-push d [] call past are is h = ((past, are, tt), (is, tt))
+good-push d (c ∷ calls) call past are is h =
+    let rest : AreAnswered d (calls ++ call ∷ []) × AreAccepted (calls ++ call ∷ []) = good-push d calls call past are is (h.0.2, h.1.1) in
+    ((h.0.0, h.0.1, rest.0), (h.1.0, rest.1))
+
+pub since-good : (d : Description) (past : List Step) (client : ℕ) → IsHistory d past → AreAnswered d (calls_since d past client) × AreAccepted (calls_since d past client)
+unfolding calls_since AreAnswered AreAccepted
+since-good d [] client h = (tt, tt)
+since-good d (x ∷ past) client h = by (is_start past client x) (is_use_of client x) (since-good d past client h.0)
+  where
+    call : Call
+    call = record { step = x; answer = answer d past x }
+
+    C : List Call
+    C = calls_since d past client
+
+    by : (starts used : Bool) → AreAnswered d C × AreAccepted C → AreAnswered d (if starts then [] else if used then C ++ call ∷ [] else C) × AreAccepted (if starts then [] else if used then C ++ call ∷ [] else C)
+    by true used k = (tt, tt)
+    by false true k = good-push d C call past (inl refl) (ap (λ (a : Answer). is_accepted a.reply) (accepted-answer d past x h.1) ∙ accepted-accepts d past x) k
+    by false false k = k
+
+pub good-first : (d : Description) (calls more : List Call) → AreAnswered d (calls ++ more) × AreAccepted (calls ++ more) → AreAnswered d calls × AreAccepted calls
+unfolding AreAnswered AreAccepted
+good-first d [] more h = (tt, tt)
+good-first d (c ∷ calls) more h =
+    let rest : AreAnswered d calls × AreAccepted calls = good-first d calls more (h.0.2, h.1.1) in
+    ((h.0.0, h.0.1, rest.0), (h.1.0, rest.1))
+
+pub sized-at-start : (d : Description) (past : List Step) (client : ℕ) → IsSizedFor d.slots (view_at_start d past client)
+unfolding view_at_start
+sized-at-start d [] client = IsSizedFor-first_view d
+sized-at-start d (x ∷ past) client = by (is_start past client x) (sized-at-start d past client)
+  where
+    by : (b : Bool) → IsSizedFor d.slots (view_at_start d past client) → IsSizedFor d.slots (if b then client_view d past client else view_at_start d past client)
+    by true h = client_view-sized d past client
+    by false h = h

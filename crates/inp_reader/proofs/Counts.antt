@@ -1,0 +1,147 @@
+-- How many synthesised events there are at most.
+use Rattle.std.proofs.Common.{◌≡◌, ℕ, zero, suc, ◌+◌, ◌*◌, ◌<◌, ◌≤◌, ℤ, Bool, true, false, cond, int_eq, List, [], ◌∷◌, ◌++◌, length, map, sym, ap, ◌∙◌, arith, add-one, length-append, le_trans, mul-le-mul_left, pos}
+use Rattle.std.proofs.lemmas.List.{length-map}
+use Rattle.std.proofs.lemmas.Bool.{false_from_ne_true}
+use Rattle.inp_model.specs.declared.event.TheConstants.{EV_SYN, EV_KEY, EV_SW, EV_LED, SYN_REPORT}
+use Rattle.inp_model.specs.declared.event.Event.{Event}
+use Rattle.inp_recon.specs.declared.view.View.{View}
+use Rattle.inp_recon.specs.View.{IsSizedFor, view_after_events}
+use Rattle.inp_recon.specs.Cells.{slot_count}
+use Rattle.inp_recon.proofs.Sizes.{IsSizedFor-after_events}
+use Rattle.inp_reader.specs.Synthesis.{where_below, with_report, to_slot, in_slots, bit_event, bit_changes, bits_differ_at, value_at, differs_at, axis_event, axis_changes, class_changes, is_replaced, lift, lifts, changes_in, index_in_slot, is_changed, cell_changes, slot_changes, synth}
+use Rattle.inp_reader.specs.Laws.{AreOfOneDevice}
+use Rattle.inp_reader.proofs.Synthesising.{where_below-more, where_below-skip}
+use Rattle.inp_reader.proofs.Classes.{tells_ints}
+use Rattle.inp_reader.proofs.Slots.{slots-of}
+
+-- ---- how many numbers pass a test
+
+length-one : (k : ℕ) (b : Bool) → length (cond b (k ∷ []) []) ≤ 1
+length-one k true = omega arith
+length-one k false = omega arith
+
+length-where_below_more : (n : ℕ) (test : ℕ → Bool) → length (where_below (n + 1) test) ≤ length (where_below n test) + 1
+length-where_below_more n test = omega (arith, ap length (where_below-more n test), length-append (where_below n test) (cond (test n) (n ∷ []) []), length-one n (test n))
+
+-- so many more numbers
+length-where_below_add : (n more : ℕ) (test : ℕ → Bool) → length (where_below (n + more) test) ≤ length (where_below n test) + more
+length-where_below_add n zero test = let e : n + zero ≡ n = omega arith in omega (arith, ap (λ (k : ℕ). length (where_below k test)) e)
+length-where_below_add n (suc more) test =
+    let e : n + suc more ≡ n + more + 1 = omega arith in
+    omega (arith, ap (λ (k : ℕ). length (where_below k test)) e, length-where_below_more (n + more) test, length-where_below_add n more test)
+
+-- so many more numbers of which none passes
+length-where_below_same : (n more : ℕ) (test : ℕ → Bool) → ((k : ℕ) → n ≤ k → k < n + more → test k ≡ false) → length (where_below (n + more) test) ≡ length (where_below n test)
+length-where_below_same n zero test h = let e : n + zero ≡ n = omega arith in ap (λ (k : ℕ). length (where_below k test)) e
+length-where_below_same n (suc more) test h =
+    let e : n + suc more ≡ n + more + 1 = omega arith in
+    ap (λ (k : ℕ). length (where_below k test)) e
+    ∙ ap length (where_below-skip test (n + more) (h (n + more) (omega arith) (omega arith)))
+    ∙ length-where_below_same n more test (λ k l m. h k l (omega (arith, m)))
+
+length-where_below : (n : ℕ) (test : ℕ → Bool) → length (where_below n test) ≤ n
+length-where_below zero test = omega arith
+length-where_below (suc n) test = omega (arith, ap (λ (k : ℕ). length (where_below k test)) (sym (add-one n)), length-where_below_more n test, length-where_below n test)
+
+-- ---- keys, LEDs, switches and axes
+
+length-bit_changes : (kind count : ℕ) (old new : List Bool) → length (bit_changes kind count old new) ≤ count
+length-bit_changes kind count old new = omega (arith, length-map (where_below count (bits_differ_at old new)) (bit_event kind new), length-where_below count (bits_differ_at old new))
+
+-- of a range of axes without its middle
+length-axis_changes_by : (first same last : ℕ) (old new : List ℤ) → ((k : ℕ) → first ≤ k → k < first + same → differs_at old new k ≡ false)
+    → length (map (λ code. axis_event new code code) (where_below (first + same + last) (differs_at old new))) ≤ first + last
+length-axis_changes_by first same last old new h =
+    let test : ℕ → Bool = differs_at old new in
+    omega (
+      arith,
+      length-map (where_below (first + same + last) test) (λ code. axis_event new code code),
+      length-where_below_add (first + same) last test,
+      length-where_below_same first same test h,
+      length-where_below first test,
+    )
+
+length-axis_changes : (old new : List ℤ) → ((code : ℕ) → 47 ≤ code → code ≤ 61 → value_at old code ≡ value_at new code) → length (axis_changes old new) ≤ 49
+length-axis_changes old new h = length-axis_changes_by 47 15 2 old new (λ k l m. false_from_ne_true (differs_at old new k) (λ t. tells_ints.apart (value_at old k) (value_at new k) t (h k l (omega (arith, m)))))
+
+-- ---- slots
+
+length-cond : (e : Event) (b : Bool) → length (cond b [] (e ∷ [])) ≤ 1
+length-cond e true = omega arith
+length-cond e false = omega arith
+
+length-to_slot : (from to : ℤ) → length (to_slot from to) ≤ 1
+length-to_slot from to = length-cond _ (int_eq from to)
+
+length-in_slots : (most : ℕ) (f : ℕ → List Event) (slots : List ℕ) (current : ℤ) → ((k : ℕ) → length (f k) ≤ most) → length (in_slots f slots current) ≤ (most + 1) * length slots
+length-in_slots most f [] current h = omega arith
+length-in_slots most f (slot ∷ slots) current h =
+    omega (
+      arith,
+      length-append (to_slot current (pos slot) ++ f slot) (in_slots f slots (pos slot)),
+      length-append (to_slot current (pos slot)) (f slot),
+      length-to_slot current (pos slot),
+      h slot,
+      length-in_slots most f slots (pos slot) h,
+    )
+
+length-walk : (slots most : ℕ) (f : ℕ → List Event) (test : ℕ → Bool) (cells : List ℤ) (current : ℤ) → length cells ≡ 14 * slots → ((k : ℕ) → length (f k) ≤ most) → length (in_slots f (where_below (slot_count cells) test) current) ≤ (most + 1) * slots
+length-walk slots most f test cells current l h =
+    le_trans (length-in_slots most f (where_below (slot_count cells) test) current h) (
+    mul-le-mul_left (most + 1) (omega (arith, slots-of slots cells l, length-where_below (slot_count cells) test))
+    )
+
+length-lifts : (slots : ℕ) (old new : View) → length old.cells ≡ 14 * slots → length (lifts old new) ≤ 2 * slots
+length-lifts slots old new l = length-walk slots 1 (λ slot. lift ∷ []) (is_replaced old new) old.cells old.slot l (λ k. omega arith)
+
+length-changes_in : (old new : List ℤ) (slot count : ℕ) → length (map (λ k. axis_event new (index_in_slot slot k) (48 + k)) (where_below count (λ k. differs_at old new (index_in_slot slot k)))) ≤ count
+length-changes_in old new slot count =
+    omega (arith, length-map (where_below count (λ k. differs_at old new (index_in_slot slot k))) (λ k. axis_event new (index_in_slot slot k) (48 + k)), length-where_below count (λ k. differs_at old new (index_in_slot slot k)))
+
+length-cell_changes : (slots : ℕ) (old new : View) → length old.cells ≡ 14 * slots → length (cell_changes old new) ≤ 15 * slots
+length-cell_changes slots old new l = length-walk slots 14 (changes_in old new) (is_changed old new) old.cells old.slot l (λ k. length-changes_in old.cells new.cells k 14)
+
+length-slot_changes : (slots : ℕ) (old new : View) → length old.cells ≡ 14 * slots → length (slot_changes old new) ≤ 15 * slots + 1
+length-slot_changes slots old new l =
+    let events : List Event = cell_changes old new in
+    let slot : ℤ = (view_after_events old events).slot in
+    omega (arith, length-append events (to_slot slot new.slot), length-cell_changes slots old new l, length-to_slot slot new.slot)
+
+-- ---- all of them
+
+abbrev report : Event
+report = record { kind = EV_SYN; code = SYN_REPORT; value = pos 0 }
+
+length-with_report_most : (es : List Event) → length (with_report es) ≤ length es + 1
+length-with_report_most [] = omega arith
+length-with_report_most (e ∷ es) = omega (arith, length-append (e ∷ es) (report ∷ []))
+
+-- four lists, one behind the other
+length-four : (a b c d : List Event) (i j k l : ℕ) → length a ≤ i → length b ≤ j → length c ≤ k → length d ≤ l → length (a ++ b ++ c ++ d) ≤ i + j + k + l
+length-four a b c d i j k l ha hb hc hd = omega (arith, length-append (a ++ b ++ c) d, length-append (a ++ b) c, length-append a b, ha, hb, hc, hd)
+
+length-class_changes : (slots : ℕ) (old new : View) → AreOfOneDevice slots old new → length (class_changes old new) ≤ 945
+length-class_changes slots old new h =
+    length-four (bit_changes EV_KEY 768 old.keys new.keys) (bit_changes EV_LED 64 old.leds new.leds) (bit_changes EV_SW 64 old.switches new.switches) (axis_changes old.axes new.axes) 768 64 64 49 (
+    length-bit_changes EV_KEY 768 old.keys new.keys
+    ) (length-bit_changes EV_LED 64 old.leds new.leds) (length-bit_changes EV_SW 64 old.switches new.switches) (length-axis_changes old.axes new.axes h.axes)
+
+length-groups : (slots : ℕ) (first classes cells : List Event) → length first ≤ 2 * slots → length classes ≤ 945 → length cells ≤ 15 * slots + 1 → length (with_report first ++ with_report (classes ++ cells)) ≤ 948 + 17 * slots
+length-groups slots first classes cells h l m =
+    omega (
+      arith,
+      length-append (with_report first) (with_report (classes ++ cells)),
+      length-with_report_most first,
+      length-with_report_most (classes ++ cells),
+      length-append classes cells,
+      h,
+      l,
+      m,
+    )
+
+pub length-synth : (slots : ℕ) (old new : View) → AreOfOneDevice slots old new → length (synth old new) ≤ 948 + 17 * slots
+unfolding synth
+length-synth slots old new h =
+    let mid : View = view_after_events old (lifts old new) in
+    let sized : IsSizedFor slots mid = IsSizedFor-after_events slots old (lifts old new) h.old_sized in
+    length-groups slots (lifts old new) (class_changes old new) (slot_changes mid new) (length-lifts slots old new h.old_sized.cells) (length-class_changes slots old new h) (length-slot_changes slots mid new sized.cells)

@@ -1,0 +1,98 @@
+-- The views that a reader keeps: no event and no answer sets an axis whose values belong to slots.
+use Rattle.std.proofs.Common.{◌≡◌, ◌≢◌, ℕ, ◌*◌, ◌≤◌, ℤ, pos, Bool, true, false, cond, not, ◌&&◌, leb, ltb, eqb, List, [], length, set, refl, sym, ap, ◌∙◌, arith, inl, inr, Option, Some, None, subst}
+use Rattle.std.proofs.lemmas.List.{get_or-set_other, get_or-replicate}
+use Rattle.std.proofs.lemmas.Bool.{and_parts, and_from, le-leb, not-true, true≢false}
+use Rattle.inp_model.specs.declared.event.TheConstants.{EV_ABS}
+use Rattle.inp_model.specs.declared.event.Event.{Event}
+use Rattle.inp_model.specs.declared.step.Step.{Step}
+use Rattle.inp_model.specs.declared.step.Step.TheVariants.{Open, GetAxis, SyncSlots}
+use Rattle.inp_model.specs.declared.reply.Reply.{Reply}
+use Rattle.inp_model.specs.declared.reply.Reply.TheVariants.{Axis, Cells}
+use Rattle.inp_model.specs.Description.{Description, is_multi_touch_code}
+use Rattle.inp_model.specs.Event.{is_multi_touch}
+use Rattle.inp_model.specs.Evdev.{EvdevView, IsCall}
+use Rattle.inp_model.specs.Past.{past_at}
+use Rattle.inp_model.specs.Raw.{raw}
+use Rattle.inp_model.specs.Run.{Call, place_of}
+use Rattle.inp_model.specs.Reply.{Answer, IsAnswer, answer_by, accepted, refused, is_accepted}
+use Rattle.inp_recon.specs.declared.view.View.{View}
+use Rattle.inp_recon.specs.View.{first_view, view_after_event, view_after_answer, with_value_at, axes_after_reply, axes_after_answer, AreCells, HasCells}
+use Rattle.inp_recon.proofs.Sizes.{IsSizedFor-first_view, IsSizedFor-after_event, IsSizedFor-after_answer}
+use Rattle.inp_reader.specs.Synthesis.{value_at}
+use Rattle.inp_reader.specs.KeptViews.{IsKeptView}
+use Rattle.inp_reader.proofs.Answering.{refused-not_accepted, length-rows}
+
+-- ---- one axis
+
+multi_touch : (code : ℕ) → 47 ≤ code → code ≤ 61 → is_multi_touch_code code ≡ true
+multi_touch code from to = and_from (leb 47 code) (leb code 61) (le-leb 47 code from) (le-leb code 61 to)
+
+-- an axis of another code stays
+other-stays : (axes : List ℤ) (code other : ℕ) (x : ℤ) → code ≢ other → value_at (with_value_at 64 axes other x) code ≡ value_at axes code
+other-stays axes code other x h =
+    let there : value_at (set axes other x) code ≡ value_at axes code = get_or-set_other axes other code x (pos 0) h in
+    elim (ltb other 64) as (λ b. value_at (cond b (set axes other x) axes) code ≡ value_at axes code) [ true ↦ there | false ↦ refl ]
+
+apart : (code other : ℕ) → is_multi_touch_code code ≡ true → is_multi_touch_code other ≡ false → code ≢ other
+apart code other h m e = true≢false (sym h ∙ ap is_multi_touch_code e ∙ m)
+
+-- after an event
+axis-event : (axes : List ℤ) (code : ℕ) (e : Event) (b : Bool) → is_multi_touch_code code ≡ true → (eqb e.kind EV_ABS && not (is_multi_touch e)) ≡ b → value_at (cond b (with_value_at 64 axes e.code e.value) axes) code ≡ value_at axes code
+axis-event axes code e true h t =
+    let both = and_parts (eqb e.kind EV_ABS) (not (is_multi_touch e)) t in
+    let plain : is_multi_touch_code e.code ≡ false = ap (λ (b : Bool). b && is_multi_touch_code e.code) (sym both.0) ∙ not-true (is_multi_touch e) both.1 in
+    other-stays axes code e.code e.value (apart code e.code h plain)
+axis-event axes code e false h t = refl
+
+-- after an answer
+axis-reply : (axes : List ℤ) (code asked : ℕ) (reply : Reply) → is_multi_touch_code code ≡ true → value_at (axes_after_reply asked reply axes) code ≡ value_at axes code
+axis-reply axes code asked (Axis at info) h = axis_told axes code asked info.value (is_multi_touch_code asked) h refl
+  where
+    axis_told : (axes : List ℤ) (code asked : ℕ) (x : ℤ) (b : Bool) → is_multi_touch_code code ≡ true → is_multi_touch_code asked ≡ b → value_at (cond b axes (with_value_at 64 axes asked x)) code ≡ value_at axes code
+    axis_told axes code asked x true h m = refl
+    axis_told axes code asked x false h m = other-stays axes code asked x (apart code asked h m)
+axis-reply axes code asked _ h = refl
+
+axis-answer : (axes : List ℤ) (code : ℕ) (x : Step) (reply : Reply) → is_multi_touch_code code ≡ true → value_at (axes_after_answer x reply axes) code ≡ value_at axes code
+axis-answer axes code (GetAxis client asked) reply h = axis-reply axes code asked reply h
+axis-answer axes code _ reply h = refl
+
+-- ---- a view
+
+pub IsKeptView-first_view : (d : Description) → IsKeptView d (first_view d)
+unfolding first_view
+IsKeptView-first_view d = record { sized = IsSizedFor-first_view d; axes = λ code from to. get_or-replicate 64 code (pos 0) (pos 0) (omega (arith, to)) }
+
+pub IsKeptView-after_event : (d : Description) (v : View) (e : Event) → IsKeptView d v → IsKeptView d (view_after_event v e)
+unfolding view_after_event
+IsKeptView-after_event d v e h = record {
+  sized = IsSizedFor-after_event d.slots v e h.sized;
+  axes = λ code from to. axis-event v.axes code e (eqb e.kind EV_ABS && not (is_multi_touch e)) (multi_touch code from to) refl ∙ h.axes code from to;
+}
+
+IsKeptView-after_answer : (d : Description) (v : View) (x : Step) (reply : Reply) (buffer : List ℤ) → HasCells x reply v.cells buffer → IsKeptView d v → IsKeptView d (view_after_answer v x reply buffer)
+unfolding view_after_answer
+IsKeptView-after_answer d v x reply buffer room h = record {
+  sized = IsSizedFor-after_answer d.slots v x reply buffer room h.sized;
+  axes = λ code from to. axis-answer v.axes code x reply (multi_touch code from to) ∙ h.axes code from to;
+}
+
+-- ---- an answer that an evdev gave tells the values of all slots, where it tells any
+
+refused_cells : (reply : Reply) (cells buffer : List ℤ) → is_accepted reply ≡ false → AreCells reply cells buffer
+refused_cells (Cells at count slot) cells buffer h = absurd (true≢false h)
+refused_cells _ cells buffer h = tt
+
+has_cells_by : (d : Description) (past : List Step) (client : ℕ) (cells : List ℤ) (o : Option Reply) → refused d past (SyncSlots client) ≡ o → length cells ≡ 14 * d.slots → (let given : Answer = answer_by o (accepted d past (SyncSlots client)) in AreCells given.reply cells given.cells)
+has_cells_by d past client cells None e fits = omega (arith, fits, length-rows d (raw d past))
+has_cells_by d past client cells (Some reply) e fits = refused_cells reply cells [] (refused-not_accepted d past (SyncSlots client) reply e)
+
+has_cells : (d : Description) (past : List Step) (x : Step) (given : Answer) (cells : List ℤ) → IsAnswer d past x given → length cells ≡ 14 * d.slots → HasCells x given.reply cells given.cells
+has_cells d past (SyncSlots client) given cells (inl e) fits = let P : Answer → Type 0 = λ a. AreCells a.reply cells a.cells in subst P (sym e) (has_cells_by d past client cells (refused d past (SyncSlots client)) refl fits)
+has_cells d past (SyncSlots client) given cells (inr l) fits = let no : SyncSlots client ≡ Open = l.0 in absurd cc
+has_cells d past _ given cells h fits = tt
+
+pub IsKeptView-after_call : (d : Description) (before after : EvdevView) (v : View) (call : Call) → before.description ≡ d → IsCall before after call → IsKeptView d v → IsKeptView d (view_after_answer v call.step call.answer.reply call.answer.cells)
+IsKeptView-after_call d before after v call same is h =
+    let fits : length v.cells ≡ 14 * after.description.slots = h.sized.cells ∙ ap (λ (e : Description). 14 * e.slots) (sym (is.description ∙ same)) in
+    IsKeptView-after_answer d v call.step call.answer.reply call.answer.cells (has_cells after.description (past_at after.seen (place_of call.answer.reply)) call.step call.answer v.cells is.placed.exact fits) h

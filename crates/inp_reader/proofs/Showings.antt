@@ -1,0 +1,197 @@
+-- The view of a reader that stands is the device's state.
+use Rattle.std.proofs.Common.{◌≡◌, ◌<◌, inl, inr, ℕ, zero, suc, ◌+◌, nat_eq, nat_lt, Bool, true, false, ◌&&◌, not, List, [], ◌∷◌, ◌++◌, length, map, take, replicate, set, refl, sym, ap, subst, ◌∙◌, arith, append_assoc, length-append, if◌then◌else◌, ℤ, pos, Some}
+use Rattle.std.specs.Prelude.{slice_index_or}
+use Rattle.std.specs.List.{slice_get}
+use Rattle.std.proofs.lemmas.Bool.{true≢false, cases_lt, cases_eq, lt-ltb}
+use Rattle.std.proofs.lemmas.List.{length-map, take_at, get_or_at, get_or_past, get_or-set_same, get_or-set_other, set_past, nil_from_length}
+use Rattle.std.proofs.lemmas.Option.{slice_get-get_or}
+use Rattle.inp_model.specs.declared.event.Event.{Event}
+use Rattle.inp_model.specs.declared.event.TheConstants.{EV_KEY, EV_ABS, EV_SW, EV_LED}
+use Rattle.inp_model.specs.declared.taken.Taken.{Taken}
+use Rattle.inp_model.specs.declared.step.Step.{Step}
+use Rattle.inp_model.specs.Description.{Description, IsDescription, has_kind, has_code}
+use Rattle.inp_model.specs.Event.{is_repeat, is_set, is_multi_touch}
+use Rattle.inp_model.specs.State.{key_down, turned_on}
+use Rattle.inp_model.specs.Queue.{took}
+use Rattle.inp_model.specs.Reply.{taken_of, rows}
+use Rattle.inp_model.specs.Run.{Call}
+use Rattle.inp_recon.specs.declared.view.View.{View}
+use Rattle.inp_recon.specs.View.{IsSizedFor, with_value_at, first_view, view_after_event, view_after_events, keys_after_event, bits_after_event, slot_after_event, cells_after_event}
+use Rattle.inp_recon.specs.ClientView.{view_at}
+use Rattle.inp_recon.specs.Faithful.{IsHistory, IsDeviceState, AreFaithful}
+use Rattle.inp_recon.proofs.Sizes.{IsSizedFor-first_view, length-axes_after_event, length-cells_after_event}
+use Rattle.inp_reader.specs.Reading.{Reading, queries}
+use Rattle.inp_reader.specs.Showing.{index_handed_out, ShowsTheDevice}
+use Rattle.inp_recon.specs.Synchronised.{has_axis}
+use Rattle.inp_reader.specs.Spare.{IsSpare}
+use Rattle.inp_reader.specs.Standing.{calls_since, steps_of, view_after_answers, taken_by_calls, events_of}
+use Rattle.inp_reader.proofs.Standings.{IsHandedOut}
+use Rattle.inp_reader.proofs.Answering.{length-rows}
+use Rattle.inp_reader.proofs.Agreeing.{Compared, AgreeBut, agree-answers, keys-spared, switches-spared, leds-spared, slots-spared, plain-asked}
+use Rattle.inp_reader.proofs.Calls.{AreAnswered, AreAccepted}
+use Rattle.inp_reader.proofs.ClientViews.{view_at_start, taken_at_start, took-since, length-took, view_at-behind, taken-behind, since-good, good-first, sized-at-start}
+
+-- which event was handed out last
+
+index-is : (d : Description) (past : List Step) (r : Reading) (t : Taken) (h : IsHandedOut d past r t) → IsHistory d past → index_handed_out d past r ≡ length (taken_at_start d past r.client) + length h.before
+index-is d past r t h history =
+    let all : length (took d past r.client) ≡ length (taken_at_start d past r.client) + length (taken_by_calls (calls_since d past r.client)) = length-took d past r.client history in
+    let behind : length (taken_by_calls (calls_since d past r.client)) ≡ length ((h.before ++ t ∷ []) ++ r.queue) = ap (λ (ts : List Taken). length ts) (taken-behind d past r.client h.asked h.reads h.calls h.queries ∙ h.taken) in
+    omega (arith, all, behind, length-append (h.before ++ t ∷ []) r.queue, length-append h.before (t ∷ []))
+
+at-it : (xs ys zs : List Taken) (t : Taken) (i : ℕ) → i ≡ length xs + length ys → slice_get (xs ++ ((ys ++ t ∷ []) ++ zs)) i ≡ Some t
+at-it xs ys zs t i h =
+    let same : xs ++ ((ys ++ t ∷ []) ++ zs) ≡ (xs ++ ys) ++ t ∷ zs = ap (λ (ts : List Taken). xs ++ ts) (append_assoc ys (t ∷ []) zs) ∙ sym (append_assoc xs ys (t ∷ zs)) in
+    let there : length (xs ++ ys) ≡ i = length-append xs ys ∙ sym h in
+    ap (λ (ts : List Taken). slice_get ts i) same
+    ∙ slice_get-get_or ((xs ++ ys) ++ t ∷ zs) i t (omega (arith, there, length-append (xs ++ ys) (t ∷ zs)))
+    ∙ ap (λ (x : Taken). Some x) (get_or_at (xs ++ ys) t zs t i there)
+
+handed-is-taken : (d : Description) (past : List Step) (r : Reading) (t : Taken) → IsHandedOut d past r t → IsHistory d past → slice_get (map taken_of (took d past r.client)) (index_handed_out d past r) ≡ Some t
+handed-is-taken d past r t h history =
+    let B : List Taken = map taken_of (taken_at_start d past r.client) in
+    let all : map taken_of (took d past r.client) ≡ B ++ ((h.before ++ t ∷ []) ++ r.queue) =
+    took-since d past r.client history ∙ ap (λ (ts : List Taken). B ++ ts) (taken-behind d past r.client h.asked h.reads h.calls h.queries ∙ h.taken) in
+    ap (λ (ts : List Taken). slice_get ts (index_handed_out d past r)) all
+    ∙ at-it B h.before r.queue t (index_handed_out d past r) (index-is d past r t h history ∙ ap (λ (n : ℕ). n + length h.before) (sym (length-map (taken_at_start d past r.client) taken_of)))
+
+-- the client's view then: the same answers and events, from the view at its start
+view-then : (d : Description) (past : List Step) (r : Reading) (t : Taken) (h : IsHandedOut d past r t) → IsHistory d past
+    → view_at d past r.client (index_handed_out d past r) ≡ view_after_events (view_after_answers (view_at_start d past r.client) h.asked) (events_of (h.before ++ t ∷ []))
+view-then d past r t h history =
+    let j : ℕ = length h.before in
+    let front : length (h.before ++ t ∷ []) ≡ suc j = length-append h.before (t ∷ []) ∙ omega arith in
+    let below : j < length (taken_by_calls h.reads) = omega (arith, front, ap (λ (ts : List Taken). length ts) h.taken, length-append (h.before ++ t ∷ []) r.queue) in
+    let first : take (suc j) (taken_by_calls h.reads) ≡ h.before ++ t ∷ [] = ap (λ (ts : List Taken). take (suc j) ts) h.taken ∙ take_at (h.before ++ t ∷ []) r.queue (suc j) front in
+    ap (λ (i : ℕ). view_at d past r.client i) (index-is d past r t h history)
+    ∙ view_at-behind d past r.client j h.asked h.reads history h.calls h.queries h.reads_only below
+    ∙ ap (λ (ts : List Taken). view_after_events (view_after_answers (view_at_start d past r.client) h.asked) (events_of ts)) first
+
+-- Two views that agree in what the device has
+
+abbrev what_is_had : Description → Compared
+what_is_had d = record { keys = has_kind d EV_KEY; switches = has_kind d EV_SW; leds = has_kind d EV_LED; axes = has_axis d; slots = nat_lt 0 d.slots }
+
+-- all of it is asked for
+agree-had : (d : Description) (client : ℕ) (v w : View) → IsSizedFor d.slots v → IsSizedFor d.slots w → AgreeBut (what_is_had d) (queries d client) v w
+agree-had d client v w s t = record {
+  keys = λ is h. absurd (true≢false (sym is ∙ keys-spared d client h));
+  switches = λ is h. absurd (true≢false (sym is ∙ switches-spared d client h));
+  leds = λ is h. absurd (true≢false (sym is ∙ leds-spared d client h));
+  axes = λ code is h. elim (cases_lt code 64) [
+    | inl below ↦ absurd (true≢false (sym is ∙ plain-asked d client code h below))
+    | inr past ↦ get_or_past v.axes code (pos 0) (omega (arith, past, s.axes)) ∙ sym (get_or_past w.axes code (pos 0) (omega (arith, past, t.axes)))
+  ];
+  slot = λ is h. absurd (true≢false (sym is ∙ ap (λ (n : ℕ). nat_lt 0 n) (slots-spared d client h)));
+  cells = λ is h. absurd (true≢false (sym is ∙ ap (λ (n : ℕ). nat_lt 0 n) (slots-spared d client h)));
+  left_long = s.axes;
+  right_long = t.axes;
+  cells_long = s.cells ∙ sym t.cells;
+}
+
+axis-same : (abs own : Bool) (v w : List ℤ) (index code : ℕ) (value : ℤ) → length v ≡ length w → slice_index_or v code (pos 0) ≡ slice_index_or w code (pos 0)
+    → slice_index_or (if abs && own then with_value_at 64 v index value else v) code (pos 0) ≡ slice_index_or (if abs && own then with_value_at 64 w index value else w) code (pos 0)
+axis-same true true v w index code value long h = by (nat_lt index 64)
+  where
+    by : (b : Bool) → slice_index_or (if b then set v index value else v) code (pos 0) ≡ slice_index_or (if b then set w index value else w) code (pos 0)
+    by true = elim (cases_eq code index) [
+      | inl same ↦ elim (cases_lt index (length v)) [
+        | inl within ↦
+            (ap (λ (i : ℕ). slice_index_or (set v index value) i (pos 0)) same ∙ get_or-set_same v index value (pos 0) within
+            ∙ sym (get_or-set_same w index value (pos 0) (omega (arith, within, long))) ∙ ap (λ (i : ℕ). slice_index_or (set w index value) i (pos 0)) (sym same))
+        | inr past ↦
+            (ap (λ (xs : List ℤ). slice_index_or xs code (pos 0)) (set_past v index value past) ∙ h
+            ∙ ap (λ (xs : List ℤ). slice_index_or xs code (pos 0)) (sym (set_past w index value (omega (arith, past, long)))))
+      ]
+      | inr apart ↦ get_or-set_other v index code value (pos 0) apart ∙ h ∙ sym (get_or-set_other w index code value (pos 0) apart)
+    ]
+    by false = h
+axis-same true false v w index code value long h = h
+axis-same false own v w index code value long h = h
+
+agree-event : (which : Compared) (v w : View) (e : Event) → AgreeBut which [] v w → AgreeBut which [] (view_after_event v e) (view_after_event w e)
+unfolding view_after_event
+agree-event which v w e a = record {
+  keys = λ is h. ap (λ (xs : List Bool). keys_after_event xs e) (a.keys is h);
+  switches = λ is h. ap (λ (xs : List Bool). bits_after_event EV_SW xs e) (a.switches is h);
+  leds = λ is h. ap (λ (xs : List Bool). bits_after_event EV_LED xs e) (a.leds is h);
+  axes = λ code is h. axis-same (nat_eq e.kind EV_ABS) (not (is_multi_touch e)) v.axes w.axes e.code code e.value (a.left_long ∙ sym a.right_long) (a.axes code is h);
+  slot = λ is h. ap (λ (s : ℤ). slot_after_event s e) (a.slot is h);
+  cells = λ is h. ap (λ (xs : List ℤ). cells_after_event xs v.slot e) (a.cells is h) ∙ ap (λ (s : ℤ). cells_after_event w.cells s e) (a.slot is h);
+  left_long = length-axes_after_event v.axes e ∙ a.left_long;
+  right_long = length-axes_after_event w.axes e ∙ a.right_long;
+  cells_long = length-cells_after_event v.cells v.slot e ∙ a.cells_long ∙ sym (length-cells_after_event w.cells w.slot e);
+}
+
+agree-events : (which : Compared) (v w : View) (es : List Event) → AgreeBut which [] v w → AgreeBut which [] (view_after_events v es) (view_after_events w es)
+unfolding view_after_events
+agree-events which v w [] a = a
+agree-events which v w (e ∷ es) a = agree-events which (view_after_event v e) (view_after_event w e) es (agree-event which v w e a)
+
+-- the client's view and the reader's agree in all that the device has
+agree-then : (d : Description) (past : List Step) (r : Reading) (t : Taken) → IsHandedOut d past r t → IsHistory d past → AgreeBut (what_is_had d) [] (view_at d past r.client (index_handed_out d past r)) r.view
+agree-then d past r t h history =
+    let base : View = view_at_start d past r.client in
+    let good : AreAnswered d h.asked × AreAccepted h.asked = good-first d h.asked h.reads (subst (λ (cs : List Call). AreAnswered d cs × AreAccepted cs) h.calls (since-good d past r.client history)) in
+    let begun : AgreeBut (what_is_had d) (steps_of h.asked) base (first_view d) = subst (λ (xs : List Step). AgreeBut (what_is_had d) xs base (first_view d)) (sym h.queries) (agree-had d r.client base (first_view d) (sized-at-start d past r.client) (IsSizedFor-first_view d)) in
+    let told : AgreeBut (what_is_had d) [] (view_after_answers base h.asked) (view_after_answers (first_view d) h.asked) = agree-answers (what_is_had d) d h.asked base (first_view d) good.0 good.1 (sized-at-start d past r.client).cells begun in
+    let es : List Event = events_of (h.before ++ t ∷ []) in
+    let then_it : AgreeBut (what_is_had d) [] (view_after_events (view_after_answers base h.asked) es) (view_after_events (view_after_answers (first_view d) h.asked) es) = agree-events (what_is_had d) (view_after_answers base h.asked) (view_after_answers (first_view d) h.asked) es told in
+    subst (λ (v : View). AgreeBut (what_is_had d) [] v r.view) (sym (view-then d past r t h history))
+    (subst (λ (w : View). AgreeBut (what_is_had d) [] (view_after_events (view_after_answers base h.asked) es) w) (sym h.view) then_it)
+
+-- What the device cannot have is off
+
+off-if : (k c x y : Bool) (s before : Bool) → k ≡ false → before ≡ false → (if ((k && c) && x) && y then s else before) ≡ false
+off-if true c x y s before h b = absurd (true≢false h)
+off-if false c x y s before h b = b
+
+off-if-on : (k c x : Bool) (s before : Bool) → k ≡ false → before ≡ false → (if (k && c) && x then s else before) ≡ false
+off-if-on true c x s before h b = absurd (true≢false h)
+off-if-on false c x s before h b = b
+
+no-key-down : (d : Description) (r : List Event) (code : ℕ) → has_kind d EV_KEY ≡ false → key_down d r code ≡ false
+unfolding key_down
+no-key-down d [] code h = refl
+no-key-down d (e ∷ r) code h =
+    off-if (has_kind d EV_KEY) (has_code d EV_KEY code) (nat_eq e.kind EV_KEY && nat_eq e.code code) (not (is_repeat e)) (is_set e) (key_down d r code) h (no-key-down d r code h)
+
+nothing-on : (d : Description) (r : List Event) (kind code : ℕ) → has_kind d kind ≡ false → turned_on d r kind code ≡ false
+unfolding turned_on
+nothing-on d [] kind code h = refl
+nothing-on d (e ∷ r) kind code h =
+    off-if-on (has_kind d kind) (has_code d kind code) (nat_eq e.kind kind && nat_eq e.code code) (is_set e) (turned_on d r kind code) h (nothing-on d r kind code h)
+
+all-off : (n code : ℕ) → slice_index_or (replicate n false) code false ≡ false
+all-off zero code = refl
+all-off (suc n) zero = refl
+all-off (suc n) (suc code) = all-off n code
+
+flag-shown : (had on : Bool) (v w : List Bool) (n code : ℕ) → (had ≡ true → v ≡ w) → (had ≡ false → w ≡ replicate n false) → (had ≡ false → on ≡ false) → slice_index_or v code false ≡ on → slice_index_or w code false ≡ on
+flag-shown true on v w n code same none off h = ap (λ (xs : List Bool). slice_index_or xs code false) (sym (same refl)) ∙ h
+flag-shown false on v w n code same none off h = ap (λ (xs : List Bool). slice_index_or xs code false) (none refl) ∙ all-off n code ∙ sym (off refl)
+
+-- All values
+
+state-shown : (d : Description) (r : List Event) (v w : View) → AgreeBut (what_is_had d) [] v w → IsSpare d w → IsDeviceState d r v → IsDeviceState d r w
+state-shown d r v w a s h = record {
+  keys = λ code. flag-shown (has_kind d EV_KEY) (key_down d r code) v.keys w.keys 768 code (λ is. a.keys is refl) s.keys (no-key-down d r code) (h.keys code);
+  switches = λ code. flag-shown (has_kind d EV_SW) (turned_on d r EV_SW code) v.switches w.switches 64 code (λ is. a.switches is refl) s.switches (nothing-on d r EV_SW code) (h.switches code);
+  leds = λ code. flag-shown (has_kind d EV_LED) (turned_on d r EV_LED code) v.leds w.leds 64 code (λ is. a.leds is refl) s.leds (nothing-on d r EV_LED code) (h.leds code);
+  axes = λ code has. sym (a.axes code has refl) ∙ h.axes code has;
+  cells = by d.slots refl;
+  slot = λ some. sym (a.slot (lt-ltb 0 d.slots some) refl) ∙ h.slot some;
+}
+  where
+    by : (n : ℕ) → d.slots ≡ n → w.cells ≡ rows d r
+    by zero none = nil_from_length w.cells (omega (arith, none, s.sized.cells)) ∙ sym (nil_from_length (rows d r) (omega (arith, none, length-rows d r)))
+    by (suc n) some = sym (a.cells (ap (λ (k : ℕ). nat_lt 0 k) some ∙ lt-ltb 0 (suc n) (omega arith)) refl) ∙ h.cells
+
+-- a reader that handed out an event shows the device, where every history is faithful to every client
+pub shows-device : AreFaithful → (d : Description) (past : List Step) (r : Reading) (t : Taken) → IsDescription d → IsHistory d past → IsSpare d r.view → IsHandedOut d past r t → ShowsTheDevice d past r t
+shows-device law d past r t is history spare h = record {
+  is_taken = handed-is-taken d past r t h history;
+  shows = λ f report followed.
+      state-shown d f.cut.until (view_at d past r.client (index_handed_out d past r)) r.view (agree-then d past r t h history) spare
+      (law d past r.client is history (index_handed_out d past r) f report followed);
+}

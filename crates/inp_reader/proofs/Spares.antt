@@ -1,0 +1,194 @@
+-- A reader's view keeps what its device cannot have as in a new view, and two such views agree after all answers.
+use Rattle.std.proofs.Common.{◌≡◌, inl, inr, ℕ, zero, suc, ◌*◌, nat_eq, nat_lt, ℤ, pos, Bool, true, false, ◌&&◌, not, List, [], length, replicate, set, refl, sym, ap, subst, ◌∙◌, arith, if◌then◌else◌, Option, Some, None}
+use Rattle.std.specs.Prelude.{slice_index_or}
+use Rattle.std.proofs.lemmas.Bool.{true≢false, false≢true, eqb-true, cond-false}
+use Rattle.std.proofs.lemmas.List.{get_or-set_other}
+use Rattle.inp_model.specs.declared.event.Event.{Event}
+use Rattle.inp_model.specs.declared.event.TheConstants.{EV_KEY, EV_ABS, EV_SW, EV_LED}
+use Rattle.inp_model.specs.declared.multi_touch.TheConstants.{ABS_MT_SLOT}
+use Rattle.inp_model.specs.declared.step.Step.{Step}
+use Rattle.inp_model.specs.declared.step.Step.TheVariants.{Open, GetKeys, GetSwitches, GetLeds, GetAxis, SyncSlots}
+use Rattle.inp_model.specs.declared.reply.Reply.{Reply}
+use Rattle.inp_model.specs.declared.reply.Reply.TheVariants.{Axis, Cells}
+use Rattle.inp_model.specs.Description.{Description, has_kind, has_code, supports, is_multi_touch_code}
+use Rattle.inp_model.specs.Event.{is_repeat}
+use Rattle.inp_model.specs.Raw.{raw}
+use Rattle.inp_model.specs.Reply.{Answer, IsAnswer, answer_by, accepted, refused, is_accepted}
+use Rattle.inp_recon.specs.declared.view.View.{View}
+use Rattle.inp_recon.specs.View.{key_count, code_count, AreCells, HasCells, with_value_at, with_flag, axes_after_event, slot_after_event, keys_after_answer, switches_after_answer, leds_after_answer, axes_after_answer, axes_after_reply, slot_after_answer, first_view, view_after_event, view_after_answer}
+use Rattle.inp_recon.proofs.Sizes.{IsSizedFor-first_view, IsSizedFor-after_event, IsSizedFor-after_answer}
+use Rattle.inp_recon.specs.Synchronised.{has_axis}
+use Rattle.inp_reader.specs.Spare.{IsSpare, is_event_of}
+use Rattle.inp_reader.proofs.Answering.{refused-not_accepted, length-rows}
+
+-- An event of the device
+
+had-kind : (k c : Bool) → (k && c) ≡ true → k ≡ false → ⊥
+had-kind true c h none = true≢false none
+had-kind false c h none = false≢true h
+
+of-kind : (d : Description) (e : Event) (kind : ℕ) → e.kind ≡ kind → is_event_of d e ≡ true → is_event_of d (record e { kind = kind }) ≡ true
+of-kind d e kind h is = ap (λ (n : ℕ). is_event_of d (record e { kind = n })) (sym h) ∙ is
+
+-- a flag of a type that the device has not is not set
+no-keys : (d : Description) (e : Event) → is_event_of d e ≡ true → has_kind d EV_KEY ≡ false → nat_eq e.kind EV_KEY ≡ false
+no-keys d e is none = by (nat_eq e.kind EV_KEY) refl
+  where
+    by : (b : Bool) → nat_eq e.kind EV_KEY ≡ b → b ≡ false
+    by true k = absurd (had-kind (has_kind d EV_KEY) (has_code d EV_KEY e.code) (of-kind d e EV_KEY (eqb-true e.kind EV_KEY k) is) none)
+    by false k = refl
+
+no-switches : (d : Description) (e : Event) → is_event_of d e ≡ true → has_kind d EV_SW ≡ false → nat_eq e.kind EV_SW ≡ false
+no-switches d e is none = by (nat_eq e.kind EV_SW) refl
+  where
+    by : (b : Bool) → nat_eq e.kind EV_SW ≡ b → b ≡ false
+    by true k = absurd (had-kind (has_kind d EV_SW) (has_code d EV_SW e.code) (of-kind d e EV_SW (eqb-true e.kind EV_SW k) is) none)
+    by false k = refl
+
+no-leds : (d : Description) (e : Event) → is_event_of d e ≡ true → has_kind d EV_LED ≡ false → nat_eq e.kind EV_LED ≡ false
+no-leds d e is none = by (nat_eq e.kind EV_LED) refl
+  where
+    by : (b : Bool) → nat_eq e.kind EV_LED ≡ b → b ≡ false
+    by true k = absurd (had-kind (has_kind d EV_LED) (has_code d EV_LED e.code) (of-kind d e EV_LED (eqb-true e.kind EV_LED k) is) none)
+    by false k = refl
+
+keys-stay : (b c : Bool) (new old : List Bool) → b ≡ false → (if b && c then new else old) ≡ old
+keys-stay true c new old h = absurd (true≢false h)
+keys-stay false c new old h = refl
+
+-- an axis of its own that an event is about is one that the device has
+axis-supported : (d : Description) (code : ℕ) (value : ℤ) → is_event_of d (record { kind = EV_ABS; code = code; value = value }) ≡ true → is_multi_touch_code code ≡ false → has_axis d code ≡ true
+axis-supported d code value is own = by (nat_eq code ABS_MT_SLOT) refl
+  where
+    plain : supports d EV_ABS code ≡ true → has_axis d code ≡ true
+    plain h = ap (λ (b : Bool). b && not (is_multi_touch_code code)) h ∙ ap (λ (b : Bool). not b) own
+
+    by : (b : Bool) → nat_eq code ABS_MT_SLOT ≡ b → has_axis d code ≡ true
+    by true k = absurd (true≢false (sym (ap (λ (n : ℕ). is_multi_touch_code n) (eqb-true code ABS_MT_SLOT k)) ∙ own))
+    by false k = plain (sym (ap (λ (b : Bool). if b then nat_lt 0 d.slots else supports d EV_ABS code) k) ∙ is)
+
+-- a value that is set elsewhere leaves this one
+value-elsewhere : (axes : List ℤ) (index code : ℕ) (value : ℤ) → (code ≡ index → ⊥) → slice_index_or (with_value_at code_count axes index value) code (pos 0) ≡ slice_index_or axes code (pos 0)
+value-elsewhere axes index code value h = by (nat_lt index code_count)
+  where
+    by : (b : Bool) → slice_index_or (if b then set axes index value else axes) code (pos 0) ≡ slice_index_or axes code (pos 0)
+    by true = get_or-set_other axes index code value (pos 0) h
+    by false = refl
+
+apart : (d : Description) (code other : ℕ) → has_axis d code ≡ false → has_axis d other ≡ true → code ≡ other → ⊥
+apart d code other h k e = true≢false (sym k ∙ ap (λ (n : ℕ). has_axis d n) (sym e) ∙ h)
+
+axis-after_event : (d : Description) (axes : List ℤ) (e : Event) (code : ℕ) → is_event_of d e ≡ true → has_axis d code ≡ false → slice_index_or (axes_after_event axes e) code (pos 0) ≡ slice_index_or axes code (pos 0)
+axis-after_event d axes e code is none = by (nat_eq e.kind EV_ABS) (is_multi_touch_code e.code) refl refl
+  where
+    by : (abs touch : Bool) → nat_eq e.kind EV_ABS ≡ abs → is_multi_touch_code e.code ≡ touch → slice_index_or (if abs && not (abs && touch) then with_value_at code_count axes e.code e.value else axes) code (pos 0) ≡ slice_index_or axes code (pos 0)
+    by true true h k = refl
+    by true false h k = value-elsewhere axes e.code code e.value (apart d code e.code none (axis-supported d e.code e.value (of-kind d e EV_ABS (eqb-true e.kind EV_ABS h) is) k))
+    by false touch h k = refl
+
+slot-after_event : (d : Description) (slot : ℤ) (e : Event) → is_event_of d e ≡ true → d.slots ≡ 0 → slot_after_event slot e ≡ slot
+slot-after_event d slot e is none = by (nat_eq e.kind EV_ABS) (nat_eq e.code ABS_MT_SLOT) refl refl
+  where
+    by : (abs named : Bool) → nat_eq e.kind EV_ABS ≡ abs → nat_eq e.code ABS_MT_SLOT ≡ named → (if abs && named then e.value else slot) ≡ slot
+    by true true h k =
+        let there : is_event_of d (record e { kind = EV_ABS }) ≡ true = of-kind d e EV_ABS (eqb-true e.kind EV_ABS h) is in
+        let some : nat_lt 0 d.slots ≡ true = sym (ap (λ (b : Bool). if b then nat_lt 0 d.slots else supports d EV_ABS e.code) k) ∙ there in
+        absurd (false≢true (ap (λ (n : ℕ). nat_lt 0 n) (sym none) ∙ some))
+    by true false h k = refl
+    by false named h k = refl
+
+pub IsSpare-after_event : (d : Description) (v : View) (e : Event) → is_event_of d e ≡ true → IsSpare d v → IsSpare d (view_after_event v e)
+unfolding view_after_event
+IsSpare-after_event d v e is s = record {
+  sized = IsSizedFor-after_event d.slots v e s.sized;
+  keys = λ none. keys-stay (nat_eq e.kind EV_KEY) (not (is_repeat e)) (with_flag key_count v.keys e) v.keys (no-keys d e is none) ∙ s.keys none;
+  switches = λ none. cond-false (nat_eq e.kind EV_SW) (with_flag code_count v.switches e) v.switches (no-switches d e is none) ∙ s.switches none;
+  leds = λ none. cond-false (nat_eq e.kind EV_LED) (with_flag code_count v.leds e) v.leds (no-leds d e is none) ∙ s.leds none;
+  axes = λ code none. axis-after_event d v.axes e code is none ∙ s.axes code none;
+  slot = λ none. slot-after_event d v.slot e is none ∙ s.slot none;
+}
+
+-- An answer to what the device has
+
+unfoldable pub IsWanted : Description → Step → Type 0
+IsWanted d (GetKeys client) = has_kind d EV_KEY ≡ true
+IsWanted d (GetSwitches client) = has_kind d EV_SW ≡ true
+IsWanted d (GetLeds client) = has_kind d EV_LED ≡ true
+IsWanted d (GetAxis client code) = has_axis d code ≡ true
+IsWanted d (SyncSlots client) = nat_lt 0 d.slots ≡ true
+IsWanted d _ = Unit {0}
+
+no_cells : (reply : Reply) (cells buffer : List ℤ) → is_accepted reply ≡ false → AreCells reply cells buffer
+no_cells (Cells at count slot) cells buffer h = absurd (true≢false h)
+no_cells _ cells buffer h = tt
+
+has-cells-by : (d : Description) (past : List Step) (client : ℕ) (cells : List ℤ) (o : Option Reply) → refused d past (SyncSlots client) ≡ o → length cells ≡ 14 * d.slots → (let given : Answer = answer_by o (accepted d past (SyncSlots client)) in AreCells given.reply cells given.cells)
+has-cells-by d past client cells None h sized = omega (arith, sized, length-rows d (raw d past))
+has-cells-by d past client cells (Some reply) h sized = no_cells reply cells [] (refused-not_accepted d past (SyncSlots client) reply h)
+
+pub has-cells : (d : Description) (past : List Step) (x : Step) (given : Answer) (cells : List ℤ) → IsAnswer d past x given → length cells ≡ 14 * d.slots → HasCells x given.reply cells given.cells
+has-cells d past (SyncSlots client) given cells (inl e) sized = subst (λ (a : Answer). AreCells a.reply cells a.cells) (sym e) (has-cells-by d past client cells (refused d past (SyncSlots client)) refl sized)
+has-cells d past (SyncSlots client) given cells (inr l) sized = let never : SyncSlots client ≡ Open = l.0 in absurd cc
+has-cells d past _ given cells are sized = tt
+
+spare-keys : (d : Description) (x : Step) (reply : Reply) (keys : List Bool) → IsWanted d x → has_kind d EV_KEY ≡ false → keys_after_answer x reply keys ≡ keys
+unfolding IsWanted
+spare-keys d (GetKeys client) reply keys wanted none = absurd (true≢false (sym wanted ∙ none))
+spare-keys d _ reply keys wanted none = refl
+
+spare-switches : (d : Description) (x : Step) (reply : Reply) (switches : List Bool) → IsWanted d x → has_kind d EV_SW ≡ false → switches_after_answer x reply switches ≡ switches
+unfolding IsWanted
+spare-switches d (GetSwitches client) reply switches wanted none = absurd (true≢false (sym wanted ∙ none))
+spare-switches d _ reply switches wanted none = refl
+
+spare-leds : (d : Description) (x : Step) (reply : Reply) (leds : List Bool) → IsWanted d x → has_kind d EV_LED ≡ false → leds_after_answer x reply leds ≡ leds
+unfolding IsWanted
+spare-leds d (GetLeds client) reply leds wanted none = absurd (true≢false (sym wanted ∙ none))
+spare-leds d _ reply leds wanted none = refl
+
+axis-after_reply : (axes : List ℤ) (index code : ℕ) (reply : Reply) → (code ≡ index → ⊥) → slice_index_or (axes_after_reply index reply axes) code (pos 0) ≡ slice_index_or axes code (pos 0)
+axis-after_reply axes index code (Axis at info) h = by (is_multi_touch_code index)
+  where
+    by : (b : Bool) → slice_index_or (if b then axes else with_value_at code_count axes index info.value) code (pos 0) ≡ slice_index_or axes code (pos 0)
+    by true = refl
+    by false = value-elsewhere axes index code info.value h
+axis-after_reply axes index code _ h = refl
+
+spare-axes : (d : Description) (x : Step) (reply : Reply) (axes : List ℤ) (code : ℕ) → IsWanted d x → has_axis d code ≡ false → slice_index_or (axes_after_answer x reply axes) code (pos 0) ≡ slice_index_or axes code (pos 0)
+unfolding IsWanted
+spare-axes d (GetAxis client index) reply axes code wanted none = axis-after_reply axes index code reply (apart d code index none wanted)
+spare-axes d _ reply axes code wanted none = refl
+
+spare-slot : (d : Description) (x : Step) (reply : Reply) (slot : ℤ) → IsWanted d x → d.slots ≡ 0 → slot_after_answer x reply slot ≡ slot
+unfolding IsWanted
+spare-slot d (SyncSlots client) reply slot wanted none = absurd (false≢true (ap (λ (n : ℕ). nat_lt 0 n) (sym none) ∙ wanted))
+spare-slot d _ reply slot wanted none = refl
+
+pub IsSpare-after_answer : (d : Description) (past : List Step) (v : View) (x : Step) (given : Answer) → IsWanted d x → IsAnswer d past x given → IsSpare d v → IsSpare d (view_after_answer v x given.reply given.cells)
+unfolding view_after_answer
+IsSpare-after_answer d past v x given wanted are s = record {
+  sized = IsSizedFor-after_answer d.slots v x given.reply given.cells (has-cells d past x given v.cells are s.sized.cells) s.sized;
+  keys = λ none. spare-keys d x given.reply v.keys wanted none ∙ s.keys none;
+  switches = λ none. spare-switches d x given.reply v.switches wanted none ∙ s.switches none;
+  leds = λ none. spare-leds d x given.reply v.leds wanted none ∙ s.leds none;
+  axes = λ code none. spare-axes d x given.reply v.axes code wanted none ∙ s.axes code none;
+  slot = λ none. spare-slot d x given.reply v.slot wanted none ∙ s.slot none;
+}
+
+-- A new view
+
+zeros : (n code : ℕ) → slice_index_or (replicate n (pos 0)) code (pos 0) ≡ pos 0
+zeros zero code = refl
+zeros (suc n) zero = refl
+zeros (suc n) (suc code) = zeros n code
+
+pub IsSpare-first_view : (d : Description) → IsSpare d (first_view d)
+unfolding first_view
+IsSpare-first_view d = record {
+  sized = IsSizedFor-first_view d;
+  keys = λ none. refl;
+  switches = λ none. refl;
+  leds = λ none. refl;
+  axes = λ code none. zeros code_count code;
+  slot = λ none. refl;
+}

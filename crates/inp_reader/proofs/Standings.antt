@@ -1,0 +1,615 @@
+-- Where a reader stands after the talks of `start` and `next`, by the pasts at which its calls were answered.
+use Rattle.std.proofs.Common.{◌≡◌, ◌<◌, ◌⊎◌, inl, inr, ℕ, suc, nat_eq, nat_lt, Bool, true, false, ◌&&◌, ◌||◌, List, [], ◌∷◌, ◌++◌, length, refl, sym, ap, subst, ◌∙◌, arith, append-nil, append_assoc, if◌then◌else◌, ℤ, Option, Some, None}
+use Rattle.std.specs.Prelude.{Result, Ok, Err}
+use Rattle.std.proofs.lemmas.Bool.{true≢false, false≢true, ne_eqb, eq-eqb, cond-false, cond-true}
+use Rattle.std.proofs.lemmas.List.{map-append}
+use Rattle.std.proofs.lemmas.List.Concat.{flat_map-append}
+use Rattle.inp_model.specs.declared.event.Event.{Event}
+use Rattle.inp_model.specs.declared.event.TheConstants.{EV_KEY, EV_LED, EV_SW}
+use Rattle.inp_model.specs.declared.taken.Taken.{Taken}
+use Rattle.inp_model.specs.declared.step.Step.{Step}
+use Rattle.inp_model.specs.declared.step.Step.TheVariants.{Open, Read, Discard, GetKeys, GetSwitches, GetLeds, SyncSlots}
+use Rattle.inp_model.specs.declared.reply.Reply.{Reply}
+use Rattle.inp_model.specs.declared.reply.Reply.TheVariants.{Opened, Again as NothingVisible, Refused}
+use Rattle.inp_model.specs.declared.reply.Refusal.TheVariants.{NoMemory, NoDevice as Revoked, LogFull}
+use Rattle.inp_model.specs.Description.{Description, has_kind, ring as ring_of}
+use Rattle.inp_model.specs.Past.{opens, is_opening}
+use Rattle.inp_model.specs.Reply.{Answer, IsAnswer, answer, answer_by, accepted, refused, is_accepted, past_after}
+use Rattle.inp_model.specs.Run.{Call}
+use Rattle.inp_model.specs.Step.{is_open_step}
+use Rattle.inp_recon.specs.declared.view.View.{View}
+use Rattle.inp_recon.specs.View.{first_view, view_after_event, view_after_events, view_after_answer}
+use Rattle.inp_recon.proofs.Folds.{view_after_events-append}
+use Rattle.inp_reader.specs.declared.mode.Mode.{Mode}
+use Rattle.inp_reader.specs.declared.mode.Mode.TheVariants.{Normal, Sync as Synchronising}
+use Rattle.inp_reader.specs.declared.phase.Phase.{Phase}
+use Rattle.inp_reader.specs.declared.phase.Phase.TheVariants.{Plain, Needed, Handing}
+use Rattle.inp_reader.specs.declared.next.Next.{Next}
+use Rattle.inp_reader.specs.declared.next.Next.TheVariants.{Success, Dropped, Synced}
+use Rattle.inp_reader.specs.declared.started.Started.{Started}
+use Rattle.inp_reader.specs.Reading.{Reading, ask_each, queries, bit_queries, axis_queries, plain_axes, slot_queries, only_if, start_talk, next_talk, talk_in, plain_talk, go_on, go_on_after, sync_talk, after_open, after_queries, start_stop_of, read_talk, read_or_hand_out, after_read, hand_out, hand_out_event, stop_of, handing, hand_synthesised, as_plain, after_full_sync, after_failed_sync, is_dropped}
+use Rattle.inp_recon.specs.Synchronised.{is_discard_of, is_start}
+use Rattle.inp_reader.specs.Standing.{is_use_of, calls_since, steps_of, view_after_answers, taken_by_calls, events_of, is_read, AreReads, IsInStep, is_needed, StandsAt, has_opened}
+use Rattle.inp_reader.specs.Talk.{Talk, finish, and_then, LeadsTo, EndsWith}
+use Rattle.inp_reader.proofs.Answering.{refused-not_accepted}
+use Rattle.inp_reader.proofs.Calls.{IsSplit, split-and_then, finished, AreAnswered, AreAccepted}
+use Rattle.inp_reader.proofs.Meeting.{AreQuiet, IsMet, AreMet, AreMet-split, AreMet-answered}
+
+-- Steps since the client was opened
+
+opens-if : (b : Bool) (n client : ℕ) → client < n → client < (if b then suc n else n)
+opens-if true n client h = omega (arith, h)
+opens-if false n client h = h
+
+pub opens-step : (past : List Step) (x : Step) (client : ℕ) → client < opens past → client < opens (x ∷ past)
+unfolding opens
+opens-step past x client h = opens-if (is_open_step x) (opens past) client h
+
+opens-steps : (past others : List Step) (client : ℕ) → client < opens past → client < opens (others ++ past)
+opens-steps past [] client h = h
+opens-steps past (x ∷ others) client h = opens-step (others ++ past) x client (opens-steps past others client h)
+
+-- an open client is opened by no later step
+no_opening : (b : Bool) (n client : ℕ) → client < n → (b && nat_eq n client) ≡ false
+no_opening true n client h = ne_eqb n client (λ e. omega (arith, h, e))
+no_opening false n client h = refl
+
+not_opening : (past : List Step) (x : Step) (client : ℕ) → client < opens past → is_opening past client x ≡ false
+not_opening past x client h = no_opening (is_open_step x) (opens past) client h
+
+not_beginning : (past : List Step) (x : Step) (client : ℕ) → client < opens past → is_discard_of client x ≡ false → is_start past client x ≡ false
+not_beginning past x client h k = ap (λ (b : Bool). b || is_discard_of client x) (not_opening past x client h) ∙ k
+
+no_discard : (client : ℕ) (x : Step) → is_use_of client x ≡ false → is_discard_of client x ≡ false
+no_discard client (Discard named) h = h
+no_discard client _ h = refl
+
+-- a step that is no beginning: with its call, where it is a use
+since_if : (begins used : Bool) (before more : List Call) → begins ≡ false → (if begins then [] else if used then before ++ more else before) ≡ (if used then before ++ more else before)
+since_if true used before more h = absurd (true≢false h)
+since_if false used before more h = refl
+
+quiet-step : (d : Description) (past : List Step) (x : Step) (client : ℕ) → client < opens past → is_use_of client x ≡ false → calls_since d (x ∷ past) client ≡ calls_since d past client
+unfolding calls_since
+quiet-step d past x client h quiet =
+    let before : List Call = calls_since d past client in
+    let more : List Call = record { step = x; answer = answer d past x } ∷ [] in
+    since_if (is_start past client x) (is_use_of client x) before more (not_beginning past x client h (no_discard client x quiet))
+    ∙ cond-false (is_use_of client x) (before ++ more) before quiet
+
+quiet-steps : (d : Description) (past others : List Step) (client : ℕ) → client < opens past → AreQuiet client others → calls_since d (others ++ past) client ≡ calls_since d past client
+unfolding AreQuiet
+quiet-steps d past [] client h quiet = refl
+quiet-steps d past (x ∷ others) client h quiet =
+    quiet-step d (others ++ past) x client (opens-steps past others client h) quiet.0 ∙ quiet-steps d past others client h quiet.1
+
+use-step : (d : Description) (past : List Step) (x : Step) (client : ℕ) → client < opens past → is_use_of client x ≡ true → is_discard_of client x ≡ false → calls_since d (x ∷ past) client ≡ calls_since d past client ++ record { step = x; answer = answer d past x } ∷ []
+unfolding calls_since
+use-step d past x client h used kept =
+    let before : List Call = calls_since d past client in
+    let more : List Call = record { step = x; answer = answer d past x } ∷ [] in
+    since_if (is_start past client x) (is_use_of client x) before more (not_beginning past x client h kept)
+    ∙ cond-true (is_use_of client x) (before ++ more) before used
+
+discard-step : (d : Description) (past : List Step) (client : ℕ) → calls_since d (Discard client ∷ past) client ≡ []
+unfolding calls_since
+discard-step d past client =
+    let rest : List Call = if is_use_of client (Discard client) then calls_since d past client ++ record { step = Discard client; answer = answer d past (Discard client) } ∷ [] else calls_since d past client in
+    cond-true (is_discard_of client (Discard client)) [] rest (eq-eqb client client refl)
+
+open-step : (d : Description) (past : List Step) (client : ℕ) → client ≡ opens past → calls_since d (Open ∷ past) client ≡ []
+unfolding calls_since
+open-step d past client h =
+    let begins : is_start past client Open ≡ true = ap (λ (b : Bool). b || false) (eq-eqb (opens past) client (sym h)) in
+    cond-true (is_start past client Open) [] (calls_since d past client) begins
+
+-- One call
+
+-- a use's answer is the one-thread device's: memory runs out at an Open alone
+use-answer : (d : Description) (past : List Step) (client : ℕ) (x : Step) (given : Answer) → is_use_of client x ≡ true → IsAnswer d past x given → given ≡ answer d past x
+use-answer d past client x given used (inl e) = e
+use-answer d past client x given used (inr l) = absurd (false≢true (ap (λ (y : Step). is_use_of client y) (sym l.0) ∙ used))
+
+accepted-past : (reply : Reply) (x : Step) (past : List Step) → is_accepted reply ≡ true → past_after reply x past ≡ x ∷ past
+accepted-past reply x past h = cond-true (is_accepted reply) (x ∷ past) past h
+
+refused-past : (reply : Reply) (x : Step) (past : List Step) → is_accepted reply ≡ false → past_after reply x past ≡ past
+refused-past reply x past h = cond-false (is_accepted reply) (x ∷ past) past h
+
+-- what is known of the client after a call that is a use of it and was accepted
+pub met-use : (d : Description) (client : ℕ) (past after : List Step) (call : Call) → client < opens past → IsMet d client past after call → is_use_of client call.step ≡ true → is_discard_of client call.step ≡ false → is_accepted call.answer.reply ≡ true
+    → calls_since d after client ≡ calls_since d past client ++ call ∷ []
+met-use d client past after call h m used kept accepted =
+    let before : List Step = m.others ++ past in
+    let is : after ≡ call.step ∷ before = m.entered ∙ accepted-past call.answer.reply call.step before accepted in
+    ap (λ (p : List Step). calls_since d p client) is
+    ∙ use-step d before call.step client (opens-steps past m.others client h) used kept
+    ∙ ap (λ (a : Answer). calls_since d before client ++ record { step = call.step; answer = a } ∷ []) (sym (use-answer d before client call.step call.answer used m.exact))
+    ∙ ap (λ (cs : List Call). cs ++ call ∷ []) (quiet-steps d past m.others client h m.quiet)
+
+-- after one that was refused
+pub met-refused : (d : Description) (client : ℕ) (past after : List Step) (call : Call) → client < opens past → IsMet d client past after call → is_accepted call.answer.reply ≡ false → calls_since d after client ≡ calls_since d past client
+met-refused d client past after call h m refused =
+    ap (λ (p : List Step). calls_since d p client) (m.entered ∙ refused-past call.answer.reply call.step (m.others ++ past) refused)
+    ∙ quiet-steps d past m.others client h m.quiet
+
+met-opens : (d : Description) (client : ℕ) (past after : List Step) (call : Call) → client < opens past → IsMet d client past after call → client < opens after
+met-opens d client past after call h m =
+    let before : List Step = m.others ++ past in
+    let open_before : client < opens before = opens-steps past m.others client h in
+    let P : List Step → Type 0 = λ p. client < opens p in
+    subst P (sym m.entered) (either (is_accepted call.answer.reply) call.step before open_before)
+  where
+    either : (b : Bool) (x : Step) (before : List Step) → client < opens before → (let p : List Step = if b then x ∷ before else before in client < opens p)
+    either true x before h = opens-step before x client h
+    either false x before h = h
+
+pub opens-met : (d : Description) (client : ℕ) (past after : List Step) (calls : List Call) → client < opens past → AreMet d client past after calls → client < opens after
+unfolding AreMet
+opens-met d client past after [] h m = let P : List Step → Type 0 = λ p. client < opens p in subst P (sym m) h
+opens-met d client past after (call ∷ calls) h m = opens-met d client m.0 after calls (met-opens d client past m.0 call h m.1) m.2
+
+-- Steps that are asked for in order
+
+unfoldable AllAsk : ℕ → List Step → Type 0
+AllAsk client [] = Unit {0}
+AllAsk client (x ∷ xs) = (is_use_of client x ≡ true) × (is_discard_of client x ≡ false) × AllAsk client xs
+
+AllAsk-append : (client : ℕ) (xs ys : List Step) → AllAsk client xs → AllAsk client ys → AllAsk client (xs ++ ys)
+unfolding AllAsk
+AllAsk-append client [] ys h k = k
+AllAsk-append client (x ∷ xs) ys h k = (h.0, h.1, AllAsk-append client xs ys h.2 k)
+
+AllAsk-only_if : (client : ℕ) (wanted : Bool) (x : Step) → is_use_of client x ≡ true → is_discard_of client x ≡ false → AllAsk client (only_if wanted x)
+unfolding AllAsk
+AllAsk-only_if client true x h k = (h, k, tt)
+AllAsk-only_if client false x h k = tt
+
+AllAsk-axes : (client : ℕ) (codes : List ℕ) → AllAsk client (axis_queries client codes)
+unfolding AllAsk
+AllAsk-axes client [] = tt
+AllAsk-axes client (code ∷ codes) = (eq-eqb client client refl, refl, AllAsk-axes client codes)
+
+AllAsk-queries : (d : Description) (client : ℕ) → AllAsk client (queries d client)
+unfolding queries
+AllAsk-queries d client =
+    let same : nat_eq client client ≡ true = eq-eqb client client refl in
+    let keys : List Step = only_if (has_kind d EV_KEY) (GetKeys client) in
+    let leds : List Step = only_if (has_kind d EV_LED) (GetLeds client) in
+    let switches : List Step = only_if (has_kind d EV_SW) (GetSwitches client) in
+    let bits : AllAsk client ((keys ++ leds) ++ switches) =
+    AllAsk-append client (keys ++ leds) switches (AllAsk-append client keys leds (AllAsk-only_if client (has_kind d EV_KEY) (GetKeys client) same refl) (AllAsk-only_if client (has_kind d EV_LED) (GetLeds client) same refl)) (AllAsk-only_if client (has_kind d EV_SW) (GetSwitches client) same refl) in
+    let axes : List Step = axis_queries client (plain_axes d) in
+    AllAsk-append client (bit_queries d client ++ axes) (slot_queries d client) (AllAsk-append client (bit_queries d client) axes bits (AllAsk-axes client (plain_axes d))) (AllAsk-only_if client (nat_lt 0 d.slots) (SyncSlots client) same refl)
+
+-- all were asked for and accepted
+record IsAsked (d : Description) (client : ℕ) (past after : List Step) (xs : List Step) (view : View) (calls : List Call) (asked : View) : Type 0 where
+  since : calls_since d after client ≡ calls_since d past client ++ calls
+  steps : steps_of calls ≡ xs
+  view_is : asked ≡ view_after_answers view calls
+  accepted : AreAccepted calls
+
+accepted_if : (b : Bool) (talk : Talk (Result View Reply)) (reply : Reply) (calls : List Call) (asked : View) → EndsWith (if b then talk else finish (Err reply)) calls (Ok asked) → (b ≡ true) × EndsWith talk calls (Ok asked)
+accepted_if true talk reply calls asked h = (refl, h)
+accepted_if false talk reply calls asked h = let e : (calls ≡ []) × (Err reply ≡ Ok asked) = finished (Err reply) (Ok asked) calls h in absurd (let k : Err reply ≡ Ok asked = e.1 in cc)
+
+none_asked : (d : Description) (client : ℕ) (past after : List Step) (view asked : View) (calls : List Call) → AreMet d client past after calls → calls ≡ [] → view ≡ asked → IsAsked d client past after [] view calls asked
+unfolding AreMet AreAccepted
+none_asked d client past after view asked [] m none same = record {
+  since = ap (λ (p : List Step). calls_since d p client) m ∙ sym (append-nil (calls_since d past client));
+  steps = refl;
+  view_is = sym same;
+  accepted = tt;
+}
+none_asked d client past after view asked (call ∷ calls) m none same = absurd cc
+
+asks : (d : Description) (client : ℕ) (past after : List Step) (xs : List Step) (view : View) (calls : List Call) (asked : View) → client < opens past → AllAsk client xs → AreMet d client past after calls → EndsWith (ask_each xs view) calls (Ok asked) → IsAsked d client past after xs view calls asked
+unfolding LeadsTo ask_each AreMet AllAsk AreAccepted
+asks d client past after [] view calls asked h all m ends =
+    let e : (calls ≡ []) × (Ok view ≡ Ok asked) = finished (Ok view) (Ok asked) calls ends in
+    none_asked d client past after view asked calls m e.0 (let k : Ok view ≡ Ok asked = e.1 in cc)
+asks d client past after (x ∷ xs) view [] asked h all m ends = absurd cc
+asks d client past after (x ∷ xs) view (call ∷ calls) asked h all m ends =
+    let next : View = view_after_answer view x call.answer.reply call.answer.cells in
+    let a : (is_accepted call.answer.reply ≡ true) × EndsWith (ask_each xs next) calls (Ok asked) = accepted_if (is_accepted call.answer.reply) (ask_each xs next) call.answer.reply calls asked ends.1 in
+    let used : is_use_of client call.step ≡ true = ap (λ (y : Step). is_use_of client y) ends.0 ∙ all.0 in
+    let kept : is_discard_of client call.step ≡ false = ap (λ (y : Step). is_discard_of client y) ends.0 ∙ all.1 in
+    let one : calls_since d m.0 client ≡ calls_since d past client ++ call ∷ [] = met-use d client past m.0 call h m.1 used kept a.0 in
+    let rest : IsAsked d client m.0 after xs next calls asked = asks d client m.0 after xs next calls asked (met-opens d client past m.0 call h m.1) all.2 m.2 a.1 in
+    record {
+      since = rest.since ∙ ap (λ (cs : List Call). cs ++ calls) one ∙ append_assoc (calls_since d past client) (call ∷ []) calls;
+      steps = ap (λ (y : Step). y ∷ steps_of calls) ends.0 ∙ ap (λ (ys : List Step). x ∷ ys) rest.steps;
+      view_is = rest.view_is ∙ ap (λ (y : Step). view_after_answers (view_after_answer view y call.answer.reply call.answer.cells) calls) (sym ends.0);
+      accepted = (a.0, rest.accepted);
+    }
+
+-- Reading
+
+-- a view is made anew by the answers to all queries
+unfoldable pub IsMadeAnew : Description → ℕ → View → Type 0
+IsMadeAnew d client view = (calls : List Call) → steps_of calls ≡ queries d client → AreAccepted calls → AreAnswered d calls → view_after_answers view calls ≡ view_after_answers (first_view d) calls
+
+events_of-push : (handed : List Taken) (taken : Taken) → events_of (handed ++ taken ∷ []) ≡ events_of handed ++ taken.event ∷ []
+events_of-push handed taken = map-append (λ (t : Taken). t.event) handed (taken ∷ [])
+
+one-event : (v : View) (e : Event) → view_after_events v (e ∷ []) ≡ view_after_event v e
+unfolding view_after_events
+one-event v e = refl
+
+-- the reader is in step, and this is the last event that it handed out
+pub record IsHandedOut (d : Description) (past : List Step) (r : Reading) (last : Taken) : Type 0 where
+  pub asked : List Call
+  pub reads : List Call
+  pub before : List Taken
+  pub calls : calls_since d past r.client ≡ asked ++ reads
+  pub queries : steps_of asked ≡ queries d r.client
+  pub reads_only : AreReads reads
+  pub taken : taken_by_calls reads ≡ (before ++ last ∷ []) ++ r.queue
+  pub view : r.view ≡ view_after_events (view_after_answers (first_view d) asked) (events_of (before ++ last ∷ []))
+
+handed-in-step : (d : Description) (past : List Step) (r : Reading) (last : Taken) → IsHandedOut d past r last → IsInStep d past r
+handed-in-step d past r last h = record {
+  asked = h.asked;
+  reads = h.reads;
+  handed = h.before ++ last ∷ [];
+  calls = h.calls;
+  queries = h.queries;
+  reads_only = h.reads_only;
+  taken = h.taken;
+  view = h.view;
+}
+
+handed : (d : Description) (past : List Step) (r : Reading) (taken : Taken) (rest : List Taken) → IsInStep d past r → r.queue ≡ taken ∷ rest → IsHandedOut d past (record r { queue = rest; view = view_after_event r.view taken.event }) taken
+handed d past r taken rest i q =
+    let begun : View = view_after_answers (first_view d) i.asked in
+    record {
+      asked = i.asked;
+      reads = i.reads;
+      before = i.handed;
+      calls = i.calls;
+      queries = i.queries;
+      reads_only = i.reads_only;
+      taken = i.taken ∙ ap (λ (ts : List Taken). i.handed ++ ts) q ∙ sym (append_assoc i.handed (taken ∷ []) rest);
+      view =
+          ap (λ (v : View). view_after_event v taken.event) i.view
+          ∙ sym (one-event (view_after_events begun (events_of i.handed)) taken.event)
+          ∙ sym (view_after_events-append begun (events_of i.handed) (taken.event ∷ []))
+          ∙ ap (λ (es : List Event). view_after_events begun es) (sym (events_of-push i.handed taken));
+    }
+
+-- what is known of the event that `next` answers
+abbrev pub HandsOut : Description → List Step → Next → Reading → Type 0
+HandsOut d past (Success taken) r = IsHandedOut d past r taken
+HandsOut d past _ r = Unit {0}
+
+-- how `next` leaves a reader
+pub record Leaves (d : Description) (past : List Step) (result : Next × Reading) : Type 0 where
+  pub stands : StandsAt d past result.1
+  pub hands_out : HandsOut d past result.0 result.1
+
+-- the same reader, at a past since which nothing was read or asked for
+in-step-kept : (d : Description) (past after : List Step) (r : Reading) → IsInStep d past r → calls_since d after r.client ≡ calls_since d past r.client → IsInStep d after r
+in-step-kept d past after r i same = record {
+  asked = i.asked;
+  reads = i.reads;
+  handed = i.handed;
+  calls = same ∙ i.calls;
+  queries = i.queries;
+  reads_only = i.reads_only;
+  taken = i.taken;
+  view = i.view;
+}
+
+AreReads-push : (reads : List Call) (call : Call) → AreReads reads → is_read call.step ≡ true → AreReads (reads ++ call ∷ [])
+AreReads-push [] call h k = (k, tt)
+AreReads-push (read ∷ reads) call h k = (h.0, AreReads-push reads call h.1 k)
+
+-- one more read, of which nothing is handed out yet
+in-step-read : (d : Description) (past after : List Step) (r : Reading) (call : Call) → IsInStep d past r → r.queue ≡ [] → is_read call.step ≡ true → calls_since d after r.client ≡ calls_since d past r.client ++ call ∷ [] → IsInStep d after (record r { queue = call.answer.events })
+in-step-read d past after r call i empty read since =
+    let events : List Taken = call.answer.events in
+    let none : i.handed ++ r.queue ≡ i.handed = ap (λ (ts : List Taken). i.handed ++ ts) empty ∙ append-nil i.handed in
+    record {
+      asked = i.asked;
+      reads = i.reads ++ call ∷ [];
+      handed = i.handed;
+      calls = since ∙ ap (λ (cs : List Call). cs ++ call ∷ []) i.calls ∙ append_assoc i.asked i.reads (call ∷ []);
+      queries = i.queries;
+      reads_only = AreReads-push i.reads call i.reads_only read;
+      taken =
+          flat_map-append (λ (c : Call). c.answer.events) i.reads (call ∷ [])
+          ∙ ap (λ (ts : List Taken). taken_by_calls i.reads ++ ts) (append-nil events)
+          ∙ ap (λ (ts : List Taken). ts ++ events) (i.taken ∙ none);
+      view = i.view;
+    }
+
+-- a stop is no event
+stop-hands : (d : Description) (past : List Step) (reply : Reply) (r : Reading) → HandsOut d past (stop_of reply) r
+stop-hands d past (NothingVisible at ends) r = tt
+stop-hands d past (Refused at Revoked) r = tt
+stop-hands d past (Refused at LogFull) r = tt
+stop-hands d past (Refused at _) r = tt
+stop-hands d past _ r = tt
+
+in_phase : (b : Bool) (d : Description) (past : List Step) (x y : Next × Reading) → Leaves d past x → Leaves d past y → (let o : Next × Reading = if b then x else y in Leaves d past o)
+in_phase true d past x y h k = h
+in_phase false d past x y h k = k
+
+stands-handed : (d : Description) (past : List Step) (r : Reading) (taken : Taken) (rest : List Taken) → r.client < opens past → IsInStep d past r → r.queue ≡ taken ∷ rest → Leaves d past (hand_out_event r taken rest)
+stands-handed d past r taken rest opened i q =
+    let view : View = view_after_event r.view taken.event in
+    let h : IsHandedOut d past (record r { queue = rest; view = view }) taken = handed d past r taken rest i q in
+    in_phase (is_dropped taken.event) d past (Dropped taken, record r { queue = rest; view = view; phase = Needed }) (Success taken, record r { queue = rest; view = view })
+    (record { stands = record { opened = opened; in_step = λ needed. absurd (true≢false needed) }; hands_out = tt })
+    (record { stands = record { opened = opened; in_step = λ needed. handed-in-step d past (record r { queue = rest; view = view }) taken h }; hands_out = h })
+
+stands-hand_out : (d : Description) (past : List Step) (r : Reading) (queue : List Taken) → r.client < opens past → IsInStep d past (record r { queue = queue }) → Leaves d past (hand_out r queue)
+stands-hand_out d past r [] opened i = record { stands = record { opened = opened; in_step = λ needed. i }; hands_out = tt }
+stands-hand_out d past r (taken ∷ rest) opened i = stands-handed d past (record r { queue = taken ∷ rest }) taken rest opened i refl
+
+stands-same : (d : Description) (past after : List Step) (x : Next × Reading) (result : Next × Reading) → after ≡ past → x ≡ result → Leaves d past x → Leaves d after result
+stands-same d past after x result same e h =
+    let P : List Step → Type 0 = λ p. Leaves d p result in
+    subst P (sym same) (subst (λ (o : Next × Reading). Leaves d past o) e h)
+
+-- no call was made
+nothing-met : (d : Description) (client : ℕ) (past after : List Step) (calls : List Call) → calls ≡ [] → AreMet d client past after calls → after ≡ past
+unfolding AreMet
+nothing-met d client past after [] none m = m
+nothing-met d client past after (call ∷ calls) none m = absurd cc
+
+stands-after-read : (d : Description) (past after : List Step) (r : Reading) (call : Call) → r.client < opens past → IsInStep d past r → r.queue ≡ [] → call.step ≡ Read r.client 64 → IsMet d r.client past after call → Leaves d after (after_read r call.answer)
+stands-after-read d past after r call opened i empty asked m = by (is_accepted call.answer.reply) refl
+  where
+    still : r.client < opens after
+    still = met-opens d r.client past after call opened m
+
+    by : (b : Bool) → is_accepted call.answer.reply ≡ b → (let o : Next × Reading = if b then hand_out r call.answer.events else (stop_of call.answer.reply, r) in Leaves d after o)
+    by true is =
+        let used : is_use_of r.client call.step ≡ true = ap (λ (x : Step). is_use_of r.client x) asked ∙ eq-eqb r.client r.client refl in
+        let since : calls_since d after r.client ≡ calls_since d past r.client ++ call ∷ [] = met-use d r.client past after call opened m used (ap (λ (x : Step). is_discard_of r.client x) asked) is in
+        stands-hand_out d after r call.answer.events still (in-step-read d past after r call i empty (ap is_read asked) since)
+    by false is = record { stands = record { opened = still; in_step = λ needed. in-step-kept d past after r i (met-refused d r.client past after call opened m is) }; hands_out = stopped call.answer.reply }
+      where
+        stopped : (reply : Reply) → HandsOut d after (stop_of reply) r
+        stopped reply = stop-hands d after reply r
+
+stands-queued : (d : Description) (past after : List Step) (r : Reading) (queue : List Taken) (calls : List Call) (result : Next × Reading) → r.client < opens past → IsInStep d past r → r.queue ≡ queue → AreMet d r.client past after calls → EndsWith (read_or_hand_out r queue) calls result → Leaves d after result
+unfolding LeadsTo AreMet
+stands-queued d past after r [] [] result opened i q m h = absurd cc
+stands-queued d past after r [] (call ∷ calls) result opened i q m h =
+    let e : (calls ≡ []) × (after_read r call.answer ≡ result) = finished (after_read r call.answer) result calls h.1 in
+    stands-same d m.0 after (after_read r call.answer) result (nothing-met d r.client m.0 after calls e.0 m.2) e.1 (stands-after-read d past m.0 r call opened i q h.0 m.1)
+stands-queued d past after r (taken ∷ rest) calls result opened i q m h =
+    let e : (calls ≡ []) × (hand_out_event r taken rest ≡ result) = finished (hand_out_event r taken rest) result calls h in
+    stands-same d past after (hand_out_event r taken rest) result (nothing-met d r.client past after calls e.0 m) e.1 (stands-handed d past r taken rest opened i q)
+
+stands-read : (d : Description) (past after : List Step) (r : Reading) (calls : List Call) (result : Next × Reading) → r.client < opens past → IsInStep d past r → AreMet d r.client past after calls → EndsWith (read_talk r) calls result → Leaves d after result
+unfolding read_talk
+stands-read d past after r calls result opened i m h = stands-queued d past after r r.queue calls result opened i refl m h
+
+-- Going on
+
+in-step-plain : (d : Description) (past : List Step) (r : Reading) → IsInStep d past r → IsInStep d past (as_plain r)
+in-step-plain d past r i = record {
+  asked = i.asked;
+  reads = i.reads;
+  handed = i.handed;
+  calls = i.calls;
+  queries = i.queries;
+  reads_only = i.reads_only;
+  taken = i.taken;
+  view = i.view;
+}
+
+in-step-left : (d : Description) (past : List Step) (r : Reading) (left : List Event) → IsInStep d past r → IsInStep d past (record r { left = left })
+in-step-left d past r left i = record {
+  asked = i.asked;
+  reads = i.reads;
+  handed = i.handed;
+  calls = i.calls;
+  queries = i.queries;
+  reads_only = i.reads_only;
+  taken = i.taken;
+  view = i.view;
+}
+
+stands-handing : (d : Description) (past : List Step) (r : Reading) (left : List Event) → r.client < opens past → IsInStep d past r → Leaves d past (hand_synthesised r left)
+stands-handing d past r [] opened i = record { stands = record { opened = opened; in_step = λ needed. in-step-plain d past r i }; hands_out = tt }
+stands-handing d past r (event ∷ left) opened i = record { stands = record { opened = opened; in_step = λ needed. in-step-left d past r left i }; hands_out = tt }
+
+stands-go_on : (d : Description) (mode : Mode) (past after : List Step) (r : Reading) (calls : List Call) (result : Next × Reading) → r.client < opens past → IsInStep d past r → AreMet d r.client past after calls → EndsWith (go_on mode r) calls result → Leaves d after result
+stands-go_on d Normal past after r calls result opened i m h = stands-read d past after (as_plain r) calls result opened (in-step-plain d past r i) m h
+stands-go_on d Synchronising past after r calls result opened i m h =
+    let e : (calls ≡ []) × (handing r ≡ result) = finished (handing r) result calls h in
+    stands-same d past after (handing r) result (nothing-met d r.client past after calls e.0 m) e.1 (stands-handing d past r r.left opened i)
+
+stands-plain : (d : Description) (mode : Mode) (past after : List Step) (r : Reading) (calls : List Call) (result : Next × Reading) → r.client < opens past → IsInStep d past r → AreMet d r.client past after calls → EndsWith (plain_talk mode r) calls result → Leaves d after result
+stands-plain d Normal past after r calls result opened i m h = stands-read d past after r calls result opened i m h
+stands-plain d Synchronising past after r calls result opened i m h =
+    let e : (calls ≡ []) × ((Synced, r) ≡ result) = finished (Synced, r) result calls h in
+    stands-same d past after (Synced, r) result (nothing-met d r.client past after calls e.0 m) e.1 (record { stands = record { opened = opened; in_step = λ needed. i }; hands_out = tt })
+
+-- Synchronising
+
+nothing_handed : (v : View) → v ≡ view_after_events v []
+unfolding view_after_events
+nothing_handed v = refl
+
+-- in step after all queries, with nothing read
+in-step-anew : (d : Description) (past : List Step) (client : ℕ) (asked : List Call) (view told : View) (phase : Phase) (left : List Event) → calls_since d past client ≡ asked → steps_of asked ≡ queries d client → AreAccepted asked → AreAnswered d asked → told ≡ view_after_answers view asked → IsMadeAnew d client view
+    → IsInStep d past (record { client = client; queue = []; view = told; phase = phase; left = left })
+unfolding IsMadeAnew
+in-step-anew d past client asked view told phase left since steps accepted answered told_is anew = record {
+  asked = asked;
+  reads = [];
+  handed = [];
+  calls = since ∙ sym (append-nil asked);
+  queries = steps;
+  reads_only = tt;
+  taken = refl;
+  view = told_is ∙ anew asked steps accepted answered ∙ nothing_handed (view_after_answers (first_view d) asked);
+}
+
+discard-view : (client : ℕ) (view : View) (reply : Reply) (cells : List ℤ) → view_after_answer view (Discard client) reply cells ≡ view
+unfolding view_after_answer
+discard-view client view reply cells = refl
+
+record IsSynchronised (d : Description) (client : ℕ) (past after : List Step) (view : View) (calls : List Call) (told : View) : Type 0 where
+  asked : List Call
+  since : calls_since d after client ≡ asked
+  steps : steps_of asked ≡ queries d client
+  accepted : AreAccepted asked
+  answered : AreAnswered d asked
+  view_is : told ≡ view_after_answers view asked
+
+synchronised : (d : Description) (client : ℕ) (past after : List Step) (view : View) (calls : List Call) (told : View) → client < opens past → AreMet d client past after calls → EndsWith (ask_each (Discard client ∷ queries d client) view) calls (Ok told) → IsSynchronised d client past after view calls told
+unfolding LeadsTo ask_each AreMet
+synchronised d client past after view [] told h m ends = absurd cc
+synchronised d client past after view (call ∷ calls) told h m ends =
+    let next : View = view_after_answer view (Discard client) call.answer.reply call.answer.cells in
+    let a : (is_accepted call.answer.reply ≡ true) × EndsWith (ask_each (queries d client) next) calls (Ok told) = accepted_if (is_accepted call.answer.reply) (ask_each (queries d client) next) call.answer.reply calls told ends.1 in
+    let met : IsMet d client past m.0 call = m.1 in
+    let entered : m.0 ≡ Discard client ∷ (met.others ++ past) = met.entered ∙ accepted-past call.answer.reply call.step (met.others ++ past) a.0 ∙ ap (λ (x : Step). x ∷ (met.others ++ past)) ends.0 in
+    let none : calls_since d m.0 client ≡ [] = ap (λ (p : List Step). calls_since d p client) entered ∙ discard-step d (met.others ++ past) client in
+    let rest : IsAsked d client m.0 after (queries d client) next calls told = asks d client m.0 after (queries d client) next calls told (met-opens d client past m.0 call h m.1) (AllAsk-queries d client) m.2 a.1 in
+    record {
+      asked = calls;
+      since = rest.since ∙ ap (λ (cs : List Call). cs ++ calls) none;
+      steps = rest.steps;
+      accepted = rest.accepted;
+      answered = AreMet-answered d client m.0 after calls m.2;
+      view_is = rest.view_is ∙ ap (λ (v : View). view_after_answers v calls) (discard-view client view call.answer.reply call.answer.cells);
+    }
+
+stands-synchronised : (d : Description) (mode : Mode) (past mid after : List Step) (r : Reading) (asked : Result View Reply) (first later : List Call) (result : Next × Reading) → r.client < opens past → IsMadeAnew d r.client r.view → AreMet d r.client past mid first → AreMet d r.client mid after later
+    → EndsWith (sync_talk d r) first asked → EndsWith (go_on_after mode r asked) later result → Leaves d after result
+unfolding sync_talk
+stands-synchronised d mode past mid after r (Ok view) first later result opened anew m k ends then_ends =
+    let s : IsSynchronised d r.client past mid r.view first view = synchronised d r.client past mid r.view first view opened m ends in
+    let i : IsInStep d mid (after_full_sync r view) = in-step-anew d mid r.client s.asked r.view view Handing (after_full_sync r view).left s.since s.steps s.accepted s.answered s.view_is anew in
+    stands-go_on d mode mid after (after_full_sync r view) later result (opens-met d r.client past mid first opened m) i k then_ends
+stands-synchronised d mode past mid after r (Err reply) first later result opened anew m k ends then_ends =
+    let stopped : Next × Reading = (stop_of reply, after_failed_sync r) in
+    let e : (later ≡ []) × (stopped ≡ result) = finished stopped result later then_ends in
+    stands-same d mid after stopped result (nothing-met d r.client mid after later e.0 k) e.1
+    (record { stands = record { opened = opens-met d r.client past mid first opened m; in_step = λ needed. absurd (true≢false needed) }; hands_out = stop-hands d mid reply (after_failed_sync r) })
+
+stands-needed : (d : Description) (mode : Mode) (past after : List Step) (r : Reading) (calls : List Call) (result : Next × Reading) → r.client < opens past → IsMadeAnew d r.client r.view → AreMet d r.client past after calls → EndsWith (and_then (sync_talk d r) (go_on_after mode r)) calls result → Leaves d after result
+stands-needed d mode past after r calls result opened anew m h =
+    let s : IsSplit (sync_talk d r) (go_on_after mode r) calls result = split-and_then (sync_talk d r) (go_on_after mode r) calls result h in
+    let all : AreMet d r.client past after (s.first ++ s.later) = subst (λ (cs : List Call). AreMet d r.client past after cs) s.calls_are m in
+    let k : (mid : List Step) × AreMet d r.client past mid s.first × AreMet d r.client mid after s.later = AreMet-split d r.client past after s.first s.later all in
+    stands-synchronised d mode past k.0 after r s.between s.first s.later result opened anew k.1 k.2 s.first_ends s.later_ends
+
+-- `next`
+
+stands-in : (d : Description) (mode : Mode) (phase : Phase) (past after : List Step) (r : Reading) (calls : List Call) (result : Next × Reading) → r.phase ≡ phase → StandsAt d past r → IsMadeAnew d r.client r.view → AreMet d r.client past after calls → EndsWith (talk_in d mode phase r) calls result → Leaves d after result
+stands-in d mode Plain past after r calls result e s anew m h = stands-plain d mode past after r calls result s.opened (s.in_step (ap is_needed e)) m h
+stands-in d mode Needed past after r calls result e s anew m h = stands-needed d mode past after r calls result s.opened anew m h
+stands-in d mode Handing past after r calls result e s anew m h = stands-go_on d mode past after r calls result s.opened (s.in_step (ap is_needed e)) m h
+
+-- a reader that stood stands after `next`, and what that handed out is the last event that was
+pub stands-after-next : (d : Description) (mode : Mode) (past after : List Step) (r : Reading) (calls : List Call) (result : Next × Reading) → StandsAt d past r → IsMadeAnew d r.client r.view → AreMet d r.client past after calls → EndsWith (next_talk d mode r) calls result → Leaves d after result
+stands-after-next d mode past after r calls result s anew m h = stands-in d mode r.phase past after r calls result refl s anew m h
+
+-- `start`
+
+-- an Open that was accepted opens the next client
+opened-number : (d : Description) (past : List Step) (x : Step) (given : Answer) (at client ring : ℕ) → x ≡ Open → IsAnswer d past x given → given.reply ≡ Opened at client ring → client ≡ opens past
+opened-number d past x given at client ring opening (inl e) is = by_cases (refused d past Open) refl
+  where
+    by_cases : (o : Option Reply) → refused d past Open ≡ o → client ≡ opens past
+    by_cases None k =
+        let same : Opened at client ring ≡ Opened (length past) (opens past) (ring_of d) = sym is ∙ ap (λ (a : Answer). a.reply) e ∙ ap (λ (y : Step). (answer d past y).reply) opening ∙ ap (λ (o : Option Reply). (answer_by o (accepted d past Open)).reply) k in
+        cc
+    by_cases (Some reply) k =
+        let same : Opened at client ring ≡ reply = sym is ∙ ap (λ (a : Answer). a.reply) e ∙ ap (λ (y : Step). (answer d past y).reply) opening ∙ ap (λ (o : Option Reply). (answer_by o (accepted d past Open)).reply) k in
+        absurd (true≢false (ap is_accepted same ∙ refused-not_accepted d past Open reply k))
+opened-number d past x given at client ring opening (inr l) is =
+    let same : Opened at client ring ≡ Refused (length past) NoMemory = sym is ∙ ap (λ (a : Answer). a.reply) l.2 in
+    absurd cc
+
+open-opens : (past : List Step) (client : ℕ) → client ≡ opens past → client < opens (Open ∷ past)
+unfolding opens
+open-opens past client h = omega (arith, h)
+
+-- a call that is no use of the client leaves what it did
+met-unused : (d : Description) (client : ℕ) (past after : List Step) (call : Call) → client < opens past → IsMet d client past after call → is_use_of client call.step ≡ false → calls_since d after client ≡ calls_since d past client
+met-unused d client past after call h m unused = ap (λ (p : List Step). calls_since d p client) m.entered ∙ by (is_accepted call.answer.reply)
+  where
+    before : List Step
+    before = m.others ++ past
+
+    by : (b : Bool) → (let p : List Step = if b then call.step ∷ before else before in calls_since d p client ≡ calls_since d past client)
+    by true = quiet-step d before call.step client (opens-steps past m.others client h) unused ∙ quiet-steps d past m.others client h m.quiet
+    by false = quiet-steps d past m.others client h m.quiet
+
+-- what a start leaves once its queries ended
+stands-queried : (d : Description) (client ring : ℕ) (past after : List Step) (r : Reading) (asked : Result View Reply) (calls : List Call) → client < opens past → calls_since d past client ≡ [] → IsMadeAnew d client r.view → AreMet d client past after calls → EndsWith (ask_each (queries d client) r.view) calls asked
+    → StandsAt d after (after_queries client ring r asked).1
+stands-queried d client ring past after r (Ok view) calls opened none anew m h =
+    let a : IsAsked d client past after (queries d client) r.view calls view = asks d client past after (queries d client) r.view calls view opened (AllAsk-queries d client) m h in
+    record {
+      opened = opens-met d client past after calls opened m;
+      in_step = λ needed. in-step-anew d after client calls r.view view Plain [] (a.since ∙ ap (λ (cs : List Call). cs ++ calls) none) a.steps a.accepted (AreMet-answered d client past after calls m) a.view_is anew;
+    }
+stands-queried d client ring past after r (Err reply) calls opened none anew m h =
+    record { opened = opens-met d client past after calls opened m; in_step = λ needed. absurd (true≢false needed) }
+
+started-same : (d : Description) (past after : List Step) (x result : Started × Reading) → after ≡ past → x ≡ result → StandsAt d past x.1 → StandsAt d after result.1
+started-same d past after x result same e h =
+    let P : List Step → Type 0 = λ p. StandsAt d p result.1 in
+    subst P (sym same) (subst (λ (o : Started × Reading). StandsAt d past o.1) e h)
+
+client-of-queried : (client ring : ℕ) (r : Reading) (asked : Result View Reply) → (after_queries client ring r asked).1.client ≡ client
+client-of-queried client ring r (Ok view) = refl
+client-of-queried client ring r (Err reply) = refl
+
+not-opened : (reply : Reply) → has_opened (start_stop_of reply) ≡ false
+not-opened (Refused at why) = refl
+not-opened _ = refl
+
+-- how a reader may have stood before a start: it did, or the start opened a client
+unfoldable pub StoodOrOpened : Description → List Step → Reading → Started → Type 0
+StoodOrOpened d past r started = StandsAt d past r ⊎ (has_opened started ≡ true)
+
+stands-stopped : (d : Description) (past after : List Step) (r : Reading) (call : Call) (reply : Reply) → call.step ≡ Open → IsMet d r.client past after call → StandsAt d past r ⊎ (has_opened (start_stop_of reply) ≡ true) → StandsAt d after r
+stands-stopped d past after r call reply opening m (inl s) = record {
+  opened = met-opens d r.client past after call s.opened m;
+  in_step = λ needed. in-step-kept d past after r (s.in_step needed) (met-unused d r.client past after call s.opened m (ap (λ (x : Step). is_use_of r.client x) opening));
+}
+stands-stopped d past after r call reply opening m (inr o) = absurd (true≢false (sym o ∙ not-opened reply))
+
+stands-after_open : (d : Description) (past mid after : List Step) (r : Reading) (call : Call) (reply : Reply) (calls : List Call) (result : Started × Reading) → call.answer.reply ≡ reply → call.step ≡ Open → ((client : ℕ) → IsMadeAnew d client r.view)
+    → IsMet d result.1.client past mid call → AreMet d result.1.client mid after calls → StoodOrOpened d past r result.0 → EndsWith (after_open d r reply) calls result → StandsAt d after result.1
+unfolding StoodOrOpened
+stands-after_open d past mid after r call (Opened at client ring) calls result is opening anew met m stood h =
+    let next : Result View Reply → Talk (Started × Reading) = λ asked. finish (after_queries client ring r asked) in
+    let s : IsSplit (ask_each (queries d client) r.view) next calls result = split-and_then (ask_each (queries d client) r.view) next calls result h in
+    let e : (s.later ≡ []) × (after_queries client ring r s.between ≡ result) = finished (after_queries client ring r s.between) result s.later s.later_ends in
+    let same : result.1.client ≡ client = ap (λ (o : Started × Reading). o.1.client) (sym e.1) ∙ client-of-queried client ring r s.between in
+    let first_met : IsMet d client past mid call = subst (λ (n : ℕ). IsMet d n past mid call) same met in
+    let all : AreMet d client mid after (s.first ++ s.later) = subst (λ (cs : List Call). AreMet d client mid after cs) s.calls_are (subst (λ (n : ℕ). AreMet d n mid after calls) same m) in
+    let k : (end : List Step) × AreMet d client mid end s.first × AreMet d client end after s.later = AreMet-split d client mid after s.first s.later all in
+    let before : List Step = first_met.others ++ past in
+    let number : client ≡ opens before = opened-number d before call.step call.answer at client ring opening first_met.exact is in
+    let entered : mid ≡ Open ∷ before = first_met.entered ∙ accepted-past call.answer.reply call.step before (ap is_accepted is) ∙ ap (λ (x : Step). x ∷ before) opening in
+    let none : calls_since d mid client ≡ [] = ap (λ (p : List Step). calls_since d p client) entered ∙ open-step d before client number in
+    let opened : client < opens mid = subst (λ (p : List Step). client < opens p) (sym entered) (open-opens before client number) in
+    started-same d k.0 after (after_queries client ring r s.between) result (nothing-met d client k.0 after s.later e.0 k.2) e.1
+    (stands-queried d client ring mid k.0 r s.between s.first opened none (anew client) k.1 s.first_ends)
+stands-after_open d past mid after r call reply calls result is opening anew met m stood h =
+    let stopped : Started × Reading = (start_stop_of reply, r) in
+    let e : (calls ≡ []) × (stopped ≡ result) = finished stopped result calls h in
+    let same : result.1.client ≡ r.client = ap (λ (o : Started × Reading). o.1.client) (sym e.1) in
+    let before : StandsAt d past r ⊎ (has_opened (start_stop_of reply) ≡ true) = subst (λ (n : Started). StandsAt d past r ⊎ (has_opened n ≡ true)) (ap (λ (o : Started × Reading). o.0) (sym e.1)) stood in
+    started-same d mid after stopped result (nothing-met d result.1.client mid after calls e.0 m) e.1
+    (stands-stopped d past mid r call reply opening (subst (λ (n : ℕ). IsMet d n past mid call) same met) before)
+
+-- a reader stands after a start that opened a client, and after any start where it stood
+pub stands-after-start : (d : Description) (past after : List Step) (r : Reading) (calls : List Call) (result : Started × Reading) → ((client : ℕ) → IsMadeAnew d client r.view) → AreMet d result.1.client past after calls → StoodOrOpened d past r result.0 → EndsWith (start_talk d r) calls result → StandsAt d after result.1
+unfolding start_talk LeadsTo AreMet
+stands-after-start d past after r [] result anew m stood h = absurd cc
+stands-after-start d past after r (call ∷ calls) result anew m stood h =
+    stands-after_open d past m.0 after r call call.answer.reply calls result refl h.0 anew m.1 m.2 stood h.1

@@ -1,0 +1,45 @@
+use Rattle.std.proofs.Common.{ap, sym, subst, ◌∙◌, arith, length}
+use Rattle.inp_reader.specs.Reading.{ReaderView}
+use Rattle.inp_reader.specs.Session.{reading_of}
+use Rattle.inp_reader.specs.Standing.{Stands}
+use Rattle.inp_reader.proofs.Sparing.{says-keeps_start}
+use Rattle.inp_reader.proofs.SayingStands.{start-opens, start-stands}
+use Rattle.inp_reader.proofs.Leavings.{says-anew, says-seen, says-tie, says-own, says-run}
+use Rattle.inp_reader.proofs.Agains.{says-no_agains}
+use Rattle.inp_reader.proofs.reader.Reader.start.Goals as goal
+
+pub returns-clause-tie : goal.returns-clause-tie
+returns-clause-tie g c = says-tie _ _ _ _ _ _ c.start.ensures.says
+
+pub returns-clause-seen : goal.returns-clause-seen
+returns-clause-seen g c = says-seen _ _ _ _ _ _ c.start.ensures.says
+
+pub returns-clause-own : goal.returns-clause-own
+returns-clause-own g c = says-own _ _ _ _ _ (says-anew _ _ _ _ _ _ c.clear.ensures c.start.ensures.says)
+
+pub returns-clause-run : goal.returns-clause-run
+returns-clause-run g c = says-run _ _ _ _ _ (says-anew _ _ _ _ _ _ c.clear.ensures c.start.ensures.says)
+
+pub returns-clause-agains : goal.returns-clause-agains
+returns-clause-agains g c =
+    says-no_agains _ _ _ _ _ _ (c.requires.description ∙ ap (λ (v : ReaderView). v.description) (sym c.self.view_is)) (says-anew _ _ _ _ _ _ c.clear.ensures c.start.ensures.says)
+
+pub invariant_of-self : goal.invariant_of-self
+invariant_of-self g c = record {
+  view = c.start.ensures.session.view;
+  asked = c.start.ensures.session.asked;
+  cells = c.start.ensures.session.cells;
+  few = omega (arith, c.start.ensures.few, ap length c.clear.ensures);
+  slots = c.start.ensures.session.slots;
+  described = c.self.invariant.described;
+  spare = says-keeps_start _ _ _ _ _ (reading_of c.self.inside.session) _ (c.requires.description ∙ ap (λ (v : ReaderView). v.description) (sym c.self.view_is)) c.self.invariant.spare c.start.ensures.says;
+}
+
+pub returns-clause-opened : goal.returns-clause-opened
+returns-clause-opened g c = λ opened alone.
+    start-opens c.self.inside.caps _ _ _ (reading_of c.self.inside.session) (reading_of c.start.new.self) c.start.result (c.requires.description ∙ ap (λ (v : ReaderView). v.description) (sym c.self.view_is)) c.self.invariant.spare (says-anew _ _ _ _ _ _ c.clear.ensures c.start.ensures.says) opened alone
+
+pub returns-clause-stands : goal.returns-clause-stands
+returns-clause-stands g c = λ stood alone.
+    start-stands c.self.inside.caps _ _ _ (reading_of c.self.inside.session) (reading_of c.start.new.self) c.start.result (c.requires.description ∙ ap (λ (v : ReaderView). v.description) (sym c.self.view_is)) c.self.invariant.spare (says-anew _ _ _ _ _ _ c.clear.ensures c.start.ensures.says)
+    (subst (λ (v : ReaderView). Stands (g.E.Evdev.told c.args.dev.now) v) (sym c.self.view_is) stood) alone

@@ -1,0 +1,26 @@
+-- What the calls of a reader leave of what is told of an evdev.
+use Rattle.std.specs.Prelude.{◌≡◌, ℕ, ◌+◌, ◌-◌, ◌^◌, nat_lt, if◌then◌else◌, List, [], ◌∷◌, ◌++◌, length}
+use Rattle.inp_model.specs.Evdev.{EvdevView}
+use Rattle.inp_model.specs.Reply.{is_accepted}
+use Rattle.inp_model.specs.Run.{Call, place_of, IsLegalFrom}
+use Rattle.inp_reader.specs.declared.call_made.CallMade.{CallMade}
+use Rattle.inp_reader.specs.declared.next.Next.{Next}
+use Rattle.inp_reader.specs.declared.next.Next.TheVariants.{Again}
+use Rattle.inp_reader.specs.Says.{made_of}
+
+-- the places of the calls that were accepted, in order
+abbrev pub places_of : List CallMade → List ℕ
+places_of [] = []
+places_of (call ∷ calls) = (if is_accepted call.reply then place_of call.reply ∷ [] else []) ++ places_of calls
+
+-- the count of answers Again after `next` answered; it stays at the end of its type
+abbrev pub agains_after_next : Next → ℕ → ℕ
+agains_after_next (Again at ends) n = if nat_lt n (2 ^ 64 - 1) then n + 1 else n
+agains_after_next _ n = n
+
+-- The calls are a legal run of the history that is seen afterwards, from what was seen before: each has its place, none
+-- below it, and each reply is the one-thread device's there. They are those that were kept, and those answered Again.
+pub record IsRun (before after : EvdevView) (made : List CallMade) : Type 0 where
+  pub calls : List Call
+  pub kept : made ≡ made_of calls
+  pub legal : IsLegalFrom after.description after.seen (length before.seen) calls
