@@ -15,3 +15,4 @@ pub mod Promised
 pub mod Readings
 pub mod Replies
 pub mod Splits
+pub mod Views

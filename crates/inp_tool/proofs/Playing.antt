@@ -48,7 +48,7 @@ is_after_all p (line ∷ lines) =
       tap = more.tap ∙ seen-more TAP line p.tap (new_sights p line) (sight_of TAP one_key (player_after p line).stage lines);
     }
 
-run_at : (p : PlayerView) (past : List Step) (source tap : List Sight) → p.stage.past ≡ past → p.source ≡ source → p.tap ≡ tap → run_from p ≡ record { history = reverse past; jobs = job_of SOURCE source ∷ job_of TAP tap ∷ [] }
+run_at : (p : PlayerView) (past : List Step) (source tap : List Sight) → p.stage.past ≡ past → p.source ≡ source → p.tap ≡ tap → run_from p ≡ record { history = reverse past; jobs = job_of one_key SOURCE source ∷ job_of one_key TAP tap ∷ [] }
 run_at p past source tap a b c = cc
 
 pub run_from-player_after_all : (lines : List Line) → run_from (player_after_all fresh_player lines) ≡ run_of one_key lines

@@ -25,7 +25,7 @@ length-last_past d stage (line ∷ lines) =
     let one = past_after-one (answer_to d stage line).reply (step_of stage.client line) stage.past in
     omega (arith, length-last_past d (next_stage d stage line) lines, one)
 
-is_source_job : (d : Description) (lines : List Line) → IsJob d (reverse (last_past d first_stage lines)) lines SOURCE (job_of SOURCE (sight_of SOURCE d first_stage lines))
+is_source_job : (d : Description) (lines : List Line) → IsJob d (reverse (last_past d first_stage lines)) lines SOURCE (job_of d SOURCE (sight_of SOURCE d first_stage lines))
 is_source_job d lines = record {
   actor = refl;
   calls = calls_of SOURCE d first_stage lines;
@@ -36,7 +36,7 @@ is_source_job d lines = record {
   stop = refl;
 }
 
-is_tap_job : (d : Description) (lines : List Line) → IsJob d (reverse (last_past d first_stage lines)) lines TAP (job_of TAP (sight_of TAP d first_stage lines))
+is_tap_job : (d : Description) (lines : List Line) → IsJob d (reverse (last_past d first_stage lines)) lines TAP (job_of d TAP (sight_of TAP d first_stage lines))
 is_tap_job d lines = record {
   actor = refl;
   calls = calls_of TAP d first_stage lines;
@@ -56,8 +56,8 @@ from_the_first end place = grind (arith, nat_tests)
 pub is_run : (lines : List Line) → IsPlayable lines → IsRun one_key lines (run_of one_key lines)
 is_run lines playable = record {
   within = omega (arith, length-reverse (last_past one_key first_stage lines), length-last_past one_key first_stage lines, playable.few);
-  source = job_of SOURCE (sight_of SOURCE one_key first_stage lines);
-  tap = job_of TAP (sight_of TAP one_key first_stage lines);
+  source = job_of one_key SOURCE (sight_of SOURCE one_key first_stage lines);
+  tap = job_of one_key TAP (sight_of TAP one_key first_stage lines);
   jobs = refl;
   source_job = is_source_job one_key lines;
   tap_job = is_tap_job one_key lines;

@@ -17,7 +17,7 @@ use Rattle.inp_tool.specs.declared.run.Run.{Run}
 use Rattle.inp_tool.specs.declared.run.Stop.TheVariants.{Finished}
 use Rattle.inp_tool.specs.declared.line.TheConstants.{SOURCE, TAP}
 use Rattle.inp_tool.specs.Line.{lines_of, step_of}
-use Rattle.inp_tool.specs.Play.{NO_CLIENT, latest_client, sights_of, is_down_after}
+use Rattle.inp_tool.specs.Play.{NO_CLIENT, latest_client, sights_of, view_of, is_down_in}
 
 -- The calls are those of the lines, one for each in order, from a client on, and the sight is what they and their
 -- answers determine. The answers have the events that were written to the calls' buffers.
@@ -41,14 +41,14 @@ is_call_without_memory (Call x reply) = is_no_memory reply
 is_call_without_memory _ = false
 
 -- What came of a job: its calls are a legal run of the device's history, none of them lacked memory, its sight follows
--- its lines, and the key is down by its whole sight.
+-- its lines, and the key is down as in the view that its whole sight makes.
 pub record IsJob (d : Description) (history : List Step) (lines : List Line) (number : ℕ) (job : JobEnd) : Type 0 where
   pub actor : job.actor ≡ number
   pub calls : List model.Call
   pub legal : IsLegalRun d history calls
   pub memory : list_any is_call_without_memory job.sight ≡ false
   pub follows : Follows NO_CLIENT (lines_of number lines) calls job.sight
-  pub down : job.down ≡ is_down_after false job.sight
+  pub down : job.down ≡ is_down_in (view_of d job.sight)
   pub stop : job.stop ≡ Finished
 
 -- an accepted call at this place of the history

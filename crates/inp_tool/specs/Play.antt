@@ -1,13 +1,16 @@
 -- What comes of a record whose lines are done in file order, on one list of steps.
-use Rattle.std.specs.Prelude.{ℕ, Bool, false, ◌&&◌, not, if◌then◌else◌, nat_eq, List, [], ◌∷◌, ◌++◌, map, reverse}
-use Rattle.inp_model.specs.declared.event.TheConstants.{EV_KEY, KEY_A}
+use Rattle.std.specs.Prelude.{ℕ, Bool, if◌then◌else◌, nat_eq, List, [], ◌∷◌, ◌++◌, map, reverse}
+use Rattle.inp_model.specs.declared.event.TheConstants.{KEY_A}
+use Rattle.inp_model.specs.declared.event.Event.{Event}
 use Rattle.inp_model.specs.declared.taken.Taken.{Taken}
 use Rattle.inp_model.specs.declared.step.Step.{Step}
 use Rattle.inp_model.specs.declared.reply.Reply.{Reply}
 use Rattle.inp_model.specs.declared.reply.Reply.TheVariants.{Opened, Again as Nothing}
 use Rattle.inp_model.specs.Description.{Description, one_key}
-use Rattle.inp_model.specs.Event.{is_repeat, is_set}
 use Rattle.inp_model.specs.Reply.{Answer, answer, past_after}
+use Rattle.inp_bits.specs.Bits.{is_set}
+use Rattle.inp_recon.specs.declared.view.View.{View}
+use Rattle.inp_recon.specs.View.{first_view, view_after_events}
 use Rattle.inp_tool.specs.declared.line.Line.{Line}
 use Rattle.inp_tool.specs.declared.sight.Sight.{Sight}
 use Rattle.inp_tool.specs.declared.sight.Sight.TheVariants.{Call, Took, Again}
@@ -68,24 +71,28 @@ sight_of actor d stage (line ∷ lines) =
     (if nat_eq (actor_of line) actor then sights_of (step_of stage.client line) (answer_to d stage line) else [])
     ++ sight_of actor d (next_stage d stage line) lines
 
--- Whether the key A is down after what a job saw, from whether it was before. An autorepeat does not count.
-abbrev pub is_down_after_one : Bool → Sight → Bool
-is_down_after_one down (Took t) =
-    if nat_eq t.event.kind EV_KEY && nat_eq t.event.code KEY_A && not (is_repeat t.event) then is_set t.event else down
-is_down_after_one down _ = down
+-- the events that a job took, in order
+abbrev pub taken_events : List Sight → List Event
+taken_events [] = []
+taken_events (Took t ∷ sights) = t.event ∷ taken_events sights
+taken_events (_ ∷ sights) = taken_events sights
 
-abbrev pub is_down_after : Bool → List Sight → Bool
-is_down_after down [] = down
-is_down_after down (sight ∷ sights) = is_down_after (is_down_after_one down sight) sights
+-- a job's view of the device: a new one that takes over the events that the job took (docs/RULES.md, "Views")
+abbrev pub view_of : Description → List Sight → View
+view_of d sights = view_after_events (first_view d) (taken_events sights)
 
-abbrev pub job_of : ℕ → List Sight → JobEnd
-job_of actor sights = record { actor = actor; sight = sights; down = is_down_after false sights; stop = Finished }
+-- the key A is down in a view
+abbrev pub is_down_in : View → Bool
+is_down_in view = is_set view.keys KEY_A
+
+abbrev pub job_of : Description → ℕ → List Sight → JobEnd
+job_of d actor sights = record { actor = actor; sight = sights; down = is_down_in (view_of d sights); stop = Finished }
 
 -- what comes of the lines: the history, oldest first, and of each job what it saw
 abbrev pub run_of : Description → List Line → Run
 run_of d lines = record {
   history = reverse (last_past d first_stage lines);
-  jobs = job_of SOURCE (sight_of SOURCE d first_stage lines) ∷ job_of TAP (sight_of TAP d first_stage lines) ∷ [];
+  jobs = job_of d SOURCE (sight_of SOURCE d first_stage lines) ∷ job_of d TAP (sight_of TAP d first_stage lines) ∷ [];
 }
 
 abbrev pub play : Record → List Run

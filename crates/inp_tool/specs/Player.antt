@@ -6,9 +6,12 @@ use Rattle.inp_model.specs.declared.reply.Reply.{Reply}
 use Rattle.inp_model.specs.declared.reply.Reply.TheVariants.{Took as Taking}
 use Rattle.inp_model.specs.Description.{Description, one_key}
 use Rattle.inp_model.specs.Reply.{answer, past_after}
+use Rattle.inp_recon.specs.declared.view.View.{View}
+use Rattle.inp_recon.specs.View.{view_after_event}
 use Rattle.inp_tool.specs.declared.line.TheConstants.{SOURCE, TAP}
 use Rattle.inp_tool.specs.declared.line.Line.{Line}
 use Rattle.inp_tool.specs.declared.sight.Sight.{Sight}
+use Rattle.inp_tool.specs.declared.sight.Sight.TheVariants.{Took}
 use Rattle.inp_tool.specs.declared.run.Run.{Run}
 use Rattle.inp_tool.specs.Line.{actor_of, step_of}
 use Rattle.inp_tool.specs.Play.{Stage, first_stage, next_stage, answer_to, sights_of, job_of}
@@ -41,7 +44,12 @@ player_after_all p (line ∷ lines) = player_after_all (player_after p line) lin
 
 -- what comes of it
 abbrev pub run_from : PlayerView → Run
-run_from p = record { history = reverse p.stage.past; jobs = job_of SOURCE p.source ∷ job_of TAP p.tap ∷ [] }
+run_from p = record { history = reverse p.stage.past; jobs = job_of one_key SOURCE p.source ∷ job_of one_key TAP p.tap ∷ [] }
+
+-- a job's view after one more entry of what it saw
+abbrev pub view_after_sight : View → Sight → View
+view_after_sight view (Took t) = view_after_event view t.event
+view_after_sight view _ = view
 
 -- how many events a reply says were written to the caller's buffer
 abbrev pub count_taken : Reply → ℕ

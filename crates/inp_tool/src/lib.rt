@@ -2,7 +2,8 @@
 //!
 //! This crate is for the program and for tests: `inputplay` is the program's one call. It stands on `inp_edge` (input,
 //! sink and gate), `inp_model` (types and definitions), `inp_codes` (the names of types and codes), `inp_caps` (the
-//! program's keyboard) and `inp_device` (the one-thread device).
+//! program's keyboard), `inp_device` (the one-thread device) and `inp_recon` (a client's view, with `inp_bits` for its
+//! keys).
 //!
 //! What the call promises stands in `specs/Promise.antt`, as clauses of `inputplay` itself: each status has its cause, and
 //! no fault of the input or the sink is hidden; with status 0 the bytes read are a record (`specs/Record.antt`), its

@@ -5,15 +5,16 @@ ghost use Rattle.inp_model.specs.declared.stamped.TheConstants.{MOMENT_MAX};
 ghost use Rattle.inp_model.specs.Step.{moment_of};
 ghost use Rattle.inp_model.specs.Reply.{HasRoom};
 ghost use Rattle.inp_tool.specs.Line.{step_of, is_in_range, IsPlayable};
-ghost use Rattle.inp_tool.specs.Play.{latest_client, sights_by, is_down_after, is_down_after_one, job_of, play};
+ghost use Rattle.inp_tool.specs.Play.{latest_client, sights_by, view_of, job_of, play};
 ghost use Rattle.inp_tool.specs.Job.{is_no_memory};
-ghost use Rattle.inp_tool.specs.Player.{fresh_player, player_after, player_after_all, run_from, count_taken, IsExactStep};
+ghost use Rattle.inp_tool.specs.Player.{fresh_player, player_after, player_after_all, run_from, view_after_sight, count_taken, IsExactStep};
 
 use crate::line::{READ_MAX, SOURCE, TAP};
 use crate::{JobEnd, Jobs, Line, Record, Run, Runs, Sight, Sights, Stop};
 use inp_caps::{Caps, CapsBuilder};
 use inp_device::Device;
 use inp_model::{EV_KEY, EV_SYN, Event, KEY_A, NoMemory, Refusal, Reply, SYN_REPORT, Step, Taken};
+use inp_recon::View;
 use std::alloc::Global;
 use std::marker::Model;
 
@@ -98,8 +99,8 @@ impl Player {
             ..
         } = self;
         let mut jobs = Jobs::new(alloc);
-        jobs.push(job_end(SOURCE, source))?;
-        jobs.push(job_end(TAP, tap))?;
+        jobs.push(job_end(alloc, SOURCE, source)?)?;
+        jobs.push(job_end(alloc, TAP, tap)?)?;
         Ok(Run {
             history: device.into_history(),
             jobs,
@@ -134,43 +135,36 @@ fn make(device: &mut Device, buffer: &mut Vec<Taken>, step: Step) -> Result<Repl
 }
 
 /// The end of a job that saw this.
-fn job_end(actor: u32, sight: Sights) -> JobEnd
-    ensures job { result ≡ job_of actor sight }
+fn job_end(alloc: Global, actor: u32, sight: Sights) -> Result<JobEnd, NoMemory>
+    ensures job { IfOk result (λ job. job ≡ job_of one_key actor sight) }
 {
-    let down = is_down_after(sight.as_slice());
-    JobEnd {
+    let view = view_of(alloc, sight.as_slice())?;
+    let down = view.keys.get(u32::from(KEY_A));
+    Ok(JobEnd {
         actor,
         sight,
         down,
         stop: Stop::Finished,
-    }
+    })
 }
 
-/// Whether the key A is down after all that a job saw.
-fn is_down_after(sights: &[Sight]) -> bool
-    ensures down { result ≡ is_down_after false sights.now }
+/// A job's view of the keyboard after all that it saw.
+fn view_of(alloc: Global, sights: &[Sight]) -> Result<View, NoMemory>
+    ensures view { IfOk result (λ view. view ≡ view_of one_key sights.now) }
 {
-    let mut down = false;
+    let mut view = View::new(alloc, &keyboard())?;
     for sight in sights {
-        down = is_down_after_one(down, *sight);
+        take_sight(&mut view, *sight);
     }
-    down
+    Ok(view)
 }
 
-/// Whether the key A is down after one more entry.
-fn is_down_after_one(down: bool, sight: Sight) -> bool
-    ensures down { result ≡ is_down_after_one down sight }
+/// Takes over one entry of what a job saw: the event, where it read one.
+fn take_sight(view: &mut View, sight: Sight)
+    ensures view { view.new ≡ view_after_sight view.old sight }
 {
-    let Sight::Took {
-        event: Taken { event, .. },
-    } = sight
-    else {
-        return down;
-    };
-    if event.kind == EV_KEY && event.code == KEY_A && !event.is_repeat() {
-        event.is_set()
-    } else {
-        down
+    if let Sight::Took { event: taken } = sight {
+        view.take_event(taken.event);
     }
 }
 
@@ -257,7 +251,7 @@ fn push_call(
 ///
 /// # Errors
 ///
-/// `NoMemory` where there is none for the device or for what its jobs see.
+/// `NoMemory` where there is none for the device, for what its jobs see or for their views.
 pub fn play(alloc: Global, recorded: &Record) -> Result<Runs, NoMemory>
     requires playable { IsPlayable recorded.now.lines }
     ensures play { IfOk result (λ runs. runs ≡ play recorded.now) }

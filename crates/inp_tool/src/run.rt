@@ -22,7 +22,7 @@ pub struct JobEnd {
     pub actor: u32,
     /// What it saw.
     pub sight: Sights,
-    /// Whether the key A is down by all that it saw.
+    /// Whether the key A is down in the view that all that it saw makes.
     pub down: bool,
     /// Why it ended.
     pub stop: Stop,
