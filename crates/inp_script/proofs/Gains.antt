@@ -1,0 +1,126 @@
+-- What a line leaves of the history's places and of the legal run, by the calls that its sight tells of.
+use Rattle.std.proofs.Common.{◌≡◌, ℕ, Bool, true, false, if◌then◌else◌, List, [], ◌∷◌, ◌++◌, refl, sym, ap, ◌∙◌, append_assoc, append-nil, Option, Some, inl, inr}
+use Rattle.std.specs.Prelude.{filter}
+use Rattle.std.proofs.lemmas.List.Elements.{filter-append}
+use Rattle.inp_model.specs.declared.step.Step.{Step}
+use Rattle.inp_model.specs.declared.reply.Reply.{Reply}
+use Rattle.inp_model.specs.declared.reply.Reply.TheVariants.{Again as NothingVisible}
+use Rattle.inp_model.specs.Description.{Description}
+use Rattle.inp_model.specs.Evdev.{EvdevView, is_again, own_after}
+use Rattle.inp_model.specs.Reply.{is_accepted}
+use Rattle.inp_model.specs.Run.{Call, place_of}
+use Rattle.inp_reader.specs.Says.{AreCalls}
+use Rattle.inp_script.specs.declared.sight.Sight.{Sight}
+use Rattle.inp_script.specs.declared.sight.Sight.TheVariants.{Call as Called, Took, Made, Again}
+use Rattle.inp_script.specs.Doing.{Holds, DoesLine}
+use Rattle.inp_script.specs.Job.{Job, ActorView}
+use Rattle.inp_script.specs.Legal.{entries_of, is_call_entry, places_in, IsLegalSight, GainsPlaces}
+use Rattle.inp_script.specs.Line.{end_talk}
+use Rattle.inp_script.specs.Sight.{call_sight, again_sight}
+use Rattle.inp_script.specs.declared.waiting.Waiting.{Waiting}
+use Rattle.inp_actors.specs.Record.{RecordView}
+use Rattle.inp_script.proofs.LineTold.{line-told, end-told}
+use Rattle.inp_script.proofs.Runs.{LeavesOut, leaves_out-append, legal-less, runs-on}
+use Rattle.inp_script.proofs.Told.{Tells, entries_of-append}
+
+-- The places of calls
+
+places_of : List Call → List ℕ
+places_of [] = []
+places_of (call ∷ calls) = own_after call.answer.reply [] ++ places_of calls
+
+own_more : (reply : Reply) (own : List ℕ) → own_after reply own ≡ own ++ own_after reply []
+own_more reply own = by_flag (is_accepted reply)
+  where
+    by_flag : (b : Bool) → (if b then own ++ place_of reply ∷ [] else own) ≡ own ++ (if b then [] ++ place_of reply ∷ [] else [])
+    by_flag true = refl
+    by_flag false = sym (append-nil own)
+
+calls-own : (a b : EvdevView) (calls : List Call) → AreCalls a b calls → b.own ≡ a.own ++ places_of calls
+unfolding AreCalls places_of
+calls-own a b [] are = ap (λ (t : EvdevView). t.own) are ∙ sym (append-nil a.own)
+calls-own a b (call ∷ calls) are =
+    let more : List ℕ = places_of calls in
+    calls-own are.0 b calls are.2
+    ∙ ap (λ (own : List ℕ). own ++ more) (are.1.own ∙ own_more call.answer.reply a.own)
+    ∙ append_assoc a.own (own_after call.answer.reply []) more
+
+again_has_none : (reply : Reply) → is_again reply ≡ true → own_after reply [] ≡ []
+again_has_none (NothingVisible at ends) h = refl
+again_has_none _ h = absurd cc
+
+left_out-places : (kept calls : List Call) → LeavesOut kept calls → places_of kept ≡ places_of calls
+unfolding places_of
+left_out-places kept [] out = ap (λ (cs : List Call). places_of cs) out
+left_out-places kept (call ∷ calls) (inl out) = ap (λ (cs : List Call). places_of cs) out.1 ∙ ap (λ (ps : List ℕ). own_after call.answer.reply [] ++ ps) (left_out-places out.0 calls out.2)
+left_out-places kept (call ∷ calls) (inr out) = left_out-places kept calls out.1 ∙ ap (λ (ps : List ℕ). ps ++ places_of calls) (sym (again_has_none call.answer.reply out.0))
+
+places_in-append : (sight more : List Sight) → places_in (sight ++ more) ≡ places_in sight ++ places_in more
+places_in-append [] more = refl
+places_in-append (Called x reply ∷ sight) more = ap (λ (ps : List ℕ). own_after reply [] ++ ps) (places_in-append sight more) ∙ sym (append_assoc (own_after reply []) (places_in sight) (places_in more))
+places_in-append (Took taken ∷ sight) more = places_in-append sight more
+places_in-append (Made event ∷ sight) more = places_in-append sight more
+places_in-append (Again at ends ∷ sight) more = places_in-append sight more
+
+-- events have none
+places_in-entries : (sight : List Sight) → places_in (filter is_call_entry sight) ≡ places_in sight
+places_in-entries [] = refl
+places_in-entries (Called x reply ∷ sight) = ap (λ (ps : List ℕ). own_after reply [] ++ ps) (places_in-entries sight)
+places_in-entries (Took taken ∷ sight) = places_in-entries sight
+places_in-entries (Made event ∷ sight) = places_in-entries sight
+places_in-entries (Again at ends ∷ sight) = places_in-entries sight
+
+again_sight-places : (reply : Reply) → places_in (again_sight reply) ≡ []
+again_sight-places (NothingVisible at ends) = refl
+again_sight-places _ = refl
+
+call_sight-places : (x : Step) (reply : Reply) → places_in (call_sight x reply) ≡ own_after reply []
+call_sight-places x reply = by_flag (is_again reply) refl
+  where
+    by_flag : (b : Bool) → is_again reply ≡ b → places_in (if b then [] else Called x reply ∷ []) ≡ own_after reply []
+    by_flag true e = sym (again_has_none reply e)
+    by_flag false e = append-nil (own_after reply [])
+
+entries-places : (calls : List Call) → places_in (entries_of calls) ≡ places_of calls
+unfolding places_of
+entries-places [] = refl
+entries-places (call ∷ calls) =
+    let reply : Reply = call.answer.reply in
+    places_in-append (call_sight call.step reply ++ again_sight reply) (entries_of calls)
+    ∙ ap (λ (ps : List ℕ). ps ++ places_in (entries_of calls)) (places_in-append (call_sight call.step reply) (again_sight reply) ∙ ap (λ (ps : List ℕ). places_in (call_sight call.step reply) ++ ps) (again_sight-places reply) ∙ append-nil (places_in (call_sight call.step reply)) ∙ call_sight-places call.step reply)
+    ∙ ap (λ (ps : List ℕ). own_after reply [] ++ ps) (entries-places calls)
+
+-- The two laws
+
+pub gains-places : (a b : EvdevView) (calls : List Call) (old new : List Sight) → AreCalls a b calls → Tells calls old new → GainsPlaces a b old new
+gains-places a b calls old new are t = record {
+  gained = t.gained;
+  sight = t.sight;
+  own =
+      calls-own a b calls are
+      ∙ ap (λ (ps : List ℕ). a.own ++ ps) (sym (left_out-places t.kept calls t.part) ∙ sym (entries-places t.kept) ∙ ap (λ (es : List Sight). places_in es) t.entries ∙ places_in-entries t.gained);
+}
+
+pub stays-legal : (d : Description) (a b : EvdevView) (calls : List Call) (old new : List Sight) → a.description ≡ d → AreCalls a b calls → Tells calls old new → IsLegalSight d a.seen old → IsLegalSight d b.seen new
+stays-legal d a b calls old new same are t l = record {
+  calls = l.calls ++ t.kept;
+  legal = legal-less d b.seen 0 (l.calls ++ t.kept) (l.calls ++ calls) (leaves_out-append l.calls t.kept l.calls calls (all_kept l.calls) t.part) (runs-on d a b l.calls calls same l.legal are);
+  entries =
+      entries_of-append l.calls t.kept
+      ∙ ap (λ (es : List Sight). es ++ entries_of t.kept) l.entries
+      ∙ ap (λ (es : List Sight). filter is_call_entry old ++ es) t.entries
+      ∙ sym (filter-append is_call_entry old t.gained)
+      ∙ ap (λ (es : List Sight). filter is_call_entry es) (sym t.sight);
+}
+  where
+    all_kept : (cs : List Call) → LeavesOut cs cs
+    all_kept [] = refl
+    all_kept (c ∷ cs) = inl (cs, refl, all_kept cs)
+
+-- of a line
+pub line-tells : (a b : EvdevView) (actor : ActorView) (r : RecordView) (wait : Option Waiting) (number : ℕ) (new : Job) → (does : DoesLine a b actor r wait number new) → Tells does.holds.calls actor.job.sight new.sight
+line-tells a b actor r wait number new does = line-told actor.role actor.description r.streams wait does.rounds does.line.command actor.job new does.holds.calls does.holds.talk_ends
+
+-- of the end of a source
+pub end-tells : (a b : EvdevView) (old new : Job) → (h : Holds a b (end_talk old.stop old) (Some new)) → Tells h.calls old.sight new.sight
+end-tells a b old new h = end-told old.stop old new h.calls h.talk_ends

@@ -1,0 +1,114 @@
+-- The lines of a record: what a record keeps of them, and what an actor does at one that it stops before, or not.
+use Rattle.std.proofs.Common.{◌≡◌, ℕ, zero, suc, ◌+◌, ◌<◌, ◌≤◌, true, false, List, [], ◌∷◌, ◌++◌, length, refl, sym, ap, subst, ◌∙◌, arith, Option, Some, None}
+use Rattle.std.specs.Prelude.{is_some}
+use Rattle.std.specs.List.{slice_get, range_with_len}
+use Rattle.inp_model.specs.declared.stamped.Stamped.{Stamped}
+use Rattle.inp_model.specs.declared.step.Step.TheVariants.{End}
+use Rattle.inp_model.specs.declared.reply.Reply.{Reply}
+use Rattle.inp_model.specs.Evdev.{EvdevView}
+use Rattle.inp_actors.specs.declared.actor_text.ActorText.{ActorText}
+use Rattle.inp_actors.specs.declared.command.Command.{Command}
+use Rattle.inp_actors.specs.declared.command.Command.TheVariants.{Stream}
+use Rattle.inp_actors.specs.declared.line.Line.{Line}
+use Rattle.inp_actors.specs.declared.role.Role.{Role}
+use Rattle.inp_actors.specs.Command.{is_command_of}
+use Rattle.inp_actors.specs.Record.{RecordView, IsRecord, stream_of, streams_of}
+use Rattle.inp_reader.specs.Reading.{Reading}
+use Rattle.inp_reader.specs.Talk.{Talk, finish}
+use Rattle.inp_script.specs.declared.notes.Notes.{Notes}
+use Rattle.inp_script.specs.declared.stop.Stop.{Stop}
+use Rattle.inp_script.specs.declared.waiting.Waiting.{Waiting}
+use Rattle.inp_script.specs.Doing.{Holds, DoesCommand, DoesLine, IsCommandFor, HasStream, command_talk, unless_stopped, line_talk}
+use Rattle.inp_script.specs.Job.{Job, ActorView}
+use Rattle.inp_script.specs.Line.{stream_at, end_talk, call_talk}
+use Rattle.inp_script.specs.Noting.{job_of, IsNoted}
+use Rattle.inp_script.proofs.Holding.{holds-nothing, holds-same}
+use Rattle.inp_script.proofs.Streams.{holds-noted}
+
+-- Each stream that a line names is there
+
+abbrev AllBelow : ℕ → List ℕ → Type 0
+AllBelow n [] = Unit {0}
+AllBelow n (i ∷ is) = (i < n) × AllBelow n is
+
+below-range : (n first count : ℕ) → first + count ≤ n → AllBelow n (range_with_len first count)
+below-range n first zero h = tt
+below-range n first (suc count) h = (omega (arith, h), below-range n (first + 1) count (omega (arith, h)))
+
+below-left : (n : ℕ) (is js : List ℕ) → AllBelow n (is ++ js) → AllBelow n is
+below-left n [] js h = tt
+below-left n (i ∷ is) js h = (h.0, below-left n is js h.1)
+
+below-right : (n : ℕ) (is js : List ℕ) → AllBelow n (is ++ js) → AllBelow n js
+below-right n [] js h = h
+below-right n (i ∷ is) js h = below-right n is js h.1
+
+below-line : (n : ℕ) (lines : List Line) (number : ℕ) (line : Line) → AllBelow n (streams_of lines) → slice_get lines number ≡ Some line → AllBelow n (stream_of line.command)
+below-line n [] number line h is = absurd cc
+below-line n (first ∷ lines) zero line h is =
+    let same : first ≡ line = cc in
+    subst (λ (l : Line). AllBelow n (stream_of l.command)) same (below-left n (stream_of first.command) (streams_of lines) h)
+below-line n (first ∷ lines) (suc number) line h is = below-line n lines number line (below-right n (stream_of first.command) (streams_of lines) h) is
+
+slice_get-stream_at : (streams : List (List Stamped)) (index : ℕ) → index < length streams → slice_get streams index ≡ Some (stream_at streams index)
+slice_get-stream_at [] index h = absurd (omega arith)
+slice_get-stream_at (stream ∷ streams) zero h = refl
+slice_get-stream_at (stream ∷ streams) (suc index) h = slice_get-stream_at streams index (omega (arith, h))
+
+has_stream : (r : RecordView) (command : Command) → IsRecord r → AllBelow (length r.streams) (stream_of command) → HasStream r.streams command
+has_stream r (Stream file index) is below = (below.0, is.in_time index (stream_at r.streams index) (slice_get-stream_at r.streams index below.0))
+has_stream r _ is below = tt
+
+pub is_command_for : (r : RecordView) (number : ℕ) (line : Line) (text : ActorText) (role : Role) → IsRecord r → slice_get r.lines number ≡ Some line → slice_get r.actors line.actor ≡ Some text → text.role ≡ role → IsCommandFor role r.streams line.command
+is_command_for r number line text role is has_line has_text same = record {
+  of_role = ap (λ (x : Role). is_command_of x line.command) (sym same) ∙ is.commands number line text has_line has_text;
+  in_range = is.ranges number line has_line;
+  has_stream =
+      let all : AllBelow (length r.streams) (streams_of r.lines) = subst (λ (is : List ℕ). AllBelow (length r.streams) is) (sym is.numbered) (below-range (length r.streams) 0 (length r.streams) (omega arith)) in
+      has_stream r line.command is (below-line (length r.streams) r.lines number line all has_line);
+}
+
+-- What an actor does at a line
+
+stopped_talk : (stop : Option Stop) (j : Job) (talk : Talk (Option Job)) → is_some stop ≡ true → unless_stopped stop j talk ≡ finish (Some j)
+stopped_talk None j talk h = absurd cc
+stopped_talk (Some stop) j talk h = refl
+
+going_talk : (stop : Option Stop) (j : Job) (talk : Talk (Option Job)) → is_some stop ≡ false → unless_stopped stop j talk ≡ talk
+going_talk None j talk h = refl
+going_talk (Some stop) j talk h = absurd cc
+
+pub does-nothing : (told : EvdevView) (a : ActorView) (r : RecordView) (wait : Option Waiting) (number : ℕ) (line : Line) → slice_get r.lines number ≡ Some line → is_some a.job.stop ≡ true → DoesLine told told a r wait number a.job
+unfolding line_talk
+does-nothing told a r wait number line is h = record {
+  line = line;
+  is_line = is;
+  rounds = 0;
+  holds = holds-nothing told (line_talk a.role a.description r.streams wait 0 line.command a.job) (Some a.job) (stopped_talk a.job.stop a.job (command_talk a.role a.description r.streams wait 0 line.command a.job) h);
+}
+
+pub does-line : (before after : EvdevView) (a : ActorView) (r : RecordView) (wait : Option Waiting) (number : ℕ) (line : Line) (new : Job) → slice_get r.lines number ≡ Some line → is_some a.job.stop ≡ false → DoesCommand before after a.role a.description r.streams wait line.command a.job new → DoesLine before after a r wait number new
+unfolding line_talk
+does-line before after a r wait number line new is h does = record {
+  line = line;
+  is_line = is;
+  rounds = does.rounds;
+  holds = holds-same before after (command_talk a.role a.description r.streams wait does.rounds line.command a.job) (line_talk a.role a.description r.streams wait does.rounds line.command a.job) (Some new)
+      (sym (going_talk a.job.stop a.job (command_talk a.role a.description r.streams wait does.rounds line.command a.job) h)) does.holds;
+}
+
+-- The end of a source
+
+end_stopped : (stop : Option Stop) (j : Job) → is_some stop ≡ true → end_talk stop j ≡ finish (Some j)
+end_stopped None j h = absurd cc
+end_stopped (Some stop) j h = refl
+
+end_going : (stop : Option Stop) (j : Job) → is_some stop ≡ false → end_talk stop j ≡ call_talk j End
+end_going None j h = refl
+end_going (Some stop) j h = absurd cc
+
+pub ends-nothing : (told : EvdevView) (j : Job) → is_some j.stop ≡ true → Holds told told (end_talk j.stop j) (Some j)
+ends-nothing told j h = holds-nothing told (end_talk j.stop j) (Some j) (end_stopped j.stop j h)
+
+pub ends-noted : (before after : EvdevView) (r : Reading) (reply : Reply) (old new : Notes) → is_some old.stop ≡ false → IsNoted before after End reply old new → Holds before after (end_talk old.stop (job_of r old)) (Some (job_of r new))
+ends-noted before after r reply old new h n = holds-same before after (call_talk (job_of r old) End) (end_talk old.stop (job_of r old)) (Some (job_of r new)) (sym (end_going old.stop (job_of r old) h)) (holds-noted before after End reply old new r n)

@@ -1,0 +1,95 @@
+-- What the calls of a reader add to a sight.
+use Rattle.std.proofs.Common.{◌≡◌, List, [], ◌∷◌, ◌++◌, map, refl, sym, ap, subst, ◌∙◌, append_assoc, append-nil, Bool, true, false, if◌then◌else◌, Option, Some, None, ℕ}
+use Rattle.std.proofs.lemmas.List.{map-append}
+use Rattle.inp_model.specs.declared.step.Step.{Step}
+use Rattle.inp_model.specs.declared.reply.Reply.{Reply}
+use Rattle.inp_model.specs.Description.{Description}
+use Rattle.inp_model.specs.Evdev.{EvdevView, is_again}
+use Rattle.inp_model.specs.Run.{Call}
+use Rattle.inp_reader.specs.declared.call_made.CallMade.{CallMade}
+use Rattle.inp_reader.specs.declared.next.Next.{Next}
+use Rattle.inp_reader.specs.declared.started.Started.{Started}
+use Rattle.inp_reader.specs.Reading.{Reading, start_talk, next_talk}
+use Rattle.inp_reader.specs.Says.{Says, kept_of, made_of}
+use Rattle.inp_reader.specs.Talk.{Talk, finish, ask, LeadsTo, EndsWith}
+use Rattle.inp_script.specs.declared.notes.Notes.{Notes}
+use Rattle.inp_script.specs.declared.sight.Sight.{Sight}
+use Rattle.inp_script.specs.declared.sight.Sight.TheVariants.{Call as Called}
+use Rattle.inp_script.specs.declared.waiting.Waiting.{Waiting}
+use Rattle.inp_script.specs.Client.{Going, Turn, start_job, start_ends, after_start, unless_start_lacks, next_round, after_next, mode_of}
+use Rattle.inp_script.specs.Doing.{Holds}
+use Rattle.inp_script.specs.Job.{Job}
+use Rattle.inp_script.specs.Noting.{job_of}
+use Rattle.inp_script.specs.Sight.{call_sight, made_sight, noted, stop_after_start, start_lacks_memory}
+use Rattle.inp_script.proofs.Holding.{holds-nothing, holds-then}
+
+-- the entries of a call that is kept, and of one that is not
+map-kept : (x : Step) (reply : Reply) → map made_sight (kept_of x reply) ≡ call_sight x reply
+map-kept x reply = by_flag (is_again reply)
+  where
+    by_flag : (b : Bool) → map made_sight (if b then [] else record { step = x; reply = reply } ∷ []) ≡ (if b then [] else Called x reply ∷ [])
+    by_flag true = refl
+    by_flag false = refl
+
+sight-more : (sight : List Sight) (x : Step) (reply : Reply) (calls : List Call) → (sight ++ call_sight x reply) ++ map made_sight (made_of calls) ≡ sight ++ map made_sight (kept_of x reply ++ made_of calls)
+sight-more sight x reply calls =
+    append_assoc sight (call_sight x reply) (map made_sight (made_of calls))
+    ∙ ap (λ (entries : List Sight). sight ++ (entries ++ map made_sight (made_of calls))) (sym (map-kept x reply))
+    ∙ ap (λ (entries : List Sight). sight ++ entries) (sym (map-append made_sight (kept_of x reply) (made_of calls)))
+
+-- a talk that is noted ends with what its calls add
+pub noted-ends : {A : Type 0} (talk : Talk A) (sight : List Sight) (calls : List Call) (a : A) → EndsWith talk calls a → EndsWith (noted talk sight) calls (a, sight ++ map made_sight (made_of calls))
+unfolding LeadsTo
+noted-ends {A = A} (finish b) sight [] a h = let same : b ≡ a = cc in ap (λ (x : A). finish (x, sight)) same ∙ ap (λ (entries : List Sight). finish (a, entries)) (sym (append-nil sight))
+noted-ends (finish b) sight (call ∷ calls) a h = elim h [ ]
+noted-ends (ask x rest) sight [] a h = absurd cc
+noted-ends {A = A} (ask x rest) sight (call ∷ calls) a h =
+    let reply : Reply = call.answer.reply in
+    let talk : Talk (A × List Sight) = noted (rest call.answer) (sight ++ call_sight x reply) in
+    let more : EndsWith talk calls (a, (sight ++ call_sight x reply) ++ map made_sight (made_of calls)) = noted-ends (rest call.answer) (sight ++ call_sight x reply) calls a h.1 in
+    let same : (sight ++ call_sight x reply) ++ map made_sight (made_of calls) ≡ sight ++ map made_sight (kept_of call.step reply ++ made_of calls) =
+    sight-more sight x reply calls ∙ ap (λ (s : Step). sight ++ map made_sight (kept_of s reply ++ made_of calls)) (sym h.0) in
+    (h.0, subst (λ (entries : List Sight). EndsWith talk calls (a, entries)) same more)
+
+-- a reader's calls, noted
+pub holds-reader : {A : Type 0} (before after : EvdevView) (made : List CallMade) (talk : Talk A) (sight : List Sight) (a : A) → Says before after [] made talk a → Holds before after (noted talk sight) (a, sight ++ map made_sight made)
+holds-reader {A = A} before after made talk sight a s = record {
+  calls = s.calls;
+  talk_ends = subst (λ (ms : List CallMade). EndsWith (noted talk sight) s.calls (a, sight ++ map made_sight ms)) (sym s.kept) (noted-ends talk sight s.calls a s.talk_ends);
+  are_calls = s.are_calls;
+}
+
+memory_was_there : (started : Started) (j : Job) → start_lacks_memory started ≡ false → unless_start_lacks started j ≡ Some j
+memory_was_there started j h = ap (λ (b : Bool). if b then None else Some j) h
+
+-- a start
+pub start-noted : (before after : EvdevView) (d : Description) (r s : Reading) (old : Notes) (made : List CallMade) (sight : List Sight) (started : Started) → Says before after [] made (start_talk d r) (started, s) → start_lacks_memory started ≡ false
+    → sight ≡ old.sight ++ map made_sight made → Holds before after (start_job d (job_of r old)) (Some (job_of s (record { sight = sight; stop = stop_after_start started })))
+unfolding start_job
+start-noted before after d r s old made sight started says memory noted_is =
+    let entries : List Sight = old.sight ++ map made_sight made in
+    let o : (Started × Reading) × List Sight = ((started, s), entries) in
+    holds-then before after after (noted (start_talk d r) old.sight) (λ (p : (Started × Reading) × List Sight). finish (start_ends p)) o (Some (job_of s (record { sight = sight; stop = stop_after_start started })))
+    (holds-reader before after made (start_talk d r) old.sight (started, s) says)
+    (holds-nothing after (finish (start_ends o)) (Some (job_of s (record { sight = sight; stop = stop_after_start started })))
+    (ap (λ (j : Option Job). finish j) (memory_was_there started (after_start started s entries) memory)
+    ∙ ap (λ (es : List Sight). finish (Some (after_start started s es))) (sym noted_is)))
+
+-- one round
+pub round-noted : (before after : EvdevView) (d : Description) (wait : Option Waiting) (skips : Bool) (r s : Reading) (old mid : Notes) (made : List CallMade) (left : Option ℕ) (agains : ℕ) (next : Next) (turn : Turn)
+    → Says before after [] made (next_talk d (mode_of skips r.phase) r) (next, s) → mid ≡ record old { sight = old.sight ++ map made_sight made }
+    → after_next wait (record { job = job_of r mid; left = left; agains = agains }) ((next, s), mid.sight) ≡ turn
+    → Holds before after (next_round d wait skips (record { job = job_of r old; left = left; agains = agains })) turn
+unfolding next_round
+round-noted before after d wait skips r s old mid made left agains next turn says noted_is is =
+    let g : Going = record { job = job_of r old; left = left; agains = agains } in
+    let o : (Next × Reading) × List Sight = ((next, s), old.sight ++ map made_sight made) in
+    let stays : mid.stop ≡ old.stop = ap (λ (n : Notes). n.stop) noted_is in
+    let seen : mid.sight ≡ old.sight ++ map made_sight made = ap (λ (n : Notes). n.sight) noted_is in
+    let same : after_next wait g o ≡ turn =
+    ap (λ (es : List Sight). after_next wait g ((next, s), es)) (sym seen)
+    ∙ ap (λ (n : Notes). after_next wait (record { job = record { reading = r; sight = n.sight; stop = n.stop }; left = left; agains = agains }) ((next, s), mid.sight)) (let e : record { sight = old.sight; stop = old.stop } ≡ record { sight = old.sight; stop = mid.stop } = ap (λ (x : _). record { sight = old.sight; stop = x }) (sym stays) in e)
+    ∙ is in
+    holds-then before after after (noted (next_talk d (mode_of skips r.phase) r) old.sight) (λ (p : (Next × Reading) × List Sight). finish (after_next wait g p)) o turn
+    (holds-reader before after made (next_talk d (mode_of skips r.phase) r) old.sight (next, s) says)
+    (holds-nothing after (finish (after_next wait g o)) turn (ap (λ (t : Turn). finish t) same))

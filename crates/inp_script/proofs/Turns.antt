@@ -1,0 +1,71 @@
+-- A line that hands out events, round by round: each round that goes on leaves less to do.
+use Rattle.std.proofs.Common.{◌≡◌, ℕ, suc, ◌+◌, ◌<◌, ◌≤◌, Bool, true, false, if◌then◌else◌, nat_le, nat_lt, Option, Some, None, refl, sym, ap, arith}
+use Rattle.std.proofs.lemmas.Bool.Decides.{nat_tests}
+use Rattle.std.proofs.Math.Nat.{mul-le-mul_right}
+use Rattle.inp_reader.specs.declared.next.Next.{Next}
+use Rattle.inp_reader.specs.declared.next.Next.TheVariants.{Success, Dropped, Sync, Again, Synced, NoDevice, Closed, Full}
+use Rattle.inp_script.specs.declared.client.Progress.{Progress}
+use Rattle.inp_script.specs.declared.client.Turn.{Turn as KeptTurn}
+use Rattle.inp_script.specs.declared.client.Turn.TheVariants.{GoesOn, Ends}
+use Rattle.inp_script.specs.declared.sight.Sight.TheVariants.{Took, Made, Again as Nothing}
+use Rattle.inp_script.specs.declared.stop.Stop.TheVariants.{Idle}
+use Rattle.inp_script.specs.declared.waiting.Waiting.{Waiting}
+use Rattle.inp_script.specs.Client.{Going, goes_on, ends_with, handed, one_less, is_done, patience, after_again, turn_after, with_sight, with_stop}
+use Rattle.inp_script.specs.Effort.{IsLess, idle_of, total_effort, Shrinks}
+use Rattle.inp_script.specs.Going.{going, turn_of}
+use Rattle.inp_script.specs.Job.{Job}
+
+total-less : (wait : Option Waiting) (after before agains : ℕ) → after < before → total_effort wait after 0 < total_effort wait before agains
+total-less wait after before agains h =
+    let n : ℕ = idle_of wait in
+    omega (arith, mul-le-mul_right (suc n) (let one_more : after + 1 ≤ before = omega arith in one_more))
+
+total-again : (wait : Option Waiting) (after before agains : ℕ) → after ≤ before → suc agains < idle_of wait → total_effort wait after (suc agains) < total_effort wait before agains
+total-again wait after before agains h k = omega (arith, mul-le-mul_right (suc (idle_of wait)) h)
+
+same_agains : (g h : Going) → goes_on g ≡ goes_on h → h.agains ≡ g.agains
+same_agains g h e = let same : g ≡ h = cc in ap (λ (x : Going). x.agains) (sym same)
+
+-- a line that goes on after an event was handed out counts answers Again anew
+handed-anew : (left : Option ℕ) (j k : Job) (progress : Progress) → handed left j ≡ goes_on (going progress k) → progress.agains ≡ 0
+handed-anew left j k progress h = by_flag (is_done left) h
+  where
+    by_flag : (b : Bool) → (if b then ends_with j else goes_on (record { job = j; left = left; agains = 0 })) ≡ goes_on (going progress k) → progress.agains ≡ 0
+    by_flag true e = absurd cc
+    by_flag false e = same_agains (record { job = j; left = left; agains = 0 }) (going progress k) e
+
+-- one that goes on after an answer Again may wait once more
+again-waits : (patient : Option ℕ) (wait : Option Waiting) (left : Option ℕ) (agains at ends : ℕ) (j k : Job) (progress : Progress) → ((n : ℕ) → patient ≡ Some n → n ≡ idle_of wait) → after_again patient left agains at ends j ≡ goes_on (going progress k) → (progress.agains ≡ agains) × (agains < idle_of wait)
+again-waits None wait left agains at ends j k progress idle h = absurd cc
+again-waits (Some n) wait left agains at ends j k progress idle h = by_flag (with_stop (with_sight j (Nothing at ends)) (Idle n at)) (nat_le n agains) refl h
+  where
+    by_flag : (stopped : Job) (b : Bool) → nat_le n agains ≡ b → (if b then ends_with stopped else goes_on (record { job = j; left = left; agains = agains })) ≡ goes_on (going progress k) → (progress.agains ≡ agains) × (agains < idle_of wait)
+    by_flag stopped true e is = absurd cc
+    by_flag stopped false e is = (same_agains (record { job = j; left = left; agains = agains }) (going progress k) is, (let same = idle n refl in grind (arith, nat_tests)))
+
+patience-idle : (wait : Option Waiting) (ends n : ℕ) → patience wait ends ≡ Some n → n ≡ idle_of wait
+patience-idle None ends n h = absurd cc
+patience-idle (Some waiting) ends n h = by_flag (nat_lt ends waiting.sources) h
+  where
+    by_flag : (b : Bool) → (if b then Some waiting.idle else None) ≡ Some n → n ≡ waiting.idle
+    by_flag true e = cc
+    by_flag false e = absurd cc
+
+less_anew : (wait : Option Waiting) (after before agains : ℕ) (progress : Progress) → after < before → progress.agains ≡ 0 → total_effort wait after progress.agains < total_effort wait before agains
+less_anew wait after before agains progress h e = omega (arith, total-less wait after before agains h, ap (λ (n : ℕ). total_effort wait after n) e)
+
+goes_on-less : (wait : Option Waiting) (left : Option ℕ) (agains : ℕ) (next : Next) (j k : Job) (progress : Progress) (after before : ℕ) → turn_after wait left agains next j ≡ goes_on (going progress k) → IsLess next after before → total_effort wait after progress.agains < total_effort wait before agains
+goes_on-less wait left agains (Success taken) j k progress after before h less = less_anew wait after before agains progress less (handed-anew (one_less left) (with_sight j (Took taken)) k progress h)
+goes_on-less wait left agains (Dropped taken) j k progress after before h less = less_anew wait after before agains progress less (handed-anew (one_less left) (with_sight j (Took taken)) k progress h)
+goes_on-less wait left agains (Sync event) j k progress after before h less = less_anew wait after before agains progress less (handed-anew (one_less left) (with_sight j (Made event)) k progress h)
+goes_on-less wait left agains Synced j k progress after before h less = less_anew wait after before agains progress less (same_agains (record { job = j; left = left; agains = 0 }) (going progress k) h)
+goes_on-less wait left agains (Again at ends) j k progress after before h less =
+    let w = again-waits (patience wait ends) wait left (suc agains) at ends j k progress (patience-idle wait ends) h in
+    omega (arith, total-again wait after before agains less w.1, ap (λ (n : ℕ). total_effort wait after n) w.0)
+goes_on-less wait left agains NoDevice j k progress after before h less = absurd cc
+goes_on-less wait left agains Closed j k progress after before h less = absurd cc
+goes_on-less wait left agains (Full at) j k progress after before h less = absurd cc
+
+pub turn-shrinks : (wait : Option Waiting) (left : Option ℕ) (agains : ℕ) (next : Next) (j k : Job) (turn : KeptTurn) (after before : ℕ) → turn_after wait left agains next j ≡ turn_of turn k → IsLess next after before → Shrinks wait (total_effort wait before agains) after turn
+turn-shrinks wait left agains next j k Ends after before h less = tt
+turn-shrinks wait left agains next j k (GoesOn progress) after before h less = goes_on-less wait left agains next j k progress after before h less

@@ -1,0 +1,18 @@
+use Rattle.std.proofs.Common.{◌≡◌, ◌<◌, ◌*◌, ◌^◌, length}
+use Rattle.inp_script.specs.Effort.{effort, total_effort}
+use Rattle.inp_script.specs.Going.{going}
+use Rattle.inp_script.specs.Noting.{job_of}
+use Rattle.inp_script.proofs.Rounds.{Passed}
+use Rattle.inp_script.proofs.client.hand_out.Given as goal
+
+abbrev pub invariant-loop-next : goal.invariant-loop-next
+invariant-loop-next g l = record {
+  passed : Passed (g.E.Evdev.told l.initial.dev) (g.E.Evdev.told l.dev) l.initial.reader.description l.wait l.skips (going l.initial.progress (job_of l.initial.reader.reading l.initial.notes)) (going l.progress (job_of l.reader.reading l.notes));
+  patient : l.progress.agains < 2 ^ 32;
+  sized : length l.reader.reading.view.cells ≡ 14 * l.reader.description.slots;
+  reader : l.reader.description ≡ l.initial.reader.description;
+  device : (g.E.Evdev.told l.dev).description ≡ (g.E.Evdev.told l.initial.dev).description;
+}
+
+abbrev pub decreases-loop-next : goal.decreases-loop-next
+decreases-loop-next g l = total_effort l.wait (effort (g.E.Evdev.told l.dev) l.reader.reading) l.progress.agains

@@ -1,0 +1,34 @@
+-- Each example computes.
+use Rattle.std.proofs.Common.{refl}
+use Rattle.inp_model.proofs.Computing.{computing}
+use Rattle.inp_reader.proofs.Computing.{computing_reader}
+use Rattle.inp_script.proofs.Computing.{computing_jobs}
+use Rattle.inp_script.proofs.examples.examples_of_jobs.Goals as goal
+
+pub returns-clause-tap : goal.returns-clause-tap
+unfolding computing computing_reader computing_jobs
+returns-clause-tap c = (refl, refl, refl, refl)
+
+pub returns-clause-follow : goal.returns-clause-follow
+unfolding computing computing_reader computing_jobs
+returns-clause-follow c = (refl, refl, refl)
+
+pub returns-clause-made : goal.returns-clause-made
+unfolding computing computing_reader computing_jobs
+returns-clause-made c = refl
+
+pub returns-clause-skip : goal.returns-clause-skip
+unfolding computing computing_reader computing_jobs
+returns-clause-skip c = refl
+
+pub returns-clause-full : goal.returns-clause-full
+unfolding computing computing_reader computing_jobs
+returns-clause-full c = (refl, refl, refl, refl)
+
+pub returns-clause-refused : goal.returns-clause-refused
+unfolding computing computing_reader computing_jobs
+returns-clause-refused c = (refl, refl)
+
+pub returns-clause-idle : goal.returns-clause-idle
+unfolding computing computing_reader computing_jobs
+returns-clause-idle c = (refl, refl)

@@ -1,0 +1,133 @@
+-- Short records, worked out by hand: what two actors of one device see on a one-thread device, and how they stop.
+use Rattle.std.specs.Prelude.{ℕ, ◌≡◌, ◌+◌, pos, true, List, [], ◌∷◌, ◌++◌, replicate, reverse, Option, Some, None}
+use Rattle.inp_model.specs.declared.event.TheConstants.{EV_SYN, EV_KEY, SYN_REPORT, KEY_A}
+use Rattle.inp_model.specs.declared.step.Step.{Step}
+use Rattle.inp_model.specs.declared.step.Step.TheVariants.{Inject, Open as ToOpen, Read as ToRead, Discard as ToDiscard, GetKeys, GetAxis}
+use Rattle.inp_model.specs.declared.reply.Reply.TheVariants.{Done, Opened, Took as Taken, Discarded, Bits, Axis, Refused}
+use Rattle.inp_model.specs.declared.reply.Refusal.TheVariants.{LogFull, BadClient}
+use Rattle.inp_model.specs.Description.{Description, one_key, no_info}
+use Rattle.inp_model.specs.Event.{syn_dropped}
+use Rattle.inp_model.specs.Examples.{key, report, at}
+use Rattle.inp_actors.specs.declared.command.Command.{Command}
+use Rattle.inp_actors.specs.declared.command.Command.TheVariants.{Event, Open, Read, Next as ToNext, Skip, Follow, Force}
+use Rattle.inp_actors.specs.declared.role.Role.{Role}
+use Rattle.inp_actors.specs.declared.role.Role.TheVariants.{Source, Client, Tap}
+use Rattle.inp_reader.specs.Examples.{played, slider, slides, axis}
+use Rattle.inp_script.specs.declared.sight.Sight.{Sight}
+use Rattle.inp_script.specs.declared.sight.Sight.TheVariants.{Call, Took, Made, Again}
+use Rattle.inp_script.specs.declared.stop.Stop.TheVariants.{Idle, Full}
+use Rattle.inp_script.specs.declared.waiting.Waiting.{Waiting}
+use Rattle.inp_script.specs.Doing.{line_talk}
+use Rattle.inp_script.specs.Job.{Job, first_job}
+
+-- a device, and the jobs of a source and of another actor
+pub record Stage : Type 0 where
+  pub past : List Step
+  pub source : Job
+  pub other : Job
+
+-- what one of the two actors does
+pub data Act : Type 0 where
+  by_source : Command → Act
+  by_other : Command → Act
+
+abbrev pub job_or : Job → Option Job → Job
+job_or before None = before
+job_or before (Some j) = j
+
+-- a command is done in at most so many rounds
+abbrev pub after_act : Description → Role → Option Waiting → ℕ → Stage → Act → Stage
+after_act d role wait n s (by_source command) =
+    let p = played d s.past [] (line_talk Source d [] wait n command s.source) in
+    record s { past = p.past; source = job_or s.source p.result }
+after_act d role wait n s (by_other command) =
+    let p = played d s.past [] (line_talk role d [] wait n command s.other) in
+    record s { past = p.past; other = job_or s.other p.result }
+
+abbrev pub after_acts : Description → Role → Option Waiting → ℕ → Stage → List Act → Stage
+after_acts d role wait n s [] = s
+after_acts d role wait n s (act ∷ acts) = after_acts d role wait n (after_act d role wait n s act) acts
+
+abbrev pub first_stage : Description → Stage
+first_stage d = record { past = []; source = first_job d; other = first_job d }
+
+-- after these acts, on one thread
+abbrev pub after_all : Description → Role → List Act → Stage
+after_all d role acts = after_acts d role None 16 (first_stage d) acts
+
+abbrev pub press : ℕ → ℕ → Act
+press now value = by_source (Event now EV_KEY KEY_A (pos value))
+
+abbrev pub end_frame : ℕ → Act
+end_frame now = by_source (Event now EV_SYN SYN_REPORT (pos 0))
+
+-- what a source sees of the steps of a frame, each accepted
+abbrev pub stroke_sight : ℕ → ℕ → ℕ → List Sight
+stroke_sight place now value = Call (Inject (key (pos value)) now) (Done place) ∷ Call (Inject report now) (Done (place + 1)) ∷ []
+
+-- a tap reads a frame
+abbrev pub frame_read : List Act
+frame_read = by_other Open ∷ press 1000 1 ∷ end_frame 1000 ∷ by_other (Read 16) ∷ []
+
+abbrev pub tap_sight : List Sight
+tap_sight =
+    Call ToOpen (Opened 0 0 128) ∷ Call (ToRead 0 16) (Taken 3 2) ∷ Took (at 2 1000 (key (pos 1))) ∷ Took (at 2 1000 report) ∷ []
+
+abbrev pub ReadsByHand : Type 0
+ReadsByHand =
+    let s = after_all one_key Tap frame_read in
+    (s.source.sight ≡ stroke_sight 1 1000 1) × (s.other.sight ≡ tap_sight) × (s.source.stop ≡ None) × (s.other.stop ≡ None)
+
+-- a client opens and follows what comes
+abbrev pub FollowsToTheEnd : Type 0
+FollowsToTheEnd =
+    let s = after_all one_key Client (by_other Open ∷ press 1000 1 ∷ end_frame 1000 ∷ press 2000 0 ∷ end_frame 2000 ∷ by_other Follow ∷ []) in
+    (s.other.sight
+    ≡ Call ToOpen (Opened 0 0 128) ∷ Call (GetKeys 0) (Bits 1 (replicate 12 0)) ∷ Call (ToRead 0 64) (Taken 6 4)
+    ∷ Took (at 3 1000 (key (pos 1))) ∷ Took (at 3 1000 report) ∷ Took (at 5 2000 (key (pos 0))) ∷ Took (at 5 2000 report)
+    ∷ Again 7 0 ∷ [])
+    × (s.source.sight ≡ stroke_sight 2 1000 1 ++ stroke_sight 4 2000 0) × (s.other.stop ≡ None)
+
+-- a client that opened and then lost all events but the last report
+abbrev pub losing : Stage
+losing = let s = after_all slider Client (by_other Open ∷ []) in record s { past = reverse (slides 33 true) ++ s.past }
+
+-- what it sees of the calls until it has synchronised
+abbrev pub loss_sight : List Sight
+loss_sight =
+    Call ToOpen (Opened 0 0 64) ∷ Call (GetAxis 0 0) (Axis 1 (record no_info { value = pos 5; maximum = pos 100 }))
+    ∷ Call (ToRead 0 64) (Taken 68 4) ∷ Took (at 65 0 syn_dropped) ∷ Call (ToDiscard 0) (Discarded 69 0)
+    ∷ Call (GetAxis 0 0) (Axis 70 (record no_info { value = pos 6; maximum = pos 100 })) ∷ []
+
+-- it is handed the events that its reader makes, and goes on after them in the same line
+abbrev pub HandsOutWhatIsMade : Type 0
+HandsOutWhatIsMade =
+    (after_acts slider Client None 16 losing (by_other (ToNext 10) ∷ [])).other.sight
+    ≡ loss_sight ++ Made (axis 0 (pos 6)) ∷ Made report ∷ Again 71 0 ∷ []
+
+-- or it skips them
+abbrev pub SkipsWhatIsMade : Type 0
+SkipsWhatIsMade = (after_acts slider Client None 16 losing (by_other (Skip 10) ∷ [])).other.sight ≡ loss_sight ++ Again 71 0 ∷ []
+
+-- a history of four steps is full at the fifth; its source stops there and does nothing more
+abbrev pub StopsAtTheLimit : Type 0
+StopsAtTheLimit =
+    let s = after_all (record one_key { log_limit = 4 }) Tap (frame_read ++ press 2000 0 ∷ end_frame 2000 ∷ []) in
+    (s.source.sight ≡ stroke_sight 1 1000 1 ++ Call (Inject (key (pos 0)) 2000) (Refused 4 LogFull) ∷ [])
+    × (s.source.stop ≡ Some (Full 4)) × (s.other.sight ≡ tap_sight) × (s.other.stop ≡ None)
+
+-- any other refusal ends its line alone, and is seen; for no event there is no call
+abbrev pub GoesOnAfterRefusals : Type 0
+GoesOnAfterRefusals =
+    let s = after_all one_key Client (by_other (ToNext 0) ∷ by_other (Skip 0) ∷ by_other (ToNext 1) ∷ by_other Force ∷ by_other (ToNext 1) ∷ by_other Open ∷ []) in
+    (s.other.sight
+    ≡ Call (ToRead 4294967295 64) (Refused 0 BadClient) ∷ Call (ToDiscard 4294967295) (Refused 0 BadClient)
+    ∷ Call ToOpen (Opened 0 0 128) ∷ Call (GetKeys 0) (Bits 1 (replicate 12 0)) ∷ [])
+    × (s.other.stop ≡ None)
+
+-- A client waits for a source that is not done, as often as it may. It sees the last answer alone.
+abbrev pub StopsWhereNothingComes : Type 0
+StopsWhereNothingComes =
+    let s = after_acts one_key Client (Some (record { idle = 5; sources = 1 })) 16 (first_stage one_key) (by_other Open ∷ by_other Follow ∷ by_other Follow ∷ []) in
+    (s.other.sight ≡ Call ToOpen (Opened 0 0 128) ∷ Call (GetKeys 0) (Bits 1 (replicate 12 0)) ∷ Again 2 0 ∷ [])
+    × (s.other.stop ≡ Some (Idle 5 2))

@@ -1,0 +1,93 @@
+-- What a sight says that the device is: the fold of the answers and the events that it tells of, over the history of the
+-- device, which holds what a synchronisation of slots wrote (docs/RULES.md, "What a sight tells of the device").
+use Rattle.std.specs.Prelude.{◌≡◌, if◌then◌else◌, List, [], ◌∷◌}
+use Rattle.inp_model.specs.declared.taken.Taken.{Taken}
+use Rattle.inp_model.specs.declared.step.Step.{Step}
+use Rattle.inp_model.specs.declared.step.Step.TheVariants.{Open, Discard}
+use Rattle.inp_model.specs.declared.reply.Reply.{Reply}
+use Rattle.inp_model.specs.declared.reply.Reply.TheVariants.{Opened}
+use Rattle.inp_model.specs.Description.{Description}
+use Rattle.inp_model.specs.Evdev.{EvdevView, BeginsWith}
+use Rattle.inp_model.specs.Past.{past_at}
+use Rattle.inp_model.specs.Reply.{answer, is_accepted}
+use Rattle.inp_model.specs.Run.{place_of}
+use Rattle.inp_actors.specs.declared.role.Role.{Role}
+use Rattle.inp_actors.specs.declared.role.Role.TheVariants.{Source, Client, Tap}
+use Rattle.inp_recon.specs.declared.view.View.{View}
+use Rattle.inp_recon.specs.View.{first_view, view_after_answer, view_after_event}
+use Rattle.inp_reader.specs.Reading.{queries}
+use Rattle.inp_script.specs.declared.sight.Sight.{Sight}
+use Rattle.inp_script.specs.declared.sight.Sight.TheVariants.{Call, Took, Made, Again}
+use Rattle.inp_script.specs.Job.{Job}
+
+-- a view after an answer, with the cells that the one-thread device wrote at its place
+abbrev pub view_told : Description → List Step → View → Step → Reply → View
+view_told d history view x reply = view_after_answer view x reply (answer d (past_at history (place_of reply)) x).cells
+
+-- Taps: each answer and each event counts
+
+abbrev pub view_after_entry : Description → List Step → View → Sight → View
+view_after_entry d history view (Call x reply) = view_told d history view x reply
+view_after_entry d history view (Took taken) = view_after_event view taken.event
+view_after_entry d history view (Made event) = view
+view_after_entry d history view (Again at ends) = view
+
+unfoldable pub tap_fold : Description → List Step → View → List Sight → View
+tap_fold d history view [] = view
+tap_fold d history view (entry ∷ sight) = tap_fold d history (view_after_entry d history view entry) sight
+
+-- Clients: the answers to the queries of a start or a synchronisation count once all of them were accepted
+
+pub data Folding : Type 0 where
+  -- the device is this
+  settled : View → Folding
+  -- It was the first view, and is the second one with the answers to the queries that are left, if all are accepted.
+  asking : View → View → List Step → Folding
+
+-- where no query is left the new view counts
+abbrev pub asked_on : View → View → List Step → Folding
+asked_on old new [] = settled new
+asked_on old new (x ∷ xs) = asking old new (x ∷ xs)
+
+abbrev pub after_open_entry : Description → View → Reply → Folding
+after_open_entry d view (Opened at client ring) = asked_on view view (queries d client)
+after_open_entry d view _ = settled view
+
+-- an open that was accepted begins to ask for the whole state, and so does a discard
+abbrev pub after_first_call : Description → View → Step → Reply → Folding
+after_first_call d view Open reply = after_open_entry d view reply
+after_first_call d view (Discard client) reply = if is_accepted reply then asked_on view view (queries d client) else settled view
+after_first_call d view _ reply = settled view
+
+-- a query that was refused ends the asking
+abbrev pub after_query : Description → List Step → View → View → List Step → Step → Reply → Folding
+after_query d history old new [] x reply = settled new
+after_query d history old new (y ∷ ys) x reply = if is_accepted reply then asked_on old (view_told d history new x reply) ys else settled old
+
+abbrev pub after_client_call : Description → List Step → Folding → Step → Reply → Folding
+after_client_call d history (settled view) x reply = after_first_call d view x reply
+after_client_call d history (asking old new xs) x reply = after_query d history old new xs x reply
+
+abbrev pub after_client_event : Folding → Taken → Folding
+after_client_event (settled view) taken = settled (view_after_event view taken.event)
+after_client_event (asking old new xs) taken = asking old new xs
+
+abbrev pub after_client_entry : Description → List Step → Folding → Sight → Folding
+after_client_entry d history f (Call x reply) = after_client_call d history f x reply
+after_client_entry d history f (Took taken) = after_client_event f taken
+after_client_entry d history f (Made event) = f
+after_client_entry d history f (Again at ends) = f
+
+unfoldable pub client_fold : Description → List Step → Folding → List Sight → Folding
+client_fold d history f [] = f
+client_fold d history f (entry ∷ sight) = client_fold d history (after_client_entry d history f entry) sight
+
+-- The view of a job is the fold of its whole sight, from the view that has seen nothing.
+abbrev pub IsFolded : Role → Description → List Step → Job → Type 0
+IsFolded Source d history j = j.reading.view ≡ first_view d
+IsFolded Tap d history j = tap_fold d history (first_view d) j.sight ≡ j.reading.view
+IsFolded Client d history j = client_fold d history (settled (first_view d)) j.sight ≡ settled j.reading.view
+
+-- it is so of each history that begins with what was seen, where it was before
+abbrev pub StaysFolded : Role → Description → EvdevView → Job → Job → Type 0
+StaysFolded role d after old new = (history : List Step) → BeginsWith after.seen history → IsFolded role d history old → IsFolded role d history new

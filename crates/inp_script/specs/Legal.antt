@@ -1,0 +1,46 @@
+-- How what a job saw stands to the history of its device (docs/RULES.md, "What a job sees").
+use Rattle.std.specs.Prelude.{◌≡◌, ℕ, Bool, true, false, List, [], ◌∷◌, ◌++◌, filter}
+use Rattle.inp_model.specs.declared.step.Step.{Step}
+use Rattle.inp_model.specs.Description.{Description}
+use Rattle.inp_model.specs.Evdev.{EvdevView, own_after}
+use Rattle.inp_model.specs.Run.{Call, IsLegalRun}
+use Rattle.inp_script.specs.declared.sight.Sight.{Sight}
+use Rattle.inp_script.specs.declared.sight.Sight.TheVariants.{Call as Called, Took, Made, Again}
+use Rattle.inp_script.specs.Sight.{call_sight, again_sight}
+
+-- the entries of calls, and of answers Again
+abbrev pub entries_of : List Call → List Sight
+entries_of [] = []
+entries_of (call ∷ calls) = (call_sight call.step call.answer.reply ++ again_sight call.answer.reply) ++ entries_of calls
+
+-- an entry of a call, or of an answer Again, and not of an event
+abbrev pub is_call_entry : Sight → Bool
+is_call_entry (Called x reply) = true
+is_call_entry (Took taken) = false
+is_call_entry (Made event) = false
+is_call_entry (Again at ends) = true
+
+-- The calls that a sight tells of are a legal run of what was seen of the history.
+pub record IsLegalSight (d : Description) (seen : List Step) (sight : List Sight) : Type 0 where
+  pub calls : List Call
+  pub legal : IsLegalRun d seen calls
+  pub entries : entries_of calls ≡ filter is_call_entry sight
+
+-- the places of the accepted calls that a sight tells of, in order
+abbrev pub places_in : List Sight → List ℕ
+places_in [] = []
+places_in (Called x reply ∷ sight) = own_after reply [] ++ places_in sight
+places_in (Took taken ∷ sight) = places_in sight
+places_in (Made event ∷ sight) = places_in sight
+places_in (Again at ends ∷ sight) = places_in sight
+
+-- A sight grew, and the evdev gained as its own the places of the accepted calls that the sight gained, in order.
+pub record GainsPlaces (before after : EvdevView) (old new : List Sight) : Type 0 where
+  pub gained : List Sight
+  pub sight : new ≡ old ++ gained
+  pub own : after.own ≡ before.own ++ places_in gained
+
+-- Where the calls of a sight were a legal run of what was seen before, those of the new one are a legal run of what is
+-- seen now.
+abbrev pub StaysLegal : Description → EvdevView → EvdevView → List Sight → List Sight → Type 0
+StaysLegal d before after old new = IsLegalSight d before.seen old → IsLegalSight d after.seen new

@@ -1,0 +1,15 @@
+pub mod Sight
+pub mod Job
+pub mod Kept
+pub mod Line
+pub mod Client
+pub mod Doing
+pub mod Noting
+pub mod Legal
+pub mod Fold
+pub mod Tap
+pub mod Going
+pub mod Effort
+pub mod RoleState
+pub mod Actor
+pub mod Examples

@@ -1,0 +1,28 @@
+-- What an actor keeps by its role.
+use Rattle.std.specs.Prelude.{◌≡◌, ◌*◌, [], length}
+use Rattle.inp_model.specs.Description.{Description}
+use Rattle.inp_actors.specs.declared.role.Role.{Role}
+use Rattle.inp_actors.specs.declared.role.Role.TheVariants.{Source as SourceRole, Client as ClientRole, Tap as TapRole}
+use Rattle.inp_reader.specs.declared.phase.Phase.TheVariants.{Plain}
+use Rattle.inp_reader.specs.declared.reader.TheConstants.{NO_CLIENT}
+use Rattle.inp_reader.specs.Reading.{Reading}
+use Rattle.inp_script.specs.declared.role_state.RoleState.{RoleState}
+use Rattle.inp_script.specs.declared.role_state.RoleState.TheVariants.{Source, Tap, Client}
+use Rattle.inp_script.specs.Tap.{tap_reading, IsSizedTap}
+
+abbrev pub role_of : RoleState → Role
+role_of (Source view) = SourceRole
+role_of (Tap tap) = TapRole
+role_of (Client reader view) = ClientRole
+
+abbrev pub reading_of : RoleState → Reading
+reading_of (Source view) = record { client = NO_CLIENT; queue = []; view = view; phase = Plain; left = [] }
+reading_of (Tap tap) = tap_reading tap
+reading_of (Client reader view) = reader.reading
+
+-- views and buffers have as many cells as the device, and a reader is one for it
+abbrev pub IsSized : Description → RoleState → Type 0
+IsSized d (Source view) = length view.cells ≡ 14 * d.slots
+IsSized d (Tap tap) = IsSizedTap d tap
+IsSized d (Client reader view) =
+    (reader.description ≡ d) × (length reader.reading.view.cells ≡ 14 * d.slots) × (length view.cells ≡ 14 * d.slots)

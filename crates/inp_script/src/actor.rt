@@ -1,0 +1,178 @@
+//! An actor of a record at work.
+ghost use Rattle.inp_model.specs.declared.step.Step.{Step as AStep};
+ghost use Rattle.std.specs.Prelude.{◌≡◌, ◌<◌, ◌*◌, List, length, OnOk, IfOk, IfSome, Some};
+ghost use Rattle.inp_actors.specs.declared.role.Role.TheVariants.{Source};
+ghost use Rattle.inp_script.specs.Doing.{DoesLine, Holds, HasActor, IsLineOf, IsOfRole, IsWaiting};
+ghost use Rattle.inp_script.specs.Legal.{GainsPlaces, StaysLegal};
+ghost use Rattle.inp_script.specs.Fold.{IsFolded, StaysFolded};
+ghost use Rattle.inp_script.specs.Job.{first_job, job_end};
+ghost use Rattle.inp_script.specs.Line.{end_talk};
+
+use crate::notes::Notes;
+use crate::role_state::RoleState;
+use crate::stops::last_stop;
+use crate::{JobEnd, Sights, Waiting};
+use inp_actors::Record;
+use inp_caps::Caps;
+use inp_model::{Evdev, NoMemory, Step};
+use std::alloc::Global;
+use std::marker::Model;
+
+/// An actor of a record at work: it does its lines one by one over whatever evdev it is lent, and keeps what it saw.
+///
+/// A contract sees its number, its role, its device's description and its job: the reader or the client that it reads
+/// as, what it saw, and why it stopped, if it did. After a call answered `NoMemory` the actor is given up: no contract
+/// says what it saw in that call.
+#[derive(Drop)]
+pub struct Actor {
+    actor: u32,
+    caps: Caps,
+    notes: Notes,
+    state: RoleState,
+}
+
+impl Model for Actor {
+    ghost use Rattle.inp_script.specs.Legal.{GainsPlaces, StaysLegal};
+    ghost use Rattle.inp_script.specs.Job.{ActorView};
+
+    ghost Value = { ActorView };
+
+    ghost use Rattle.inp_script.specs.Actor.{actor_view, IsActor};
+
+    ghost view = { actor_view };
+
+    ghost invariant = { IsActor };
+}
+
+impl Actor {
+    /// The actor of this number of the record, which has seen nothing.
+    ///
+    /// It takes all memory that its calls need, but for what it will see. `NoMemory` comes where there is none.
+    pub fn new(alloc: Global, rec: &Record, actor: u32) -> Result<Actor, NoMemory>
+        requires actor { actor < length rec.now.actors }
+        ensures number { IfOk result (λ new. new.actor ≡ actor) }
+        ensures actor { IfOk result (HasActor rec.now) }
+        ensures job { IfOk result (λ new. new.job ≡ first_job new.description) }
+        ensures view { IfOk result (λ new. (history : List AStep) →
+            IsFolded new.role new.description history new.job) }
+    {
+        let text = rec.actors().get(actor as usize);
+        let caps = &rec.devices().get(text.device as usize).caps;
+        let state = RoleState::new(alloc, caps, text.role)?;
+        let notes = Notes {
+            sight: Sights::new(alloc),
+            stop: None,
+        };
+        Ok(Actor {
+            actor,
+            caps: caps.copy(),
+            notes,
+            state,
+        })
+    }
+
+    /// Does the line of this number, or nothing where the actor has stopped.
+    ///
+    /// Where a [`Waiting`] is given, a `follow` goes on while nothing is visible, until all sources of the device are done,
+    /// or until so many reads in a row found nothing that the actor stops with `Stop::Idle`. No other line waits.
+    ///
+    /// `NoMemory` comes where there is none for what the actor saw, and where an `open` was refused for want of memory.
+    pub fn line<E: Evdev>(
+        &mut self,
+        dev: &mut E,
+        rec: &Record,
+        line: u32,
+        wait: Option<Waiting>,
+    ) -> Result<(), NoMemory>
+        requires actor { HasActor rec.now self.old }
+        requires line { IsLineOf rec.now line self.old.actor }
+        requires device { (E.told dev.old).description ≡ self.old.description }
+        requires wait { IfSome wait (IsWaiting rec.now self.old) }
+        ensures done { OnOk result (DoesLine (E.told dev.old) (E.told dev.new)
+            self.old rec.now wait line self.new.job) }
+        ensures places { OnOk result (GainsPlaces (E.told dev.old) (E.told dev.new)
+            self.old.job.sight self.new.job.sight) }
+        ensures legal { OnOk result (StaysLegal self.old.description
+            (E.told dev.old) (E.told dev.new) self.old.job.sight self.new.job.sight) }
+        ensures view { OnOk result (StaysFolded self.old.role self.old.description
+            (E.told dev.new) self.old.job self.new.job) }
+        ensures actor { self.new ≡ record self.old { job = self.new.job } }
+        ensures device { (E.told dev.new).description ≡ (E.told dev.old).description }
+    {
+        self.do_line(dev, rec, line, wait)
+    }
+
+    // Does the line of this number.
+    fn do_line<E: Evdev>(
+        &mut self,
+        dev: &mut E,
+        rec: &Record,
+        line: u32,
+        wait: Option<Waiting>,
+    ) -> Result<(), NoMemory>
+        requires actor { HasActor rec.now self.old }
+        requires line { IsLineOf rec.now line self.old.actor }
+        requires device { (E.told dev.old).description ≡ self.old.description }
+        ensures done { OnOk result (DoesLine (E.told dev.old) (E.told dev.new)
+            self.old rec.now wait line self.new.job) }
+        ensures of_role { IsOfRole rec.now line self.old.role }
+        ensures actor { self.new ≡ record self.old { job = self.new.job } }
+        ensures device { (E.told dev.new).description ≡ (E.told dev.old).description }
+    {
+        let command = &rec.lines().get(line as usize).command;
+        if self.notes.stop.is_some() {
+            return Ok(());
+        }
+        self.state
+            .do_command(dev, &mut self.notes, &self.caps, rec, command, wait)
+    }
+
+    /// Makes the step `End`, by which a source says that it is done, or does nothing where the actor has stopped.
+    ///
+    /// `NoMemory` comes where there is none for what the actor saw.
+    pub fn end<E: Evdev>(&mut self, dev: &mut E) -> Result<(), NoMemory>
+        requires source { self.old.role ≡ Source }
+        requires device { (E.told dev.old).description ≡ self.old.description }
+        ensures done { OnOk result (Holds (E.told dev.old) (E.told dev.new)
+            (end_talk self.old.job.stop self.old.job) (Some self.new.job)) }
+        ensures places { OnOk result (GainsPlaces (E.told dev.old) (E.told dev.new)
+            self.old.job.sight self.new.job.sight) }
+        ensures legal { OnOk result (StaysLegal self.old.description
+            (E.told dev.old) (E.told dev.new) self.old.job.sight self.new.job.sight) }
+        ensures view { OnOk result (StaysFolded self.old.role self.old.description
+            (E.told dev.new) self.old.job self.new.job) }
+        ensures actor { self.new ≡ record self.old { job = self.new.job } }
+        ensures device { (E.told dev.new).description ≡ (E.told dev.old).description }
+    {
+        self.do_end(dev)
+    }
+
+    // Makes the step `End`.
+    fn do_end<E: Evdev>(&mut self, dev: &mut E) -> Result<(), NoMemory>
+        ensures done { OnOk result (Holds (E.told dev.old) (E.told dev.new)
+            (end_talk self.old.job.stop self.old.job) (Some self.new.job)) }
+        ensures actor { self.new ≡ record self.old { job = self.new.job } }
+        ensures device { (E.told dev.new).description ≡ (E.told dev.old).description }
+    {
+        if self.notes.stop.is_some() {
+            return Ok(());
+        }
+        self.notes.call(dev, Step::End)?;
+        Ok(())
+    }
+
+    /// What came of the job. An actor that did not stop has finished. It takes no memory.
+    pub fn finish(self) -> JobEnd
+        ensures job { result ≡ job_end self }
+        ensures cells { length result.view.cells ≡ 14 * self.description.slots }
+    {
+        let Actor {
+            actor,
+            caps,
+            notes,
+            state,
+        } = self;
+        let Notes { sight, stop } = notes;
+        JobEnd::new(actor, sight, state.into_view(&caps), last_stop(stop))
+    }
+}

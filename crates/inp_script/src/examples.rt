@@ -1,0 +1,14 @@
+//! What the definitions compute on short records.
+ghost use Rattle.inp_script.specs.Examples.{ReadsByHand, FollowsToTheEnd, HandsOutWhatIsMade, SkipsWhatIsMade, StopsAtTheLimit, GoesOnAfterRefusals, StopsWhereNothingComes};
+
+/// What the definitions of this crate compute on short records that were worked out by hand. It does nothing: its
+/// contract is the point.
+pub fn examples_of_jobs()
+    ensures tap { ReadsByHand }
+    ensures follow { FollowsToTheEnd }
+    ensures made { HandsOutWhatIsMade }
+    ensures skip { SkipsWhatIsMade }
+    ensures full { StopsAtTheLimit }
+    ensures refused { GoesOnAfterRefusals }
+    ensures idle { StopsWhereNothingComes }
+{}

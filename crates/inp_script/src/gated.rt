@@ -1,0 +1,55 @@
+//! An evdev behind a gate.
+ghost use Rattle.std.specs.Prelude.{◌≡◌, ◌≤◌, ◌+◌, ◌-◌, ◌^◌, min};
+ghost use Rattle.inp_model.specs.declared.stamped.TheConstants.{MOMENT_MAX};
+ghost use Rattle.inp_model.specs.Step.{moment_of};
+ghost use Rattle.inp_model.specs.Reply.{HasRoom};
+ghost use Rattle.inp_model.specs.Evdev.{IsEvdevCall};
+
+use inp_edge::Gate;
+use inp_model::{Evdev, Reply, Step, Taken};
+
+/// An evdev that passes a gate before each call. To a contract it is the evdev behind the gate.
+#[derive(Drop)]
+pub struct Gated<'a, E, G> {
+    /// The evdev that makes the calls.
+    pub inner: E,
+    /// The gate.
+    pub gate: &'a G,
+    /// The number of the job that calls, which the gate is told.
+    pub job: u32,
+    /// How many calls were made, which the gate is told. The count stays at the greatest `u32`.
+    pub calls: u32,
+}
+
+impl<'a, E, G> Gated<'a, E, G> {
+    /// The evdev of a job behind the gate, before its first call. It takes no memory.
+    pub fn new(inner: E, gate: &'a G, job: u32) -> Gated<'a, E, G>
+        ensures inner { result.inner ≡ inner }
+        ensures job { result.job ≡ job }
+        ensures calls { result.calls ≡ 0 }
+    {
+        Gated {
+            inner,
+            gate,
+            job,
+            calls: 0,
+        }
+    }
+}
+
+impl<'a, E: Evdev, G: Gate> Evdev for Gated<'a, E, G> {
+    ghost told = { λ gated. E.told gated.inner };
+
+    fn call(&mut self, step: Step, out: &mut [Taken], cells: &mut [i32]) -> Reply
+        requires moment { moment_of step ≤ MOMENT_MAX }
+        requires room { HasRoom (E.told self.old.inner).description step out.old cells.old }
+        ensures called { IsEvdevCall (E.told self.old.inner) (E.told self.new.inner)
+            step result out.old out.new cells.old cells.new }
+        ensures calls { self.new.calls ≡ min (self.old.calls + 1) (2 ^ 32 - 1) }
+        ensures job { self.new.job ≡ self.old.job }
+    {
+        self.gate.before(self.job, self.calls);
+        self.calls = self.calls.saturating_add(1);
+        self.inner.call(step, out, cells)
+    }
+}

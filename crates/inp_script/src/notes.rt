@@ -1,0 +1,98 @@
+//! What a job saw, and why it stopped.
+ghost use Rattle.std.specs.Prelude.{◌≡◌, ◌≤◌, [], ◌∷◌, ◌++◌, map, OnOk, IfOk};
+ghost use Rattle.inp_model.specs.declared.stamped.TheConstants.{MOMENT_MAX};
+ghost use Rattle.inp_model.specs.Step.{moment_of};
+ghost use Rattle.inp_model.specs.Reply.{HasRoom};
+ghost use Rattle.inp_script.specs.Noting.{IsNoted};
+ghost use Rattle.inp_script.specs.Sight.{taken_sight, made_sight, sight_of_call, stop_after};
+
+use crate::stops::stop_after;
+use crate::{Sight, Sights, Stop};
+use inp_model::{Evdev, NoMemory, Reply, Step, Taken};
+use inp_reader::CallMade;
+
+/// What a job saw, and why it stopped, if it did.
+#[derive(Drop)]
+pub(crate) struct Notes {
+    pub(crate) sight: Sights,
+    pub(crate) stop: Option<Stop>,
+}
+
+impl Notes {
+    // Adds the events that a call read.
+    fn push_taken(&mut self, events: &[Taken]) -> Result<(), NoMemory>
+        ensures { OnOk result
+            (self.new ≡ record self.old { sight = self.old.sight ++ map taken_sight events.now }) }
+    {
+        for event in events {
+            self.sight.push(Sight::Took { event: *event })?;
+        }
+        Ok(())
+    }
+
+    // Adds the calls that a reader made.
+    pub(crate) fn push_made(&mut self, made: &[CallMade]) -> Result<(), NoMemory>
+        ensures { OnOk result
+            (self.new ≡ record self.old { sight = self.old.sight ++ map made_sight made.now }) }
+    {
+        for call in made {
+            self.sight.push(Sight::Call {
+                step: call.step,
+                reply: call.reply,
+            })?;
+        }
+        Ok(())
+    }
+
+    // Adds one entry.
+    pub(crate) fn push(&mut self, sight: Sight) -> Result<(), NoMemory>
+        ensures { OnOk result
+            (self.new ≡ record self.old { sight = self.old.sight ++ sight ∷ [] }) }
+    {
+        self.sight.push(sight)
+    }
+
+    // Adds a call and the events that it read, or that nothing was visible.
+    fn push_call(&mut self, step: Step, reply: Reply, events: &[Taken]) -> Result<(), NoMemory>
+        ensures { OnOk result (self.new ≡ record self.old {
+          sight = self.old.sight ++ sight_of_call step reply events.now;
+        }) }
+    {
+        match reply {
+            Reply::Again { at, ends } => self.push(Sight::Again { at, ends })?,
+            _ => self.push(Sight::Call { step, reply })?,
+        }
+        self.push_taken(events)
+    }
+
+    // Adds what a call adds, and stops the job where it was refused for the limit.
+    pub(crate) fn note(
+        &mut self,
+        step: Step,
+        reply: Reply,
+        events: &[Taken],
+    ) -> Result<(), NoMemory>
+        ensures { OnOk result (self.new ≡ record {
+          sight = self.old.sight ++ sight_of_call step reply events.now;
+          stop = stop_after reply;
+        }) }
+    {
+        self.push_call(step, reply, events)?;
+        self.stop = stop_after(reply);
+        Ok(())
+    }
+
+    // Makes a step that writes to no buffer, and notes it.
+    pub(crate) fn call<E: Evdev>(&mut self, dev: &mut E, step: Step) -> Result<Reply, NoMemory>
+        requires moment { moment_of step ≤ MOMENT_MAX }
+        requires room { HasRoom (E.told dev.old).description step [] [] }
+        ensures noted { IfOk result
+            (λ reply. IsNoted (E.told dev.old) (E.told dev.new) step reply self.old self.new) }
+        ensures device { (E.told dev.new).description ≡ (E.told dev.old).description }
+    {
+        let mut nothing: [Taken; 0] = [];
+        let reply = dev.call(step, &mut nothing, &mut []);
+        self.note(step, reply, &[])?;
+        Ok(reply)
+    }
+}

@@ -1,0 +1,59 @@
+//! What a source does.
+ghost use Rattle.std.specs.Prelude.{◌≡◌, OnOk, Some};
+ghost use Rattle.inp_actors.specs.declared.role.Role.TheVariants.{Source};
+ghost use Rattle.inp_actors.specs.Record.{AreInTime};
+ghost use Rattle.inp_reader.specs.Reading.{Reading};
+ghost use Rattle.inp_script.specs.Doing.{Holds, IsCommandFor};
+ghost use Rattle.inp_script.specs.Line.{stream_talk, source_talk, call_talk};
+ghost use Rattle.inp_script.specs.Noting.{job_of};
+
+use crate::notes::Notes;
+use crate::steps::step_of;
+use inp_actors::{Command, Record, Stamps};
+use inp_model::{Evdev, NoMemory, Step};
+use inp_reader::NO_CLIENT;
+
+// Injects the events of a stream, each at its own moment, up to the first that is refused.
+fn inject_stream<E: Evdev>(dev: &mut E, notes: &mut Notes, stream: &Stamps) -> Result<(), NoMemory>
+    requires in_time { AreInTime stream.now }
+    ensures done { OnOk result ((r : Reading) → Holds (E.told dev.old) (E.told dev.new)
+        (stream_talk stream.now (job_of r notes.old)) (Some (job_of r notes.new))) }
+    ensures device { (E.told dev.new).description ≡ (E.told dev.old).description }
+{
+    for stamped in stream.as_slice() {
+        let reply = notes.call(
+            dev,
+            Step::Inject {
+                event: stamped.event,
+                now: stamped.now,
+            },
+        )?;
+        if !reply.is_accepted() {
+            return Ok(());
+        }
+    }
+    Ok(())
+}
+
+// Does a command of a source.
+pub(crate) fn do_source_command<E: Evdev>(
+    dev: &mut E,
+    notes: &mut Notes,
+    rec: &Record,
+    command: &Command,
+) -> Result<(), NoMemory>
+    requires command { IsCommandFor Source rec.now.streams command.now }
+    ensures done { OnOk result ((r : Reading) → Holds (E.told dev.old) (E.told dev.new)
+        (source_talk rec.now.streams command.now (job_of r notes.old))
+        (Some (job_of r notes.new))) }
+    ensures device { (E.told dev.new).description ≡ (E.told dev.old).description }
+{
+    if let Command::Stream { index, .. } = command {
+        return inject_stream(dev, notes, rec.stream(*index as usize));
+    }
+    let Some(step) = step_of(NO_CLIENT, command) else {
+        return Ok(());
+    };
+    notes.call(dev, step)?;
+    Ok(())
+}

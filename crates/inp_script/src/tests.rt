@@ -1,0 +1,182 @@
+//! Actors over an evdev of a device whose history is full.
+ghost use Rattle.std.specs.Prelude.{◌≡◌, ◌<◌, ℕ, length, IfOk, slice_get, Some};
+ghost use Rattle.inp_actors.specs.declared.device_text.DeviceText.{DeviceText};
+ghost use Rattle.inp_model.specs.Description.{one_key};
+ghost use Rattle.inp_actors.specs.Name.{IsName};
+
+use super::*;
+use inp_actors::{
+    ActorText, Actors, Command, DeviceText, Devices, Line, Lines, Name, Record, Role, Streams,
+};
+use inp_caps::{Caps, CapsBuilder};
+use inp_edge::OpenGate;
+use inp_model::{EV_KEY, Evdev, KEY_A, NoMemory, Refusal, Reply, Step, Taken};
+use std::alloc::Global;
+use std::test::Fail;
+
+/// A keyboard whose history has the one step that it may have, and no client. So each step is refused.
+#[derive(Drop)]
+struct FullDevice;
+
+impl Evdev for FullDevice {
+    ghost use Rattle.std.specs.Prelude.{[], ◌∷◌, None};
+    ghost use Rattle.inp_model.specs.declared.step.Step.TheVariants.{End};
+    ghost use Rattle.inp_model.specs.Description.{one_key};
+
+    ghost told = { λ device. record {
+      description = record one_key { log_limit = 1 };
+      seen = End ∷ [];
+      own = [];
+      agains = 0;
+      turns = None;
+      tie = None;
+    } };
+
+    fn call(&mut self, step: Step, _out: &mut [Taken], _cells: &mut [i32]) -> Reply {
+        let why = match step.client() {
+            Some(_) => Refusal::BadClient,
+            None => Refusal::LogFull,
+        };
+        Reply::Refused { at: 1, why }
+    }
+}
+
+/// The keyboard.
+fn keyboard() -> Caps
+    ensures { result ≡ record one_key { log_limit = 1 } }
+{
+    let mut builder = CapsBuilder::new();
+    builder.code(EV_KEY, KEY_A).unwrap();
+    builder.log(1).unwrap();
+    builder.build()
+}
+
+fn actor(name: &[u8], role: Role) -> ActorText
+    requires { IsName name.now }
+    ensures role { result.role ≡ role }
+    ensures device { result.device ≡ 0 }
+{
+    ActorText {
+        name: Name::new(name),
+        role,
+        device: 0,
+    }
+}
+
+/// A source that presses a key twice, a client that opens, and a tap that reads and asks for keys.
+fn record(alloc: Global) -> Result<Record, NoMemory>
+    ensures actors { IfOk result (λ rec. length rec.actors ≡ 3) }
+    ensures full { IfOk result (λ rec. (i : ℕ) → (d : DeviceText) →
+        slice_get rec.devices i ≡ Some d → d.caps ≡ record one_key { log_limit = 1 }) }
+{
+    let mut devices = Devices::new(alloc);
+    devices.push(DeviceText {
+        name: Name::new(b"kbd"),
+        caps: keyboard(),
+    })?;
+    let mut actors = Actors::new(alloc);
+    actors.push(actor(b"s", Role::Source))?;
+    actors.push(actor(b"c", Role::Client))?;
+    actors.push(actor(b"t", Role::Tap))?;
+    let press = Command::Event {
+        moment: 0,
+        kind: EV_KEY,
+        code: KEY_A,
+        value: 1,
+    };
+    let again = Command::Event {
+        moment: 1,
+        kind: EV_KEY,
+        code: KEY_A,
+        value: 0,
+    };
+    let mut lines = Lines::new(alloc);
+    lines.push(Line {
+        actor: 0,
+        command: press,
+    })?;
+    lines.push(Line {
+        actor: 0,
+        command: again,
+    })?;
+    lines.push(Line {
+        actor: 1,
+        command: Command::Open,
+    })?;
+    lines.push(Line {
+        actor: 2,
+        command: Command::Read { count: 16 },
+    })?;
+    lines.push(Line {
+        actor: 2,
+        command: Command::Keys,
+    })?;
+    Ok(Record::new(devices, actors, lines, Streams::new(alloc)))
+}
+
+/// What comes of an actor that does its lines on a full device.
+fn end_of(alloc: Global, rec: &Record, number: u32) -> Result<JobEnd, NoMemory>
+    requires actor { number < length rec.now.actors }
+    requires full { (i : ℕ) → (d : DeviceText) →
+        slice_get rec.now.devices i ≡ Some d → d.caps ≡ record one_key { log_limit = 1 } }
+{
+    let gate = OpenGate;
+    let mut dev = Gated::new(FullDevice, &gate, number);
+    let mut actor = Actor::new(alloc, rec, number)?;
+    for line in 0..rec.lines().len() as u32 {
+        if rec.lines().get(line as usize).actor != number {
+            continue;
+        }
+        actor.line(&mut dev, rec, line, None)?;
+    }
+    Ok(actor.finish())
+}
+
+#[test]
+fn actors_see_refusals_and_stop_at_the_limit(rt: HostRuntime) -> Result<(), Fail> {
+    let rec = record(rt.alloc())?;
+    let source = end_of(rt.alloc(), &rec, 0)?;
+    let client = end_of(rt.alloc(), &rec, 1)?;
+    let tap = end_of(rt.alloc(), &rec, 2)?;
+    let full = Reply::Refused {
+        at: 1,
+        why: Refusal::LogFull,
+    };
+    let unknown = Reply::Refused {
+        at: 1,
+        why: Refusal::BadClient,
+    };
+    assert_eq!(rt; source.sight().len(), 1);
+    assert_eq!(rt; *source.stop(), Stop::Full { at: 1 });
+    assert_eq!(rt;
+        client.sight().as_slice(),
+        [Sight::Call {
+            step: Step::Open,
+            reply: full
+        }]
+        .as_slice()
+    );
+    assert_eq!(rt; *client.stop(), Stop::Full { at: 1 });
+    let read = Step::Read {
+        client: u32::MAX,
+        count: 16,
+    };
+    let keys = Step::GetKeys { client: u32::MAX };
+    assert_eq!(rt;
+        tap.sight().as_slice(),
+        [
+            Sight::Call {
+                step: read,
+                reply: unknown
+            },
+            Sight::Call {
+                step: keys,
+                reply: unknown
+            },
+        ]
+        .as_slice()
+    );
+    assert_eq!(rt; *tap.stop(), Stop::Finished);
+    assert_eq!(rt; tap.actor(), 2);
+    Ok(())
+}
