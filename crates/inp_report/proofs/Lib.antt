@@ -1,0 +1,4 @@
+pub mod Actors
+pub mod Computing
+pub mod Hexadecimals
+pub mod Written

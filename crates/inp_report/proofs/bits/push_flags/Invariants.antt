@@ -1,0 +1,13 @@
+use Rattle.std.proofs.Common.{◌≡◌, ◌++◌, ◌*◌, ◌<◌, string_bytes}
+use Rattle.std.specs.List.{All, flat_map}
+use Rattle.inp_bits.specs.Bits.{true_indices}
+use Rattle.inp_report.specs.Words.{spaced_code}
+use Rattle.inp_report.proofs.bits.push_flags.Given as goal
+
+-- the codes so far, and those that are left
+abbrev pub invariant-loop-code : goal.invariant-loop-code
+invariant-loop-code g l = record {
+  whole : l.yielded ++ l.code-iterator ≡ true_indices l.flags;
+  within : All (λ k. k < 64 * g.row.W) l.code-iterator;
+  written : string_bytes l.text ≡ string_bytes l.initial.text ++ flat_map (spaced_code l.kind) l.yielded;
+}

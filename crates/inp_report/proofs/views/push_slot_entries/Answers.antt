@@ -1,0 +1,12 @@
+use Rattle.std.proofs.Common.{arith}
+use Rattle.inp_report.specs.Views.{slot_entry, slot_text}
+use Rattle.inp_report.proofs.Written.{written_more, written_all}
+use Rattle.inp_report.proofs.views.push_slot_entries.Goals as goal
+
+pub loop-code-preserved : goal.loop-code-preserved
+loop-code-preserved c =
+    written_more (slot_entry c.args.caps.now c.args.cells.now c.args.slot) 48 _ _ _ c.loop-code.code (omega arith) c.loop-code.invariant c.in_ok-push_slot_entry.ensures.pushed
+
+pub returns : goal.returns
+unfolding slot_text
+returns c = record { pushed = written_all (slot_entry c.args.caps.now c.args.cells.now c.args.slot) 48 _ _ c.loop-code.code 14 (omega arith) c.loop-code.invariant }

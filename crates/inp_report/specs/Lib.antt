@@ -1,0 +1,9 @@
+pub mod Words
+pub mod Steps
+pub mod Replies
+pub mod Sights
+pub mod Views
+pub mod Report
+pub mod Summary
+pub mod Runs
+pub mod Examples

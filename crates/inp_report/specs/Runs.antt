@@ -1,0 +1,27 @@
+-- Which runs are those of a record.
+use Rattle.std.specs.Prelude.{◌≡◌, ℕ, Bool, false, nat_eq, List, length, map, filter, slice_get, Option, Some, None}
+use Rattle.std.specs.List.{range_with_len}
+use Rattle.inp_actors.specs.declared.actor_text.ActorText.{ActorText}
+use Rattle.inp_actors.specs.declared.device_text.DeviceText.{DeviceText}
+use Rattle.inp_actors.specs.Record.{RecordView}
+use Rattle.inp_recon.specs.View.{IsSizedFor}
+use Rattle.inp_script.specs.declared.run.Run.{Run}
+use Rattle.inp_script.specs.Job.{JobView}
+
+abbrev pub is_on_device : ℕ → Option ActorText → Bool
+is_on_device device None = false
+is_on_device device (Some actor) = nat_eq actor.device device
+
+-- the numbers of a device's actors, ascending
+abbrev pub actors_of : List ActorText → ℕ → List ℕ
+actors_of actors device = filter (λ i. is_on_device device (slice_get actors i)) (range_with_len 0 (length actors))
+
+-- What came of a device: one job for each of its actors, in order, whose view has the device's slots.
+pub record IsRunOf (actors : List ActorText) (number : ℕ) (device : DeviceText) (run : Run) : Type 0 where
+  pub jobs : map (λ (job : JobView). job.actor) run.jobs ≡ actors_of actors number
+  pub views : (i : ℕ) (job : JobView) → slice_get run.jobs i ≡ Some job → IsSizedFor device.caps.slots job.view
+
+-- What came of a record: one run for each device, in order.
+pub record AreRunsOf (r : RecordView) (runs : List Run) : Type 0 where
+  pub devices : length runs ≡ length r.devices
+  pub each : (i : ℕ) (device : DeviceText) (run : Run) → slice_get r.devices i ≡ Some device → slice_get runs i ≡ Some run → IsRunOf r.actors i device run

@@ -1,0 +1,184 @@
+//! The summary.
+ghost use Rattle.std.specs.Prelude.{◌≡◌, ◌<◌, ◌++◌, true, length, string_bytes, IfOk, OnOk, flat_map};
+ghost use Rattle.std.specs.List.{zip};
+ghost use Rattle.inp_model.specs.Description.{is_slot_code};
+ghost use Rattle.inp_report.specs.Views.{cell_of};
+ghost use Rattle.inp_report.specs.Summary.{told_slot, make_line, calls_line, counts_text, position_text, counts_line, brief_line, job_brief, run_brief, summary};
+ghost use Rattle.inp_report.specs.Runs.{AreRunsOf, IsRunOf};
+
+use crate::sights::{again_count, counted_calls, made_count, took_count};
+use crate::views::cell_at;
+use crate::whole::push_device;
+use crate::words::RoleText;
+use inp_actors::{ActorText, Actors, DeviceText, Name, Record, Role};
+use inp_model::{ABS_MT_POSITION_X, ABS_MT_POSITION_Y, NoMemory};
+use inp_recon::Cells;
+use inp_script::{JobEnd, Run, Runs, Sight};
+use std::alloc::Global;
+use std::fmt::Write;
+
+/// The slot whose position a summary tells: the last one of a generated device (this project's choice).
+const TOLD_SLOT: u32 = 9;
+
+/// The summary of a generated record and of what came of it: the two numbers that it was generated from, the devices in
+/// order, each with the number of its steps, and its actors with counts and with the position of slot 9.
+///
+/// It tells any record, and is meant for the generated one, whose device has ten slots: of a device that has no slot 9 the
+/// position is 0. `runs` must be those of this record, as for [`report`](crate::report). It takes time and memory in
+/// proportion to what was seen.
+///
+/// # Errors
+///
+/// `NoMemory` where there is none for the text.
+pub fn summary(
+    alloc: Global,
+    number: u32,
+    count: u32,
+    rec: &Record,
+    runs: &Runs,
+) -> Result<Vec<u8>, NoMemory>
+    requires runs { AreRunsOf rec.now runs.now }
+    ensures text { IfOk result (λ text. text.items ≡ summary number count rec.now runs.now) }
+{
+    let mut text = String::new(alloc);
+    push_summary(&mut text, number, count, rec, runs)?;
+    Ok(text.into_bytes())
+}
+
+#[tactic(auto, unfolding(crate::specs::Summary::summary))]
+fn push_summary(
+    text: &mut String,
+    number: u32,
+    count: u32,
+    rec: &Record,
+    runs: &Runs,
+) -> Result<(), NoMemory>
+    requires runs { AreRunsOf rec.now runs.now }
+    ensures pushed { OnOk result
+        (string_bytes text.new
+        ≡ string_bytes text.old ++ summary number count rec.now runs.now) }
+{
+    push_make(text, number, count)?;
+    push_briefs(text, rec, runs)
+}
+
+#[tactic(auto, unfolding(crate::specs::Summary::make_line))]
+fn push_make(text: &mut String, number: u32, count: u32) -> Result<(), NoMemory>
+    ensures pushed { OnOk result
+        (string_bytes text.new ≡ string_bytes text.old ++ make_line number count) }
+{
+    write!(text, "make {number} {count}\n")?;
+    Ok(())
+}
+
+fn push_briefs(text: &mut String, rec: &Record, runs: &Runs) -> Result<(), NoMemory>
+    requires runs { AreRunsOf rec.now runs.now }
+    ensures pushed { OnOk result
+        (string_bytes text.new
+        ≡ string_bytes text.old
+        ++ flat_map (run_brief rec.now.actors) (zip rec.now.devices runs.now)) }
+{
+    for (index, run) in runs.as_slice().iter().enumerate() {
+        let device = rec.devices().get(index);
+        push_run_brief(text, rec.actors(), index, device, run)?;
+    }
+    Ok(())
+}
+
+fn push_run_brief(
+    text: &mut String,
+    actors: &Actors,
+    index: usize,
+    device: &DeviceText,
+    run: &Run,
+) -> Result<(), NoMemory>
+    requires run { IsRunOf actors.now index device.now run.now }
+    ensures pushed { OnOk result
+        (string_bytes text.new
+        ≡ string_bytes text.old ++ run_brief actors.now (device.now, run.now)) }
+{
+    push_device(text, &device.name, run.history.len())?;
+    for job in run.jobs.as_slice() {
+        push_job_brief(text, actors, job)?;
+    }
+    Ok(())
+}
+
+fn push_job_brief(text: &mut String, actors: &Actors, job: &JobEnd) -> Result<(), NoMemory>
+    requires actor { job.now.actor < length actors.now }
+    ensures pushed { OnOk result
+        (string_bytes text.new ≡ string_bytes text.old ++ job_brief actors.now job.now) }
+{
+    push_brief(text, actors.get(job.actor() as usize), job)
+}
+
+fn push_brief(text: &mut String, actor: &ActorText, job: &JobEnd) -> Result<(), NoMemory>
+    ensures pushed { OnOk result
+        (string_bytes text.new
+        ≡ string_bytes text.old ++ brief_line actor.now.role actor.now.name job.now) }
+{
+    match actor.role {
+        Role::Source => push_calls(text, &actor.name, counted_calls(job.sight().as_slice())),
+        Role::Client => push_counts(text, Role::Client, &actor.name, job),
+        Role::Tap => push_counts(text, Role::Tap, &actor.name, job),
+    }
+}
+
+#[tactic(auto, unfolding(crate::specs::Summary::calls_line))]
+fn push_calls(text: &mut String, name: &Name, calls: usize) -> Result<(), NoMemory>
+    ensures pushed { OnOk result
+        (string_bytes text.new ≡ string_bytes text.old ++ calls_line name.now calls) }
+{
+    let name = name.as_str();
+    write!(text, "source {name} calls {calls}\n")?;
+    Ok(())
+}
+
+fn push_counts(text: &mut String, role: Role, name: &Name, job: &JobEnd) -> Result<(), NoMemory>
+    ensures pushed { OnOk result
+        (string_bytes text.new ≡ string_bytes text.old ++ counts_line role name.now job.now) }
+{
+    let role = RoleText(role);
+    let name = name.as_str();
+    write!(text, "{role} {name} ")?;
+    push_sight_counts(text, job.sight().as_slice())?;
+    text.push_str(" ")?;
+    push_position(text, &job.view().cells)?;
+    text.push_str("\n")?;
+    Ok(())
+}
+
+#[tactic(auto, unfolding(crate::specs::Summary::counts_text))]
+fn push_sight_counts(text: &mut String, sights: &[Sight]) -> Result<(), NoMemory>
+    ensures pushed { OnOk result
+        (string_bytes text.new ≡ string_bytes text.old ++ counts_text sights.now) }
+{
+    let took = took_count(sights);
+    let made = made_count(sights);
+    let again = again_count(sights);
+    write!(text, "took {took} made {made} again {again}")?;
+    Ok(())
+}
+
+#[tactic(auto, unfolding(crate::specs::Summary::position_text))]
+fn push_position(text: &mut String, cells: &Cells) -> Result<(), NoMemory>
+    ensures pushed { OnOk result
+        (string_bytes text.new ≡ string_bytes text.old ++ position_text cells.now) }
+{
+    let x = told_value(cells, ABS_MT_POSITION_X);
+    let y = told_value(cells, ABS_MT_POSITION_Y);
+    write!(text, "x {x} y {y}")?;
+    Ok(())
+}
+
+// The value of the slot that is told, 0 where there is no such slot.
+fn told_value(cells: &Cells, code: u16) -> i32
+    requires code { is_slot_code code ≡ true }
+    ensures value { result ≡ cell_of cells.now told_slot code }
+{
+    if cells.len() < 14 * TOLD_SLOT as usize + 14 {
+        0
+    } else {
+        cell_at(cells, TOLD_SLOT, code)
+    }
+}

@@ -1,0 +1,97 @@
+//! The part of one actor.
+ghost use Rattle.std.specs.Prelude.{◌≡◌, ◌<◌, ◌++◌, length, string_bytes, OnOk};
+ghost use Rattle.inp_recon.specs.View.{IsSizedFor};
+ghost use Rattle.inp_report.specs.Report.{source_line, actor_line, stop_line, reading_text, part_text, job_text};
+
+use crate::sights::{counted_calls, push_sights};
+use crate::views::push_view;
+use crate::words::{RoleText, StopText};
+use inp_actors::{ActorText, Actors, Name, Role};
+use inp_caps::Caps;
+use inp_model::NoMemory;
+use inp_script::{JobEnd, Stop};
+use std::fmt::Write;
+
+pub(crate) fn push_job(
+    text: &mut String,
+    actors: &Actors,
+    caps: &Caps,
+    job: &JobEnd,
+) -> Result<(), NoMemory>
+    requires actor { job.now.actor < length actors.now }
+    requires view { IsSizedFor caps.now.slots job.now.view }
+    ensures pushed { OnOk result
+        (string_bytes text.new ≡ string_bytes text.old ++ job_text actors.now caps.now job.now) }
+{
+    push_part(text, actors.get(job.actor() as usize), caps, job)
+}
+
+fn push_part(
+    text: &mut String,
+    actor: &ActorText,
+    caps: &Caps,
+    job: &JobEnd,
+) -> Result<(), NoMemory>
+    requires view { IsSizedFor caps.now.slots job.now.view }
+    ensures pushed { OnOk result
+        (string_bytes text.new
+        ≡ string_bytes text.old ++ part_text actor.now.role actor.now.name caps.now job.now) }
+{
+    match actor.role {
+        Role::Source => {
+            let calls = counted_calls(job.sight().as_slice());
+            push_source(text, &actor.name, calls, *job.stop())
+        }
+        Role::Client => push_reading(text, Role::Client, &actor.name, caps, job),
+        Role::Tap => push_reading(text, Role::Tap, &actor.name, caps, job),
+    }
+}
+
+fn push_reading(
+    text: &mut String,
+    role: Role,
+    name: &Name,
+    caps: &Caps,
+    job: &JobEnd,
+) -> Result<(), NoMemory>
+    requires view { IsSizedFor caps.now.slots job.now.view }
+    ensures pushed { OnOk result
+        (string_bytes text.new
+        ≡ string_bytes text.old ++ reading_text role name.now caps.now job.now) }
+{
+    push_actor(text, role, name)?;
+    push_sights(text, job.sight().as_slice())?;
+    push_view(text, caps, job.view())?;
+    push_stop(text, *job.stop())
+}
+
+#[tactic(auto, unfolding(crate::specs::Report::source_line))]
+fn push_source(text: &mut String, name: &Name, calls: usize, stop: Stop) -> Result<(), NoMemory>
+    ensures pushed { OnOk result
+        (string_bytes text.new ≡ string_bytes text.old ++ source_line name.now calls stop) }
+{
+    let name = name.as_str();
+    let stop = StopText(stop);
+    write!(text, "source {name} calls {calls} stop {stop}\n")?;
+    Ok(())
+}
+
+#[tactic(auto, unfolding(crate::specs::Report::actor_line))]
+fn push_actor(text: &mut String, role: Role, name: &Name) -> Result<(), NoMemory>
+    ensures pushed { OnOk result
+        (string_bytes text.new ≡ string_bytes text.old ++ actor_line role name.now) }
+{
+    let role = RoleText(role);
+    let name = name.as_str();
+    write!(text, "{role} {name}\n")?;
+    Ok(())
+}
+
+#[tactic(auto, unfolding(crate::specs::Report::stop_line))]
+fn push_stop(text: &mut String, stop: Stop) -> Result<(), NoMemory>
+    ensures pushed { OnOk result (string_bytes text.new ≡ string_bytes text.old ++ stop_line stop) }
+{
+    let stop = StopText(stop);
+    write!(text, "stop {stop}\n")?;
+    Ok(())
+}

@@ -1,0 +1,17 @@
+//! What the definitions say of a few records.
+ghost use Rattle.inp_report.specs.Examples.{ShowsAPress, ShowsItsHistory, ShowsAFullHistory, CountsNoEnd, ShowsAClient, ShowsALoss, ShowsEachClass, ShowsIdle, ShowsContacts, SumsUp};
+
+/// What the definitions of this crate make of a few records and of what came of them, worked out by hand. It does nothing:
+/// its contract is the point.
+pub fn examples()
+    ensures press { ShowsAPress }
+    ensures history { ShowsItsHistory }
+    ensures full { ShowsAFullHistory }
+    ensures end { CountsNoEnd }
+    ensures client { ShowsAClient }
+    ensures loss { ShowsALoss }
+    ensures classes { ShowsEachClass }
+    ensures idle { ShowsIdle }
+    ensures contacts { ShowsContacts }
+    ensures summary { SumsUp }
+{}

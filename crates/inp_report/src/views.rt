@@ -1,0 +1,205 @@
+//! What a view says of a device.
+ghost use Rattle.std.specs.Prelude.{◌≡◌, ◌*◌, ◌+◌, ◌<◌, ◌≤◌, ◌++◌, true, codes, length, string_bytes, OnOk, flat_map};
+ghost use Rattle.std.specs.List.{range_with_len};
+ghost use Rattle.inp_model.specs.Description.{is_multi_touch_code, is_slot_code};
+ghost use Rattle.inp_recon.specs.View.{IsSizedFor};
+ghost use Rattle.inp_report.specs.Words.{value_text};
+ghost use Rattle.inp_report.specs.Views.{flags_line, axis_entry, axes_text, axes_line, cell_of, slot_entry, slot_text, slot_line, current_line, slots_text, view_text};
+
+use crate::bits::push_flags;
+use crate::words::ValueText;
+use inp_bits::Bits;
+use inp_caps::Caps;
+use inp_model::{
+    ABS_MT_SLOT, ABS_MT_TOOL_Y, ABS_MT_TOUCH_MAJOR, EV_ABS, EV_KEY, EV_LED, EV_SW, NoMemory,
+};
+use inp_recon::{Cells, View};
+use std::fmt::Write;
+
+#[tactic(auto, unfolding(crate::specs::Views::view_text))]
+pub(crate) fn push_view(text: &mut String, caps: &Caps, view: &View) -> Result<(), NoMemory>
+    requires view { IsSizedFor caps.now.slots view.now }
+    ensures pushed { OnOk result
+        (string_bytes text.new ≡ string_bytes text.old ++ view_text caps.now view.now) }
+{
+    push_flags_line(text, "keys", caps, EV_KEY, &view.keys)?;
+    push_flags_line(text, "switches", caps, EV_SW, &view.switches)?;
+    push_flags_line(text, "leds", caps, EV_LED, &view.leds)?;
+    push_axes(text, caps, &view.axes)?;
+    push_slots(text, caps, view)
+}
+
+#[tactic(auto, unfolding(crate::specs::Views::flags_line))]
+fn push_flags_line<const W: usize>(
+    text: &mut String,
+    word: &str,
+    caps: &Caps,
+    kind: u16,
+    flags: &Bits<W>,
+) -> Result<(), NoMemory>
+    requires few { W ≤ 1024 }
+    ensures pushed { OnOk result
+        (string_bytes text.new
+        ≡ string_bytes text.old ++ flags_line caps.now word.now kind flags.now) }
+{
+    if !caps.has_kind(kind) {
+        return Ok(());
+    }
+    text.push_str(word)?;
+    push_flags(text, kind, flags)?;
+    text.push_str("\n")?;
+    Ok(())
+}
+
+#[tactic(auto, unfolding(crate::specs::Views::axes_line))]
+fn push_axes(text: &mut String, caps: &Caps, axes: &[i32; 64]) -> Result<(), NoMemory>
+    ensures pushed { OnOk result
+        (string_bytes text.new ≡ string_bytes text.old ++ axes_line caps.now axes.now) }
+{
+    if !caps.has_kind(EV_ABS) {
+        return Ok(());
+    }
+    text.push_str("axes")?;
+    push_axis_entries(text, caps, axes)?;
+    text.push_str("\n")?;
+    Ok(())
+}
+
+fn push_axis_entries(text: &mut String, caps: &Caps, axes: &[i32; 64]) -> Result<(), NoMemory>
+    ensures pushed { OnOk result
+        (string_bytes text.new ≡ string_bytes text.old ++ axes_text caps.now axes.now) }
+{
+    for code in 0..64u16 {
+        push_axis_entry(text, caps, axes, code)?;
+    }
+    Ok(())
+}
+
+fn push_axis_entry(
+    text: &mut String,
+    caps: &Caps,
+    axes: &[i32; 64],
+    code: u16,
+) -> Result<(), NoMemory>
+    requires code { code < 64 }
+    ensures pushed { OnOk result
+        (string_bytes text.new ≡ string_bytes text.old ++ axis_entry caps.now axes.now code) }
+{
+    if caps.supports(EV_ABS, code) && !is_multi_touch_code(code) {
+        push_value(text, code, axes[usize::from(code)])
+    } else {
+        Ok(())
+    }
+}
+
+// Whether the axis names a slot or belongs to slots.
+fn is_multi_touch_code(code: u16) -> bool
+    ensures multi_touch { result ≡ is_multi_touch_code code }
+{
+    ABS_MT_SLOT <= code && code <= ABS_MT_TOOL_Y
+}
+
+fn push_value(text: &mut String, code: u16, value: i32) -> Result<(), NoMemory>
+    ensures pushed { OnOk result
+        (string_bytes text.new ≡ string_bytes text.old ++ codes " " ++ value_text code value) }
+{
+    let shown = ValueText(code, value);
+    write!(text, " {shown}")?;
+    Ok(())
+}
+
+#[tactic(auto, unfolding(crate::specs::Views::slots_text))]
+fn push_slots(text: &mut String, caps: &Caps, view: &View) -> Result<(), NoMemory>
+    requires cells { length view.now.cells ≡ 14 * caps.now.slots }
+    ensures pushed { OnOk result
+        (string_bytes text.new ≡ string_bytes text.old ++ slots_text caps.now view.now) }
+{
+    if caps.slots() == 0 {
+        return Ok(());
+    }
+    push_current(text, view.slot)?;
+    push_slot_lines(text, caps, &view.cells)
+}
+
+#[tactic(auto, unfolding(crate::specs::Views::current_line))]
+fn push_current(text: &mut String, slot: i32) -> Result<(), NoMemory>
+    ensures pushed { OnOk result
+        (string_bytes text.new ≡ string_bytes text.old ++ current_line slot) }
+{
+    write!(text, "current {slot}\n")?;
+    Ok(())
+}
+
+fn push_slot_lines(text: &mut String, caps: &Caps, cells: &Cells) -> Result<(), NoMemory>
+    requires cells { length cells.now ≡ 14 * caps.now.slots }
+    ensures pushed { OnOk result
+        (string_bytes text.new
+        ≡ string_bytes text.old
+        ++ flat_map (slot_line caps.now cells.now) (range_with_len 0 caps.now.slots)) }
+{
+    let slots = caps.slots();
+    for slot in 0..slots {
+        push_slot_line(text, caps, cells, slot)?;
+    }
+    Ok(())
+}
+
+#[tactic(auto, unfolding(crate::specs::Views::slot_line))]
+fn push_slot_line(text: &mut String, caps: &Caps, cells: &Cells, slot: u32) -> Result<(), NoMemory>
+    requires cells { 14 * slot + 14 ≤ length cells.now }
+    ensures pushed { OnOk result
+        (string_bytes text.new ≡ string_bytes text.old ++ slot_line caps.now cells.now slot) }
+{
+    write!(text, "slot {slot}")?;
+    push_slot_entries(text, caps, cells, slot)?;
+    text.push_str("\n")?;
+    Ok(())
+}
+
+fn push_slot_entries(
+    text: &mut String,
+    caps: &Caps,
+    cells: &Cells,
+    slot: u32,
+) -> Result<(), NoMemory>
+    requires cells { 14 * slot + 14 ≤ length cells.now }
+    ensures pushed { OnOk result
+        (string_bytes text.new ≡ string_bytes text.old ++ slot_text caps.now cells.now slot) }
+{
+    for code in ABS_MT_TOUCH_MAJOR..ABS_MT_TOOL_Y + 1 {
+        push_slot_entry(text, caps, cells, slot, code)?;
+    }
+    Ok(())
+}
+
+fn push_slot_entry(
+    text: &mut String,
+    caps: &Caps,
+    cells: &Cells,
+    slot: u32,
+    code: u16,
+) -> Result<(), NoMemory>
+    requires cells { 14 * slot + 14 ≤ length cells.now }
+    requires code { is_slot_code code ≡ true }
+    ensures pushed { OnOk result
+        (string_bytes text.new
+        ≡ string_bytes text.old ++ slot_entry caps.now cells.now slot code) }
+{
+    if caps.supports(EV_ABS, code) {
+        push_value(text, code, cell_at(cells, slot, code))
+    } else {
+        Ok(())
+    }
+}
+
+// The value of a slot on an axis.
+pub(crate) fn cell_at(cells: &Cells, slot: u32, code: u16) -> i32
+    requires cells { 14 * slot + 14 ≤ length cells.now }
+    requires code { is_slot_code code ≡ true }
+    ensures value { result ≡ cell_of cells.now slot code }
+{
+    *cells.get(14 * slot as usize + usize::from(code - ABS_MT_TOUCH_MAJOR))
+}
+
+#[cfg(test)]
+mod tests;

@@ -1,0 +1,98 @@
+//! The whole report.
+ghost use Rattle.std.specs.Prelude.{◌≡◌, ◌++◌, string_bytes, IfOk, OnOk, slice_get, Some};
+ghost use Rattle.inp_report.specs.Report.{device_line, step_line, history_text, run_text, report};
+ghost use Rattle.inp_report.specs.Runs.{AreRunsOf, IsRunOf};
+
+use crate::jobs::push_job;
+use crate::step_text::StepText;
+use inp_actors::{Actors, DeviceText, Name, Record};
+use inp_model::{NoMemory, Step};
+use inp_script::{Run, Runs};
+use std::alloc::Global;
+use std::fmt::Write;
+
+/// The report of a record and of what came of it: the devices in order, each with the number of its steps, with all its
+/// steps where `history` is wanted, and with what each of its actors did, saw and knows at the end.
+///
+/// `runs` must be those of this record: one run for each device, in order, each with one job for each actor of the device,
+/// in order, whose view is of the device. It takes time and memory in proportion to the text.
+///
+/// # Errors
+///
+/// `NoMemory` where there is none for the text.
+pub fn report(alloc: Global, rec: &Record, runs: &Runs, history: bool) -> Result<Vec<u8>, NoMemory>
+    requires runs { AreRunsOf rec.now runs.now }
+    ensures text { IfOk result (λ text. text.items ≡ report rec.now runs.now history) }
+{
+    let mut text = String::new(alloc);
+    push_runs(&mut text, rec, runs, history)?;
+    Ok(text.into_bytes())
+}
+
+fn push_runs(text: &mut String, rec: &Record, runs: &Runs, history: bool) -> Result<(), NoMemory>
+    requires runs { AreRunsOf rec.now runs.now }
+    ensures pushed { OnOk result
+        (string_bytes text.new ≡ string_bytes text.old ++ report rec.now runs.now history) }
+{
+    for (index, run) in runs.as_slice().iter().enumerate() {
+        let device = rec.devices().get(index);
+        push_run(text, rec.actors(), index, device, run, history)?;
+    }
+    Ok(())
+}
+
+fn push_run(
+    text: &mut String,
+    actors: &Actors,
+    index: usize,
+    device: &DeviceText,
+    run: &Run,
+    history: bool,
+) -> Result<(), NoMemory>
+    requires run { IsRunOf actors.now index device.now run.now }
+    ensures pushed { OnOk result
+        (string_bytes text.new
+        ≡ string_bytes text.old ++ run_text actors.now history (device.now, run.now)) }
+{
+    push_device(text, &device.name, run.history.len())?;
+    if history {
+        push_history(text, run.history.as_slice())?;
+    }
+    for job in run.jobs.as_slice() {
+        push_job(text, actors, &device.caps, job)?;
+    }
+    Ok(())
+}
+
+#[tactic(auto, unfolding(crate::specs::Report::device_line))]
+pub(crate) fn push_device(text: &mut String, name: &Name, steps: usize) -> Result<(), NoMemory>
+    ensures pushed { OnOk result
+        (string_bytes text.new ≡ string_bytes text.old ++ device_line name.now steps) }
+{
+    let name = name.as_str();
+    write!(text, "device {name} steps {steps}\n")?;
+    Ok(())
+}
+
+fn push_history(text: &mut String, history: &[Step]) -> Result<(), NoMemory>
+    ensures pushed { OnOk result
+        (string_bytes text.new ≡ string_bytes text.old ++ history_text history.now) }
+{
+    for (place, step) in history.iter().enumerate() {
+        push_step(text, place, *step)?;
+    }
+    Ok(())
+}
+
+#[tactic(auto, unfolding(crate::specs::Report::step_line))]
+fn push_step(text: &mut String, place: usize, step: Step) -> Result<(), NoMemory>
+    ensures pushed { OnOk result
+        (string_bytes text.new ≡ string_bytes text.old ++ step_line (place, step)) }
+{
+    let step = StepText(step);
+    write!(text, "step {place} {step}\n")?;
+    Ok(())
+}
+
+#[cfg(test)]
+mod tests;
