@@ -1,0 +1,5 @@
+pub mod Words
+pub mod Command
+pub mod Device
+pub mod Text
+pub mod Examples

@@ -1,0 +1,19 @@
+//! The canonical text of a recorded device file.
+//!
+//! This crate is for whoever writes a record. It stands on `inp_actors` for records, on `inp_caps` for descriptions, and on
+//! `inp_codes` for names.
+//!
+//! Its contract: [`print`] gives exactly the bytes that `specs/Text.antt` defines of the record, line by line of the table
+//! in docs/FORMATS.md, or want of memory. The definitions are lists of lines and lines are lists of words, so that a
+//! reader can be held against them. [`examples`] shows what they say of a few records. It takes time in proportion to the text, and for each device that of a look at each
+//! type and code; no clause says so.
+#![tactic(auto)]
+
+mod commands;
+mod devices;
+mod text;
+mod text_examples;
+mod words;
+
+pub use text::print;
+pub use text_examples::examples;

@@ -1,0 +1,124 @@
+//! The whole text.
+ghost use Rattle.std.specs.Prelude.{◌≡◌, ℕ, ◌<◌, [], ◌∷◌, ◌++◌, length, codes, string_bytes, IfOk, OnOk, map, slice_get, Some};
+ghost use Rattle.inp_actors.specs.declared.line.Line.{Line as LineView};
+ghost use Rattle.inp_canon.specs.Words.{line_text, lines_text};
+ghost use Rattle.inp_canon.specs.Text.{actor_lines, actors_lines, device_lines, devices_lines, action_words, record_text};
+
+use crate::commands::push_command;
+use crate::devices::push_description;
+use crate::words::RoleText;
+use inp_actors::{ActorText, Actors, DeviceText, Line, Name, Record};
+use inp_model::NoMemory;
+use std::alloc::Global;
+use std::fmt::Write;
+
+/// The canonical text of a record: the header, the devices in order, each with its description and its actors, then the
+/// action lines. Types and codes are written by name where they have one. `docs/FORMATS.md` has the form, which is this
+/// project's choice. It takes time and memory in proportion to the text.
+///
+/// # Errors
+///
+/// `NoMemory` where there is none for the text.
+pub fn print(alloc: Global, rec: &Record) -> Result<Vec<u8>, NoMemory>
+    ensures text { IfOk result (λ text. text.items ≡ record_text rec.now) }
+{
+    let mut text = String::new(alloc);
+    push_record(&mut text, rec)?;
+    Ok(text.into_bytes())
+}
+
+fn push_record(text: &mut String, rec: &Record) -> Result<(), NoMemory>
+    ensures pushed { OnOk result
+        (string_bytes text.new ≡ string_bytes text.old ++ record_text rec.now) }
+{
+    text.push_str("inputrecord 1\n")?;
+    push_devices(text, rec.actors(), rec.devices().as_slice())?;
+    push_actions(text, rec.actors(), rec.lines().as_slice())?;
+    Ok(())
+}
+
+fn push_devices(text: &mut String, actors: &Actors, devices: &[DeviceText]) -> Result<(), NoMemory>
+    ensures pushed { OnOk result
+        (string_bytes text.new
+        ≡ string_bytes text.old ++ lines_text (devices_lines actors.now devices.now)) }
+{
+    for (index, device) in devices.iter().enumerate() {
+        push_device(text, actors, index, device)?;
+    }
+    Ok(())
+}
+
+fn push_device(
+    text: &mut String,
+    actors: &Actors,
+    index: usize,
+    device: &DeviceText,
+) -> Result<(), NoMemory>
+    ensures pushed { OnOk result
+        (string_bytes text.new
+        ≡ string_bytes text.old ++ lines_text (device_lines actors.now (index, device.now))) }
+{
+    push_device_name(text, &device.name)?;
+    push_description(text, &device.caps)?;
+    push_actors(text, actors, index)?;
+    Ok(())
+}
+
+fn push_device_name(text: &mut String, name: &Name) -> Result<(), NoMemory>
+    ensures pushed { OnOk result
+        (string_bytes text.new
+        ≡ string_bytes text.old ++ lines_text ((codes "device" ∷ name.now ∷ []) ∷ [])) }
+{
+    write!(text, "device {}\n", name.as_str())?;
+    Ok(())
+}
+
+// The actors of one device.
+#[tactic(auto, unfolding(crate::specs::Text::actors_lines))]
+fn push_actors(text: &mut String, actors: &Actors, device: usize) -> Result<(), NoMemory>
+    ensures pushed { OnOk result
+        (string_bytes text.new
+        ≡ string_bytes text.old ++ lines_text (actors_lines actors.now device)) }
+{
+    for actor in actors.as_slice() {
+        push_actor(text, actor, device)?;
+    }
+    Ok(())
+}
+
+fn push_actor(text: &mut String, actor: &ActorText, device: usize) -> Result<(), NoMemory>
+    ensures pushed { OnOk result
+        (string_bytes text.new
+        ≡ string_bytes text.old ++ lines_text (actor_lines device actor.now)) }
+{
+    if actor.device as usize == device {
+        write!(text, "{} {}\n", RoleText(actor.role), actor.name.as_str())?;
+    }
+    Ok(())
+}
+
+fn push_actions(text: &mut String, actors: &Actors, lines: &[Line]) -> Result<(), NoMemory>
+    requires actors { (i : ℕ) (line : LineView)
+        → slice_get lines.now i ≡ Some line → line.actor < length actors.now }
+    ensures pushed { OnOk result
+        (string_bytes text.new
+        ≡ string_bytes text.old ++ lines_text (map (action_words actors.now) lines.now)) }
+{
+    for line in lines {
+        push_action(text, actors, line)?;
+    }
+    Ok(())
+}
+
+fn push_action(text: &mut String, actors: &Actors, line: &Line) -> Result<(), NoMemory>
+    requires actor { line.now.actor < length actors.now }
+    ensures pushed { OnOk result
+        (string_bytes text.new
+        ≡ string_bytes text.old ++ line_text (action_words actors.now line.now)) }
+{
+    write!(text, "do {}", actors.get(line.actor as usize).name.as_str())?;
+    push_command(text, &line.command)
+}
+
+#[cfg(test)]
+mod tests;

@@ -1,0 +1,12 @@
+//! What the definitions say of a few records.
+ghost use Rattle.inp_canon.specs.Examples.{WritesAKeyboard, WritesSlots, WritesCodesAscending, WritesActorsOfTheDevice, WritesCommands};
+
+/// What the definitions of this crate make of a few records, worked out by hand. It does nothing: its contract is the
+/// point.
+pub fn examples()
+    ensures keyboard { WritesAKeyboard }
+    ensures slots { WritesSlots }
+    ensures codes { WritesCodesAscending }
+    ensures actors { WritesActorsOfTheDevice }
+    ensures commands { WritesCommands }
+{}

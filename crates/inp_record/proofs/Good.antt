@@ -1,0 +1,301 @@
+-- What all pasts keep that lines can have.
+use Rattle.std.proofs.Common.{◌≡◌, ℕ, zero, suc, ◌+◌, ◌<◌, ◌≤◌, ◌^◌, Bool, true, false, ◌||◌, not, is_some, if◌then◌else◌, List, [], ◌∷◌, ◌++◌, length, replicate, Option, Some, None, Result, Ok, Err, refl, sym, ap, ◌∙◌, subst, arith, length-append, ◌⊎◌, inl, inr}
+use Rattle.std.specs.Prelude.{slice_get}
+use Rattle.std.specs.List.{range_with_len}
+use Rattle.std.proofs.lemmas.Grind.{flat_map-append}
+use Rattle.std.proofs.lemmas.List.{append-nil}
+use Rattle.std.proofs.lemmas.Option.{slice_get_within}
+use Rattle.inp_model.specs.declared.stamped.Stamped.{Stamped}
+use Rattle.inp_model.specs.Description.{Description}
+use Rattle.inp_actors.specs.declared.actor_text.ActorText.{ActorText}
+use Rattle.inp_actors.specs.declared.line.Line.{Line}
+use Rattle.inp_actors.specs.declared.command.Command.{Command}
+use Rattle.inp_actors.specs.declared.command.Command.TheVariants as commands
+use Rattle.inp_actors.specs.declared.role.Role as role
+use Rattle.inp_actors.specs.declared.role.Role.TheVariants as roles
+use Rattle.inp_actors.specs.Command.{is_command_of, is_in_range}
+use Rattle.inp_actors.specs.Record.{stream_of, streams_of, AreInTime, IsRecord}
+use Rattle.inp_words.specs.Line.{is_comment, is_text, words_of}
+use Rattle.inp_record.specs.declared.cause.Cause.{Cause}
+use Rattle.inp_record.specs.declared.cause.Cause.TheVariants.{NotText}
+use Rattle.inp_record.specs.declared.item.Item as item
+use Rattle.inp_record.specs.declared.item.Item.TheVariants.{Header, Device, Hint, Log, Realtime, Boottime, Slots, Kind, Code, Axis, Actor, Action}
+use Rattle.inp_record.specs.declared.keyword.Keyword as keyword
+use Rattle.inp_record.specs.Place.{is_describing, is_naming, is_out_of_place}
+use Rattle.inp_record.specs.Words.{item_of, action_item, or_bad_word, plain_item, is_action}
+use Rattle.inp_record.specs.Past.{Past, place_of, latest_name, latest_description, former_devices, devices_of, with_latest, actors_of, lines_of, stream_count, streams_in, context_of}
+use Rattle.inp_record.specs.Meaning.{checked, item_of_words, behind, behind_words, behind_line, go_on, behind_lines, record_of}
+use Rattle.inp_record.proofs.Inversions.{IsAct, IsPlaced, keyword_for, checked_is, words_are, plain_keyword, act_is}
+use Rattle.inp_record.proofs.Rooms.{closed_length}
+
+push_get : {X : Type 0} (xs : List X) (y : X) (i : ℕ) (a : X) → slice_get (xs ++ y ∷ []) i ≡ Some a → (slice_get xs i ≡ Some a) ⊎ (a ≡ y)
+push_get [] y zero a e = inr (cc e)
+push_get [] y (suc i) a e = absurd (cc e)
+push_get (x ∷ xs) y zero a e = inl e
+push_get (x ∷ xs) y (suc i) a e = push_get xs y i a e
+
+front_get : {X : Type 0} (xs ys : List X) (i : ℕ) (a : X) → i < length xs → slice_get (xs ++ ys) i ≡ Some a → slice_get xs i ≡ Some a
+front_get [] ys i a h e = absurd (omega arith)
+front_get (x ∷ xs) ys zero a h e = e
+front_get (x ∷ xs) ys (suc i) a h e = front_get xs ys i a (omega arith) e
+
+range_on : (a n m : ℕ) → range_with_len a (n + m) ≡ range_with_len a n ++ range_with_len (a + n) m
+range_on a zero m = let z : 0 + m ≡ m = omega arith in let w : a + 0 ≡ a = omega arith in rw (z, w) refl
+range_on a (suc n) m =
+    let next : suc n + m ≡ suc (n + m) = omega arith in
+    let same : a + 1 + n ≡ a + suc n = omega arith in
+    rw (next, range_on (a + 1) n m, same) refl
+
+-- the lists of a past are those of a record, and no longer than so many
+pub record IsGood (n : ℕ) (past : Past) : Type 0 where
+  pub named : (is_describing (place_of past) || is_naming (place_of past)) ≡ true → is_some (latest_name past) ≡ true
+  pub devices : (i : ℕ) (a : ActorText) → slice_get (actors_of past) i ≡ Some a → a.device < length (devices_of past)
+  pub actors : (i : ℕ) (l : Line) → slice_get (lines_of past) i ≡ Some l → l.actor < length (actors_of past)
+  pub commands : (i : ℕ) (l : Line) (a : ActorText) → slice_get (lines_of past) i ≡ Some l → slice_get (actors_of past) l.actor ≡ Some a → is_command_of a.role l.command ≡ true
+  pub ranges : (i : ℕ) (l : Line) → slice_get (lines_of past) i ≡ Some l → is_in_range l.command ≡ true
+  pub numbered : streams_of (lines_of past) ≡ range_with_len 0 (stream_count past)
+  pub few_devices : length (devices_of past) ≤ n
+  pub few_actors : length (actors_of past) ≤ n
+  pub few_lines : length (lines_of past) ≤ n
+  pub few_streams : stream_count past ≤ n
+
+-- a line that adds to none of the lists
+goes_on : (n : ℕ) (past new : Past) → IsGood n past → ((is_describing (place_of new) || is_naming (place_of new)) ≡ true → is_some (latest_name new) ≡ true)
+    → actors_of new ≡ actors_of past → lines_of new ≡ lines_of past → stream_count new ≡ stream_count past → length (devices_of new) ≡ length (devices_of past) → IsGood (suc n) new
+goes_on n past new good named a l s d = record {
+  named = named;
+  devices = λ i x h. omega (arith, d, good.devices i x (rw a at h));
+  actors = λ i x h. omega (arith, ap length a, good.actors i x (rw l at h));
+  commands = λ i x y h g. good.commands i x y (rw l at h) (rw a at g);
+  ranges = λ i x h. good.ranges i x (rw l at h);
+  numbered = rw (l, s) good.numbered;
+  few_devices = omega (arith, good.few_devices);
+  few_actors = omega (arith, ap length a, good.few_actors);
+  few_lines = omega (arith, ap length l, good.few_lines);
+  few_streams = omega (arith, good.few_streams);
+}
+
+-- as many devices, however the latest is described
+as_many : (past : Past) (d : Description) → length (with_latest (former_devices past) (latest_name past) d) ≡ length (devices_of past)
+as_many past d = closed_length (former_devices past) (latest_name past) d ∙ sym (closed_length (former_devices past) (latest_name past) (latest_description past))
+
+describing : (p : Bool) → not p ≡ false → p ≡ true
+describing true e = refl
+describing false e = absurd (cc e)
+
+or_left : (a b : Bool) → a ≡ true → (a || b) ≡ true
+or_left true b h = refl
+or_left false b h = absurd (cc h)
+
+-- a description of the latest device
+described : (n : ℕ) (past : Past) (new : Past) → IsGood n past → not (is_describing (place_of past)) ≡ false → latest_name new ≡ latest_name past
+    → actors_of new ≡ actors_of past → lines_of new ≡ lines_of past → stream_count new ≡ stream_count past → former_devices new ≡ former_devices past → IsGood (suc n) new
+described n past new good place name a l s f =
+    goes_on n past new good (λ h. rw name (good.named (or_left (is_describing (place_of past)) (is_naming (place_of past)) (describing (is_describing (place_of past)) place)))) a l s
+    (rw (f, name) (as_many past (latest_description new)))
+
+device_begun : (n : ℕ) (past : Past) (name : List ℕ) → IsGood n past → IsGood (suc n) (Device name ∷ past)
+device_begun n past name good =
+    let count : length (devices_of (Device name ∷ past)) ≡ length (devices_of past) + 1 = length-append (devices_of past) _ in
+    record {
+      named = λ h. refl;
+      devices = λ i x h. omega (arith, count, good.devices i x h);
+      actors = good.actors;
+      commands = good.commands;
+      ranges = good.ranges;
+      numbered = good.numbered;
+      few_devices = omega (arith, count, good.few_devices);
+      few_actors = omega (arith, good.few_actors);
+      few_lines = omega (arith, good.few_lines);
+      few_streams = omega (arith, good.few_streams);
+    }
+
+actor_added : (n : ℕ) (past : Past) (r : role.Role) (name : List ℕ) → IsGood n past → not (is_describing (place_of past) || is_naming (place_of past)) ≡ false → IsGood (suc n) (Actor r name ∷ past)
+actor_added n past r name good place =
+    let some : is_some (latest_name past) ≡ true = good.named (describing (is_describing (place_of past) || is_naming (place_of past)) place) in
+    let new : ActorText = record { name = name; role = r; device = length (former_devices past) } in
+    let size : length (actors_of past ++ new ∷ []) ≡ length (actors_of past) + 1 = length-append (actors_of past) (new ∷ []) in
+    let latest : length (devices_of past) ≡ length (former_devices past) + 1 = closed_length (former_devices past) (latest_name past) (latest_description past) ∙ ap (λ (b : Bool). length (former_devices past) + (if b then 1 else 0)) some in
+    record {
+      named = λ h. some;
+      devices = λ i x h. elim (push_get (actors_of past) new i x h) [
+        | inl g ↦ good.devices i x g
+        | inr e ↦ let at : x.device ≡ length (former_devices past) = ap (λ (y : ActorText). y.device) e in omega (arith, latest, at)
+      ];
+      actors = λ i x h. omega (arith, size, good.actors i x h);
+      commands = λ i x y h g. good.commands i x y h (front_get (actors_of past) (new ∷ []) x.actor y (good.actors i x h) g);
+      ranges = good.ranges;
+      numbered = good.numbered;
+      few_devices = omega (arith, good.few_devices);
+      few_actors = omega (arith, size, good.few_actors);
+      few_lines = omega (arith, good.few_lines);
+      few_streams = omega (arith, good.few_streams);
+    }
+
+few_in : (c : Command) → streams_in c ≤ 1
+few_in (commands.Stream file index) = omega arith
+few_in commands.Open = omega arith
+few_in _ = omega arith
+
+action_added : (n : ℕ) (past : Past) (actor : ℕ) (c : Command) → IsGood n past → IsAct (actors_of past) (stream_count past) actor c → IsGood (suc n) (Action actor c ∷ past)
+action_added n past actor c good act =
+    let new : Line = record { actor = actor; command = c } in
+    let size : length (lines_of past ++ new ∷ []) ≡ length (lines_of past) + 1 = length-append (lines_of past) (new ∷ []) in
+    let within : actor < length (actors_of past) = slice_get_within (actors_of past) actor act.who act.named in
+    record {
+      named = λ h. absurd (cc h);
+      devices = good.devices;
+      actors = λ i x h. elim (push_get (lines_of past) new i x h) [
+        | inl g ↦ good.actors i x g
+        | inr e ↦ let at : x.actor ≡ actor = ap (λ (y : Line). y.actor) e in omega (arith, within, at)
+      ];
+      commands = λ i x y h g. elim (push_get (lines_of past) new i x h) [
+        | inl k ↦ good.commands i x y k g
+        | inr e ↦ let at : x.actor ≡ actor = ap (λ (z : Line). z.actor) e in
+            let who : slice_get (actors_of past) actor ≡ Some y = subst (λ (k : ℕ). slice_get (actors_of past) k ≡ Some y) at g in
+            let same : y ≡ act.who = cc (who, act.named) in
+            let is : x.command ≡ c = ap (λ (z : Line). z.command) e in
+            rw (same, is) act.command
+      ];
+      ranges = λ i x h. elim (push_get (lines_of past) new i x h) [
+        | inl g ↦ good.ranges i x g
+        | inr e ↦ let is : x.command ≡ c = ap (λ (z : Line). z.command) e in rw is act.range
+      ];
+      numbered = flat_map-append (λ (l : Line). stream_of l.command) (lines_of past) (new ∷ [])
+          ∙ ap (λ (l : List ℕ). streams_of (lines_of past) ++ l) (append-nil (stream_of c))
+          ∙ ap (λ (l : List ℕ). l ++ stream_of c) good.numbered
+          ∙ ap (λ (l : List ℕ). range_with_len 0 (stream_count past) ++ l) act.stream
+          ∙ ap (λ (k : ℕ). range_with_len 0 (stream_count past) ++ range_with_len k (streams_in c)) (omega arith)
+          ∙ sym (range_on 0 (stream_count past) (streams_in c));
+      few_devices = omega (arith, good.few_devices);
+      few_actors = omega (arith, good.few_actors);
+      few_lines = omega (arith, size, good.few_lines);
+      few_streams = omega (arith, good.few_streams, few_in c);
+    }
+
+plain_added : (n : ℕ) (past : Past) (i : item.Item) → IsGood n past → is_out_of_place (place_of past) (keyword_for i) ≡ false → is_action (keyword_for i) ≡ false → IsGood (suc n) (i ∷ past)
+plain_added n past Header good place plain = goes_on n past (Header ∷ past) good (λ h. absurd (cc h)) refl refl refl refl
+plain_added n past (Device name) good place plain = device_begun n past name good
+plain_added n past (Hint count) good place plain = described n past (Hint count ∷ past) good place refl refl refl refl refl
+plain_added n past (Log count) good place plain = described n past (Log count ∷ past) good place refl refl refl refl refl
+plain_added n past (Realtime offset) good place plain = described n past (Realtime offset ∷ past) good place refl refl refl refl refl
+plain_added n past (Boottime offset) good place plain = described n past (Boottime offset ∷ past) good place refl refl refl refl refl
+plain_added n past (Slots count) good place plain = described n past (Slots count ∷ past) good place refl refl refl refl refl
+plain_added n past (Kind kind) good place plain = described n past (Kind kind ∷ past) good place refl refl refl refl refl
+plain_added n past (Code kind code) good place plain = described n past (Code kind code ∷ past) good place refl refl refl refl refl
+plain_added n past (Axis code info) good place plain = described n past (Axis code info ∷ past) good place refl refl refl refl refl
+plain_added n past (Actor roles.Source name) good place plain = actor_added n past roles.Source name good place
+plain_added n past (Actor roles.Client name) good place plain = actor_added n past roles.Client name good place
+plain_added n past (Actor roles.Tap name) good place plain = actor_added n past roles.Tap name good place
+plain_added n past (Action actor command) good place plain = absurd (cc plain)
+
+or_bad_is : (o : Option item.Item) (i : item.Item) → or_bad_word o ≡ Ok i → o ≡ Some i
+or_bad_is None i e = absurd (cc e)
+or_bad_is (Some j) i e = cc e
+
+-- a line with a meaning is an action, or another line with its keyword
+item_is : (actors : List ActorText) (s : ℕ) (k : keyword.Keyword) (ws : List (List ℕ)) (i : item.Item) → item_of actors s k ws ≡ Ok i
+    → ((actor : ℕ) × (c : Command) × (i ≡ Action actor c) × IsAct actors s actor c) ⊎ ((keyword_for i ≡ k) × (is_action k ≡ false))
+unfolding item_of
+item_is actors s k ws i e = by_action (is_action k) refl e
+  where
+    by_action : (is : Bool) → is_action k ≡ is → (if is then action_item actors s ws else or_bad_word (plain_item k ws)) ≡ Ok i
+        → ((actor : ℕ) × (c : Command) × (i ≡ Action actor c) × IsAct actors s actor c) ⊎ ((keyword_for i ≡ k) × (is_action k ≡ false))
+    by_action true h e = inl (act_is actors s ws i e)
+    by_action false h e = inr (plain_keyword k ws i (or_bad_is (plain_item k ws) i e), h)
+
+added : (n : ℕ) (past : Past) (ws : List (List ℕ)) (i : item.Item) → IsGood n past → IsPlaced (context_of past) ws i → IsGood (suc n) (i ∷ past)
+added n past ws i good p = elim (item_is (actors_of past) (stream_count past) p.keyword ws i p.item) [
+  | inl h ↦ let P : item.Item → Type 0 = λ x. IsGood (suc n) (x ∷ past) in subst P (sym h.2) (action_added n past h.0 h.1 good h.3)
+  | inr h ↦ plain_added n past i good (rw h.0 p.in_place) (rw h.0 h.1)
+]
+
+-- a line that adds nothing
+stays : (n : ℕ) (past : Past) → IsGood n past → IsGood (suc n) past
+stays n past good = record {
+  named = good.named;
+  devices = good.devices;
+  actors = good.actors;
+  commands = good.commands;
+  ranges = good.ranges;
+  numbered = good.numbered;
+  few_devices = omega (arith, good.few_devices);
+  few_actors = omega (arith, good.few_actors);
+  few_lines = omega (arith, good.few_lines);
+  few_streams = omega (arith, good.few_streams);
+}
+
+behind_good : (n : ℕ) (past now : Past) (ws : List (List ℕ)) (means : Result item.Item Cause) → IsGood n past → ((i : item.Item) → means ≡ Ok i → IsPlaced (context_of past) ws i) → behind past means ≡ Ok now → IsGood (suc n) now
+behind_good n past now ws (Err cause) good p e = absurd (cc e)
+behind_good n past now ws (Ok i) good p e =
+    let same : i ∷ past ≡ now = cc e in
+    let P : Past → Type 0 = λ x. IsGood (suc n) x in
+    subst P same (added n past ws i good (p i refl))
+
+words_good : (n : ℕ) (past now : Past) (ws : List (List ℕ)) → IsGood n past → behind_words past ws ≡ Ok now → IsGood (suc n) now
+words_good n past now [] good e = let same : past ≡ now = cc e in let P : Past → Type 0 = λ x. IsGood (suc n) x in subst P same (stays n past good)
+words_good n past now (w ∷ ws) good e =
+    behind_good n past now (w ∷ ws) (checked (context_of past) (item_of_words (context_of past) (w ∷ ws))) good
+    (λ i h. words_are (context_of past) (w ∷ ws) i (checked_is (context_of past) (item_of_words (context_of past) (w ∷ ws)) i h).read) e
+
+line_good : (n : ℕ) (past now : Past) (line : List ℕ) → IsGood n past → behind_line past line ≡ Ok now → IsGood (suc n) now
+unfolding behind_line
+line_good n past now line good e = by_tests (is_comment line) (is_text line) e
+  where
+    by_tests : (comment text : Bool) → (if comment then Ok past else if not text then Err NotText else behind_words past (words_of line)) ≡ Ok now → IsGood (suc n) now
+    by_tests true text e = let same : past ≡ now = cc e in let P : Past → Type 0 = λ x. IsGood (suc n) x in subst P same (stays n past good)
+    by_tests false true e = words_good n past now (words_of line) good e
+    by_tests false false e = absurd (cc e)
+
+lines_good : (lines : List (List ℕ)) (k n : ℕ) (past now : Past) → IsGood n past → behind_lines k lines past ≡ Ok now → IsGood (n + length lines) now
+unfolding behind_lines
+lines_good [] k n past now good e =
+    let same : past ≡ now = cc e in let P : Past → Type 0 = λ x. IsGood (n + 0) x in let Q : ℕ → Type 0 = λ x. IsGood x past in
+    subst P same (subst Q (omega arith) good)
+lines_good (line ∷ lines) k n past now good e = by_line (behind_line past line) (λ after h. line_good n past after line good h) (λ after h g. lines_good lines (suc k) (suc n) after now h g) e
+  where
+    by_line : (means : Result Past Cause) → ((after : Past) → means ≡ Ok after → IsGood (suc n) after) → ((after : Past) → IsGood (suc n) after → behind_lines (suc k) lines after ≡ Ok now → IsGood (suc n + length lines) now)
+        → go_on k means (λ x. behind_lines (suc k) lines x) ≡ Ok now → IsGood (n + length (line ∷ lines)) now
+    by_line (Err cause) one more e = absurd (cc e)
+    by_line (Ok after) one more e = let Q : ℕ → Type 0 = λ x. IsGood x now in subst Q (omega arith) (more after (one after refl) e)
+
+none_good : IsGood 0 []
+none_good = record {
+  named = λ h. absurd (cc h);
+  devices = λ i x h. absurd (cc h);
+  actors = λ i x h. absurd (cc h);
+  commands = λ i x y h g. absurd (cc h);
+  ranges = λ i x h. absurd (cc h);
+  numbered = refl;
+  few_devices = omega arith;
+  few_actors = omega arith;
+  few_lines = omega arith;
+  few_streams = omega arith;
+}
+
+empty_get : (n i : ℕ) (x : List Stamped) → slice_get (replicate n []) i ≡ Some x → AreInTime x
+empty_get zero i x h = absurd (cc h)
+empty_get (suc n) zero x h = let e : [] ≡ x = cc h in let P : List Stamped → Type 0 = AreInTime in subst P e (λ i s g. absurd (cc g))
+empty_get (suc n) (suc i) x h = empty_get n i x h
+
+empty_length : (n : ℕ) → length (replicate {A = List Stamped} n []) ≡ n
+empty_length zero = refl
+empty_length (suc n) = omega (arith, empty_length n)
+
+-- what lines mean is a record
+pub IsRecord-read : (lines : List (List ℕ)) (past : Past) → length lines < 2 ^ 32 → behind_lines 1 lines [] ≡ Ok past → IsRecord (record_of past)
+IsRecord-read lines past h e =
+    let good = lines_good lines 1 0 [] past none_good e in
+    let few = empty_length (stream_count past) in
+    record {
+      devices = good.devices;
+      actors = good.actors;
+      commands = good.commands;
+      ranges = good.ranges;
+      numbered = rw few good.numbered;
+      in_time = λ i x g. empty_get (stream_count past) i x g;
+      few_devices = omega (arith, good.few_devices);
+      few_actors = omega (arith, good.few_actors);
+      few_lines = omega (arith, good.few_lines);
+      few_streams = omega (arith, few, good.few_streams);
+    }

@@ -1,0 +1,323 @@
+-- What it takes for a line to have a meaning.
+use Rattle.std.proofs.Common.{◌≡◌, ℕ, suc, Bool, true, false, ◌&&◌, not, if◌then◌else◌, bytes_eq, List, [], ◌∷◌, length, Option, Some, None, option_map, nat_eq, nat_le, ◌+◌, ◌-◌, Result, Ok, Err, refl, sym, ap, ◌∙◌, subst, arith}
+use Rattle.std.specs.Prelude.{option_and_then, slice_get}
+use Rattle.std.specs.List.{range_with_len}
+use Rattle.inp_model.specs.declared.event.TheConstants.{EV_ABS}
+use Rattle.inp_model.specs.declared.stamped.TheConstants.{MOMENT_MAX}
+use Rattle.inp_model.specs.declared.stamped.Stamped.{Stamped}
+use Rattle.inp_model.specs.declared.clock.Clock as clock
+use Rattle.inp_model.specs.declared.clock.Clock.TheVariants.{Realtime, Monotonic, Boottime}
+use Rattle.inp_words.specs.Number.{number, signed_number}
+use Rattle.inp_words.specs.Code.{kind_word, code_word}
+use Rattle.inp_words.proofs.Numerals.{number_within}
+use Rattle.inp_actors.specs.declared.command.TheConstants.{READ_MAX}
+use Rattle.inp_caps.specs.declared.caps_refused.CapsRefused.{CapsRefused}
+use Rattle.inp_actors.specs.declared.role.Role as role
+use Rattle.inp_actors.specs.declared.role.Role.TheVariants as roles
+use Rattle.inp_actors.specs.declared.command.Command as command
+use Rattle.inp_actors.specs.declared.command.Command.TheVariants as commands
+use Rattle.inp_actors.specs.declared.actor_text.ActorText.{ActorText}
+use Rattle.inp_actors.specs.Command.{is_command_of, is_in_range}
+use Rattle.inp_actors.specs.Record.{stream_of}
+use Rattle.inp_record.specs.declared.cause.Cause.{Cause}
+use Rattle.inp_record.specs.declared.cause.Cause.TheVariants.{BadHeader, OutOfPlace, Twice, TooMany}
+use Rattle.inp_record.specs.declared.context.Context.{Context}
+use Rattle.inp_record.specs.declared.keyword.Keyword as keyword
+use Rattle.inp_record.specs.declared.keyword.Keyword.TheVariants as keywords
+use Rattle.inp_record.specs.declared.verb.Verb as verb
+use Rattle.inp_record.specs.declared.verb.Verb.TheVariants as verbs
+use Rattle.inp_record.specs.declared.item.Item as item
+use Rattle.inp_record.specs.declared.item.Item.TheVariants as items
+use Rattle.inp_record.specs.Keyword.{keyword_of}
+use Rattle.inp_record.specs.Place.{is_start, is_out_of_place}
+use Rattle.inp_record.specs.Verb.{is_verb_of, argument_count, with_arguments, verb_of, verb_rows}
+use Rattle.inp_record.specs.Words.{word, is_header, name_word, count_word, wide_word, moment_word, clock_word, kind_and_code, info_words, stamped_words, offset_item, plain_item, actor_item, plain_command, command_of, actor_from, action_of, action_by, action_with, action_item, item_of, is_stream}
+use Rattle.inp_record.specs.Past.{streams_in}
+use Rattle.inp_record.specs.Meaning.{is_twice, is_too_many, refusal, unless_refused, checked, placed, item_of_words}
+use Rattle.inp_words.specs.Table.{named}
+
+-- what an option holds that is mapped
+pub map_is : {A B : Type 0} (f : A → B) (o : Option A) (y : B) → option_map f o ≡ Some y → (x : A) × (o ≡ Some x) × (y ≡ f x)
+map_is f None y e = absurd (cc)
+map_is f (Some x) y e = (x, refl, cc)
+
+pub and_then_is : {A B : Type 0} (f : A → Option B) (o : Option A) (y : B) → option_and_then f o ≡ Some y → (x : A) × (o ≡ Some x) × (f x ≡ Some y)
+and_then_is f None y e = absurd (cc)
+and_then_is f (Some x) y e = (x, refl, e)
+
+-- a line that is read is said once, is not one too many and describes what a device can have
+pub record IsChecked (c : Context) (means : Result item.Item Cause) (i : item.Item) : Type 0 where
+  pub read : means ≡ Ok i
+  pub once : is_twice c i ≡ false
+  pub enough : is_too_many c i ≡ false
+  pub allowed : refusal i ≡ None
+
+checked_by : (twice many : Bool) (why : Option CapsRefused) (j i : item.Item) → (if twice then Err Twice else if many then Err TooMany else unless_refused why j) ≡ Ok i → (twice ≡ false) × (many ≡ false) × (why ≡ None) × (j ≡ i)
+checked_by true many why j i e = absurd (cc e)
+checked_by false true why j i e = absurd (cc e)
+checked_by false false None j i e = (refl, refl, refl, cc e)
+checked_by false false (Some why) j i e = absurd (cc e)
+
+pub checked_is : (c : Context) (means : Result item.Item Cause) (i : item.Item) → checked c means ≡ Ok i → IsChecked c means i
+checked_is c (Err cause) i e = absurd (cc e)
+checked_is c (Ok j) i e =
+    let h = checked_by (is_twice c j) (is_too_many c j) (refusal j) j i e in
+    record {
+      read = ap (λ (x : item.Item). Ok x) h.3;
+      once = subst (λ (x : item.Item). is_twice c x ≡ false) h.3 h.0;
+      enough = subst (λ (x : item.Item). is_too_many c x ≡ false) h.3 h.1;
+      allowed = subst (λ (x : item.Item). refusal x ≡ None) h.3 h.2;
+    }
+
+-- a line that is read has a keyword that may stand there
+pub record IsPlaced (c : Context) (ws : List (List ℕ)) (i : item.Item) : Type 0 where
+  pub keyword : keyword.Keyword
+  pub in_place : is_out_of_place c.place keyword ≡ false
+  pub item : item_of c.actors c.streams keyword ws ≡ Ok i
+
+placed_by : (c : Context) (k : keyword.Keyword) (ws : List (List ℕ)) (i : item.Item) (out : Bool) → is_out_of_place c.place k ≡ out → (if out then Err OutOfPlace else item_of c.actors c.streams k ws) ≡ Ok i → IsPlaced c ws i
+placed_by c k ws i true o e = absurd (cc e)
+placed_by c k ws i false o e = record { keyword = k; in_place = o; item = e }
+
+placed_is : (c : Context) (k : Option keyword.Keyword) (ws : List (List ℕ)) (i : item.Item) → placed c k ws ≡ Ok i → IsPlaced c ws i
+placed_is c None ws i e = absurd (cc e)
+placed_is c (Some k) ws i e = placed_by c k ws i (is_out_of_place c.place k) refl e
+
+unheaded : (bad : Bool) (means : Result item.Item Cause) (i : item.Item) → (if bad then Err BadHeader else means) ≡ Ok i → means ≡ Ok i
+unheaded true means i e = absurd (cc e)
+unheaded false means i e = e
+
+pub words_are : (c : Context) (ws : List (List ℕ)) (i : item.Item) → item_of_words c ws ≡ Ok i → IsPlaced c ws i
+unfolding item_of_words
+words_are c ws i e =
+    placed_is c (keyword_of (word 0 ws) (length ws)) ws i (unheaded (is_start c.place && not (is_header ws)) (placed c (keyword_of (word 0 ws) (length ws)) ws) i e)
+
+-- the keyword of a line with this meaning
+abbrev pub keyword_of_role : role.Role → keyword.Keyword
+keyword_of_role roles.Source = keywords.Source
+keyword_of_role roles.Client = keywords.Client
+keyword_of_role roles.Tap = keywords.Tap
+
+abbrev pub keyword_for : item.Item → keyword.Keyword
+keyword_for items.Header = keywords.Header
+keyword_for (items.Device name) = keywords.Device
+keyword_for (items.Hint count) = keywords.Hint
+keyword_for (items.Log count) = keywords.Log
+keyword_for (items.Realtime offset) = keywords.Clock
+keyword_for (items.Boottime offset) = keywords.Clock
+keyword_for (items.Slots count) = keywords.Slots
+keyword_for (items.Kind kind) = keywords.Kind
+keyword_for (items.Code kind code) = keywords.Code
+keyword_for (items.Axis code info) = keywords.Axis
+keyword_for (items.Actor role name) = keyword_of_role role
+keyword_for (items.Action actor command) = keywords.Action
+
+offset_keyword : (k : clock.Clock) (offset : ℕ) (i : item.Item) → offset_item k offset ≡ Some i → keyword_for i ≡ keywords.Clock
+offset_keyword Realtime offset i e = let h : items.Realtime offset ≡ i = cc e in ap keyword_for (sym h)
+offset_keyword Monotonic offset i e = absurd (cc e)
+offset_keyword Boottime offset i e = let h : items.Boottime offset ≡ i = cc e in ap keyword_for (sym h)
+
+actor_keyword : (r : role.Role) (w : List ℕ) (i : item.Item) → actor_item r w ≡ Some i → keyword_for i ≡ keyword_of_role r
+actor_keyword r w i e = ap keyword_for (map_is (λ name. items.Actor r name) (name_word w) i e).2
+
+pub plain_keyword : (k : keyword.Keyword) (ws : List (List ℕ)) (i : item.Item) → plain_item k ws ≡ Some i → keyword_for i ≡ k
+unfolding plain_item
+plain_keyword keywords.Header ws i e = let h : items.Header ≡ i = cc e in ap keyword_for (sym h)
+plain_keyword keywords.Device ws i e = ap keyword_for (map_is (λ name. items.Device name) (name_word (word 1 ws)) i e).2
+plain_keyword keywords.Hint ws i e = ap keyword_for (map_is (λ count. items.Hint count) (count_word (word 1 ws)) i e).2
+plain_keyword keywords.Log ws i e = ap keyword_for (map_is (λ count. items.Log count) (count_word (word 1 ws)) i e).2
+plain_keyword keywords.Clock ws i e =
+    let h = and_then_is (λ clock. option_and_then (λ offset. offset_item clock offset) (wide_word (word 2 ws))) (clock_word (word 1 ws)) i e in
+    let g = and_then_is (λ offset. offset_item h.0 offset) (wide_word (word 2 ws)) i h.2 in
+    offset_keyword h.0 g.0 i g.2
+plain_keyword keywords.Slots ws i e = ap keyword_for (map_is (λ count. items.Slots count) (count_word (word 1 ws)) i e).2
+plain_keyword keywords.Kind ws i e = ap keyword_for (map_is (λ kind. items.Kind kind) (kind_word (word 1 ws)) i e).2
+plain_keyword keywords.Code ws i e = ap keyword_for (map_is (λ (n : ℕ × ℕ). items.Code n.0 n.1) (kind_and_code (word 1 ws) (word 2 ws)) i e).2
+plain_keyword keywords.Axis ws i e =
+    let h = and_then_is (λ code. option_map (λ info. items.Axis code info) (info_words ws)) (code_word EV_ABS (word 1 ws)) i e in
+    ap keyword_for (map_is (λ info. items.Axis h.0 info) (info_words ws) i h.2).2
+plain_keyword keywords.Source ws i e = actor_keyword roles.Source (word 1 ws) i e
+plain_keyword keywords.Client ws i e = actor_keyword roles.Client (word 1 ws) i e
+plain_keyword keywords.Tap ws i e = actor_keyword roles.Tap (word 1 ws) i e
+plain_keyword keywords.Action ws i e = absurd (cc e)
+
+-- a command is one of its verb
+pub record IsOfVerb (v : verb.Verb) (c : command.Command) : Type 0 where
+  pub role : (r : role.Role) → is_command_of r c ≡ is_verb_of r v
+  pub range : is_in_range c ≡ true
+  pub stream : (s : ℕ) → stream_of c ≡ range_with_len s (streams_in c)
+
+of_verb : (v : verb.Verb) (c d : command.Command) → c ≡ d → IsOfVerb v d → IsOfVerb v c
+of_verb v c d e h = let P : command.Command → Type 0 = λ x. IsOfVerb v x in subst P (sym e) h
+
+moment_within : (ws : List (List ℕ)) (s : Stamped) → stamped_words ws ≡ Some s → nat_le s.now MOMENT_MAX ≡ true
+unfolding stamped_words
+moment_within ws s e =
+    let h = and_then_is (λ now. option_and_then (λ (named : ℕ × ℕ). option_map (λ value.
+    record { event = record { kind = named.0; code = named.1; value = value }; now = now })
+    (signed_number (word 6 ws))) (kind_and_code (word 4 ws) (word 5 ws))) (moment_word (word 3 ws)) s e in
+    let g = and_then_is (λ (named : ℕ × ℕ). option_map (λ value. record { event = record { kind = named.0; code = named.1; value = value }; now = h.0 }) (signed_number (word 6 ws))) (kind_and_code (word 4 ws) (word 5 ws)) s h.2 in
+    let f = map_is (λ value. record { event = record { kind = g.0.0; code = g.0.1; value = value }; now = h.0 }) (signed_number (word 6 ws)) s g.2 in
+    let now : s.now ≡ h.0 = ap (λ (x : Stamped). x.now) f.2 in
+    rw now (number_within MOMENT_MAX (word 3 ws) h.0 h.1)
+
+pub command_is : (v : verb.Verb) (ws : List (List ℕ)) (c : command.Command) → plain_command v ws ≡ Some c → IsOfVerb v c
+unfolding plain_command
+command_is verbs.Event ws c e =
+    let h = map_is (λ (s : Stamped). commands.Event s.now s.event.kind s.event.code s.event.value) (stamped_words ws) c e in
+    of_verb verbs.Event c (commands.Event h.0.now h.0.event.kind h.0.event.code h.0.event.value) h.2 (record { role = λ r. refl; range = moment_within ws h.0 h.1; stream = λ s. refl })
+command_is verbs.Tick ws c e =
+    let h = map_is (λ moment. commands.Tick moment) (moment_word (word 3 ws)) c e in
+    of_verb verbs.Tick c (commands.Tick h.0) h.2 (record { role = λ r. refl; range = number_within MOMENT_MAX (word 3 ws) h.0 h.1; stream = λ s. refl })
+command_is verbs.Inhibit ws c e =
+    let h = map_is (λ moment. commands.Inhibit moment) (moment_word (word 3 ws)) c e in
+    of_verb verbs.Inhibit c (commands.Inhibit h.0) h.2 (record { role = λ r. refl; range = number_within MOMENT_MAX (word 3 ws) h.0 h.1; stream = λ s. refl })
+command_is verbs.Uninhibit ws c e = let h : commands.Uninhibit ≡ c = cc e in of_verb verbs.Uninhibit c commands.Uninhibit (sym h) (record { role = λ r. refl; range = refl; stream = λ s. refl })
+command_is verbs.Stream ws c e = absurd (cc e)
+command_is verbs.Open ws c e = let h : commands.Open ≡ c = cc e in of_verb verbs.Open c commands.Open (sym h) (record { role = λ r. refl; range = refl; stream = λ s. refl })
+command_is verbs.Close ws c e = let h : commands.Close ≡ c = cc e in of_verb verbs.Close c commands.Close (sym h) (record { role = λ r. refl; range = refl; stream = λ s. refl })
+command_is verbs.Grab ws c e = let h : commands.Grab ≡ c = cc e in of_verb verbs.Grab c commands.Grab (sym h) (record { role = λ r. refl; range = refl; stream = λ s. refl })
+command_is verbs.Ungrab ws c e = let h : commands.Ungrab ≡ c = cc e in of_verb verbs.Ungrab c commands.Ungrab (sym h) (record { role = λ r. refl; range = refl; stream = λ s. refl })
+command_is verbs.Revoke ws c e = let h : commands.Revoke ≡ c = cc e in of_verb verbs.Revoke c commands.Revoke (sym h) (record { role = λ r. refl; range = refl; stream = λ s. refl })
+command_is verbs.Mask ws c e =
+    let h = and_then_is (λ kind. option_and_then (λ place. option_map (λ bits. commands.Mask kind place bits) (wide_word (word 5 ws))) (number 65535 (word 4 ws))) (kind_word (word 3 ws)) c e in
+    let g = and_then_is (λ place. option_map (λ bits. commands.Mask h.0 place bits) (wide_word (word 5 ws))) (number 65535 (word 4 ws)) c h.2 in
+    let f = map_is (λ bits. commands.Mask h.0 g.0 bits) (wide_word (word 5 ws)) c g.2 in
+    of_verb verbs.Mask c (commands.Mask h.0 g.0 f.0) f.2 (record { role = λ r. refl; range = refl; stream = λ s. refl })
+command_is verbs.Clock ws c e =
+    let h = and_then_is (λ clock. option_map (λ moment. commands.Clock clock moment) (moment_word (word 4 ws))) (clock_word (word 3 ws)) c e in
+    let g = map_is (λ moment. commands.Clock h.0 moment) (moment_word (word 4 ws)) c h.2 in
+    of_verb verbs.Clock c (commands.Clock h.0 g.0) g.2 (record { role = λ r. refl; range = number_within MOMENT_MAX (word 4 ws) g.0 g.1; stream = λ s. refl })
+command_is verbs.Write ws c e =
+    let h = map_is (λ (s : Stamped). commands.Write s.now s.event.kind s.event.code s.event.value) (stamped_words ws) c e in
+    of_verb verbs.Write c (commands.Write h.0.now h.0.event.kind h.0.event.code h.0.event.value) h.2 (record { role = λ r. refl; range = moment_within ws h.0 h.1; stream = λ s. refl })
+command_is verbs.Read ws c e =
+    let h = map_is (λ count. commands.Read count) (number READ_MAX (word 3 ws)) c e in
+    of_verb verbs.Read c (commands.Read h.0) h.2 (record { role = λ r. refl; range = number_within READ_MAX (word 3 ws) h.0 h.1; stream = λ s. refl })
+command_is verbs.Discard ws c e = let h : commands.Discard ≡ c = cc e in of_verb verbs.Discard c commands.Discard (sym h) (record { role = λ r. refl; range = refl; stream = λ s. refl })
+command_is verbs.Keys ws c e = let h : commands.Keys ≡ c = cc e in of_verb verbs.Keys c commands.Keys (sym h) (record { role = λ r. refl; range = refl; stream = λ s. refl })
+command_is verbs.Switches ws c e = let h : commands.Switches ≡ c = cc e in of_verb verbs.Switches c commands.Switches (sym h) (record { role = λ r. refl; range = refl; stream = λ s. refl })
+command_is verbs.Leds ws c e = let h : commands.Leds ≡ c = cc e in of_verb verbs.Leds c commands.Leds (sym h) (record { role = λ r. refl; range = refl; stream = λ s. refl })
+command_is verbs.Sounds ws c e = let h : commands.Sounds ≡ c = cc e in of_verb verbs.Sounds c commands.Sounds (sym h) (record { role = λ r. refl; range = refl; stream = λ s. refl })
+command_is verbs.SyncSlots ws c e = let h : commands.SyncSlots ≡ c = cc e in of_verb verbs.SyncSlots c commands.SyncSlots (sym h) (record { role = λ r. refl; range = refl; stream = λ s. refl })
+command_is verbs.Axis ws c e =
+    let h = map_is (λ code. commands.Axis code) (code_word EV_ABS (word 3 ws)) c e in
+    of_verb verbs.Axis c (commands.Axis h.0) h.2 (record { role = λ r. refl; range = refl; stream = λ s. refl })
+command_is verbs.Slots ws c e =
+    let h = map_is (λ code. commands.Slots code) (code_word EV_ABS (word 3 ws)) c e in
+    of_verb verbs.Slots c (commands.Slots h.0) h.2 (record { role = λ r. refl; range = refl; stream = λ s. refl })
+command_is verbs.Next ws c e =
+    let h = map_is (λ count. commands.Next count) (count_word (word 3 ws)) c e in
+    of_verb verbs.Next c (commands.Next h.0) h.2 (record { role = λ r. refl; range = refl; stream = λ s. refl })
+command_is verbs.Skip ws c e =
+    let h = map_is (λ count. commands.Skip count) (count_word (word 3 ws)) c e in
+    of_verb verbs.Skip c (commands.Skip h.0) h.2 (record { role = λ r. refl; range = refl; stream = λ s. refl })
+command_is verbs.Follow ws c e = let h : commands.Follow ≡ c = cc e in of_verb verbs.Follow c commands.Follow (sym h) (record { role = λ r. refl; range = refl; stream = λ s. refl })
+command_is verbs.Force ws c e = let h : commands.Force ≡ c = cc e in of_verb verbs.Force c commands.Force (sym h) (record { role = λ r. refl; range = refl; stream = λ s. refl })
+
+streaming : (v : verb.Verb) → is_stream v ≡ true → v ≡ verbs.Stream
+streaming verbs.Event e = absurd (cc e)
+streaming verbs.Tick e = absurd (cc e)
+streaming verbs.Inhibit e = absurd (cc e)
+streaming verbs.Uninhibit e = absurd (cc e)
+streaming verbs.Stream e = refl
+streaming verbs.Open e = absurd (cc e)
+streaming verbs.Close e = absurd (cc e)
+streaming verbs.Grab e = absurd (cc e)
+streaming verbs.Ungrab e = absurd (cc e)
+streaming verbs.Revoke e = absurd (cc e)
+streaming verbs.Mask e = absurd (cc e)
+streaming verbs.Clock e = absurd (cc e)
+streaming verbs.Write e = absurd (cc e)
+streaming verbs.Read e = absurd (cc e)
+streaming verbs.Discard e = absurd (cc e)
+streaming verbs.Keys e = absurd (cc e)
+streaming verbs.Switches e = absurd (cc e)
+streaming verbs.Leds e = absurd (cc e)
+streaming verbs.Sounds e = absurd (cc e)
+streaming verbs.SyncSlots e = absurd (cc e)
+streaming verbs.Axis e = absurd (cc e)
+streaming verbs.Slots e = absurd (cc e)
+streaming verbs.Next e = absurd (cc e)
+streaming verbs.Skip e = absurd (cc e)
+streaming verbs.Follow e = absurd (cc e)
+streaming verbs.Force e = absurd (cc e)
+
+-- what an action is of these actors, behind so many streams
+pub record IsAct (actors : List ActorText) (streams : ℕ) (actor : ℕ) (c : command.Command) : Type 0 where
+  pub who : ActorText
+  pub named : slice_get actors actor ≡ Some who
+  pub command : is_command_of who.role c ≡ true
+  pub range : is_in_range c ≡ true
+  pub stream : stream_of c ≡ range_with_len streams (streams_in c)
+
+command_of_is : (s : ℕ) (v : verb.Verb) (ws : List (List ℕ)) (c : command.Command) → command_of s v ws ≡ Some c
+    → ((r : role.Role) → is_command_of r c ≡ is_verb_of r v) × (is_in_range c ≡ true) × (stream_of c ≡ range_with_len s (streams_in c))
+unfolding command_of
+command_of_is s v ws c e = by_stream (is_stream v) refl e
+  where
+    by_stream : (is : Bool) → is_stream v ≡ is → (if is then Some (commands.Stream (word 3 ws) s) else plain_command v ws) ≡ Some c → ((r : role.Role) → is_command_of r c ≡ is_verb_of r v) × (is_in_range c ≡ true) × (stream_of c ≡ range_with_len s (streams_in c))
+    by_stream true h e =
+        let same : commands.Stream (word 3 ws) s ≡ c = cc e in
+        (λ r. rw (← same, streaming v h) refl, rw (← same) refl, rw (← same) refl)
+    by_stream false h e = let f = command_is v ws c e in (f.role, f.range, f.stream s)
+
+if_some : {A : Type 0} (b : Bool) (x y : A) → (if b then Some x else None) ≡ Some y → (b ≡ true) × (x ≡ y)
+if_some true x y e = (refl, cc e)
+if_some false x y e = absurd (cc e)
+
+both_first : (a b : Bool) → (a && b) ≡ true → a ≡ true
+both_first true b h = refl
+both_first false b h = absurd (cc h)
+
+with_is : (r : role.Role) (count : ℕ) (o : Option verb.Verb) (v : verb.Verb) → with_arguments r count o ≡ Some v → is_verb_of r v ≡ true
+with_is r count None v e = absurd (cc e)
+with_is r count (Some u) v e =
+    let h = if_some (is_verb_of r u && nat_eq (argument_count u) count) u v e in
+    subst (λ (x : verb.Verb). is_verb_of r x ≡ true) h.1 (both_first (is_verb_of r u) (nat_eq (argument_count u) count) h.0)
+
+verb_is : (r : role.Role) (w : List ℕ) (count : ℕ) (v : verb.Verb) → verb_of r w count ≡ Some v → is_verb_of r v ≡ true
+unfolding verb_of
+verb_is r w count v e = with_is r count (named verb_rows w) v e
+
+actor_is : (n : ℕ) (actors : List ActorText) (w : List ℕ) (a : ℕ × role.Role) → actor_from n actors w ≡ Some a → (i : ℕ) × (who : ActorText) × (a.0 ≡ n + i) × (slice_get actors i ≡ Some who) × (who.role ≡ a.1)
+unfolding actor_from
+actor_is n [] w a e = absurd (cc e)
+actor_is n (actor ∷ actors) w a e = by_name (bytes_eq actor.name w) (actor_is (suc n) actors w a) e
+  where
+    by_name : (is : Bool) → (actor_from (suc n) actors w ≡ Some a → (i : ℕ) × (who : ActorText) × (a.0 ≡ suc n + i) × (slice_get actors i ≡ Some who) × (who.role ≡ a.1))
+        → (if is then Some (n, actor.role) else actor_from (suc n) actors w) ≡ Some a → (i : ℕ) × (who : ActorText) × (a.0 ≡ n + i) × (slice_get (actor ∷ actors) i ≡ Some who) × (who.role ≡ a.1)
+    by_name true more e = let same : (n, actor.role) ≡ a = cc e in (0, actor, (rw (← same) (omega arith)), refl, ap (λ (x : ℕ × role.Role). x.1) same)
+    by_name false more e = let h = more e in (suc h.0, h.1, omega (arith, h.2), h.3, h.4)
+
+action_of_is : (actor : ℕ) (o : Option command.Command) (i : item.Item) → action_of actor o ≡ Ok i → (c : command.Command) × (o ≡ Some c) × (items.Action actor c ≡ i)
+action_of_is actor None i e = absurd (cc e)
+action_of_is actor (Some c) i e = (c, refl, cc e)
+
+-- the meaning of an action line
+pub act_is : (actors : List ActorText) (s : ℕ) (ws : List (List ℕ)) (i : item.Item) → action_item actors s ws ≡ Ok i → (actor : ℕ) × (c : command.Command) × (i ≡ items.Action actor c) × IsAct actors s actor c
+act_is actors s ws i e = by_actor (actor_from 0 actors (word 1 ws)) refl e
+  where
+    by_verb : (a : ℕ × role.Role) → actor_from 0 actors (word 1 ws) ≡ Some a → (o : Option verb.Verb) → verb_of a.1 (word 2 ws) (length ws - 3) ≡ o → action_by s a.0 o ws ≡ Ok i → (actor : ℕ) × (c : command.Command) × (i ≡ items.Action actor c) × IsAct actors s actor c
+    by_verb a h None g e = absurd (cc e)
+    by_verb a h (Some v) g e =
+        let k = action_of_is a.0 (command_of s v ws) i e in
+        let c = k.0 in
+        let f = command_of_is s v ws c k.1 in
+        let who = actor_is 0 actors (word 1 ws) a h in
+        let at : a.0 ≡ who.0 = omega (arith, who.2) in (
+          a.0,
+          c,
+          sym k.2,
+          record {
+            who = who.1;
+            named = subst (λ (k : ℕ). slice_get actors k ≡ Some who.1) (sym at) who.3;
+            command = rw who.4 (f.0 a.1 ∙ verb_is a.1 (word 2 ws) (length ws - 3) v g);
+            range = f.1;
+            stream = f.2;
+          },
+        )
+
+    by_actor : (o : Option (ℕ × role.Role)) → actor_from 0 actors (word 1 ws) ≡ o → action_with s o ws ≡ Ok i → (actor : ℕ) × (c : command.Command) × (i ≡ items.Action actor c) × IsAct actors s actor c
+    by_actor None h e = absurd (cc e)
+    by_actor (Some a) h e = by_verb a h (verb_of a.1 (word 2 ws) (length ws - 3)) refl e

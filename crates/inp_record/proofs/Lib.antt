@@ -1,0 +1,11 @@
+pub mod Behind
+pub mod Computing
+pub mod Entries
+pub mod Good
+pub mod Inversions
+pub mod LineNumbers
+pub mod Pasts
+pub mod Reading
+pub mod Rooms
+pub mod Stamps
+pub mod Texts

@@ -1,0 +1,12 @@
+use Rattle.std.proofs.Common.{◌≡◌, true, subst, sym, List, ℕ, rules, arith}
+use Rattle.inp_words.specs.Line.{AreText, is_text, words_of}
+use Rattle.inp_record.specs.Words.{texts}
+use Rattle.inp_record.proofs.Texts.{words_are_text}
+use Rattle.inp_record.proofs.line_reader.read_line.Goals as goal
+
+pub read_words-requires-clause-text : goal.read_words-requires-clause-text
+read_words-requires-clause-text c =
+    let text : is_text c.args.line.now ≡ true = grind arith in
+    let is : texts c.deref.result.now ≡ words_of c.args.line.now = search rules in
+    let P : List (List ℕ) → Type 0 = AreText in
+    subst P (sym is) (words_are_text c.args.line.now text)

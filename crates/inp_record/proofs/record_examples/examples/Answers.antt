@@ -1,0 +1,56 @@
+-- Each example computes.
+use Rattle.std.proofs.Common.{refl}
+use Rattle.inp_record.proofs.Computing.{record_computing}
+use Rattle.inp_record.proofs.record_examples.examples.Goals as goal
+
+pub returns-clause-other_bytes : goal.returns-clause-other_bytes
+unfolding record_computing
+returns-clause-other_bytes c = record { first = refl; blank = refl; two_returns = refl; return_before_comment = refl; delete = refl; beyond_ascii = refl; before_bad_line = refl }
+
+pub returns-clause-headers : goal.returns-clause-headers
+unfolding record_computing
+returns-clause-headers c = record { none = refl; comment_alone = refl; version = refl; no_version = refl; more = refl; device = refl; no_keyword = refl }
+
+pub returns-clause-lines : goal.returns-clause-lines
+unfolding record_computing
+returns-clause-lines c = record { keyword = refl; capital = refl; second_header = refl; device = refl; device_more = refl; hint = refl; log = refl; clock = refl; slots = refl; type_line = refl; cap = refl; axis = refl; source = refl; client = refl; tap = refl; action = refl; before_place = refl }
+
+pub returns-clause-places : goal.returns-clause-places
+unfolding record_computing
+returns-clause-places c = record { second_header = refl; hint = refl; log = refl; clock = refl; slots = refl; type_line = refl; cap = refl; axis = refl; source = refl; client = refl; tap = refl; device = refl; before_words = refl }
+
+pub returns-clause-actors : goal.returns-clause-actors
+unfolding record_computing
+returns-clause-actors c = record { no_device = refl; other = refl; no_name = refl; device = refl; before_command = refl }
+
+pub returns-clause-commands : goal.returns-clause-commands
+unfolding record_computing
+returns-clause-commands c = record { none = refl; source = refl; client = refl; tap = refl; tap_source = refl; less = refl; more = refl; before_word = refl }
+
+pub returns-clause-words : goal.returns-clause-words
+unfolding record_computing
+returns-clause-words c = record { device = refl; long_name = refl; hint = refl; wide_hint = refl; log = refl; clock = refl; offset = refl; slots = refl; type_line = refl; cap = refl; axis_code = refl; axis_number = refl; actor = refl; moment = refl; kind = refl; code = refl; value = refl; count = refl; mask = refl; clock_moment = refl; before_twice = refl }
+
+pub returns-clause-repeats : goal.returns-clause-repeats
+unfolding record_computing
+returns-clause-repeats c = record { hint = refl; log = refl; clock = refl; slots = refl; axis = refl; device = refl; actor = refl; actor_of_another = refl }
+
+pub returns-clause-more : goal.returns-clause-more
+unfolding record_computing
+returns-clause-more c = record { device = refl; source = refl; stream = refl }
+
+pub returns-clause-descriptions : goal.returns-clause-descriptions
+unfolding record_computing
+returns-clause-descriptions c = record { hint = refl; wide_hint = refl; log = refl; realtime = refl; boottime = refl; slots = refl; type_line = refl; cap = refl; cap_of_no_kind = refl; cap_of_axis = refl; axis_code = refl; axis = refl; slot_fuzz = refl }
+
+pub returns-clause-accepted : goal.returns-clause-accepted
+unfolding record_computing
+returns-clause-accepted c = record { comments = refl; devices = refl; again = refl; name_spaces = refl; long_name = refl; supported_twice = refl; bounds = refl; moment = refl; streams = refl }
+
+pub returns-clause-records : goal.returns-clause-records
+unfolding record_computing
+returns-clause-records c = record { header = refl; device = refl; one_key = refl; loose = refl }
+
+pub returns-clause-actions : goal.returns-clause-actions
+unfolding record_computing
+returns-clause-actions c = record { source = refl; client = refl; reading = refl; tap = refl }

@@ -1,0 +1,254 @@
+-- Short records worked out by hand: which line is refused and why, or what they mean.
+use Rattle.std.specs.Prelude.{◌≡◌, ℕ, pos, true, List, [], ◌∷◌, ◌++◌, codes, replicate, map, sum_by, negsuc, Ok, Err, is_ok}
+use Rattle.std.specs.List.{flat_map}
+use Rattle.inp_model.specs.declared.clock.Clock.TheVariants.{Monotonic, Boottime}
+use Rattle.inp_model.specs.Description.{one_key as keyboard}
+use Rattle.inp_caps.specs.declared.caps_refused.CapsRefused.TheVariants.{BadCode, BadAxis, BadSlots, BadHint, BadLog, BadOffset}
+use Rattle.inp_caps.specs.Builder.{syn_alone}
+use Rattle.inp_actors.specs.declared.command.Command as command
+use Rattle.inp_actors.specs.declared.command.Command.TheVariants as commands
+use Rattle.inp_actors.specs.declared.role.Role.TheVariants as roles
+use Rattle.inp_actors.specs.Record.{RecordView}
+use Rattle.inp_record.specs.declared.cause.Cause.{Cause}
+use Rattle.inp_record.specs.declared.cause.Cause.TheVariants.{NotText, BadHeader, BadLine, OutOfPlace, NoActor, BadCommand, BadWord, Twice, TooMany, Caps}
+use Rattle.inp_record.specs.Past.{streams_in}
+use Rattle.inp_record.specs.Meaning.{meaning}
+
+-- lines, each with its line feed
+abbrev pub text_of : List (List ℕ) → List ℕ
+text_of lines = flat_map (λ line. line ++ 10 ∷ []) lines
+
+-- these lines are refused at this one
+abbrev pub IsRefused : ℕ → Cause → List (List ℕ) → Type 0
+IsRefused line cause lines = meaning (text_of lines) ≡ Err (record { line = line; cause = cause })
+
+-- these lines are a record
+abbrev pub IsRead : List (List ℕ) → Type 0
+IsRead lines = is_ok (meaning (text_of lines)) ≡ true
+
+abbrev pub header_lines : List (List ℕ)
+header_lines = codes "inputrecord 1" ∷ []
+
+-- a device of which nothing was said
+abbrev pub device_lines : List (List ℕ)
+device_lines = header_lines ++ codes "device d" ∷ []
+
+-- with an actor of each role
+abbrev pub actor_lines : List (List ℕ)
+actor_lines = device_lines ++ codes "source s" ∷ codes "client c" ∷ codes "tap t" ∷ []
+
+-- A byte that is no text, outside comments.
+pub record RefusesOtherBytes : Type 0 where
+  pub first : IsRefused 1 NotText ((0 ∷ []) ∷ [])
+  pub blank : IsRefused 2 NotText (header_lines ++ (32 ∷ 7 ∷ []) ∷ [])
+  pub two_returns : IsRefused 1 NotText ((codes "inputrecord 1" ++ 13 ∷ 13 ∷ []) ∷ [])
+  pub return_before_comment : IsRefused 2 NotText (header_lines ++ (13 ∷ codes "#") ∷ [])
+  pub delete : IsRefused 3 NotText (device_lines ++ (codes "hint 16" ++ 127 ∷ []) ∷ [])
+  pub beyond_ascii : IsRefused 2 NotText (header_lines ++ (codes "device d" ++ 195 ∷ 164 ∷ []) ∷ [])
+  pub before_bad_line : IsRefused 2 NotText (header_lines ++ (codes "foo" ++ 1 ∷ []) ∷ [])
+
+-- A first line that is not the header.
+pub record RefusesHeaders : Type 0 where
+  pub none : meaning [] ≡ Err (record { line = 1; cause = BadHeader })
+  pub comment_alone : IsRefused 2 BadHeader (codes "#" ∷ [])
+  pub version : IsRefused 1 BadHeader (codes "inputrecord 2" ∷ [])
+  pub no_version : IsRefused 1 BadHeader (codes "inputrecord" ∷ [])
+  pub more : IsRefused 1 BadHeader (codes "inputrecord 1 1" ∷ [])
+  pub device : IsRefused 2 BadHeader (codes "# a device" ∷ codes "device d" ∷ [])
+  pub no_keyword : IsRefused 1 BadHeader (codes "foo" ∷ [])
+
+-- A first word that begins no line, or another number of words.
+pub record RefusesLines : Type 0 where
+  pub keyword : IsRefused 2 BadLine (header_lines ++ codes "foo" ∷ [])
+  pub capital : IsRefused 2 BadLine (header_lines ++ codes "Device d" ∷ [])
+  pub second_header : IsRefused 2 BadLine (header_lines ++ codes "inputrecord" ∷ [])
+  pub device : IsRefused 2 BadLine (header_lines ++ codes "device" ∷ [])
+  pub device_more : IsRefused 2 BadLine (header_lines ++ codes "device a b" ∷ [])
+  pub hint : IsRefused 3 BadLine (device_lines ++ codes "hint" ∷ [])
+  pub log : IsRefused 3 BadLine (device_lines ++ codes "log 1 1" ∷ [])
+  pub clock : IsRefused 3 BadLine (device_lines ++ codes "clock realtime" ∷ [])
+  pub slots : IsRefused 3 BadLine (device_lines ++ codes "slots" ∷ [])
+  pub type_line : IsRefused 3 BadLine (device_lines ++ codes "type EV_KEY KEY_A" ∷ [])
+  pub cap : IsRefused 3 BadLine (device_lines ++ codes "cap EV_KEY" ∷ [])
+  pub axis : IsRefused 3 BadLine (device_lines ++ codes "axis ABS_X 0 0 0 0 0" ∷ [])
+  pub source : IsRefused 3 BadLine (device_lines ++ codes "source" ∷ [])
+  pub client : IsRefused 3 BadLine (device_lines ++ codes "client a b" ∷ [])
+  pub tap : IsRefused 3 BadLine (device_lines ++ codes "tap" ∷ [])
+  pub action : IsRefused 3 BadLine (device_lines ++ codes "do x" ∷ [])
+  pub before_place : IsRefused 2 BadLine (header_lines ++ codes "hint" ∷ [])
+
+-- A line that stands where it may not.
+pub record RefusesPlaces : Type 0 where
+  pub second_header : IsRefused 2 OutOfPlace (header_lines ++ codes "inputrecord 9" ∷ [])
+  pub hint : IsRefused 2 OutOfPlace (header_lines ++ codes "hint 16" ∷ [])
+  pub log : IsRefused 6 OutOfPlace (actor_lines ++ codes "log 16" ∷ [])
+  pub clock : IsRefused 7 OutOfPlace (actor_lines ++ codes "do t open" ∷ codes "clock realtime 0" ∷ [])
+  pub slots : IsRefused 2 OutOfPlace (header_lines ++ codes "slots 2" ∷ [])
+  pub type_line : IsRefused 4 OutOfPlace (device_lines ++ codes "source s" ∷ codes "type EV_KEY" ∷ [])
+  pub cap : IsRefused 4 OutOfPlace (device_lines ++ codes "tap t" ∷ codes "cap EV_KEY KEY_A" ∷ [])
+  pub axis : IsRefused 4 OutOfPlace (device_lines ++ codes "client c" ∷ codes "axis ABS_X 0 0 0 0 0 0" ∷ [])
+  pub source : IsRefused 2 OutOfPlace (header_lines ++ codes "source s" ∷ [])
+  pub client : IsRefused 7 OutOfPlace (actor_lines ++ codes "do t open" ∷ codes "client d" ∷ [])
+  pub tap : IsRefused 7 OutOfPlace (actor_lines ++ codes "do t open" ∷ codes "tap d" ∷ [])
+  pub device : IsRefused 7 OutOfPlace (actor_lines ++ codes "do t open" ∷ codes "device e" ∷ [])
+  pub before_words : IsRefused 2 OutOfPlace (header_lines ++ codes "hint x" ∷ [])
+
+-- An action of no actor.
+pub record RefusesActors : Type 0 where
+  pub no_device : IsRefused 2 NoActor (header_lines ++ codes "do x open" ∷ [])
+  pub other : IsRefused 6 NoActor (actor_lines ++ codes "do x open" ∷ [])
+  pub no_name : IsRefused 6 NoActor (actor_lines ++ codes "do T open" ∷ [])
+  pub device : IsRefused 6 NoActor (actor_lines ++ codes "do d open" ∷ [])
+  pub before_command : IsRefused 6 NoActor (actor_lines ++ codes "do x foo" ∷ [])
+
+-- A command that its actor does not have, or with another number of words.
+pub record RefusesCommands : Type 0 where
+  pub none : IsRefused 6 BadCommand (actor_lines ++ codes "do t foo" ∷ [])
+  pub source : IsRefused 6 BadCommand (actor_lines ++ codes "do s open" ∷ [])
+  pub client : IsRefused 6 BadCommand (actor_lines ++ codes "do c read 1" ∷ [])
+  pub tap : IsRefused 6 BadCommand (actor_lines ++ codes "do t follow" ∷ [])
+  pub tap_source : IsRefused 6 BadCommand (actor_lines ++ codes "do t tick 1" ∷ [])
+  pub less : IsRefused 6 BadCommand (actor_lines ++ codes "do t read" ∷ [])
+  pub more : IsRefused 6 BadCommand (actor_lines ++ codes "do t open 1" ∷ [])
+  pub before_word : IsRefused 6 BadCommand (actor_lines ++ codes "do t read x x" ∷ [])
+
+-- A word that does not have its form or its range.
+pub record RefusesWords : Type 0 where
+  pub device : IsRefused 2 BadWord (header_lines ++ codes "device D" ∷ [])
+  pub long_name : IsRefused 2 BadWord (header_lines ++ codes "device abcdefghijklmnopqrstuvwxyz0123456" ∷ [])
+  pub hint : IsRefused 3 BadWord (device_lines ++ codes "hint x" ∷ [])
+  pub wide_hint : IsRefused 3 BadWord (device_lines ++ codes "hint 4294967296" ∷ [])
+  pub log : IsRefused 3 BadWord (device_lines ++ codes "log -1" ∷ [])
+  pub clock : IsRefused 3 BadWord (device_lines ++ codes "clock monotonic 0" ∷ [])
+  pub offset : IsRefused 3 BadWord (device_lines ++ codes "clock realtime 18446744073709551616" ∷ [])
+  pub slots : IsRefused 3 BadWord (device_lines ++ codes "slots 0x" ∷ [])
+  pub type_line : IsRefused 3 BadWord (device_lines ++ codes "type EV_FF" ∷ [])
+  pub cap : IsRefused 3 BadWord (device_lines ++ codes "cap 7 KEY_A" ∷ [])
+  pub axis_code : IsRefused 3 BadWord (device_lines ++ codes "axis KEY_A 0 0 0 0 0 0" ∷ [])
+  pub axis_number : IsRefused 3 BadWord (device_lines ++ codes "axis ABS_X 0 0 2147483648 0 0 0" ∷ [])
+  pub actor : IsRefused 3 BadWord (device_lines ++ codes "source S" ∷ [])
+  pub moment : IsRefused 6 BadWord (actor_lines ++ codes "do s tick 9000000000000001" ∷ [])
+  pub kind : IsRefused 6 BadWord (actor_lines ++ codes "do s event 0 65536 0 0" ∷ [])
+  pub code : IsRefused 6 BadWord (actor_lines ++ codes "do s event 0 EV_KEY ABS_X 0" ∷ [])
+  pub value : IsRefused 6 BadWord (actor_lines ++ codes "do s event 0 EV_KEY KEY_A 1.0" ∷ [])
+  pub count : IsRefused 6 BadWord (actor_lines ++ codes "do t read 4097" ∷ [])
+  pub mask : IsRefused 6 BadWord (actor_lines ++ codes "do t mask EV_KEY 65536 0" ∷ [])
+  pub clock_moment : IsRefused 6 BadWord (actor_lines ++ codes "do t clock utc 0" ∷ [])
+  pub before_twice : IsRefused 4 BadWord (device_lines ++ codes "hint 16" ∷ codes "hint x" ∷ [])
+
+-- What may be given once, given twice.
+pub record RefusesRepeats : Type 0 where
+  pub hint : IsRefused 4 Twice (device_lines ++ codes "hint 16" ∷ codes "hint 1" ∷ [])
+  pub log : IsRefused 4 Twice (device_lines ++ codes "log 16" ∷ codes "log 16" ∷ [])
+  pub clock : IsRefused 4 Twice (device_lines ++ codes "clock realtime 1" ∷ codes "clock realtime 2" ∷ [])
+  pub slots : IsRefused 4 Twice (device_lines ++ codes "slots 2" ∷ codes "slots 0" ∷ [])
+  pub axis : IsRefused 4 Twice (device_lines ++ codes "axis ABS_X 0 0 0 0 0 0" ∷ codes "axis 0 0 0 0 0 0 0" ∷ [])
+  pub device : IsRefused 3 Twice (device_lines ++ codes "device d" ∷ [])
+  pub actor : IsRefused 4 Twice (device_lines ++ codes "source s" ∷ codes "tap s" ∷ [])
+  pub actor_of_another : IsRefused 5 Twice (device_lines ++ codes "source s" ∷ codes "device e" ∷ codes "source s" ∷ [])
+
+-- One more than there may be.
+pub record RefusesMore : Type 0 where
+  pub device : IsRefused 10 TooMany (header_lines ++ codes "device a" ∷ codes "device b" ∷ codes "device c" ∷ codes "device d" ∷ codes "device e" ∷ codes "device f" ∷ codes "device g" ∷ codes "device h" ∷ codes "device i" ∷ [])
+  pub source : IsRefused 11 TooMany (device_lines ++ codes "source a" ∷ codes "source b" ∷ codes "source c" ∷ codes "source d" ∷ codes "source e" ∷ codes "source f" ∷ codes "source g" ∷ codes "source h" ∷ codes "source i" ∷ [])
+  pub stream : IsRefused 20 TooMany (device_lines ++ codes "source s" ∷ replicate 17 (codes "do s stream f"))
+
+-- What no device has.
+pub record RefusesDescriptions : Type 0 where
+  pub hint : IsRefused 3 (Caps BadHint) (device_lines ++ codes "hint 1" ∷ [])
+  pub wide_hint : IsRefused 3 (Caps BadHint) (device_lines ++ codes "hint 513" ∷ [])
+  pub log : IsRefused 3 (Caps BadLog) (device_lines ++ codes "log 0" ∷ [])
+  pub realtime : IsRefused 3 (Caps BadOffset) (device_lines ++ codes "clock realtime 9000000000000001" ∷ [])
+  pub boottime : IsRefused 4 (Caps BadOffset) (device_lines ++ codes "clock realtime 1" ∷ codes "clock boottime 9000000000000001" ∷ [])
+  pub slots : IsRefused 3 (Caps BadSlots) (device_lines ++ codes "slots 0" ∷ [])
+  pub type_line : IsRefused 3 (Caps BadCode) (device_lines ++ codes "type 6" ∷ [])
+  pub cap : IsRefused 3 (Caps BadCode) (device_lines ++ codes "cap EV_KEY 0" ∷ [])
+  pub cap_of_no_kind : IsRefused 3 (Caps BadCode) (device_lines ++ codes "cap 7 5" ∷ [])
+  pub cap_of_axis : IsRefused 3 (Caps BadCode) (device_lines ++ codes "cap EV_ABS ABS_X" ∷ [])
+  pub axis_code : IsRefused 3 (Caps BadCode) (device_lines ++ codes "axis 64 0 0 0 -1 0 0" ∷ [])
+  pub axis : IsRefused 3 (Caps BadAxis) (device_lines ++ codes "axis ABS_X 0 0 9 -1 0 0" ∷ [])
+  pub slot_fuzz : IsRefused 3 (Caps BadAxis) (device_lines ++ codes "axis ABS_MT_SLOT 0 0 9 1 0 0" ∷ [])
+
+-- What is right although it looks wrong.
+pub record AcceptsLines : Type 0 where
+  pub comments : IsRead (codes "  # first" ∷ [] ∷ header_lines ++ (9 ∷ codes "#" ++ 0 ∷ 255 ∷ []) ∷ codes "  " ∷ codes "device d" ∷ [])
+  pub devices : IsRead (header_lines ++ codes "device a" ∷ codes "device b" ∷ codes "device c" ∷ codes "device d" ∷ codes "device e" ∷ codes "device f" ∷ codes "device g" ∷ codes "device h" ∷ [])
+  pub again : IsRead (actor_lines ++ codes "device e" ∷ codes "hint 16" ∷ codes "source r" ∷ [])
+  pub name_spaces : IsRead (device_lines ++ codes "source d" ∷ codes "device s" ∷ [])
+  pub long_name : IsRead (header_lines ++ codes "device abcdefghijklmnopqrstuvwxyz01_-23" ∷ [])
+  pub supported_twice : IsRead (device_lines ++ codes "type EV_SYN" ∷ codes "type 0" ∷ codes "cap 1 KEY_A" ∷ codes "cap EV_KEY 30" ∷ codes "cap EV_REP 0" ∷ [])
+  pub bounds : IsRead (device_lines ++ codes "hint 0x200" ∷ codes "log 8388608" ∷ codes "clock boottime 9000000000000000" ∷ codes "slots 64" ∷ codes "axis 0x3f -1 -2 -3 1073741824 -4 -5" ∷ [])
+  pub moment : IsRead (actor_lines ++ codes "do s tick 9000000000000000" ∷ [])
+  pub streams : IsRead (device_lines ++ codes "source s" ∷ replicate 16 (codes "do s stream f"))
+
+-- one key, one source and one tap
+abbrev pub stroke_lines : List (List ℕ)
+stroke_lines =
+    codes "inputrecord 1"
+    ∷ codes "device kbd"
+    ∷ codes "cap EV_KEY KEY_A"
+    ∷ codes "source s"
+    ∷ codes "tap t"
+    ∷ codes "do t open"
+    ∷ codes "do s event 1000 EV_KEY KEY_A 1"
+    ∷ codes "do s event 1000 EV_SYN SYN_REPORT 0"
+    ∷ codes "do t read 16"
+    ∷ []
+
+-- the same in other words, with blanks, comments and carriage returns, and without a last line feed
+abbrev pub loose_stroke : List ℕ
+loose_stroke =
+    text_of (
+    codes "# one key" ∷ (codes " inputrecord" ++ 9 ∷ codes "1" ++ 13 ∷ []) ∷ codes "device  kbd" ∷ [] ∷ codes "cap 1 0x1e" ∷ codes "source s "
+    ∷ codes "tap t" ∷ codes "do t open" ∷ codes "do s event 0x3e8 1 30 0x1" ∷ codes "do s event 001000 0 0 -0" ∷ []
+    ) ++ codes "do t read 0016" ++ 13 ∷ []
+
+abbrev pub stroke_record : RecordView
+stroke_record = record {
+  devices = record { name = codes "kbd"; caps = keyboard } ∷ [];
+  actors = record { name = codes "s"; role = roles.Source; device = 0 } ∷ record { name = codes "t"; role = roles.Tap; device = 0 } ∷ [];
+  lines =
+      record { actor = 1; command = commands.Open }
+      ∷ record { actor = 0; command = commands.Event 1000 1 30 (pos 1) }
+      ∷ record { actor = 0; command = commands.Event 1000 0 0 (pos 0) }
+      ∷ record { actor = 1; command = commands.Read 16 }
+      ∷ [];
+  streams = [];
+}
+
+-- What whole records mean.
+pub record MeansRecords : Type 0 where
+  pub header : meaning (codes "inputrecord 1") ≡ Ok (record { devices = []; actors = []; lines = []; streams = [] })
+  pub device : meaning (text_of device_lines) ≡ Ok (record { devices = record { name = codes "d"; caps = syn_alone } ∷ []; actors = []; lines = []; streams = [] })
+  pub one_key : meaning (text_of stroke_lines) ≡ Ok stroke_record
+  pub loose : meaning loose_stroke ≡ Ok stroke_record
+
+-- the lines of a record of three actors with these actions
+abbrev pub AreActions : List (List ℕ) → List (ℕ × command.Command) → Type 0
+AreActions lines actions =
+    meaning (text_of (actor_lines ++ lines))
+    ≡ Ok (record {
+      devices = record { name = codes "d"; caps = syn_alone } ∷ [];
+      actors =
+          record { name = codes "s"; role = roles.Source; device = 0 }
+          ∷ record { name = codes "c"; role = roles.Client; device = 0 }
+          ∷ record { name = codes "t"; role = roles.Tap; device = 0 }
+          ∷ [];
+      lines = map (λ action. record { actor = action.0; command = action.1 }) actions;
+      streams = replicate (sum_by (λ action. streams_in action.1) actions) [];
+    })
+
+-- What actions mean, each command once.
+pub record MeansActions : Type 0 where
+  pub source : AreActions
+      (codes "do s event 1 EV_REL REL_X -1" ∷ codes "do s tick 2" ∷ codes "do s stream a/b.bin" ∷ codes "do s inhibit 0x3" ∷ codes "do s uninhibit" ∷ codes "do s stream -" ∷ [])
+      ((0, commands.Event 1 2 0 (negsuc 0)) ∷ (0, commands.Tick 2) ∷ (0, commands.Stream (codes "a/b.bin") 0) ∷ (0, commands.Inhibit 3) ∷ (0, commands.Uninhibit) ∷ (0, commands.Stream (codes "-") 1) ∷ [])
+  pub client : AreActions
+      (codes "do c open" ∷ codes "do c next 4294967295" ∷ codes "do c skip 0" ∷ codes "do c follow" ∷ codes "do c force" ∷ codes "do c clock boottime 7" ∷ [])
+      ((1, commands.Open) ∷ (1, commands.Next 4294967295) ∷ (1, commands.Skip 0) ∷ (1, commands.Follow) ∷ (1, commands.Force) ∷ (1, commands.Clock Boottime 7) ∷ [])
+  pub reading : AreActions
+      (codes "do t grab" ∷ codes "do t ungrab" ∷ codes "do c mask 1 11 0xffffffffffffffff" ∷ codes "do t clock monotonic 1" ∷ codes "do c write 5 EV_LED LED_CAPSL 1" ∷ codes "do t revoke" ∷ codes "do c close" ∷ [])
+      ((2, commands.Grab) ∷ (2, commands.Ungrab) ∷ (1, commands.Mask 1 11 18446744073709551615) ∷ (2, commands.Clock Monotonic 1) ∷ (1, commands.Write 5 17 1 (pos 1)) ∷ (2, commands.Revoke) ∷ (1, commands.Close) ∷ [])
+  pub tap : AreActions
+      (codes "do t read 4096" ∷ codes "do t discard" ∷ codes "do t keys" ∷ codes "do t switches" ∷ codes "do t leds" ∷ codes "do t sounds" ∷ codes "do t syncslots" ∷ codes "do t axis ABS_X" ∷ codes "do t slots 0x35" ∷ [])
+      ((2, commands.Read 4096) ∷ (2, commands.Discard) ∷ (2, commands.Keys) ∷ (2, commands.Switches) ∷ (2, commands.Leds) ∷ (2, commands.Sounds) ∷ (2, commands.SyncSlots) ∷ (2, commands.Axis 0) ∷ (2, commands.Slots 53) ∷ [])

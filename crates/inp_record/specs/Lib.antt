@@ -1,0 +1,11 @@
+pub mod Cause
+pub mod Fault
+pub mod Keyword
+pub mod Verb
+pub mod Place
+pub mod Words
+pub mod Past
+pub mod Meaning
+pub mod Examples
+pub mod Stream
+pub mod LineNumber

@@ -1,0 +1,189 @@
+-- What bytes mean as a record, and else which line is refused and why (docs/FORMATS.md, "Causes").
+use Rattle.std.specs.Prelude.{◌≡◌, ℕ, suc, ◌+◌, Bool, false, ◌&&◌, ◌||◌, not, if◌then◌else◌, nat_eq, nat_le, nat_lt, is_some, bytes_eq, List, [], ◌∷◌, length, replicate, Option, Some, None, Result, Ok, Err}
+use Rattle.std.specs.List.{list_any}
+use Rattle.inp_model.specs.declared.event.TheConstants.{ABS_MAX}
+use Rattle.inp_model.specs.declared.limits.TheConstants.{SLOTS_MAX, HINT_MIN, HINT_MAX, LOG_MAX}
+use Rattle.inp_model.specs.declared.stamped.TheConstants.{MOMENT_MAX}
+use Rattle.inp_model.specs.Description.{is_kind, is_bad_axis}
+use Rattle.inp_caps.specs.declared.caps_refused.CapsRefused.{CapsRefused}
+use Rattle.inp_caps.specs.declared.caps_refused.CapsRefused.TheVariants.{BadCode, BadAxis, BadSlots, BadHint, BadLog, BadOffset}
+use Rattle.inp_caps.specs.Builder.{is_code, syn_alone}
+use Rattle.inp_actors.specs.declared.role.Role.{Role}
+use Rattle.inp_actors.specs.Command.{is_source}
+use Rattle.inp_actors.specs.Record.{RecordView}
+use Rattle.inp_words.specs.Line.{lines_of as text_lines, words_of, is_comment, is_text}
+use Rattle.inp_record.specs.declared.cause.Cause.{Cause}
+use Rattle.inp_record.specs.declared.cause.Cause.TheVariants.{NotText, BadHeader, BadLine, OutOfPlace, Twice, TooMany, Caps}
+use Rattle.inp_record.specs.declared.line_fault.LineFault.{LineFault}
+use Rattle.inp_record.specs.declared.line_fault.LineFault.TheVariants as line
+use Rattle.inp_record.specs.declared.refused.Refused.{Refused}
+use Rattle.inp_record.specs.declared.refused.ParseFault.{ParseFault}
+use Rattle.inp_record.specs.declared.refused.ParseFault.TheVariants as fault
+use Rattle.inp_record.specs.declared.context.Context.{Context}
+use Rattle.inp_record.specs.declared.context.TheConstants.{DEVICES_MAX, SOURCES_MAX, READERS_MAX, STREAMS_MAX}
+use Rattle.inp_record.specs.declared.keyword.Keyword.{Keyword}
+use Rattle.inp_record.specs.declared.item.Item.{Item}
+use Rattle.inp_record.specs.declared.item.Item.TheVariants.{Device, Hint, Log, Realtime, Boottime, Slots, Kind, Code, Axis, Actor, Action}
+use Rattle.inp_record.specs.Keyword.{keyword_of}
+use Rattle.inp_record.specs.Place.{is_start, is_out_of_place}
+use Rattle.inp_record.specs.Words.{word, is_header, item_of}
+use Rattle.inp_record.specs.Past.{Past, streams_in, with_latest, devices_of, actors_of, lines_of, stream_count, context_of}
+
+-- the text is there and is this one
+abbrev pub is_text_of : List ℕ → Option (List ℕ) → Bool
+is_text_of name None = false
+is_text_of name (Some text) = bytes_eq text name
+
+-- a device has this name
+abbrev pub has_device : Context → List ℕ → Bool
+has_device c name = is_text_of name c.name || list_any (λ d. bytes_eq d.name name) c.devices
+
+-- a hint, a log limit, a number of slots, an offset or an axis that its device gave before; the name of a device or of an
+-- actor that another one has
+abbrev pub is_twice : Context → Item → Bool
+is_twice c (Device name) = has_device c name
+is_twice c (Hint count) = c.given.hint
+is_twice c (Log count) = c.given.log
+is_twice c (Realtime offset) = is_some c.given.realtime
+is_twice c (Boottime offset) = is_some c.given.boottime
+is_twice c (Slots count) = c.given.slots
+is_twice c (Axis code info) = list_any (λ given. nat_eq given code) c.given.axes
+is_twice c (Actor role name) = list_any (λ a. bytes_eq a.name name) c.actors
+is_twice c _ = false
+
+-- how many devices there are
+abbrev pub device_count : Context → ℕ
+device_count c = length c.devices + (if is_some c.name then 1 else 0)
+
+-- the latest device can have no other actor of this role
+abbrev pub has_all : Context → Role → Bool
+has_all c role = if is_source role then nat_le SOURCES_MAX c.sources else nat_le READERS_MAX c.readers
+
+-- a ninth device, a ninth source of a device, a client or tap of a device that has 128 of them, a seventeenth stream
+abbrev pub is_too_many : Context → Item → Bool
+is_too_many c (Device name) = nat_le DEVICES_MAX (device_count c)
+is_too_many c (Actor role name) = has_all c role
+is_too_many c (Action actor command) = nat_lt STREAMS_MAX (c.streams + streams_in command)
+is_too_many c _ = false
+
+-- why no description can have what a line says
+abbrev pub refusal : Item → Option CapsRefused
+refusal (Hint count) = if nat_le HINT_MIN count && nat_le count HINT_MAX then None else Some BadHint
+refusal (Log count) = if nat_le 1 count && nat_le count LOG_MAX then None else Some BadLog
+refusal (Realtime offset) = if nat_le offset MOMENT_MAX then None else Some BadOffset
+refusal (Boottime offset) = if nat_le offset MOMENT_MAX then None else Some BadOffset
+refusal (Slots count) = if nat_le 1 count && nat_le count SLOTS_MAX then None else Some BadSlots
+refusal (Kind kind) = if is_kind kind then None else Some BadCode
+refusal (Code kind code) = if is_code kind code then None else Some BadCode
+refusal (Axis code info) =
+    if nat_lt ABS_MAX code then Some BadCode else if is_bad_axis code info then Some BadAxis else None
+refusal _ = None
+
+-- the item, unless a description refuses it
+abbrev pub unless_refused : Option CapsRefused → Item → Result Item Cause
+unless_refused None item = Ok item
+unless_refused (Some why) item = Err (Caps why)
+
+-- the answer of a builder's call for a line
+abbrev pub answer_of : Option CapsRefused → Result (Unit {0}) CapsRefused
+answer_of None = Ok tt
+answer_of (Some why) = Err why
+
+-- the meaning of a line whose words have their forms
+abbrev pub checked : Context → Result Item Cause → Result Item Cause
+checked c (Err cause) = Err cause
+checked c (Ok item) =
+    if is_twice c item then Err Twice
+    else if is_too_many c item then Err TooMany
+    else unless_refused (refusal item) item
+
+-- what the words of a line with this keyword are, if it may stand there
+abbrev pub placed : Context → Option Keyword → List (List ℕ) → Result Item Cause
+placed c None ws = Err BadLine
+placed c (Some keyword) ws =
+    if is_out_of_place c.place keyword then Err OutOfPlace else item_of c.actors c.streams keyword ws
+
+-- what the words of a line are
+unfoldable pub item_of_words : Context → List (List ℕ) → Result Item Cause
+item_of_words c ws =
+    if is_start c.place && not (is_header ws) then Err BadHeader
+    else placed c (keyword_of (word 0 ws) (length ws)) ws
+
+-- the past behind a line of this meaning
+abbrev pub behind : Past → Result Item Cause → Result Past Cause
+behind past (Err cause) = Err cause
+behind past (Ok item) = Ok (item ∷ past)
+
+-- the past behind a line of these words; a blank line means nothing
+abbrev pub behind_words : Past → List (List ℕ) → Result Past Cause
+behind_words past [] = Ok past
+behind_words past (w ∷ ws) = behind past (checked (context_of past) (item_of_words (context_of past) (w ∷ ws)))
+
+-- the past behind a line; a comment means nothing
+unfoldable pub behind_line : Past → List ℕ → Result Past Cause
+behind_line past line =
+    if is_comment line then Ok past
+    else if not (is_text line) then Err NotText
+    else behind_words past (words_of line)
+
+-- what comes of a line with the number n, and then of those behind it
+abbrev pub go_on : ℕ → Result Past Cause → (Past → Result Past Refused) → Result Past Refused
+go_on n (Ok past) more = more past
+go_on n (Err cause) more = Err (record { line = n; cause = cause })
+
+-- the past behind all lines, of which the first has the number n, or the first line that has no meaning
+unfoldable pub behind_lines : ℕ → List (List ℕ) → Past → Result Past Refused
+behind_lines n [] past = Ok past
+behind_lines n (line ∷ lines) past = go_on n (behind_line past line) (λ now. behind_lines (suc n) lines now)
+
+-- the record of a past
+abbrev pub record_of : Past → RecordView
+record_of past = record {
+  devices = devices_of past;
+  actors = actors_of past;
+  lines = lines_of past;
+  streams = replicate (stream_count past) [];
+}
+
+-- the latest device stands behind those before it
+abbrev pub closed : Context → Context
+closed c = record c { name = None; builder = syn_alone; devices = with_latest c.devices c.name c.builder }
+
+-- the record of what is in a context
+abbrev pub record_in : Context → RecordView
+record_in c = record {
+  devices = with_latest c.devices c.name c.builder;
+  actors = c.actors;
+  lines = c.lines;
+  streams = replicate c.streams [];
+}
+
+-- the record of what so many lines mean; without a header the last one is refused
+abbrev pub as_record : ℕ → Result Past Refused → Result RecordView Refused
+as_record count (Err refused) = Err refused
+as_record count (Ok []) = Err (record { line = count; cause = BadHeader })
+as_record count (Ok (item ∷ past)) = Ok (record_of (item ∷ past))
+
+-- the record that bytes are, or the first line that has no meaning
+unfoldable pub meaning : List ℕ → Result RecordView Refused
+meaning bytes = as_record (length (text_lines bytes)) (behind_lines 1 (text_lines bytes) [])
+
+-- what a line leaves, where it is entered into what was before it, unless memory ran out
+abbrev pub IsEntered : Result (Unit {0}) LineFault → Past → Item → Context → Type 0
+IsEntered (Ok done) past item now = (refusal item ≡ None) × (now ≡ context_of (item ∷ past))
+IsEntered (Err (line.Refused cause)) past item now = unless_refused (refusal item) item ≡ Err cause
+IsEntered (Err line.NoMemory) past item now = Unit {0}
+
+-- what a line leaves behind these lines, unless memory ran out
+abbrev pub IsBehind : Result (Unit {0}) LineFault → Result Past Cause → Context → Type 0
+IsBehind (Ok done) means now = (past : Past) × (means ≡ Ok past) × (now ≡ context_of past)
+IsBehind (Err (line.Refused cause)) means now = means ≡ Err cause
+IsBehind (Err line.NoMemory) means now = Unit {0}
+
+-- all lines were read: what stands behind them and their number, or the first line that has no meaning, unless memory ran
+-- out
+abbrev pub AreRead : Result (Context × ℕ) ParseFault → List (List ℕ) → Type 0
+AreRead (Ok read) lines =
+    (past : Past) × (behind_lines 1 lines [] ≡ Ok past) × (read.0 ≡ context_of past) × (read.1 ≡ length lines)
+AreRead (Err (fault.Refused refused)) lines = behind_lines 1 lines [] ≡ Err refused
+AreRead (Err fault.NoMemory) lines = Unit {0}

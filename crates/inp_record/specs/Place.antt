@@ -1,0 +1,33 @@
+-- Where a line may stand (docs/FORMATS.md, "The lines").
+use Rattle.std.specs.Prelude.{Bool, true, false, ◌||◌, not}
+use Rattle.inp_record.specs.declared.keyword.Keyword.{Keyword}
+use Rattle.inp_record.specs.declared.keyword.Keyword.TheVariants.{Header, Device, Source, Client, Tap, Action}
+use Rattle.inp_record.specs.declared.place.Place.{Place}
+use Rattle.inp_record.specs.declared.place.Place.TheVariants.{Start, Describing, Naming, Acting}
+
+abbrev pub is_start : Place → Bool
+is_start Start = true
+is_start _ = false
+
+abbrev pub is_describing : Place → Bool
+is_describing Describing = true
+is_describing _ = false
+
+abbrev pub is_naming : Place → Bool
+is_naming Naming = true
+is_naming _ = false
+
+abbrev pub is_acting : Place → Bool
+is_acting Acting = true
+is_acting _ = false
+
+-- no line of this keyword may stand there: a second header, a device after an action, an actor with no device before it
+-- or after an action, a description with no device before it, after an actor of its device, or after an action
+abbrev pub is_out_of_place : Place → Keyword → Bool
+is_out_of_place place Header = not (is_start place)
+is_out_of_place place Device = is_acting place
+is_out_of_place place Source = not (is_describing place || is_naming place)
+is_out_of_place place Client = not (is_describing place || is_naming place)
+is_out_of_place place Tap = not (is_describing place || is_naming place)
+is_out_of_place place Action = false
+is_out_of_place place _ = not (is_describing place)

@@ -1,0 +1,53 @@
+-- The streams of a record (docs/FORMATS.md, "Event streams").
+use Rattle.std.specs.Prelude.{◌≡◌, ℕ, zero, suc, ◌/◌, nat_eq, if◌then◌else◌, List, [], ◌∷◌, length, drop, slice_get, slice_set, Option, Some, None, option_map, option_and_then, Result, Ok, Err}
+use Rattle.inp_model.specs.declared.event.Event.{Event}
+use Rattle.inp_model.specs.declared.stamped.Stamped.{Stamped}
+use Rattle.inp_actors.specs.Record.{RecordView, stream_of}
+use Rattle.inp_stream.specs.declared.event_record.TheConstants.{RECORD_LEN}
+use Rattle.inp_stream.specs.declared.stream_refused.StreamRefused.{StreamRefused}
+use Rattle.inp_stream.specs.Stream.{decoded}
+use Rattle.inp_record.specs.declared.refused.LoadFault.{LoadFault}
+use Rattle.inp_record.specs.declared.refused.LoadFault.TheVariants as fault
+
+-- an event and its moment in front of more, if it was read
+abbrev pub stamped_before : Option (List Stamped) → Result (Event × ℕ) StreamRefused → Option (List Stamped)
+stamped_before more (Ok read) = option_map (λ stamps. record { event = read.0; now = read.1 } ∷ stamps) more
+stamped_before more (Err why) = None
+
+-- the events that so many records are, if each has a time and nothing stands behind them
+unfoldable pub stamps_from : ℕ → List ℕ → Option (List Stamped)
+stamps_from zero bytes = if nat_eq (length bytes) 0 then Some [] else None
+stamps_from (suc count) bytes = stamped_before (stamps_from count (drop RECORD_LEN bytes)) (decoded bytes)
+
+-- the events that bytes are, if they are whole records that each have a time
+abbrev pub stamps_of : List ℕ → Option (List Stamped)
+stamps_of bytes = stamps_from (length bytes / RECORD_LEN) bytes
+
+abbrev pub first_of : List ℕ → Option ℕ
+first_of [] = None
+first_of (n ∷ ns) = Some n
+
+-- the number of the stream that a line takes, if it takes one
+abbrev pub stream_at : RecordView → ℕ → Option ℕ
+stream_at r line = option_and_then (λ l. first_of (stream_of l.command)) (slice_get r.lines line)
+
+abbrev pub with_stream_at : RecordView → List Stamped → Option ℕ → RecordView
+with_stream_at r stamps None = r
+with_stream_at r stamps (Some index) = record r { streams = slice_set r.streams index stamps }
+
+-- the record with these events in the stream that a line takes
+abbrev pub with_stream : RecordView → ℕ → List Stamped → RecordView
+with_stream r line stamps = with_stream_at r stamps (stream_at r line)
+
+-- what bytes are, unless memory ran out
+abbrev pub AreStamps : Result (List Stamped) LoadFault → Option (List Stamped) → Type 0
+AreStamps (Ok stamps) means = means ≡ Some stamps
+AreStamps (Err fault.BadStream) means = means ≡ None
+AreStamps (Err fault.NoMemory) means = Unit {0}
+
+-- the line's stream is what the bytes are, and all else is as before; the record is unchanged where they are no stream,
+-- and where memory ran out
+abbrev pub IsLoaded : Result (Unit {0}) LoadFault → RecordView → ℕ → List ℕ → RecordView → Type 0
+IsLoaded (Ok done) old line bytes new = (stamps : List Stamped) × (stamps_of bytes ≡ Some stamps) × (new ≡ with_stream old line stamps)
+IsLoaded (Err fault.BadStream) old line bytes new = (stamps_of bytes ≡ None) × (new ≡ old)
+IsLoaded (Err fault.NoMemory) old line bytes new = new ≡ old

@@ -1,0 +1,157 @@
+//! What the words of lines mean, actions aside.
+ghost use Rattle.std.specs.Prelude.{◌≡◌, ◌+◌, ◌<◌, ◌≤◌, ◌^◌, length, true};
+ghost use Rattle.inp_words.specs.Number.{number};
+ghost use Rattle.inp_record.specs.Keyword.{has_words};
+ghost use Rattle.inp_record.specs.Words.{texts, word, is_header, name_word, count_word, kind_and_code, three_numbers, info_words, offset_item, actor_item, plain_item};
+
+use crate::item::Item;
+use crate::keyword::Keyword;
+use crate::verb::clock_word;
+use inp_actors::{Name, Role, is_name};
+use inp_model::{AxisInfo, Clock, EV_ABS};
+use inp_words::{code_word, kind_word, number, signed_number};
+
+/// The word at a place.
+pub(crate) fn word<'a>(words: &[&'a [u8]], place: usize) -> &'a [u8]
+    requires { place < length words.now }
+    ensures { result.now ≡ word place (texts words.now) }
+{
+    words[place]
+}
+
+/// Whether the words are `inputrecord 1`.
+pub(crate) fn is_header(words: &[&[u8]]) -> bool
+    ensures { result ≡ is_header (texts words.now) }
+{
+    words.len() == 2
+        && word(words, 0) == b"inputrecord".as_slice()
+        && word(words, 1) == b"1".as_slice()
+}
+
+/// The name that a word is.
+fn name_word(word: &[u8]) -> Option<Name>
+    ensures { result ≡ name_word word.now }
+{
+    if is_name(word) {
+        Some(Name::new(word))
+    } else {
+        None
+    }
+}
+
+/// The number of 32 bits that a word is.
+pub(crate) fn count_word(word: &[u8]) -> Option<u32>
+    ensures { result ≡ count_word word.now }
+{
+    match number(word, 4_294_967_295) {
+        Some(count) => Some(count as u32),
+        None => None,
+    }
+}
+
+/// A type and one of its codes.
+pub(crate) fn kind_and_code(kind: &[u8], code: &[u8]) -> Option<(u16, u16)>
+    ensures { result ≡ kind_and_code kind.now code.now }
+{
+    let kind = kind_word(kind)?;
+    let code = code_word(kind, code)?;
+    Some((kind, code))
+}
+
+/// Three numbers with a sign, from this word on.
+#[tactic(auto, unfolding(crate::specs::Words::three_numbers))]
+fn three_numbers(words: &[&[u8]], place: usize) -> Option<(i32, i32, i32)>
+    requires { place + 2 < length words.now }
+    ensures { result ≡ three_numbers place (texts words.now) }
+{
+    let first = signed_number(word(words, place))?;
+    let second = signed_number(word(words, place + 1))?;
+    let third = signed_number(word(words, place + 2))?;
+    Some((first, second, third))
+}
+
+/// The data of an axis: value, minimum, maximum, fuzz, flat, resolution.
+#[tactic(auto, unfolding(crate::specs::Words::info_words))]
+fn info_words(words: &[&[u8]]) -> Option<AxisInfo>
+    requires { 8 ≤ length words.now }
+    ensures { result ≡ info_words (texts words.now) }
+{
+    let (value, minimum, maximum) = three_numbers(words, 2)?;
+    let (fuzz, flat, resolution) = three_numbers(words, 5)?;
+    Some(AxisInfo {
+        value,
+        minimum,
+        maximum,
+        fuzz,
+        flat,
+        resolution,
+    })
+}
+
+/// The offset of a clock other than the monotonic one.
+fn offset_item(clock: Clock, offset: u64) -> Option<Item>
+    ensures { result ≡ offset_item clock offset }
+{
+    match clock {
+        Clock::Realtime => Some(Item::Realtime { offset }),
+        Clock::Monotonic => None,
+        Clock::Boottime => Some(Item::Boottime { offset }),
+    }
+}
+
+/// The meaning of a line that is no action.
+#[tactic(auto, unfolding(crate::specs::Words::plain_item))]
+pub(crate) fn plain_item(keyword: Keyword, words: &[&[u8]]) -> Option<Item>
+    requires { has_words keyword (length words.now) ≡ true }
+    ensures { result ≡ plain_item keyword (texts words.now) }
+{
+    match keyword {
+        Keyword::Header => Some(Item::Header),
+        Keyword::Device => {
+            let name = name_word(word(words, 1))?;
+            Some(Item::Device { name })
+        }
+        Keyword::Hint => {
+            let count = count_word(word(words, 1))?;
+            Some(Item::Hint { count })
+        }
+        Keyword::Log => {
+            let count = count_word(word(words, 1))?;
+            Some(Item::Log { count })
+        }
+        Keyword::Clock => {
+            let clock = clock_word(word(words, 1))?;
+            let offset = number(word(words, 2), u64::MAX)?;
+            offset_item(clock, offset)
+        }
+        Keyword::Slots => {
+            let count = count_word(word(words, 1))?;
+            Some(Item::Slots { count })
+        }
+        Keyword::Kind => {
+            let kind = kind_word(word(words, 1))?;
+            Some(Item::Kind { kind })
+        }
+        Keyword::Code => {
+            let (kind, code) = kind_and_code(word(words, 1), word(words, 2))?;
+            Some(Item::Code { kind, code })
+        }
+        Keyword::Axis => {
+            let code = code_word(EV_ABS, word(words, 1))?;
+            let info = info_words(words)?;
+            Some(Item::Axis { code, info })
+        }
+        Keyword::Source => actor_item(Role::Source, word(words, 1)),
+        Keyword::Client => actor_item(Role::Client, word(words, 1)),
+        Keyword::Tap => actor_item(Role::Tap, word(words, 1)),
+        Keyword::Action => None,
+    }
+}
+
+/// An actor of this role, with this name.
+fn actor_item(role: Role, word: &[u8]) -> Option<Item>
+    ensures { result ≡ actor_item role word.now }
+{
+    let name = name_word(word)?;
+    Some(Item::Actor { role, name })
+}

@@ -1,0 +1,45 @@
+//! The text of a recorded device: read, written, and given the events of its files.
+//!
+//! This crate is for whoever has a record as bytes and wants it as data, or the other way round. [`parse`] reads a record,
+//! or names the first line that has no meaning and its [`Cause`]. The record itself is plain data of `inp_actors`, which is
+//! handed on here. `docs/FORMATS.md` has the whole form, with an example of each line.
+//!
+//! How a line is read: [`parse`] cuts the text into lines and lends each to `read_line`, with the `Context` that the lines
+//! before it left: where the line stands, what the latest device gave, which actors there are. `item_of_words` says what
+//! the line's words are, an `Item`; then the context says whether that was said before, is one too many, or is refused by
+//! the description, and else takes it in.
+//!
+//! Its contract: `meaning` of `specs/Meaning.antt` says what bytes mean. It never speaks of a context that changes: what
+//! came before a line is the list of the items before it, a past, and each thing that the next line depends on is read off
+//! that list (`specs/Past.antt`). The causes stand in `specs/Meaning.antt` as one chain in their order, and what the words
+//! of each line are in `specs/Words.antt`. [`examples`] shows what the definitions say of short records.
+#![tactic(auto)]
+
+mod cause;
+mod command_reader;
+mod context;
+mod item;
+mod item_reader;
+mod keyword;
+mod line_fault;
+mod line_numbers;
+mod line_reader;
+mod loader;
+mod parser;
+mod place;
+mod record_examples;
+mod refused;
+#[cfg(test)]
+mod tests;
+mod verb;
+
+pub use cause::Cause;
+pub use inp_actors::{
+    ActorText, Actors, Command, DeviceText, Devices, FileName, Line, Lines, Name, Record, Role,
+    Stamps, Streams,
+};
+pub use line_numbers::line_number;
+pub use loader::load;
+pub use parser::parse;
+pub use record_examples::examples;
+pub use refused::{LoadFault, ParseFault, Refused};

@@ -1,0 +1,116 @@
+//! Reading one line.
+ghost use Rattle.std.specs.Prelude.{◌≡◌, ◌+◌, ◌<◌, ◌≤◌, ◌^◌, length, true, OnOk};
+ghost use Rattle.inp_words.specs.Line.{AreText};
+ghost use Rattle.inp_record.specs.Fault.{IsReading};
+ghost use Rattle.inp_record.specs.Keyword.{has_words};
+ghost use Rattle.inp_record.specs.Words.{texts, item_of};
+ghost use Rattle.inp_record.specs.Past.{Past, context_of, HasRoom};
+ghost use Rattle.inp_record.specs.Meaning.{item_of_words, behind_words, behind_line, IsBehind};
+
+use crate::Cause;
+use crate::command_reader::action_item;
+use crate::context::Context;
+use crate::item::Item;
+use crate::item_reader::{is_header, plain_item, word};
+use crate::keyword::{Keyword, keyword_of};
+use crate::line_fault::LineFault;
+use crate::place::{Place, is_out_of_place};
+use inp_actors::ActorText;
+use inp_words::{is_comment, is_text, words};
+use std::alloc::Global;
+
+/// The meaning of a line with this keyword, by its words.
+#[tactic(auto, unfolding(crate::specs::Words::item_of))]
+fn item_of(
+    alloc: Global,
+    actors: &[ActorText],
+    streams: u32,
+    keyword: Keyword,
+    words: &[&[u8]],
+) -> Result<Item, LineFault>
+    requires count { has_words keyword (length words.now) ≡ true }
+    requires actors { length actors.now < 2 ^ 32 }
+    requires text { AreText (texts words.now) }
+    ensures { IsReading result (item_of actors.now streams keyword (texts words.now)) }
+{
+    if keyword == Keyword::Action {
+        return action_item(alloc, actors, streams, words);
+    }
+    match plain_item(keyword, words) {
+        Some(item) => Ok(item),
+        None => Err(LineFault::Refused(Cause::BadWord)),
+    }
+}
+
+/// What the words of a line are, of which there is one.
+#[tactic(auto, unfolding(crate::specs::Meaning::item_of_words))]
+fn item_of_words(context: &Context, alloc: Global, words: &[&[u8]]) -> Result<Item, LineFault>
+    requires some { 1 ≤ length words.now }
+    requires actors { length context.now.actors < 2 ^ 32 }
+    requires text { AreText (texts words.now) }
+    ensures { IsReading result (item_of_words context.now (texts words.now)) }
+{
+    if context.place == Place::Start && !is_header(words) {
+        return Err(LineFault::Refused(Cause::BadHeader));
+    }
+    let Some(keyword) = keyword_of(word(words, 0), words.len()) else {
+        return Err(LineFault::Refused(Cause::BadLine));
+    };
+    if is_out_of_place(context.place, keyword) {
+        return Err(LineFault::Refused(Cause::OutOfPlace));
+    }
+    item_of(
+        alloc,
+        context.actors.as_slice(),
+        context.streams,
+        keyword,
+        words,
+    )
+}
+
+/// Reads the words of a line.
+fn read_words(context: &mut Context, alloc: Global, words: &[&[u8]]) -> Result<(), LineFault>
+    requires room { HasRoom context.old }
+    requires actors { length context.old.actors + 1 < 2 ^ 32 }
+    requires text { AreText (texts words.now) }
+    ensures behind { (past : Past) → context.old ≡ context_of past
+        → IsBehind result (behind_words past (texts words.now)) context.new }
+    ensures room { OnOk result (HasRoom context.new) }
+    ensures actors { OnOk result
+        (length context.new.actors ≤ length context.old.actors + 1) }
+{
+    if words.is_empty() {
+        return Ok(());
+    }
+    let item = item_of_words(context, alloc, words)?;
+    if context.is_twice(&item) {
+        return Err(LineFault::Refused(Cause::Twice));
+    }
+    if context.is_too_many(&item) {
+        return Err(LineFault::Refused(Cause::TooMany));
+    }
+    context.enter(alloc, item)
+}
+
+/// Reads a line. After a fault the context is given up.
+#[tactic(auto, unfolding(crate::specs::Meaning::behind_line))]
+pub(crate) fn read_line(context: &mut Context, alloc: Global, line: &[u8]) -> Result<(), LineFault>
+    requires room { HasRoom context.old }
+    requires actors { length context.old.actors + 1 < 2 ^ 32 }
+    ensures behind { (past : Past) → context.old ≡ context_of past
+        → IsBehind result (behind_line past line.now) context.new }
+    ensures room { OnOk result (HasRoom context.new) }
+    ensures actors { OnOk result
+        (length context.new.actors ≤ length context.old.actors + 1) }
+{
+    if is_comment(line) {
+        return Ok(());
+    }
+    if !is_text(line) {
+        return Err(LineFault::Refused(Cause::NotText));
+    }
+    match words(alloc, line) {
+        Ok(words) => read_words(context, alloc, &words),
+        Err(_) => Err(LineFault::NoMemory),
+    }
+}

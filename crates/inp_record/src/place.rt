@@ -1,0 +1,35 @@
+//! Where a line stands.
+ghost use Rattle.std.specs.Prelude.{◌≡◌};
+ghost use Rattle.inp_record.specs.Place.{is_out_of_place};
+
+use crate::keyword::Keyword;
+
+/// What stands before a line.
+#[derive(Clone, Copy, Debug, PartialEq, Eq)]
+pub(crate) enum Place {
+    /// No line with a meaning.
+    Start,
+    /// The header alone.
+    Headed,
+    /// A device, whose description may go on.
+    Describing,
+    /// An actor.
+    Naming,
+    /// An action.
+    Acting,
+}
+
+/// Whether no line of this keyword may stand there.
+pub(crate) fn is_out_of_place(place: Place, keyword: Keyword) -> bool
+    ensures { result ≡ is_out_of_place place keyword }
+{
+    match keyword {
+        Keyword::Header => place != Place::Start,
+        Keyword::Device => place == Place::Acting,
+        Keyword::Source | Keyword::Client | Keyword::Tap => {
+            place != Place::Describing && place != Place::Naming
+        }
+        Keyword::Action => false,
+        _ => place != Place::Describing,
+    }
+}

@@ -1,0 +1,20 @@
+//! What the definitions say of short records.
+ghost use Rattle.inp_record.specs.Examples.{RefusesOtherBytes, RefusesHeaders, RefusesLines, RefusesPlaces, RefusesActors, RefusesCommands, RefusesWords, RefusesRepeats, RefusesMore, RefusesDescriptions, AcceptsLines, MeansRecords, MeansActions};
+
+/// What short records mean, and which line of others is refused and why, worked out by hand: each cause at the lines that
+/// can have it, and of two causes that one line has the one that comes first. It does nothing: its contract is the point.
+pub fn examples()
+    ensures other_bytes { RefusesOtherBytes }
+    ensures headers { RefusesHeaders }
+    ensures lines { RefusesLines }
+    ensures places { RefusesPlaces }
+    ensures actors { RefusesActors }
+    ensures commands { RefusesCommands }
+    ensures words { RefusesWords }
+    ensures repeats { RefusesRepeats }
+    ensures more { RefusesMore }
+    ensures descriptions { RefusesDescriptions }
+    ensures accepted { AcceptsLines }
+    ensures records { MeansRecords }
+    ensures actions { MeansActions }
+{}

@@ -1,0 +1,126 @@
+//! Records, read.
+
+use super::*;
+use inp_caps::CapsBuilder;
+use inp_model::Clock;
+use std::alloc::{AllocError, Global};
+use std::test::Fail;
+
+/// A record of two devices.
+const TWO: &str = "# two devices
+inputrecord 1
+device kbd
+hint 8
+cap EV_KEY KEY_A
+source s\r
+tap\tt
+
+device pad
+clock boottime 7
+slots 2
+axis ABS_MT_POSITION_X 0 0 99 0 0 0
+client c
+do t open
+do s event 1000 EV_KEY KEY_A 1
+do c next 3
+do s stream keys.bin
+do t mask EV_KEY 0 0xff";
+
+/// A device with so many clients.
+fn clients(alloc: Global, count: u32) -> Result<String, AllocError> {
+    let mut text = String::from_str(alloc, "inputrecord 1\ndevice d\n")?;
+    for number in 0..count {
+        text.push_str("client c")?;
+        text.push_str(format!(in alloc; "{number}")?.as_str())?;
+        text.push_str("\n")?;
+    }
+    Ok(text)
+}
+
+/// The record that a short text is.
+fn read(alloc: Global, text: &str) -> Result<Record, ParseFault> {
+    if text.len() > 100_000 {
+        return Err(ParseFault::NoMemory);
+    }
+    parse(alloc, text.as_bytes())
+}
+
+/// The line that is refused and the printed cause.
+fn fault_of(alloc: Global, text: &str) -> Option<(u32, &'static str)> {
+    match read(alloc, text) {
+        Err(ParseFault::Refused(refused)) => Some((refused.line, refused.cause.text())),
+        _ => None,
+    }
+}
+
+#[test]
+fn records_are_read(rt: HostRuntime) -> Result<(), Fail> {
+    let record = read(rt.alloc(), TWO)?;
+    assert_eq!(rt; record.devices().len(), 2);
+    let pad = record.devices().get(1);
+    assert_eq!(rt; pad.name.as_str(), "pad");
+    assert_eq!(rt; pad.caps.slots(), 2);
+    assert_eq!(rt; pad.caps.offset(Clock::Boottime), 7);
+    assert!(rt; pad.caps.supports(3, 0x2f));
+    assert_eq!(rt; record.devices().get(0).caps.hint(), 8);
+    assert_eq!(rt; record.actors().len(), 3);
+    assert_eq!(rt; record.actors().get(2).device, 1);
+    assert_eq!(rt; record.lines().len(), 5);
+    assert_eq!(rt; record.stream_count(), 1);
+    match &record.lines().get(3).command {
+        Command::Stream { file, index } => {
+            assert_eq!(rt; file.text(), "keys.bin");
+            assert_eq!(rt; *index, 0);
+        }
+        _ => assert!(rt; false),
+    }
+    Ok(())
+}
+
+/// The key A goes down at 1.5 seconds.
+const PRESS: [u8; 24] = [
+    1, 0, 0, 0, 0, 0, 0, 0, 0x20, 0xa1, 7, 0, 0, 0, 0, 0, 1, 0, 0x1e, 0, 1, 0, 0, 0,
+];
+
+#[test]
+fn streams_are_loaded(rt: HostRuntime) -> Result<(), Fail> {
+    let mut devices = Devices::new(rt.alloc());
+    devices.push(DeviceText {
+        name: Name::new(b"kbd"),
+        caps: CapsBuilder::new().build(),
+    })?;
+    let mut actors = Actors::new(rt.alloc());
+    actors.push(ActorText {
+        name: Name::new(b"s"),
+        role: Role::Source,
+        device: 0,
+    })?;
+    let mut lines = Lines::new(rt.alloc());
+    lines.push(Line {
+        actor: 0,
+        command: Command::Stream {
+            file: FileName::new(String::from_str(rt.alloc(), "keys.bin")?),
+            index: 0,
+        },
+    })?;
+    let mut streams = Streams::new(rt.alloc());
+    streams.push(Stamps::new(rt.alloc()))?;
+    let mut record = Record::new(devices, actors, lines, streams);
+    load(&mut record, 0, &PRESS)?;
+    assert_eq!(rt; record.stream_count(), 1);
+    assert_eq!(rt; record.stream(0).len(), 1);
+    assert_eq!(rt; record.stream(0).get(0).now, 1_500_000);
+    Ok(())
+}
+
+#[test]
+fn a_device_has_128_clients(rt: HostRuntime) -> Result<(), Fail> {
+    let most = clients(rt.alloc(), 128)?;
+    assert_eq!(rt; read(rt.alloc(), most.as_str())?.actors().len(), 128);
+    let more = clients(rt.alloc(), 129)?;
+    assert_eq!(rt;
+        fault_of(rt.alloc(), more.as_str()),
+        Some((131, "too-many"))
+    );
+    Ok(())
+}

@@ -1,0 +1,150 @@
+//! The commands of actors, as words.
+ghost use Rattle.std.specs.Prelude.{◌≡◌, IfSome};
+ghost use Rattle.inp_words.specs.Table.{named, rows_of};
+ghost use Rattle.inp_record.specs.Verb.{verb_rows, verb_of, clock_rows, argument_count, is_verb_of};
+
+use inp_actors::Role;
+use inp_model::Clock;
+use inp_words::named;
+
+/// What a word has an actor do.
+#[derive(Clone, Copy, Debug, PartialEq, Eq)]
+pub(crate) enum Verb {
+    Event,
+    Tick,
+    Inhibit,
+    Uninhibit,
+    Stream,
+    Open,
+    Close,
+    Grab,
+    Ungrab,
+    Revoke,
+    Mask,
+    Clock,
+    Write,
+    Read,
+    Discard,
+    Keys,
+    Switches,
+    Leds,
+    Sounds,
+    SyncSlots,
+    Axis,
+    Slots,
+    Next,
+    Skip,
+    Follow,
+    Force,
+}
+
+/// Each word with its command.
+#[tactic(auto, unfolding(crate::specs::Verb::verb_rows))]
+fn verb_rows() -> &'static [(&'static str, Verb)]
+    ensures { rows_of result.now ≡ verb_rows }
+{
+    static ROWS: [(&str, Verb); 26] = [
+        ("event", Verb::Event),
+        ("tick", Verb::Tick),
+        ("inhibit", Verb::Inhibit),
+        ("uninhibit", Verb::Uninhibit),
+        ("stream", Verb::Stream),
+        ("open", Verb::Open),
+        ("close", Verb::Close),
+        ("grab", Verb::Grab),
+        ("ungrab", Verb::Ungrab),
+        ("revoke", Verb::Revoke),
+        ("mask", Verb::Mask),
+        ("clock", Verb::Clock),
+        ("write", Verb::Write),
+        ("read", Verb::Read),
+        ("discard", Verb::Discard),
+        ("keys", Verb::Keys),
+        ("switches", Verb::Switches),
+        ("leds", Verb::Leds),
+        ("sounds", Verb::Sounds),
+        ("syncslots", Verb::SyncSlots),
+        ("axis", Verb::Axis),
+        ("slots", Verb::Slots),
+        ("next", Verb::Next),
+        ("skip", Verb::Skip),
+        ("follow", Verb::Follow),
+        ("force", Verb::Force),
+    ];
+    &ROWS
+}
+
+/// The command that a word is, of an actor of this role that is given so many words with it.
+#[tactic(auto, unfolding(crate::specs::Verb::verb_of))]
+pub(crate) fn verb_of(role: Role, word: &[u8], arguments: usize) -> Option<Verb>
+    ensures verb { result ≡ verb_of role word.now arguments }
+    ensures given { IfSome result (λ verb. argument_count verb ≡ arguments) }
+{
+    let verb = named(verb_rows(), word)?;
+    if is_verb_of(role, verb) && argument_count(verb) == arguments {
+        Some(verb)
+    } else {
+        None
+    }
+}
+
+/// Whether actors of this role have the command.
+fn is_verb_of(role: Role, verb: Verb) -> bool
+    ensures { result ≡ is_verb_of role verb }
+{
+    match verb {
+        Verb::Event | Verb::Tick | Verb::Inhibit | Verb::Uninhibit | Verb::Stream => {
+            role == Role::Source
+        }
+        Verb::Open
+        | Verb::Close
+        | Verb::Grab
+        | Verb::Ungrab
+        | Verb::Revoke
+        | Verb::Mask
+        | Verb::Clock
+        | Verb::Write => role != Role::Source,
+        Verb::Next | Verb::Skip | Verb::Follow | Verb::Force => role == Role::Client,
+        _ => role == Role::Tap,
+    }
+}
+
+/// How many words a command is given.
+fn argument_count(verb: Verb) -> usize
+    ensures { result ≡ argument_count verb }
+{
+    match verb {
+        Verb::Event | Verb::Write => 4,
+        Verb::Mask => 3,
+        Verb::Clock => 2,
+        Verb::Tick
+        | Verb::Inhibit
+        | Verb::Stream
+        | Verb::Read
+        | Verb::Axis
+        | Verb::Slots
+        | Verb::Next
+        | Verb::Skip => 1,
+        _ => 0,
+    }
+}
+
+/// Each word with its clock.
+#[tactic(auto, unfolding(crate::specs::Verb::clock_rows))]
+fn clock_rows() -> &'static [(&'static str, Clock)]
+    ensures { rows_of result.now ≡ clock_rows }
+{
+    static ROWS: [(&str, Clock); 3] = [
+        ("realtime", Clock::Realtime),
+        ("monotonic", Clock::Monotonic),
+        ("boottime", Clock::Boottime),
+    ];
+    &ROWS
+}
+
+/// The clock that a word is.
+pub(crate) fn clock_word(word: &[u8]) -> Option<Clock>
+    ensures { result ≡ named clock_rows word.now }
+{
+    named(clock_rows(), word)
+}

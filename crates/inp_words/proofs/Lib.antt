@@ -1,0 +1,5 @@
+pub mod Booleans
+pub mod Computing
+pub mod FirstWords
+pub mod NameWords
+pub mod Numerals

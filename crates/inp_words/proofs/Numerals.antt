@@ -1,0 +1,89 @@
+-- Numbers, digit by digit.
+use Rattle.std.proofs.Common.{◌≡◌, ℕ, ◌+◌, ◌-◌, ◌*◌, ◌<◌, ◌≤◌, ◌≢◌, ◌&&◌, nat_eq, ◌^◌, pos, neg_ℤ, option_map, Bool, true, false, if◌then◌else◌, nat_le, List, [], ◌∷◌, ◌++◌, length, get_or, take, drop, fold, Some, None, sym, ap, refl, arith, cond}
+use Rattle.std.specs.List.{list_all}
+use Rattle.std.proofs.Math.Nat.{mul-le-mul_right}
+use Rattle.std.proofs.lemmas.List.{take-append-drop, take_all}
+use Rattle.std.proofs.lemmas.List.Folds.{list_all_at}
+use Rattle.std.proofs.lemmas.List.Sums.{fold-append, fold_more}
+use Rattle.std.proofs.lemmas.Bool.Decides.{nat_tests}
+use Rattle.inp_words.specs.Number.{digit_of, is_digit, value_of, is_numeral, is_hexadecimal, numeral, number, signed_number}
+
+-- a digit more makes a value no smaller
+fold-grows : (base start : ℕ) (digits : List ℕ) → 1 ≤ base → start ≤ fold (λ value b. base * value + digit_of b) start digits
+fold-grows base start [] h = omega arith
+fold-grows base start (b ∷ digits) h =
+    let larger : 1 * start ≤ base * start = mul-le-mul_right start h in
+    omega (arith, fold-grows base (base * start + digit_of b) digits h)
+
+value_of-front : (base : ℕ) (word : List ℕ) (i : ℕ) → 1 ≤ base → value_of base (take i word) ≤ value_of base word
+value_of-front base word i h =
+    let f : ℕ → ℕ → ℕ = λ value b. base * value + digit_of b in
+    let e = fold-append f 0 (take i word) (drop i word) in
+    let w : value_of base (take i word ++ drop i word) ≡ value_of base word = ap (value_of base) (take-append-drop i word) in
+    omega (arith, fold-grows base (value_of base (take i word)) (drop i word) h)
+
+pub value_of_more : (base : ℕ) (word : List ℕ) (i : ℕ) → i < length word → value_of base (take (i + 1) word) ≡ base * value_of base (take i word) + digit_of (get_or word i 0)
+value_of_more base word i h = fold_more (λ value b. base * value + digit_of b) 0 word i 0 h
+
+-- what is no numeral is no number
+pub numeral_not_digit : (base most : ℕ) (word : List ℕ) (i : ℕ) → i < length word → is_digit base (get_or word i 0) ≡ false → numeral base most word ≡ None
+unfolding numeral
+numeral_not_digit base most [] i h e = absurd (omega arith)
+numeral_not_digit base most (b ∷ digits) i h e = rw (list_all_at (is_digit base) (b ∷ digits) i 0 h e)
+
+pub numeral_empty : (base most : ℕ) (word : List ℕ) → length word ≡ 0 → numeral base most word ≡ None
+unfolding numeral
+numeral_empty base most [] h = refl
+numeral_empty base most (b ∷ digits) h = absurd (omega arith)
+
+-- a value that is too great already stays so
+pub numeral_too_great : (base most : ℕ) (word : List ℕ) (i : ℕ) → 1 ≤ base → most < value_of base (take i word) → numeral base most word ≡ None
+unfolding numeral
+numeral_too_great base most word i k h =
+    let less : nat_le (value_of base word) most ≡ false = grind (arith, nat_tests, value_of-front base word i k) in
+    elim (is_numeral base word) as (λ v. cond (v && nat_le (value_of base word) most) (Some (value_of base word)) None ≡ None) [ true ↦ rw less | false ↦ refl ]
+
+pub numeral_is : (base most : ℕ) (word : List ℕ) → 0 < length word → list_all (is_digit base) word ≡ true → value_of base word ≤ most → numeral base most word ≡ Some (value_of base word)
+unfolding numeral
+numeral_is base most [] h e k = absurd (omega arith)
+numeral_is base most (b ∷ digits) h e k =
+    let less : nat_le (value_of base (b ∷ digits)) most ≡ true = grind (arith, nat_tests) in
+    rw e (rw less)
+
+pub signed_number_minus : (word : List ℕ) → 0 < length word → get_or word 0 0 ≡ 45 → signed_number word ≡ option_map (λ n. neg_ℤ (pos n)) (number (2 ^ 31) (take (length word - 1) (drop 1 word)))
+unfolding signed_number
+signed_number_minus [] h e = absurd (omega arith)
+signed_number_minus (b ∷ digits) h e =
+    let minus : nat_eq b 45 ≡ true = grind (arith, nat_tests) in
+    let whole : take (length (b ∷ digits) - 1) (drop 1 (b ∷ digits)) ≡ digits = take_all (length (b ∷ digits) - 1) digits (omega arith) in
+    rw (minus, whole)
+
+number_empty : (most : ℕ) → number most [] ≡ None
+unfolding number
+number_empty most = numeral_empty 10 most [] refl
+
+pub signed_number_plain : (word : List ℕ) → (0 < length word → get_or word 0 0 ≢ 45) → signed_number word ≡ option_map (λ n. pos n) (number (2 ^ 31 - 1) word)
+unfolding signed_number
+signed_number_plain [] h = sym (ap (option_map (λ n. pos n)) (number_empty (2 ^ 31 - 1)))
+signed_number_plain (b ∷ digits) h =
+    let other : b ≢ 45 = h (omega arith) in
+    let plain : nat_eq b 45 ≡ false = grind (arith, nat_tests) in
+    rw plain
+
+numeral_within : (base most : ℕ) (word : List ℕ) (n : ℕ) → numeral base most word ≡ Some n → nat_le n most ≡ true
+unfolding numeral
+numeral_within base most word n e = by_tests (is_numeral base word) (nat_le (value_of base word) most) refl e
+  where
+    by_tests : (is within : Bool) → nat_le (value_of base word) most ≡ within → (if is && within then Some (value_of base word) else None) ≡ Some n → nat_le n most ≡ true
+    by_tests true true h e = let same : value_of base word ≡ n = cc e in rw (← same) h
+    by_tests true false h e = absurd (cc e)
+    by_tests false within h e = absurd (cc e)
+
+-- a number is at most what it may be
+pub number_within : (most : ℕ) (word : List ℕ) (n : ℕ) → number most word ≡ Some n → nat_le n most ≡ true
+unfolding number
+number_within most word n e = by_prefix (is_hexadecimal word) e
+  where
+    by_prefix : (hexadecimal : Bool) → (if hexadecimal then numeral 16 most (drop 2 word) else numeral 10 most word) ≡ Some n → nat_le n most ≡ true
+    by_prefix true e = numeral_within 16 most (drop 2 word) n e
+    by_prefix false e = numeral_within 10 most word n e

@@ -1,0 +1,62 @@
+//! Words that are types and codes of events.
+ghost use Rattle.std.specs.Prelude.{◌≡◌};
+ghost use Rattle.inp_codes.specs.KindNames.{kind_of};
+ghost use Rattle.inp_codes.specs.CodeNames.{code_of};
+ghost use Rattle.inp_words.specs.Number.{number};
+ghost use Rattle.inp_words.specs.Code.{kind_word, code_word};
+
+use crate::numbers::number;
+use inp_codes::{code_of, kind_of};
+
+/// The number of at most 65,535 that a word is.
+fn number_word(word: &[u8]) -> Option<u16>
+    ensures { result ≡ number 65535 word.now }
+{
+    match number(word, 65535) {
+        Some(value) => Some(value as u16),
+        None => None,
+    }
+}
+
+/// The type with this name.
+fn named_kind(word: &[u8]) -> Option<u16>
+    ensures { result ≡ kind_of word.now }
+{
+    match str::from_utf8(word) {
+        Ok(name) => kind_of(name),
+        Err(_) => None,
+    }
+}
+
+/// The type and the code with this name.
+fn named_code(word: &[u8]) -> Option<(u16, u16)>
+    ensures { result ≡ code_of word.now }
+{
+    match str::from_utf8(word) {
+        Ok(name) => code_of(name),
+        Err(_) => None,
+    }
+}
+
+/// The type of an event that a word is: by its name in `inp_codes`, or by a number of at most 65,535.
+#[tactic(auto, unfolding(crate::specs::Code::kind_word))]
+pub fn kind_word(word: &[u8]) -> Option<u16>
+    ensures kind { result ≡ kind_word word.now }
+{
+    match named_kind(word) {
+        Some(kind) => Some(kind),
+        None => number_word(word),
+    }
+}
+
+/// The code of an event of type `kind` that a word is: by a name in `inp_codes` that belongs to the type, or by a number
+/// of at most 65,535.
+#[tactic(auto, unfolding(crate::specs::Code::code_word))]
+pub fn code_word(kind: u16, word: &[u8]) -> Option<u16>
+    ensures code { result ≡ code_word kind word.now }
+{
+    match named_code(word) {
+        Some(named) => { if named.0 == kind { Some(named.1) } else { None } }
+        None => number_word(word),
+    }
+}

@@ -1,0 +1,28 @@
+//! Lines of a text, their words, and what single words are: numbers, and types and codes of events.
+//!
+//! | Call | Gives |
+//! |---|---|
+//! | `words(alloc, b"do  s tick 0x10")` | the words `do`, `s`, `tick` and `0x10` |
+//! | `number(b"0x10", 99)` | `Some(16)` |
+//! | `signed_number(b"-0x10")` | `Some(-16)` |
+//! | `kind_word(b"EV_KEY")`, `kind_word(b"1")` | `Some(1)` |
+//! | `code_word(1, b"KEY_A")`, `code_word(1, b"30")` | `Some(30)` |
+//!
+//! This crate is for whoever reads the record of a device. It stands on `inp_codes` for the names of types and codes, and on
+//! `inp_model` for want of memory.
+//!
+//! Its contract: each call answers as the definition of its form in `specs/` says; [`examples`] shows what these say of
+//! words at their bounds. [`words`] alone takes memory.
+#![tactic(auto)]
+
+mod codes;
+mod lines;
+mod numbers;
+mod table;
+mod word_examples;
+
+pub use codes::{code_word, kind_word};
+pub use lines::{first_word, is_comment, is_text, strip_carriage_return, words};
+pub use numbers::{number, signed_number};
+pub use table::named;
+pub use word_examples::examples;
