@@ -1,0 +1,36 @@
+//! The words on the program's command line.
+//!
+//! This crate is for the program's one call, which is handed its words. [`read_words`] reads them and gives a
+//! [`Request`]: a file to play, or a record to make from numbers. It stands on the toolchain's `clap`, which says which
+//! words a command takes, and on `inp_actors` for names of files.
+//!
+//! | Word | Is |
+//! |---|---|
+//! | `--history` | a flag: the history is wanted too |
+//! | `--make NUMBER` | a record is made from this number, 0 to 4,294,967,295, and played |
+//! | `--count COUNT` | of so many frames, 1 to 10,000, and 100 where it is not given |
+//! | `FILE` | the record in this file is played |
+//!
+//! There is either FILE, without `--make` and `--count`, or `--make`, without `--history`. Numbers are as Rust reads a
+//! `u32`. None of the words has a short form, and there is no `--help`.
+//!
+//! Its contract: `specs/Command.antt` is the command in `clap`'s own definitions, and `requested` of
+//! `specs/Request.antt` says what words ask for. A request comes exactly where `requested` gives it, and `Usage` exactly
+//! where it gives none, unless memory runs out. [`examples`] shows what some words ask for.
+#![tactic(auto)]
+
+mod command;
+mod number;
+mod reader;
+mod request;
+#[cfg(test)]
+mod tests;
+mod usage_line;
+mod word_examples;
+mod words_fault;
+
+pub use reader::read_words;
+pub use request::Request;
+pub use usage_line::usage;
+pub use word_examples::examples;
+pub use words_fault::WordsFault;

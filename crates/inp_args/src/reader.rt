@@ -1,0 +1,78 @@
+//! The reader of words.
+ghost use Rattle.std.specs.Prelude.{◌≡◌, None, Some, Err, map, string_bytes, IfOk};
+ghost use Rattle.std.specs.Option.{option_copied};
+ghost use Rattle.inp_args.specs.Command.{is_given};
+ghost use Rattle.inp_args.specs.Request.{HasCount, made_of, request_of, requested};
+ghost use Rattle.inp_args.specs.declared.words_fault.WordsFault.{WordsFault};
+
+use crate::command::matches_in;
+use crate::number::{count_of, number_of};
+use crate::{Request, WordsFault};
+use inp_actors::FileName;
+use std::alloc::Global;
+
+/// Reads the words after the program's name.
+///
+/// # Errors
+///
+/// - `Usage` exactly where the words are not accepted.
+/// - `NoMemory` where memory runs out.
+pub fn read_words(alloc: Global, words: &[String]) -> Result<Request, WordsFault>
+    ensures request { IfOk result
+        (λ request. requested (map string_bytes words.now) ≡ Some request) }
+    ensures usage { result ≡ Err WordsFault.Usage
+        → requested (map string_bytes words.now) ≡ None }
+    ensures count { IfOk result HasCount }
+{
+    let matches = matches_in(alloc, words)?;
+    let file = matches.get_str("FILE");
+    let number = matches.get_str("make");
+    let count = matches.get_str("count");
+    let history = is_given(matches.get_str("history"));
+    request_of(alloc, file, number, count, history)
+}
+
+// Whether a flag was given, by its text.
+fn is_given(text: Option<&str>) -> bool
+    ensures { result ≡ is_given (option_copied text.entry) }
+{
+    match text {
+        Some(text) => text == "true",
+        None => false,
+    }
+}
+
+// What the texts of the arguments ask for.
+fn request_of(
+    alloc: Global,
+    file: Option<&str>,
+    number: Option<&str>,
+    count: Option<&str>,
+    history: bool,
+) -> Result<Request, WordsFault>
+    ensures request { IfOk result (λ request. request_of (option_copied file.entry)
+        (option_copied number.entry) (option_copied count.entry) history ≡ Some request) }
+    ensures usage { result ≡ Err WordsFault.Usage → request_of (option_copied file.entry)
+        (option_copied number.entry) (option_copied count.entry) history ≡ None }
+{
+    match (file, number, count) {
+        (Some(file), None, None) => Ok(Request::Play {
+            file: FileName::new(String::from_str(alloc, file)?),
+            history,
+        }),
+        (None, Some(number), count) if !history => {
+            made_of(number_of(number), count_of(count)).ok_or(WordsFault::Usage)
+        }
+        _ => Err(WordsFault::Usage),
+    }
+}
+
+// A record is to be made, where both numbers are there.
+fn made_of(number: Option<u32>, count: Option<u32>) -> Option<Request>
+    ensures { result ≡ made_of number count }
+{
+    Some(Request::Make {
+        number: number?,
+        count: count?,
+    })
+}

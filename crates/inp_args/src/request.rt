@@ -1,0 +1,22 @@
+//! What words ask for.
+
+use inp_actors::FileName;
+
+/// What the words on the command line ask for.
+#[derive(Debug, Drop)]
+pub enum Request {
+    /// The record in a file is played.
+    Play {
+        /// The file's name.
+        file: FileName,
+        /// Whether the history is wanted too.
+        history: bool,
+    },
+    /// A record is made and played.
+    Make {
+        /// The number that it is made from.
+        number: u32,
+        /// How many frames it has, 1 to 10,000.
+        count: u32,
+    },
+}

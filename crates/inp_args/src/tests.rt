@@ -1,0 +1,53 @@
+//! Words as a caller passes them, and what comes of them.
+
+use super::*;
+use std::alloc::{AllocError, Global};
+use std::test::Fail;
+
+// What comes of words, as text.
+fn answer(alloc: Global, words: &[&str]) -> Result<String, AllocError> {
+    let mut owned = Vec::new(alloc);
+    for word in words {
+        owned.push(String::from_str(alloc, word)?)?;
+    }
+    match read_words(alloc, owned.as_slice()) {
+        Ok(Request::Play { file, history }) => {
+            format!(in alloc; "play {} {history}", file.text())
+        }
+        Ok(Request::Make { number, count }) => format!(in alloc; "make {number} {count}"),
+        Err(fault) => format!(in alloc; "{fault}"),
+    }
+}
+
+#[test]
+fn words_are_read_as_worked_out_by_hand(rt: HostRuntime) -> Result<(), Fail> {
+    examples();
+    let rows = [
+        (["keys.rec"].as_slice(), "play keys.rec false"),
+        (["a b", "--history"].as_slice(), "play a b true"),
+        (["--", "--make"].as_slice(), "play --make false"),
+        (["--make", "7"].as_slice(), "make 7 100"),
+        (["--make=7", "--count=20"].as_slice(), "make 7 20"),
+        (
+            ["--make", "7", "x"].as_slice(),
+            "the words are not accepted",
+        ),
+        (
+            ["--count", "5", "x"].as_slice(),
+            "the words are not accepted",
+        ),
+        (
+            ["--make", "4294967296"].as_slice(),
+            "the words are not accepted",
+        ),
+        (["--threads", "f"].as_slice(), "the words are not accepted"),
+        ([].as_slice(), "the words are not accepted"),
+    ];
+    for (words, told) in rows {
+        let found = answer(rt.alloc(), words)?;
+        assert_eq!(rt; found.as_str(), told);
+    }
+    assert!(rt; usage().starts_with("usage: inputplay [--threads] "));
+    assert!(rt; usage().ends_with("[--count COUNT]\n"));
+    Ok(())
+}

@@ -1,0 +1,4 @@
+mod Ranges
+mod Pushed
+mod Counts
+mod LinesKept
