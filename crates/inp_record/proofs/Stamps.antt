@@ -1,9 +1,8 @@
 -- Streams, record by record.
-use Rattle.std.proofs.Common.{◌≡◌, ℕ, zero, suc, ◌+◌, ◌-◌, ◌/◌, ◌<◌, ◌≤◌, Bool, true, false, ◌&&◌, ◌||◌, if◌then◌else◌, nat_eq, nat_le, nat_lt, List, [], ◌∷◌, ◌++◌, length, drop, take, Option, Some, None, option_map, Result, Ok, Err, refl, sym, ap, ◌∙◌, append_assoc, length-drop, arith, ◌⊎◌, inl, inr}
-use Rattle.std.specs.Prelude.{slice_get, flat_map}
+use Rattle.std.proofs.Common.{◌≡◌, ℕ, zero, suc, ◌+◌, ◌-◌, ◌/◌, ◌<◌, ◌≤◌, Bool, true, false, ◌||◌, if◌then◌else◌, nat_eq, nat_le, nat_lt, List, [], ◌∷◌, ◌++◌, length, drop, take, Option, Some, None, option_map, Result, Ok, Err, refl, sym, ap, ◌∙◌, append_assoc, length-drop, arith, ◌⊎◌, inl, inr}
+use Rattle.std.specs.Prelude.{slice_get}
 use Rattle.std.specs.List.{list_all, range_with_len}
 use Rattle.std.proofs.lemmas.List.{append-nil, take_rest}
-use Rattle.std.proofs.lemmas.Bool.{cases_lt}
 use Rattle.std.proofs.lemmas.Bool.Decides.{nat_tests}
 use Rattle.inp_model.specs.declared.event.Event.{Event}
 use Rattle.inp_model.specs.declared.stamped.Stamped.{Stamped}

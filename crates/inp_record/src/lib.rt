@@ -1,8 +1,9 @@
 //! The text of a recorded device: read, written, and given the events of its files.
 //!
 //! This crate is for whoever has a record as bytes and wants it as data, or the other way round. [`parse`] reads a record,
-//! or names the first line that has no meaning and its [`Cause`]. The record itself is plain data of `inp_actors`, which is
-//! handed on here. `docs/FORMATS.md` has the whole form, with an example of each line.
+//! or names the first line that has no meaning and its [`Cause`]. [`print`] writes one, and [`load`] gives it the events of
+//! a file. The record itself is plain data of `inp_actors`, and [`print`] stands in `inp_canon`; both are handed on here.
+//! `docs/FORMATS.md` has the whole form, with an example of each line.
 //!
 //! How a line is read: [`parse`] cuts the text into lines and lends each to `read_line`, with the `Context` that the lines
 //! before it left: where the line stands, what the latest device gave, which actors there are. `item_of_words` says what
@@ -38,6 +39,7 @@ pub use inp_actors::{
     ActorText, Actors, Command, DeviceText, Devices, FileName, Line, Lines, Name, Record, Role,
     Stamps, Streams,
 };
+pub use inp_canon::print;
 pub use line_numbers::line_number;
 pub use loader::load;
 pub use parser::parse;

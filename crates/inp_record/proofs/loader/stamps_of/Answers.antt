@@ -1,4 +1,4 @@
-use Rattle.std.proofs.Common.{◌≡◌, ◌+◌, ◌-◌, ◌<◌, ◌≤◌, ◌++◌, ◌∷◌, [], ℕ, List, length, drop, take, Ok, Err, Some, None, option_map, sym, ap, subst, ◌∙◌, rules, arith}
+use Rattle.std.proofs.Common.{◌≡◌, ◌-◌, ◌<◌, ◌++◌, ◌∷◌, [], List, length, drop, take, Ok, option_map, sym, ap, subst, ◌∙◌, rules}
 use Rattle.inp_actors.specs.Record.{AreInTime}
 use Rattle.inp_stream.specs.Stream.{decoded}
 use Rattle.inp_model.specs.declared.stamped.Stamped.{Stamped}

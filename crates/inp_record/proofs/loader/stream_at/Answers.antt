@@ -1,5 +1,4 @@
-use Rattle.std.proofs.Common.{◌≡◌, Some, ap, ◌∷◌, [], rules, arith}
-use Rattle.inp_actors.specs.declared.command.Command.{Command}
+use Rattle.std.proofs.Common.{◌≡◌, ap, ◌∷◌, []}
 use Rattle.inp_actors.specs.Record.{stream_of}
 use Rattle.inp_record.proofs.Stamps.{stream_within}
 use Rattle.inp_record.proofs.loader.stream_at.Goals as goal
