@@ -41,7 +41,7 @@ answer_place : (d : Description) (past : List Step) (x : Step) (o : Option Reply
 answer_place d past x None h = accepted-place d past x
 answer_place d past x (Some reply) h = first_place (length past) (refusals d past x) reply (refl, (refl, (refl, (refl, (refl, (refl, (refl, (refl, (refl, tt))))))))) (sym h)
 
-given_place : (d : Description) (past : List Step) (x : Step) (given : Answer) → IsAnswer d past x given → place_of given.reply ≡ length past
+pub given_place : (d : Description) (past : List Step) (x : Step) (given : Answer) → IsAnswer d past x given → place_of given.reply ≡ length past
 given_place d past x given (inl e) = ap (λ (a : Answer). place_of a.reply) e ∙ answer_place d past x (refused d past x) refl
 given_place d past x given (inr lacks) = ap (λ (a : Answer). place_of a.reply) lacks.2
 
@@ -67,7 +67,7 @@ turned past x =
     ap reverse (sym (reverse-append (reverse past) (x ∷ []) ∙ ap (λ (ss : List Step). x ∷ ss) (reverse-reverse past)))
     ∙ reverse-reverse (reverse past ++ x ∷ [])
 
-called_by : (d : Description) (past : List Step) (agains : ℕ) (x : Step) (given : Answer) (b : Bool) → is_accepted given.reply ≡ b → place_of given.reply ≡ length past → IsAnswer d past x given
+pub called_by : (d : Description) (past : List Step) (agains : ℕ) (x : Step) (given : Answer) (b : Bool) → is_accepted given.reply ≡ b → place_of given.reply ≡ length past → IsAnswer d past x given
     → (let before : DeviceView = record { description = d; past = past; agains = agains } in
     let after : DeviceView = record { description = d; past = (if b then x ∷ past else past); agains = agains_after given.reply agains } in
     let call : Call = record { step = x; answer = given } in

@@ -178,7 +178,7 @@ axes-agree (GetAxis client index) reply xs code v w t long_v long_w h none =
     ∙ ap (λ (r : Reply). slice_index_or (axes_after_reply index r w) code (pos 0)) (sym t.2)
 axes-agree _ reply xs code v w t long_v long_w h none = h none
 
-agree-answer : (which : Compared) (d : Description) (past : List Step) (x : Step) (xs : List Step) (given : Answer) (v w : View) → IsAnswer d past x given → is_accepted given.reply ≡ true → length v.cells ≡ 14 * d.slots → AgreeBut which (x ∷ xs) v w → AgreeBut which xs (view_after_answer v x given.reply given.cells) (view_after_answer w x given.reply given.cells)
+pub agree-answer : (which : Compared) (d : Description) (past : List Step) (x : Step) (xs : List Step) (given : Answer) (v w : View) → IsAnswer d past x given → is_accepted given.reply ≡ true → length v.cells ≡ 14 * d.slots → AgreeBut which (x ∷ xs) v w → AgreeBut which xs (view_after_answer v x given.reply given.cells) (view_after_answer w x given.reply given.cells)
 unfolding view_after_answer
 agree-answer which d past x xs given v w are accepted sized a =
     let t : Tells x given.reply = tells d past x given are accepted in
@@ -196,7 +196,7 @@ agree-answer which d past x xs given v w are accepted sized a =
           ∙ sym (length-cells_after_answer x given.reply given.cells w.cells (has-cells d past x given w.cells are (sym a.cells_long ∙ sized)));
     }
 
-sized-answer : (d : Description) (past : List Step) (x : Step) (given : Answer) (v : View) → IsAnswer d past x given → length v.cells ≡ 14 * d.slots → length (view_after_answer v x given.reply given.cells).cells ≡ 14 * d.slots
+pub sized-answer : (d : Description) (past : List Step) (x : Step) (given : Answer) (v : View) → IsAnswer d past x given → length v.cells ≡ 14 * d.slots → length (view_after_answer v x given.reply given.cells).cells ≡ 14 * d.slots
 unfolding view_after_answer
 sized-answer d past x given v are sized = length-cells_after_answer x given.reply given.cells v.cells (has-cells d past x given v.cells are sized) ∙ sized
 

@@ -39,10 +39,10 @@ fold_calls-push v [] call = refl
 fold_calls-push v (c ∷ calls) call = fold_calls-push (view_after_answer (view_after_events v (events_of c.answer.events)) c.step c.answer.reply c.answer.cells) calls call
 
 -- a history's answers are those to accepted steps
-accepted-answer : (d : Description) (past : List Step) (x : Step) → refused d past x ≡ None → answer d past x ≡ accepted d past x
+pub accepted-answer : (d : Description) (past : List Step) (x : Step) → refused d past x ≡ None → answer d past x ≡ accepted d past x
 accepted-answer d past x h = ap (λ (o : Option Reply). answer_by o (accepted d past x)) h
 
-map-taken : (es : List Entry) → events_of (map taken_of es) ≡ map event_of es
+pub map-taken : (es : List Entry) → events_of (map taken_of es) ≡ map event_of es
 map-taken [] = refl
 map-taken (e ∷ es) = ap (λ (xs : List Event). event_of e ∷ xs) (map-taken es)
 
@@ -54,7 +54,7 @@ pub taken-told : (d : Description) (past : List Step) (client : ℕ) (x : Step) 
 taken-told d past client (Read named count) used = ap (λ (es : List Entry). map taken_of es) (same-read d past named client count used)
 taken-told d past client _ used = refl
 
-no-events : (v : View) → view_after_events v [] ≡ v
+pub no-events : (v : View) → view_after_events v [] ≡ v
 unfolding view_after_events
 no-events v = refl
 
@@ -69,7 +69,7 @@ idle-own d past client (GetAxis named code) v h = absurd (true≢false h)
 idle-own d past client (SyncSlots named) v h = absurd (true≢false h)
 idle-own d past client _ v h = no-events v
 
-idle-step : (d : Description) (past : List Step) (client : ℕ) (x : Step) (v : View) → is_use_of client x ≡ false → view_after_step d past client x v ≡ v
+pub idle-step : (d : Description) (past : List Step) (client : ℕ) (x : Step) (v : View) → is_use_of client x ≡ false → view_after_step d past client x v ≡ v
 idle-step d past client x v h = by (is_same (client_of x) client) refl
   where
     nothing : (y : Step) → is_use y ≡ false → view_after_answer (view_after_events v (map event_of (taken_by d past client y))) y (accepted d past y).reply (accepted d past y).cells ≡ v
@@ -114,7 +114,7 @@ step_if true used a b c P h k l = h refl
 step_if false true a b c P h k l = k refl refl
 step_if false false a b c P h k l = l refl refl
 
-used-view : (d : Description) (past : List Step) (client : ℕ) (x : Step) (v : View) → refused d past x ≡ None → is_use_of client x ≡ true
+pub used-view : (d : Description) (past : List Step) (client : ℕ) (x : Step) (v : View) → refused d past x ≡ None → is_use_of client x ≡ true
     → view_after_step d past client x v ≡ view_after_answer (view_after_events v (events_of (answer d past x).events)) x (answer d past x).reply (answer d past x).cells
 used-view d past client x v accepts used =
     let told : answer d past x ≡ accepted d past x = accepted-answer d past x accepts in
@@ -146,7 +146,7 @@ client_view-since d (x ∷ past) client h = by (is_start past client x) (is_use_
         ∙ sym (fold_calls-push (view_at_start d past client) (calls_since d past client) call)
     by false false s u rest = idle-step d past client x v u ∙ rest
 
-idle-taken : (d : Description) (past : List Step) (client : ℕ) (x : Step) → is_use_of client x ≡ false → taken_by d past client x ≡ []
+pub idle-taken : (d : Description) (past : List Step) (client : ℕ) (x : Step) → is_use_of client x ≡ false → taken_by d past client x ≡ []
 idle-taken d past client (Read named count) h = cond-false (nat_eq named client) _ [] h
 idle-taken d past client _ h = refl
 
@@ -154,7 +154,7 @@ taken_by_calls-push : (calls : List Call) (call : Call) → taken_by_calls (call
 taken_by_calls-push calls call =
     flat_map-append (λ (c : Call). c.answer.events) calls (call ∷ []) ∙ ap (λ (ts : List Taken). taken_by_calls calls ++ ts) (append-nil call.answer.events)
 
-used-taken : (d : Description) (past : List Step) (client : ℕ) (x : Step) → refused d past x ≡ None → is_use_of client x ≡ true → map taken_of (taken_by d past client x) ≡ (answer d past x).events
+pub used-taken : (d : Description) (past : List Step) (client : ℕ) (x : Step) → refused d past x ≡ None → is_use_of client x ≡ true → map taken_of (taken_by d past client x) ≡ (answer d past x).events
 used-taken d past client x accepts used = sym (taken-told d past client x used) ∙ ap (λ (a : Answer). a.events) (sym (accepted-answer d past x accepts))
 
 -- all that it took is what it had taken at its start, and what the calls since then took
@@ -239,7 +239,7 @@ upto-last v (c ∷ calls) call j h k =
     ∙ ap (λ (i : ℕ). view_after_events (fold_calls next calls) (events_of (take i call.answer.events))) same
 
 -- one more step leaves the view at an earlier event
-at-earlier : (d : Description) (past : List Step) (client i : ℕ) (x : Step) → i < length (took d past client) → view_at d (x ∷ past) client i ≡ view_at d past client i
+pub at-earlier : (d : Description) (past : List Step) (client i : ℕ) (x : Step) → i < length (took d past client) → view_at d (x ∷ past) client i ≡ view_at d past client i
 unfolding took past_before_read
 at-earlier d past client i x h =
     let T : List Entry = took d past client in
@@ -258,7 +258,7 @@ take-behind (x ∷ xs) ys (suc n) h =
     take-behind xs ys n (omega (arith, h)) ∙ ap (λ (k : ℕ). take k ys) e
 
 -- the view at an event of the last step
-at-last : (d : Description) (past : List Step) (client i : ℕ) (x : Step) → length (took d past client) ≤ i → view_at d (x ∷ past) client i ≡ view_after_events (client_view d past client) (map event_of (take (suc i - length (took d past client)) (taken_by d past client x)))
+pub at-last : (d : Description) (past : List Step) (client i : ℕ) (x : Step) → length (took d past client) ≤ i → view_at d (x ∷ past) client i ≡ view_after_events (client_view d past client) (map event_of (take (suc i - length (took d past client)) (taken_by d past client x)))
 unfolding took past_before_read
 at-last d past client i x h =
     let T : List Entry = took d past client in
@@ -268,7 +268,7 @@ at-last d past client i x h =
     ap (λ (p : List Step). view_after_events (client_view d p client) (map event_of (drop (length (took d p client)) (take (suc i) (T ++ E))))) same
     ∙ ap (λ (es : List Entry). view_after_events (client_view d past client) (map event_of es)) (take-behind T E (suc i) (omega (arith, h)))
 
-taken-events : (d : Description) (past : List Step) (client n : ℕ) (x : Step) → refused d past x ≡ None → is_use_of client x ≡ true → map event_of (take n (taken_by d past client x)) ≡ events_of (take n (answer d past x).events)
+pub taken-events : (d : Description) (past : List Step) (client n : ℕ) (x : Step) → refused d past x ≡ None → is_use_of client x ≡ true → map event_of (take n (taken_by d past client x)) ≡ events_of (take n (answer d past x).events)
 taken-events d past client n x accepts used =
     sym (map-taken (take n (taken_by d past client x))) ∙ ap (λ (ts : List Taken). events_of ts) (sym (take-map taken_of n (taken_by d past client x)) ∙ ap (λ (ts : List Taken). take n ts) (used-taken d past client x accepts used))
 
@@ -343,7 +343,7 @@ upto-asked v (call ∷ calls) more j h =
     ∙ ap (λ (w : View). view_upto (view_after_answer w call.step call.answer.reply call.answer.cells) (calls ++ more) j) same
     ∙ upto-asked (view_after_answer v call.step call.answer.reply call.answer.cells) calls more j h.1
 
-read-view : (x : Step) (v : View) (reply : Reply) (cells : List ℤ) → is_read x ≡ true → view_after_answer v x reply cells ≡ v
+pub read-view : (x : Step) (v : View) (reply : Reply) (cells : List ℤ) → is_read x ≡ true → view_after_answer v x reply cells ≡ v
 unfolding view_after_answer
 read-view (Read client count) v reply cells h = refl
 read-view _ v reply cells h = absurd (false≢true h)
@@ -388,7 +388,7 @@ upto-reads v (call ∷ reads) j are h = by (nat_lt j n) refl (λ k. upto-reads (
         ∙ ap (λ (ts : List Taken). view_after_events v (events_of ts)) (sym (take-more E R (suc j) (omega (arith, above))))
 
 -- a query takes nothing
-no_read-takes : (d : Description) (past : List Step) (x : Step) → is_read x ≡ false → (answer d past x).events ≡ []
+pub no_read-takes : (d : Description) (past : List Step) (x : Step) → is_read x ≡ false → (answer d past x).events ≡ []
 no_read-takes d past x h = by (refused d past x)
   where
     nothing : (y : Step) → is_read y ≡ false → (accepted d past y).events ≡ []
@@ -456,7 +456,7 @@ taken-behind d past client asked reads since steps =
 
 -- each call since the start was accepted, and answered as the one-thread device answers it
 
-accepted-accepts : (d : Description) (past : List Step) (x : Step) → is_accepted (accepted d past x).reply ≡ true
+pub accepted-accepts : (d : Description) (past : List Step) (x : Step) → is_accepted (accepted d past x).reply ≡ true
 accepted-accepts d past Open = refl
 accepted-accepts d past _ = refl
 

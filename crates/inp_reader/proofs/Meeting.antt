@@ -55,25 +55,25 @@ unfolding AreQuiet
 quiet-append client [] ys h k = k
 quiet-append client (x ∷ xs) ys h k = (h.0, quiet-append client xs ys h.1 k)
 
-quiet-reversed : (client : ℕ) (xs : List Step) → AreQuiet client xs → AreQuiet client (reverse xs)
+pub quiet-reversed : (client : ℕ) (xs : List Step) → AreQuiet client xs → AreQuiet client (reverse xs)
 unfolding AreQuiet
 quiet-reversed client [] h = tt
 quiet-reversed client (x ∷ xs) h =
     subst (λ (ys : List Step). AreQuiet client ys) (sym (reverse-append (x ∷ []) xs)) (quiet-append client (reverse xs) (x ∷ []) (quiet-reversed client xs h.1) (h.0, tt))
 
-quiet-from_places : (client : ℕ) (xs : List Step) → ((k : ℕ) (x : Step) → slice_get xs k ≡ Some x → is_use_of client x ≡ false) → AreQuiet client xs
+pub quiet-from_places : (client : ℕ) (xs : List Step) → ((k : ℕ) (x : Step) → slice_get xs k ≡ Some x → is_use_of client x ≡ false) → AreQuiet client xs
 unfolding AreQuiet
 quiet-from_places client [] h = tt
 quiet-from_places client (x ∷ xs) h = (h 0 x refl, quiet-from_places client xs (λ k y e. h (suc k) y e))
 
-slice_get-taken : (n k : ℕ) (xs : List Step) (x : Step) → slice_get (take n xs) k ≡ Some x → (k < n) × (slice_get xs k ≡ Some x)
+pub slice_get-taken : (n k : ℕ) (xs : List Step) (x : Step) → slice_get (take n xs) k ≡ Some x → (k < n) × (slice_get xs k ≡ Some x)
 slice_get-taken n k xs x h =
     let within : k < length (take n xs) = slice_get_within (take n xs) k x h in
     let few : k < n = omega (arith, length-take n xs) in
     let long : k < length xs = omega (arith, length-take n xs) in
     (few, slice_get-get_or xs k x long ∙ ap (λ (y : Step). Some y) (sym (get_or-take n xs k x few) ∙ get_or_from_slice_get (take n xs) k x x h))
 
-slice_get-behind : (xs ys : List Step) (k : ℕ) (x : Step) → slice_get ys k ≡ Some x → slice_get (xs ++ ys) (length xs + k) ≡ Some x
+pub slice_get-behind : (xs ys : List Step) (k : ℕ) (x : Step) → slice_get ys k ≡ Some x → slice_get (xs ++ ys) (length xs + k) ≡ Some x
 slice_get-behind xs ys k x h =
     let within : k < length ys = slice_get_within ys k x h in
     slice_get-get_or (xs ++ ys) (length xs + k) x (omega (arith, length-append xs ys))
@@ -87,7 +87,7 @@ take-behind (x ∷ xs) ys (suc n) h =
     ap (λ (zs : List Step). x ∷ zs) (take-behind xs ys n (omega (arith, h))) ∙ ap (λ (k : ℕ). x ∷ xs ++ take k ys) (sym e)
 
 -- what an accepted or a refused call leaves
-entered_if : (b : Bool) (x : Step) (history : List Step) (at : ℕ) → length history ≡ (if b then suc at else at) → (b ≡ true → slice_get history at ≡ Some x) → reverse history ≡ (if b then x ∷ past_at history at else past_at history at)
+pub entered_if : (b : Bool) (x : Step) (history : List Step) (at : ℕ) → length history ≡ (if b then suc at else at) → (b ≡ true → slice_get history at ≡ Some x) → reverse history ≡ (if b then x ∷ past_at history at else past_at history at)
 entered_if true x history at long entered =
     let within : at < length history = omega (arith, long) in
     let last : get_or history at x ≡ x = get_or_from_slice_get history at x x (entered refl) in
@@ -97,10 +97,10 @@ entered_if true x history at long entered =
 entered_if false x history at long entered = ap (λ (xs : List Step). reverse xs) (sym (take_all at history (omega (arith, long))))
 
 -- each use of the client that entered after so many steps is one of these calls
-abbrev AreAllOwn : ℕ → ℕ → List Step → List Call → Type 0
+abbrev pub AreAllOwn : ℕ → ℕ → List Step → List Call → Type 0
 AreAllOwn client least history calls = (place : ℕ) (x : Step) → least ≤ place → slice_get history place ≡ Some x → is_use_of client x ≡ true → IsPlaceOf place calls
 
-not_own : (d : Description) (history : List Step) (place : ℕ) (call : Call) (calls : List Call) (before after : EvdevView) → AreCalls before after calls → length before.seen ≡ next_place call.answer.reply → place < place_of call.answer.reply → IsPlaceOf place (call ∷ calls) → ⊥
+pub not_own : (d : Description) (history : List Step) (place : ℕ) (call : Call) (calls : List Call) (before after : EvdevView) → AreCalls before after calls → length before.seen ≡ next_place call.answer.reply → place < place_of call.answer.reply → IsPlaceOf place (call ∷ calls) → ⊥
 unfolding IsPlaceOf
 not_own d history place call calls before after h long below (inl same) = omega (arith, below, same.1)
 not_own d history place call calls before after h long below (inr k) =
@@ -111,7 +111,7 @@ not_own d history place call calls before after h long below (inr k) =
     at_most_next reply true e = omega arith
     at_most_next reply false e = omega arith
 
-later_own : (client : ℕ) (history : List Step) (before : ℕ) (call : Call) (calls : List Call) (least : ℕ) → least ≤ before → before ≡ next_place call.answer.reply → AreAllOwn client least history (call ∷ calls) → AreAllOwn client before history calls
+pub later_own : (client : ℕ) (history : List Step) (before : ℕ) (call : Call) (calls : List Call) (least : ℕ) → least ≤ before → before ≡ next_place call.answer.reply → AreAllOwn client least history (call ∷ calls) → AreAllOwn client before history calls
 unfolding IsPlaceOf
 later_own client history before call calls least below long own = λ place x from at used. without_first place from (own place x (omega (arith, below, from)) at used)
   where
@@ -123,7 +123,7 @@ later_own client history before call calls least below long own = λ place x fro
     without_first place from (inl same) = absurd (omega (arith, from, same.1, long, next_of (is_accepted call.answer.reply) (place_of call.answer.reply) same.0))
     without_first place from (inr k) = k
 
-past_before : (history before more : List Step) (at : ℕ) → history ≡ before ++ more → length before ≤ at → past_at history at ≡ reverse (take (at - length before) more) ++ reverse before
+pub past_before : (history before more : List Step) (at : ℕ) → history ≡ before ++ more → length before ≤ at → past_at history at ≡ reverse (take (at - length before) more) ++ reverse before
 past_before history before more at h from =
     ap (λ (xs : List Step). reverse (take at xs)) h
     ∙ ap (λ (xs : List Step). reverse xs) (take-behind before more at from)

@@ -92,7 +92,7 @@ client-go_on_after : (mode : Mode) (r : Reading) (asked : Result View Reply) (ca
 client-go_on_after mode r (Ok view) calls result h = client-go_on mode (after_full_sync r view) calls result h
 client-go_on_after mode r (Err reply) calls result h = client-same (stop_of reply, after_failed_sync r) result r.client (finished (stop_of reply, after_failed_sync r) result calls h).1 refl
 
-client-in : (d : Description) (mode : Mode) (phase : Phase) (r : Reading) (calls : List Call) (result : Next × Reading) → EndsWith (talk_in d mode phase r) calls result → result.1.client ≡ r.client
+pub client-in : (d : Description) (mode : Mode) (phase : Phase) (r : Reading) (calls : List Call) (result : Next × Reading) → EndsWith (talk_in d mode phase r) calls result → result.1.client ≡ r.client
 client-in d Normal Plain r calls result h = client-read_talk r calls result h
 client-in d Synchronising Plain r calls result h = client-same (Synced, r) result r.client (finished (Synced, r) result calls h).1 refl
 client-in d mode Needed r calls result h =

@@ -39,7 +39,7 @@ index-is d past r t h history =
     let behind : length (taken_by_calls (calls_since d past r.client)) ≡ length ((h.before ++ t ∷ []) ++ r.queue) = ap (λ (ts : List Taken). length ts) (taken-behind d past r.client h.asked h.reads h.calls h.queries ∙ h.taken) in
     omega (arith, all, behind, length-append (h.before ++ t ∷ []) r.queue, length-append h.before (t ∷ []))
 
-at-it : (xs ys zs : List Taken) (t : Taken) (i : ℕ) → i ≡ length xs + length ys → slice_get (xs ++ ((ys ++ t ∷ []) ++ zs)) i ≡ Some t
+pub at-it : (xs ys zs : List Taken) (t : Taken) (i : ℕ) → i ≡ length xs + length ys → slice_get (xs ++ ((ys ++ t ∷ []) ++ zs)) i ≡ Some t
 at-it xs ys zs t i h =
     let same : xs ++ ((ys ++ t ∷ []) ++ zs) ≡ (xs ++ ys) ++ t ∷ zs = ap (λ (ts : List Taken). xs ++ ts) (append_assoc ys (t ∷ []) zs) ∙ sym (append_assoc xs ys (t ∷ zs)) in
     let there : length (xs ++ ys) ≡ i = length-append xs ys ∙ sym h in
@@ -47,7 +47,7 @@ at-it xs ys zs t i h =
     ∙ slice_get-get_or ((xs ++ ys) ++ t ∷ zs) i t (omega (arith, there, length-append (xs ++ ys) (t ∷ zs)))
     ∙ ap (λ (x : Taken). Some x) (get_or_at (xs ++ ys) t zs t i there)
 
-handed-is-taken : (d : Description) (past : List Step) (r : Reading) (t : Taken) → IsHandedOut d past r t → IsHistory d past → slice_get (map taken_of (took d past r.client)) (index_handed_out d past r) ≡ Some t
+pub handed-is-taken : (d : Description) (past : List Step) (r : Reading) (t : Taken) → IsHandedOut d past r t → IsHistory d past → slice_get (map taken_of (took d past r.client)) (index_handed_out d past r) ≡ Some t
 handed-is-taken d past r t h history =
     let B : List Taken = map taken_of (taken_at_start d past r.client) in
     let all : map taken_of (took d past r.client) ≡ B ++ ((h.before ++ t ∷ []) ++ r.queue) =
@@ -69,7 +69,7 @@ view-then d past r t h history =
 
 -- Two views that agree in what the device has
 
-abbrev what_is_had : Description → Compared
+abbrev pub what_is_had : Description → Compared
 what_is_had d = record { keys = has_kind d EV_KEY; switches = has_kind d EV_SW; leds = has_kind d EV_LED; axes = has_axis d; slots = nat_lt 0 d.slots }
 
 -- all of it is asked for
@@ -123,13 +123,13 @@ agree-event which v w e a = record {
   cells_long = length-cells_after_event v.cells v.slot e ∙ a.cells_long ∙ sym (length-cells_after_event w.cells w.slot e);
 }
 
-agree-events : (which : Compared) (v w : View) (es : List Event) → AgreeBut which [] v w → AgreeBut which [] (view_after_events v es) (view_after_events w es)
+pub agree-events : (which : Compared) (v w : View) (es : List Event) → AgreeBut which [] v w → AgreeBut which [] (view_after_events v es) (view_after_events w es)
 unfolding view_after_events
 agree-events which v w [] a = a
 agree-events which v w (e ∷ es) a = agree-events which (view_after_event v e) (view_after_event w e) es (agree-event which v w e a)
 
 -- the client's view and the reader's agree in all that the device has
-agree-then : (d : Description) (past : List Step) (r : Reading) (t : Taken) → IsHandedOut d past r t → IsHistory d past → AgreeBut (what_is_had d) [] (view_at d past r.client (index_handed_out d past r)) r.view
+pub agree-then : (d : Description) (past : List Step) (r : Reading) (t : Taken) → IsHandedOut d past r t → IsHistory d past → AgreeBut (what_is_had d) [] (view_at d past r.client (index_handed_out d past r)) r.view
 agree-then d past r t h history =
     let base : View = view_at_start d past r.client in
     let good : AreAnswered d h.asked × AreAccepted h.asked = good-first d h.asked h.reads (subst (λ (cs : List Call). AreAnswered d cs × AreAccepted cs) h.calls (since-good d past r.client history)) in
@@ -150,13 +150,13 @@ off-if-on : (k c x : Bool) (s before : Bool) → k ≡ false → before ≡ fals
 off-if-on true c x s before h b = absurd (true≢false h)
 off-if-on false c x s before h b = b
 
-no-key-down : (d : Description) (r : List Event) (code : ℕ) → has_kind d EV_KEY ≡ false → key_down d r code ≡ false
+pub no-key-down : (d : Description) (r : List Event) (code : ℕ) → has_kind d EV_KEY ≡ false → key_down d r code ≡ false
 unfolding key_down
 no-key-down d [] code h = refl
 no-key-down d (e ∷ r) code h =
     off-if (has_kind d EV_KEY) (has_code d EV_KEY code) (nat_eq e.kind EV_KEY && nat_eq e.code code) (not (is_repeat e)) (is_set e) (key_down d r code) h (no-key-down d r code h)
 
-nothing-on : (d : Description) (r : List Event) (kind code : ℕ) → has_kind d kind ≡ false → turned_on d r kind code ≡ false
+pub nothing-on : (d : Description) (r : List Event) (kind code : ℕ) → has_kind d kind ≡ false → turned_on d r kind code ≡ false
 unfolding turned_on
 nothing-on d [] kind code h = refl
 nothing-on d (e ∷ r) kind code h =

@@ -31,28 +31,28 @@ of-kind : (d : Description) (e : Event) (kind : ℕ) → e.kind ≡ kind → is_
 of-kind d e kind h is = ap (λ (n : ℕ). is_event_of d (record e { kind = n })) (sym h) ∙ is
 
 -- a flag of a type that the device has not is not set
-no-keys : (d : Description) (e : Event) → is_event_of d e ≡ true → has_kind d EV_KEY ≡ false → nat_eq e.kind EV_KEY ≡ false
+pub no-keys : (d : Description) (e : Event) → is_event_of d e ≡ true → has_kind d EV_KEY ≡ false → nat_eq e.kind EV_KEY ≡ false
 no-keys d e is none = by (nat_eq e.kind EV_KEY) refl
   where
     by : (b : Bool) → nat_eq e.kind EV_KEY ≡ b → b ≡ false
     by true k = absurd (had-kind (has_kind d EV_KEY) (has_code d EV_KEY e.code) (of-kind d e EV_KEY (eqb-true e.kind EV_KEY k) is) none)
     by false k = refl
 
-no-switches : (d : Description) (e : Event) → is_event_of d e ≡ true → has_kind d EV_SW ≡ false → nat_eq e.kind EV_SW ≡ false
+pub no-switches : (d : Description) (e : Event) → is_event_of d e ≡ true → has_kind d EV_SW ≡ false → nat_eq e.kind EV_SW ≡ false
 no-switches d e is none = by (nat_eq e.kind EV_SW) refl
   where
     by : (b : Bool) → nat_eq e.kind EV_SW ≡ b → b ≡ false
     by true k = absurd (had-kind (has_kind d EV_SW) (has_code d EV_SW e.code) (of-kind d e EV_SW (eqb-true e.kind EV_SW k) is) none)
     by false k = refl
 
-no-leds : (d : Description) (e : Event) → is_event_of d e ≡ true → has_kind d EV_LED ≡ false → nat_eq e.kind EV_LED ≡ false
+pub no-leds : (d : Description) (e : Event) → is_event_of d e ≡ true → has_kind d EV_LED ≡ false → nat_eq e.kind EV_LED ≡ false
 no-leds d e is none = by (nat_eq e.kind EV_LED) refl
   where
     by : (b : Bool) → nat_eq e.kind EV_LED ≡ b → b ≡ false
     by true k = absurd (had-kind (has_kind d EV_LED) (has_code d EV_LED e.code) (of-kind d e EV_LED (eqb-true e.kind EV_LED k) is) none)
     by false k = refl
 
-keys-stay : (b c : Bool) (new old : List Bool) → b ≡ false → (if b && c then new else old) ≡ old
+pub keys-stay : (b c : Bool) (new old : List Bool) → b ≡ false → (if b && c then new else old) ≡ old
 keys-stay true c new old h = absurd (true≢false h)
 keys-stay false c new old h = refl
 

@@ -45,7 +45,7 @@ pub opens-step : (past : List Step) (x : Step) (client : ℕ) → client < opens
 unfolding opens
 opens-step past x client h = opens-if (is_open_step x) (opens past) client h
 
-opens-steps : (past others : List Step) (client : ℕ) → client < opens past → client < opens (others ++ past)
+pub opens-steps : (past others : List Step) (client : ℕ) → client < opens past → client < opens (others ++ past)
 opens-steps past [] client h = h
 opens-steps past (x ∷ others) client h = opens-step (others ++ past) x client (opens-steps past others client h)
 
@@ -54,7 +54,7 @@ no_opening : (b : Bool) (n client : ℕ) → client < n → (b && nat_eq n clien
 no_opening true n client h = ne_eqb n client (λ e. omega (arith, h, e))
 no_opening false n client h = refl
 
-not_opening : (past : List Step) (x : Step) (client : ℕ) → client < opens past → is_opening past client x ≡ false
+pub not_opening : (past : List Step) (x : Step) (client : ℕ) → client < opens past → is_opening past client x ≡ false
 not_opening past x client h = no_opening (is_open_step x) (opens past) client h
 
 not_beginning : (past : List Step) (x : Step) (client : ℕ) → client < opens past → is_discard_of client x ≡ false → is_start past client x ≡ false
@@ -97,7 +97,7 @@ discard-step d past client =
     let rest : List Call = if is_use_of client (Discard client) then calls_since d past client ++ record { step = Discard client; answer = answer d past (Discard client) } ∷ [] else calls_since d past client in
     cond-true (is_discard_of client (Discard client)) [] rest (eq-eqb client client refl)
 
-open-step : (d : Description) (past : List Step) (client : ℕ) → client ≡ opens past → calls_since d (Open ∷ past) client ≡ []
+pub open-step : (d : Description) (past : List Step) (client : ℕ) → client ≡ opens past → calls_since d (Open ∷ past) client ≡ []
 unfolding calls_since
 open-step d past client h =
     let begins : is_start past client Open ≡ true = ap (λ (b : Bool). b || false) (eq-eqb (opens past) client (sym h)) in
@@ -110,10 +110,10 @@ use-answer : (d : Description) (past : List Step) (client : ℕ) (x : Step) (giv
 use-answer d past client x given used (inl e) = e
 use-answer d past client x given used (inr l) = absurd (false≢true (ap (λ (y : Step). is_use_of client y) (sym l.0) ∙ used))
 
-accepted-past : (reply : Reply) (x : Step) (past : List Step) → is_accepted reply ≡ true → past_after reply x past ≡ x ∷ past
+pub accepted-past : (reply : Reply) (x : Step) (past : List Step) → is_accepted reply ≡ true → past_after reply x past ≡ x ∷ past
 accepted-past reply x past h = cond-true (is_accepted reply) (x ∷ past) past h
 
-refused-past : (reply : Reply) (x : Step) (past : List Step) → is_accepted reply ≡ false → past_after reply x past ≡ past
+pub refused-past : (reply : Reply) (x : Step) (past : List Step) → is_accepted reply ≡ false → past_after reply x past ≡ past
 refused-past reply x past h = cond-false (is_accepted reply) (x ∷ past) past h
 
 -- what is known of the client after a call that is a use of it and was accepted
@@ -133,7 +133,7 @@ met-refused d client past after call h m refused =
     ap (λ (p : List Step). calls_since d p client) (m.entered ∙ refused-past call.answer.reply call.step (m.others ++ past) refused)
     ∙ quiet-steps d past m.others client h m.quiet
 
-met-opens : (d : Description) (client : ℕ) (past after : List Step) (call : Call) → client < opens past → IsMet d client past after call → client < opens after
+pub met-opens : (d : Description) (client : ℕ) (past after : List Step) (call : Call) → client < opens past → IsMet d client past after call → client < opens after
 met-opens d client past after call h m =
     let before : List Step = m.others ++ past in
     let open_before : client < opens before = opens-steps past m.others client h in
@@ -288,7 +288,7 @@ pub record Leaves (d : Description) (past : List Step) (result : Next × Reading
   pub hands_out : HandsOut d past result.0 result.1
 
 -- the same reader, at a past since which nothing was read or asked for
-in-step-kept : (d : Description) (past after : List Step) (r : Reading) → IsInStep d past r → calls_since d after r.client ≡ calls_since d past r.client → IsInStep d after r
+pub in-step-kept : (d : Description) (past after : List Step) (r : Reading) → IsInStep d past r → calls_since d after r.client ≡ calls_since d past r.client → IsInStep d after r
 in-step-kept d past after r i same = record {
   asked = i.asked;
   reads = i.reads;
@@ -516,7 +516,7 @@ stands-after-next d mode past after r calls result s anew m h = stands-in d mode
 -- `start`
 
 -- an Open that was accepted opens the next client
-opened-number : (d : Description) (past : List Step) (x : Step) (given : Answer) (at client ring : ℕ) → x ≡ Open → IsAnswer d past x given → given.reply ≡ Opened at client ring → client ≡ opens past
+pub opened-number : (d : Description) (past : List Step) (x : Step) (given : Answer) (at client ring : ℕ) → x ≡ Open → IsAnswer d past x given → given.reply ≡ Opened at client ring → client ≡ opens past
 opened-number d past x given at client ring opening (inl e) is = by_cases (refused d past Open) refl
   where
     by_cases : (o : Option Reply) → refused d past Open ≡ o → client ≡ opens past
@@ -530,12 +530,12 @@ opened-number d past x given at client ring opening (inr l) is =
     let same : Opened at client ring ≡ Refused (length past) NoMemory = sym is ∙ ap (λ (a : Answer). a.reply) l.2 in
     absurd cc
 
-open-opens : (past : List Step) (client : ℕ) → client ≡ opens past → client < opens (Open ∷ past)
+pub open-opens : (past : List Step) (client : ℕ) → client ≡ opens past → client < opens (Open ∷ past)
 unfolding opens
 open-opens past client h = omega (arith, h)
 
 -- a call that is no use of the client leaves what it did
-met-unused : (d : Description) (client : ℕ) (past after : List Step) (call : Call) → client < opens past → IsMet d client past after call → is_use_of client call.step ≡ false → calls_since d after client ≡ calls_since d past client
+pub met-unused : (d : Description) (client : ℕ) (past after : List Step) (call : Call) → client < opens past → IsMet d client past after call → is_use_of client call.step ≡ false → calls_since d after client ≡ calls_since d past client
 met-unused d client past after call h m unused = ap (λ (p : List Step). calls_since d p client) m.entered ∙ by (is_accepted call.answer.reply)
   where
     before : List Step
@@ -546,7 +546,7 @@ met-unused d client past after call h m unused = ap (λ (p : List Step). calls_s
     by false = quiet-steps d past m.others client h m.quiet
 
 -- what a start leaves once its queries ended
-stands-queried : (d : Description) (client ring : ℕ) (past after : List Step) (r : Reading) (asked : Result View Reply) (calls : List Call) → client < opens past → calls_since d past client ≡ [] → IsMadeAnew d client r.view → AreMet d client past after calls → EndsWith (ask_each (queries d client) r.view) calls asked
+pub stands-queried : (d : Description) (client ring : ℕ) (past after : List Step) (r : Reading) (asked : Result View Reply) (calls : List Call) → client < opens past → calls_since d past client ≡ [] → IsMadeAnew d client r.view → AreMet d client past after calls → EndsWith (ask_each (queries d client) r.view) calls asked
     → StandsAt d after (after_queries client ring r asked).1
 stands-queried d client ring past after r (Ok view) calls opened none anew m h =
     let a : IsAsked d client past after (queries d client) r.view calls view = asks d client past after (queries d client) r.view calls view opened (AllAsk-queries d client) m h in

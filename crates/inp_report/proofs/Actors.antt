@@ -8,7 +8,7 @@ use Rattle.std.proofs.lemmas.Option.{slice_get_within, get_or_from_slice_get}
 use Rattle.inp_bits.proofs.Indices.{All-filter_range}
 use Rattle.inp_actors.specs.declared.actor_text.ActorText.{ActorText}
 use Rattle.inp_script.specs.Job.{JobView}
-use Rattle.inp_report.specs.Runs.{is_on_device, actors_of}
+use Rattle.inp_script.specs.Runs.{is_on_device, actors_of}
 
 -- each is the number of an actor
 actors_of-within : (actors : List ActorText) (device : ℕ) → All (λ i. i < length actors) (actors_of actors device)

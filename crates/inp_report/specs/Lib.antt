@@ -5,5 +5,4 @@ pub mod Sights
 pub mod Views
 pub mod Report
 pub mod Summary
-pub mod Runs
 pub mod Examples

@@ -4,7 +4,7 @@ ghost use Rattle.std.specs.List.{zip};
 ghost use Rattle.inp_model.specs.Description.{is_slot_code};
 ghost use Rattle.inp_report.specs.Views.{cell_of};
 ghost use Rattle.inp_report.specs.Summary.{told_slot, make_line, calls_line, counts_text, position_text, counts_line, brief_line, job_brief, run_brief, summary};
-ghost use Rattle.inp_report.specs.Runs.{AreRunsOf, IsRunOf};
+ghost use Rattle.inp_script.specs.Runs.{AreRunsOf, IsRunOf};
 
 use crate::sights::{again_count, counted_calls, made_count, took_count};
 use crate::views::cell_at;

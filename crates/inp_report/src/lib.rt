@@ -5,7 +5,7 @@
 //!
 //! Its contract: [`report`] and [`summary`] give exactly the bytes that `specs/Report.antt` and `specs/Summary.antt` define
 //! of the record and its runs, row by row of the tables in docs/FORMATS.md, or want of memory. The caller must pass the
-//! runs of this record (`specs/Runs.antt`). [`examples`] shows what the definitions say of a few records. A report takes
+//! runs of this record (`AreRunsOf` of `inp_script`). [`examples`] shows what the definitions say of a few records. A report takes
 //! time in proportion to what it prints, a summary to what was seen; no clause says so.
 #![tactic(auto)]
 

@@ -1,7 +1,7 @@
 //! The whole report.
 ghost use Rattle.std.specs.Prelude.{◌≡◌, ◌++◌, string_bytes, IfOk, OnOk, slice_get, Some};
 ghost use Rattle.inp_report.specs.Report.{device_line, step_line, history_text, run_text, report};
-ghost use Rattle.inp_report.specs.Runs.{AreRunsOf, IsRunOf};
+ghost use Rattle.inp_script.specs.Runs.{AreRunsOf, IsRunOf};
 
 use crate::jobs::push_job;
 use crate::step_text::StepText;

@@ -41,7 +41,7 @@ client_fold-append d h f (entry ∷ sight) more = client_fold-append d h (after_
 
 -- Only a read is answered Again
 
-abbrev is_read : Step → Bool
+abbrev pub is_read : Step → Bool
 is_read (Read client count) = true
 is_read _ = false
 
@@ -73,13 +73,13 @@ never_again d past x h =
     ((λ e. refl), ((λ e. refl), ((λ e. refl), ((λ e. refl), ((λ e. absurd (let f : true ≡ false = sym e ∙ nothing in cc)), ((λ e. refl), ((λ e. refl), ((λ e. refl), ((λ e. refl), tt)))))))))
     (accepted-not_again d past x)
 
-not_again : (d : Description) (past : List Step) (x : Step) (given : Answer) → IsAnswer d past x given → is_read x ≡ false → is_again given.reply ≡ false
+pub not_again : (d : Description) (past : List Step) (x : Step) (given : Answer) → IsAnswer d past x given → is_read x ≡ false → is_again given.reply ≡ false
 not_again d past x given (inl e) h = ap (λ (a : Answer). is_again a.reply) e ∙ never_again d past x h
 not_again d past x given (inr e) h = ap (λ (a : Answer). is_again a.reply) e.2
 
 -- Queries
 
-abbrev AllNoRead : List Step → Type 0
+abbrev pub AllNoRead : List Step → Type 0
 AllNoRead [] = Unit {0}
 AllNoRead (x ∷ xs) = (is_read x ≡ false) × AllNoRead xs
 
@@ -95,7 +95,7 @@ no_read-axes : (client : ℕ) (codes : List ℕ) → AllNoRead (axis_queries cli
 no_read-axes client [] = tt
 no_read-axes client (code ∷ codes) = (refl, no_read-axes client codes)
 
-no_read-queries : (d : Description) (client : ℕ) → AllNoRead (queries d client)
+pub no_read-queries : (d : Description) (client : ℕ) → AllNoRead (queries d client)
 unfolding queries
 no_read-queries d client =
     no_read-append (bit_queries d client ++ axis_queries client (plain_axes d)) (slot_queries d client)

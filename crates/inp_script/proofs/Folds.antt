@@ -25,13 +25,13 @@ unfolding tap_fold
 tap_fold-append d h v [] more = refl
 tap_fold-append d h v (entry ∷ sight) more = tap_fold-append d h (view_after_entry d h v entry) sight more
 
-fold-taken : (d : Description) (h : List Step) (v : View) (events : List Taken) → tap_fold d h v (map taken_sight events) ≡ view_after_events v (map event_of_taken events)
+pub fold-taken : (d : Description) (h : List Step) (v : View) (events : List Taken) → tap_fold d h v (map taken_sight events) ≡ view_after_events v (map event_of_taken events)
 unfolding tap_fold view_after_events
 fold-taken d h v [] = refl
 fold-taken d h v (taken ∷ events) = fold-taken d h (view_after_event v taken.event) events
 
 -- an answer Again sets nothing
-again_sets_nothing : (v : View) (x : Step) (at n : ℕ) (cells : List ℤ) → view_after_answer v x (NothingVisible at n) cells ≡ v
+pub again_sets_nothing : (v : View) (x : Step) (at n : ℕ) (cells : List ℤ) → view_after_answer v x (NothingVisible at n) cells ≡ v
 unfolding view_after_answer
 again_sets_nothing v (GetKeys client) at n cells = refl
 again_sets_nothing v (GetSwitches client) at n cells = refl
@@ -52,7 +52,7 @@ told-exact d past v x given (inr h) =
     λ y e. subst (λ (z : Step). view_after_answer v z given.reply given.cells ≡ view_after_answer v z given.reply (answer d past x).cells) (sym e) (open_sets_nothing v given.reply given.cells ∙ sym (open_sets_nothing v given.reply (answer d past x).cells)) in
     same x h.0
 
-entries-fold : (d : Description) (h : List Step) (v : View) (x : Step) (given : Answer) → IsAnswer d (past_at h (place_of given.reply)) x given → tap_fold d h v (call_sight x given.reply ++ again_sight given.reply) ≡ view_after_answer v x given.reply given.cells
+pub entries-fold : (d : Description) (h : List Step) (v : View) (x : Step) (given : Answer) → IsAnswer d (past_at h (place_of given.reply)) x given → tap_fold d h v (call_sight x given.reply ++ again_sight given.reply) ≡ view_after_answer v x given.reply given.cells
 unfolding tap_fold
 entries-fold d h v x given is = by_reply given.reply (told-exact d (past_at h (place_of given.reply)) v x given is)
   where
@@ -60,7 +60,7 @@ entries-fold d h v x given is = by_reply given.reply (told-exact d (past_at h (p
     by_reply (NothingVisible at n) e = sym (again_sets_nothing v x at n given.cells)
     by_reply reply e = sym e
 
-call-folds : (d : Description) (h : List Step) (v : View) (j k : Job) (x : Step) (call : Call) → HasPlace d h call → call.step ≡ x → after_tap_call j x call.answer ≡ k → tap_fold d h v j.sight ≡ j.reading.view → tap_fold d h v k.sight ≡ k.reading.view
+pub call-folds : (d : Description) (h : List Step) (v : View) (j k : Job) (x : Step) (call : Call) → HasPlace d h call → call.step ≡ x → after_tap_call j x call.answer ≡ k → tap_fold d h v j.sight ≡ j.reading.view → tap_fold d h v k.sight ≡ k.reading.view
 call-folds d h v j k x call placed step same fold =
     let a : Answer = call.answer in
     let is : IsAnswer d (past_at h (place_of a.reply)) x a = subst (λ (y : Step). IsAnswer d (past_at h (place_of a.reply)) y a) step placed.exact in
@@ -80,7 +80,7 @@ abbrev pub ArePlaced : Description → List Step → List Call → Type 0
 ArePlaced d h [] = Unit {0}
 ArePlaced d h (call ∷ calls) = HasPlace d h call × ArePlaced d h calls
 
-tap_memory : (lacks : Bool) (j k : Job) → (if lacks then None else Some j) ≡ Some k → j ≡ k
+pub tap_memory : (lacks : Bool) (j k : Job) → (if lacks then None else Some j) ≡ Some k → j ≡ k
 tap_memory true j k h = absurd cc
 tap_memory false j k h = cc
 

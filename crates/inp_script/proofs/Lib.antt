@@ -1,5 +1,6 @@
 pub mod Computing
 pub mod Holding
+pub mod IdleTurns
 pub mod Streams
 pub mod Commands
 pub mod Replies

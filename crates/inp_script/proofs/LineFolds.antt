@@ -83,13 +83,13 @@ source-view streams command j k calls h = source_call-view j k (step_of NO_CLIEN
 
 -- Clients
 
-abbrev IsClientFold : Description → List Step → View → Job → Type 0
+abbrev pub IsClientFold : Description → List Step → View → Job → Type 0
 IsClientFold d h v j = client_fold d h (settled v) j.sight ≡ settled j.reading.view
 
-folds-on : (d : Description) (h : List Step) (v : View) (j : Job) (more : List Sight) → IsClientFold d h v j → client_fold d h (settled v) (j.sight ++ more) ≡ client_fold d h (settled j.reading.view) more
+pub folds-on : (d : Description) (h : List Step) (v : View) (j : Job) (more : List Sight) → IsClientFold d h v j → client_fold d h (settled v) (j.sight ++ more) ≡ client_fold d h (settled j.reading.view) more
 folds-on d h v j more fold = client_fold-append d h (settled v) j.sight more ∙ ap (λ (f : Folding). client_fold d h f more) fold
 
-start_job-folds : (d : Description) (h : List Step) (v : View) (j k : Job) (calls : List Call) → ArePlaced d h calls → EndsWith (start_job d j) calls (Some k) → IsClientFold d h v j → IsClientFold d h v k
+pub start_job-folds : (d : Description) (h : List Step) (v : View) (j k : Job) (calls : List Call) → ArePlaced d h calls → EndsWith (start_job d j) calls (Some k) → IsClientFold d h v j → IsClientFold d h v k
 unfolding start_job
 start_job-folds d h v j k calls placed ends fold =
     let next : (Started × Reading) × List Sight → Talk (Option Job) = λ o. finish (start_ends o) in
@@ -138,7 +138,7 @@ turn-fold d h v wait left agains NoDevice j fold = bare d h v j fold
 turn-fold d h v wait left agains Closed j fold = bare d h v j fold
 turn-fold d h v wait left agains (Full at) j fold = bare d h v j fold
 
-round-fold : (d : Description) (h : List Step) (v : View) (wait : Option Waiting) (skips : Bool) (g : Going) (turn : Turn) (calls : List Call) → ArePlaced d h calls → EndsWith (next_round d wait skips g) calls turn → IsClientFold d h v g.job → IsClientFold d h v (job_of_turn turn)
+pub round-fold : (d : Description) (h : List Step) (v : View) (wait : Option Waiting) (skips : Bool) (g : Going) (turn : Turn) (calls : List Call) → ArePlaced d h calls → EndsWith (next_round d wait skips g) calls turn → IsClientFold d h v g.job → IsClientFold d h v (job_of_turn turn)
 unfolding next_round
 round-fold d h v wait skips g turn calls placed ends fold =
     let mode : Mode = mode_of skips g.job.reading.phase in
@@ -156,7 +156,7 @@ round-fold d h v wait skips g turn calls placed ends fold =
     ∙ next-folds d h mode g.job.reading p.mid.0.1 p.mid.0.0 p.first first b.0 in
     subst (λ (t : Turn). IsClientFold d h v (job_of_turn t)) f.1 (turn-fold d h v wait g.left g.agains p.mid.0.0 j told)
 
-same-fold : (d : Description) (h : List Step) (v : View) (j k : Job) (calls : List Call) → EndsWith (finish (Some j)) calls (Some k) → IsClientFold d h v j → IsClientFold d h v k
+pub same-fold : (d : Description) (h : List Step) (v : View) (j k : Job) (calls : List Call) → EndsWith (finish (Some j)) calls (Some k) → IsClientFold d h v j → IsClientFold d h v k
 same-fold d h v j k calls ends fold =
     let f = finish-only (Some j) (Some k) calls ends in
     let same : j ≡ k = (let e = f.1 in cc) in subst (λ (y : Job). IsClientFold d h v y) same fold
@@ -184,11 +184,11 @@ hand-fold d h v wait skips left n j k calls placed ends fold = by_flag (is_done 
 -- Single calls of clients, which ask for nothing and read nothing
 
 -- a step that tells nothing of the device
-record IsSilent (d : Description) (x : Step) : Type 0 where
-  alone : (view : View) (reply : Reply) → after_first_call d view x reply ≡ settled view
-  unread : (past : List Step) → (accepted d past x).events ≡ []
+pub record IsSilent (d : Description) (x : Step) : Type 0 where
+  pub alone : (view : View) (reply : Reply) → after_first_call d view x reply ≡ settled view
+  pub unread : (past : List Step) → (accepted d past x).events ≡ []
 
-no_events : (d : Description) (past : List Step) (x : Step) (given : Answer) → IsSilent d x → IsAnswer d past x given → given.events ≡ []
+pub no_events : (d : Description) (past : List Step) (x : Step) (given : Answer) → IsSilent d x → IsAnswer d past x given → given.events ≡ []
 no_events d past x given silent is =
     is_answer_has (λ a. a.events ≡ []) d past x given is (λ refusal r. r.none) (λ none. silent.unread past) (λ opened lack not_in none. none)
 
@@ -207,7 +207,7 @@ silent-entry d h v x reply silent =
     no_entry (Nothing at n) = refl
     no_entry _ = refl
 
-silent-fold : (d : Description) (h : List Step) (v : View) (j k : Job) (x : Step) (calls : List Call) → IsSilent d x → ArePlaced d h calls → EndsWith (call_talk j x) calls (Some k) → IsClientFold d h v j → IsClientFold d h v k
+pub silent-fold : (d : Description) (h : List Step) (v : View) (j k : Job) (x : Step) (calls : List Call) → IsSilent d x → ArePlaced d h calls → EndsWith (call_talk j x) calls (Some k) → IsClientFold d h v j → IsClientFold d h v k
 unfolding LeadsTo client_fold
 silent-fold d h v j k x [] silent placed ends fold = absurd cc
 silent-fold d h v j k x (call ∷ calls) silent placed ends fold =
@@ -225,7 +225,7 @@ silent-fold d h v j k x (call ∷ calls) silent placed ends fold =
     subst (λ (y : Job). IsClientFold d h v y) same kept
 
 -- a client's line
-client-fold : (d : Description) (h : List Step) (v : View) (wait : Option Waiting) (n : ℕ) (command : Command) (j k : Job) (calls : List Call) → is_command_of Client command ≡ true → ArePlaced d h calls → EndsWith (client_talk d wait n command j) calls (Some k) → IsClientFold d h v j → IsClientFold d h v k
+pub client-fold : (d : Description) (h : List Step) (v : View) (wait : Option Waiting) (n : ℕ) (command : Command) (j k : Job) (calls : List Call) → is_command_of Client command ≡ true → ArePlaced d h calls → EndsWith (client_talk d wait n command j) calls (Some k) → IsClientFold d h v j → IsClientFold d h v k
 client-fold d h v wait n OpenLine j k calls of_role placed ends fold = start_job-folds d h v j k calls placed ends fold
 client-fold d h v wait n (NextLine count) j k calls of_role placed ends fold = hand-fold d h v None false (Some count) n j k calls placed ends fold
 client-fold d h v wait n (Skip count) j k calls of_role placed ends fold = hand-fold d h v None true (Some count) n j k calls placed ends fold
@@ -251,12 +251,17 @@ stopped-fold role d h (Some stop) j k talk calls more ends fold =
     let f = finish-only (Some j) (Some k) calls ends in
     let same : j ≡ k = (let e = f.1 in cc) in subst (λ (y : Job). IsFolded role d h y) same fold
 
-pub line-folds : (a b : EvdevView) (actor : ActorView) (r : RecordView) (wait : Option Waiting) (number : ℕ) (new : Job) → a.description ≡ actor.description → (does : DoesLine a b actor r wait number new) → is_command_of actor.role does.line.command ≡ true → StaysFolded actor.role actor.description b actor.job new
+-- a line, whoever does it
+pub line_talk-folds : (role : Role) (d : Description) (h : List Step) (streams : List (List Stamped)) (wait : Option Waiting) (n : ℕ) (command : Command) (j k : Job) (calls : List Call) → is_command_of role command ≡ true → ArePlaced d h calls → EndsWith (line_talk role d streams wait n command j) calls (Some k) → IsFolded role d h j → IsFolded role d h k
 unfolding line_talk
+line_talk-folds role d h streams wait n command j k calls of_role placed ends fold =
+    stopped-fold role d h j.stop j k (command_talk role d streams wait n command j) calls
+    (λ e w. command-fold role d h streams wait n command j k calls of_role placed e w) ends fold
+
+pub line-folds : (a b : EvdevView) (actor : ActorView) (r : RecordView) (wait : Option Waiting) (number : ℕ) (new : Job) → a.description ≡ actor.description → (does : DoesLine a b actor r wait number new) → is_command_of actor.role does.line.command ≡ true → StaysFolded actor.role actor.description b actor.job new
 line-folds a b actor r wait number new same does of_role = λ h begins fold.
     let placed : ArePlaced actor.description h does.holds.calls = are_placed actor.description a b h does.holds.calls same begins does.holds.are_calls in
-    stopped-fold actor.role actor.description h actor.job.stop actor.job new (command_talk actor.role actor.description r.streams wait does.rounds does.line.command actor.job) does.holds.calls
-    (λ e w. command-fold actor.role actor.description h r.streams wait does.rounds does.line.command actor.job new does.holds.calls of_role placed e w) does.holds.talk_ends fold
+    line_talk-folds actor.role actor.description h r.streams wait does.rounds does.line.command actor.job new does.holds.calls of_role placed does.holds.talk_ends fold
 
 -- the end of a source
 pub end-folds : (b : EvdevView) (role : Role) (d : Description) (old new : Job) (calls : List Call) → role ≡ Source → EndsWith (end_talk old.stop old) calls (Some new) → StaysFolded role d b old new

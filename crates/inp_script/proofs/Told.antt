@@ -57,18 +57,18 @@ tells-event sight entry h = record {
 
 -- One call
 
-no_calls_taken : (events : List Taken) → filter is_call_entry (map taken_sight events) ≡ []
+pub no_calls_taken : (events : List Taken) → filter is_call_entry (map taken_sight events) ≡ []
 no_calls_taken [] = refl
 no_calls_taken (taken ∷ events) = no_calls_taken events
 
-call_kept : (x : Step) (reply : Reply) → filter is_call_entry (call_sight x reply) ≡ call_sight x reply
+pub call_kept : (x : Step) (reply : Reply) → filter is_call_entry (call_sight x reply) ≡ call_sight x reply
 call_kept x reply = by_flag (is_again reply)
   where
     by_flag : (b : Bool) → filter is_call_entry (if b then [] else Called x reply ∷ []) ≡ (if b then [] else Called x reply ∷ [])
     by_flag true = refl
     by_flag false = refl
 
-again_kept : (reply : Reply) → filter is_call_entry (again_sight reply) ≡ again_sight reply
+pub again_kept : (reply : Reply) → filter is_call_entry (again_sight reply) ≡ again_sight reply
 again_kept (NothingVisible at ends) = refl
 again_kept _ = refl
 
@@ -121,7 +121,7 @@ leaves_agains_out (call ∷ calls) = by_flag (is_again call.answer.reply) refl (
     by_flag true e out = inr (e, out)
     by_flag false e out = inl (without_agains calls, refl, out)
 
-not_again : (reply : Reply) → is_again reply ≡ false → again_sight reply ≡ []
+pub not_again : (reply : Reply) → is_again reply ≡ false → again_sight reply ≡ []
 not_again (NothingVisible at ends) h = absurd cc
 not_again _ h = refl
 

@@ -1,11 +1,13 @@
 -- How what a job saw stands to the history of its device (docs/RULES.md, "What a job sees").
-use Rattle.std.specs.Prelude.{◌≡◌, ℕ, Bool, true, false, List, [], ◌∷◌, ◌++◌, filter}
+use Rattle.std.specs.Prelude.{◌≡◌, ℕ, ◌+◌, ◌-◌, ◌^◌, ◌≤◌, ◌⊎◌, Bool, true, false, List, [], ◌∷◌, ◌++◌, filter, None, Some}
 use Rattle.inp_model.specs.declared.step.Step.{Step}
 use Rattle.inp_model.specs.Description.{Description}
 use Rattle.inp_model.specs.Evdev.{EvdevView, own_after}
 use Rattle.inp_model.specs.Run.{Call, IsLegalRun}
 use Rattle.inp_script.specs.declared.sight.Sight.{Sight}
 use Rattle.inp_script.specs.declared.sight.Sight.TheVariants.{Call as Called, Took, Made, Again}
+use Rattle.inp_script.specs.declared.stop.Stop.TheVariants.{Idle}
+use Rattle.inp_script.specs.Job.{Job}
 use Rattle.inp_script.specs.Sight.{call_sight, again_sight}
 
 -- the entries of calls, and of answers Again
@@ -44,3 +46,10 @@ pub record GainsPlaces (before after : EvdevView) (old new : List Sight) : Type 
 -- seen now.
 abbrev pub StaysLegal : Description → EvdevView → EvdevView → List Sight → List Sight → Type 0
 StaysLegal d before after old new = IsLegalSight d before.seen old → IsLegalSight d after.seen new
+
+-- Where a line stopped its job as idle, the evdev's count of answers Again rose by as many as it says at least, or stands at
+-- the end of its type.
+abbrev pub CountsTurns : EvdevView → EvdevView → Job → Job → Type 0
+CountsTurns before after old new =
+    (turns at : ℕ) → old.stop ≡ None → new.stop ≡ Some (Idle turns at)
+    → (before.agains + turns ≤ after.agains) ⊎ (2 ^ 64 - 1 ≤ after.agains)

@@ -12,4 +12,5 @@ pub mod Going
 pub mod Effort
 pub mod RoleState
 pub mod Actor
+pub mod Runs
 pub mod Examples

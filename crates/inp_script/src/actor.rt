@@ -3,7 +3,7 @@ ghost use Rattle.inp_model.specs.declared.step.Step.{Step as AStep};
 ghost use Rattle.std.specs.Prelude.{◌≡◌, ◌<◌, ◌*◌, List, length, OnOk, IfOk, IfSome, Some};
 ghost use Rattle.inp_actors.specs.declared.role.Role.TheVariants.{Source};
 ghost use Rattle.inp_script.specs.Doing.{DoesLine, Holds, HasActor, IsLineOf, IsOfRole, IsWaiting};
-ghost use Rattle.inp_script.specs.Legal.{GainsPlaces, StaysLegal};
+ghost use Rattle.inp_script.specs.Legal.{CountsTurns, GainsPlaces, StaysLegal};
 ghost use Rattle.inp_script.specs.Fold.{IsFolded, StaysFolded};
 ghost use Rattle.inp_script.specs.Job.{first_job, job_end};
 ghost use Rattle.inp_script.specs.Line.{end_talk};
@@ -96,6 +96,8 @@ impl Actor {
             (E.told dev.old) (E.told dev.new) self.old.job.sight self.new.job.sight) }
         ensures view { OnOk result (StaysFolded self.old.role self.old.description
             (E.told dev.new) self.old.job self.new.job) }
+        ensures turns { OnOk result (CountsTurns (E.told dev.old) (E.told dev.new)
+            self.old.job self.new.job) }
         ensures actor { self.new ≡ record self.old { job = self.new.job } }
         ensures device { (E.told dev.new).description ≡ (E.told dev.old).description }
     {

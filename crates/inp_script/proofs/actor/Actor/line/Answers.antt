@@ -1,5 +1,6 @@
 use Rattle.std.proofs.lemmas.Result.{on_ok_weaker}
 use Rattle.inp_script.proofs.Gains.{gains-places, stays-legal, line-tells}
+use Rattle.inp_script.proofs.IdleTurns.{counts-turns}
 use Rattle.inp_script.proofs.LineFolds.{line-folds}
 use Rattle.inp_script.proofs.actor.Actor.line.Goals as goal
 
@@ -29,4 +30,12 @@ returns-clause-view g c =
     let b = g.E.Evdev.told c.do_line.new.dev in
     on_ok_weaker c.do_line.result
     (λ does. line-folds a b c.args.self.now c.args.rec.now c.args.wait c.args.line c.do_line.new.self.job c.requires.device does (c.do_line.ensures.of_role does.line does.is_line))
+    c.do_line.ensures.done
+
+pub returns-clause-turns : goal.returns-clause-turns
+returns-clause-turns g c =
+    let a = g.E.Evdev.told c.args.dev.now in
+    let b = g.E.Evdev.told c.do_line.new.dev in
+    on_ok_weaker c.do_line.result
+    (λ does. counts-turns a b c.args.self.now c.args.rec.now c.args.wait c.args.line c.do_line.new.self.job does)
     c.do_line.ensures.done
