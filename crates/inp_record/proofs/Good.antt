@@ -28,7 +28,7 @@ use Rattle.inp_record.specs.Meaning.{checked, item_of_words, behind, behind_word
 use Rattle.inp_record.proofs.Inversions.{IsAct, IsPlaced, keyword_for, checked_is, words_are, plain_keyword, act_is}
 use Rattle.inp_record.proofs.Rooms.{closed_length}
 
-push_get : {X : Type 0} (xs : List X) (y : X) (i : ℕ) (a : X) → slice_get (xs ++ y ∷ []) i ≡ Some a → (slice_get xs i ≡ Some a) ⊎ (a ≡ y)
+pub push_get : {X : Type 0} (xs : List X) (y : X) (i : ℕ) (a : X) → slice_get (xs ++ y ∷ []) i ≡ Some a → (slice_get xs i ≡ Some a) ⊎ (a ≡ y)
 push_get [] y zero a e = inr (cc e)
 push_get [] y (suc i) a e = absurd (cc e)
 push_get (x ∷ xs) y zero a e = inl e
@@ -189,12 +189,12 @@ plain_added n past (Actor roles.Client name) good place plain = actor_added n pa
 plain_added n past (Actor roles.Tap name) good place plain = actor_added n past roles.Tap name good place
 plain_added n past (Action actor command) good place plain = absurd (cc plain)
 
-or_bad_is : (o : Option item.Item) (i : item.Item) → or_bad_word o ≡ Ok i → o ≡ Some i
+pub or_bad_is : (o : Option item.Item) (i : item.Item) → or_bad_word o ≡ Ok i → o ≡ Some i
 or_bad_is None i e = absurd (cc e)
 or_bad_is (Some j) i e = cc e
 
 -- a line with a meaning is an action, or another line with its keyword
-item_is : (actors : List ActorText) (s : ℕ) (k : keyword.Keyword) (ws : List (List ℕ)) (i : item.Item) → item_of actors s k ws ≡ Ok i
+pub item_is : (actors : List ActorText) (s : ℕ) (k : keyword.Keyword) (ws : List (List ℕ)) (i : item.Item) → item_of actors s k ws ≡ Ok i
     → ((actor : ℕ) × (c : Command) × (i ≡ Action actor c) × IsAct actors s actor c) ⊎ ((keyword_for i ≡ k) × (is_action k ≡ false))
 unfolding item_of
 item_is actors s k ws i e = by_action (is_action k) refl e

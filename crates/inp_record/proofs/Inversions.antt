@@ -215,7 +215,7 @@ command_is verbs.Skip ws c e =
 command_is verbs.Follow ws c e = let h : commands.Follow ≡ c = cc e in of_verb verbs.Follow c commands.Follow (sym h) (record { role = λ r. refl; range = refl; stream = λ s. refl })
 command_is verbs.Force ws c e = let h : commands.Force ≡ c = cc e in of_verb verbs.Force c commands.Force (sym h) (record { role = λ r. refl; range = refl; stream = λ s. refl })
 
-streaming : (v : verb.Verb) → is_stream v ≡ true → v ≡ verbs.Stream
+pub streaming : (v : verb.Verb) → is_stream v ≡ true → v ≡ verbs.Stream
 streaming verbs.Event e = absurd (cc e)
 streaming verbs.Tick e = absurd (cc e)
 streaming verbs.Inhibit e = absurd (cc e)
@@ -251,7 +251,7 @@ pub record IsAct (actors : List ActorText) (streams : ℕ) (actor : ℕ) (c : co
   pub range : is_in_range c ≡ true
   pub stream : stream_of c ≡ range_with_len streams (streams_in c)
 
-command_of_is : (s : ℕ) (v : verb.Verb) (ws : List (List ℕ)) (c : command.Command) → command_of s v ws ≡ Some c
+pub command_of_is : (s : ℕ) (v : verb.Verb) (ws : List (List ℕ)) (c : command.Command) → command_of s v ws ≡ Some c
     → ((r : role.Role) → is_command_of r c ≡ is_verb_of r v) × (is_in_range c ≡ true) × (stream_of c ≡ range_with_len s (streams_in c))
 unfolding command_of
 command_of_is s v ws c e = by_stream (is_stream v) refl e
@@ -270,17 +270,17 @@ both_first : (a b : Bool) → (a && b) ≡ true → a ≡ true
 both_first true b h = refl
 both_first false b h = absurd (cc h)
 
-with_is : (r : role.Role) (count : ℕ) (o : Option verb.Verb) (v : verb.Verb) → with_arguments r count o ≡ Some v → is_verb_of r v ≡ true
+pub with_is : (r : role.Role) (count : ℕ) (o : Option verb.Verb) (v : verb.Verb) → with_arguments r count o ≡ Some v → is_verb_of r v ≡ true
 with_is r count None v e = absurd (cc e)
 with_is r count (Some u) v e =
     let h = if_some (is_verb_of r u && nat_eq (argument_count u) count) u v e in
     subst (λ (x : verb.Verb). is_verb_of r x ≡ true) h.1 (both_first (is_verb_of r u) (nat_eq (argument_count u) count) h.0)
 
-verb_is : (r : role.Role) (w : List ℕ) (count : ℕ) (v : verb.Verb) → verb_of r w count ≡ Some v → is_verb_of r v ≡ true
+pub verb_is : (r : role.Role) (w : List ℕ) (count : ℕ) (v : verb.Verb) → verb_of r w count ≡ Some v → is_verb_of r v ≡ true
 unfolding verb_of
 verb_is r w count v e = with_is r count (named verb_rows w) v e
 
-actor_is : (n : ℕ) (actors : List ActorText) (w : List ℕ) (a : ℕ × role.Role) → actor_from n actors w ≡ Some a → (i : ℕ) × (who : ActorText) × (a.0 ≡ n + i) × (slice_get actors i ≡ Some who) × (who.role ≡ a.1)
+pub actor_is : (n : ℕ) (actors : List ActorText) (w : List ℕ) (a : ℕ × role.Role) → actor_from n actors w ≡ Some a → (i : ℕ) × (who : ActorText) × (a.0 ≡ n + i) × (slice_get actors i ≡ Some who) × (who.role ≡ a.1)
 unfolding actor_from
 actor_is n [] w a e = absurd (cc e)
 actor_is n (actor ∷ actors) w a e = by_name (bytes_eq actor.name w) (actor_is (suc n) actors w a) e
@@ -290,7 +290,7 @@ actor_is n (actor ∷ actors) w a e = by_name (bytes_eq actor.name w) (actor_is 
     by_name true more e = let same : (n, actor.role) ≡ a = cc e in (0, actor, (rw (← same) (omega arith)), refl, ap (λ (x : ℕ × role.Role). x.1) same)
     by_name false more e = let h = more e in (suc h.0, h.1, omega (arith, h.2), h.3, h.4)
 
-action_of_is : (actor : ℕ) (o : Option command.Command) (i : item.Item) → action_of actor o ≡ Ok i → (c : command.Command) × (o ≡ Some c) × (items.Action actor c ≡ i)
+pub action_of_is : (actor : ℕ) (o : Option command.Command) (i : item.Item) → action_of actor o ≡ Ok i → (c : command.Command) × (o ≡ Some c) × (items.Action actor c ≡ i)
 action_of_is actor None i e = absurd (cc e)
 action_of_is actor (Some c) i e = (c, refl, cc e)
 

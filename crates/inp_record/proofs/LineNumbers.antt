@@ -1,8 +1,31 @@
 -- The numbers of action lines, line by line.
-use Rattle.std.proofs.Common.{◌≡◌, ℕ, zero, suc, ◌+◌, ◌-◌, ◌<◌, true, false, if◌then◌else◌, List, [], ◌∷◌, length, drop, Some, None, refl, sym, ap, ◌∙◌, add-one, arith}
+use Rattle.std.proofs.Common.{◌≡◌, ℕ, zero, suc, ◌+◌, ◌-◌, ◌<◌, Bool, true, false, ◌&&◌, not, if◌then◌else◌, cond, nat_eq, bytes_eq, codes, List, [], ◌∷◌, length, drop, filter, Option, Some, None, Result, Ok, Err, refl, sym, ap, subst, ◌∙◌, add-one, arith, length-append}
 use Rattle.std.specs.Prelude.{slice_get}
+use Rattle.std.specs.List.{list_all, slice_split, onto_first}
 use Rattle.std.proofs.lemmas.Option.{slice_get-get_or}
+use Rattle.std.proofs.lemmas.Slice.Eq.{bytes_eq-Decides}
+use Rattle.std.proofs.lemmas.Bool.Decides.{nat_tests}
+use Rattle.inp_actors.specs.declared.actor_text.ActorText.{ActorText}
+use Rattle.inp_actors.specs.declared.line.Line.{Line}
+use Rattle.inp_actors.specs.declared.role.Role.TheVariants as roles
+use Rattle.inp_actors.specs.Record.{RecordView}
+use Rattle.inp_words.specs.Line.{lines_of as text_lines, words_of, is_blank, is_comment, is_text, is_word}
+use Rattle.inp_words.specs.Table.{named}
+use Rattle.inp_words.proofs.Booleans.{both}
+use Rattle.inp_record.specs.declared.cause.Cause.{Cause}
+use Rattle.inp_record.specs.declared.cause.Cause.TheVariants.{NotText, BadHeader, OutOfPlace}
+use Rattle.inp_record.specs.declared.refused.Refused.{Refused}
+use Rattle.inp_record.specs.declared.context.Context.{Context}
+use Rattle.inp_record.specs.declared.item.Item as item
+use Rattle.inp_record.specs.declared.item.Item.TheVariants.{Header, Device, Hint, Log, Realtime, Boottime, Slots, Kind, Code, Axis, Actor, Action}
+use Rattle.inp_record.specs.declared.keyword.Keyword as keyword
+use Rattle.inp_record.specs.Keyword.{keyword_rows, has_words, with_words, keyword_of}
+use Rattle.inp_record.specs.Place.{is_start, is_out_of_place}
+use Rattle.inp_record.specs.Words.{word, has_word, is_header, is_action, or_bad_word, action_item, plain_item, item_of}
+use Rattle.inp_record.specs.Past.{Past, lines_of, context_of}
+use Rattle.inp_record.specs.Meaning.{placed, checked, item_of_words, behind, behind_words, behind_line, go_on, behind_lines, record_of, as_record, meaning}
 use Rattle.inp_record.specs.LineNumber.{is_action_line, action_numbers}
+use Rattle.inp_record.proofs.Inversions.{keyword_for, plain_keyword, checked_is, act_is}
 
 -- behind the first item
 get_behind : (x : ℕ) (xs : List ℕ) (k : ℕ) → 0 < k → slice_get (x ∷ xs) k ≡ slice_get xs (k - 1)
@@ -35,3 +58,156 @@ not_missed all lines n line left h z e =
     let some = slice_get-get_or (action_numbers 1 all) line 0 h in
     let none : slice_get (action_numbers 1 all) line ≡ None = e ∙ ap (λ (l : List (List ℕ)). slice_get (action_numbers (n + 1) l) left) z in
     cc (some, none)
+
+-- how many action lines there are
+
+-- what a table says of a word passes each test that all its rows pass
+pub named_passes : {T : Type 0} (test : List ℕ × T → Bool) (rows : List (List ℕ × T)) (word : List ℕ) (x : T) → list_all test rows ≡ true → named rows word ≡ Some x → test (word, x) ≡ true
+named_passes test [] word x all e = absurd (cc e)
+named_passes {T} test (row ∷ rows) word x all e = by_word (bytes_eq row.0 word) refl (λ g. named_passes test rows word x (both _ _ all).1 g) e
+  where
+    by_word : (same : Bool) → bytes_eq row.0 word ≡ same → (named rows word ≡ Some x → test (word, x) ≡ true) → (if same then Some row.1 else named rows word) ≡ Some x → test (word, x) ≡ true
+    by_word true h more e =
+        let here : row.0 ≡ word = (bytes_eq-Decides row.0 word).0 h in
+        let says : row.1 ≡ x = cc e in
+        subst (λ (y : T). test (word, y) ≡ true) says (subst (λ (w : List ℕ). test (w, row.1) ≡ true) here (both _ _ all).0)
+    by_word false h more e = more e
+
+-- the word is do exactly where the keyword is that of an action
+abbrev is_do_alone : List ℕ × keyword.Keyword → Bool
+is_do_alone row = if is_action row.1 then bytes_eq row.0 (codes "do") else not (bytes_eq row.0 (codes "do"))
+
+rows_are_do_alone : list_all is_do_alone keyword_rows ≡ true
+unfolding keyword_rows
+rows_are_do_alone = refl
+
+do_by_tests : (a b : Bool) → (if a then b else not b) ≡ true → a ≡ b
+do_by_tests true true h = refl
+do_by_tests true false h = absurd (cc h)
+do_by_tests false true h = absurd (cc h)
+do_by_tests false false h = refl
+
+with_words_is : (count : ℕ) (o : Option keyword.Keyword) (k : keyword.Keyword) → with_words count o ≡ Some k → o ≡ Some k
+with_words_is count None k e = absurd (cc e)
+with_words_is count (Some j) k e = by_count (has_words j count) e
+  where
+    by_count : (fits : Bool) → (if fits then Some j else None) ≡ Some k → Some j ≡ Some k
+    by_count true e = e
+    by_count false e = absurd (cc e)
+
+action_is_do : (word : List ℕ) (count : ℕ) (k : keyword.Keyword) → keyword_of word count ≡ Some k → is_action k ≡ bytes_eq word (codes "do")
+unfolding keyword_of
+action_is_do word count k e =
+    do_by_tests (is_action k) (bytes_eq word (codes "do")) (named_passes is_do_alone keyword_rows word k rows_are_do_alone (with_words_is count (named keyword_rows word) k e))
+
+-- an item adds a line exactly where its keyword is that of an action
+item_adds : (past : Past) (i : item.Item) → length (lines_of (i ∷ past)) ≡ length (lines_of past) + (if is_action (keyword_for i) then 1 else 0)
+item_adds past Header = omega arith
+item_adds past (Device name) = omega arith
+item_adds past (Hint count) = omega arith
+item_adds past (Log count) = omega arith
+item_adds past (Realtime offset) = omega arith
+item_adds past (Boottime offset) = omega arith
+item_adds past (Slots count) = omega arith
+item_adds past (Kind kind) = omega arith
+item_adds past (Code kind code) = omega arith
+item_adds past (Axis code info) = omega arith
+item_adds past (Actor roles.Source name) = omega arith
+item_adds past (Actor roles.Client name) = omega arith
+item_adds past (Actor roles.Tap name) = omega arith
+item_adds past (Action actor command) = omega (arith, length-append (lines_of past) (record { actor = actor; command = command } ∷ []))
+
+or_bad_is : (o : Option item.Item) (i : item.Item) → or_bad_word o ≡ Ok i → o ≡ Some i
+or_bad_is None i e = absurd (cc e)
+or_bad_is (Some j) i e = cc e
+
+keyword_is : (actors : List ActorText) (s : ℕ) (k : keyword.Keyword) (ws : List (List ℕ)) (i : item.Item) → item_of actors s k ws ≡ Ok i → is_action (keyword_for i) ≡ is_action k
+unfolding item_of
+keyword_is actors s k ws i e = by_action (is_action k) refl e
+  where
+    by_action : (is : Bool) → is_action k ≡ is → (if is then action_item actors s ws else or_bad_word (plain_item k ws)) ≡ Ok i → is_action (keyword_for i) ≡ is_action k
+    by_action true h e = let act = act_is actors s ws i e in ap (λ (j : item.Item). is_action (keyword_for j)) act.2 ∙ sym h
+    by_action false h e = ap is_action (plain_keyword k ws i (or_bad_is (plain_item k ws) i e))
+
+placed_adds : (c : Context) (o : Option keyword.Keyword) (ws : List (List ℕ)) (i : item.Item) → ((k : keyword.Keyword) → o ≡ Some k → is_action k ≡ has_word ws 0 (codes "do")) → placed c o ws ≡ Ok i → is_action (keyword_for i) ≡ has_word ws 0 (codes "do")
+placed_adds c None ws i is e = absurd (cc e)
+placed_adds c (Some k) ws i is e = by_place (is_out_of_place c.place k) e
+  where
+    by_place : (out : Bool) → (if out then Err OutOfPlace else item_of c.actors c.streams k ws) ≡ Ok i → is_action (keyword_for i) ≡ has_word ws 0 (codes "do")
+    by_place true e = absurd (cc e)
+    by_place false e = keyword_is c.actors c.streams k ws i e ∙ is k refl
+
+header_passed : (bad : Bool) (means : Result item.Item Cause) (i : item.Item) → (if bad then Err BadHeader else means) ≡ Ok i → means ≡ Ok i
+header_passed true means i e = absurd (cc e)
+header_passed false means i e = e
+
+words_add : (c : Context) (ws : List (List ℕ)) (i : item.Item) → item_of_words c ws ≡ Ok i → is_action (keyword_for i) ≡ has_word ws 0 (codes "do")
+unfolding item_of_words
+words_add c ws i e =
+    placed_adds c (keyword_of (word 0 ws) (length ws)) ws i (λ k h. action_is_do (word 0 ws) (length ws) k h) (header_passed (is_start c.place && not (is_header ws)) (placed c (keyword_of (word 0 ws) (length ws)) ws) i e)
+
+behind_adds : (past now : Past) (means : Result item.Item Cause) (does : Bool) → ((i : item.Item) → means ≡ Ok i → is_action (keyword_for i) ≡ does) → behind past means ≡ Ok now → length (lines_of now) ≡ length (lines_of past) + (if does then 1 else 0)
+behind_adds past now (Err cause) does is e = absurd (cc e)
+behind_adds past now (Ok i) does is e =
+    let same : i ∷ past ≡ now = cc e in
+    rw (← same, ← is i refl) (item_adds past i)
+
+all_words_add : (past now : Past) (ws : List (List ℕ)) → behind_words past ws ≡ Ok now → length (lines_of now) ≡ length (lines_of past) + (if has_word ws 0 (codes "do") then 1 else 0)
+all_words_add past now [] e = let same : past ≡ now = cc e in rw (← same) (omega arith)
+all_words_add past now (w ∷ ws) e =
+    behind_adds past now (checked (context_of past) (item_of_words (context_of past) (w ∷ ws))) (has_word (w ∷ ws) 0 (codes "do"))
+    (λ i h. words_add (context_of past) (w ∷ ws) i (checked_is (context_of past) (item_of_words (context_of past) (w ∷ ws)) i h).read) e
+
+-- a byte begins a word
+pub word_begun : (b : ℕ) (bytes : List ℕ) → is_word (b ∷ bytes) ≡ true
+word_begun b bytes = grind (arith, nat_tests)
+
+-- the first word of a comment begins with #
+comment_begins : (parts : List (List ℕ)) (b : ℕ) → nat_eq b 35 ≡ true → has_word (filter is_word (onto_first b parts)) 0 (codes "do") ≡ false
+comment_begins [] b h = let is : b ≡ 35 = grind (arith, nat_tests) in rw is refl
+comment_begins (part ∷ parts) b h = let is : b ≡ 35 = grind (arith, nat_tests) in rw (word_begun b part, is) refl
+
+comment_does_nothing : (line : List ℕ) → is_comment line ≡ true → is_action_line line ≡ false
+comment_does_nothing [] h = absurd (cc h)
+comment_does_nothing (b ∷ line) h = by_blank (is_blank b) (comment_does_nothing line) h
+  where
+    by_blank : (blank : Bool) → (is_comment line ≡ true → is_action_line line ≡ false) → (if blank then is_comment line else nat_eq b 35) ≡ true → has_word (filter is_word (cond blank ([] ∷ slice_split is_blank line) (onto_first b (slice_split is_blank line)))) 0 (codes "do") ≡ false
+    by_blank true more h = more h
+    by_blank false more h = comment_begins (slice_split is_blank line) b h
+
+line_adds : (past now : Past) (line : List ℕ) → behind_line past line ≡ Ok now → length (lines_of now) ≡ length (lines_of past) + (if is_action_line line then 1 else 0)
+unfolding behind_line
+line_adds past now line e = by_tests (is_comment line) (is_text line) refl e
+  where
+    by_tests : (comment text : Bool) → is_comment line ≡ comment → (if comment then Ok past else if not text then Err NotText else behind_words past (words_of line)) ≡ Ok now → length (lines_of now) ≡ length (lines_of past) + (if is_action_line line then 1 else 0)
+    by_tests true text h e = let same : past ≡ now = cc e in rw (← same, comment_does_nothing line h) (omega arith)
+    by_tests false true h e = all_words_add past now (words_of line) e
+    by_tests false false h e = absurd (cc e)
+
+lines_add : (lines : List (List ℕ)) (k n : ℕ) (past now : Past) → behind_lines k lines past ≡ Ok now → length (lines_of now) ≡ length (lines_of past) + length (action_numbers n lines)
+unfolding behind_lines action_numbers
+lines_add [] k n past now e = let same : past ≡ now = cc e in rw (← same) (omega arith)
+lines_add (line ∷ lines) k n past now e = by_line (behind_line past line) (λ after h. line_adds past after line h) (λ after h. lines_add lines (suc k) (suc n) after now h) e
+  where
+    by_action : (does : Bool) (a b c : ℕ) → a ≡ b + (if does then 1 else 0) → c ≡ a + length (action_numbers (suc n) lines) → c ≡ b + length (if does then n ∷ action_numbers (suc n) lines else action_numbers (suc n) lines)
+    by_action true a b c one more = omega arith
+    by_action false a b c one more = omega arith
+
+    by_line : (means : Result Past Cause) → ((after : Past) → means ≡ Ok after → length (lines_of after) ≡ length (lines_of past) + (if is_action_line line then 1 else 0)) → ((after : Past) → behind_lines (suc k) lines after ≡ Ok now → length (lines_of now) ≡ length (lines_of after) + length (action_numbers (suc n) lines))
+        → go_on k means (λ x. behind_lines (suc k) lines x) ≡ Ok now → length (lines_of now) ≡ length (lines_of past) + length (action_numbers n (line ∷ lines))
+    by_line (Err cause) one more e = absurd (cc e)
+    by_line (Ok after) one more e = by_action (is_action_line line) (length (lines_of after)) (length (lines_of past)) (length (lines_of now)) (one after refl) (more after e)
+
+record_adds : (count : ℕ) (means : Result Past Refused) (r : RecordView) → as_record count means ≡ Ok r → (past : Past) × (means ≡ Ok past) × (record_of past ≡ r)
+record_adds count (Err refused) r e = absurd (cc e)
+record_adds count (Ok []) r e = absurd (cc e)
+record_adds count (Ok (i ∷ past)) r e = (i ∷ past, refl, cc e)
+
+-- a text that means a record has as many action lines as the record has
+pub action_count : (bytes : List ℕ) (r : RecordView) → meaning bytes ≡ Ok r → length (action_numbers 1 (text_lines bytes)) ≡ length r.lines
+unfolding meaning
+action_count bytes r e =
+    let h = record_adds (length (text_lines bytes)) (behind_lines 1 (text_lines bytes) []) r e in
+    let more = lines_add (text_lines bytes) 1 1 [] h.0 h.1 in
+    let same : lines_of h.0 ≡ r.lines = ap (λ (x : RecordView). x.lines) h.2 in
+    omega (arith, more, ap (λ (l : List Line). length l) same)

@@ -15,7 +15,7 @@ byte_is_ascii b h = grind (arith, nat_tests)
 pub IsUtf8-from_text : (word : List ℕ) → is_text word ≡ true → IsUtf8 word
 IsUtf8-from_text word h = IsUtf8-from_ascii word (bytes_are_ascii is_text_byte byte_is_ascii word h)
 
-together : (a b : Bool) → a ≡ true → b ≡ true → (a && b) ≡ true
+pub together : (a b : Bool) → a ≡ true → b ≡ true → (a && b) ≡ true
 together true b h k = k
 together false b h k = absurd (cc)
 

@@ -9,3 +9,4 @@ pub mod Meaning
 pub mod Examples
 pub mod Stream
 pub mod LineNumber
+pub mod Spelling

@@ -2,7 +2,7 @@
 //!
 //! This crate is for whoever has a record as bytes and wants it as data, or the other way round. [`parse`] reads a record,
 //! or names the first line that has no meaning and its [`Cause`]. [`print`] writes one, and [`load`] gives it the events of
-//! a file. The record itself is plain data of `inp_actors`, and [`print`] stands in `inp_canon`; both are handed on here.
+//! a file. The record itself is plain data of `inp_actors`, handed on here, and its text is the one that `inp_canon` writes.
 //! `docs/FORMATS.md` has the whole form, with an example of each line.
 //!
 //! How a line is read: [`parse`] cuts the text into lines and lends each to `read_line`, with the `Context` that the lines
@@ -13,7 +13,9 @@
 //! Its contract: `meaning` of `specs/Meaning.antt` says what bytes mean. It never speaks of a context that changes: what
 //! came before a line is the list of the items before it, a past, and each thing that the next line depends on is read off
 //! that list (`specs/Past.antt`). The causes stand in `specs/Meaning.antt` as one chain in their order, and what the words
-//! of each line are in `specs/Words.antt`. [`examples`] shows what the definitions say of short records.
+//! of each line are in `specs/Words.antt`. `specs/Spelling.antt` says what the lines of the canonical text mean, and that the
+//! text of each record that some bytes are is read again as that record, which [`print`] promises. [`examples`] shows what
+//! the definitions say of short records.
 #![tactic(auto)]
 
 mod cause;
@@ -28,6 +30,7 @@ mod line_reader;
 mod loader;
 mod parser;
 mod place;
+mod printer;
 mod record_examples;
 mod refused;
 #[cfg(test)]
@@ -39,9 +42,9 @@ pub use inp_actors::{
     ActorText, Actors, Command, DeviceText, Devices, FileName, Line, Lines, Name, Record, Role,
     Stamps, Streams,
 };
-pub use inp_canon::print;
 pub use line_numbers::line_number;
 pub use loader::load;
 pub use parser::parse;
+pub use printer::print;
 pub use record_examples::examples;
 pub use refused::{LoadFault, ParseFault, Refused};

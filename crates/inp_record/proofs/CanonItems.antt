@@ -1,0 +1,173 @@
+-- Items, written and read again.
+use Rattle.std.proofs.Common.{◌≡◌, ℕ, ◌-◌, ◌^◌, ◌≤◌, ◌<◌, Bool, true, false, ◌&&◌, not, if◌then◌else◌, List, [], ◌∷◌, length, codes, decimal, Option, Some, option_map, Ok, Err, refl, ap, ◌∙◌, arith}
+use Rattle.std.specs.Prelude.{option_and_then}
+use Rattle.std.specs.List.{list_all}
+use Rattle.inp_model.specs.declared.event.TheConstants.{EV_ABS}
+use Rattle.inp_model.specs.declared.axis_info.AxisInfo.{AxisInfo}
+use Rattle.inp_model.specs.declared.clock.Clock as clock
+use Rattle.inp_model.specs.declared.clock.Clock.TheVariants as clocks
+use Rattle.inp_canon.specs.Words.{Words, kind_text, code_text, clock_text, role_text}
+use Rattle.inp_canon.specs.Device.{fuzz_words, axis_words, info_words as info_text}
+use Rattle.inp_canon.specs.Text.{name_of_actor}
+use Rattle.inp_actors.specs.declared.role.Role as role
+use Rattle.inp_actors.specs.declared.role.Role.TheVariants as roles
+use Rattle.inp_actors.specs.declared.actor_text.ActorText.{ActorText}
+use Rattle.inp_actors.specs.declared.command.Command as command
+use Rattle.inp_actors.specs.Name.{is_name}
+use Rattle.inp_record.specs.declared.cause.Cause.TheVariants.{BadHeader, OutOfPlace}
+use Rattle.inp_record.specs.declared.item.Item.{Item}
+use Rattle.inp_record.specs.declared.item.Item.TheVariants.{Header, Device, Hint, Log, Realtime, Boottime, Slots, Kind, Code, Axis, Actor, Action}
+use Rattle.inp_record.specs.declared.keyword.Keyword as keyword
+use Rattle.inp_record.specs.declared.keyword.Keyword.TheVariants as keywords
+use Rattle.inp_record.specs.Keyword.{keyword_rows, keyword_of}
+use Rattle.inp_record.specs.Place.{is_start, is_out_of_place}
+use Rattle.inp_record.specs.Words.{word, is_header, three_numbers, info_words, offset_item, plain_item, action_with, or_bad_word, item_of}
+use Rattle.inp_record.specs.Past.{Past, place_of, actors_of, stream_count, context_of}
+use Rattle.inp_record.specs.Meaning.{placed, item_of_words}
+use Rattle.inp_record.specs.Spelling.{item_words}
+use Rattle.inp_record.proofs.Sayable.{keyword_for_role, IsSayableInfo, IsSayableAction, IsSayable, IsInPlace}
+use Rattle.inp_record.proofs.CanonLines.{is_plain, IsPlainLine}
+use Rattle.inp_record.proofs.CanonWords.{decimal_read, decimal_plain, signed_read, signed_plain, kind_read, kind_plain, code_read, code_plain, clock_read, clock_plain, name_read, is_plain-name}
+use Rattle.inp_record.proofs.CanonCommands.{do_words, do_keyword, kind_and_code_read, command_read, command_plain}
+
+-- a line whose words are those of its keyword is read where it may stand
+placed_read : (past : Past) (k : keyword.Keyword) (ws : Words) (i : Item) → keyword_of (word 0 ws) (length ws) ≡ Some k → is_start (place_of past) ≡ false → is_out_of_place (place_of past) k ≡ false
+    → item_of (actors_of past) (stream_count past) k ws ≡ Ok i → item_of_words (context_of past) ws ≡ Ok i
+unfolding item_of_words
+placed_read past k ws i is started within says =
+    by_start (is_start (place_of past)) started
+    ∙ ap (λ (o : Option keyword.Keyword). placed (context_of past) o ws) is
+    ∙ by_place (is_out_of_place (place_of past) k) within
+  where
+    by_start : (start : Bool) → start ≡ false → (if start && not (is_header ws) then Err BadHeader else placed (context_of past) (keyword_of (word 0 ws) (length ws)) ws) ≡ placed (context_of past) (keyword_of (word 0 ws) (length ws)) ws
+    by_start true h = absurd (cc h)
+    by_start false h = refl
+
+    by_place : (out : Bool) → out ≡ false → (if out then Err OutOfPlace else item_of (actors_of past) (stream_count past) k ws) ≡ Ok i
+    by_place true h = absurd (cc h)
+    by_place false h = says
+
+-- the data of an axis
+
+info_read : (first second : List ℕ) (i : AxisInfo) → IsSayableInfo i → info_words (first ∷ second ∷ info_text i) ≡ Some i
+unfolding info_words three_numbers info_text fuzz_words
+info_read first second i s =
+    rw (signed_read i.value s.value, signed_read i.minimum s.minimum, signed_read i.maximum s.maximum, signed_read i.fuzz s.fuzz, signed_read i.flat s.flat, signed_read i.resolution s.resolution) refl
+
+info_plain : (i : AxisInfo) → IsSayableInfo i → list_all is_plain (info_text i) ≡ true
+unfolding info_text fuzz_words
+info_plain i s =
+    rw (signed_plain i.value s.value, signed_plain i.minimum s.minimum, signed_plain i.maximum s.maximum, signed_plain i.fuzz s.fuzz, signed_plain i.flat s.flat, signed_plain i.resolution s.resolution) refl
+
+-- what the words of each line are
+
+module _ (actors : List ActorText) (streams : ℕ) where
+  device_read : (name : List ℕ) → is_name name ≡ true → item_of actors streams keywords.Device (codes "device" ∷ name ∷ []) ≡ Ok (Device name)
+  unfolding item_of plain_item
+  device_read name h = ap (λ (o : Option (List ℕ)). or_bad_word (option_map (λ name. Device name) o)) (name_read name h)
+
+  hint_read : (count : ℕ) → count < 2 ^ 32 → item_of actors streams keywords.Hint (codes "hint" ∷ decimal count ∷ []) ≡ Ok (Hint count)
+  unfolding item_of plain_item
+  hint_read count h = ap (λ (o : Option ℕ). or_bad_word (option_map (λ n. Hint n) o)) (decimal_read (2 ^ 32 - 1) count (omega arith) (omega arith))
+
+  log_read : (count : ℕ) → count < 2 ^ 32 → item_of actors streams keywords.Log (codes "log" ∷ decimal count ∷ []) ≡ Ok (Log count)
+  unfolding item_of plain_item
+  log_read count h = ap (λ (o : Option ℕ). or_bad_word (option_map (λ n. Log n) o)) (decimal_read (2 ^ 32 - 1) count (omega arith) (omega arith))
+
+  slots_read : (count : ℕ) → count < 2 ^ 32 → item_of actors streams keywords.Slots (codes "slots" ∷ decimal count ∷ []) ≡ Ok (Slots count)
+  unfolding item_of plain_item
+  slots_read count h = ap (λ (o : Option ℕ). or_bad_word (option_map (λ n. Slots n) o)) (decimal_read (2 ^ 32 - 1) count (omega arith) (omega arith))
+
+  offset_read : (k : clock.Clock) (offset : ℕ) → offset < 2 ^ 64 → item_of actors streams keywords.Clock (codes "clock" ∷ clock_text k ∷ decimal offset ∷ []) ≡ or_bad_word (offset_item k offset)
+  unfolding item_of plain_item
+  offset_read k offset h = rw (clock_read k, decimal_read (2 ^ 64 - 1) offset (omega arith) (omega arith)) refl
+
+  kind_item_read : (kind : ℕ) → kind ≤ 65535 → item_of actors streams keywords.Kind (codes "type" ∷ kind_text kind ∷ []) ≡ Ok (Kind kind)
+  unfolding item_of plain_item
+  kind_item_read kind h = ap (λ (o : Option ℕ). or_bad_word (option_map (λ n. Kind n) o)) (kind_read kind h)
+
+  code_item_read : (kind code : ℕ) → kind ≤ 65535 → code ≤ 65535 → item_of actors streams keywords.Code (codes "cap" ∷ kind_text kind ∷ code_text kind code ∷ []) ≡ Ok (Code kind code)
+  unfolding item_of plain_item
+  code_item_read kind code h k = ap (λ (o : Option (ℕ × ℕ)). or_bad_word (option_map (λ (n : ℕ × ℕ). Code n.0 n.1) o)) (kind_and_code_read kind code h k)
+
+  axis_read : (code : ℕ) (i : AxisInfo) → code ≤ 65535 → IsSayableInfo i → item_of actors streams keywords.Axis (axis_words code i) ≡ Ok (Axis code i)
+  unfolding item_of plain_item
+  axis_read code i h s =
+      ap (λ (o : Option ℕ). or_bad_word (option_and_then (λ n. option_map (λ info. Axis n info) (info_words (axis_words code i))) o)) (code_read EV_ABS code h)
+      ∙ ap (λ (o : Option AxisInfo). or_bad_word (option_map (λ info. Axis code info) o)) (info_read (codes "axis") (code_text EV_ABS code) i s)
+
+  actor_read : (r : role.Role) (first name : List ℕ) → is_name name ≡ true → item_of actors streams (keyword_for_role r) (first ∷ name ∷ []) ≡ Ok (Actor r name)
+  unfolding item_of plain_item
+  actor_read roles.Source first name h = ap (λ (o : Option (List ℕ)). or_bad_word (option_map (λ name. Actor roles.Source name) o)) (name_read name h)
+  actor_read roles.Client first name h = ap (λ (o : Option (List ℕ)). or_bad_word (option_map (λ name. Actor roles.Client name) o)) (name_read name h)
+  actor_read roles.Tap first name h = ap (λ (o : Option (List ℕ)). or_bad_word (option_map (λ name. Actor roles.Tap name) o)) (name_read name h)
+
+  action_read : (actor : ℕ) (does : command.Command) → (s : IsSayableAction actors streams actor does) → item_of actors streams keywords.Action (do_words s.text.name does) ≡ Ok (Action actor does)
+  unfolding item_of
+  action_read actor does s =
+      ap (λ (o : Option (ℕ × role.Role)). action_with streams o (do_words s.text.name does)) s.first
+      ∙ command_read s.text.name streams actor s.text.role does s.of_role s.in_range s.sayable
+
+role_keyword : (r : role.Role) → keyword_of (role_text r) 2 ≡ Some (keyword_for_role r)
+unfolding role_text keyword_of keyword_rows
+role_keyword roles.Source = refl
+role_keyword roles.Client = refl
+role_keyword roles.Tap = refl
+
+axis_keyword : (code : ℕ) (i : AxisInfo) → keyword_of (codes "axis") (length (axis_words code i)) ≡ Some keywords.Axis
+unfolding keyword_of keyword_rows info_text fuzz_words
+axis_keyword code i = refl
+
+-- the words of an action, where its actor is there
+action_said : (actors : List ActorText) (streams actor : ℕ) (does : command.Command) → (s : IsSayableAction actors streams actor does) → item_words actors (Action actor does) ≡ do_words s.text.name does
+action_said actors streams actor does s = ap (λ (o : Option ActorText). do_words (name_of_actor o) does) s.there
+
+-- a header is read where nothing stands before it
+header_read : (past : Past) → is_start (place_of past) ≡ true → item_of_words (context_of past) (codes "inputrecord" ∷ codes "1" ∷ []) ≡ Ok Header
+unfolding item_of_words keyword_of keyword_rows item_of plain_item
+header_read past h = by_start (is_start (place_of past)) h
+  where
+    by_start : (start : Bool) → start ≡ true → (if start && false then Err BadHeader else if not start then Err OutOfPlace else Ok Header) ≡ Ok Header
+    by_start true h = refl
+    by_start false h = absurd (cc h)
+
+-- an item that can be said, and may stand there, is read again
+pub item_read : (past : Past) (i : Item) → IsSayable (actors_of past) (stream_count past) i → IsInPlace past i → item_of_words (context_of past) (item_words (actors_of past) i) ≡ Ok i
+unfolding keyword_of keyword_rows
+item_read past Header s p = header_read past p
+item_read past (Device name) s p = placed_read past keywords.Device (codes "device" ∷ name ∷ []) (Device name) refl p.0 p.1 (device_read (actors_of past) (stream_count past) name s)
+item_read past (Hint count) s p = placed_read past keywords.Hint (codes "hint" ∷ decimal count ∷ []) (Hint count) refl p.0 p.1 (hint_read (actors_of past) (stream_count past) count s)
+item_read past (Log count) s p = placed_read past keywords.Log (codes "log" ∷ decimal count ∷ []) (Log count) refl p.0 p.1 (log_read (actors_of past) (stream_count past) count s)
+item_read past (Realtime offset) s p = placed_read past keywords.Clock (codes "clock" ∷ clock_text clocks.Realtime ∷ decimal offset ∷ []) (Realtime offset) refl p.0 p.1 (offset_read (actors_of past) (stream_count past) clocks.Realtime offset s)
+item_read past (Boottime offset) s p = placed_read past keywords.Clock (codes "clock" ∷ clock_text clocks.Boottime ∷ decimal offset ∷ []) (Boottime offset) refl p.0 p.1 (offset_read (actors_of past) (stream_count past) clocks.Boottime offset s)
+item_read past (Slots count) s p = placed_read past keywords.Slots (codes "slots" ∷ decimal count ∷ []) (Slots count) refl p.0 p.1 (slots_read (actors_of past) (stream_count past) count s)
+item_read past (Kind kind) s p = placed_read past keywords.Kind (codes "type" ∷ kind_text kind ∷ []) (Kind kind) refl p.0 p.1 (kind_item_read (actors_of past) (stream_count past) kind s)
+item_read past (Code kind code) s p = placed_read past keywords.Code (codes "cap" ∷ kind_text kind ∷ code_text kind code ∷ []) (Code kind code) refl p.0 p.1 (code_item_read (actors_of past) (stream_count past) kind code s.0 s.1)
+item_read past (Axis code i) s p = placed_read past keywords.Axis (axis_words code i) (Axis code i) (axis_keyword code i) p.0 p.1 (axis_read (actors_of past) (stream_count past) code i s.0 s.1)
+item_read past (Actor r name) s p = placed_read past (keyword_for_role r) (role_text r ∷ name ∷ []) (Actor r name) (role_keyword r) p.0 p.1 (actor_read (actors_of past) (stream_count past) r (role_text r) name s)
+item_read past (Action actor does) s p =
+    ap (item_of_words (context_of past)) (action_said (actors_of past) (stream_count past) actor does s)
+    ∙ placed_read past keywords.Action (do_words s.text.name does) (Action actor does) (do_keyword s.text.name does) p.0 p.1 (action_read (actors_of past) (stream_count past) actor does s)
+
+-- its words make a line
+
+role_first : (r : role.Role) (ws : Words) → list_all is_plain ws ≡ true → IsPlainLine (role_text r ∷ ws)
+unfolding role_text
+role_first roles.Source ws h = record { first = refl; plain = h }
+role_first roles.Client ws h = record { first = refl; plain = h }
+role_first roles.Tap ws h = record { first = refl; plain = h }
+
+pub item_plain : (actors : List ActorText) (streams : ℕ) (i : Item) → IsSayable actors streams i → IsPlainLine (item_words actors i)
+item_plain actors streams Header s = record { first = refl; plain = refl }
+item_plain actors streams (Device name) s = record { first = refl; plain = rw (is_plain-name name s) refl }
+item_plain actors streams (Hint count) s = record { first = refl; plain = rw (decimal_plain count (omega arith)) refl }
+item_plain actors streams (Log count) s = record { first = refl; plain = rw (decimal_plain count (omega arith)) refl }
+item_plain actors streams (Realtime offset) s = record { first = refl; plain = rw (clock_plain clocks.Realtime, decimal_plain offset s) refl }
+item_plain actors streams (Boottime offset) s = record { first = refl; plain = rw (clock_plain clocks.Boottime, decimal_plain offset s) refl }
+item_plain actors streams (Slots count) s = record { first = refl; plain = rw (decimal_plain count (omega arith)) refl }
+item_plain actors streams (Kind kind) s = record { first = refl; plain = rw (kind_plain kind s) refl }
+item_plain actors streams (Code kind code) s = record { first = refl; plain = rw (kind_plain kind s.0, code_plain kind code s.1) refl }
+item_plain actors streams (Axis code i) s = record { first = refl; plain = rw (code_plain EV_ABS code s.0, info_plain i s.1) refl }
+item_plain actors streams (Actor r name) s = role_first r (name ∷ []) (rw (is_plain-name name s) refl)
+item_plain actors streams (Action actor does) s =
+    record { first = refl; plain = ap (list_all is_plain) (action_said actors streams actor does s) ∙ rw (is_plain-name s.text.name s.name) (command_plain streams does s.in_range s.sayable) }

@@ -1,0 +1,116 @@
+-- The canonical items of a record, and how they grow with its lists.
+use Rattle.std.proofs.Common.{◌≡◌, ◌<◌, ◌≤◌, ◌+◌, ℕ, suc, Bool, true, false, if◌then◌else◌, nat_eq, List, [], ◌∷◌, ◌++◌, length, map, reverse, Some, refl, sym, ap, ◌∙◌, arith, append_assoc, append-nil}
+use Rattle.std.specs.Prelude.{slice_get, flat_map}
+use Rattle.std.specs.List.{enumerate_from}
+use Rattle.std.proofs.lemmas.Bool.{ne_eqb, eq-eqb}
+use Rattle.std.proofs.lemmas.Grind.{flat_map-append, reverse_onto}
+use Rattle.std.proofs.lemmas.List.{reverse-append, map-append}
+use Rattle.inp_actors.specs.declared.actor_text.ActorText.{ActorText}
+use Rattle.inp_actors.specs.declared.device_text.DeviceText.{DeviceText}
+use Rattle.inp_actors.specs.declared.line.Line.{Line}
+use Rattle.inp_record.specs.declared.item.Item.{Item}
+use Rattle.inp_record.specs.declared.item.Item.TheVariants.{Header, Device, Actor}
+use Rattle.inp_record.specs.Spelling.{description_items, actor_items, device_items, action_item_of}
+
+-- the header and the lines of the devices, with their actors
+abbrev pub head_items : List ActorText → List DeviceText → List Item
+head_items actors devices = Header ∷ flat_map (device_items actors) (enumerate_from 0 devices)
+
+-- all lines
+abbrev pub all_items : List ActorText → List DeviceText → List Line → List Item
+all_items actors devices lines = head_items actors devices ++ map action_item_of lines
+
+-- each of these actors is of a device with a lesser number
+abbrev pub AreBelow : ℕ → List ActorText → Type 0
+AreBelow n actors = (i : ℕ) (a : ActorText) → slice_get actors i ≡ Some a → a.device < n
+
+enumerate_push : {X : Type 0} (n : ℕ) (xs : List X) (y : X) → enumerate_from n (xs ++ y ∷ []) ≡ enumerate_from n xs ++ (n + length xs, y) ∷ []
+enumerate_push n [] y = let e : n ≡ n + 0 = omega arith in ap (λ (k : ℕ). (k, y) ∷ []) e
+enumerate_push n (x ∷ xs) y =
+    let e : n + 1 + length xs ≡ n + suc (length xs) = omega arith in
+    ap (λ l. (n, x) ∷ l) (enumerate_push (n + 1) xs y ∙ ap (λ (k : ℕ). enumerate_from (n + 1) xs ++ (k, y) ∷ []) e)
+
+-- a device without actors
+no_actors : (k : ℕ) (actors : List ActorText) → AreBelow k actors → flat_map (actor_items k) actors ≡ []
+no_actors k [] h = refl
+no_actors k (a ∷ actors) h =
+    let less : a.device < k = h 0 a refl in
+    let other : nat_eq a.device k ≡ false = ne_eqb a.device k (λ e. absurd (omega arith)) in
+    rw other (no_actors k actors (λ i b e. h (suc i) b e))
+
+pub head_device : (actors : List ActorText) (devices : List DeviceText) (d : DeviceText) → AreBelow (length devices) actors
+    → head_items actors (devices ++ d ∷ []) ≡ head_items actors devices ++ Device d.name ∷ description_items d.caps
+unfolding device_items
+head_device actors devices d below =
+    let f = device_items actors in
+    let k : 0 + length devices ≡ length devices = omega arith in
+    let none : flat_map (actor_items (0 + length devices)) actors ≡ [] = rw k (no_actors (length devices) actors below) in
+    ap (λ (l : List Item). Header ∷ l)
+    (ap (flat_map f) (enumerate_push 0 devices d)
+    ∙ flat_map-append f (enumerate_from 0 devices) ((0 + length devices, d) ∷ [])
+    ∙ ap (λ (l : List Item). flat_map f (enumerate_from 0 devices) ++ l)
+    (append-nil (f (0 + length devices, d))
+    ∙ ap (λ (l : List Item). Device d.name ∷ (description_items d.caps ++ l)) none
+    ∙ ap (λ (l : List Item). Device d.name ∷ l) (append-nil (description_items d.caps))))
+
+-- an actor of a later device changes nothing of these
+others_same : (actors : List ActorText) (new : ActorText) (devices : List DeviceText) (n : ℕ) → n + length devices ≤ new.device
+    → flat_map (device_items (actors ++ new ∷ [])) (enumerate_from n devices) ≡ flat_map (device_items actors) (enumerate_from n devices)
+unfolding device_items
+others_same actors new [] n h = refl
+others_same actors new (d ∷ devices) n h =
+    let other : nat_eq new.device n ≡ false = ne_eqb new.device n (λ e. absurd (omega arith)) in
+    let here : flat_map (actor_items n) (actors ++ new ∷ []) ≡ flat_map (actor_items n) actors =
+    flat_map-append (actor_items n) actors (new ∷ [])
+    ∙ ap (λ (b : Bool). flat_map (actor_items n) actors ++ ((if b then Actor new.role new.name ∷ [] else []) ++ [])) other
+    ∙ append-nil (flat_map (actor_items n) actors) in
+    ap (λ (l : List Item). (Device d.name ∷ (description_items d.caps ++ l)) ++ flat_map (device_items (actors ++ new ∷ [])) (enumerate_from (n + 1) devices)) here
+    ∙ ap (λ (l : List Item). device_items actors (n, d) ++ l) (others_same actors new devices (n + 1) (omega arith))
+
+-- an actor of this device is one line more
+device_push : (actors : List ActorText) (new : ActorText) (k : ℕ) (d : DeviceText) → new.device ≡ k → device_items (actors ++ new ∷ []) (k, d) ≡ device_items actors (k, d) ++ Actor new.role new.name ∷ []
+unfolding device_items
+device_push actors new k d e =
+    let this : nat_eq new.device k ≡ true = eq-eqb new.device k e in
+    let here : flat_map (actor_items k) (actors ++ new ∷ []) ≡ flat_map (actor_items k) actors ++ Actor new.role new.name ∷ [] =
+    flat_map-append (actor_items k) actors (new ∷ [])
+    ∙ ap (λ (b : Bool). flat_map (actor_items k) actors ++ ((if b then Actor new.role new.name ∷ [] else []) ++ [])) this in
+    ap (λ (l : List Item). Device d.name ∷ l)
+    (ap (λ (l : List Item). description_items d.caps ++ l) here
+    ∙ sym (append_assoc (description_items d.caps) (flat_map (actor_items k) actors) (Actor new.role new.name ∷ [])))
+
+pub head_actor : (actors : List ActorText) (new : ActorText) (devices : List DeviceText) (d : DeviceText) → new.device ≡ length devices
+    → head_items (actors ++ new ∷ []) (devices ++ d ∷ []) ≡ head_items actors (devices ++ d ∷ []) ++ Actor new.role new.name ∷ []
+head_actor actors new devices d e =
+    let f = device_items actors in
+    let g = device_items (actors ++ new ∷ []) in
+    let at : new.device ≡ 0 + length devices = omega arith in
+    let split : flat_map f (enumerate_from 0 (devices ++ d ∷ [])) ≡ flat_map f (enumerate_from 0 devices) ++ f (0 + length devices, d) =
+    ap (flat_map f) (enumerate_push 0 devices d)
+    ∙ flat_map-append f (enumerate_from 0 devices) ((0 + length devices, d) ∷ [])
+    ∙ ap (λ (l : List Item). flat_map f (enumerate_from 0 devices) ++ l) (append-nil (f (0 + length devices, d))) in
+    ap (λ (l : List Item). Header ∷ l)
+    (ap (flat_map g) (enumerate_push 0 devices d)
+    ∙ flat_map-append g (enumerate_from 0 devices) ((0 + length devices, d) ∷ [])
+    ∙ ap (λ (l : List Item). flat_map g (enumerate_from 0 devices) ++ l) (append-nil (g (0 + length devices, d)))
+    ∙ ap (λ (l : List Item). l ++ g (0 + length devices, d)) (others_same actors new devices 0 (omega arith))
+    ∙ ap (λ (l : List Item). flat_map f (enumerate_from 0 devices) ++ l) (device_push actors new (0 + length devices) d at)
+    ∙ sym (append_assoc (flat_map f (enumerate_from 0 devices)) (f (0 + length devices, d)) (Actor new.role new.name ∷ []))
+    ∙ ap (λ (l : List Item). l ++ Actor new.role new.name ∷ []) (sym split))
+
+pub all_action : (actors : List ActorText) (devices : List DeviceText) (lines : List Line) (l : Line)
+    → all_items actors devices (lines ++ l ∷ []) ≡ all_items actors devices lines ++ action_item_of l ∷ []
+all_action actors devices lines l =
+    ap (λ (x : List Item). head_items actors devices ++ x) (map-append action_item_of lines (l ∷ []))
+    ∙ sym (append_assoc (head_items actors devices) (map action_item_of lines) (action_item_of l ∷ []))
+
+-- the past behind items, the newest first
+
+pub past_of_more : {X : Type 0} (xs : List X) (y : X) (ys past : List X) → reverse (xs ++ y ∷ ys) ++ past ≡ reverse ys ++ y ∷ (reverse xs ++ past)
+past_of_more xs y ys past =
+    ap (λ l. l ++ past) (reverse-append xs (y ∷ ys) ∙ ap (λ l. l ++ reverse xs) (reverse_onto ys y []))
+    ∙ append_assoc (reverse ys ++ y ∷ []) (reverse xs) past
+    ∙ append_assoc (reverse ys) (y ∷ []) (reverse xs ++ past)
+
+pub past_of_two : {X : Type 0} (xs ys past : List X) → reverse (xs ++ ys) ++ past ≡ reverse ys ++ (reverse xs ++ past)
+past_of_two xs ys past = ap (λ l. l ++ past) (reverse-append xs ys) ∙ append_assoc (reverse ys) (reverse xs) past

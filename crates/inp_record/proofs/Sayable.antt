@@ -1,0 +1,117 @@
+-- When an item can be said by words, and when a line that says it is accepted behind a past.
+use Rattle.std.proofs.Common.{◌≡◌, ◌<◌, ◌≤◌, ◌^◌, ℕ, ℤ, Bool, true, false, ◌&&◌, nat_le, List, [], ◌∷◌, slice_get, Some, None, FitsSigned, w32}
+use Rattle.std.specs.List.{list_all}
+use Rattle.inp_model.specs.declared.axis_info.AxisInfo.{AxisInfo}
+use Rattle.inp_actors.specs.declared.role.Role as role
+use Rattle.inp_actors.specs.declared.role.Role.TheVariants as roles
+use Rattle.inp_actors.specs.declared.actor_text.ActorText.{ActorText}
+use Rattle.inp_actors.specs.declared.command.Command as command
+use Rattle.inp_actors.specs.declared.command.Command.TheVariants as commands
+use Rattle.inp_actors.specs.Name.{is_name}
+use Rattle.inp_actors.specs.Command.{is_command_of, is_in_range}
+use Rattle.inp_words.specs.Line.{is_word}
+use Rattle.inp_record.specs.declared.item.Item.{Item}
+use Rattle.inp_record.specs.declared.item.Item.TheVariants.{Header, Device, Hint, Log, Realtime, Boottime, Slots, Kind, Code, Axis, Actor, Action}
+use Rattle.inp_record.specs.declared.keyword.Keyword as keyword
+use Rattle.inp_record.specs.declared.keyword.Keyword.TheVariants as keywords
+use Rattle.inp_record.specs.Past.{Past, place_of, actors_of, context_of, stream_count}
+use Rattle.inp_record.specs.Place.{is_start, is_out_of_place}
+use Rattle.inp_record.specs.Words.{actor_from}
+use Rattle.inp_record.specs.Meaning.{is_twice, is_too_many, refusal}
+
+-- the first word of the canonical line of an item
+abbrev pub keyword_for_role : role.Role → keyword.Keyword
+keyword_for_role roles.Source = keywords.Source
+keyword_for_role roles.Client = keywords.Client
+keyword_for_role roles.Tap = keywords.Tap
+
+abbrev pub keyword_for : Item → keyword.Keyword
+keyword_for Header = keywords.Header
+keyword_for (Device name) = keywords.Device
+keyword_for (Hint count) = keywords.Hint
+keyword_for (Log count) = keywords.Log
+keyword_for (Realtime offset) = keywords.Clock
+keyword_for (Boottime offset) = keywords.Clock
+keyword_for (Slots count) = keywords.Slots
+keyword_for (Kind kind) = keywords.Kind
+keyword_for (Code kind code) = keywords.Code
+keyword_for (Axis code info) = keywords.Axis
+keyword_for (Actor role name) = keyword_for_role role
+keyword_for (Action actor command) = keywords.Action
+
+-- each value is one of 32 bits
+pub record IsSayableInfo (i : AxisInfo) : Type 0 where
+  pub value : FitsSigned w32 i.value
+  pub minimum : FitsSigned w32 i.minimum
+  pub maximum : FitsSigned w32 i.maximum
+  pub fuzz : FitsSigned w32 i.fuzz
+  pub flat : FitsSigned w32 i.flat
+  pub resolution : FitsSigned w32 i.resolution
+
+-- a word as a line of text has it: not empty, and each byte visible
+abbrev pub is_visible : ℕ → Bool
+is_visible b = nat_le 33 b && nat_le b 126
+
+pub record IsPlainWord (w : List ℕ) : Type 0 where
+  pub some : is_word w ≡ true
+  pub visible : list_all is_visible w ≡ true
+
+pub record IsSayableEvent (kind code : ℕ) (value : ℤ) : Type 0 where
+  pub kind_fits : kind ≤ 65535
+  pub code_fits : code ≤ 65535
+  pub value_fits : FitsSigned w32 value
+
+-- what a command holds besides what its range says fits a word; a stream has this number
+abbrev pub IsSayableCommand : ℕ → command.Command → Type 0
+IsSayableCommand stream (commands.Event moment kind code value) = IsSayableEvent kind code value
+IsSayableCommand stream (commands.Write moment kind code value) = IsSayableEvent kind code value
+IsSayableCommand stream (commands.Stream file index) = IsPlainWord file × (index ≡ stream)
+IsSayableCommand stream (commands.Mask kind place bits) = (kind ≤ 65535) × (place ≤ 65535) × (bits < 2 ^ 64)
+IsSayableCommand stream (commands.Axis code) = code ≤ 65535
+IsSayableCommand stream (commands.Slots code) = code ≤ 65535
+IsSayableCommand stream (commands.Next count) = count < 2 ^ 32
+IsSayableCommand stream (commands.Skip count) = count < 2 ^ 32
+IsSayableCommand stream _ = Unit {0}
+
+-- the actor of this number is there and the first of its name, and its role has the command
+pub record IsSayableAction (actors : List ActorText) (stream actor : ℕ) (does : command.Command) : Type 0 where
+  pub text : ActorText
+  pub there : slice_get actors actor ≡ Some text
+  pub first : actor_from 0 actors text.name ≡ Some (actor, text.role)
+  pub name : is_name text.name ≡ true
+  pub of_role : is_command_of text.role does ≡ true
+  pub in_range : is_in_range does ≡ true
+  pub sayable : IsSayableCommand stream does
+
+-- the item can be said, where these actors are there and so many streams
+abbrev pub IsSayable : List ActorText → ℕ → Item → Type 0
+IsSayable actors stream Header = Unit {0}
+IsSayable actors stream (Device name) = is_name name ≡ true
+IsSayable actors stream (Hint count) = count < 2 ^ 32
+IsSayable actors stream (Log count) = count < 2 ^ 32
+IsSayable actors stream (Realtime offset) = offset < 2 ^ 64
+IsSayable actors stream (Boottime offset) = offset < 2 ^ 64
+IsSayable actors stream (Slots count) = count < 2 ^ 32
+IsSayable actors stream (Kind kind) = kind ≤ 65535
+IsSayable actors stream (Code kind code) = (kind ≤ 65535) × (code ≤ 65535)
+IsSayable actors stream (Axis code info) = (code ≤ 65535) × IsSayableInfo info
+IsSayable actors stream (Actor role name) = is_name name ≡ true
+IsSayable actors stream (Action actor does) = IsSayableAction actors stream actor does
+
+-- a header stands first, and each other item behind one, where a line with its keyword may stand
+abbrev pub IsInPlace : Past → Item → Type 0
+IsInPlace past Header = is_start (place_of past) ≡ true
+IsInPlace past i = (is_start (place_of past) ≡ false) × (is_out_of_place (place_of past) (keyword_for i) ≡ false)
+
+-- A line that says the item is accepted behind the past.
+pub record IsAccepted (past : Past) (i : Item) : Type 0 where
+  pub sayable : IsSayable (actors_of past) (stream_count past) i
+  pub in_place : IsInPlace past i
+  pub once : is_twice (context_of past) i ≡ false
+  pub few : is_too_many (context_of past) i ≡ false
+  pub fits : refusal i ≡ None
+
+-- lines that say these items, one after another, are accepted behind the past
+abbrev pub AreAccepted : Past → List Item → Type 0
+AreAccepted past [] = Unit {0}
+AreAccepted past (i ∷ more) = IsAccepted past i × AreAccepted (i ∷ past) more
