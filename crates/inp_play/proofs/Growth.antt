@@ -1,0 +1,188 @@
+-- How long the histories are that lines make, and that no job stops as full while they are shorter than their limit.
+use Rattle.std.proofs.Common.{◌≡◌, ◌≤◌, ◌<◌, ℕ, zero, suc, ◌+◌, ◌*◌, List, [], ◌∷◌, ◌++◌, length, refl, sym, ap, subst, ◌∙◌, arith, ◌⊎◌, inl, inr, Option, Some, None}
+use Rattle.std.specs.Prelude.{slice_get, slice_set, option_and_then}
+use Rattle.std.proofs.lemmas.Option.{option_and_then_some}
+use Rattle.inp_model.specs.declared.stamped.Stamped.{Stamped}
+use Rattle.inp_model.specs.declared.step.Step.{Step}
+use Rattle.inp_model.specs.Description.{Description, ring}
+use Rattle.inp_model.specs.Reply.{Answer, answer, past_after}
+use Rattle.inp_model.specs.Run.{Call}
+use Rattle.inp_actors.specs.declared.command.Command.{Command}
+use Rattle.inp_actors.specs.declared.command.Command.TheVariants.{Event, Open, Follow}
+use Rattle.inp_actors.specs.declared.line.Line.{Line}
+use Rattle.inp_actors.specs.declared.role.Role.{Role}
+use Rattle.inp_actors.specs.declared.role.Role.TheVariants.{Source, Client, Tap}
+use Rattle.inp_actors.specs.Record.{RecordView}
+use Rattle.inp_reader.specs.declared.reader.TheConstants.{NO_CLIENT}
+use Rattle.inp_reader.specs.Talk.{Talk, finish, ask, LeadsTo, EndsWith}
+use Rattle.inp_script.specs.declared.stop.Stop.{Stop}
+use Rattle.inp_script.specs.Doing.{command_talk, unless_stopped, line_talk}
+use Rattle.inp_script.specs.Job.{Job, ActorView}
+use Rattle.inp_script.specs.Line.{step_of}
+use Rattle.inp_play.specs.Play.{Stage, talk_with, after_line, after_lines}
+use Rattle.inp_play.proofs.Calls.{AreExact}
+use Rattle.inp_play.proofs.Follows.{HasQueries, follow-length, start-length, call-length, tap_call-length}
+use Rattle.inp_play.proofs.Limits.{Stays, NoStop, stays-with, stays-start, stays-follow, stays-call, stays-tap_call}
+use Rattle.inp_play.proofs.LineDone.{IsLineDone, line-done}
+
+-- the calls that a device answered say what a talk with it leaves
+exact-talk : {A : Type 0} (d : Description) (past after : List Step) (talk : Talk A) (calls : List Call) (result : A) → EndsWith talk calls result → AreExact d past after calls → talk_with d past talk ≡ (result, after)
+unfolding LeadsTo talk_with
+exact-talk d past after (finish a) [] result ends exact =
+    let same : a ≡ result = cc in
+    ap (λ (x : _). (x, past)) same ∙ ap (λ (p : List Step). (result, p)) (sym exact)
+exact-talk d past after (finish a) (call ∷ calls) result ends exact = absurd ends
+exact-talk d past after (ask x rest) [] result ends exact = absurd (cc ends)
+exact-talk {A} d past after (ask x rest) (call ∷ calls) result ends exact =
+    let same : call.answer ≡ answer d past x = exact.0 ∙ ap (answer d past) ends.0 in
+    let more : talk_with d (past_after call.answer.reply call.step past) (rest call.answer) ≡ (result, after) =
+    exact-talk d (past_after call.answer.reply call.step past) after (rest call.answer) calls result ends.1 exact.1 in
+    subst (λ (a : Answer). talk_with d (past_after a.reply x past) (rest a) ≡ (result, after)) same
+    (subst (λ (y : Step). talk_with d (past_after call.answer.reply y past) (rest call.answer) ≡ (result, after)) ends.0 more)
+
+-- Commands
+
+-- Whatever actor does it, a command adds at most so many steps, and stops no job while no step is refused as full.
+pub record IsBound (d : Description) (command : Command) (k : ℕ) : Type 0 where
+  pub grows : (role : Role) (streams : List (List Stamped)) (n : ℕ) (j : Job) (past : List Step) → length (talk_with d past (command_talk role d streams None n command j)).1 ≤ length past + k
+  pub stays : (role : Role) (streams : List (List Stamped)) (n : ℕ) (j : Job) → j.stop ≡ None → Stays NoStop (command_talk role d streams None n command j)
+
+pub event-bound : (d : Description) (moment kind code : ℕ) (value : _) → IsBound d (Event moment kind code value) 1
+event-bound d moment kind code value = record { grows = by_length; stays = by_stop }
+  where
+    by_length : (role : Role) (streams : List (List Stamped)) (n : ℕ) (j : Job) (past : List Step) → length (talk_with d past (command_talk role d streams None n (Event moment kind code value) j)).1 ≤ length past + 1
+    by_length Source streams n j past = call-length d (step_of NO_CLIENT (Event moment kind code value)) j past
+    by_length Client streams n j past = call-length d (step_of j.reading.client (Event moment kind code value)) j past
+    by_length Tap streams n j past = tap_call-length d (step_of j.reading.client (Event moment kind code value)) j past
+
+    by_stop : (role : Role) (streams : List (List Stamped)) (n : ℕ) (j : Job) → j.stop ≡ None → Stays NoStop (command_talk role d streams None n (Event moment kind code value) j)
+    by_stop Source streams n j h = stays-call (step_of NO_CLIENT (Event moment kind code value)) j h
+    by_stop Client streams n j h = stays-call (step_of j.reading.client (Event moment kind code value)) j h
+    by_stop Tap streams n j h = stays-tap_call (step_of j.reading.client (Event moment kind code value)) j h
+
+pub open-bound : (d : Description) (most : ℕ) → HasQueries d most → IsBound d Open (suc most)
+open-bound d most has = record { grows = by_length; stays = by_stop }
+  where
+    by_length : (role : Role) (streams : List (List Stamped)) (n : ℕ) (j : Job) (past : List Step) → length (talk_with d past (command_talk role d streams None n Open j)).1 ≤ length past + suc most
+    by_length Source streams n j past = omega (arith, call-length d (step_of NO_CLIENT Open) j past)
+    by_length Client streams n j past = start-length d most j past has
+    by_length Tap streams n j past = omega (arith, tap_call-length d (step_of j.reading.client Open) j past)
+
+    by_stop : (role : Role) (streams : List (List Stamped)) (n : ℕ) (j : Job) → j.stop ≡ None → Stays NoStop (command_talk role d streams None n Open j)
+    by_stop Source streams n j h = stays-call (step_of NO_CLIENT Open) j h
+    by_stop Client streams n j h = stays-start d j
+    by_stop Tap streams n j h = stays-tap_call (step_of j.reading.client Open) j h
+
+pub follow-bound : (d : Description) (most reads : ℕ) → HasQueries d most → ring d ≤ 64 * reads → IsBound d Follow (reads + suc most)
+follow-bound d most reads has fits = record { grows = by_length; stays = by_stop }
+  where
+    by_length : (role : Role) (streams : List (List Stamped)) (n : ℕ) (j : Job) (past : List Step) → length (talk_with d past (command_talk role d streams None n Follow j)).1 ≤ length past + (reads + suc most)
+    by_length Source streams n j past = omega (arith, call-length d (step_of NO_CLIENT Follow) j past)
+    by_length Client streams n j past = follow-length d most reads n j past has fits
+    by_length Tap streams n j past = omega (arith, tap_call-length d (step_of j.reading.client Follow) j past)
+
+    by_stop : (role : Role) (streams : List (List Stamped)) (n : ℕ) (j : Job) → j.stop ≡ None → Stays NoStop (command_talk role d streams None n Follow j)
+    by_stop Source streams n j h = stays-call (step_of NO_CLIENT Follow) j h
+    by_stop Client streams n j h = stays-follow d n j h
+    by_stop Tap streams n j h = stays-tap_call (step_of j.reading.client Follow) j h
+
+-- Lines
+
+-- Each history has at most so many steps, and no job stopped; each actor is one of a device of this description.
+pub record IsShort (d : Description) (most : ℕ) (stage : Stage) : Type 0 where
+  pub pasts : (i : ℕ) (past : List Step) → slice_get stage.pasts i ≡ Some past → length past ≤ most
+  pub actors : (i : ℕ) (a : ActorView) → slice_get stage.actors i ≡ Some a → (a.description ≡ d) × (a.job.stop ≡ None)
+
+longer : (d : Description) (m n : ℕ) (stage : Stage) → m ≤ n → IsShort d m stage → IsShort d n stage
+longer d m n stage more s = record { pasts = λ i past h. omega (arith, s.pasts i past h, more); actors = s.actors }
+
+-- an item of a list in which one was set is that one, or stood there before
+set_either : {X : Type 0} (xs : List X) (i k : ℕ) (y z : X) → slice_get (slice_set xs i y) k ≡ Some z → (z ≡ y) ⊎ (slice_get xs k ≡ Some z)
+set_either [] i k y z h = inr h
+set_either (x ∷ xs) zero zero y z h = inl cc
+set_either (x ∷ xs) zero (suc k) y z h = inr h
+set_either (x ∷ xs) (suc i) zero y z h = inr h
+set_either (x ∷ xs) (suc i) (suc k) y z h = set_either xs i k y z h
+
+-- what a line did, as a talk with its device
+line-talk : (role : Role) (e d : Description) (streams : List (List Stamped)) (rounds : ℕ) (command : Command) (j new : Job) (past after : List Step) (calls : List Call) → e ≡ d → j.stop ≡ None
+    → EndsWith (line_talk role e streams None rounds command j) calls (Some new) → AreExact e past after calls → talk_with d past (command_talk role d streams None rounds command j) ≡ (Some new, after)
+unfolding line_talk
+line-talk role e d streams rounds command j new past after calls same none ends exact =
+    let there : EndsWith (line_talk role d streams None rounds command j) calls (Some new) = subst (λ (x : Description). EndsWith (line_talk role x streams None rounds command j) calls (Some new)) same ends in
+    let exactly : AreExact d past after calls = subst (λ (x : Description). AreExact x past after calls) same exact in
+    ap (λ (s : Option Stop). talk_with d past (unless_stopped s j (command_talk role d streams None rounds command j))) (sym none)
+    ∙ exact-talk d past after (line_talk role d streams None rounds command j) calls (Some new) there exactly
+
+line-short : (r : RecordView) (d : Description) (rounds m k : ℕ) (stage now : Stage) (line : Line) → IsShort d m stage → IsBound d line.command k → m + k < d.log_limit → after_line r rounds stage line ≡ Some now → IsShort d (m + k) now
+line-short r d rounds m k stage now line s bound room h = of_line (line-done r rounds stage now line h)
+  where
+    of_line : IsLineDone r rounds stage now line → IsShort d (m + k) now
+    of_line u =
+        let a : ActorView = u.actor in
+        let kept = s.actors line.actor a u.is_actor in
+        let talk : Talk (Option Job) = command_talk a.role d r.streams None rounds line.command a.job in
+        let did : talk_with d u.past talk ≡ (Some u.job, u.after) = line-talk a.role a.description d r.streams rounds line.command a.job u.job u.past u.after u.calls kept.0 kept.1 u.ends u.exact in
+        let grows : length (talk_with d u.past talk).1 ≤ length u.past + k = bound.grows a.role r.streams rounds a.job u.past in
+        let before : length u.past ≤ m = s.pasts u.text.device u.past u.is_past in
+        let same : length (talk_with d u.past talk).1 ≡ length u.after = ap (λ (t : Option Job × List Step). length t.1) did in
+        let within : length u.after ≤ m + k = omega (arith, grows, before, same) in
+        let stays : NoStop (talk_with d u.past talk).0 = stays-with NoStop d u.past talk (bound.stays a.role r.streams rounds a.job kept.1) (omega (arith, grows, before, room)) in
+        let stopless : u.job.stop ≡ None = subst (λ (t : Option Job × List Step). NoStop t.0) did stays in
+        record {
+          pasts = λ i past is. of_past i past within (set_either stage.pasts u.text.device i u.after past (ap (λ (ps : List (List Step)). slice_get ps i) (sym u.pasts) ∙ is));
+          actors = λ i b is. of_actor i b u (kept.0, stopless) (set_either stage.actors a.actor i (record a { job = u.job }) b (ap (λ (xs : List ActorView). slice_get xs i) (sym u.actors) ∙ is));
+        }
+      where
+        of_past : (i : ℕ) (past : List Step) → length u.after ≤ m + k → (past ≡ u.after) ⊎ (slice_get stage.pasts i ≡ Some past) → length past ≤ m + k
+        of_past i past within (inl new) = omega (arith, within, ap length new)
+        of_past i past within (inr old) = omega (arith, s.pasts i past old)
+
+        of_actor : (i : ℕ) (b : ActorView) (v : IsLineDone r rounds stage now line) → (v.actor.description ≡ d) × (v.job.stop ≡ None) → (b ≡ record v.actor { job = v.job }) ⊎ (slice_get stage.actors i ≡ Some b) → (b.description ≡ d) × (b.job.stop ≡ None)
+        of_actor i b v fine (inl new) = subst (λ (x : ActorView). (x.description ≡ d) × (x.job.stop ≡ None)) (sym new) fine
+        of_actor i b v fine (inr old) = s.actors i b old
+
+-- These lines add at most so many steps to a history, and stop no job while it is shorter than its limit.
+abbrev pub Adds : RecordView → Description → ℕ → List Line → Type 0
+Adds r d n lines = (rounds m : ℕ) (stage last : Stage) → IsShort d m stage → m + n < d.log_limit → after_lines r rounds stage lines ≡ Some last → IsShort d (m + n) last
+
+pub adds-none : (r : RecordView) (d : Description) → Adds r d 0 []
+unfolding after_lines
+adds-none r d = λ rounds m stage last s room h.
+    let same : stage ≡ last = cc in
+    subst (IsShort d (m + 0)) same (longer d m (m + 0) stage (omega arith) s)
+
+pub adds-line : (r : RecordView) (d : Description) (n k : ℕ) (line : Line) (lines : List Line) → IsBound d line.command k → Adds r d n lines → Adds r d (k + n) (line ∷ lines)
+unfolding after_lines
+adds-line r d n k line lines bound more = λ rounds m stage last s room h.
+    option_and_then_some _ (after_line r rounds stage line) last h (λ now is_now rest.
+    longer d ((m + k) + n) (m + (k + n)) last (omega arith)
+    (more rounds (m + k) now last (line-short r d rounds m k stage now line s bound (omega (arith, room)) is_now) (omega (arith, room)) rest))
+
+pub adds-more : (r : RecordView) (d : Description) (n k : ℕ) (lines : List Line) → n ≤ k → Adds r d n lines → Adds r d k lines
+adds-more r d n k lines more adds = λ rounds m stage last s room h.
+    longer d (m + n) (m + k) last (omega (arith, more)) (adds rounds m stage last s (omega (arith, more, room)) h)
+
+-- lines behind others
+record BothDone (r : RecordView) (rounds : ℕ) (stage last : Stage) (xs ys : List Line) : Type 0 where
+  between : Stage
+  first : after_lines r rounds stage xs ≡ Some between
+  second : after_lines r rounds between ys ≡ Some last
+
+both_done : (r : RecordView) (rounds : ℕ) (stage last : Stage) (xs ys : List Line) → after_lines r rounds stage (xs ++ ys) ≡ Some last → BothDone r rounds stage last xs ys
+unfolding after_lines
+both_done r rounds stage last [] ys h = record { between = stage; first = refl; second = h }
+both_done r rounds stage last (line ∷ xs) ys h =
+    option_and_then_some _ (after_line r rounds stage line) last h (λ now is_now rest.
+    let more = both_done r rounds now last xs ys rest in
+    record {
+      between = more.between;
+      first = ap (option_and_then (λ (s : Stage). after_lines r rounds s xs)) is_now ∙ more.first;
+      second = more.second;
+    })
+
+pub adds-append : (r : RecordView) (d : Description) (n k : ℕ) (xs ys : List Line) → Adds r d n xs → Adds r d k ys → Adds r d (n + k) (xs ++ ys)
+adds-append r d n k xs ys one two = λ rounds m stage last s room h.
+    let both = both_done r rounds stage last xs ys h in
+    longer d ((m + n) + k) (m + (n + k)) last (omega arith)
+    (two rounds (m + n) both.between last (one rounds m stage both.between s (omega (arith, room)) both.first) (omega (arith, room)) both.second)

@@ -1,0 +1,122 @@
+-- How many events a client's own calls leave visible in its queue.
+use Rattle.std.proofs.Common.{◌≡◌, ◌≤◌, ℕ, zero, suc, ◌-◌, Bool, true, false, ◌&&◌, if◌then◌else◌, nat_eq, min, List, [], ◌∷◌, ◌++◌, length, map, drop, refl, ap, ◌∙◌, Option, Some, None, arith}
+use Rattle.std.proofs.lemmas.Bool.Decides.{nat_tests}
+use Rattle.inp_model.specs.declared.event.Event.{Event}
+use Rattle.inp_model.specs.declared.step.Step.{Step}
+use Rattle.inp_model.specs.declared.step.Step.TheVariants.{Read, Discard, GetKeys, SyncSlots}
+use Rattle.inp_model.specs.Description.{Description, ring}
+use Rattle.inp_model.specs.Event.{is_report}
+use Rattle.inp_model.specs.Step.{Query, client_of, is_open_step, is_same, moment_of, is_part_of, query_of}
+use Rattle.inp_model.specs.Past.{opens, is_call_of}
+use Rattle.inp_model.specs.Cut.{Cut, cuts}
+use Rattle.inp_model.specs.Raw.{raw_of_step}
+use Rattle.inp_model.specs.Frame.{cuts_of_step, frame_of, frames_of_step}
+use Rattle.inp_model.specs.Queue.{Entry, event_of, entry_dropped_at, put_all, entries, visible, stays, flush_behind, flush_for, left_by_call, queue}
+
+-- how many are visible, with one event more in front
+abbrev with_first : Bool → ℕ → ℕ
+with_first report behind = if nat_eq behind 0 then (if report then 1 else 0) else suc behind
+
+-- no more is visible than there is
+pub visible-le : (q : List Entry) → visible event_of q ≤ length q
+visible-le [] = omega arith
+visible-le (x ∷ q) = step (is_report (event_of x)) (visible event_of q) (length q) (visible-le q)
+  where
+    step : (report : Bool) (behind n : ℕ) → behind ≤ n → with_first report behind ≤ suc n
+    step true behind n h = grind (arith, nat_tests)
+    step false behind n h = grind (arith, nat_tests)
+
+-- what is taken from the front is no longer counted
+visible-drop : (n : ℕ) (q : List Entry) → n ≤ visible event_of q → visible event_of (drop n q) ≡ visible event_of q - n
+visible-drop zero q h = omega arith
+visible-drop (suc n) [] h = omega (arith, h)
+visible-drop (suc n) (x ∷ q) h =
+    visible-drop n q (less (is_report (event_of x)) (visible event_of q) n h)
+    ∙ step (is_report (event_of x)) (visible event_of q) n h
+  where
+    less : (report : Bool) (behind n : ℕ) → suc n ≤ with_first report behind → n ≤ behind
+    less true behind n h = grind (arith, nat_tests)
+    less false behind n h = grind (arith, nat_tests)
+
+    step : (report : Bool) (behind n : ℕ) → suc n ≤ with_first report behind → behind - n ≡ with_first report behind - suc n
+    step true behind n h = grind (arith, nat_tests)
+    step false behind n h = grind (arith, nat_tests)
+
+-- where no event is visible there is no report
+none_behind : (report : Bool) (behind : ℕ) → with_first report behind ≡ 0 → (report ≡ false) × (behind ≡ 0)
+none_behind true behind h = absurd (grind (arith, nat_tests))
+none_behind false behind h = (refl, grind (arith, nat_tests))
+
+-- and none comes of the removal of events
+flush-none : (drops : Event → Bool) (before q : List Entry) → visible event_of q ≡ 0 → visible event_of (flush_behind event_of drops before q) ≡ 0
+flush-none drops before [] h = refl
+flush-none drops before (x ∷ q) h =
+    let first = none_behind (is_report (event_of x)) (visible event_of q) h in
+    by_flag (stays event_of drops before x) first.0 (flush-none drops (x ∷ before) q first.1)
+  where
+    by_flag : (b : Bool) → is_report (event_of x) ≡ false → visible event_of (flush_behind event_of drops (x ∷ before) q) ≡ 0 → visible event_of ((if b then x ∷ [] else []) ++ flush_behind event_of drops (x ∷ before) q) ≡ 0
+    by_flag true other more = ap (λ (n : ℕ). with_first (is_report (event_of x)) n) more ∙ ap (λ (r : Bool). if r then 1 else 0) other
+    by_flag false other more = more
+
+flush_for-none : (o : Option Query) (q : List Entry) → visible event_of q ≡ 0 → visible event_of (flush_for event_of o q) ≡ 0
+flush_for-none None q h = h
+flush_for-none (Some query) q h = flush-none (is_part_of query) [] q h
+
+-- Own calls
+
+same_client : (client : ℕ) → nat_eq client client ≡ true
+same_client client = grind (arith, nat_tests)
+
+-- the queue behind a client's own call that ends no frame
+own_left : (d : Description) (past : List Step) (client : ℕ) (x : Step) → client_of x ≡ Some client → is_open_step x ≡ false → cuts_of_step d past x ≡ [] → queue d (x ∷ past) client ≡ left_by_call d past x (queue d past client)
+unfolding queue
+own_left d past client x named unopened none =
+    let q : List Entry = queue d past client in
+    let called : is_call_of past client x ≡ true =
+    ap (λ (b : Bool). if b && nat_eq (opens past) client then true else is_same (client_of x) client) unopened
+    ∙ ap (λ (o : Option ℕ). is_same o client) named ∙ same_client client in
+    ap (λ (b : Bool). put_all event_of entry_dropped_at (ring d) (if b then left_by_call d past x q else q) (entries d client (frames_of_step d past x))) called
+    ∙ ap (λ (cs : List Cut). put_all event_of entry_dropped_at (ring d) (left_by_call d past x q) (entries d client (map (frame_of past (moment_of x)) cs))) none
+
+no_cuts-read : (d : Description) (past : List Step) (client count : ℕ) → cuts_of_step d past (Read client count) ≡ []
+unfolding raw_of_step cuts
+no_cuts-read d past client count = refl
+
+no_cuts-discard : (d : Description) (past : List Step) (client : ℕ) → cuts_of_step d past (Discard client) ≡ []
+unfolding raw_of_step cuts
+no_cuts-discard d past client = refl
+
+no_cuts-keys : (d : Description) (past : List Step) (client : ℕ) → cuts_of_step d past (GetKeys client) ≡ []
+unfolding raw_of_step cuts
+no_cuts-keys d past client = refl
+
+no_cuts-slots : (d : Description) (past : List Step) (client : ℕ) → cuts_of_step d past (SyncSlots client) ≡ []
+unfolding raw_of_step cuts
+no_cuts-slots d past client = refl
+
+pub read-leaves : (d : Description) (past : List Step) (client count : ℕ) → visible event_of (queue d (Read client count ∷ past) client) ≡ visible event_of (queue d past client) - min count (visible event_of (queue d past client))
+read-leaves d past client count =
+    let q : List Entry = queue d past client in
+    ap (visible event_of) (own_left d past client (Read client count) refl refl (no_cuts-read d past client count))
+    ∙ visible-drop (min count (visible event_of q)) q (omega arith)
+
+pub discard-leaves : (d : Description) (past : List Step) (client : ℕ) → visible event_of (queue d (Discard client ∷ past) client) ≡ 0
+discard-leaves d past client =
+    let q : List Entry = queue d past client in
+    let left : visible event_of (drop (visible event_of q) q) ≡ visible event_of q - visible event_of q = visible-drop (visible event_of q) q (omega arith) in
+    ap (visible event_of) (own_left d past client (Discard client) refl refl (no_cuts-discard d past client))
+    ∙ omega (arith, left)
+
+-- the step leaves nothing visible to the client where nothing was
+abbrev pub IsQuiet : Description → ℕ → Step → Type 0
+IsQuiet d client x = (past : List Step) → visible event_of (queue d past client) ≡ 0 → visible event_of (queue d (x ∷ past) client) ≡ 0
+
+pub quiet-keys : (d : Description) (client : ℕ) → IsQuiet d client (GetKeys client)
+quiet-keys d client = λ past h.
+    ap (visible event_of) (own_left d past client (GetKeys client) refl refl (no_cuts-keys d past client))
+    ∙ flush_for-none (query_of (GetKeys client)) (queue d past client) h
+
+pub quiet-slots : (d : Description) (client : ℕ) → IsQuiet d client (SyncSlots client)
+quiet-slots d client = λ past h.
+    ap (visible event_of) (own_left d past client (SyncSlots client) refl refl (no_cuts-slots d past client))
+    ∙ flush_for-none (query_of (SyncSlots client)) (queue d past client) h

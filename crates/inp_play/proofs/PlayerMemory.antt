@@ -1,0 +1,228 @@
+-- A line whose Open was refused for want of memory leaves no job.
+use Rattle.std.proofs.Common.{◌≡◌, ℕ, zero, suc, Bool, true, false, if◌then◌else◌, List, [], ◌∷◌, ◌++◌, Option, Some, None, refl, ap}
+use Rattle.std.specs.Prelude.{Result, Ok, Err}
+use Rattle.inp_model.specs.declared.event.TheConstants.{EV_KEY, EV_LED, EV_SW}
+use Rattle.inp_model.specs.declared.stamped.Stamped.{Stamped}
+use Rattle.inp_model.specs.declared.taken.Taken.{Taken}
+use Rattle.inp_model.specs.declared.step.Step.{Step}
+use Rattle.inp_model.specs.declared.step.Step.TheVariants.{Open as ToOpen, Discard, GetKeys, GetSwitches, GetLeds, SyncSlots, Inject}
+use Rattle.inp_model.specs.declared.reply.Reply.{Reply}
+use Rattle.inp_model.specs.declared.reply.Reply.TheVariants.{Opened, Refused}
+use Rattle.inp_model.specs.declared.reply.Refusal.TheVariants.{NoMemory}
+use Rattle.inp_model.specs.Description.{Description, has_kind}
+use Rattle.inp_model.specs.Step.{is_open_step}
+use Rattle.inp_model.specs.Reply.{Answer, alone, is_accepted}
+use Rattle.inp_actors.specs.declared.command.Command.{Command}
+use Rattle.inp_actors.specs.declared.command.Command.TheVariants.{Stream, Open, Next, Skip, Follow, Force}
+use Rattle.inp_actors.specs.declared.role.Role.{Role}
+use Rattle.inp_actors.specs.declared.role.Role.TheVariants.{Source, Client, Tap}
+use Rattle.inp_actors.specs.Command.{is_command_of}
+use Rattle.inp_recon.specs.declared.view.View.{View}
+use Rattle.inp_recon.specs.View.{view_after_answer}
+use Rattle.inp_reader.specs.declared.mode.Mode.{Mode}
+use Rattle.inp_reader.specs.declared.mode.Mode.TheVariants.{Normal, Sync as Synchronising}
+use Rattle.inp_reader.specs.declared.next.Next.{Next as Answered}
+use Rattle.inp_reader.specs.declared.phase.Phase.{Phase}
+use Rattle.inp_reader.specs.declared.phase.Phase.TheVariants.{Plain, Needed, Handing}
+use Rattle.inp_reader.specs.declared.reader.TheConstants.{NO_CLIENT}
+use Rattle.inp_reader.specs.declared.started.Started.{Started}
+use Rattle.inp_reader.specs.Reading.{Reading, ask_each, only_if, bit_queries, axis_queries, slot_queries, plain_axes, queries, start_talk, after_open, after_queries, read_or_hand_out, read_talk, plain_talk, as_plain, go_on, go_on_after, after_full_sync, sync_talk, talk_in, next_talk}
+use Rattle.inp_reader.specs.Talk.{Talk, finish, ask, and_then}
+use Rattle.inp_script.specs.declared.sight.Sight.{Sight}
+use Rattle.inp_script.specs.declared.stop.Stop.{Stop}
+use Rattle.inp_script.specs.declared.waiting.Waiting.{Waiting}
+use Rattle.inp_script.specs.Client.{Going, Turn, goes_on, ends_with, is_done, mode_of, start_ends, start_job, after_next, next_round, on_turn, rounds, hand_talk, client_talk}
+use Rattle.inp_script.specs.Doing.{command_talk, unless_stopped, line_talk}
+use Rattle.inp_script.specs.Job.{Job}
+use Rattle.inp_script.specs.Line.{step_of, call_if, after_call, stream_talk, stream_at, source_talk, tap_call_if}
+use Rattle.inp_script.specs.Sight.{noted, call_sight}
+
+-- where an Open is refused for want of memory nothing more is asked, and there is no job
+abbrev pub GivesUp : Talk (Option Job) → Type 0
+GivesUp (finish job) = Unit {0}
+GivesUp (ask x rest) = (x ≡ ToOpen → (n : ℕ) → rest (alone (Refused n NoMemory)) ≡ finish None) × ((answer : Answer) → GivesUp (rest answer))
+
+-- Talks that ask for no Open
+
+abbrev NoOpen : {A : Type 0} → Talk A → Type 0
+NoOpen (finish a) = Unit {0}
+NoOpen (ask x rest) = (is_open_step x ≡ false) × ((answer : Answer) → NoOpen (rest answer))
+
+other_step : (x : Step) → is_open_step x ≡ false → x ≡ ToOpen → ⊥
+other_step x h e = let opens : is_open_step x ≡ true = ap is_open_step e in cc
+
+no_open-gives_up : (talk : Talk (Option Job)) → NoOpen talk → GivesUp talk
+no_open-gives_up (finish job) h = tt
+no_open-gives_up (ask x rest) h = ((λ e n. absurd (other_step x h.0 e)), λ answer. no_open-gives_up (rest answer) (h.1 answer))
+
+no_open-then : {A B : Type 0} (talk : Talk A) (next : A → Talk B) → NoOpen talk → ((a : A) → NoOpen (next a)) → NoOpen (and_then talk next)
+no_open-then (finish a) next h more = more a
+no_open-then (ask x rest) next h more = (h.0, λ answer. no_open-then (rest answer) next (h.1 answer) more)
+
+no_open-noted : {A : Type 0} (talk : Talk A) (sight : List Sight) → NoOpen talk → NoOpen (noted talk sight)
+no_open-noted (finish a) sight h = tt
+no_open-noted (ask x rest) sight h = (h.0, λ answer. no_open-noted (rest answer) (sight ++ call_sight x answer.reply) (h.1 answer))
+
+-- Queries
+
+abbrev AllNoOpen : List Step → Type 0
+AllNoOpen [] = Unit {0}
+AllNoOpen (x ∷ xs) = (is_open_step x ≡ false) × AllNoOpen xs
+
+no_open-append : (xs ys : List Step) → AllNoOpen xs → AllNoOpen ys → AllNoOpen (xs ++ ys)
+no_open-append [] ys h k = k
+no_open-append (x ∷ xs) ys h k = (h.0, no_open-append xs ys h.1 k)
+
+no_open-if : (wanted : Bool) (x : Step) → is_open_step x ≡ false → AllNoOpen (only_if wanted x)
+no_open-if true x h = (h, tt)
+no_open-if false x h = tt
+
+no_open-axes : (client : ℕ) (codes : List ℕ) → AllNoOpen (axis_queries client codes)
+no_open-axes client [] = tt
+no_open-axes client (code ∷ codes) = (refl, no_open-axes client codes)
+
+no_open-queries : (d : Description) (client : ℕ) → AllNoOpen (queries d client)
+unfolding queries
+no_open-queries d client =
+    no_open-append (bit_queries d client ++ axis_queries client (plain_axes d)) (slot_queries d client)
+    (no_open-append (bit_queries d client) (axis_queries client (plain_axes d))
+    (no_open-append (only_if (has_kind d EV_KEY) (GetKeys client) ++ only_if (has_kind d EV_LED) (GetLeds client)) (only_if (has_kind d EV_SW) (GetSwitches client))
+    (no_open-append (only_if (has_kind d EV_KEY) (GetKeys client)) (only_if (has_kind d EV_LED) (GetLeds client)) (no_open-if (has_kind d EV_KEY) (GetKeys client) refl) (no_open-if (has_kind d EV_LED) (GetLeds client) refl))
+    (no_open-if (has_kind d EV_SW) (GetSwitches client) refl))
+    (no_open-axes client (plain_axes d)))
+    (no_open-if _ (SyncSlots client) refl)
+
+no_open-ask_each : (xs : List Step) (view : View) → AllNoOpen xs → NoOpen (ask_each xs view)
+unfolding ask_each
+no_open-ask_each [] view h = tt
+no_open-ask_each (x ∷ xs) view h = (h.0, λ answer. by_flag answer.reply (is_accepted answer.reply) (ask_each xs (view_after_answer view x answer.reply answer.cells)) (no_open-ask_each xs (view_after_answer view x answer.reply answer.cells) h.1))
+  where
+    by_flag : (reply : Reply) (b : Bool) (talk : Talk (Result View Reply)) → NoOpen talk → NoOpen (if b then talk else finish (Err reply))
+    by_flag reply true talk more = more
+    by_flag reply false talk more = tt
+
+-- Reading
+
+no_open-read : (r : Reading) → NoOpen (read_talk r)
+unfolding read_talk
+no_open-read r = by_queue r.queue
+  where
+    by_queue : (queue : List Taken) → NoOpen (read_or_hand_out r queue)
+    by_queue [] = (refl, λ answer. tt)
+    by_queue (taken ∷ rest) = tt
+
+no_open-go_on : (mode : Mode) (r : Reading) → NoOpen (go_on mode r)
+no_open-go_on Normal r = no_open-read (as_plain r)
+no_open-go_on Synchronising r = tt
+
+no_open-go_on_after : (mode : Mode) (r : Reading) (asked : Result View Reply) → NoOpen (go_on_after mode r asked)
+no_open-go_on_after mode r (Ok view) = no_open-go_on mode (after_full_sync r view)
+no_open-go_on_after mode r (Err reply) = tt
+
+no_open-sync : (d : Description) (r : Reading) → NoOpen (sync_talk d r)
+unfolding sync_talk
+no_open-sync d r = no_open-ask_each (Discard r.client ∷ queries d r.client) r.view (refl, no_open-queries d r.client)
+
+no_open-plain : (mode : Mode) (r : Reading) → NoOpen (plain_talk mode r)
+no_open-plain Normal r = no_open-read r
+no_open-plain Synchronising r = tt
+
+no_open-next : (d : Description) (mode : Mode) (phase : Phase) (r : Reading) → NoOpen (talk_in d mode phase r)
+no_open-next d mode Plain r = no_open-plain mode r
+no_open-next d mode Needed r = no_open-then (sync_talk d r) (go_on_after mode r) (no_open-sync d r) (no_open-go_on_after mode r)
+no_open-next d mode Handing r = no_open-go_on mode r
+
+-- The lines of a client
+
+no_open-round : (d : Description) (wait : Option Waiting) (skips : Bool) (g : Going) → NoOpen (next_round d wait skips g)
+unfolding next_round
+no_open-round d wait skips g =
+    let talk : Talk (Answered × Reading) = next_talk d (mode_of skips g.job.reading.phase) g.job.reading in
+    no_open-then (noted talk g.job.sight) (λ o. finish (after_next wait g o))
+    (no_open-noted talk g.job.sight (no_open-next d (mode_of skips g.job.reading.phase) g.job.reading.phase g.job.reading))
+    (λ o. tt)
+
+no_open-rounds : (d : Description) (wait : Option Waiting) (skips : Bool) (n : ℕ) (g : Going) → NoOpen (rounds d wait skips n g)
+unfolding rounds
+no_open-rounds d wait skips zero g = tt
+no_open-rounds d wait skips (suc n) g = no_open-then (next_round d wait skips g) (on_turn (rounds d wait skips n)) (no_open-round d wait skips g) (by_turn (no_open-rounds d wait skips n))
+  where
+    by_turn : ((here : Going) → NoOpen (rounds d wait skips n here)) → (turn : Turn) → NoOpen (on_turn (rounds d wait skips n) turn)
+    by_turn more (goes_on here) = more here
+    by_turn more (ends_with j) = tt
+
+no_open-hand : (d : Description) (wait : Option Waiting) (skips : Bool) (left : Option ℕ) (n : ℕ) (j : Job) → NoOpen (hand_talk d wait skips left n j)
+no_open-hand d wait skips left n j = by_flag (is_done left)
+  where
+    by_flag : (b : Bool) → NoOpen (if b then finish (Some j) else rounds d wait skips n (record { job = j; left = left; agains = 0 }))
+    by_flag true = tt
+    by_flag false = no_open-rounds d wait skips n (record { job = j; left = left; agains = 0 })
+
+-- a start asks for nothing more where its Open was refused
+gives_up-start : (d : Description) (j : Job) → GivesUp (start_job d j)
+unfolding start_job start_talk
+gives_up-start d j = ((λ e n. refl), λ answer. by_reply answer.reply (j.sight ++ call_sight ToOpen answer.reply))
+  where
+    by_reply : (reply : Reply) (sight : List Sight) → GivesUp (and_then (noted (after_open d j.reading reply) sight) (λ o. finish (start_ends o)))
+    by_reply (Opened at client ring) sight =
+        let asks : Talk (Result View Reply) = ask_each (queries d client) j.reading.view in
+        let talk : Talk (Started × Reading) = and_then asks (λ asked. finish (after_queries client ring j.reading asked)) in
+        no_open-gives_up (and_then (noted talk sight) (λ o. finish (start_ends o)))
+        (no_open-then (noted talk sight) (λ o. finish (start_ends o))
+        (no_open-noted talk sight
+        (no_open-then asks (λ asked. finish (after_queries client ring j.reading asked)) (no_open-ask_each (queries d client) j.reading.view (no_open-queries d client)) (λ asked. tt)))
+        (λ o. tt))
+    by_reply _ sight = tt
+
+-- Single calls
+
+abbrev is_open_if : Option Step → Bool
+is_open_if None = false
+is_open_if (Some x) = is_open_step x
+
+gives_up-call : (o : Option Step) (j : Job) → is_open_if o ≡ false → GivesUp (call_if j o)
+gives_up-call None j h = tt
+gives_up-call (Some x) j h = ((λ e n. absurd (other_step x h e)), λ answer. tt)
+
+gives_up-tap : (o : Option Step) (j : Job) → GivesUp (tap_call_if j o)
+gives_up-tap None j = tt
+gives_up-tap (Some x) j = ((λ e n. refl), λ answer. tt)
+
+gives_up-stream : (stream : List Stamped) (j : Job) → GivesUp (stream_talk stream j)
+unfolding stream_talk
+gives_up-stream [] j = tt
+gives_up-stream (stamped ∷ stream) j =
+    let x : Step = Inject stamped.event stamped.now in
+    ((λ e n. absurd (other_step x refl e)), λ answer. by_flag (is_accepted answer.reply) (after_call j x answer) (gives_up-stream stream (after_call j x answer)))
+  where
+    by_flag : (b : Bool) (k : Job) → GivesUp (stream_talk stream k) → GivesUp (if b then stream_talk stream k else finish (Some k))
+    by_flag true k more = more
+    by_flag false k more = tt
+
+-- Lines
+
+gives_up-source : (streams : List (List Stamped)) (command : Command) (j : Job) → is_command_of Source command ≡ true → GivesUp (source_talk streams command j)
+gives_up-source streams (Stream file index) j h = gives_up-stream (stream_at streams index) j
+gives_up-source streams Open j h = absurd cc
+gives_up-source streams command j h = gives_up-call (step_of NO_CLIENT command) j refl
+
+gives_up-client : (d : Description) (wait : Option Waiting) (n : ℕ) (command : Command) (j : Job) → GivesUp (client_talk d wait n command j)
+gives_up-client d wait n Open j = gives_up-start d j
+gives_up-client d wait n (Next count) j = no_open-gives_up (hand_talk d None false (Some count) n j) (no_open-hand d None false (Some count) n j)
+gives_up-client d wait n (Skip count) j = no_open-gives_up (hand_talk d None true (Some count) n j) (no_open-hand d None true (Some count) n j)
+gives_up-client d wait n Follow j = no_open-gives_up (hand_talk d wait false None n j) (no_open-hand d wait false None n j)
+gives_up-client d wait n Force j = tt
+gives_up-client d wait n command j = gives_up-call (step_of j.reading.client command) j refl
+
+gives_up-command : (role : Role) (d : Description) (streams : List (List Stamped)) (wait : Option Waiting) (n : ℕ) (command : Command) (j : Job) → is_command_of role command ≡ true → GivesUp (command_talk role d streams wait n command j)
+gives_up-command Source d streams wait n command j h = gives_up-source streams command j h
+gives_up-command Client d streams wait n command j h = gives_up-client d wait n command j
+gives_up-command Tap d streams wait n command j h = gives_up-tap (step_of j.reading.client command) j
+
+pub gives_up-line : (role : Role) (d : Description) (streams : List (List Stamped)) (wait : Option Waiting) (n : ℕ) (command : Command) (j : Job) → is_command_of role command ≡ true → GivesUp (line_talk role d streams wait n command j)
+unfolding line_talk
+gives_up-line role d streams wait n command j h = by_stop j.stop
+  where
+    by_stop : (stop : Option Stop) → GivesUp (unless_stopped stop j (command_talk role d streams wait n command j))
+    by_stop None = gives_up-command role d streams wait n command j h
+    by_stop (Some stop) = tt

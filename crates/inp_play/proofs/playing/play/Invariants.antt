@@ -1,0 +1,5 @@
+use Rattle.inp_play.specs.Player.{HasDone}
+use Rattle.inp_play.proofs.playing.play.Given as goal
+
+abbrev pub invariant-loop-line : goal.invariant-loop-line
+invariant-loop-line l = HasDone l.rec l.line l.player

@@ -1,0 +1,86 @@
+-- What a job's view is at each report that it took (docs/RULES.md, "What a sight tells of the device").
+use Rattle.std.specs.Prelude.{ℕ, suc, ◌≡◌, ◌<◌, pos, true, List, [], ◌∷◌, map, take, reverse, slice_get, slice_index_or, Some}
+use Rattle.inp_model.specs.declared.taken.Taken.{Taken}
+use Rattle.inp_model.specs.declared.step.Step.{Step}
+use Rattle.inp_model.specs.Description.{Description}
+use Rattle.inp_model.specs.Event.{is_report}
+use Rattle.inp_model.specs.Frame.{Frame}
+use Rattle.inp_model.specs.Queue.{took}
+use Rattle.inp_model.specs.Reply.{taken_of}
+use Rattle.inp_actors.specs.declared.role.Role.{Role}
+use Rattle.inp_actors.specs.declared.role.Role.TheVariants.{Source, Client, Tap}
+use Rattle.inp_recon.specs.declared.view.View.{View}
+use Rattle.inp_recon.specs.View.{first_view}
+use Rattle.inp_recon.specs.ClientView.{past_before_read, read_up_to, view_at}
+use Rattle.inp_recon.specs.Faithful.{IsReportAt, IsFollowed, IsDeviceState}
+use Rattle.inp_recon.specs.Synchronised.{has_axis, is_synchronised}
+use Rattle.inp_reader.specs.declared.reader.TheConstants.{NO_CLIENT}
+use Rattle.inp_script.specs.declared.sight.Sight.{Sight}
+use Rattle.inp_script.specs.declared.sight.Sight.TheVariants.{Call, Took, Made, Again}
+use Rattle.inp_script.specs.Fold.{Folding, settled, asking, tap_fold, client_fold}
+use Rattle.inp_script.specs.Line.{client_after}
+
+-- a sight goes on from this client
+abbrev pub client_after_entry : ℕ → Sight → ℕ
+client_after_entry client (Call x reply) = client_after x reply client
+client_after_entry client (Took taken) = client
+client_after_entry client (Made event) = client
+client_after_entry client (Again at ends) = client
+
+unfoldable pub client_after_sight : ℕ → List Sight → ℕ
+client_after_sight client [] = client
+client_after_sight client (entry ∷ sight) = client_after_sight (client_after_entry client entry) sight
+
+-- the client that a job reads as after this sight: the one that it opened last
+abbrev pub reads_as : List Sight → ℕ
+reads_as sight = client_after_sight NO_CLIENT sight
+
+-- while not all queries are answered the view is the one before them
+abbrev pub folded_view : Folding → View
+folded_view (settled view) = view
+folded_view (asking old new xs) = old
+
+-- what a sight of this role says that the device is
+abbrev pub sight_view : Role → Description → List Step → List Sight → View
+sight_view Source d history sight = first_view d
+sight_view Tap d history sight = tap_fold d history (first_view d) sight
+sight_view Client d history sight = folded_view (client_fold d history (settled (first_view d)) sight)
+
+-- Two views agree in each key, switch and LED, in each supported axis outside 0x2f to 0x3d, and in all values of all
+-- slots and in the current slot.
+pub record AgreesIn (d : Description) (v w : View) : Type 0 where
+  pub keys : v.keys ≡ w.keys
+  pub switches : v.switches ≡ w.switches
+  pub leds : v.leds ≡ w.leds
+  pub axes : (code : ℕ) → has_axis d code ≡ true → slice_index_or v.axes code (pos 0) ≡ slice_index_or w.axes code (pos 0)
+  pub cells : v.cells ≡ w.cells
+  pub slot : 0 < d.slots → v.slot ≡ w.slot
+
+-- An event is one of those that a client took, and where the client is synchronised then, this view agrees with the
+-- client's view in the history. A history is written newest first, and is called a past.
+pub record ShowsAt (d : Description) (past : List Step) (client : ℕ) (taken : Taken) (view : View) : Type 0 where
+  -- which of the events that the client took
+  pub index : ℕ
+  pub is_taken : slice_get (map taken_of (took d past client)) index ≡ Some taken
+  pub agrees : is_synchronised d (past_before_read d past client index) client (read_up_to d past client index) ≡ true
+      → AgreesIn d view (view_at d past client index)
+
+-- the same of the last event of a sight, and of the client that the job reads as then
+abbrev pub IsSeenAt : Description → List Step → Role → List Sight → Taken → Type 0
+IsSeenAt d history role sight taken = ShowsAt d (reverse history) (reads_as sight) taken (sight_view role d history sight)
+
+-- At each report that a job took, its view up to then is the one that its client has in the history.
+abbrev pub AreReportsSeen : Description → List Step → Role → List Sight → Type 0
+AreReportsSeen d history role sight =
+    (k : ℕ) (taken : Taken) → slice_get sight k ≡ Some (Took taken) → is_report taken.event ≡ true
+    → IsSeenAt d history role (take (suc k) sight) taken
+
+-- An event is one of those that a client took, and where it is the report of a frame up to which the client could follow
+-- the device, this view is the device's state at the frame's end.
+pub record ShowsTheState (d : Description) (past : List Step) (client : ℕ) (taken : Taken) (view : View) : Type 0 where
+  pub index : ℕ
+  pub is_taken : slice_get (map taken_of (took d past client)) index ≡ Some taken
+  pub shows : (f : Frame)
+      → IsReportAt (took d past client) index f
+      → IsFollowed d (past_before_read d past client index) client (read_up_to d past client index) f
+      → IsDeviceState d f.cut.until view

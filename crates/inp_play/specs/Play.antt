@@ -1,0 +1,99 @@
+-- What comes of a record whose lines are done in file order, each device answering on one list of steps
+-- (docs/RULES.md, "Playing a record").
+use Rattle.std.specs.Prelude.{◌≡◌, ℕ, List, [], ◌∷◌, map, filter, reverse, slice_get, slice_set, slice_index_or, Option, Some, None, option_map, option_and_then}
+use Rattle.std.specs.List.{enumerate_from}
+use Rattle.inp_model.specs.declared.step.Step.{Step}
+use Rattle.inp_model.specs.Description.{Description}
+use Rattle.inp_model.specs.Reply.{answer, past_after}
+use Rattle.inp_caps.specs.Builder.{syn_alone}
+use Rattle.inp_actors.specs.declared.actor_text.ActorText.{ActorText}
+use Rattle.inp_actors.specs.declared.line.Line.{Line}
+use Rattle.inp_actors.specs.Record.{RecordView}
+use Rattle.inp_reader.specs.Talk.{Talk, finish, ask}
+use Rattle.inp_script.specs.declared.run.Run.{Run}
+use Rattle.inp_script.specs.Doing.{line_talk}
+use Rattle.inp_script.specs.Job.{Job, ActorView, first_job, job_end}
+use Rattle.inp_script.specs.Runs.{is_on_device}
+
+-- what stands between two lines
+pub record Stage : Type 0 where
+  -- the steps that each device accepted, newest first
+  pub pasts : List (List Step)
+  -- each actor, with what it did so far
+  pub actors : List ActorView
+
+-- A talk with the one-thread device after this past: its result, and the past behind it.
+unfoldable pub talk_with : {A : Type 0} → Description → List Step → Talk A → A × List Step
+talk_with d past (finish a) = (a, past)
+talk_with d past (ask x rest) = talk_with d (past_after (answer d past x).reply x past) (rest (answer d past x))
+
+-- the description of the device of this number; each actor of a record is one of a device
+abbrev pub description_at : RecordView → ℕ → Description
+description_at r device = slice_index_or (map (λ text. text.caps) r.devices) device syn_alone
+
+-- an actor with its number, before its first line
+abbrev pub first_actor : RecordView → ℕ × ActorText → ActorView
+first_actor r numbered = record {
+  actor = numbered.0;
+  role = numbered.1.role;
+  description = description_at r numbered.1.device;
+  job = first_job (description_at r numbered.1.device);
+}
+
+-- before the first line: no device accepted a step
+abbrev pub first_stage : RecordView → Stage
+first_stage r = record {
+  pasts = map (λ text. []) r.devices;
+  actors = map (first_actor r) (enumerate_from 0 r.actors);
+}
+
+-- the stage behind a line of this actor, by what came of its talk with the device of this number
+abbrev pub after_talk : Stage → ℕ → ActorView → Option Job × List Step → Option Stage
+after_talk stage device a done = option_map (λ job. record {
+  pasts = slice_set stage.pasts device done.1;
+  actors = slice_set stage.actors a.actor (record a { job = job });
+}) done.0
+
+-- The actor does the line on its device, in at most so many rounds. Nobody waits.
+abbrev pub after_line_of : RecordView → ℕ → Stage → Line → ℕ → ActorView → List Step → Option Stage
+after_line_of r rounds stage line device a past =
+    after_talk stage device a (talk_with a.description past (line_talk a.role a.description r.streams None rounds line.command a.job))
+
+-- the stage behind a line, where so many rounds are enough for it
+unfoldable pub after_line : RecordView → ℕ → Stage → Line → Option Stage
+after_line r rounds stage line =
+    option_and_then (λ text. option_and_then (λ a. option_and_then (λ past.
+    after_line_of r rounds stage line text.device a past)
+    (slice_get stage.pasts text.device)) (slice_get stage.actors line.actor)) (slice_get r.actors line.actor)
+
+-- the stage behind lines, in file order
+unfoldable pub after_lines : RecordView → ℕ → Stage → List Line → Option Stage
+after_lines r rounds stage [] = Some stage
+after_lines r rounds stage (line ∷ lines) = option_and_then (λ now. after_lines r rounds now lines) (after_line r rounds stage line)
+
+-- what came of the actors of the device of this number, in order
+abbrev pub jobs_on : RecordView → List ActorView → ℕ → List ActorView
+jobs_on r actors device = filter (λ a. is_on_device device (slice_get r.actors a.actor)) actors
+
+-- what came of a device, with its number
+abbrev pub run_of : RecordView → Stage → ℕ × List Step → Run
+run_of r stage numbered = record {
+  history = reverse numbered.1;
+  jobs = map job_end (jobs_on r stage.actors numbered.0);
+}
+
+abbrev pub runs_of : RecordView → Stage → List Run
+runs_of r stage = map (run_of r stage) (enumerate_from 0 stage.pasts)
+
+-- what comes of a record, where so many rounds are enough for each of its lines
+unfoldable pub play : ℕ → RecordView → Option (List Run)
+play rounds r = option_map (runs_of r) (after_lines r rounds (first_stage r) r.lines)
+
+-- These runs come of the record. How many rounds are tried makes no difference once they are enough.
+pub record IsPlay (r : RecordView) (runs : List Run) : Type 0 where
+  pub rounds : ℕ
+  pub plays : play rounds r ≡ Some runs
+
+-- at most one list of runs comes of a record
+abbrev pub HasOnePlay : Type 0
+HasOnePlay = (r : RecordView) (runs others : List Run) → IsPlay r runs → IsPlay r others → runs ≡ others

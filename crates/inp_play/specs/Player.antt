@@ -1,0 +1,70 @@
+-- The devices and the actors of a record at work.
+use Rattle.std.specs.Prelude.{◌≡◌, ℕ, List, [], ◌∷◌, ◌++◌, length, map, take, reverse, slice_get, slice_set, Some}
+use Rattle.std.specs.List.{enumerate_from}
+use Rattle.inp_model.specs.declared.step.Step.{Step}
+use Rattle.inp_model.specs.DeviceView.{DeviceView}
+use Rattle.inp_actors.specs.declared.device_text.DeviceText.{DeviceText}
+use Rattle.inp_actors.specs.declared.line.Line.{Line}
+use Rattle.inp_actors.specs.Record.{RecordView}
+use Rattle.inp_script.specs.declared.run.Run.{Run}
+use Rattle.inp_script.specs.Doing.{HasActor}
+use Rattle.inp_script.specs.Job.{ActorView, JobView}
+use Rattle.inp_play.specs.declared.player.Player.{Player}
+use Rattle.inp_play.specs.Play.{Stage, first_actor, first_stage, after_line, after_lines}
+
+abbrev pub pasts_of : List DeviceView → List (List Step)
+pasts_of devices = map (λ (device : DeviceView). device.past) devices
+
+-- what stands between two lines, by the devices and the actors
+abbrev pub stage_with : List DeviceView → List ActorView → Stage
+stage_with devices actors = record { pasts = pasts_of devices; actors = actors }
+
+abbrev pub stage_of : Player → Stage
+stage_of p = stage_with p.devices.items p.actors.items
+
+-- a device that accepted no step
+abbrev pub first_device : DeviceText → DeviceView
+first_device text = record { description = text.caps; past = []; agains = 0 }
+
+-- the actors of a record, before the first line
+abbrev pub first_actors : RecordView → List ActorView
+first_actors r = map (first_actor r) (enumerate_from 0 r.actors)
+
+-- there is a device for each of the record, of its description
+abbrev pub HasDevices : RecordView → List DeviceView → Type 0
+HasDevices r devices = map (λ (device : DeviceView). device.description) devices ≡ map (λ (text : DeviceText). text.caps) r.devices
+
+-- There is an actor for each of the record, in order.
+pub record HasActors (r : RecordView) (actors : List ActorView) : Type 0 where
+  pub count : length actors ≡ length r.actors
+  pub each : (i : ℕ) (a : ActorView) → slice_get actors i ≡ Some a → (a.actor ≡ i) × HasActor r a
+
+-- The devices and the actors are those of the record.
+pub record IsPlayer (r : RecordView) (p : Player) : Type 0 where
+  pub devices : HasDevices r p.devices.items
+  pub actors : HasActors r p.actors.items
+
+-- The line of this number was done, in some number of rounds.
+pub record DoesOn (r : RecordView) (number : ℕ) (old new : Player) : Type 0 where
+  pub line : Line
+  pub is_line : slice_get r.lines number ≡ Some line
+  pub rounds : ℕ
+  pub does : after_line r rounds (stage_of old) line ≡ Some (stage_of new)
+
+-- So many lines were done, in file order, each in some number of rounds.
+pub record HasDone (r : RecordView) (count : ℕ) (p : Player) : Type 0 where
+  pub player : IsPlayer r p
+  pub rounds : ℕ
+  pub does : after_lines r rounds (first_stage r) (take count r.lines) ≡ Some (stage_of p)
+
+-- a run with one job more
+abbrev pub with_job : Run → JobView → Run
+with_job run job = record run { jobs = run.jobs ++ job ∷ [] }
+
+-- a device's run before the jobs are there
+abbrev pub first_run : DeviceView → Run
+first_run device = record { history = reverse device.past; jobs = [] }
+
+-- The run of this number has one job more.
+abbrev pub HasJobMore : List Run → List Run → ℕ → JobView → Type 0
+HasJobMore old new device job = (run : Run) → slice_get old device ≡ Some run → new ≡ slice_set old device (with_job run job)

@@ -1,0 +1,103 @@
+//! The devices and the actors of a record at work.
+ghost use Rattle.std.specs.Prelude.{◌≡◌, ◌<◌, length, map, OnOk, IfOk};
+ghost use Rattle.inp_play.specs.Play.{first_stage, runs_of};
+ghost use Rattle.inp_play.specs.Player.{stage_of, first_device, first_actors, HasActors, IsPlayer, DoesOn, first_run, HasJobMore};
+
+use inp_actors::Record;
+use inp_device::Device;
+use inp_model::NoMemory;
+use inp_script::{Actor, JobEnd, Jobs, Run, Runs};
+use std::alloc::Global;
+
+/// The devices and the actors of a record, each in file order, with what they did so far.
+#[derive(Drop)]
+pub(crate) struct Player {
+    devices: Vec<Device>,
+    actors: Vec<Actor>,
+}
+
+impl Player {
+    // The devices and the actors of a record before its first line.
+    pub(crate) fn new(alloc: Global, rec: &Record) -> Result<Player, NoMemory>
+        ensures player { IfOk result (IsPlayer rec.now) }
+        ensures stage { IfOk result (λ player. stage_of player ≡ first_stage rec.now) }
+    {
+        Ok(Player {
+            devices: first_devices(alloc, rec)?,
+            actors: first_actors(alloc, rec)?,
+        })
+    }
+
+    // Has its actor do the line of this number on its device.
+    pub(crate) fn line(&mut self, rec: &Record, line: u32) -> Result<(), NoMemory>
+        requires player { IsPlayer rec.now self.old }
+        requires line { line < length rec.now.lines }
+        ensures done { OnOk result (DoesOn rec.now line self.old self.new) }
+        ensures player { OnOk result (IsPlayer rec.now self.new) }
+    {
+        let actor = rec.lines().get(line as usize).actor;
+        let device = rec.actors().get(actor as usize).device;
+        self.actors[actor as usize].line(&mut self.devices[device as usize], rec, line, None)
+    }
+
+    // What came of the devices and of the actors.
+    pub(crate) fn finish(self, alloc: Global, rec: &Record) -> Result<Runs, NoMemory>
+        requires player { IsPlayer rec.now self }
+        ensures runs { IfOk result (λ runs. runs ≡ runs_of rec.now (stage_of self)) }
+    {
+        let Player { devices, actors } = self;
+        let mut runs = histories(alloc, devices)?;
+        for actor in actors {
+            let job = actor.finish();
+            let device = rec.actors().get(job.actor() as usize).device;
+            push_job(&mut runs, device as usize, job)?;
+        }
+        Ok(Runs::of(runs))
+    }
+}
+
+// The devices of a record before its first line.
+fn first_devices(alloc: Global, rec: &Record) -> Result<Vec<Device>, NoMemory>
+    ensures { IfOk result (λ devices. devices.items ≡ map first_device rec.now.devices) }
+{
+    let mut devices = Vec::new(alloc);
+    for device in rec.devices().as_slice() {
+        devices.push(Device::new(alloc, device.caps.copy())?)?;
+    }
+    Ok(devices)
+}
+
+// The actors of a record before its first line.
+fn first_actors(alloc: Global, rec: &Record) -> Result<Vec<Actor>, NoMemory>
+    ensures first { IfOk result (λ actors. actors.items ≡ first_actors rec.now) }
+    ensures actors { IfOk result (λ actors. HasActors rec.now actors.items) }
+{
+    let mut actors = Vec::new(alloc);
+    for actor in 0..rec.actors().len() as u32 {
+        actors.push(Actor::new(alloc, rec, actor)?)?;
+    }
+    Ok(actors)
+}
+
+// The runs of devices that no actor works on any more, as yet without jobs.
+fn histories(alloc: Global, devices: Vec<Device>) -> Result<Vec<Run>, NoMemory>
+    ensures { IfOk result (λ runs. runs.items ≡ map first_run devices.items) }
+{
+    let mut runs = Vec::new(alloc);
+    for device in devices {
+        runs.push(Run {
+            history: device.into_history(),
+            jobs: Jobs::new(alloc),
+        })?;
+    }
+    Ok(runs)
+}
+
+// Adds a job at the end of the run of this number.
+fn push_job(runs: &mut Vec<Run>, device: usize, job: JobEnd) -> Result<(), NoMemory>
+    requires { device < length runs.old.items }
+    ensures { OnOk result (HasJobMore runs.old.items runs.new.items device job) }
+{
+    runs[device].jobs.push(job)?;
+    Ok(())
+}

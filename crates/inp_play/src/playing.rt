@@ -1,0 +1,27 @@
+//! Playing a record on one thread.
+ghost use Rattle.std.specs.Prelude.{IfOk};
+ghost use Rattle.inp_play.specs.Job.{ArePromised};
+ghost use Rattle.inp_play.specs.Play.{IsPlay};
+
+use crate::descriptions::look_at_descriptions;
+use crate::player::Player;
+use inp_actors::Record;
+use inp_model::NoMemory;
+use inp_script::Runs;
+use std::alloc::Global;
+
+/// Does the lines of a record in file order, each by its actor on its device, and gives what came of the devices.
+///
+/// It takes the memory of each device's history, of the actors, and of what they see. `NoMemory` comes where there is
+/// none, and no run is given then.
+pub fn play(alloc: Global, rec: &Record) -> Result<Runs, NoMemory>
+    ensures runs { IfOk result (IsPlay rec.now) }
+    ensures promised { IfOk result (ArePromised rec.now) }
+{
+    look_at_descriptions(rec);
+    let mut player = Player::new(alloc, rec)?;
+    for line in 0..rec.lines().len() as u32 {
+        player.line(rec, line)?;
+    }
+    player.finish(alloc, rec)
+}
