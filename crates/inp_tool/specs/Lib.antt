@@ -1,11 +1,7 @@
-pub mod Name
-pub mod Numeral
-pub mod Record
-pub mod RecordExamples
-pub mod Line
-pub mod Play
-pub mod Job
-pub mod Report
-pub mod Player
+pub mod Edge
+pub mod Streams
 pub mod Outcome
+pub mod Reading
+pub mod Loading
 pub mod Promise
+pub mod Complete

@@ -1,155 +1,104 @@
--- What the program's one call promises.
-use Rattle.std.specs.Prelude.{ℕ, ◌≡◌, ◌≤◌, ◌<◌, ◌≢◌, ◌⊎◌, List, [], ◌∷◌, length, string_bytes, Option, Some, None, IfSome, IsSome, Ok, Err}
-use Rattle.inp_edge.specs.Count.{LAST, RoseUnlessSaturated}
-use Rattle.inp_edge.specs.File.{File, IsMissing, HasFile, HasLongerFile}
-use Rattle.inp_edge.specs.Input.{IsAtEnd}
+-- What the program's one call promises (docs/PROMISES.md).
+use Rattle.std.specs.Prelude.{ℕ, ◌≡◌, ◌<◌, ◌≢◌, ◌⊎◌, Bool, List, string_bytes, Some, None}
+use Rattle.inp_edge.specs.Count.{RoseUnlessSaturated}
+use Rattle.inp_edge.specs.File.{IsMissing}
 use Rattle.inp_edge.specs.Sink.{Appends, IsCutOff}
 use Rattle.inp_edge.specs.declared.input.TheConstants.{INPUT_LIMIT}
-use Rattle.inp_model.specs.Description.{one_key}
-use Rattle.inp_tool.specs.declared.refused.Refused.{Refused}
-use Rattle.inp_tool.specs.declared.refused.Cause.TheVariants.{NotBuilt}
-use Rattle.inp_tool.specs.declared.record.Record.{Record}
-use Rattle.inp_tool.specs.declared.run.Run.{Run}
+use Rattle.inp_args.specs.declared.request.Request.TheVariants.{Play, Make}
+use Rattle.inp_args.specs.Request.{requested}
+use Rattle.inp_make.specs.Generated.{generated}
+use Rattle.inp_actors.specs.Record.{RecordView}
+use Rattle.inp_record.specs.declared.refused.Refused.{Refused}
+use Rattle.inp_script.specs.declared.run.Run.{Run}
+use Rattle.inp_play.specs.Play.{IsPlay}
+use Rattle.inp_play.specs.Job.{ArePromised}
+use Rattle.inp_report.specs.Report.{report}
+use Rattle.inp_report.specs.Summary.{summary}
 use Rattle.inp_tool.specs.declared.end.End.{End}
+use Rattle.inp_tool.specs.declared.no_record.NoRecord.{NoRecord}
 use Rattle.inp_tool.specs.declared.outcome.Outcome.{Outcome}
 use Rattle.inp_tool.specs.declared.outcome.Outcome.TheVariants.{Usage, Unread, TooLong, Refused as IsRefused, NoMemory, Played}
-use Rattle.inp_tool.specs.Record.{meaning}
-use Rattle.inp_tool.specs.Play.{play}
-use Rattle.inp_tool.specs.Job.{IsRun}
-use Rattle.inp_tool.specs.Report.{report}
+use Rattle.inp_tool.specs.Edge.{Reads, Writes, KeepsInputFaults, KeepsSinkFaults}
 use Rattle.inp_tool.specs.Outcome.{refused_text, text_of, status_of, refused_of, runs_of}
+use Rattle.inp_tool.specs.Reading.{HasUnread, HasTooLong, HasBadText, HasBadStream, HasRecord, HasNoRecord, RanOut}
 
--- what an input tells besides its files: how many bytes were given since a file was begun, the bytes
--- that are left of it, and how often a call was at fault
-pub record InputView : Type 0 where
-  pub given : ℕ
-  pub left : Option (List ℕ)
-  pub faults : ℕ
+-- words, and what is in them
+abbrev pub Words : Type 0
+Words = List (List ℕ)
 
--- what a sink tells: the bytes written, and how often a call was at fault
-pub record SinkView : Type 0 where
-  pub written : Option (List ℕ)
-  pub faults : ℕ
+-- the words ask for the record in this file, with the history or without
+abbrev pub AskFor : Words → List ℕ → Bool → Type 0
+AskFor words file history = requested words ≡ Some (Play file history)
 
--- what a call was given to read: its words, the files of its input, and what else the input tells
--- before the call and after it
-pub record Reads : Type 0 where
-  pub words : List (List ℕ)
-  pub files : Option (List File)
-  pub before : InputView
-  pub after : InputView
-
--- what became of the call's output: what the sink tells before the call and after it
-pub record Writes : Type 0 where
-  pub before : SinkView
-  pub after : SinkView
-
--- by what an input and a sink tell, the input as it was before the call and as it is after it
-abbrev pub reads_of : {I : Type 0}
-    → (I → Option (List File)) → (I → ℕ) → (I → Option (List ℕ)) → (I → ℕ)
-    → List (List ℕ) → I → I → Reads
-reads_of files given left faults words old new = record {
-  words = words;
-  files = files old;
-  before = record { given = given old; left = left old; faults = faults old };
-  after = record { given = given new; left = left new; faults = faults new };
-}
-
-abbrev pub writes_of : {O : Type 0} → (O → Option (List ℕ)) → (O → ℕ) → O → O → Writes
-writes_of written faults old new = record {
-  before = record { written = written old; faults = faults old };
-  after = record { written = written new; faults = faults new };
-}
-
--- no call of the input was at fault
-abbrev pub KeepsInputFaults : Reads → Type 0
-KeepsInputFaults r = r.after.faults ≡ r.before.faults
-
--- no call of the sink was at fault
-abbrev pub KeepsSinkFaults : Writes → Type 0
-KeepsSinkFaults w = w.after.faults ≡ w.before.faults
-
--- the one word names a file that was begun, and no call of the input was at fault
-pub record IsBegun (r : Reads) (name : List ℕ) : Type 0 where
-  pub words : r.words ≡ name ∷ []
-  pub found : ¬ (IsMissing r.files name)
-  pub no_fault : KeepsInputFaults r
-
--- the file of this name was read to its end, and these are its bytes
-pub record IsRead (r : Reads) (name bytes : List ℕ) : Type 0 where
-  pub begun : IsBegun r name
-  pub counted : length bytes ≡ r.after.given
-  pub within : r.after.given ≤ INPUT_LIMIT
-  pub ended : IsAtEnd r.after.left
-  pub whole : IfSome r.after.left (λ _. HasFile r.files name bytes)
-
--- the words are not one word, and the input is untouched: given, left and faults are as before
-pub record IsUsage (r : Reads) : Type 0 where
-  pub words : (name : List ℕ) → r.words ≡ name ∷ [] → ⊥
+-- The words are not accepted, and the input is as it was.
+pub record IsUsage (words : Words) (r : Reads) : Type 0 where
+  pub refused : requested words ≡ None
   pub untouched : r.after ≡ r.before
 
--- the input was at fault, or no file has this name
-pub record IsUnread (r : Reads) : Type 0 where
-  pub name : List ℕ
-  pub words : r.words ≡ name ∷ []
-  pub fault : RoseUnlessSaturated r.before.faults r.after.faults ⊎ IsMissing r.files name
+-- FILE was not read, or the file of one of its stream lines
+pub record IsUnread (words : Words) (r : Reads) : Type 0 where
+  pub file : List ℕ
+  pub history : Bool
+  pub asked : AskFor words file history
+  pub unread : HasUnread r file
 
--- more bytes were given than an input may have, and the file has more
-pub record IsTooLong (r : Reads) : Type 0 where
-  pub name : List ℕ
-  pub begun : IsBegun r name
-  pub given : INPUT_LIMIT < r.after.given
-  pub longer : IfSome r.after.left (λ _. HasLongerFile r.files name INPUT_LIMIT)
+-- FILE is too long, or the file of one of its stream lines
+pub record IsTooLong (words : Words) (r : Reads) : Type 0 where
+  pub file : List ℕ
+  pub history : Bool
+  pub asked : AskFor words file history
+  pub too_long : HasTooLong r file
 
--- the bytes break the form of a record, first in this line
-pub record IsBrokenText (bytes : List ℕ) (refused : Refused) (text : List ℕ) : Type 0 where
-  pub line : meaning bytes ≡ Err refused.line
-  pub cause : refused.cause ≡ NotBuilt
-  pub says : text ≡ refused_text refused.line
+-- FILE was read, and is no record: by its text, or by a stream where the text is right and the streams before it are
+pub record IsNoRecord (words : Words) (r : Reads) (refused : Refused) (text : List ℕ) : Type 0 where
+  pub file : List ℕ
+  pub history : Bool
+  pub asked : AskFor words file history
+  pub why : HasBadText r file refused ⊎ HasBadStream r file refused
+  pub says : text ≡ refused_text refused
 
--- The bytes are a record. What came of its device is a run: one history, each job's replies the
--- one-thread device's at their places in it, each sight following its lines. The lines were done in
--- file order, and the text is the report.
-pub record IsPlayedText (bytes : List ℕ) (runs : List Run) (text : List ℕ) : Type 0 where
-  pub recorded : Record
-  pub means : meaning bytes ≡ Ok recorded
-  pub run : Run
-  pub one_run : runs ≡ run ∷ []
-  pub promised : IsRun one_key recorded.lines run
-  pub in_order : runs ≡ play recorded
-  pub says : text ≡ report recorded runs
+-- memory ran out, and nothing was at fault before: the input is as it was, or no file was too long
+abbrev pub IsOutOfMemory : Reads → Type 0
+IsOutOfMemory r = (r.after ≡ r.before) ⊎ RanOut r
 
--- a file was read whose bytes break the form of a record
-pub record IsBroken (r : Reads) (refused : Refused) (text : List ℕ) : Type 0 where
-  pub name : List ℕ
-  pub bytes : List ℕ
-  pub read : IsRead r name bytes
-  pub broken : IsBrokenText bytes refused text
+-- What came of a record: each job's replies are the one-thread device's at their places in one history, its sight follows
+-- its lines, and each place of the history is in one sight (`inp_play`). The lines were done in file order.
+pub record CameOf (recorded : RecordView) (runs : List Run) : Type 0 where
+  pub promised : ArePromised recorded runs
+  pub in_order : IsPlay recorded runs
 
--- a file was read whose bytes are a record, and its lines were done
-pub record IsPlayed (r : Reads) (runs : List Run) (text : List ℕ) : Type 0 where
-  pub name : List ℕ
-  pub bytes : List ℕ
-  pub read : IsRead r name bytes
-  pub played : IsPlayedText bytes runs text
+-- the record in FILE was read with its streams and played, and the text is its report
+pub record IsPlayed (words : Words) (r : Reads) (runs : List Run) (text : List ℕ) : Type 0 where
+  pub file : List ℕ
+  pub history : Bool
+  pub asked : AskFor words file history
+  pub recorded : RecordView
+  pub read : HasRecord r file recorded
+  pub came : CameOf recorded runs
+  pub says : text ≡ report recorded runs history
 
--- what bytes lead to
-abbrev pub HasText : List ℕ → Outcome → Type 0
-HasText bytes Usage = ⊥
-HasText bytes Unread = ⊥
-HasText bytes TooLong = ⊥
-HasText bytes (IsRefused refused text) = IsBrokenText bytes refused (string_bytes text)
-HasText bytes NoMemory = Unit {0}
-HasText bytes (Played runs text) = IsPlayedText bytes runs (string_bytes text)
+-- the record was made from two numbers and played, the text is its summary, and the input is as it was
+pub record IsMade (words : Words) (r : Reads) (runs : List Run) (text : List ℕ) : Type 0 where
+  pub number : ℕ
+  pub count : ℕ
+  pub asked : requested words ≡ Some (Make number count)
+  pub untouched : r.after ≡ r.before
+  pub came : CameOf (generated number count) runs
+  pub says : text ≡ summary number count (generated number count) runs
 
 -- Each outcome has its cause. Memory may run out anywhere, but never in place of a fault.
-abbrev pub HasCause : Reads → Outcome → Type 0
-HasCause r Usage = IsUsage r
-HasCause r Unread = IsUnread r
-HasCause r TooLong = IsTooLong r
-HasCause r (IsRefused refused text) = IsBroken r refused (string_bytes text)
-HasCause r NoMemory = KeepsInputFaults r
-HasCause r (Played runs text) = IsPlayed r runs (string_bytes text)
+abbrev pub HasCause : Words → Reads → Outcome → Type 0
+HasCause words r Usage = IsUsage words r
+HasCause words r Unread = IsUnread words r
+HasCause words r TooLong = IsTooLong words r
+HasCause words r (IsRefused refused text) = IsNoRecord words r refused (string_bytes text)
+HasCause words r NoMemory = IsOutOfMemory r
+HasCause words r (Played runs text) = IsPlayed words r runs text.items ⊎ IsMade words r runs text.items
+
+-- the outcome where FILE gave no record for this reason
+abbrev pub IsOutcomeOf : NoRecord → Outcome → Type 0
+IsOutcomeOf why found = (words : Words) (r : Reads) (file : List ℕ) (history : Bool)
+    → AskFor words file history → HasNoRecord r file why → HasCause words r found
 
 -- the status of an outcome whose text was written, with what goes with it
 pub record IsEnd (found : Outcome) (end : End) : Type 0 where
@@ -174,40 +123,20 @@ pub record IsWrittenInPart (w : Writes) (found : Outcome) (end : End) : Type 0 w
 abbrev pub IsWritten : Writes → Outcome → End → Type 0
 IsWritten w found end = IsWrittenWhole w found end ⊎ IsWrittenInPart w found end
 
-pub record Promise (r : Reads) (w : Writes) (end : End) : Type 0 where
+-- something was found that has its cause, and it was told
+pub record Promise (words : Words) (r : Reads) (w : Writes) (end : End) : Type 0 where
   pub found : Outcome
-  pub cause : HasCause r found
+  pub cause : HasCause words r found
   pub written : IsWritten w found end
 
--- No fault is hidden. A call of the input that was at fault ends in status 3, a call of the sink in
--- status 4. With 4 the text may be that of any outcome.
-pub record HidesNoFault (r : Reads) (w : Writes) (end : End) : Type 0 where
+-- No fault is hidden. A call of the input that was at fault ends in status 3, a call of the sink in status 4. With 4 the
+-- text may be that of any outcome.
+pub record HidesNoFault (words : Words) (r : Reads) (w : Writes) (end : End) : Type 0 where
   pub input : end.status ≢ 3 → end.status ≢ 4 → KeepsInputFaults r
   pub sink : end.status ≢ 4 → KeepsSinkFaults w
-  -- so does a name that no file has, unless memory ran out
-  pub missing : (name : List ℕ) → r.words ≡ name ∷ [] → IsMissing r.files name
+  -- so does a FILE that is not there, unless memory ran out
+  pub missing : (file : List ℕ) (history : Bool) → AskFor words file history → IsMissing r.files file
       → (end.status ≡ 3) ⊎ (end.status ≡ 4) ⊎ (end.status ≡ 5)
-
--- a count that can rise and did not
-abbrev pub IsFaultless : ℕ → ℕ → Type 0
-IsFaultless before after = (before < LAST) × (after ≡ before)
-
--- a file that is there, of a length within the limit, in an input that tells its bytes
-pub record IsReadable (r : Reads) (name bytes : List ℕ) : Type 0 where
-  pub words : r.words ≡ name ∷ []
-  pub file : (files : List File) × (r.files ≡ Some files) × HasFile (Some files) name bytes
-  pub told : IsSome r.before.left
-  pub within : length bytes ≤ INPUT_LIMIT
-
--- the report was written, and nothing else is told
-pub record IsReported (w : Writes) (recorded : Record) (end : End) : Type 0 where
-  pub status : end.status ≡ 0
-  pub runs : end.runs ≡ play recorded
-  pub written : Appends (report recorded (play recorded)) w.before.written w.after.written
-
--- One word, a file that is there within the limit, a record, and no fault: its report, or want of memory.
-abbrev pub IsComplete : Reads → Writes → End → Type 0
-IsComplete r w end =
-    (name bytes : List ℕ) (recorded : Record) → IsReadable r name bytes → meaning bytes ≡ Ok recorded
-    → IsFaultless r.before.faults r.after.faults → IsFaultless w.before.faults w.after.faults
-    → (end.status ≡ 5) ⊎ IsReported w recorded end
+  -- and a file that has more bytes than an input may have ends in status 7, unless its text was cut off
+  pub too_long : (file : List ℕ) (history : Bool) → AskFor words file history → r.after ≢ r.before → INPUT_LIMIT < r.after.given
+      → (end.status ≡ 7) ⊎ (end.status ≡ 4)

@@ -1,42 +1,42 @@
-//! From a recorded device to the report of what its clients saw.
+//! The program's one call: from words and files to the report of what came of a record.
 //!
-//! This crate is for the program and for tests: `inputplay` is the program's one call. It stands on `inp_edge` (input,
-//! sink and gate), `inp_model` (types and definitions), `inp_codes` (the names of types and codes), `inp_caps` (the
-//! program's keyboard), `inp_device` (the one-thread device) and `inp_recon` (a client's view, with `inp_bits` for its
-//! keys).
+//! This crate is for the program and for tests: [`inputplay`] is the program's one call. It stands on `inp_edge` (input,
+//! sink and gate), `inp_args` (words), `inp_record` (a record's text and its streams), `inp_make` (records that are made
+//! from numbers), `inp_play` (playing) and `inp_report` (the report and the summary). [`make`] and [`play`] are handed on.
 //!
-//! What the call promises stands in `specs/Promise.antt`, as clauses of `inputplay` itself: each status has its cause, and
-//! no fault of the input or the sink is hidden; with status 0 the bytes read are a record (`specs/Record.antt`), its
-//! lines were done in file order on one list of steps (`specs/Play.antt`), each job's replies are the one-thread device's
-//! at their places in one history, none of them is want of memory, and its sight follows its lines (`specs/Job.antt`),
-//! and the bytes written are the report (`specs/Report.antt`); one word, a file that is there, a record and no fault
-//! lead to status 0 or to want of memory. `parse` reads a record, and `record_examples` shows what short records mean.
+//! How a call goes: `read_words` says what the words ask for. For a file, `read_record` reads it, and then the files of
+//! its stream lines, in line order (`reading.rt`); for numbers, the record is made. The record is played and its text
+//! written to memory (`playing.rt`). What was found so far is an `Outcome`, which `write_outcome` tells to the sink.
+//!
+//! What the call promises stands in `specs`, as clauses of [`inputplay`] itself:
+//!
+//! - `Promise` (`specs/Promise.antt`): each outcome has its cause (`HasCause`), and its text was written, or a front part
+//!   of it with status 4. With status 0 or 6 the words ask for a file that was read with its streams, each whole where the
+//!   input tells its bytes, and is this record (`HasRecord` of `specs/Reading.antt`), or for a record that is made; of each
+//!   device there is one history, on which each job's replies are the one-thread device's, and each sight follows its
+//!   lines (`ArePromised` of `inp_play`); the runs are those of the lines done in file order (`IsPlay`); and the text is
+//!   their report or summary. With status 1 the line and the cause are the first that the text alone decides, else those
+//!   of the first stream that is at fault.
+//! - `HidesNoFault`: a call of the input or of the sink that was at fault, a file that is not there, and one that is too
+//!   long are told by the status.
+//! - `IsComplete` (`specs/Complete.antt`): a file that is there with its streams and is a record, or numbers to make one
+//!   of, and no fault lead to the whole report or summary, with status 6 exactly where a job stopped since a history was
+//!   full and else 0, or to want of memory. A record that is made never fills a history: it ends with status 0.
+//!
+//! Not said: whether the gate is called (it is not; a test looks).
 #![tactic(auto)]
 
 mod end;
-mod line;
-mod name;
-mod numeral;
+mod no_record;
 mod outcome;
-mod pieces;
-mod player;
-mod reader;
-mod record;
-mod record_theorems;
-mod refused;
-mod report;
-mod run;
-mod sight;
-mod text;
+mod playing;
+mod reading;
+#[cfg(test)]
+mod tests;
+mod texts;
 mod top;
 
 pub use end::End;
-pub use line::{Line, Lines};
-pub use name::Name;
-pub use reader::parse;
-pub use record::Record;
-pub use record_theorems::{record_examples, record_laws};
-pub use refused::{Cause, ParseFault, Refused};
-pub use run::{JobEnd, Jobs, Run, Runs, Stop};
-pub use sight::{Sight, Sights};
+pub use inp_make::make;
+pub use inp_play::play;
 pub use top::inputplay;

@@ -1,61 +1,69 @@
 //! What a call of the program found, before anything is written.
-ghost use Rattle.std.specs.Prelude.{◌≡◌};
-ghost use Rattle.inp_tool.specs.Outcome.{text_of, usage_text, unread_text, too_long_text, no_memory_text};
+ghost use Rattle.std.specs.Prelude.{◌≡◌, IfOk, string_bytes};
+ghost use Rattle.inp_tool.specs.Outcome.{text_of, refused_text};
+ghost use Rattle.inp_tool.specs.Promise.{IsOutcomeOf};
 
-use crate::{Refused, Runs};
+use crate::no_record::NoRecord;
+use crate::texts::{no_memory, too_long, unread};
+use inp_args::usage;
+use inp_model::NoMemory;
+use inp_record::Refused;
+use inp_script::Runs;
+use std::alloc::Global;
 
 /// What a call of the program found, with the text that it is to write.
 #[derive(Drop)]
 pub enum Outcome {
     /// The words are not accepted.
     Usage,
-    /// The file was not read.
+    /// A file was not read.
     Unread,
-    /// The file is too long.
+    /// A file is too long.
     TooLong,
     /// The record has no meaning.
     Refused { refused: Refused, text: String },
     /// Memory ran out.
     NoMemory,
-    /// The record was played.
-    Played { runs: Runs, text: String },
+    /// A record was played.
+    Played { runs: Runs, text: Vec<u8> },
 }
 
 impl Outcome {
     /// The text that it writes.
-    pub fn text(&self) -> &str
+    pub fn text(&self) -> &[u8]
         ensures text { result.now ≡ text_of self.now }
     {
         match self {
-            Outcome::Usage => usage(),
-            Outcome::Unread => unread(),
-            Outcome::TooLong => too_long(),
-            Outcome::NoMemory => no_memory(),
-            Outcome::Refused { text, .. } | Outcome::Played { text, .. } => text.as_str(),
+            Outcome::Usage => usage().as_bytes(),
+            Outcome::Unread => unread().as_bytes(),
+            Outcome::TooLong => too_long().as_bytes(),
+            Outcome::NoMemory => no_memory().as_bytes(),
+            Outcome::Refused { text, .. } => text.as_bytes(),
+            Outcome::Played { text, .. } => text.as_slice(),
         }
     }
 }
 
-fn usage() -> &'static str
-    ensures text { result.now ≡ usage_text }
+/// What is found where there is no record.
+pub(crate) fn without_record(alloc: Global, why: NoRecord) -> Outcome
+    ensures cause { IsOutcomeOf why result }
 {
-    "usage: inputplay [--threads] [--history] [--idle N] FILE, or inputplay --make NUMBER [--count COUNT]\n"
+    match why {
+        NoRecord::Unread => Outcome::Unread,
+        NoRecord::TooLong => Outcome::TooLong,
+        NoRecord::NoMemory => Outcome::NoMemory,
+        NoRecord::Refused(refused) => match refused_text(alloc, refused) {
+            Ok(text) => Outcome::Refused { refused, text },
+            Err(NoMemory) => Outcome::NoMemory,
+        },
+    }
 }
 
-fn unread() -> &'static str
-    ensures text { result.now ≡ unread_text }
+/// The text that tells which line is refused, and why.
+fn refused_text(alloc: Global, refused: Refused) -> Result<String, NoMemory>
+    ensures text { IfOk result (λ text. string_bytes text ≡ refused_text refused) }
 {
-    "inputplay: read failed\n"
-}
-
-fn too_long() -> &'static str
-    ensures text { result.now ≡ too_long_text }
-{
-    "inputplay: input too long\n"
-}
-
-fn no_memory() -> &'static str
-    ensures text { result.now ≡ no_memory_text }
-{
-    "inputplay: out of memory\n"
+    let line = refused.line;
+    let cause = refused.cause.text();
+    Ok(format!(in alloc; "inputplay: line {line}: {cause}\n")?)
 }

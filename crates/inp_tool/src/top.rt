@@ -1,29 +1,31 @@
 //! The program's one call.
-ghost use Rattle.std.specs.Prelude.{◌≡◌, ◌≤◌, List, ℕ, Option, IfOk, map, length, is_some, string_bytes};
-ghost use Rattle.inp_tool.specs.Line.{IsPlayable};
-ghost use Rattle.inp_tool.specs.Play.{play};
-ghost use Rattle.inp_tool.specs.Report.{report};
-ghost use Rattle.inp_tool.specs.Outcome.{refused_text};
-ghost use Rattle.inp_tool.specs.Promise.{reads_of, writes_of, HasCause, IsWritten, Promise, HidesNoFault, IsComplete, HasText, IsEnd};
+ghost use Rattle.std.specs.Prelude.{◌≡◌, ◌≤◌, map, is_some, string_bytes, Some};
+ghost use Rattle.inp_args.specs.Request.{requested};
+ghost use Rattle.inp_tool.specs.Edge.{Reads, reads_of, writes_of};
+ghost use Rattle.inp_tool.specs.Outcome.{played_status};
+ghost use Rattle.inp_tool.specs.Promise.{Words, AskFor, HasCause, IsWritten, Promise, HidesNoFault, IsEnd};
+ghost use Rattle.inp_tool.specs.Complete.{IsComplete};
 
-use crate::outcome::Outcome;
-use crate::player::play;
-use crate::report::report;
-use crate::{End, ParseFault, Record, Refused, Runs, parse};
-use inp_edge::{Failed, Gate, Input, ReadFault, Sink, read_all, write_all};
+use crate::End;
+use crate::outcome::{Outcome, without_record};
+use crate::playing::{has_full, make_and_play, play_and_report};
+use crate::reading::read_record;
+use inp_args::{Request, WordsFault, read_words};
+use inp_edge::{Failed, Gate, Input, Sink, write_all};
 use inp_model::NoMemory;
+use inp_script::Runs;
 use std::alloc::Global;
 
 /// The status where the text could not be written whole.
 const WRITE_FAULT: u8 = 4;
 
-/// Reads the record that the words name, plays its lines in file order and writes the report of what its clients saw
-/// and what they believe.
+/// Reads the record that the words name, with the streams that it names, or makes the one that they ask for; plays it, its
+/// lines in file order, and writes the report or the summary of what its actors saw and what they believe.
 ///
-/// The words are those after the program's name: exactly one, the file's name. In this form the gate is not called.
-/// The statuses of `End` are tried in this order: 2 where the words are not accepted, 3 or 7 for the file, 1 for its
-/// lines, then 4 and 0; 5 may come at any point before the text is complete. Each outcome but 0 and 4 writes a line of
-/// its own, and 4 where that cannot be written whole.
+/// The words are those after the program's name, as `inp_args` reads them. The gate is not called. The statuses of `End`
+/// are tried in this order: 2 where the words are not accepted; 3 or 7 for FILE, and 1 for its lines; stream by stream, in
+/// line order, 3 or 7 for its file, and 1 for its bytes; then 4, 6 and 0. 5 may come at any point before the text is
+/// complete. Each outcome but these last writes a line of its own, and 4 comes where that cannot be written whole.
 pub fn inputplay<I: Input, O: Sink, G: Gate>(
     alloc: Global,
     words: &[String],
@@ -32,18 +34,18 @@ pub fn inputplay<I: Input, O: Sink, G: Gate>(
     gate: &G,
 ) -> End
     // The status, its cause, what was written, and what came of the record.
-    ensures promise { Promise
-        (reads_of I.files I.given I.left I.faults (map string_bytes words.now) input.old input.new)
+    ensures promise { Promise (map string_bytes words.now)
+        (reads_of I.files I.given I.left I.faults input.old input.new)
         (writes_of O.written O.faults out.old out.new)
         result }
     // Where a call was at fault the status says so.
-    ensures no_fault_hidden { HidesNoFault
-        (reads_of I.files I.given I.left I.faults (map string_bytes words.now) input.old input.new)
+    ensures no_fault_hidden { HidesNoFault (map string_bytes words.now)
+        (reads_of I.files I.given I.left I.faults input.old input.new)
         (writes_of O.written O.faults out.old out.new)
         result }
-    // Where nothing is at fault, the report is written, or memory ran out.
-    ensures complete { IsComplete
-        (reads_of I.files I.given I.left I.faults (map string_bytes words.now) input.old input.new)
+    // Where nothing is at fault, the report or the summary is written, or memory ran out.
+    ensures complete { IsComplete (map string_bytes words.now)
+        (reads_of I.files I.given I.left I.faults input.old input.new)
         (writes_of O.written O.faults out.old out.new)
         result }
     // The objects that were handed in tell what they told before.
@@ -53,64 +55,53 @@ pub fn inputplay<I: Input, O: Sink, G: Gate>(
     ensures out_faults { O.faults out.old ≤ O.faults out.new }
 {
     let _gate = gate;
-    let found = read_and_play(alloc, words, input);
+    let found = outcome_of(alloc, words, input);
     write_outcome(alloc, found, out)
 }
 
 /// What the words and the input lead to, before anything is written.
-fn read_and_play<I: Input>(alloc: Global, words: &[String], input: &mut I) -> Outcome
-    ensures cause { HasCause
-        (reads_of I.files I.given I.left I.faults (map string_bytes words.now) input.old input.new)
-        result }
+fn outcome_of<I: Input>(alloc: Global, words: &[String], input: &mut I) -> Outcome
+    ensures cause { HasCause (map string_bytes words.now)
+        (reads_of I.files I.given I.left I.faults input.old input.new) result }
     ensures files_stay { I.files input.new ≡ I.files input.old }
     ensures stays_told { is_some (I.left input.new) ≡ is_some (I.left input.old) }
     ensures never_falls { I.faults input.old ≤ I.faults input.new }
 {
-    let [name] = words else {
-        return Outcome::Usage;
-    };
-    match read_all(alloc, input, name.as_str()) {
-        Ok(bytes) => play_text(alloc, &bytes),
-        Err(ReadFault::Failed) => Outcome::Unread,
-        Err(ReadFault::TooLong) => Outcome::TooLong,
-        Err(ReadFault::NoMemory) => Outcome::NoMemory,
+    match read_words(alloc, words) {
+        Ok(Request::Play { file, history }) => play_file(alloc, input, file.text(), history),
+        Ok(Request::Make { number, count }) => play_made(alloc, number, count),
+        Err(WordsFault::Usage) => Outcome::Usage,
+        Err(WordsFault::NoMemory) => Outcome::NoMemory,
     }
 }
 
-/// What the bytes of a file lead to.
-fn play_text(alloc: Global, bytes: &[u8]) -> Outcome
-    ensures text { HasText bytes.now result }
+/// What a file leads to.
+fn play_file<I: Input>(alloc: Global, input: &mut I, file: &str, history: bool) -> Outcome
+    ensures cause { (words : Words) → AskFor words file.now history
+        → HasCause words (reads_of I.files I.given I.left I.faults input.old input.new) result }
+    ensures files_stay { I.files input.new ≡ I.files input.old }
+    ensures stays_told { is_some (I.left input.new) ≡ is_some (I.left input.old) }
+    ensures never_falls { I.faults input.old ≤ I.faults input.new }
 {
-    match parse(alloc, bytes) {
-        Ok(recorded) => match play_and_report(alloc, &recorded) {
+    match read_record(alloc, input, file) {
+        Ok(recorded) => match play_and_report(alloc, &recorded, history) {
             Ok((runs, text)) => Outcome::Played { runs, text },
             Err(NoMemory) => Outcome::NoMemory,
         },
-        Err(ParseFault::Refused(refused)) => match refused_text(alloc, refused) {
-            Ok(text) => Outcome::Refused { refused, text },
-            Err(NoMemory) => Outcome::NoMemory,
-        },
-        Err(ParseFault::NoMemory) => Outcome::NoMemory,
+        Err(why) => without_record(alloc, why),
     }
 }
 
-/// What comes of a record, and its report.
-fn play_and_report(alloc: Global, recorded: &Record) -> Result<(Runs, String), NoMemory>
-    requires playable { IsPlayable recorded.now.lines }
-    ensures runs { IfOk result (λ found. found.0 ≡ play recorded.now) }
-    ensures text { IfOk result (λ found. string_bytes found.1 ≡ report recorded.now found.0) }
+/// What two numbers lead to.
+fn play_made(alloc: Global, number: u32, count: u32) -> Outcome
+    requires few { count ≤ 10000 }
+    ensures cause { (words : Words) (r : Reads) → requested words ≡ Some (Request.Make number count)
+        → r.after ≡ r.before → HasCause words r result }
 {
-    let runs = play(alloc, recorded)?;
-    let text = report(alloc, recorded, &runs)?;
-    Ok((runs, text))
-}
-
-/// The text that tells which line is refused.
-fn refused_text(alloc: Global, refused: Refused) -> Result<String, NoMemory>
-    ensures text { IfOk result (λ text. string_bytes text ≡ refused_text refused.line) }
-{
-    let line = refused.line;
-    Ok(format!(in alloc; "inputplay: line {line}: not-built\n")?)
+    match make_and_play(alloc, number, count) {
+        Ok((runs, text)) => Outcome::Played { runs, text },
+        Err(NoMemory) => Outcome::NoMemory,
+    }
 }
 
 /// Writes the text of what was found, and tells its status, or 4 where the sink failed.
@@ -118,7 +109,7 @@ fn write_outcome<O: Sink>(alloc: Global, found: Outcome, out: &mut O) -> End
     ensures written { IsWritten (writes_of O.written O.faults out.old out.new) found result }
     ensures never_falls { O.faults out.old ≤ O.faults out.new }
 {
-    let written = write_all(out, found.text().as_bytes());
+    let written = write_all(out, found.text());
     let end = end_of(alloc, found);
     match written {
         Ok(()) => end,
@@ -136,7 +127,7 @@ fn end_of(alloc: Global, found: Outcome) -> End
 {
     let nothing = Runs::new(alloc);
     let (status, refused, runs) = match found {
-        Outcome::Played { runs, .. } => (0, None, runs),
+        Outcome::Played { runs, .. } => (played_status(&runs), None, runs),
         Outcome::Refused { refused, .. } => (1, Some(refused), nothing),
         Outcome::Usage => (2, None, nothing),
         Outcome::Unread => (3, None, nothing),
@@ -150,5 +141,9 @@ fn end_of(alloc: Global, found: Outcome) -> End
     }
 }
 
-#[cfg(test)]
-mod tests;
+/// The status of what came of a record.
+fn played_status(runs: &Runs) -> u8
+    ensures { result ≡ played_status runs.now }
+{
+    if has_full(runs) { 6 } else { 0 }
+}

@@ -1,0 +1,256 @@
+-- Where nothing is at fault, the report is written, or memory ran out.
+use Rattle.std.proofs.Common.{◌≡◌, ℕ, zero, suc, Bool, List, [], ◌∷◌, ◌++◌, length, map, Option, Some, None, Ok, Err, refl, sym, ap, subst, ◌∙◌, inl, inr, arith}
+use Rattle.std.specs.Prelude.{◌⊎◌, IsTrue, if◌then◌else◌, is_some, slice_get}
+use Rattle.inp_edge.specs.Count.{RoseUnlessSaturated}
+use Rattle.inp_edge.specs.File.{File, IsMissing, HasFile, HasLongerFile, bytes_of}
+use Rattle.inp_edge.specs.Sink.{Appends}
+use Rattle.inp_edge.specs.declared.input.TheConstants.{INPUT_LIMIT}
+use Rattle.inp_args.specs.declared.request.Request.TheVariants.{Make}
+use Rattle.inp_args.specs.Request.{requested}
+use Rattle.inp_make.specs.Generated.{generated}
+use Rattle.inp_model.specs.declared.stamped.Stamped.{Stamped}
+use Rattle.inp_actors.specs.declared.line.Line.{Line}
+use Rattle.inp_actors.specs.Record.{RecordView}
+use Rattle.inp_record.specs.declared.refused.Refused.{Refused as Refusal}
+use Rattle.inp_record.specs.Meaning.{meaning}
+use Rattle.inp_record.specs.Stream.{stamps_of}
+use Rattle.inp_script.specs.declared.run.Run.{Run}
+use Rattle.inp_play.specs.Play.{IsPlay}
+use Rattle.inp_report.specs.Report.{report}
+use Rattle.inp_report.specs.Summary.{summary}
+use Rattle.inp_tool.specs.declared.end.End.{End}
+use Rattle.inp_tool.specs.declared.outcome.Outcome.{Outcome}
+use Rattle.inp_tool.specs.declared.outcome.Outcome.TheVariants.{Usage, Unread, TooLong, Refused, NoMemory, Played}
+use Rattle.inp_tool.specs.Edge.{Reads, Writes}
+use Rattle.inp_tool.specs.Streams.{file_of, stream_files}
+use Rattle.inp_tool.specs.Outcome.{played_status}
+use Rattle.inp_tool.specs.Reading.{IsRead, IsUnread, IsTooLong, AreRead, IsParsed, IsAtStream, IsNext, HasBadText, HasBadStream, HasRecord}
+use Rattle.inp_tool.specs.Promise.{Words, AskFor, CameOf, HasCause, IsWrittenWhole, IsWritten, Promise}
+use Rattle.inp_tool.specs.Complete.{IsFaultless, IsThere, AreThere, IsReadable, IsTold, IsToldWhole, IsComplete}
+use Rattle.inp_tool.proofs.MadeBounds.{asked-not_full}
+use Rattle.inp_tool.proofs.StreamFiles.{line_found}
+use Rattle.inp_tool.proofs.Faults.{same_file}
+
+-- a file that is there, and is a stream
+record HasStream (files : List File) (name : List ℕ) : Type 0 where
+  bytes : List ℕ
+  there : IsThere files name bytes
+  stamps : List Stamped
+  means : stamps_of bytes ≡ Some stamps
+
+abbrev Each : (List ℕ → Type 0) → List (List ℕ) → Type 0
+Each P [] = Unit {0}
+Each P (name ∷ names) = P name × Each P names
+
+each_behind : (P : List ℕ → Type 0) (front names : List (List ℕ)) → Each P (front ++ names) → Each P names
+each_behind P [] names h = h
+each_behind P (name ∷ front) names h = each_behind P front names h.1
+
+each_has : (files : List File) (names contents : List (List ℕ)) (streams : List (List Stamped)) → AreThere files names contents → map stamps_of contents ≡ map Some streams → Each (HasStream files) names
+each_has files [] [] streams h e = tt
+each_has files (name ∷ names) (bytes ∷ contents) [] h e = let never : ⊥ = cc e in absurd never
+each_has files (name ∷ names) (bytes ∷ contents) (stamps ∷ streams) h e =
+    let first : stamps_of bytes ≡ Some stamps = cc e in
+    let more : map stamps_of contents ≡ map Some streams = cc e in
+    (record { bytes = bytes; there = h.0; stamps = stamps; means = first }, each_has files names contents streams h.1 more)
+each_has files [] (bytes ∷ contents) streams h e = absurd h
+each_has files (name ∷ names) [] streams h e = absurd h
+
+-- what each stream file has, that of a line has
+at_line : (P : List ℕ → Type 0) (lines : List Line) (i : ℕ) (l : Line) (name : List ℕ) → Each P (stream_files lines) → slice_get lines i ≡ Some l → file_of l.command ≡ name ∷ [] → P name
+at_line P [] i l name h e f = let never : ⊥ = cc e in absurd never
+at_line P (line ∷ lines) zero l name h e f =
+    let same : file_of line.command ≡ name ∷ [] = cc (e, f) in
+    let Q : List (List ℕ) → Type 0 = λ ns. Each P (ns ++ stream_files lines) in
+    let here = subst Q same h in here.0
+at_line P (line ∷ lines) (suc i) l name h e f = at_line P lines i l name (each_behind P (file_of line.command) (stream_files lines) h) e f
+
+-- a file that is told has one content
+same_bytes : (told : Option (List File)) (files : List File) (name bytes others : List ℕ) → told ≡ Some files → bytes_of files name ≡ Some bytes → HasFile told name others → others ≡ bytes
+same_bytes None files name bytes others e f h = let never : ⊥ = cc e in absurd never
+same_bytes (Some its) files name bytes others e f h =
+    let same : its ≡ files = cc e in
+    let is : bytes_of files name ≡ Some others = subst (λ (x : List File). bytes_of x name ≡ Some others) same h in
+    cc (is, f)
+
+there_is_found : (told : Option (List File)) (files : List File) (name bytes : List ℕ) → told ≡ Some files → bytes_of files name ≡ Some bytes → IsMissing told name → ⊥
+there_is_found None files name bytes e f h = h
+there_is_found (Some its) files name bytes e f h =
+    let same : its ≡ files = cc e in
+    let is : bytes_of files name ≡ None = subst (λ (x : List File). bytes_of x name ≡ None) same h in
+    cc (is, f)
+
+there_is_within : (told : Option (List File)) (files : List File) (name bytes : List ℕ) → told ≡ Some files → IsThere files name bytes → HasLongerFile told name INPUT_LIMIT → ⊥
+there_is_within told files name bytes e is h =
+    let same = same_bytes told files name bytes h.0 e is.file h.1 in
+    omega (arith, is.within, h.2, ap length same)
+
+-- contents that were read of files that are there
+same_contents : (r : Reads) (files : List File) (names contents others : List (List ℕ)) → r.files ≡ Some files → IsTrue (is_some r.after.left) → AreThere files names contents → AreRead r names others → others ≡ contents
+same_contents r files [] [] [] e told h k = refl
+same_contents r files (name ∷ names) (bytes ∷ contents) (its ∷ others) e told h k =
+    let first : its ≡ bytes = same_bytes r.files files name bytes its e (h.0).file ((k.0).whole told) in
+    let more : others ≡ contents = same_contents r files names contents others e told h.1 k.1 in
+    cc (first, more)
+same_contents r files [] (bytes ∷ contents) others e told h k = absurd h
+same_contents r files (name ∷ names) [] others e told h k = absurd h
+same_contents r files [] [] (its ∷ others) e told h k = absurd k
+same_contents r files (name ∷ names) (bytes ∷ contents) [] e told h k = absurd k
+
+same_streams : (streams others : List (List Stamped)) → map Some streams ≡ map Some others → streams ≡ others
+same_streams [] [] e = refl
+same_streams (s ∷ streams) (t ∷ others) e =
+    let first : s ≡ t = cc e in
+    let rest : map Some streams ≡ map Some others = cc e in
+    let more = same_streams streams others rest in
+    cc (first, more)
+same_streams [] (t ∷ others) e = let never : ⊥ = cc e in absurd never
+same_streams (s ∷ streams) [] e = let never : ⊥ = cc e in absurd never
+
+-- a count that did not rise though it can
+no_rise : (before after : ℕ) → IsFaultless before after → RoseUnlessSaturated before after → ⊥
+no_rise before after h rose = omega (arith, h.0, h.1, rose h.0)
+
+-- A record that is there, in an input that had no fault.
+module _ (r : Reads) (file : List ℕ) (recorded : RecordView) (readable : IsReadable r file recorded) (stays : is_some r.after.left ≡ is_some r.before.left) (faultless : IsFaultless r.before.faults r.after.faults) where
+  told : IsTrue (is_some r.after.left)
+  told = stays ∙ readable.told_bytes
+
+  same_text : (text : List ℕ) → IsRead r file text → text ≡ readable.text
+  same_text text h = same_bytes r.files readable.files file readable.text text readable.told_files readable.there.file (h.whole told)
+
+  same_record : (text : List ℕ) (parsed : RecordView) → IsParsed r file text parsed → parsed ≡ readable.parsed
+  same_record text parsed h =
+      let same = same_text text h.read in
+      let means : meaning readable.text ≡ Ok parsed = ap meaning (sym same) ∙ h.means in
+      cc (means, readable.means)
+
+  stream_there : (parsed : RecordView) (line : ℕ) (name : List ℕ) → parsed ≡ readable.parsed → IsAtStream r parsed line name → HasStream readable.files name
+  stream_there parsed line name same at =
+      let found = line_found (λ (l : Line). file_of l.command) (slice_get parsed.lines line) (name ∷ []) at.here in
+      let here : slice_get readable.parsed.lines line ≡ Some found.0 = ap (λ (x : RecordView). slice_get x.lines line) (sym same) ∙ found.1 in
+      let all = each_has readable.files (stream_files readable.parsed.lines) readable.contents readable.streams readable.are_there readable.stamps in
+      at_line (HasStream readable.files) readable.parsed.lines line found.0 name all here found.2
+
+  next_there : (name : List ℕ) → IsNext r file name → (bytes : List ℕ) × IsThere readable.files name bytes
+  next_there name (inl e) =
+      let P : List ℕ → Type 0 = λ n. IsThere readable.files n readable.text in
+      (readable.text, subst P (sym e) readable.there)
+  next_there name (inr h) =
+      let has = stream_there h.parsed h.line name (same_record h.text h.parsed h.is_parsed) h.at in
+      (has.bytes, has.there)
+
+  not_unread : (name : List ℕ) → IsNext r file name → IsUnread r name → ⊥
+  not_unread name next h = by_fault h.fault
+    where
+      by_fault : RoseUnlessSaturated r.before.faults r.after.faults ⊎ IsMissing r.files name → ⊥
+      by_fault (inl rose) = no_rise r.before.faults r.after.faults faultless rose
+      by_fault (inr missing) = let is = next_there name next in there_is_found r.files readable.files name is.0 readable.told_files is.1.file missing
+
+  not_too_long : (name : List ℕ) → IsNext r file name → IsTooLong r name → ⊥
+  not_too_long name next h =
+      let is = next_there name next in
+      there_is_within r.files readable.files name is.0 readable.told_files is.1 (h.longer told)
+
+  not_refused : (refused : Refusal) → HasBadText r file refused ⊎ HasBadStream r file refused → ⊥
+  not_refused refused (inl h) =
+      let same = same_text h.text h.read.read in
+      let means : meaning readable.text ≡ Err refused = ap meaning (sym same) ∙ h.means in
+      cc (means, readable.means)
+  not_refused refused (inr h) =
+      let has = stream_there h.parsed h.bad.line h.bad.name (same_record h.text h.parsed h.is_parsed) h.bad.at in
+      let same = same_bytes r.files readable.files h.bad.name has.bytes h.bad.bytes readable.told_files has.there.file (h.bad.read.read.whole told) in
+      let none : stamps_of has.bytes ≡ None = ap stamps_of (sym same) ∙ h.bad.no_stream in
+      cc (none, has.means)
+
+  same_whole : (its : RecordView) → HasRecord r file its → its ≡ recorded
+  same_whole its h =
+      let parsed = same_record h.text h.parsed h.is_parsed in
+      let P : RecordView → Type 0 = λ p. AreRead r (stream_files p.lines) h.contents in
+      let contents = same_contents r readable.files (stream_files readable.parsed.lines) readable.contents h.contents readable.told_files told readable.are_there (subst P parsed h.loaded.read) in
+      let streams = same_streams h.streams readable.streams (sym h.loaded.stamps ∙ ap (λ (c : List (List ℕ)). map stamps_of c) contents ∙ readable.stamps) in
+      h.whole
+      ∙ ap (λ (p : RecordView). record p { streams = h.streams }) parsed
+      ∙ ap (λ (s : List (List Stamped)). record readable.parsed { streams = s }) streams
+      ∙ sym readable.whole
+
+-- what came of a record was told
+is_told : (w : Writes) (recorded : RecordView) (text : List Run → List ℕ) (runs : List Run) (says : List ℕ) (end : End) → CameOf recorded runs → says ≡ text runs → end.runs ≡ runs → end.status ≡ played_status runs
+    → Appends says w.before.written w.after.written → IsTold w recorded text end
+is_told w recorded text runs says end came e same status written =
+    let P : List Run → Type 0 = λ rs. (end.status ≡ played_status rs) × Appends (text rs) w.before.written w.after.written in
+    let Q : List ℕ → Type 0 = λ t. Appends t w.before.written w.after.written in
+    let here : P runs = (status, subst Q e written) in
+    let at = subst P (sym same) here in
+    record { runs = subst (IsPlay recorded) (sym same) came.in_order; status = at.0; written = at.1 }
+
+-- a record that is there was played, or memory ran out
+by_outcome : (words : Words) (r : Reads) (w : Writes) (end : End) (found : Outcome) (file : List ℕ) (history : Bool) (recorded : RecordView) → AskFor words file history → IsReadable r file recorded
+    → is_some r.after.left ≡ is_some r.before.left → IsFaultless r.before.faults r.after.faults → HasCause words r found → IsWrittenWhole w found end
+    → (end.status ≡ 5) ⊎ IsTold w recorded (λ runs. report recorded runs history) end
+by_outcome words r w end Usage file history recorded asked readable stays faultless h whole = let never : ⊥ = cc (h.refused, asked) in absurd never
+by_outcome words r w end Unread file history recorded asked readable stays faultless h whole =
+    let same = same_file words file h.file history h.history asked h.asked in
+    let P : List ℕ → Type 0 = λ f. IsNext r f h.unread.name in
+    absurd (not_unread r file recorded readable stays faultless h.unread.name (subst P same h.unread.next) h.unread.unread)
+by_outcome words r w end TooLong file history recorded asked readable stays faultless h whole =
+    let same = same_file words file h.file history h.history asked h.asked in
+    let P : List ℕ → Type 0 = λ f. IsNext r f h.too_long.name in
+    absurd (not_too_long r file recorded readable stays faultless h.too_long.name (subst P same h.too_long.next) h.too_long.too_long)
+by_outcome words r w end (Refused refused text) file history recorded asked readable stays faultless h whole =
+    let same = same_file words file h.file history h.history asked h.asked in
+    let P : List ℕ → Type 0 = λ f. HasBadText r f refused ⊎ HasBadStream r f refused in
+    absurd (not_refused r file recorded readable stays faultless refused (subst P same h.why))
+by_outcome words r w end NoMemory file history recorded asked readable stays faultless h whole = inl whole.ended.status
+by_outcome words r w end (Played runs text) file history recorded asked readable stays faultless (inl h) whole =
+    let same = same_file words file h.file history h.history asked h.asked in
+    let same_history : h.history ≡ history = cc (h.asked, asked) in
+    let P : List ℕ → Type 0 = λ f. HasRecord r f h.recorded in
+    let its = same_whole r file recorded readable stays faultless h.recorded (subst P same h.read) in
+    let C : RecordView → Type 0 = λ x. CameOf x runs in
+    let says = h.says ∙ ap (λ (x : RecordView). report x runs h.history) its ∙ ap (λ (b : Bool). report recorded runs b) same_history in
+    inr (is_told w recorded (λ rs. report recorded rs history) runs text.items end (subst C its h.came) says whole.ended.runs whole.ended.status whole.written)
+by_outcome words r w end (Played runs text) file history recorded asked readable stays faultless (inr h) whole = let never : ⊥ = cc (h.asked, asked) in absurd never
+
+-- a record that was to be made was played, or memory ran out
+by_outcome_made : (words : Words) (r : Reads) (w : Writes) (end : End) (found : Outcome) (number count : ℕ) → requested words ≡ Some (Make number count) → HasCause words r found → IsWrittenWhole w found end
+    → (end.status ≡ 5) ⊎ IsTold w (generated number count) (λ runs. summary number count (generated number count) runs) end
+by_outcome_made words r w end Usage number count asked h whole = let never : ⊥ = cc (h.refused, asked) in absurd never
+by_outcome_made words r w end Unread number count asked h whole = let never : ⊥ = cc (h.asked, asked) in absurd never
+by_outcome_made words r w end TooLong number count asked h whole = let never : ⊥ = cc (h.asked, asked) in absurd never
+by_outcome_made words r w end (Refused refused text) number count asked h whole = let never : ⊥ = cc (h.asked, asked) in absurd never
+by_outcome_made words r w end NoMemory number count asked h whole = inl whole.ended.status
+by_outcome_made words r w end (Played runs text) number count asked (inl h) whole = let never : ⊥ = cc (h.asked, asked) in absurd never
+by_outcome_made words r w end (Played runs text) number count asked (inr h) whole =
+    let n : h.number ≡ number = cc (h.asked, asked) in
+    let c : h.count ≡ count = cc (h.asked, asked) in
+    let C : ℕ → ℕ → Type 0 = λ x y. CameOf (generated x y) runs × (text.items ≡ summary x y (generated x y) runs) in
+    let here : C number count = subst (λ (y : ℕ). C number y) c (subst (λ (x : ℕ). C x h.count) n (h.came, h.says)) in
+    inr (is_told w (generated number count) (λ rs. summary number count (generated number count) rs) runs text.items end here.0 here.1 whole.ended.runs whole.ended.status whole.written)
+
+when_read : (words : Words) (r : Reads) (w : Writes) (end : End) (p : Promise words r w end) → is_some r.after.left ≡ is_some r.before.left → (file : List ℕ) (history : Bool) (recorded : RecordView)
+    → AskFor words file history → IsReadable r file recorded → IsFaultless r.before.faults r.after.faults → IsFaultless w.before.faults w.after.faults
+    → (end.status ≡ 5) ⊎ IsTold w recorded (λ runs. report recorded runs history) end
+when_read words r w end p stays file history recorded asked readable no_read no_write = by_writing p.written
+  where
+    by_writing : IsWritten w p.found end → (end.status ≡ 5) ⊎ IsTold w recorded (λ runs. report recorded runs history) end
+    by_writing (inl whole) = by_outcome words r w end p.found file history recorded asked readable stays no_read p.cause whole
+    by_writing (inr part) = absurd (no_rise w.before.faults w.after.faults no_write part.fault)
+
+when_made : (words : Words) (r : Reads) (w : Writes) (end : End) (p : Promise words r w end) → (number count : ℕ) → requested words ≡ Some (Make number count) → IsFaultless w.before.faults w.after.faults
+    → (end.status ≡ 5) ⊎ IsToldWhole w number count end
+when_made words r w end p number count asked no_write = of_told (by_writing p.written)
+  where
+    of_told : (end.status ≡ 5) ⊎ IsTold w (generated number count) (λ runs. summary number count (generated number count) runs) end → (end.status ≡ 5) ⊎ IsToldWhole w number count end
+    of_told (inl lacks) = inl lacks
+    of_told (inr told) = inr (record {
+      told = told;
+      status = told.status ∙ ap (λ (full : Bool). if full then 6 else 0) (asked-not_full words number count end.runs asked told.runs);
+    })
+
+    by_writing : IsWritten w p.found end → (end.status ≡ 5) ⊎ IsTold w (generated number count) (λ runs. summary number count (generated number count) runs) end
+    by_writing (inl whole) = by_outcome_made words r w end p.found number count asked p.cause whole
+    by_writing (inr part) = absurd (no_rise w.before.faults w.after.faults no_write part.fault)
+
+pub complete : (words : Words) (r : Reads) (w : Writes) (end : End) → Promise words r w end → is_some r.after.left ≡ is_some r.before.left → IsComplete words r w end
+complete words r w end p stays = record { read = when_read words r w end p stays; made = when_made words r w end p }

@@ -1,0 +1,112 @@
+-- No fault is hidden.
+use Rattle.std.proofs.Common.{◌≡◌, ℕ, ◌<◌, ◌≤◌, Bool, List, refl, sym, ap, subst, ◌∙◌, inl, inr, arith}
+use Rattle.std.specs.Prelude.{◌≢◌, ◌⊎◌}
+use Rattle.inp_edge.specs.File.{IsMissing}
+use Rattle.inp_edge.specs.declared.input.TheConstants.{INPUT_LIMIT}
+use Rattle.inp_record.specs.declared.refused.Refused.{Refused as Refusal}
+use Rattle.inp_tool.specs.declared.end.End.{End}
+use Rattle.inp_tool.specs.declared.outcome.Outcome.{Outcome}
+use Rattle.inp_tool.specs.declared.outcome.Outcome.TheVariants.{Usage, Unread, TooLong, Refused, NoMemory, Played}
+use Rattle.inp_tool.specs.Edge.{InputView, Reads, Writes, KeepsInputFaults, KeepsSinkFaults}
+use Rattle.inp_tool.specs.Outcome.{status_of}
+use Rattle.inp_tool.specs.Reading.{IsNext, RanOut, HasBadText, HasBadStream}
+use Rattle.inp_tool.specs.Promise.{Words, AskFor, HasCause, IsWritten, Promise, HidesNoFault}
+use Rattle.inp_tool.proofs.Records.{ran_out_behind, ran_out_after}
+
+-- an input that is as it was had no fault
+untouched_keeps : (r : Reads) → r.after ≡ r.before → KeepsInputFaults r
+untouched_keeps r e = ap (λ (v : InputView). v.faults) e
+
+no_record_keeps : (r : Reads) (file : List ℕ) (refused : Refusal) → HasBadText r file refused ⊎ HasBadStream r file refused → KeepsInputFaults r
+no_record_keeps r file refused (inl h) = h.read.no_fault
+no_record_keeps r file refused (inr h) = h.bad.read.no_fault
+
+input_keeps : (words : Words) (r : Reads) (found : Outcome) → HasCause words r found → status_of found ≢ 3 → KeepsInputFaults r
+input_keeps words r Usage h other = untouched_keeps r h.untouched
+input_keeps words r Unread h other = absurd (other refl)
+input_keeps words r TooLong h other = h.too_long.too_long.no_fault
+input_keeps words r (Refused refused text) h other = no_record_keeps r h.file refused h.why
+input_keeps words r NoMemory (inl h) other = untouched_keeps r h
+input_keeps words r NoMemory (inr h) other = h.no_fault
+input_keeps words r (Played runs text) (inl h) other = h.read.no_fault
+input_keeps words r (Played runs text) (inr h) other = untouched_keeps r h.untouched
+
+-- the words ask for one file
+pub same_file : (words : Words) (file other : List ℕ) (history its : Bool) → AskFor words file history → AskFor words other its → other ≡ file
+same_file words file other history its e f = cc (e, f)
+
+-- the next file is there, so FILE is
+next_found : (r : Reads) (file name : List ℕ) → IsNext r file name → ¬ (IsMissing r.files name) → ¬ (IsMissing r.files file)
+next_found r file name (inl e) found = subst (λ (n : List ℕ). ¬ (IsMissing r.files n)) e found
+next_found r file name (inr h) found = h.is_parsed.read.found
+
+text_found : (r : Reads) (file : List ℕ) (refused : Refusal) → HasBadText r file refused ⊎ HasBadStream r file refused → ¬ (IsMissing r.files file)
+text_found r file refused (inl h) = h.read.read.found
+text_found r file refused (inr h) = h.is_parsed.read.found
+
+-- a file that is there, and is the one asked for
+there : (r : Reads) (file other : List ℕ) → other ≡ file → ¬ (IsMissing r.files other) → IsMissing r.files file → ⊥
+there r file other e found missing = subst (λ (n : List ℕ). ¬ (IsMissing r.files n)) e found missing
+
+abbrev IsTold : ℕ → Type 0
+IsTold status = (status ≡ 3) ⊎ (status ≡ 4) ⊎ (status ≡ 5)
+
+missing_told : (words : Words) (r : Reads) (file : List ℕ) (history : Bool) (found : Outcome) → AskFor words file history → IsMissing r.files file → HasCause words r found → IsTold (status_of found)
+missing_told words r file history Usage asked missing h = let never : ⊥ = cc (h.refused, asked) in absurd never
+missing_told words r file history Unread asked missing h = inl refl
+missing_told words r file history TooLong asked missing h =
+    let same = same_file words file h.file history h.history asked h.asked in
+    absurd (there r file h.file same (next_found r h.file h.too_long.name h.too_long.next h.too_long.too_long.found) missing)
+missing_told words r file history (Refused refused text) asked missing h =
+    let same = same_file words file h.file history h.history asked h.asked in
+    absurd (there r file h.file same (text_found r h.file refused h.why) missing)
+missing_told words r file history NoMemory asked missing h = inr (inr refl)
+missing_told words r file history (Played runs text) asked missing (inl h) =
+    let same = same_file words file h.file history h.history asked h.asked in
+    absurd (there r file h.file same h.read.is_parsed.read.found missing)
+missing_told words r file history (Played runs text) asked missing (inr h) = let never : ⊥ = cc (h.asked, asked) in absurd never
+
+keeps : (words : Words) (r : Reads) (w : Writes) (found : Outcome) (end : End) → HasCause words r found → IsWritten w found end → end.status ≢ 3 → end.status ≢ 4 → KeepsInputFaults r
+keeps words r w found end cause (inl whole) no_read no_write = input_keeps words r found cause (λ e. no_read (whole.ended.status ∙ e))
+keeps words r w found end cause (inr part) no_read no_write = absurd (no_write part.status)
+
+sink_keeps : (w : Writes) (found : Outcome) (end : End) → IsWritten w found end → end.status ≢ 4 → KeepsSinkFaults w
+sink_keeps w found end (inl whole) other = whole.no_fault
+sink_keeps w found end (inr part) other = absurd (other part.status)
+
+missing_shown : (words : Words) (r : Reads) (w : Writes) (found : Outcome) (end : End) → HasCause words r found → IsWritten w found end → (file : List ℕ) (history : Bool) → AskFor words file history → IsMissing r.files file → IsTold end.status
+missing_shown words r w found end cause (inl whole) file history asked missing =
+    subst IsTold (sym whole.ended.status) (missing_told words r file history found asked missing cause)
+missing_shown words r w found end cause (inr part) file history asked missing = inr (inl part.status)
+
+-- Behind each other outcome no file was too long.
+
+text_within : (r : Reads) (file : List ℕ) (refused : Refusal) → HasBadText r file refused ⊎ HasBadStream r file refused → RanOut r
+text_within r file refused (inl h) = ran_out_behind r file h.text h.read
+text_within r file refused (inr h) = ran_out_behind r h.bad.name h.bad.bytes h.bad.read
+
+not_past : (r : Reads) → r.after.given ≤ INPUT_LIMIT → INPUT_LIMIT < r.after.given → ⊥
+not_past r within past = omega arith
+
+long_told : (words : Words) (r : Reads) (file : List ℕ) (history : Bool) (found : Outcome) → AskFor words file history → r.after ≢ r.before → INPUT_LIMIT < r.after.given → HasCause words r found → status_of found ≡ 7
+long_told words r file history Usage asked touched past h = let never : ⊥ = cc (h.refused, asked) in absurd never
+long_told words r file history Unread asked touched past h = absurd (not_past r h.unread.unread.within past)
+long_told words r file history TooLong asked touched past h = refl
+long_told words r file history (Refused refused text) asked touched past h = absurd (not_past r (text_within r h.file refused h.why).within past)
+long_told words r file history NoMemory asked touched past (inl h) = absurd (touched h)
+long_told words r file history NoMemory asked touched past (inr h) = absurd (not_past r h.within past)
+long_told words r file history (Played runs text) asked touched past (inl h) = absurd (not_past r (ran_out_after r h.file h.recorded h.read).within past)
+long_told words r file history (Played runs text) asked touched past (inr h) = let never : ⊥ = cc (h.asked, asked) in absurd never
+
+long_shown : (words : Words) (r : Reads) (w : Writes) (found : Outcome) (end : End) → HasCause words r found → IsWritten w found end → (file : List ℕ) (history : Bool) → AskFor words file history → r.after ≢ r.before → INPUT_LIMIT < r.after.given
+    → (end.status ≡ 7) ⊎ (end.status ≡ 4)
+long_shown words r w found end cause (inl whole) file history asked touched past = inl (whole.ended.status ∙ long_told words r file history found asked touched past cause)
+long_shown words r w found end cause (inr part) file history asked touched past = inr part.status
+
+pub no_fault_hidden : (words : Words) (r : Reads) (w : Writes) (end : End) → Promise words r w end → HidesNoFault words r w end
+no_fault_hidden words r w end p = record {
+  input = keeps words r w p.found end p.cause p.written;
+  sink = sink_keeps w p.found end p.written;
+  missing = missing_shown words r w p.found end p.cause p.written;
+  too_long = long_shown words r w p.found end p.cause p.written;
+}

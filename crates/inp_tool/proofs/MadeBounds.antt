@@ -1,0 +1,202 @@
+-- No job of a record that is made stops since a history is full.
+use Rattle.std.proofs.Common.{◌≡◌, ◌≤◌, ◌<◌, ℕ, zero, suc, ◌+◌, ◌*◌, ◌/◌, ◌%◌, nat_eq, Bool, true, false, if◌then◌else◌, ◌||◌, List, [], ◌∷◌, ◌++◌, map, length, refl, sym, ap, subst, ◌∙◌, arith, Option, Some, None}
+use Rattle.std.specs.Prelude.{◌&&◌, codes, nat_le, filter, slice_get, flat_map, option_map, option_and_then}
+use Rattle.std.specs.List.{enumerate_from, range_with_len, list_any}
+use Rattle.std.proofs.lemmas.Bool.{ne_eqb}
+use Rattle.std.proofs.lemmas.Bool.Decides.{nat_tests}
+use Rattle.inp_args.specs.declared.request.Request.{Request}
+use Rattle.inp_args.specs.declared.request.Request.TheVariants.{Make}
+use Rattle.inp_args.specs.Command.{is_taken, is_given, text_of}
+use Rattle.inp_args.specs.Number.{number_of}
+use Rattle.inp_args.specs.Request.{is_count, count_of, made_of, request_of, requested}
+use Rattle.inp_model.specs.declared.event.Event.{Event}
+use Rattle.inp_model.specs.declared.step.Step.{Step}
+use Rattle.inp_model.specs.Description.{Description, ring}
+use Rattle.inp_actors.specs.declared.command.Command.TheVariants as command
+use Rattle.inp_actors.specs.declared.line.Line.{Line}
+use Rattle.inp_actors.specs.Record.{RecordView}
+use Rattle.inp_make.specs.Generated.{pad, finger, fast, mid, slow, line, moment_of, injected, finger_events, touches, frame_events, follows, frame_lines, opens, lines, generated}
+use Rattle.inp_reader.specs.Reading.{queries, axes_among}
+use Rattle.inp_script.specs.declared.run.Run.{Run}
+use Rattle.inp_script.specs.declared.stop.Stop.{Stop}
+use Rattle.inp_script.specs.Job.{ActorView, JobView, job_end, last_stop}
+use Rattle.inp_play.specs.Play.{Stage, first_stage, after_lines, jobs_on, run_of, runs_of, play, IsPlay}
+use Rattle.inp_play.proofs.Follows.{HasQueries}
+use Rattle.inp_play.proofs.Growth.{IsBound, IsShort, Adds, event-bound, open-bound, follow-bound, adds-none, adds-line, adds-more, adds-append}
+use Rattle.inp_play.proofs.Listing.{IsImage, option_map-some}
+use Rattle.inp_play.proofs.OwnQueues.{quiet-keys, quiet-slots}
+use Rattle.inp_tool.specs.Outcome.{is_full, has_full_job, has_full}
+
+-- The device
+
+pad-limit : pad.log_limit ≡ 1048576
+unfolding pad
+pad-limit = refl
+
+pad-ring : ring pad ≡ 512
+unfolding pad
+pad-ring = refl
+
+-- a reader asks for the keys and for the slots
+pad-queries : HasQueries pad 2
+unfolding pad queries axes_among
+pad-queries = record {
+  few = λ client. omega arith;
+  quiet = λ client. (quiet-keys pad client, (quiet-slots pad client, tt));
+}
+
+opening : IsBound pad command.Open 3
+opening = open-bound pad 2 pad-queries
+
+-- eight reads and a synchronisation
+following : IsBound pad command.Follow 11
+following = follow-bound pad 2 8 pad-queries (omega (arith, pad-ring))
+
+-- The lines
+
+adds-events : (r : RecordView) (frame : ℕ) (es : List Event) → Adds r pad (length es) (map (injected frame) es)
+adds-events r frame [] = adds-none r pad
+adds-events r frame (e ∷ es) =
+    adds-more r pad (1 + length es) (suc (length es)) (map (injected frame) (e ∷ es)) (omega arith)
+    (adds-line r pad (length es) 1 (injected frame e) (map (injected frame) es) (event-bound pad (moment_of frame) e.kind e.code e.value) (adds-events r frame es))
+
+adds-follows : (r : RecordView) (frame : ℕ) → Adds r pad 22 (follows frame)
+adds-follows r frame = adds-line r pad 11 11 (line fast command.Follow) _ following (by_flag (nat_eq (frame % 10) 9))
+  where
+    by_flag : (b : Bool) → Adds r pad 11 (if b then line mid command.Follow ∷ [] else [])
+    by_flag true = adds-line r pad 0 11 (line mid command.Follow) [] following (adds-none r pad)
+    by_flag false = adds-more r pad 0 11 [] (omega arith) (adds-none r pad)
+
+first-events : (number : ℕ) → length (frame_events number 0) ≡ 42
+unfolding frame_events touches finger_events
+first-events number = refl
+
+later-events : (number frame : ℕ) → length (frame_events number (suc frame)) ≡ 31
+unfolding frame_events touches finger_events
+later-events number frame =
+    let no : nat_eq (suc frame) 0 ≡ false = ne_eqb (suc frame) 0 (omega arith) in
+    rw no refl
+
+most-events : (number frame : ℕ) → length (frame_events number frame) ≤ 42
+most-events number zero = omega (arith, first-events number)
+most-events number (suc frame) = omega (arith, later-events number frame)
+
+adds-frame : (r : RecordView) (number frame : ℕ) → Adds r pad 64 (frame_lines number frame)
+unfolding frame_lines
+adds-frame r number frame =
+    adds-append r pad 42 22 (map (injected frame) (frame_events number frame)) (follows frame)
+    (adds-more r pad (length (frame_events number frame)) 42 (map (injected frame) (frame_events number frame)) (most-events number frame) (adds-events r frame (frame_events number frame)))
+    (adds-follows r frame)
+
+adds-frames : (r : RecordView) (number first count : ℕ) → Adds r pad (64 * count) (flat_map (frame_lines number) (range_with_len first count))
+adds-frames r number first zero = adds-none r pad
+adds-frames r number first (suc count) =
+    adds-more r pad (64 + 64 * count) (64 * suc count) _ (omega arith)
+    (adds-append r pad 64 (64 * count) (frame_lines number first) (flat_map (frame_lines number) (range_with_len (first + 1) count)) (adds-frame r number first) (adds-frames r number (first + 1) count))
+
+adds-opens : (r : RecordView) → Adds r pad 9 opens
+adds-opens r =
+    adds-line r pad 6 3 (line fast command.Open) _ opening
+    (adds-line r pad 3 3 (line mid command.Open) _ opening (adds-line r pad 0 3 (line slow command.Open) [] opening (adds-none r pad)))
+
+adds-lines : (r : RecordView) (number count : ℕ) → Adds r pad (20 + 64 * count) (lines number count)
+unfolding lines
+adds-lines r number count =
+    let frames : List Line = flat_map (frame_lines number) (range_with_len 0 count) in
+    let last : List Line = line slow command.Follow ∷ [] in
+    adds-more r pad (9 + 64 * count + 11) (20 + 64 * count) _ (omega arith)
+    (adds-append r pad (9 + 64 * count) 11 (opens ++ frames) last (adds-append r pad 9 (64 * count) opens frames (adds-opens r) (adds-frames r number 0 count))
+    (adds-line r pad 0 11 (line slow command.Follow) [] following (adds-none r pad)))
+
+-- Before the first line
+
+first_short : (number count : ℕ) → IsShort pad 0 (first_stage (generated number count))
+first_short number count = record { pasts = pasts; actors = actors }
+  where
+    stage : Stage
+    stage = first_stage (generated number count)
+
+    pasts : (i : ℕ) (past : List Step) → slice_get stage.pasts i ≡ Some past → length past ≤ 0
+    pasts zero past h = let same : [] ≡ past = cc in omega (arith, ap length (sym same))
+    pasts (suc i) past h = absurd cc
+
+    same_some : (a b : ActorView) → Some a ≡ Some b → (a.description ≡ pad) × (a.job.stop ≡ None) → (b.description ≡ pad) × (b.job.stop ≡ None)
+    same_some a b h fine = let same : a ≡ b = cc in subst (λ (x : ActorView). (x.description ≡ pad) × (x.job.stop ≡ None)) same fine
+
+    actors : (i : ℕ) (a : ActorView) → slice_get stage.actors i ≡ Some a → (a.description ≡ pad) × (a.job.stop ≡ None)
+    actors zero a h = same_some _ a h (refl, refl)
+    actors (suc zero) a h = same_some _ a h (refl, refl)
+    actors (suc (suc zero)) a h = same_some _ a h (refl, refl)
+    actors (suc (suc (suc zero))) a h = same_some _ a h (refl, refl)
+    actors (suc (suc (suc (suc i)))) a h = absurd cc
+
+-- What came of it
+
+no_full_job : (p : ActorView → Bool) (actors : List ActorView) → ((i : ℕ) (a : ActorView) → slice_get actors i ≡ Some a → a.job.stop ≡ None) → has_full_job (map job_end (filter p actors)) ≡ false
+no_full_job p [] none = refl
+no_full_job p (a ∷ actors) none = by_flag (p a) (ap (λ (s : Option Stop). is_full (last_stop s)) (none 0 a refl)) (no_full_job p actors (λ i b h. none (suc i) b h))
+  where
+    by_flag : (b : Bool) → is_full (last_stop a.job.stop) ≡ false → has_full_job (map job_end (filter p actors)) ≡ false → has_full_job (map job_end (if b then a ∷ filter p actors else filter p actors)) ≡ false
+    by_flag true first more = ap (λ (x : Bool). x || has_full_job (map job_end (filter p actors))) first ∙ more
+    by_flag false first more = more
+
+no_full_run : (r : RecordView) (stage : Stage) (numbered : List (ℕ × List Step)) → ((i : ℕ) (a : ActorView) → slice_get stage.actors i ≡ Some a → a.job.stop ≡ None) → has_full (map (run_of r stage) numbered) ≡ false
+no_full_run r stage [] none = refl
+no_full_run r stage (first ∷ numbered) none =
+    ap (λ (x : Bool). x || has_full (map (run_of r stage) numbered)) (no_full_job _ stage.actors none) ∙ no_full_run r stage numbered none
+
+pub made-not_full : (number count : ℕ) (runs : List Run) → 1 ≤ count → count ≤ 10000 → IsPlay (generated number count) runs → has_full runs ≡ false
+unfolding play
+made-not_full number count runs least most is =
+    let r : RecordView = generated number count in
+    let image : IsImage (runs_of r) (after_lines r is.rounds (first_stage r) r.lines) runs = option_map-some (runs_of r) (after_lines r is.rounds (first_stage r) r.lines) runs is.plays in
+    let short : IsShort pad (0 + (20 + 64 * count)) image.from =
+    adds-lines r number count is.rounds 0 (first_stage r) image.from (first_short number count) (omega (arith, most, pad-limit)) image.is in
+    ap has_full (sym image.same) ∙ no_full_run r image.from (enumerate_from 0 image.from.pasts) (λ i a h. (short.actors i a h).1)
+
+-- The count that is asked for
+
+made_count : (number count : ℕ) (a b : Option ℕ) → made_of a b ≡ Some (Make number count) → b ≡ Some count
+made_count number count (Some x) (Some y) h = cc
+made_count number count (Some x) None h = absurd cc
+made_count number count None b h = absurd cc
+
+read_count : (count : ℕ) (text : Option (List ℕ)) → count_of text ≡ Some count → (1 ≤ count) × (count ≤ 10000)
+read_count count None h = let same : 100 ≡ count = cc in (omega arith, omega arith)
+read_count count (Some text) h = by_number (number_of text) h
+  where
+    by_flag : (n : ℕ) (b : Bool) → is_count n ≡ b → (if b then Some n else None) ≡ Some count → (1 ≤ count) × (count ≤ 10000)
+    by_flag n true is e =
+        let same : n ≡ count = cc in
+        let low : 1 ≤ n = grind (arith, nat_tests, is) in
+        let high : n ≤ 10000 = grind (arith, nat_tests, is) in
+        (omega arith, omega arith)
+    by_flag n false is e = absurd cc
+
+    by_number : (o : Option ℕ) → option_and_then (λ (n : ℕ). if is_count n then Some n else None) o ≡ Some count → (1 ≤ count) × (count ≤ 10000)
+    by_number None e = absurd cc
+    by_number (Some n) e = by_flag n (is_count n) refl e
+
+asked_count : (number count : ℕ) (file make text : Option (List ℕ)) (history : Bool) → request_of file make text history ≡ Some (Make number count) → (1 ≤ count) × (count ≤ 10000)
+asked_count number count (Some file) None None history h = absurd cc
+asked_count number count None (Some make) text false h = read_count count text (made_count number count (number_of make) (count_of text) h)
+asked_count number count None (Some make) text true h = absurd cc
+asked_count number count None None text history h = absurd cc
+asked_count number count (Some file) (Some make) text history h = absurd cc
+asked_count number count (Some file) None (Some text) history h = absurd cc
+
+has_count : (words : List (List ℕ)) (number count : ℕ) → requested words ≡ Some (Make number count) → (1 ≤ count) × (count ≤ 10000)
+has_count words number count h = by_flag (is_taken words) h
+  where
+    request : Option Request
+    request = request_of (text_of (codes "FILE") words) (text_of (codes "make") words) (text_of (codes "count") words) (is_given (text_of (codes "history") words))
+
+    by_flag : (b : Bool) → (if b then request else None) ≡ Some (Make number count) → (1 ≤ count) × (count ≤ 10000)
+    by_flag true e = asked_count number count (text_of (codes "FILE") words) (text_of (codes "make") words) (text_of (codes "count") words) (is_given (text_of (codes "history") words)) e
+    by_flag false e = absurd cc
+
+-- what is asked for and comes of it in file order stops no job as full
+pub asked-not_full : (words : List (List ℕ)) (number count : ℕ) (runs : List Run) → requested words ≡ Some (Make number count) → IsPlay (generated number count) runs → has_full runs ≡ false
+asked-not_full words number count runs asked is =
+    let range = has_count words number count asked in
+    made-not_full number count runs range.0 range.1 is

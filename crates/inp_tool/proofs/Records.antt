@@ -1,0 +1,126 @@
+-- A text, and the streams behind it.
+use Rattle.std.proofs.Common.{◌≡◌, ℕ, ◌≤◌, List, [], ◌∷◌, length, Option, Result, Ok, sym, subst, ◌∙◌, inl, inr, arith}
+use Rattle.std.specs.Prelude.{MatchResult}
+use Rattle.std.proofs.lemmas.Result.{MatchResult-weaker}
+use Rattle.inp_edge.specs.File.{File}
+use Rattle.inp_edge.specs.declared.input.TheConstants.{INPUT_LIMIT}
+use Rattle.inp_actors.specs.Record.{RecordView}
+use Rattle.inp_record.specs.Meaning.{meaning}
+use Rattle.inp_tool.specs.declared.no_record.NoRecord.{NoRecord}
+use Rattle.inp_tool.specs.declared.no_record.NoRecord.TheVariants.{Unread, TooLong, Refused, NoMemory}
+use Rattle.inp_tool.specs.Edge.{InputView, Reads}
+use Rattle.inp_tool.specs.Streams.{stream_files}
+use Rattle.inp_tool.specs.Reading.{IsLast, IsReadLast, RanOut, AreRead, IsParsed, IsAtStream, IsNextStream, HasRecord, HasNoRecord, last_of}
+use Rattle.inp_tool.specs.Loading.{IsLastOf, HasParts, HasNoParts, HasNoLines, HasNoStreams}
+use Rattle.inp_tool.proofs.Spans.{span, AreToldAlike, is_read_on, are_read_from, is_unread_from, is_too_long_from, ran_out_from, is_read_last_from}
+
+-- the streams before a line do not depend on what was before them
+at_stream_from : (files : Option (List File)) (before middle after : InputView) (parsed : RecordView) (line : ℕ) (name : List ℕ) → IsAtStream (span files middle after) parsed line name → IsAtStream (span files before after) parsed line name
+at_stream_from files before middle after parsed line name h = record {
+  contents = h.contents;
+  streams = h.streams;
+  loaded = record { read = are_read_from files before middle after _ h.contents h.loaded.read; stamps = h.loaded.stamps };
+  here = h.here;
+}
+
+-- memory ran out behind a file that was read
+pub ran_out_behind : (r : Reads) (name bytes : List ℕ) → IsReadLast r name bytes → RanOut r
+ran_out_behind r name bytes h = record { no_fault = h.no_fault; within = omega (arith, h.last.counted, h.read.within) }
+
+last_within : (r : Reads) (first : List ℕ) (names contents : List (List ℕ)) → length first ≤ INPUT_LIMIT → AreRead r names contents → length (last_of first contents) ≤ INPUT_LIMIT
+last_within r first [] [] h are = h
+last_within r first (name ∷ names) (next ∷ contents) h are = last_within r next names contents are.0.within are.1
+last_within r first [] (next ∷ contents) h are = absurd are
+last_within r first (name ∷ names) [] h are = absurd are
+
+-- memory ran out behind a record that was read
+pub ran_out_after : (r : Reads) (file : List ℕ) (recorded : RecordView) → HasRecord r file recorded → RanOut r
+ran_out_after r file recorded h =
+    let last = last_within r h.text (stream_files h.parsed.lines) h.contents h.is_parsed.read.within h.loaded.read in
+    record { no_fault = h.no_fault; within = omega (arith, h.last.counted, last) }
+
+module _ (files : Option (List File)) (before middle after : InputView) (told : AreToldAlike middle after) (file text : List ℕ) (first : IsReadLast (span files before middle) file text) where
+  is_parsed : (parsed : RecordView) → meaning text ≡ Ok parsed → IsParsed (span files before after) file text parsed
+  is_parsed parsed means = record { read = is_read_on files before middle after told file text first.read; means = means }
+
+  last_read : (contents : List (List ℕ)) → IsLastOf (span files middle after) contents → IsLast (span files before after) (last_of text contents)
+  last_read [] same =
+      let P : InputView → Type 0 = λ v. IsLast (span files before v) text in
+      subst P (sym same) first.last
+  last_read (bytes ∷ contents) h = record { counted = h.counted; ended = h.ended }
+
+  pub has_record : (recorded : RecordView) → HasParts (span files middle after) text recorded → HasRecord (span files before after) file recorded
+  has_record recorded h = record {
+    text = text;
+    parsed = h.parsed;
+    is_parsed = is_parsed h.parsed h.means;
+    contents = h.done.contents;
+    streams = h.done.streams;
+    loaded = record {
+      read = are_read_from files before middle after (stream_files h.parsed.lines) h.done.contents h.done.loaded.read;
+      stamps = h.done.loaded.stamps;
+    };
+    whole = h.done.whole;
+    last = last_read h.done.contents h.done.last;
+    no_fault = h.done.no_fault ∙ first.no_fault;
+  }
+
+  next_stream : (parsed : RecordView) → meaning text ≡ Ok parsed → (line : ℕ) (name : List ℕ) → IsAtStream (span files middle after) parsed line name → IsNextStream (span files before after) file name
+  next_stream parsed means line name at = record {
+    text = text;
+    parsed = parsed;
+    is_parsed = is_parsed parsed means;
+    line = line;
+    at = at_stream_from files before middle after parsed line name at;
+  }
+
+  -- the text is no record
+  no_lines : (why : NoRecord) → HasNoLines (span files middle after) text why → HasNoRecord (span files before after) file why
+  no_lines Unread h = absurd h.refusal
+  no_lines TooLong h = absurd h.refusal
+  no_lines (Refused refused) h =
+      let P : InputView → Type 0 = λ v. IsReadLast (span files before v) file text in
+      inl (record { text = text; read = subst P (sym h.untouched) first; means = h.refusal })
+  no_lines NoMemory h =
+      let P : InputView → Type 0 = λ v. RanOut (span files before v) in
+      subst P (sym h.untouched) (ran_out_behind (span files before middle) file text first)
+
+  -- a stream was not read
+  no_streams : (why : NoRecord) → HasNoStreams (span files middle after) text why → HasNoRecord (span files before after) file why
+  no_streams Unread h =
+      let c = h.cannot in
+      record { name = c.1; next = inr (next_stream h.parsed h.means c.0 c.1 c.2); unread = is_unread_from files before middle after c.1 first.no_fault c.3 }
+  no_streams TooLong h =
+      let c = h.cannot in
+      record { name = c.1; next = inr (next_stream h.parsed h.means c.0 c.1 c.2); too_long = is_too_long_from files before middle after c.1 first.no_fault c.3 }
+  no_streams (Refused refused) h =
+      let bad = h.cannot in
+      inr (record {
+        text = text;
+        parsed = h.parsed;
+        is_parsed = is_parsed h.parsed h.means;
+        bad = record {
+          line = bad.line;
+          name = bad.name;
+          at = at_stream_from files before middle after h.parsed bad.line bad.name bad.at;
+          bytes = bad.bytes;
+          read = is_read_last_from files before middle after bad.name bad.bytes first.no_fault bad.read;
+          no_stream = bad.no_stream;
+          number = bad.number;
+          cause = bad.cause;
+        };
+      })
+  no_streams NoMemory h = ran_out_from files before middle after first.no_fault h.cannot
+
+  pub has_no_record : (why : NoRecord) → HasNoParts (span files middle after) text why → HasNoRecord (span files before after) file why
+  has_no_record why (inl h) = no_lines why h
+  has_no_record why (inr h) = no_streams why h
+
+-- what comes of a file whose text was read
+pub record_read : (files other : Option (List File)) (before middle after : InputView) (file text same_text : List ℕ) (result : Result RecordView NoRecord) → IsReadLast (span files before middle) file text
+    → MatchResult result (HasParts (span other middle after) same_text) (HasNoParts (span other middle after) same_text)
+    → same_text ≡ text → other ≡ files → AreToldAlike middle after → MatchResult result (HasRecord (span files before after) file) (HasNoRecord (span files before after) file)
+record_read files other before middle after file text same_text result first parts t e told =
+    let P : Option (List File) → List ℕ → Type 0 = λ f bytes. MatchResult result (HasParts (span f middle after) bytes) (HasNoParts (span f middle after) bytes) in
+    let here = subst (λ (f : Option (List File)). P f text) e (subst (λ (bytes : List ℕ). P other bytes) t parts) in
+    MatchResult-weaker result here (has_record files before middle after told file text first) (has_no_record files before middle after told file text first)

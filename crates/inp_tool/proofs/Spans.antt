@@ -1,0 +1,81 @@
+-- What was read stays read while the input goes on.
+use Rattle.std.proofs.Common.{◌≡◌, ℕ, suc, List, [], ◌∷◌, ◌++◌, length, Option, refl, sym, ap, subst, ◌∙◌}
+use Rattle.std.specs.Prelude.{is_some, IsTrue}
+use Rattle.inp_edge.specs.File.{File}
+use Rattle.inp_tool.specs.Edge.{InputView, Reads}
+use Rattle.inp_tool.specs.Reading.{IsRead, IsLast, IsReadLast, IsUnread, IsTooLong, RanOut, AreRead, last_of}
+use Rattle.inp_tool.specs.Loading.{IsLastOf}
+
+-- an input over some calls
+abbrev pub span : Option (List File) → InputView → InputView → Reads
+span files before after = record { files = files; before = before; after = after }
+
+-- both states tell the same of the bytes that are left: that they are told, or that they are not
+abbrev pub AreToldAlike : InputView → InputView → Type 0
+AreToldAlike middle after = is_some after.left ≡ is_some middle.left
+
+module _ (files : Option (List File)) (before middle after : InputView) (told : AreToldAlike middle after) where
+  pub is_read_on : (name bytes : List ℕ) → IsRead (span files before middle) name bytes → IsRead (span files before after) name bytes
+  is_read_on name bytes h = record {
+    found = h.found;
+    within = h.within;
+    whole = λ t. h.whole (subst IsTrue told t);
+  }
+
+  pub are_read_on : (names contents : List (List ℕ)) → AreRead (span files before middle) names contents → AreRead (span files before after) names contents
+  are_read_on [] [] h = tt
+  are_read_on (name ∷ names) (bytes ∷ contents) h = (is_read_on name bytes h.0, are_read_on names contents h.1)
+  are_read_on [] (bytes ∷ contents) h = absurd h
+  are_read_on (name ∷ names) [] h = absurd h
+
+-- what is read does not depend on what was before
+pub is_read_from : (files : Option (List File)) (before middle after : InputView) (name bytes : List ℕ) → IsRead (span files middle after) name bytes → IsRead (span files before after) name bytes
+is_read_from files before middle after name bytes h = record { found = h.found; within = h.within; whole = h.whole }
+
+pub are_read_from : (files : Option (List File)) (before middle after : InputView) (names contents : List (List ℕ)) → AreRead (span files middle after) names contents → AreRead (span files before after) names contents
+are_read_from files before middle after [] [] h = tt
+are_read_from files before middle after (name ∷ names) (bytes ∷ contents) h = (is_read_from files before middle after name bytes h.0, are_read_from files before middle after names contents h.1)
+are_read_from files before middle after [] (bytes ∷ contents) h = absurd h
+are_read_from files before middle after (name ∷ names) [] h = absurd h
+
+pub are_read_push : (r : Reads) (names contents : List (List ℕ)) (name bytes : List ℕ) → AreRead r names contents → IsRead r name bytes → AreRead r (names ++ name ∷ []) (contents ++ bytes ∷ [])
+are_read_push r [] [] name bytes h one = (one, tt)
+are_read_push r (n ∷ names) (b ∷ contents) name bytes h one = (h.0, are_read_push r names contents name bytes h.1 one)
+are_read_push r [] (b ∷ contents) name bytes h one = absurd h
+are_read_push r (n ∷ names) [] name bytes h one = absurd h
+
+pub are_read_length : (r : Reads) (names contents : List (List ℕ)) → AreRead r names contents → length names ≡ length contents
+are_read_length r [] [] h = refl
+are_read_length r (n ∷ names) (b ∷ contents) h = ap suc (are_read_length r names contents h.1)
+are_read_length r [] (b ∷ contents) h = absurd h
+are_read_length r (n ∷ names) [] h = absurd h
+
+pub last_of_push : (first : List ℕ) (contents : List (List ℕ)) (bytes : List ℕ) → last_of first (contents ++ bytes ∷ []) ≡ bytes
+last_of_push first [] bytes = refl
+last_of_push first (next ∷ contents) bytes = last_of_push next contents bytes
+
+-- the file that was read last is the last one
+pub is_last_push : (files : Option (List File)) (before middle after : InputView) (contents : List (List ℕ)) (bytes : List ℕ) → IsLast (span files middle after) bytes → IsLastOf (span files before after) (contents ++ bytes ∷ [])
+is_last_push files before middle after [] bytes h = record { counted = h.counted; ended = h.ended }
+is_last_push files before middle after (first ∷ contents) bytes h =
+    let P : List ℕ → Type 0 = λ b. IsLast (span files before after) b in
+    let here : P bytes = record { counted = h.counted; ended = h.ended } in
+    subst P (sym (last_of_push first contents bytes)) here
+
+-- Faults before a span that had none are those of the whole.
+
+pub is_unread_from : (files : Option (List File)) (before middle after : InputView) (name : List ℕ) → middle.faults ≡ before.faults → IsUnread (span files middle after) name → IsUnread (span files before after) name
+is_unread_from files before middle after name e h = record { fault = rw e at h.fault; within = h.within }
+
+pub is_too_long_from : (files : Option (List File)) (before middle after : InputView) (name : List ℕ) → middle.faults ≡ before.faults → IsTooLong (span files middle after) name → IsTooLong (span files before after) name
+is_too_long_from files before middle after name e h = record { found = h.found; no_fault = h.no_fault ∙ e; given = h.given; longer = h.longer }
+
+pub ran_out_from : (files : Option (List File)) (before middle after : InputView) → middle.faults ≡ before.faults → RanOut (span files middle after) → RanOut (span files before after)
+ran_out_from files before middle after e h = record { no_fault = h.no_fault ∙ e; within = h.within }
+
+pub is_read_last_from : (files : Option (List File)) (before middle after : InputView) (name bytes : List ℕ) → middle.faults ≡ before.faults → IsReadLast (span files middle after) name bytes → IsReadLast (span files before after) name bytes
+is_read_last_from files before middle after name bytes e h = record {
+  read = is_read_from files before middle after name bytes h.read;
+  last = record { counted = h.last.counted; ended = h.last.ended };
+  no_fault = h.no_fault ∙ e;
+}

@@ -1,9 +1,0 @@
-use Rattle.std.proofs.Common.{◌≡◌, ◌++◌, take, string_bytes}
-use Rattle.std.specs.List.{flat_map}
-use Rattle.inp_tool.specs.Report.{sight_line}
-use Rattle.inp_tool.proofs.report.push_sights.Given as goal
-
--- the lines of the entries so far
-abbrev pub invariant-loop-sight : goal.invariant-loop-sight
-invariant-loop-sight l =
-    string_bytes l.text ≡ string_bytes l.initial.text ++ flat_map sight_line (take l.sight-index l.sights)

@@ -1,0 +1,74 @@
+-- When the program's one call writes its report (docs/PROMISES.md).
+use Rattle.std.specs.Prelude.{ℕ, ◌≡◌, ◌≤◌, ◌<◌, ◌⊎◌, Bool, List, [], ◌∷◌, length, map, Some, IsSome, Ok}
+use Rattle.inp_edge.specs.Count.{LAST}
+use Rattle.inp_edge.specs.File.{File, bytes_of}
+use Rattle.inp_edge.specs.Sink.{Appends}
+use Rattle.inp_edge.specs.declared.input.TheConstants.{INPUT_LIMIT}
+use Rattle.inp_args.specs.declared.request.Request.TheVariants.{Make}
+use Rattle.inp_args.specs.Request.{requested}
+use Rattle.inp_make.specs.Generated.{generated}
+use Rattle.inp_model.specs.declared.stamped.Stamped.{Stamped}
+use Rattle.inp_actors.specs.Record.{RecordView}
+use Rattle.inp_record.specs.Meaning.{meaning}
+use Rattle.inp_record.specs.Stream.{stamps_of}
+use Rattle.inp_script.specs.declared.run.Run.{Run}
+use Rattle.inp_play.specs.Play.{IsPlay}
+use Rattle.inp_report.specs.Report.{report}
+use Rattle.inp_report.specs.Summary.{summary}
+use Rattle.inp_tool.specs.declared.end.End.{End}
+use Rattle.inp_tool.specs.Edge.{Reads, Writes}
+use Rattle.inp_tool.specs.Streams.{stream_files}
+use Rattle.inp_tool.specs.Outcome.{played_status}
+use Rattle.inp_tool.specs.Promise.{Words, AskFor}
+
+-- a count that can rise and did not
+abbrev pub IsFaultless : ℕ → ℕ → Type 0
+IsFaultless before after = (before < LAST) × (after ≡ before)
+
+-- a file of this name is there, with these bytes, which are within the limit
+pub record IsThere (files : List File) (name bytes : List ℕ) : Type 0 where
+  pub file : bytes_of files name ≡ Some bytes
+  pub within : length bytes ≤ INPUT_LIMIT
+
+-- files of these names are there, one for each, with these contents
+abbrev pub AreThere : List File → List (List ℕ) → List (List ℕ) → Type 0
+AreThere files [] [] = Unit {0}
+AreThere files (name ∷ names) (bytes ∷ contents) = IsThere files name bytes × AreThere files names contents
+AreThere files [] (bytes ∷ contents) = ⊥
+AreThere files (name ∷ names) [] = ⊥
+
+-- FILE and the files of its stream lines are there, in an input that tells their bytes, and are this record with its
+-- streams.
+pub record IsReadable (r : Reads) (file : List ℕ) (recorded : RecordView) : Type 0 where
+  pub files : List File
+  pub told_files : r.files ≡ Some files
+  pub told_bytes : IsSome r.before.left
+  pub text : List ℕ
+  pub there : IsThere files file text
+  pub parsed : RecordView
+  pub means : meaning text ≡ Ok parsed
+  pub contents : List (List ℕ)
+  pub streams : List (List Stamped)
+  pub are_there : AreThere files (stream_files parsed.lines) contents
+  pub stamps : map stamps_of contents ≡ map Some streams
+  pub whole : recorded ≡ record parsed { streams = streams }
+
+-- The text that tells the runs of this record was written whole. The status is 6 where a job stopped since a history was
+-- full, and else 0.
+pub record IsTold (w : Writes) (recorded : RecordView) (text : List Run → List ℕ) (end : End) : Type 0 where
+  pub runs : IsPlay recorded end.runs
+  pub status : end.status ≡ played_status end.runs
+  pub written : Appends (text end.runs) w.before.written w.after.written
+
+-- The summary of a record that was made was written whole. No job of it stops since a history is full: the status is 0.
+pub record IsToldWhole (w : Writes) (number count : ℕ) (end : End) : Type 0 where
+  pub told : IsTold w (generated number count) (λ runs. summary number count (generated number count) runs) end
+  pub status : end.status ≡ 0
+
+-- A record that is there, or a record to be made, and no fault: its report or its summary, or want of memory.
+pub record IsComplete (words : Words) (r : Reads) (w : Writes) (end : End) : Type 0 where
+  pub read : (file : List ℕ) (history : Bool) (recorded : RecordView) → AskFor words file history → IsReadable r file recorded
+      → IsFaultless r.before.faults r.after.faults → IsFaultless w.before.faults w.after.faults
+      → (end.status ≡ 5) ⊎ IsTold w recorded (λ runs. report recorded runs history) end
+  pub made : (number count : ℕ) → requested words ≡ Some (Make number count) → IsFaultless w.before.faults w.after.faults
+      → (end.status ≡ 5) ⊎ IsToldWhole w number count end

@@ -1,0 +1,49 @@
+-- What a call's input and sink tell before the call and after it.
+use Rattle.std.specs.Prelude.{ℕ, ◌≡◌, List, Option}
+use Rattle.inp_edge.specs.File.{File}
+
+-- what an input tells besides its files: how many bytes were given since a file was begun, the bytes that are left of it,
+-- and how often a call was at fault
+pub record InputView : Type 0 where
+  pub given : ℕ
+  pub left : Option (List ℕ)
+  pub faults : ℕ
+
+-- what a sink tells: the bytes written, and how often a call was at fault
+pub record SinkView : Type 0 where
+  pub written : Option (List ℕ)
+  pub faults : ℕ
+
+-- an input over some calls: its files, which stay, and what else it tells before the calls and after them
+pub record Reads : Type 0 where
+  pub files : Option (List File)
+  pub before : InputView
+  pub after : InputView
+
+-- a sink over some calls
+pub record Writes : Type 0 where
+  pub before : SinkView
+  pub after : SinkView
+
+-- by what an input and a sink tell, the input as it was before some calls and as it is after them
+abbrev pub reads_of : {I : Type 0}
+    → (I → Option (List File)) → (I → ℕ) → (I → Option (List ℕ)) → (I → ℕ) → I → I → Reads
+reads_of files given left faults old new = record {
+  files = files old;
+  before = record { given = given old; left = left old; faults = faults old };
+  after = record { given = given new; left = left new; faults = faults new };
+}
+
+abbrev pub writes_of : {O : Type 0} → (O → Option (List ℕ)) → (O → ℕ) → O → O → Writes
+writes_of written faults old new = record {
+  before = record { written = written old; faults = faults old };
+  after = record { written = written new; faults = faults new };
+}
+
+-- no call of the input was at fault
+abbrev pub KeepsInputFaults : Reads → Type 0
+KeepsInputFaults r = r.after.faults ≡ r.before.faults
+
+-- no call of the sink was at fault
+abbrev pub KeepsSinkFaults : Writes → Type 0
+KeepsSinkFaults w = w.after.faults ≡ w.before.faults

@@ -1,0 +1,156 @@
+-- What it means that a record and its streams were read, and that they were not.
+use Rattle.std.specs.Prelude.{ℕ, ◌≡◌, ◌≤◌, ◌<◌, ◌⊎◌, IsTrue, is_some, List, [], ◌∷◌, length, map, take, slice_get, Some, None, option_map, Ok, Err}
+use Rattle.inp_edge.specs.Count.{RoseUnlessSaturated}
+use Rattle.inp_edge.specs.File.{IsMissing, HasFile, HasLongerFile}
+use Rattle.inp_edge.specs.Input.{IsAtEnd}
+use Rattle.inp_edge.specs.declared.input.TheConstants.{INPUT_LIMIT}
+use Rattle.inp_model.specs.declared.stamped.Stamped.{Stamped}
+use Rattle.inp_actors.specs.declared.line.Line.{Line}
+use Rattle.inp_actors.specs.Record.{RecordView}
+use Rattle.inp_words.specs.Line.{lines_of as text_lines}
+use Rattle.inp_record.specs.declared.refused.Refused.{Refused}
+use Rattle.inp_record.specs.declared.cause.Cause.TheVariants.{BadStream}
+use Rattle.inp_record.specs.Meaning.{meaning}
+use Rattle.inp_record.specs.Stream.{stamps_of}
+use Rattle.inp_record.specs.LineNumber.{action_numbers}
+use Rattle.inp_tool.specs.declared.no_record.NoRecord.{NoRecord}
+use Rattle.inp_tool.specs.declared.no_record.NoRecord.TheVariants.{Unread, TooLong, Refused as IsRefused, NoMemory}
+use Rattle.inp_tool.specs.Edge.{Reads, KeepsInputFaults}
+use Rattle.inp_tool.specs.Streams.{file_of, stream_files}
+
+-- The file of this name was read, and these are its bytes, all of them where the input tells its bytes.
+pub record IsRead (r : Reads) (name bytes : List ℕ) : Type 0 where
+  pub found : ¬ (IsMissing r.files name)
+  pub within : length bytes ≤ INPUT_LIMIT
+  pub whole : IsTrue (is_some r.after.left) → HasFile r.files name bytes
+
+-- These bytes are those of the file that was read last, to its end.
+pub record IsLast (r : Reads) (bytes : List ℕ) : Type 0 where
+  pub counted : length bytes ≡ r.after.given
+  pub ended : IsAtEnd r.after.left
+
+-- a file was read, after which no other was, and no call was at fault
+pub record IsReadLast (r : Reads) (name bytes : List ℕ) : Type 0 where
+  pub read : IsRead r name bytes
+  pub last : IsLast r bytes
+  pub no_fault : KeepsInputFaults r
+
+-- the file of this name was not read: a call was at fault, or no file has this name
+pub record IsUnread (r : Reads) (name : List ℕ) : Type 0 where
+  pub fault : RoseUnlessSaturated r.before.faults r.after.faults ⊎ IsMissing r.files name
+  pub within : r.after.given ≤ INPUT_LIMIT
+
+-- more bytes were given of the file of this name than an input may have, and the file has more
+pub record IsTooLong (r : Reads) (name : List ℕ) : Type 0 where
+  pub found : ¬ (IsMissing r.files name)
+  pub no_fault : KeepsInputFaults r
+  pub given : INPUT_LIMIT < r.after.given
+  pub longer : IsTrue (is_some r.after.left) → HasLongerFile r.files name INPUT_LIMIT
+
+-- Memory ran out while files were read: no call was at fault, and no file was too long.
+pub record RanOut (r : Reads) : Type 0 where
+  pub no_fault : KeepsInputFaults r
+  pub within : r.after.given ≤ INPUT_LIMIT
+
+-- why a single file was not read
+abbrev pub CannotRead : Reads → List ℕ → NoRecord → Type 0
+CannotRead r name Unread = IsUnread r name
+CannotRead r name TooLong = IsTooLong r name
+CannotRead r name (IsRefused refused) = ⊥
+CannotRead r name NoMemory = RanOut r
+
+-- the files of these names were read, one for each, and these are their contents
+abbrev pub AreRead : Reads → List (List ℕ) → List (List ℕ) → Type 0
+AreRead r [] [] = Unit {0}
+AreRead r (name ∷ names) (bytes ∷ contents) = IsRead r name bytes × AreRead r names contents
+AreRead r [] (bytes ∷ contents) = ⊥
+AreRead r (name ∷ names) [] = ⊥
+
+-- The files of these names were read, and these are their contents and the events that they hold.
+pub record AreLoaded (r : Reads) (names contents : List (List ℕ)) (streams : List (List Stamped)) : Type 0 where
+  pub read : AreRead r names contents
+  pub stamps : map stamps_of contents ≡ map Some streams
+
+-- the file was read, and its text is a record, whose streams are still empty
+pub record IsParsed (r : Reads) (file text : List ℕ) (parsed : RecordView) : Type 0 where
+  pub read : IsRead r file text
+  pub means : meaning text ≡ Ok parsed
+
+-- An action line names this file, and the streams of the lines before it are loaded.
+pub record IsAtStream (r : Reads) (parsed : RecordView) (line : ℕ) (name : List ℕ) : Type 0 where
+  pub contents : List (List ℕ)
+  pub streams : List (List Stamped)
+  pub loaded : AreLoaded r (stream_files (take line parsed.lines)) contents streams
+  pub here : option_map (λ (l : Line). file_of l.command) (slice_get parsed.lines line) ≡ Some (name ∷ [])
+
+-- the next file to be read is that of a stream line
+pub record IsNextStream (r : Reads) (file name : List ℕ) : Type 0 where
+  pub text : List ℕ
+  pub parsed : RecordView
+  pub is_parsed : IsParsed r file text parsed
+  pub line : ℕ
+  pub at : IsAtStream r parsed line name
+
+-- The next file to be read: FILE, and behind it the files of its stream lines, in line order.
+abbrev pub IsNext : Reads → List ℕ → List ℕ → Type 0
+IsNext r file name = (name ≡ file) ⊎ IsNextStream r file name
+
+-- the next file was not read
+pub record HasUnread (r : Reads) (file : List ℕ) : Type 0 where
+  pub name : List ℕ
+  pub next : IsNext r file name
+  pub unread : IsUnread r name
+
+-- the next file is too long
+pub record HasTooLong (r : Reads) (file : List ℕ) : Type 0 where
+  pub name : List ℕ
+  pub next : IsNext r file name
+  pub too_long : IsTooLong r name
+
+-- FILE was read, and its text is no record, by a line and its cause that the text alone decides
+pub record HasBadText (r : Reads) (file : List ℕ) (refused : Refused) : Type 0 where
+  pub text : List ℕ
+  pub read : IsReadLast r file text
+  pub means : meaning text ≡ Err refused
+
+-- the file of a stream line was read, and its bytes are no stream
+pub record IsBadStream (r : Reads) (text : List ℕ) (parsed : RecordView) (refused : Refused) : Type 0 where
+  pub line : ℕ
+  pub name : List ℕ
+  pub at : IsAtStream r parsed line name
+  pub bytes : List ℕ
+  pub read : IsReadLast r name bytes
+  pub no_stream : stamps_of bytes ≡ None
+  pub number : slice_get (action_numbers 1 (text_lines text)) line ≡ Some refused.line
+  pub cause : refused.cause ≡ BadStream
+
+pub record HasBadStream (r : Reads) (file : List ℕ) (refused : Refused) : Type 0 where
+  pub text : List ℕ
+  pub parsed : RecordView
+  pub is_parsed : IsParsed r file text parsed
+  pub bad : IsBadStream r text parsed refused
+
+-- why FILE gave no record
+abbrev pub HasNoRecord : Reads → List ℕ → NoRecord → Type 0
+HasNoRecord r file Unread = HasUnread r file
+HasNoRecord r file TooLong = HasTooLong r file
+HasNoRecord r file (IsRefused refused) = HasBadText r file refused ⊎ HasBadStream r file refused
+HasNoRecord r file NoMemory = RanOut r
+
+-- the last of some contents
+abbrev pub last_of : List ℕ → List (List ℕ) → List ℕ
+last_of bytes [] = bytes
+last_of bytes (next ∷ contents) = last_of next contents
+
+-- FILE and the files of its stream lines were read, each to its end, and no call was at fault. The text of FILE is a
+-- record, the contents of the other files are its streams, and this is the record with its streams.
+pub record HasRecord (r : Reads) (file : List ℕ) (recorded : RecordView) : Type 0 where
+  pub text : List ℕ
+  pub parsed : RecordView
+  pub is_parsed : IsParsed r file text parsed
+  pub contents : List (List ℕ)
+  pub streams : List (List Stamped)
+  pub loaded : AreLoaded r (stream_files parsed.lines) contents streams
+  pub whole : recorded ≡ record parsed { streams = streams }
+  pub last : IsLast r (last_of text contents)
+  pub no_fault : KeepsInputFaults r

@@ -1,0 +1,384 @@
+//! The program's one call over inputs and sinks in memory and over real files: whole runs, and each status.
+
+mod texts;
+
+use crate::{End, inputplay};
+use inp_edge::{
+    Failed, Fails, FileInput, Gate, INPUT_LIMIT, Input, MemFile, MemFiles, MemInput, MemSink,
+    OpenGate,
+};
+use inp_record::{ParseFault, Record, parse, print};
+use std::alloc::{AllocError, Global};
+use std::fs;
+use std::rt::Files;
+use std::sync::atomic::{AtomicU64, Ordering};
+use std::test::Fail;
+use texts::{
+    AXIS_HEAD, AXIS_NEXT, AXIS_SKIP, CLIENT, CLIENT_REPORT, FULL, FULL_REPORT, HISTORY_REPORT,
+    MADE, ONE_KEY, ONE_KEY_PRINTED, ONE_KEY_REPORT, REFUSED, REVOKED, REVOKED_REPORT, STREAM,
+    STREAM_AND_BAD_LINE, STREAMS, STREAMS_REPORT, USAGE, VIEWS, VIEWS_REPORT,
+};
+
+/// Room for every text of these tests.
+const AMPLE: usize = 1_000_000;
+
+const FAILED: &str = "inputplay: read failed\n";
+
+/// No calls that fail.
+const NONE: &[u64] = &[];
+
+/// The key A goes down and a frame ends, both at the moment 1000: two records of 24 bytes.
+const PRESS: &[u8] = &[
+    0, 0, 0, 0, 0, 0, 0, 0, 0xe8, 3, 0, 0, 0, 0, 0, 0, 1, 0, 30, 0, 1, 0, 0, 0, 0, 0, 0, 0, 0, 0,
+    0, 0, 0xe8, 3, 0, 0, 0, 0, 0, 0, 0, 0, 0, 0, 0, 0, 0, 0,
+];
+
+/// An input with these files, whose calls of these numbers fail.
+fn input_of(alloc: Global, files: &[(&str, &[u8])], fails: &[u64]) -> Result<MemInput, Fail> {
+    let mut told = MemFiles::new(alloc);
+    for (name, bytes) in files {
+        let bytes = bytes.to_vec(alloc)?;
+        told.push(MemFile::new(String::from_str(alloc, name)?, bytes))?;
+    }
+    Ok(MemInput::new(told, Fails::of(fails.to_vec(alloc)?)))
+}
+
+/// A sink with so much room, whose calls of these numbers fail.
+fn sink_of(alloc: Global, room: usize, fails: &[u64]) -> Result<MemSink, Fail> {
+    Ok(MemSink::new(alloc, room, Fails::of(fails.to_vec(alloc)?))?)
+}
+
+/// The words of a command line.
+fn words_of(alloc: Global, texts: &[&str]) -> Result<Vec<String>, AllocError> {
+    let mut words = Vec::new(alloc);
+    for text in texts {
+        words.push(String::from_str(alloc, text)?)?;
+    }
+    Ok(words)
+}
+
+/// The call, without what its contract says: these tests look at what it does.
+fn call<I: Input>(alloc: Global, words: &[String], input: &mut I, sink: &mut MemSink) -> End {
+    inputplay(alloc, words, input, sink, &OpenGate)
+}
+
+/// The end of a call of these words over these files, and what it wrote.
+fn run(
+    alloc: Global,
+    texts: &[&str],
+    files: &[(&str, &[u8])],
+    fails: &[u64],
+) -> Result<(End, MemSink), Fail> {
+    let words = words_of(alloc, texts)?;
+    let mut input = input_of(alloc, files, fails)?;
+    let mut sink = sink_of(alloc, AMPLE, NONE)?;
+    let end = call(alloc, &words, &mut input, &mut sink);
+    Ok((end, sink))
+}
+
+#[test]
+fn plays_whole_records(rt: HostRuntime) -> Result<(), Fail> {
+    let f = ["f"].as_slice();
+    // The words, the file, the status and the text.
+    let table = [
+        (f, ONE_KEY, 0, ONE_KEY_REPORT),
+        (["--history", "f"].as_slice(), ONE_KEY, 0, HISTORY_REPORT),
+        (f, CLIENT, 0, CLIENT_REPORT),
+        (f, "", 1, "inputplay: line 1: bad-header\n"),
+        (f, "inputrecord 1\n", 0, ""),
+        (f, "inputrecord 1\ndevice d\n", 0, "device d steps 0\n"),
+        (f, FULL, 6, FULL_REPORT),
+        (f, REVOKED, 0, REVOKED_REPORT),
+        (f, STREAM, 0, ONE_KEY_REPORT),
+        (f, STREAMS, 0, STREAMS_REPORT),
+        // No file is read where a record is made.
+        (["--make=7", "--count=20"].as_slice(), "no record", 0, MADE),
+    ];
+    for (texts, text, status, want) in table {
+        let files = [("f", text.as_bytes()), ("keys", PRESS), ("more", PRESS)];
+        let (end, sink) = run(rt.alloc(), texts, &files, NONE)?;
+        assert_eq!(rt; end.status, status, "{text}");
+        assert_eq!(rt; sink.bytes(), want.as_bytes(), "{text}");
+    }
+    Ok(())
+}
+
+#[test]
+fn tells_what_a_client_lost(rt: HostRuntime) -> Result<(), Fail> {
+    for (command, want) in [("do c next 10", AXIS_NEXT), ("do c skip 10", AXIS_SKIP)] {
+        let mut text = String::from_str(rt.alloc(), AXIS_HEAD)?;
+        for frame in 0..33 {
+            let value = if frame % 2 == 0 { "6" } else { "5" };
+            text.push_str("do s event 0 EV_ABS ABS_X ")?;
+            text.push_str(value)?;
+            text.push_str("\ndo s event 0 EV_SYN SYN_REPORT 0\n")?;
+        }
+        text.push_str(command)?;
+        let files = [("f", text.as_bytes())];
+        let (end, sink) = run(rt.alloc(), &["f"], &files, NONE)?;
+        assert_eq!(rt; end.status, 0);
+        assert!(rt; sink.bytes().ends_with(want.as_bytes()), "{command}");
+    }
+    Ok(())
+}
+
+/// So many frames of motion, as the records of a stream.
+fn motion(alloc: Global, frames: usize) -> Result<Vec<u8>, AllocError> {
+    let mut bytes = Vec::new(alloc);
+    for frame in 0..frames {
+        let low = (160 + frame % 64) as u8;
+        for head in [[2, 0, 0, 0, 1], [0, 0, 0, 0, 0]] {
+            bytes.extend_from_slice(&[0; 8])?;
+            bytes.extend_from_slice(&[low, 15, 0, 0, 0, 0, 0, 0])?;
+            bytes.extend_from_slice(&head)?;
+            bytes.extend_from_slice(&[0; 3])?;
+        }
+    }
+    Ok(bytes)
+}
+
+// A full ring, a change of clock, a grab, a mask, an inhibition and a revoked client (docs/PROMISES.md, "An example").
+#[test]
+fn plays_what_a_view_can_be_trusted_in(rt: HostRuntime) -> Result<(), Fail> {
+    let flood = motion(rt.alloc(), 33)?;
+    let files = [("f", VIEWS.as_bytes()), ("flood", flood.as_slice())];
+    let (end, sink) = run(rt.alloc(), &["f"], &files, NONE)?;
+    assert_eq!(rt; end.status, 0);
+    assert_eq!(rt; sink.bytes(), VIEWS_REPORT.as_bytes());
+    Ok(())
+}
+
+#[test]
+fn refuses_words(rt: HostRuntime) -> Result<(), Fail> {
+    // The words, and what is wrong with them.
+    let table = [
+        ([].as_slice(), "there are none"),
+        (["f", "f"].as_slice(), "two files"),
+        (["--threads", "f"].as_slice(), "no option"),
+        (["--make", "4294967296"].as_slice(), "no number"),
+        (
+            ["--make", "7", "--count", "10001"].as_slice(),
+            "too many frames",
+        ),
+        (["--make", "7", "f"].as_slice(), "a number and a file"),
+        (
+            ["--history", "--make", "7"].as_slice(),
+            "a summary has no history",
+        ),
+    ];
+    let files = [("f", ONE_KEY.as_bytes())];
+    for (texts, why) in table {
+        let (end, sink) = run(rt.alloc(), texts, &files, NONE)?;
+        assert_eq!(rt; end.status, 2, "{why}");
+        assert_eq!(rt; sink.bytes(), USAGE.as_bytes(), "{why}");
+    }
+    Ok(())
+}
+
+#[test]
+fn refuses_lines(rt: HostRuntime) -> Result<(), Fail> {
+    for (text, line, want) in REFUSED {
+        let files = [("f", text.as_bytes())];
+        let (end, sink) = run(rt.alloc(), &["f"], &files, NONE)?;
+        assert_eq!(rt; end.status, 1);
+        assert_eq!(rt; end.refused.map(|refused| refused.line), Some(line));
+        assert_eq!(rt; sink.bytes(), want.as_bytes());
+    }
+    Ok(())
+}
+
+#[test]
+fn tells_failed_reads(rt: HostRuntime) -> Result<(), Fail> {
+    // The file, the call of the input that fails, the status and the text.
+    let table = [
+        (ONE_KEY, 0, 3, FAILED),
+        (ONE_KEY, 1, 3, FAILED),
+        (ONE_KEY, 2, 3, FAILED),
+        (ONE_KEY, 3, 0, ONE_KEY_REPORT),
+        // The stream is read after the text.
+        (STREAM, 3, 3, FAILED),
+        (STREAM, 5, 3, FAILED),
+        (STREAM, 6, 0, ONE_KEY_REPORT),
+        // No stream is read before all lines were judged.
+        (STREAM_AND_BAD_LINE, 3, 1, "inputplay: line 8: bad-line\n"),
+    ];
+    for (text, fail, status, want) in table {
+        let files = [("f", text.as_bytes()), ("keys", PRESS)];
+        let (end, sink) = run(rt.alloc(), &["f"], &files, &[fail])?;
+        assert_eq!(rt; end.status, status, "{text}");
+        assert_eq!(rt; sink.bytes(), want.as_bytes(), "{text}");
+    }
+    Ok(())
+}
+
+#[test]
+fn tells_files_that_are_missing_or_bad(rt: HostRuntime) -> Result<(), Fail> {
+    let long = vec![in rt.alloc(); b'x'; INPUT_LIMIT + 1]?;
+    let too_long = "inputplay: input too long\n";
+    let bad = "inputplay: line 7: bad-stream\n";
+    // The names of the three files, the bytes of the second, the status and the text.
+    let table = [
+        (["g", "keys", "more"], PRESS, 3, FAILED),
+        (["f", "g", "more"], PRESS, 3, FAILED),
+        (["f", "keys", "g"], PRESS, 3, FAILED),
+        (["f", "keys", "more"], long.as_slice(), 7, too_long),
+        (["g", "f", "more"], long.as_slice(), 7, too_long),
+        // The first stream that is at fault decides.
+        (["f", "keys", "g"], &PRESS[..47], 1, bad),
+    ];
+    for ([text, keys, more], bytes, status, want) in table {
+        let files = [(text, STREAMS.as_bytes()), (keys, bytes), (more, PRESS)];
+        let (end, sink) = run(rt.alloc(), &["f"], &files, NONE)?;
+        assert_eq!(rt; end.status, status, "{keys} {more}");
+        assert_eq!(rt; sink.bytes(), want.as_bytes(), "{keys} {more}");
+        assert!(rt; end.runs.is_empty());
+    }
+    Ok(())
+}
+
+#[test]
+fn writes_what_fits(rt: HostRuntime) -> Result<(), Fail> {
+    let whole = ONE_KEY_REPORT.as_bytes();
+    let words = words_of(rt.alloc(), &["f"])?;
+    // The room, the call of the sink that fails, and how many bytes are written.
+    let table = [(AMPLE, 0, 0), (0, 9, 0), (1, 9, 1), (100, 9, 100)];
+    let files = [("f", ONE_KEY.as_bytes())];
+    for (room, fail, count) in table {
+        let mut input = input_of(rt.alloc(), &files, NONE)?;
+        let mut sink = sink_of(rt.alloc(), room, &[fail])?;
+        let end = call(rt.alloc(), &words, &mut input, &mut sink);
+        assert_eq!(rt; end.status, 4);
+        assert_eq!(rt; sink.bytes(), &whole[..count]);
+        assert_eq!(rt; end.runs.len(), 1);
+    }
+    // A fault's text that is cut off leaves no runs.
+    let mut input = input_of(rt.alloc(), &[], NONE)?;
+    let mut sink = sink_of(rt.alloc(), 3, NONE)?;
+    let end = call(rt.alloc(), &words, &mut input, &mut sink);
+    assert_eq!(rt; end.status, 4);
+    assert_eq!(rt; sink.bytes(), b"inp".as_slice());
+    assert!(rt; end.runs.is_empty());
+    Ok(())
+}
+
+#[test]
+fn tells_the_faults_of_real_files(rt: HostRuntime) -> Result<(), Fail> {
+    let path = "inp_tool_tells_the_faults_of_real_files";
+    fs::write(&rt, path, ONE_KEY.as_bytes())?;
+    // The file, the status, the text, the input's count of faults, and what a read after the call answers.
+    let table = [
+        (path, 0, ONE_KEY_REPORT, 0, Ok(0)),
+        // A folder opens, and its read fails.
+        (".", 3, FAILED, 1, Err(Failed)),
+        ("no such file", 3, FAILED, 3, Ok(0)),
+    ];
+    let mut input = FileInput::new(&rt);
+    for (name, status, want, faults, after) in table {
+        let words = words_of(rt.alloc(), &[name])?;
+        let mut sink = sink_of(rt.alloc(), AMPLE, NONE)?;
+        let end = call(rt.alloc(), &words, &mut input, &mut sink);
+        assert_eq!(rt; end.status, status, "{name}");
+        assert_eq!(rt; sink.bytes(), want.as_bytes(), "{name}");
+        assert_eq!(rt; input.faults(), faults, "{name}");
+        assert_eq!(rt; input.read(&mut [0]), after, "{name}");
+    }
+    rt.remove_file(path)?;
+    Ok(())
+}
+
+/// A gate that counts its calls.
+#[derive(Drop)]
+struct CountingGate {
+    calls: AtomicU64,
+}
+
+impl Gate for CountingGate {
+    fn before(&self, _job: u32, _call: u32) {
+        let _before = self.calls.fetch_add(1, Ordering::SeqCst);
+    }
+}
+
+/// An input that gives one byte at a time.
+#[derive(Drop)]
+struct OneByOne {
+    inner: MemInput,
+}
+
+impl Input for OneByOne {
+    ghost use Rattle.std.specs.Prelude.{Some};
+
+    ghost files = { λ input. Some input.inner.files };
+
+    ghost left = { λ input. Some input.inner.left };
+
+    ghost given = { λ input. input.inner.given };
+
+    ghost faults = { λ input. input.inner.calls.faults };
+
+    fn begin(&mut self, name: &str) -> Result<(), Failed> {
+        self.inner.begin(name)
+    }
+
+    fn read(&mut self, buf: &mut [u8]) -> Result<usize, Failed> {
+        let mut byte = [0];
+        let count = self.inner.read(&mut byte)?;
+        if count == 1 {
+            buf[0] = byte[0];
+        }
+        Ok(count)
+    }
+}
+
+#[test]
+fn reads_in_pieces_and_passes_no_gate(rt: HostRuntime) -> Result<(), Fail> {
+    let files = [("f", STREAM.as_bytes()), ("keys", PRESS)];
+    let mut input = OneByOne {
+        inner: input_of(rt.alloc(), &files, NONE)?,
+    };
+    let mut sink = sink_of(rt.alloc(), AMPLE, NONE)?;
+    let words = words_of(rt.alloc(), &["f"])?;
+    let gate = CountingGate {
+        calls: AtomicU64::new(0),
+    };
+    gate.before(0, 0);
+    let end = inputplay(rt.alloc(), &words, &mut input, &mut sink, &gate);
+    assert_eq!(rt; end.status, 0);
+    assert_eq!(rt; sink.bytes(), ONE_KEY_REPORT.as_bytes());
+    assert_eq!(rt;
+        gate.calls.load(Ordering::SeqCst),
+        1,
+        "the test's own call alone"
+    );
+    Ok(())
+}
+
+// Run with each allocation refused in turn (docs/DECISIONS.md): whichever it is, the call ends in its report or says that
+// memory ran out.
+#[test]
+fn ends_in_its_report_or_in_want_of_memory(rt: HostRuntime) -> Result<(), Fail> {
+    let files = [("f", STREAM.as_bytes()), ("keys", PRESS)];
+    let (end, sink) = run(rt.alloc(), &["f"], &files, NONE)?;
+    let want = match end.status {
+        0 => ONE_KEY_REPORT,
+        5 => "inputplay: out of memory\n",
+        _ => "another status",
+    };
+    assert_eq!(rt; sink.bytes(), want.as_bytes());
+    Ok(())
+}
+
+/// The record that a short text is.
+fn read(alloc: Global, text: &str) -> Result<Record, ParseFault> {
+    if text.len() > 100_000 {
+        return Err(ParseFault::NoMemory);
+    }
+    parse(alloc, text.as_bytes())
+}
+
+#[test]
+fn prints_a_record(rt: HostRuntime) -> Result<(), Fail> {
+    let recorded = read(rt.alloc(), ONE_KEY)?;
+    let printed = print(rt.alloc(), &recorded)?;
+    assert_eq!(rt; printed.as_slice(), ONE_KEY_PRINTED.as_bytes());
+    Ok(())
+}
