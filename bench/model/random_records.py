@@ -1,0 +1,177 @@
+#!/usr/bin/env python3
+"""Writes random records, each with the report that the model gives of it, into a folder for `rt try --cases`.
+
+usage: random_records.py FOLDER COUNT SEED [--history]
+"""
+
+import os
+import random
+import sys
+
+from device import SLOT, ID
+from model import play
+from names import ABS, CODES, GREATEST, KEY, LED, MSC, REL, REP, SND, SW, code_text, kind_text
+
+CLOCKS = ["realtime", "monotonic", "boottime"]
+FULL = 2**64 - 1
+
+
+class Generator:
+    def __init__(self, seed):
+        self.r = random.Random(seed)
+        self.now = 1000
+        self.devices = []
+
+    def moment(self):
+        self.now += self.r.choice([0, 0, 1, 1000, 10000, 100000])
+        return self.now + self.r.choice([0, 0, 0, -500])
+
+    def value(self, kind, code, slots):
+        r = self.r
+        if kind == KEY:
+            return r.choice([0, 1, 1, 0, 2, -1])
+        if (kind, code) == (ABS, SLOT):
+            return r.randint(-1, slots + 1)
+        if (kind, code) == (ABS, ID):
+            return r.choice([-1, -1, 1, 2, 3, 70000])
+        if kind == ABS:
+            return r.choice([r.randint(-20, 20), r.randint(-500, 500), r.randint(-(2**31), 2**31 - 1)])
+        if kind == REP:
+            return r.choice([-1, 0, 10, 33, 250])
+        return r.choice([0, 1, 1, -2, 5])
+
+    def description(self, d):
+        """The lines of a device, and beside them its actors, the codes that its events take, and its slots."""
+        r, lines, codes = self.r, [f"device dev{d}"], []
+        kinds = [kind for kind in (KEY, REL, ABS, MSC, SW, LED, SND) if r.random() < 0.55] or [KEY]
+        hint = r.choice([2, 3, 5, 8, 8, 8, 16, 20, None])
+        if hint:
+            lines.append(f"hint {hint}")
+        log = r.choice([None] * 6 + [r.randint(1, 120)])
+        if log:
+            lines.append(f"log {log}")
+        if r.random() < 0.5:
+            lines.append(f"clock realtime {r.randint(0, 10**12)}")
+        if r.random() < 0.5:
+            lines.append(f"clock boottime {r.randint(0, 10**9)}")
+        slots = r.choice([0, 0, 1, 2, 3, 5])
+        if slots:
+            lines.append(f"slots {slots}")
+        if r.random() < 0.5:
+            lines.append("type EV_REP")
+            codes += [(REP, 0), (REP, 1)]
+        for kind in kinds:
+            for _ in range(r.randint(1, 4) if kind != ABS else 0):
+                code = r.choice(list(CODES[kind].values())) if r.random() < 0.9 else r.randint(1, GREATEST[kind])
+                lines.append(f"cap {kind_text(kind)} {code_text(kind, code)}")
+                codes.append((kind, code))
+        axes = self.axes(lines) if ABS in kinds or slots else set()
+        codes += [(ABS, code) for code in axes]
+        if slots:
+            codes += [(ABS, SLOT)] * 3 + [(ABS, ID)] * 2
+        return lines, codes, slots
+
+    def axes(self, lines):
+        r, axes = self.r, set()
+        for _ in range(r.randint(1, 5)):
+            code = r.choice([0, 1, 2, 0x18, 0x30, 0x31, 0x35, 0x36, 0x39, 0x3A, 0x2F, 0x3D, 0x3F])
+            if code in axes:
+                continue
+            axes.add(code)
+            fuzz = 0 if code in (SLOT, ID) else r.choice([0, 0, 1, 4, 8, 16])
+            value = 0 if 0x2F <= code <= 0x3D else r.choice([0, 5, -100, 100])
+            low, high, resolution = r.randint(-500, 0), r.randint(0, 4096), r.choice([0, 12])
+            lines.append(f"axis {code_text(ABS, code)} {value} {low} {high} {fuzz} 0 {resolution}")
+        return axes
+
+    def actors(self, d, lines):
+        r, actors = self.r, []
+        for role, count in (
+            ("source", r.choice([1, 1, 2])),
+            ("client", r.randint(1, 3)),
+            ("tap", r.randint(0, 2)),
+        ):
+            for i in range(count):
+                lines.append(f"{role} {role[0]}{d}{i}")
+                actors.append((role, f"{role[0]}{d}{i}"))
+        return actors
+
+    def record(self):
+        r, lines, actions = self.r, ["inputrecord 1"], []
+        for d in range(r.choice([1, 1, 1, 2])):
+            description, codes, slots = self.description(d)
+            lines += description
+            self.devices.append((self.actors(d, lines), codes, slots))
+        busy = r.random() < 0.4
+        for actors, _, _ in self.devices:
+            actions += [f"do {name} open" for role, name in actors if role != "source" and r.random() < 0.8]
+        for _ in range(r.randint(20, 260)):
+            actors, codes, slots = r.choice(self.devices)
+            weights = [(12 if busy else 3) if role == "source" else 1 for role, _ in actors]
+            role, name = r.choices(actors, weights)[0]
+            act = self.source_action if role == "source" else self.client_action
+            actions += [f"do {name} {action}" for action in act(role, codes, slots, busy)]
+        for actors, _, _ in self.devices:
+            actions += [f"do {name} follow" for role, name in actors if role == "client" and r.random() < 0.7]
+        return "\n".join(lines + actions) + "\n"
+
+    def source_action(self, _, codes, slots, busy):
+        r, x = self.r, self.r.random()
+        if x < 0.86:
+            moment, actions = self.moment(), []
+            for _ in range(r.randint(0, 4) if busy else r.randint(0, 2)):
+                kind, code = (r.randint(0, 21), r.randint(0, 64)) if r.random() < 0.05 else r.choice(codes)
+                event = f"{kind_text(kind)} {code_text(kind, code)} {self.value(kind, code, slots)}"
+                actions.append(f"event {moment} {event}")
+            if r.random() < 0.85:
+                actions.append(f"event {moment} EV_SYN SYN_REPORT 0")
+            elif r.random() < 0.3:
+                code = r.choice(["SYN_CONFIG", "SYN_MT_REPORT", "SYN_DROPPED", "7"])
+                actions.append(f"event {moment} EV_SYN {code} 0")
+            return actions
+        if x < 0.95:
+            return [f"tick {self.moment() + r.choice([0, 40000, 300000])}"]
+        return [f"inhibit {self.moment()}"] if x < 0.97 else ["uninhibit"]
+
+    def client_action(self, role, codes, slots, _):
+        r, x = self.r, self.r.random()
+        if x < 0.5 and role == "client":
+            return [r.choice(["follow", "follow", f"next {r.randint(0, 30)}", f"skip {r.randint(0, 30)}", "force"])]
+        if x < 0.5:
+            axis = code_text(ABS, r.choice([0, 1, 0x2F, 0x35, 0x3F, 0x40]))
+            value = code_text(ABS, r.choice([0x35, 0x39, 0x2F, 0x30]))
+            reads = [f"read {r.choice([0, 1, 2, 5, 64, 4096])}", "read 16", "read 64", "discard"]
+            asks = ["keys", "switches", "leds", "sounds", "syncslots", f"axis {axis}", f"slots {value}"]
+            return [r.choice(reads + asks)]
+        if x < 0.6:
+            return ["open"]
+        if x < 0.68:
+            kind, code = r.choice(codes + [(0, 0)])
+            event = f"{kind_text(kind)} {code_text(kind, code)} {self.value(kind, code, slots)}"
+            report = [f"write {self.moment()} EV_SYN SYN_REPORT 0"] if r.random() < 0.6 else []
+            return [f"write {self.moment()} {event}"] + report
+        if x < 0.76:
+            return [f"clock {r.choice(CLOCKS)} {self.moment()}"]
+        if x < 0.86:
+            kind = r.choice([0, 0, 1, 2, 3, 4, 5, 17, 18, 20, 7])
+            word = r.choice([0, 0, 0, 1, 5, 11, 12])
+            bits = r.choice([0, FULL, r.getrandbits(64), r.getrandbits(64) | r.getrandbits(64), FULL])
+            return [f"mask {kind_text(kind)} {word} {hex(bits)}"]
+        if x < 0.96:
+            return ["grab"] if x < 0.9 else ["ungrab"]
+        return ["close"] if x < 0.98 else ["revoke"]
+
+
+def main():
+    folder, count, seed = sys.argv[1], int(sys.argv[2]), int(sys.argv[3])
+    os.makedirs(folder, exist_ok=True)
+    for i in range(count):
+        text = Generator(seed * 100000 + i).record()
+        with open(f"{folder}/{i:04}.rec", "w") as file:
+            file.write(text)
+        with open(f"{folder}/{i:04}.rec.stdout", "w") as file:
+            file.write("".join(line + "\n" for line in play(text, history="--history" in sys.argv)))
+
+
+if __name__ == "__main__":
+    main()
