@@ -1,3 +1,2 @@
 mod Computing
-mod Hexadecimals
 mod Written

@@ -1,53 +1,12 @@
--- Texts that a loop writes piece by piece.
-use Rattle.std.proofs.Common.{◌≡◌, ℕ, zero, suc, ◌+◌, ◌-◌, ◌<◌, ◌≤◌, List, [], ◌∷◌, ◌++◌, length, take, get_or, refl, sym, ap, subst, ◌∙◌, arith, append_assoc, append-nil, zero-add, Some}
+-- Lines that a loop writes one by one.
+use Rattle.std.proofs.Common.{◌≡◌, ℕ, ◌+◌, ◌-◌, ◌<◌, ◌≤◌, List, [], ◌∷◌, ◌++◌, length, take, get_or, refl, sym, ap, ◌∙◌, arith, append_assoc}
 use Rattle.std.specs.List.{flat_map, range_with_len, enumerate_from}
-use Rattle.std.specs.Prelude.{slice_get, map}
-use Rattle.std.proofs.lemmas.List.{take_more, flat_map_more, take_all, get_or_default}
+use Rattle.std.specs.Prelude.{map}
+use Rattle.std.proofs.lemmas.List.{take_all}
 use Rattle.std.proofs.lemmas.List.Concat.{flat_map-append}
-use Rattle.std.proofs.lemmas.List.FromFn.{length-enumerate_from, get_or-enumerate_from}
-use Rattle.std.proofs.lemmas.Option.{slice_get_read}
+use Rattle.std.proofs.lemmas.List.FromFn.{length-enumerate_from}
+use Rattle.inp_texts.proofs.Written.{written_more, item_more, enumerated_more}
 use Rattle.inp_canon.specs.Words.{Words, line_text, lines_text}
-
--- one more number at the end of a range
-flat_map-range-more : (f : ℕ → List ℕ) (from n : ℕ) → flat_map f (range_with_len from (suc n)) ≡ flat_map f (range_with_len from n) ++ f (from + n)
-flat_map-range-more f from zero = append-nil (f from) ∙ ap f (omega arith)
-flat_map-range-more f from (suc n) =
-    ap (λ (l : List ℕ). f from ++ l) (flat_map-range-more f (from + 1) n)
-    ∙ sym (append_assoc (f from) (flat_map f (range_with_len (from + 1) n)) (f ((from + 1) + n)))
-    ∙ ap (λ k. (f from ++ flat_map f (range_with_len (from + 1) n)) ++ f k) (omega arith)
-
--- one turn of a loop that writes what each number of a range gives
-written_more : (f : ℕ → List ℕ) (from : ℕ) (before text new : List ℕ) (at : ℕ) → from ≤ at → text ≡ before ++ flat_map f (range_with_len from (at - from)) → new ≡ text ++ f at → new ≡ before ++ flat_map f (range_with_len from (at + 1 - from))
-written_more f from before text new at reached so_far more =
-    let here : at ≡ from + (at - from) = omega arith in
-    let next : suc (at - from) ≡ at + 1 - from = omega arith in
-    more ∙ ap (λ (l : List ℕ). l ++ f at) so_far ∙ append_assoc before (flat_map f (range_with_len from (at - from))) (f at)
-    ∙ ap (λ k. before ++ (flat_map f (range_with_len from (at - from)) ++ f k)) here
-    ∙ ap (λ (l : List ℕ). before ++ l) (sym (flat_map-range-more f from (at - from)))
-    ∙ ap (λ k. before ++ flat_map f (range_with_len from k)) next
-
--- the same over a list: one turn writes what its item at an index gives
-item_more : {X : Type 0} (f : X → List ℕ) (xs : List X) (before text new : List ℕ) (at : ℕ) (x : X) → at < length xs → get_or xs at x ≡ x → text ≡ before ++ flat_map f (take at xs) → new ≡ text ++ f x → new ≡ before ++ flat_map f (take (at + 1) xs)
-item_more {X} f xs before text new at x inside is so_far more =
-    more ∙ ap (λ (l : List ℕ). l ++ f x) so_far
-    ∙ flat_map_more f before (take at xs) x
-    ∙ ap (λ (y : X). before ++ flat_map f (take at xs ++ y ∷ [])) (sym is)
-    ∙ ap (λ (l : List X). before ++ flat_map f l) (sym (take_more xs at x inside))
-
--- the same over the items with their indices
-enumerated_more : {X : Type 0} (f : ℕ × X → List ℕ) (xs : List X) (before text new : List ℕ) (at : ℕ) (d : X) → at < length xs → text ≡ before ++ flat_map f (take at (enumerate_from 0 xs)) → new ≡ text ++ f (at, get_or xs at d) → new ≡ before ++ flat_map f (take (at + 1) (enumerate_from 0 xs))
-enumerated_more {X} f xs before text new at d inside so_far more =
-    let pair : ℕ × X = (at, get_or xs at d) in
-    let there : at < length (enumerate_from 0 xs) = omega (arith, length-enumerate_from 0 xs) in
-    let is : get_or (enumerate_from 0 xs) at pair ≡ pair =
-    get_or-enumerate_from 0 xs at pair inside
-    ∙ ap (λ (n : ℕ). let p : ℕ × X = (n, get_or xs at (get_or xs at d)) in p) (zero-add at)
-    ∙ ap (λ (x : X). let p : ℕ × X = (at, x) in p) (get_or_default xs at (get_or xs at d) d inside) in
-    item_more f (enumerate_from 0 xs) before text new at pair there is so_far more
-
--- the item of a loop over a list that is known by another name
-pub item_at : {X : Type 0} (items xs : List X) (i : ℕ) (x : X) → items ≡ xs → i < length items → x ≡ get_or items i x → slice_get xs i ≡ Some x
-item_at {X} items xs i x same inside is = subst (λ (ys : List X). slice_get ys i ≡ Some x) same (slice_get_read items (length items) i x refl inside is)
 
 -- the text of lines that come from many things
 

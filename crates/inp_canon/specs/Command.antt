@@ -4,7 +4,8 @@ use Rattle.std.specs.Fmt.{signed_decimal}
 use Rattle.inp_model.specs.declared.event.TheConstants.{EV_ABS}
 use Rattle.inp_actors.specs.declared.command.Command as command
 use Rattle.inp_actors.specs.declared.command.Command.TheVariants.{Event, Tick, Inhibit, Uninhibit, Stream, Open, Close, Grab, Ungrab, Revoke, Mask, Clock, Write, Read, Discard, Keys, Switches, Leds, Sounds, SyncSlots, Axis, Slots, Next, Skip, Follow, Force}
-use Rattle.inp_canon.specs.Words.{Words, kind_text, code_text, bits_text, clock_text}
+use Rattle.inp_texts.specs.Texts.{kind_text, code_text, bits_text, clock_text}
+use Rattle.inp_canon.specs.Words.{Words}
 
 -- MOMENT KIND CODE VALUE
 abbrev pub event_words : ℕ → ℕ → ℕ → ℤ → Words

@@ -7,7 +7,8 @@ use Rattle.inp_model.specs.declared.axis_info.AxisInfo.{AxisInfo}
 use Rattle.inp_model.specs.Description.{Description, has_kind, supports, info, offset}
 use Rattle.inp_model.specs.declared.clock.Clock.{Clock}
 use Rattle.inp_model.specs.declared.clock.Clock.TheVariants.{Realtime, Boottime}
-use Rattle.inp_canon.specs.Words.{Words, kind_text, code_text, clock_text}
+use Rattle.inp_texts.specs.Texts.{kind_text, code_text, clock_text}
+use Rattle.inp_canon.specs.Words.{Words}
 
 -- a clock's offset
 abbrev pub clock_words : Description → Clock → Words

@@ -5,7 +5,8 @@ use Rattle.inp_actors.specs.declared.device_text.DeviceText.{DeviceText}
 use Rattle.inp_actors.specs.declared.actor_text.ActorText.{ActorText}
 use Rattle.inp_actors.specs.declared.line.Line.{Line}
 use Rattle.inp_actors.specs.Record.{RecordView}
-use Rattle.inp_canon.specs.Words.{Words, lines_text, role_text}
+use Rattle.inp_texts.specs.Texts.{role_text}
+use Rattle.inp_canon.specs.Words.{Words, lines_text}
 use Rattle.inp_canon.specs.Command.{command_words}
 use Rattle.inp_canon.specs.Device.{description_lines}
 

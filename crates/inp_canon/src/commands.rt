@@ -3,9 +3,9 @@ ghost use Rattle.std.specs.Prelude.{◌≡◌, ◌++◌, string_bytes, OnOk};
 ghost use Rattle.inp_canon.specs.Words.{further_text};
 ghost use Rattle.inp_canon.specs.Command.{command_words};
 
-use crate::words::{BitsText, ClockText, CodeText, KindText};
 use inp_actors::Command;
-use inp_model::{EV_ABS, NoMemory};
+use inp_model::NoMemory;
+use inp_texts::{BitsText, ClockText, CodeText, KindText};
 use std::fmt::Write;
 
 // Adds a command and its words behind the name of its actor, and ends the line.
@@ -22,7 +22,13 @@ pub(crate) fn push_command(text: &mut String, command: &Command) -> Result<(), N
             code,
             value,
         } => {
-            let (kind, code) = (KindText(*kind), CodeText(*kind, *code));
+            let (kind, code) = (
+                KindText(*kind),
+                CodeText {
+                    kind: *kind,
+                    code: *code,
+                },
+            );
             write!(text, " event {moment} {kind} {code} {value}\n")?;
         }
         Command::Tick { moment } => write!(text, " tick {moment}\n")?,
@@ -47,7 +53,13 @@ pub(crate) fn push_command(text: &mut String, command: &Command) -> Result<(), N
             code,
             value,
         } => {
-            let (kind, code) = (KindText(*kind), CodeText(*kind, *code));
+            let (kind, code) = (
+                KindText(*kind),
+                CodeText {
+                    kind: *kind,
+                    code: *code,
+                },
+            );
             write!(text, " write {moment} {kind} {code} {value}\n")?;
         }
         Command::Read { count } => write!(text, " read {count}\n")?,
@@ -57,8 +69,8 @@ pub(crate) fn push_command(text: &mut String, command: &Command) -> Result<(), N
         Command::Leds => text.push_str(" leds\n")?,
         Command::Sounds => text.push_str(" sounds\n")?,
         Command::SyncSlots => text.push_str(" syncslots\n")?,
-        Command::Axis { code } => write!(text, " axis {}\n", CodeText(EV_ABS, *code))?,
-        Command::Slots { code } => write!(text, " slots {}\n", CodeText(EV_ABS, *code))?,
+        Command::Axis { code } => write!(text, " axis {}\n", CodeText::of_axis(*code))?,
+        Command::Slots { code } => write!(text, " slots {}\n", CodeText::of_axis(*code))?,
         Command::Next { count } => write!(text, " next {count}\n")?,
         Command::Skip { count } => write!(text, " skip {count}\n")?,
         Command::Follow => text.push_str(" follow\n")?,

@@ -4,12 +4,13 @@ ghost use Rattle.inp_model.specs.declared.event.TheConstants.{ABS_MAX};
 ghost use Rattle.inp_canon.specs.Words.{line_text, lines_text};
 ghost use Rattle.inp_canon.specs.Device.{clock_words, number_lines, slots_lines, kind_lines, kinds_lines, code_lines, codes_lines, caps_lines, axis_words, axis_lines, axes_lines, description_lines};
 
-use crate::words::{ClockText, CodeText, InfoText, KindText};
+use crate::info_text::InfoText;
 use inp_caps::Caps;
 use inp_model::{
     ABS_MAX, AxisInfo, Clock, EV_ABS, EV_KEY, EV_LED, EV_MAX, EV_MSC, EV_REL, EV_SND, EV_SW,
     KEY_MAX, NoMemory,
 };
+use inp_texts::{ClockText, CodeText, KindText};
 use std::fmt::Write;
 
 pub(crate) fn push_description(text: &mut String, caps: &Caps) -> Result<(), NoMemory>
@@ -115,7 +116,8 @@ fn push_code(text: &mut String, caps: &Caps, kind: u16, code: u16) -> Result<(),
         ≡ string_bytes text.old ++ lines_text (code_lines caps.now kind code)) }
 {
     if caps.supports(kind, code) {
-        write!(text, "cap {} {}\n", KindText(kind), CodeText(kind, code))?;
+        let (kind, code) = (KindText(kind), CodeText { kind, code });
+        write!(text, "cap {kind} {code}\n")?;
     }
     Ok(())
 }
@@ -146,7 +148,7 @@ fn push_axis_line(text: &mut String, code: u16, info: AxisInfo) -> Result<(), No
     ensures pushed { OnOk result
         (string_bytes text.new ≡ string_bytes text.old ++ line_text (axis_words code info)) }
 {
-    let code = CodeText(EV_ABS, code);
+    let code = CodeText::of_axis(code);
     let info = InfoText(info);
     write!(text, "axis {code}{info}")?;
     Ok(())

@@ -1,7 +1,7 @@
 //! The canonical text of a recorded device file.
 //!
-//! This crate is for whoever writes a record. It stands on `inp_actors` for records, on `inp_caps` for descriptions, and on
-//! `inp_codes` for names.
+//! This crate is for whoever writes a record. It stands on `inp_actors` for records, on `inp_caps` for descriptions, on
+//! `inp_codes` for names, and on `inp_texts` for how words are written.
 //!
 //! Its contract: [`print`] gives exactly the bytes that `specs/Text.antt` defines of the record, line by line of the table
 //! in docs/FORMATS.md, or want of memory. The definitions are lists of lines and lines are lists of words, so that a
@@ -11,9 +11,9 @@
 
 mod commands;
 mod devices;
+mod info_text;
 mod text;
 mod text_examples;
-mod words;
 
 pub use text::print;
 pub use text_examples::examples;

@@ -6,9 +6,9 @@ ghost use Rattle.inp_canon.specs.Text.{actor_lines, actors_lines, device_lines, 
 
 use crate::commands::push_command;
 use crate::devices::push_description;
-use crate::words::RoleText;
 use inp_actors::{ActorText, Actors, DeviceText, Line, Name, Record};
 use inp_model::NoMemory;
+use inp_texts::RoleText;
 use std::alloc::Global;
 use std::fmt::Write;
 

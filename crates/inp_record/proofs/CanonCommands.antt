@@ -6,7 +6,8 @@ use Rattle.std.proofs.lemmas.Bool.Decides.{nat_tests}
 use Rattle.inp_model.specs.declared.event.TheConstants.{EV_ABS}
 use Rattle.inp_model.specs.declared.stamped.TheConstants.{MOMENT_MAX}
 use Rattle.inp_model.specs.declared.stamped.Stamped.{Stamped}
-use Rattle.inp_canon.specs.Words.{Words, kind_text, code_text}
+use Rattle.inp_texts.specs.Texts.{kind_text, code_text}
+use Rattle.inp_canon.specs.Words.{Words}
 use Rattle.inp_canon.specs.Command.{event_words, command_words}
 use Rattle.inp_actors.specs.declared.role.Role as role
 use Rattle.inp_actors.specs.declared.command.TheConstants.{READ_MAX}

@@ -6,7 +6,8 @@ use Rattle.inp_model.specs.declared.event.TheConstants.{EV_ABS}
 use Rattle.inp_model.specs.declared.axis_info.AxisInfo.{AxisInfo}
 use Rattle.inp_model.specs.declared.clock.Clock as clock
 use Rattle.inp_model.specs.declared.clock.Clock.TheVariants as clocks
-use Rattle.inp_canon.specs.Words.{Words, kind_text, code_text, clock_text, role_text}
+use Rattle.inp_texts.specs.Texts.{kind_text, code_text, clock_text, role_text}
+use Rattle.inp_canon.specs.Words.{Words}
 use Rattle.inp_canon.specs.Device.{fuzz_words, axis_words, info_words as info_text}
 use Rattle.inp_canon.specs.Text.{name_of_actor}
 use Rattle.inp_actors.specs.declared.role.Role as role

@@ -10,7 +10,7 @@ use Rattle.inp_codes.specs.Table.{is_word as is_name_word, is_word_byte}
 use Rattle.inp_codes.specs.KindNames.{kind_name, kind_of}
 use Rattle.inp_codes.specs.CodeNames.{name_of, code_of}
 use Rattle.inp_codes.proofs.LawLemmas.{kind_name-iff_kind_of, is_word-kind_name, name_of-iff_code_of, is_word-name_of}
-use Rattle.inp_canon.specs.Words.{kind_text, code_text, bits_text, clock_text}
+use Rattle.inp_texts.specs.Texts.{kind_text, code_text, bits_text, clock_text}
 use Rattle.inp_actors.specs.Name.{is_name, is_name_byte}
 use Rattle.inp_words.specs.Line.{is_word}
 use Rattle.inp_words.specs.Number.{digit_of, is_digit, value_of, is_hexadecimal, numeral, number, signed_number}

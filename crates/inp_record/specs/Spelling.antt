@@ -9,7 +9,8 @@ use Rattle.inp_actors.specs.declared.actor_text.ActorText.{ActorText}
 use Rattle.inp_actors.specs.declared.device_text.DeviceText.{DeviceText}
 use Rattle.inp_actors.specs.declared.line.Line as line
 use Rattle.inp_actors.specs.Record.{RecordView}
-use Rattle.inp_canon.specs.Words.{Words, kind_text, code_text, clock_text, role_text}
+use Rattle.inp_texts.specs.Texts.{kind_text, code_text, clock_text, role_text}
+use Rattle.inp_canon.specs.Words.{Words}
 use Rattle.inp_canon.specs.Device.{axis_words, coded_kinds}
 use Rattle.inp_canon.specs.Text.{action_words, record_text}
 use Rattle.inp_record.specs.declared.item.Item.{Item}

@@ -3,7 +3,8 @@ use Rattle.std.specs.Fmt.{digits}
 use Rattle.inp_bits.specs.Bits.{true_indices}
 use Rattle.inp_codes.proofs.Computing.{event_codes}
 use Rattle.inp_recon.proofs.Computing.{computing as of_views}
-use Rattle.inp_report.specs.Words.{kind_text, code_text, flags_text, event_text, mask_text, clock_text, axis_text, value_text, refusal_text, stop_text, role_text}
+use Rattle.inp_texts.specs.Texts.{kind_text, code_text, bits_text, clock_text, role_text}
+use Rattle.inp_report.specs.Words.{flags_text, event_text, mask_text, axis_text, value_text, refusal_text, stop_text}
 use Rattle.inp_report.specs.Steps.{step_text}
 use Rattle.inp_report.specs.Replies.{reply_text}
 use Rattle.inp_report.specs.Sights.{sight_line}
@@ -12,5 +13,5 @@ use Rattle.inp_report.specs.Report.{device_line, step_line, history_text, source
 use Rattle.inp_report.specs.Summary.{make_line, calls_line, counts_text, position_text, summary}
 
 unfoldable pub computing : Type 0
-unfolding digits true_indices event_codes of_views kind_text code_text event_text mask_text clock_text axis_text value_text refusal_text stop_text role_text step_text reply_text sight_line flags_text flags_line axes_text axes_line slot_text slot_line current_line slots_text view_text device_line step_line history_text source_line actor_line stop_line report make_line calls_line counts_text position_text summary
+unfolding digits true_indices event_codes of_views kind_text code_text bits_text event_text mask_text clock_text axis_text value_text refusal_text stop_text role_text step_text reply_text sight_line flags_text flags_line axes_text axes_line slot_text slot_line current_line slots_text view_text device_line step_line history_text source_line actor_line stop_line report make_line calls_line counts_text position_text summary
 computing = Unit {0}

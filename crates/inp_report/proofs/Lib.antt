@@ -1,4 +1,2 @@
 pub mod Actors
 pub mod Computing
-pub mod Hexadecimals
-pub mod Written

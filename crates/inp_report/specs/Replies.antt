@@ -19,8 +19,8 @@ abbrev pub query_kind : Step → ℕ
 query_kind x = kind_in_query (query_of x)
 
 -- the codes whose bits are set, ascending, of 768 bits
-abbrev pub bits_text : ℕ → List ℕ → List ℕ
-bits_text kind words = flags_text kind (bits_in key_count words)
+abbrev pub codes_on_text : ℕ → List ℕ → List ℕ
+codes_on_text kind words = flags_text kind (bits_in key_count words)
 
 -- the reply to a step
 unfoldable pub reply_text : Step → Reply → List ℕ
@@ -28,7 +28,7 @@ reply_text x (Done at) = codes "done " ++ decimal at
 reply_text x (Opened at client places) = codes "opened " ++ (decimal at ++ (codes " " ++ (decimal client ++ (codes " " ++ decimal places))))
 reply_text x (Taking at count) = codes "took " ++ (decimal at ++ (codes " " ++ decimal count))
 reply_text x (Discarded at count) = codes "discarded " ++ (decimal at ++ (codes " " ++ decimal count))
-reply_text x (Bits at words) = codes "bits " ++ (decimal at ++ bits_text (query_kind x) words)
+reply_text x (Bits at words) = codes "bits " ++ (decimal at ++ codes_on_text (query_kind x) words)
 reply_text x (Axis at axis) = codes "axis " ++ (decimal at ++ (codes " " ++ axis_text axis))
 reply_text x (Cells at count slot) = codes "cells " ++ (decimal at ++ (codes " " ++ (decimal count ++ (codes " " ++ signed_decimal slot))))
 reply_text x (Nothing at ends) = codes "again " ++ decimal at

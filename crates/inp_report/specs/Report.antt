@@ -11,7 +11,8 @@ use Rattle.inp_actors.specs.Record.{RecordView}
 use Rattle.inp_script.specs.declared.run.Run.{Run}
 use Rattle.inp_script.specs.declared.stop.Stop.{Stop}
 use Rattle.inp_script.specs.Job.{JobView}
-use Rattle.inp_report.specs.Words.{LINE_FEED, stop_text, role_text}
+use Rattle.inp_texts.specs.Texts.{role_text}
+use Rattle.inp_report.specs.Words.{LINE_FEED, stop_text}
 use Rattle.inp_report.specs.Steps.{step_text}
 use Rattle.inp_report.specs.Sights.{sight_line, is_counted_call}
 use Rattle.inp_report.specs.Views.{view_text}

@@ -3,7 +3,8 @@ use Rattle.std.specs.Prelude.{ℕ, List, ◌++◌, codes, decimal}
 use Rattle.inp_model.specs.declared.event.TheConstants.{EV_ABS}
 use Rattle.inp_model.specs.declared.step.Step.{Step}
 use Rattle.inp_model.specs.declared.step.Step.TheVariants.{Inject, Tick, Open, Close, Read, Discard, GetKeys, GetSwitches, GetLeds, GetSounds, GetAxis, GetSlots, SyncSlots, Write, Grab, Ungrab, Mask, Clock as ToClock, Revoke, Inhibit, Uninhibit, End}
-use Rattle.inp_report.specs.Words.{code_text, event_text, mask_text, clock_text}
+use Rattle.inp_texts.specs.Texts.{code_text, clock_text}
+use Rattle.inp_report.specs.Words.{event_text, mask_text}
 
 unfoldable pub step_text : Step → List ℕ
 step_text (Inject e now) = codes "inject " ++ (decimal now ++ (codes " " ++ event_text e))

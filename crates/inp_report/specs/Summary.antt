@@ -11,7 +11,8 @@ use Rattle.inp_actors.specs.Record.{RecordView}
 use Rattle.inp_script.specs.declared.sight.Sight.{Sight}
 use Rattle.inp_script.specs.declared.run.Run.{Run}
 use Rattle.inp_script.specs.Job.{JobView}
-use Rattle.inp_report.specs.Words.{LINE_FEED, role_text}
+use Rattle.inp_texts.specs.Texts.{role_text}
+use Rattle.inp_report.specs.Words.{LINE_FEED}
 use Rattle.inp_report.specs.Sights.{is_counted_call, is_took, is_made, is_again}
 use Rattle.inp_report.specs.Views.{cell_of}
 use Rattle.inp_report.specs.Report.{device_line}

@@ -1,31 +1,19 @@
--- How types, codes, events and numbers are written (docs/FORMATS.md, "The words of a report").
-use Rattle.std.specs.Prelude.{ℕ, ◌-◌, ℤ, Bool, false, List, [], ◌∷◌, ◌++◌, length, replicate, codes, decimal, flat_map, unwrap_or}
-use Rattle.std.specs.Fmt.{digits, signed_decimal}
+-- How events, masks, axes, refusals and stops are written (docs/FORMATS.md, "The words of a report").
+use Rattle.std.specs.Prelude.{ℕ, ℤ, Bool, List, [], ◌∷◌, ◌++◌, codes, decimal, flat_map}
+use Rattle.std.specs.Fmt.{signed_decimal}
 use Rattle.inp_model.specs.declared.event.TheConstants.{EV_ABS}
 use Rattle.inp_model.specs.declared.axis_info.AxisInfo.{AxisInfo}
-use Rattle.inp_model.specs.declared.clock.Clock.{Clock}
-use Rattle.inp_model.specs.declared.clock.Clock.TheVariants.{Realtime, Monotonic, Boottime}
 use Rattle.inp_model.specs.declared.event.Event.{Event}
 use Rattle.inp_model.specs.declared.reply.Refusal.{Refusal}
 use Rattle.inp_model.specs.declared.reply.Refusal.TheVariants.{BadClient, NoDevice, BadKind, BadCode, Busy, NotGrabber, TooMany, LogFull, NoMemory}
 use Rattle.inp_bits.specs.Bits.{true_indices}
-use Rattle.inp_codes.specs.KindNames.{kind_name}
-use Rattle.inp_codes.specs.CodeNames.{name_of}
-use Rattle.inp_actors.specs.declared.role.Role.{Role}
-use Rattle.inp_actors.specs.declared.role.Role.TheVariants.{Source, Client, Tap}
+use Rattle.inp_texts.specs.Texts.{kind_text, code_text, bits_text}
 use Rattle.inp_script.specs.declared.stop.Stop.{Stop}
 use Rattle.inp_script.specs.declared.stop.Stop.TheVariants.{Finished, Idle, Full}
 
 -- each line ends with it
 abbrev pub LINE_FEED : List ℕ
 LINE_FEED = 10 ∷ []
-
--- types and codes by name where they have one, else in decimal
-unfoldable pub kind_text : ℕ → List ℕ
-kind_text kind = unwrap_or (kind_name kind) (decimal kind)
-
-unfoldable pub code_text : ℕ → ℕ → List ℕ
-code_text kind code = unwrap_or (name_of kind code) (decimal code)
 
 -- a code of the type, behind a space
 abbrev pub spaced_code : ℕ → ℕ → List ℕ
@@ -39,18 +27,9 @@ flags_text kind flags = flat_map (spaced_code kind) (true_indices flags)
 unfoldable pub event_text : Event → List ℕ
 event_text e = kind_text e.kind ++ (codes " " ++ (code_text e.kind e.code ++ (codes " " ++ signed_decimal e.value)))
 
--- 64 bits as sixteen hexadecimal digits
-abbrev pub hexadecimal : ℕ → List ℕ
-hexadecimal bits = let digits = digits 16 false bits in replicate (16 - length digits) 48 ++ digits
-
 -- KIND WORD BITS, of a mask that is set
 unfoldable pub mask_text : ℕ → ℕ → ℕ → List ℕ
-mask_text kind word bits = kind_text kind ++ (codes " " ++ (decimal word ++ (codes " 0x" ++ hexadecimal bits)))
-
-unfoldable pub clock_text : Clock → List ℕ
-clock_text Realtime = codes "realtime"
-clock_text Monotonic = codes "monotonic"
-clock_text Boottime = codes "boottime"
+mask_text kind word bits = kind_text kind ++ (codes " " ++ (decimal word ++ (codes " " ++ bits_text bits)))
 
 -- VALUE MINIMUM MAXIMUM FUZZ FLAT RESOLUTION
 unfoldable pub axis_text : AxisInfo → List ℕ
@@ -77,8 +56,3 @@ unfoldable pub stop_text : Stop → List ℕ
 stop_text Finished = codes "finished"
 stop_text (Idle turns at) = codes "idle " ++ (decimal turns ++ (codes " " ++ decimal at))
 stop_text (Full at) = codes "full " ++ decimal at
-
-unfoldable pub role_text : Role → List ℕ
-role_text Source = codes "source"
-role_text Client = codes "client"
-role_text Tap = codes "tap"

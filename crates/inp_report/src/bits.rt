@@ -2,16 +2,16 @@
 ghost use Rattle.std.specs.Prelude.{◌≡◌, ◌≤◌, ◌++◌, string_bytes, OnOk};
 ghost use Rattle.inp_recon.specs.View.{key_count, bits_in};
 ghost use Rattle.inp_report.specs.Words.{spaced_code, flags_text};
-ghost use Rattle.inp_report.specs.Replies.{bits_text};
+ghost use Rattle.inp_report.specs.Replies.{codes_on_text};
 
-use crate::words::CodeText;
 use inp_bits::Bits;
 use inp_model::NoMemory;
+use inp_texts::CodeText;
 use std::fmt::Write;
 
 pub(crate) fn push_bits(text: &mut String, kind: u16, words: &[u64; 12]) -> Result<(), NoMemory>
     ensures pushed { OnOk result
-        (string_bytes text.new ≡ string_bytes text.old ++ bits_text kind words.now) }
+        (string_bytes text.new ≡ string_bytes text.old ++ codes_on_text kind words.now) }
 {
     push_flags(text, kind, &bits_in(words))
 }
@@ -46,7 +46,7 @@ fn push_code(text: &mut String, kind: u16, code: u16) -> Result<(), NoMemory>
     ensures pushed { OnOk result
         (string_bytes text.new ≡ string_bytes text.old ++ spaced_code kind code) }
 {
-    let shown = CodeText(kind, code);
+    let shown = CodeText { kind, code };
     write!(text, " {shown}")?;
     Ok(())
 }

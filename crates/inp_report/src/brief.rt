@@ -9,11 +9,11 @@ ghost use Rattle.inp_script.specs.Runs.{AreRunsOf, IsRunOf};
 use crate::sights::{again_count, counted_calls, made_count, took_count};
 use crate::views::cell_at;
 use crate::whole::push_device;
-use crate::words::RoleText;
 use inp_actors::{ActorText, Actors, DeviceText, Name, Record, Role};
 use inp_model::{ABS_MT_POSITION_X, ABS_MT_POSITION_Y, NoMemory};
 use inp_recon::Cells;
 use inp_script::{JobEnd, Run, Runs, Sight};
+use inp_texts::RoleText;
 use std::alloc::Global;
 use std::fmt::Write;
 

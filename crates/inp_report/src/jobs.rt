@@ -5,11 +5,12 @@ ghost use Rattle.inp_report.specs.Report.{source_line, actor_line, stop_line, re
 
 use crate::sights::{counted_calls, push_sights};
 use crate::views::push_view;
-use crate::words::{RoleText, StopText};
+use crate::words::StopText;
 use inp_actors::{ActorText, Actors, Name, Role};
 use inp_caps::Caps;
 use inp_model::NoMemory;
 use inp_script::{JobEnd, Stop};
+use inp_texts::RoleText;
 use std::fmt::Write;
 
 pub(crate) fn push_job(

@@ -1,7 +1,8 @@
 //! How steps are written.
 
-use crate::words::{ClockText, CodeText, EventText, MaskText};
-use inp_model::{EV_ABS, Step};
+use crate::words::{EventText, MaskText};
+use inp_model::Step;
+use inp_texts::{ClockText, CodeText};
 use std::fmt;
 use std::fmt::Write;
 
@@ -29,10 +30,10 @@ impl fmt::Display for StepText {
             Step::GetLeds { client } => write!(f, "getleds {client}"),
             Step::GetSounds { client } => write!(f, "getsounds {client}"),
             Step::GetAxis { client, code } => {
-                write!(f, "getaxis {client} {}", CodeText(EV_ABS, code))
+                write!(f, "getaxis {client} {}", CodeText::of_axis(code))
             }
             Step::GetSlots { client, code } => {
-                write!(f, "getslots {client} {}", CodeText(EV_ABS, code))
+                write!(f, "getslots {client} {}", CodeText::of_axis(code))
             }
             Step::SyncSlots { client } => write!(f, "syncslots {client}"),
             Step::Write { client, event, now } => {

@@ -1,51 +1,10 @@
-//! How types, codes, events and numbers are written.
+//! How events, masks, axes, refusals and stops are written.
 
-use inp_actors::Role;
-use inp_codes::{kind_name, name_of};
-use inp_model::{AxisInfo, Clock, EV_ABS, Event, Refusal};
+use inp_model::{AxisInfo, Event, Refusal};
 use inp_script::Stop;
+use inp_texts::{BitsText, CodeText, KindText};
 use std::fmt;
 use std::fmt::Write;
-
-/// A type of events, by its name if it has one.
-#[derive(Drop)]
-pub struct KindText(pub u16);
-
-impl fmt::Display for KindText {
-    ghost use Rattle.std.specs.Prelude.{Some};
-    ghost use Rattle.inp_report.specs.Words.{kind_text};
-
-    ghost output = { λ shown. Some (kind_text shown.0) };
-
-    #[tactic(auto, unfolding(crate::specs::Words::kind_text))]
-    fn fmt<W: fmt::Write>(&self, f: &mut fmt::Formatter<W>) -> fmt::Result {
-        let kind = self.0;
-        match kind_name(kind) {
-            Some(name) => f.write_str(name),
-            None => write!(f, "{kind}"),
-        }
-    }
-}
-
-/// A code of a type, by its name if it has one.
-#[derive(Drop)]
-pub struct CodeText(pub u16, pub u16);
-
-impl fmt::Display for CodeText {
-    ghost use Rattle.std.specs.Prelude.{Some};
-    ghost use Rattle.inp_report.specs.Words.{code_text};
-
-    ghost output = { λ shown. Some (code_text shown.0 shown.1) };
-
-    #[tactic(auto, unfolding(crate::specs::Words::code_text))]
-    fn fmt<W: fmt::Write>(&self, f: &mut fmt::Formatter<W>) -> fmt::Result {
-        let code = self.1;
-        match name_of(self.0, code) {
-            Some(name) => f.write_str(name),
-            None => write!(f, "{code}"),
-        }
-    }
-}
 
 /// The type, code and value of an event.
 #[derive(Drop)]
@@ -60,7 +19,10 @@ impl fmt::Display for EventText {
     #[tactic(auto, unfolding(crate::specs::Words::event_text))]
     fn fmt<W: fmt::Write>(&self, f: &mut fmt::Formatter<W>) -> fmt::Result {
         let kind = KindText(self.0.kind);
-        let code = CodeText(self.0.kind, self.0.code);
+        let code = CodeText {
+            kind: self.0.kind,
+            code: self.0.code,
+        };
         let value = self.0.value;
         write!(f, "{kind} {code} {value}")
     }
@@ -80,28 +42,8 @@ impl fmt::Display for MaskText {
     fn fmt<W: fmt::Write>(&self, f: &mut fmt::Formatter<W>) -> fmt::Result {
         let kind = KindText(self.0);
         let word = self.1;
-        let bits = self.2;
-        write!(f, "{kind} {word} 0x{bits:016x}")
-    }
-}
-
-/// A clock.
-#[derive(Drop)]
-pub struct ClockText(pub Clock);
-
-impl fmt::Display for ClockText {
-    ghost use Rattle.std.specs.Prelude.{Some};
-    ghost use Rattle.inp_report.specs.Words.{clock_text};
-
-    ghost output = { λ shown. Some (clock_text shown.0) };
-
-    #[tactic(auto, unfolding(crate::specs::Words::clock_text))]
-    fn fmt<W: fmt::Write>(&self, f: &mut fmt::Formatter<W>) -> fmt::Result {
-        match self.0 {
-            Clock::Realtime => f.write_str("realtime"),
-            Clock::Monotonic => f.write_str("monotonic"),
-            Clock::Boottime => f.write_str("boottime"),
-        }
+        let bits = BitsText(self.2);
+        write!(f, "{kind} {word} {bits}")
     }
 }
 
@@ -167,29 +109,9 @@ impl fmt::Display for ValueText {
 
     #[tactic(auto, unfolding(crate::specs::Words::value_text))]
     fn fmt<W: fmt::Write>(&self, f: &mut fmt::Formatter<W>) -> fmt::Result {
-        let code = CodeText(EV_ABS, self.0);
+        let code = CodeText::of_axis(self.0);
         let value = self.1;
         write!(f, "{code}={value}")
-    }
-}
-
-/// What an actor is.
-#[derive(Drop)]
-pub struct RoleText(pub Role);
-
-impl fmt::Display for RoleText {
-    ghost use Rattle.std.specs.Prelude.{Some};
-    ghost use Rattle.inp_report.specs.Words.{role_text};
-
-    ghost output = { λ shown. Some (role_text shown.0) };
-
-    #[tactic(auto, unfolding(crate::specs::Words::role_text))]
-    fn fmt<W: fmt::Write>(&self, f: &mut fmt::Formatter<W>) -> fmt::Result {
-        match self.0 {
-            Role::Source => f.write_str("source"),
-            Role::Client => f.write_str("client"),
-            Role::Tap => f.write_str("tap"),
-        }
     }
 }
 

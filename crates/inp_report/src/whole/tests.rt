@@ -4,11 +4,12 @@ ghost use Rattle.inp_script.specs.declared.run.Run.{Run};
 
 use super::*;
 use crate::summary;
-use crate::words::{RoleText, StopText};
+use crate::words::StopText;
 use inp_actors::{Devices, Lines, Role, Streams};
 use inp_caps::CapsBuilder;
 use inp_model::History;
 use inp_script::{Jobs, Stop};
+use inp_texts::RoleText;
 use std::test::Fail;
 
 // A record of one device that nobody uses.

@@ -1,6 +1,7 @@
 use Rattle.std.proofs.Common.{refl, sym}
 use Rattle.inp_canon.specs.Text.{action_words}
-use Rattle.inp_canon.proofs.Written.{line_more, line_all, item_at}
+use Rattle.inp_texts.proofs.Written.{item_at}
+use Rattle.inp_canon.proofs.Written.{line_more, line_all}
 use Rattle.inp_canon.proofs.text.push_actions.Goals as goal
 
 pub push_action-requires : goal.push_action-requires

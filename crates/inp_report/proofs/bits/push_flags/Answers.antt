@@ -1,7 +1,7 @@
 use Rattle.std.proofs.Common.{append-nil, ℕ, ◌*◌, ◌<◌, List, sym, subst, ◌∙◌}
 use Rattle.std.specs.List.{All}
 use Rattle.inp_report.specs.Words.{spaced_code, flags_text}
-use Rattle.inp_report.proofs.Written.{whole_more, below_rest, given_more, given_all}
+use Rattle.inp_texts.proofs.Written.{whole_more, below_rest, given_more, given_all}
 use Rattle.inp_report.proofs.bits.push_flags.Goals as goal
 
 pub loop-code-init : goal.loop-code-init

@@ -1,5 +1,5 @@
 use Rattle.inp_report.proofs.Actors.{actor_within}
-use Rattle.inp_report.proofs.Written.{item_at}
+use Rattle.inp_texts.proofs.Written.{item_at}
 use Rattle.inp_report.proofs.brief.push_run_brief.Goals as goal
 
 pub push_job_brief-requires : goal.push_job_brief-requires

@@ -1,6 +1,6 @@
 use Rattle.std.proofs.Common.{arith}
 use Rattle.inp_report.specs.Views.{slot_entry, slot_text}
-use Rattle.inp_report.proofs.Written.{written_more, written_all}
+use Rattle.inp_texts.proofs.Written.{written_more, written_all}
 use Rattle.inp_report.proofs.views.push_slot_entries.Goals as goal
 
 pub loop-code-preserved : goal.loop-code-preserved

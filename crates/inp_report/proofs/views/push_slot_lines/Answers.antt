@@ -1,6 +1,6 @@
 use Rattle.std.proofs.Common.{arith}
 use Rattle.inp_report.specs.Views.{slot_line}
-use Rattle.inp_report.proofs.Written.{written_more, written_all}
+use Rattle.inp_texts.proofs.Written.{written_more, written_all}
 use Rattle.inp_report.proofs.views.push_slot_lines.Goals as goal
 
 pub loop-slot-preserved : goal.loop-slot-preserved

@@ -1,5 +1,5 @@
 use Rattle.inp_report.specs.Report.{step_line, history_text}
-use Rattle.inp_report.proofs.Written.{enumerated_more, enumerated_all}
+use Rattle.inp_texts.proofs.Written.{enumerated_more, enumerated_all}
 use Rattle.inp_report.proofs.whole.push_history.Goals as goal
 
 pub loop-place-preserved : goal.loop-place-preserved

@@ -1,5 +1,5 @@
 use Rattle.inp_report.proofs.Actors.{actor_within}
-use Rattle.inp_report.proofs.Written.{item_at}
+use Rattle.inp_texts.proofs.Written.{item_at}
 use Rattle.inp_report.proofs.whole.push_run.Goals as goal
 
 pub push_job-requires-clause-actor : goal.push_job-requires-clause-actor

@@ -5,7 +5,7 @@ use Rattle.inp_actors.specs.declared.device_text.DeviceText.{DeviceText}
 use Rattle.inp_script.specs.declared.run.Run.{Run}
 use Rattle.inp_report.specs.Report.{run_text, report}
 use Rattle.inp_script.specs.Runs.{IsRunOf}
-use Rattle.inp_report.proofs.Written.{item_at, zipped_more, zipped_all}
+use Rattle.inp_texts.proofs.Written.{item_at, zipped_more, zipped_all}
 use Rattle.inp_report.proofs.whole.push_runs.Goals as goal
 
 pub push_run-requires : goal.push_run-requires

@@ -1,6 +1,7 @@
-use Rattle.inp_canon.specs.Words.{bits_text}
-use Rattle.inp_canon.proofs.Hexadecimals.{padded_16}
-use Rattle.inp_canon.proofs.words.BitsTextDisplay.fmt.Goals as goal
+-- Sixteen digits.
+use Rattle.inp_texts.specs.Texts.{bits_text}
+use Rattle.inp_texts.proofs.Hexadecimals.{padded_16}
+use Rattle.inp_texts.proofs.bits_text.BitsTextDisplay.fmt.Goals as goal
 
 pub returns-clause-writes : goal.returns-clause-writes
 unfolding bits_text

@@ -1,0 +1,2 @@
+mod Hexadecimals
+pub mod Written

@@ -1,0 +1,22 @@
+//! How types, codes, the bits of a mask, clocks and roles are written, in records and in reports.
+//!
+//! This crate is for whoever writes a text: `inp_canon` and `inp_report`. It stands on `inp_codes` for names, on `inp_model`
+//! for clocks, and on `inp_actors` for roles.
+//!
+//! Its contract: what each of these writes is exactly the text that `specs/Texts.antt` defines of its value, or the
+//! formatter failed. It takes no memory. `proofs/Written.antt` has lemmas on loops that write.
+#![tactic(auto)]
+
+mod bits_text;
+mod clock_text;
+mod code_text;
+mod kind_text;
+mod role_text;
+#[cfg(test)]
+mod tests;
+
+pub use bits_text::BitsText;
+pub use clock_text::ClockText;
+pub use code_text::CodeText;
+pub use kind_text::KindText;
+pub use role_text::RoleText;
