@@ -3,3 +3,4 @@ pub mod Number
 pub mod Request
 pub mod Usage
 pub mod Examples
+pub mod WordsFault

@@ -25,6 +25,11 @@ impl From<AllocError> for WordsFault {
 }
 
 impl fmt::Display for WordsFault {
+    ghost use Rattle.std.specs.Prelude.{Some};
+    ghost use Rattle.inp_args.specs.WordsFault.{message_of};
+
+    ghost output = { λ fault. Some (message_of fault) };
+
     fn fmt<W: fmt::Write>(&self, f: &mut fmt::Formatter<W>) -> fmt::Result {
         match self {
             WordsFault::Usage => write!(f, "the words are not accepted"),

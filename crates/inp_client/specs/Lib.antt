@@ -4,3 +4,4 @@ pub mod Clients
 pub mod Locations
 pub mod Kept
 pub mod KeptMasks
+pub mod OpenRefused

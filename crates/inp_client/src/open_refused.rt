@@ -16,6 +16,11 @@ pub enum OpenRefused {
 }
 
 impl fmt::Display for OpenRefused {
+    ghost use Rattle.std.specs.Prelude.{Some};
+    ghost use Rattle.inp_client.specs.OpenRefused.{message_of};
+
+    ghost output = { λ refused. Some (message_of refused) };
+
     fn fmt<W: fmt::Write>(&self, f: &mut fmt::Formatter<W>) -> fmt::Result {
         match self {
             OpenRefused::TooMany => write!(f, "too many clients are open"),
