@@ -5,3 +5,4 @@ pub mod Reading
 pub mod Loading
 pub mod Promise
 pub mod Complete
+pub mod Views

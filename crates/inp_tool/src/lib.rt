@@ -23,6 +23,9 @@
 //!   of, and no fault lead to the whole report or summary, with status 6 exactly where a job stopped since a history was
 //!   full and else 0, or to want of memory. A record that is made never fills a history: it ends with status 0.
 //!
+//! [`examples_of_views`] is about a record that was worked out by hand (`specs/Views.antt`): at which of its reports the promise
+//! on views speaks, and what its clients' views and the device show there.
+//!
 //! Not said: whether the gate is called (it is not; a test looks).
 #![tactic(auto)]
 
@@ -35,8 +38,10 @@ mod reading;
 mod tests;
 mod texts;
 mod top;
+mod views;
 
 pub use end::End;
 pub use inp_make::make;
 pub use inp_play::play;
 pub use top::inputplay;
+pub use views::examples_of_views;

@@ -16,7 +16,8 @@ use std::test::Fail;
 use texts::{
     AXIS_HEAD, AXIS_NEXT, AXIS_SKIP, CLIENT, CLIENT_REPORT, FULL, FULL_REPORT, HISTORY_REPORT,
     MADE, ONE_KEY, ONE_KEY_PRINTED, ONE_KEY_REPORT, REFUSED, REVOKED, REVOKED_REPORT, STREAM,
-    STREAM_AND_BAD_LINE, STREAMS, STREAMS_REPORT, USAGE, VIEWS, VIEWS_REPORT,
+    STREAM_AND_BAD_LINE, STREAM_TWICE, STREAMS, STREAMS_REPORT, USAGE, VIEWS, VIEWS_JOBS,
+    VIEWS_STEPS,
 };
 
 /// Room for every text of these tests.
@@ -122,11 +123,14 @@ fn tells_what_a_client_lost(rt: HostRuntime) -> Result<(), Fail> {
     Ok(())
 }
 
-/// So many frames of motion, as the records of a stream.
-fn motion(alloc: Global, frames: usize) -> Result<Vec<u8>, AllocError> {
+/// How many frames of motion flood a ring of 64 places.
+const FLOOD: usize = 33;
+
+/// Frames of motion that flood a ring, as the records of a stream.
+fn flood(alloc: Global) -> Result<Vec<u8>, AllocError> {
     let mut bytes = Vec::new(alloc);
-    for frame in 0..frames {
-        let low = (160 + frame % 64) as u8;
+    for frame in 0..FLOOD {
+        let low = (160 + frame) as u8;
         for head in [[2, 0, 0, 0, 1], [0, 0, 0, 0, 0]] {
             bytes.extend_from_slice(&[0; 8])?;
             bytes.extend_from_slice(&[low, 15, 0, 0, 0, 0, 0, 0])?;
@@ -137,14 +141,33 @@ fn motion(alloc: Global, frames: usize) -> Result<Vec<u8>, AllocError> {
     Ok(bytes)
 }
 
-// A full ring, a change of clock, a grab, a mask, an inhibition and a revoked client (docs/PROMISES.md, "An example").
+/// The same as steps of a history, from the place 19 on.
+fn flood_steps(alloc: Global) -> Result<String, AllocError> {
+    let mut steps = String::new(alloc);
+    for frame in 0..FLOOD {
+        let now = 4000 + frame;
+        let at = 19 + 2 * frame;
+        let next = at + 1;
+        steps.push_str(&format!(in alloc; "step {at} inject {now} EV_REL REL_X 1\n")?)?;
+        steps.push_str(&format!(in alloc; "step {next} inject {now} EV_SYN SYN_REPORT 0\n")?)?;
+    }
+    Ok(steps)
+}
+
+// A full ring, a change of clock, a grab, a mask, an inhibition and a revoked client. Its history is that of
+// `specs/Views.antt`, and docs/PROMISES.md, "An example", is about its report.
 #[test]
 fn plays_what_a_view_can_be_trusted_in(rt: HostRuntime) -> Result<(), Fail> {
-    let flood = motion(rt.alloc(), 33)?;
+    let flood = flood(rt.alloc())?;
     let files = [("f", VIEWS.as_bytes()), ("flood", flood.as_slice())];
-    let (end, sink) = run(rt.alloc(), &["f"], &files, NONE)?;
+    let [before, after] = VIEWS_STEPS;
+    let mut want = String::from_str(rt.alloc(), before)?;
+    want.push_str(&flood_steps(rt.alloc())?)?;
+    want.push_str(after)?;
+    want.push_str(VIEWS_JOBS)?;
+    let (end, sink) = run(rt.alloc(), &["--history", "f"], &files, NONE)?;
     assert_eq!(rt; end.status, 0);
-    assert_eq!(rt; sink.bytes(), VIEWS_REPORT.as_bytes());
+    assert_eq!(rt; sink.bytes(), want.as_bytes());
     Ok(())
 }
 
@@ -199,6 +222,10 @@ fn tells_failed_reads(rt: HostRuntime) -> Result<(), Fail> {
         (STREAM, 3, 3, FAILED),
         (STREAM, 5, 3, FAILED),
         (STREAM, 6, 0, ONE_KEY_REPORT),
+        // A file that two lines name is read twice.
+        (STREAM_TWICE, 6, 3, FAILED),
+        (STREAM_TWICE, 8, 3, FAILED),
+        (STREAM_TWICE, 9, 0, STREAMS_REPORT),
         // No stream is read before all lines were judged.
         (STREAM_AND_BAD_LINE, 3, 1, "inputplay: line 8: bad-line\n"),
     ];

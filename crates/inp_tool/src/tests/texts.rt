@@ -157,6 +157,18 @@ do s stream more
 do t read 16
 ";
 
+/// One file for two streams.
+pub(super) const STREAM_TWICE: &str = "inputrecord 1
+device kbd
+cap EV_KEY KEY_A
+source s
+tap t
+do t open
+do s stream keys
+do s stream keys
+do t read 16
+";
+
 /// What comes of two streams that each press the key: the second press is passed to nobody.
 pub(super) const STREAMS_REPORT: &str = "device kbd steps 6
 source s calls 4 stop finished
@@ -312,8 +324,61 @@ do usb event 9000 EV_SYN SYN_REPORT 0
 do desktop follow
 ";
 
-pub(super) const VIEWS_REPORT: &str = "device kbd steps 112
-source usb calls 83 stop finished
+/// The steps of its history before those of the stream, and behind them.
+pub(super) const VIEWS_STEPS: [&str; 2] = [
+    "device kbd steps 112
+step 0 open
+step 1 getkeys 0
+step 2 open
+step 3 open
+step 4 getkeys 2
+step 5 inject 1000 EV_KEY KEY_A 1
+step 6 inject 1000 EV_SYN SYN_REPORT 0
+step 7 read 0 64
+step 8 read 2 64
+step 9 inject 2000 EV_KEY KEY_A 0
+step 10 inject 2000 EV_SYN SYN_REPORT 0
+step 11 clock 0 monotonic 2500
+step 12 inject 3000 EV_KEY KEY_B 1
+step 13 inject 3000 EV_SYN SYN_REPORT 0
+step 14 read 0 64
+step 15 discard 0
+step 16 getkeys 0
+step 17 getkeys 2
+step 18 read 2 64
+",
+    "step 85 read 2 64
+step 86 read 0 64
+step 87 discard 0
+step 88 getkeys 0
+step 89 grab 1
+step 90 inject 5000 EV_KEY KEY_B 0
+step 91 inject 5000 EV_SYN SYN_REPORT 0
+step 92 ungrab 1
+step 93 inject 6000 EV_KEY KEY_A 1
+step 94 inject 6000 EV_SYN SYN_REPORT 0
+step 95 read 0 64
+step 96 discard 0
+step 97 getkeys 0
+step 98 mask 0 EV_KEY 0 0xffffffffbfffffff
+step 99 inject 7000 EV_KEY KEY_A 0
+step 100 inject 7000 EV_KEY KEY_B 1
+step 101 inject 7000 EV_SYN SYN_REPORT 0
+step 102 read 0 64
+step 103 mask 0 EV_KEY 0 0xffffffffffffffff
+step 104 discard 0
+step 105 getkeys 0
+step 106 inhibit 8000
+step 107 read 0 64
+step 108 revoke 0
+step 109 uninhibit
+step 110 inject 9000 EV_KEY KEY_A 1
+step 111 inject 9000 EV_SYN SYN_REPORT 0
+",
+];
+
+/// What its report has behind the line of its device.
+pub(super) const VIEWS_JOBS: &str = "source usb calls 83 stop finished
 client desktop
 call open reply opened 0 0 64
 call getkeys 0 reply bits 1
