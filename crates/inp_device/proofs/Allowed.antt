@@ -66,27 +66,6 @@ not_false false h = absurd (cc h)
 pub named_open : (past : List Step) (x : Step) (client : ℕ) → client_of x ≡ Some client → is_bad_client past (client_of x) ≡ false → is_open past client ≡ true
 named_open past x client named good = not_false (is_open past client) (ap (is_bad_client past) (sym named) ∙ good)
 
--- Each refusal stays out of the history.
-
--- no case has a reply that says the step was entered
-abbrev pub StayOut : List Case → Type 0
-StayOut [] = Unit {0}
-StayOut (c ∷ cs) = (is_accepted c.reply ≡ false) × StayOut cs
-
-stays_by : (holds : Bool) (reply is : Reply) (rest : Option Reply) → is_accepted reply ≡ false → (rest ≡ Some is → is_accepted is ≡ false) → (if holds then Some reply else rest) ≡ Some is → is_accepted is ≡ false
-stays_by true reply is rest out others h = ap is_accepted (sym (some_is reply is h)) ∙ out
-  where
-    some_is : (a b : Reply) → Some a ≡ Some b → a ≡ b
-    some_is a b e = cc
-stays_by false reply is rest out others h = others h
-
-stays_out : (cs : List Case) (reply : Reply) → StayOut cs → first_reply cs ≡ Some reply → is_accepted reply ≡ false
-stays_out [] reply out h = absurd (cc h)
-stays_out (c ∷ cs) reply out h = stays_by c.holds c.reply reply (first_reply cs) out.0 (stays_out cs reply out.1) h
-
-pub refused-stays_out : (d : Description) (past : List Step) (x : Step) (reply : Reply) → refused d past x ≡ Some reply → is_accepted reply ≡ false
-refused-stays_out d past x reply h = stays_out (refusals d past x) reply (refl, (refl, (refl, (refl, (refl, (refl, (refl, (refl, (refl, tt))))))))) h
-
 -- the mask that is set, and its word
 pub mask_kind : (d : Description) (past : List Step) (client kind word bits : ℕ) → IsAllowed d past (Mask client kind word bits) → has_mask kind ≡ true
 mask_kind d past client kind word bits ok = not_false (has_mask kind) ok.kind

@@ -23,7 +23,8 @@ use Rattle.inp_client.specs.Masks.{masks_with, full_masks}
 use Rattle.inp_client.specs.Client.{ClientView, new_client, with_events, after_take, after_flush, after_mask, after_clock, after_revoke}
 use Rattle.inp_client.specs.Clients.{has_client, has_revoked_client, events_of, map_client, without_client}
 use Rattle.inp_device.specs.Present.{client_after, clients_after, MasksEnd, IsFresh}
-use Rattle.inp_device.proofs.OpenClients.{is_open-lt, open_clients-open, open_clients-close}
+use Rattle.inp_model.proofs.Opens.{is_open-lt}
+use Rattle.inp_device.proofs.OpenClients.{open_clients-open, open_clients-close}
 use Rattle.inp_device.proofs.Queues.{flush-map}
 use Rattle.inp_device.proofs.MaskWords.{masks_with-set}
 use Rattle.inp_client.proofs.Lists.{any_below}

@@ -13,9 +13,11 @@ use Rattle.inp_model.specs.declared.reply.Refusal.TheVariants.{NoMemory}
 use Rattle.inp_model.specs.Description.{Description}
 use Rattle.inp_model.specs.DeviceView.{DeviceView}
 use Rattle.inp_model.specs.Reply.{Answer, alone, answer_by, answer, refused, accepted, is_accepted, written, IsDeviceStep}
+use Rattle.inp_model.specs.History.{IsHistory}
+use Rattle.inp_model.proofs.Refused.{refused-not_accepted}
 use Rattle.inp_device.specs.declared.present.Present.{Present}
 use Rattle.inp_device.specs.Present.{StandsFor, IsReadyFor, IsMade, IsMadeOrLacks, IsKeptWith}
-use Rattle.inp_device.proofs.Allowed.{allowed, refused-stays_out}
+use Rattle.inp_device.proofs.Allowed.{allowed}
 
 -- Refused
 
@@ -28,7 +30,7 @@ refused_step d past x reply out cells h =
       replied = ap (λ (a : Answer). a.reply) (sym given);
       out_written = ap (λ (a : Answer). written a.events out) (sym given);
       cells_written = ap (λ (a : Answer). written a.cells cells) (sym given);
-      entered = sym (ap (λ b. if b then x ∷ past else past) (refused-stays_out d past x reply h));
+      entered = sym (ap (λ b. if b then x ∷ past else past) (refused-not_accepted d past x reply h));
     }
 
 -- the same of the value that a device is seen as
@@ -74,6 +76,7 @@ entered_kept old new steps now pushed capacity wider x reply out new_out cells n
     let longer : length pushed ≡ length steps + 1 = ap length push ∙ length-append steps (x ∷ []) in
     record {
       stands = subst (λ d. StandsFor d (reverse pushed) new) (sym caps) (subst (λ (past : List Step). StandsFor old.caps past new) turned made.stands);
+      accepted = subst (λ d. IsHistory d (reverse pushed)) (sym caps) (subst (λ (past : List Step). IsHistory old.caps past) turned (subst (λ (ss : List Step). IsHistory old.caps (reverse ss)) (sym same) kept.accepted, none));
       within = omega (arith, below_limit old now x none, ap length same, longer, limit);
       room = omega (arith, kept.room, limit, wide);
       range = omega (arith, kept.range, limit);
@@ -140,6 +143,7 @@ lacks_kept old new steps now capacity x e out new_out cells new_cells kept same 
     let limit : new.caps.log_limit ≡ old.caps.log_limit = ap (λ (d : Description). d.log_limit) stands.caps in
     record {
       stands = subst (λ d. StandsFor d (reverse steps) new) (sym stands.caps) (subst (λ (ss : List Step). StandsFor old.caps (reverse ss) new) same stands);
+      accepted = subst (λ d. IsHistory d (reverse steps)) (sym stands.caps) kept.accepted;
       within = omega (arith, kept.within, limit);
       room = omega (arith, kept.room, limit);
       range = omega (arith, kept.range, limit);

@@ -13,4 +13,3 @@ pub mod Standing
 pub mod Making
 pub mod Entering
 pub mod WordLists
-pub mod Telling

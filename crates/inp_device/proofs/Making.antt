@@ -31,7 +31,7 @@ use Rattle.inp_ring.specs.Ring.{event_of}
 use Rattle.inp_client.specs.Client.{ClientView, new_client, after_take, after_flush}
 use Rattle.inp_client.specs.Clients.{has_client, has_revoked_client, events_of, map_client, AllBelow}
 use Rattle.inp_device.specs.Present.{client_after, clients_after, HasBits, AsksBits, StandsFor, IsReadyFor, IsMade}
-use Rattle.inp_device.proofs.OpenClients.{opens-le}
+use Rattle.inp_model.proofs.Opens.{opens-le}
 use Rattle.inp_device.proofs.Queues.{visible-map}
 use Rattle.inp_device.proofs.Allowed.{allowed, named_open}
 use Rattle.inp_device.proofs.Calls.{makes_events, leaves_clients, has_client-after, has_revoked_client-after, events_of-after, clients_after-read, clients_after-discard, clients_after-query, clients_after-open, clients_after-left}

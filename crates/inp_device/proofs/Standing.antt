@@ -20,7 +20,7 @@ use Rattle.inp_device.specs.declared.handler.Handler.{Handler}
 use Rattle.inp_device.specs.declared.present.Present.{Present}
 use Rattle.inp_device.specs.Handler.{after_frame}
 use Rattle.inp_device.specs.Present.{clients_after, MasksEnd, IsFresh, AreFresh, HandlerStandsFor, StandsFor}
-use Rattle.inp_device.proofs.OpenClients.{is_open-lt}
+use Rattle.inp_model.proofs.Opens.{is_open-lt}
 use Rattle.inp_device.proofs.MaskWords.{MasksEnd-mask}
 use Rattle.inp_device.proofs.Offers.{after_offers}
 use Rattle.inp_device.proofs.Calls.{clients_after-frames, makes_events}

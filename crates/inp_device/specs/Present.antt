@@ -9,6 +9,7 @@ use Rattle.inp_model.specs.declared.step.Step.{Step}
 use Rattle.inp_model.specs.declared.step.Step.TheVariants.{Open}
 use Rattle.inp_model.specs.declared.reply.Reply.{Reply}
 use Rattle.inp_model.specs.Description.{Description, ring}
+use Rattle.inp_model.specs.History.{IsHistory}
 use Rattle.inp_model.specs.Step.{client_of, query_of, Codes}
 use Rattle.inp_model.specs.Past.{opens, open_clients, is_revoked, holder, clock_of, mask_bit, has_mask, mask_words, ends}
 use Rattle.inp_model.specs.Queue.{queue}
@@ -109,6 +110,8 @@ pub record AsksBits (x : Step) (client kind : ℕ) : Type 0 where
 -- what is kept stands for the history, which has room for all that it may have
 pub record IsKeptWith (history : List Step) (capacity : ℕ) (p : Present) : Type 0 where
   pub stands : StandsFor p.caps (reverse history) p
+  -- it holds accepted steps only
+  pub accepted : IsHistory p.caps (reverse history)
   pub within : length history ≤ p.caps.log_limit
   pub room : p.caps.log_limit ≤ capacity
   pub range : p.caps.log_limit ≤ LOG_MAX

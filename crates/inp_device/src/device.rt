@@ -1,6 +1,7 @@
 //! The device.
 ghost use Rattle.std.specs.Prelude.{◌≡◌, ◌≤◌, [], reverse, IfOk};
 ghost use Rattle.inp_model.specs.declared.stamped.TheConstants.{MOMENT_MAX};
+ghost use Rattle.inp_model.specs.History.{IsHistory};
 ghost use Rattle.inp_model.specs.Step.{moment_of};
 ghost use Rattle.inp_model.specs.Reply.{HasRoom, IsDeviceStep};
 ghost use Rattle.inp_model.specs.Evdev.{agains_after};
@@ -98,6 +99,8 @@ impl Device {
             self.new.past }
         ensures description { self.new.description ≡ self.old.description }
         ensures agains { self.new.agains ≡ agains_after result self.old.agains }
+        ensures accepted { IsHistory self.new.description self.new.past }
+        ensures before { IsHistory self.old.description self.old.past }
     {
         if let Some(reply) = self.present.refusal(&self.steps, step) {
             self.agains = count_again(reply, self.agains);
@@ -122,6 +125,7 @@ impl Device {
     /// The history, taken out of the device. It takes no memory.
     pub fn into_history(self) -> History
         ensures history { result ≡ reverse self.past }
+        ensures accepted { IsHistory self.description self.past }
     {
         History::of(self.steps)
     }

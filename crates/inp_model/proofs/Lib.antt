@@ -1,2 +1,6 @@
 pub mod Computing
 pub mod Descriptions
+pub mod Leaves
+pub mod Opens
+pub mod Refused
+pub mod Telling

@@ -1,10 +1,11 @@
 -- What a caller of an evdev sees of it, and what one call leaves.
-use Rattle.std.specs.Prelude.{◌≡◌, ℕ, ◌+◌, ◌-◌, ◌^◌, ◌≤◌, ◌<◌, ℤ, if◌then◌else◌, nat_lt, Bool, true, false, ◌&&◌, List, [], ◌∷◌, ◌++◌, length, Option, Some, None}
+use Rattle.std.specs.Prelude.{◌≡◌, ℕ, ◌+◌, ◌-◌, ◌^◌, ◌≤◌, ◌<◌, ℤ, if◌then◌else◌, nat_lt, Bool, true, false, ◌&&◌, List, [], ◌∷◌, ◌++◌, length, reverse, Option, Some, None}
 use Rattle.inp_model.specs.declared.taken.Taken.{Taken}
 use Rattle.inp_model.specs.declared.step.Step.{Step}
 use Rattle.inp_model.specs.declared.reply.Reply.{Reply}
 use Rattle.inp_model.specs.declared.reply.Reply.TheVariants.{Again}
 use Rattle.inp_model.specs.Description.{Description}
+use Rattle.inp_model.specs.History.{IsHistory}
 use Rattle.inp_model.specs.Reply.{is_accepted, written}
 use Rattle.inp_model.specs.Run.{Call, place_of, next_place, HasPlace}
 
@@ -20,7 +21,7 @@ pub record EvdevView : Type 0 where
   -- how often the caller had the turn, where that is told
   pub turns : Option ℕ
   -- to what the caller is tied, where that is told
-  pub tie : Option ℕ
+  pub tie : Option (List ℕ)
 
 abbrev pub is_again : Reply → Bool
 is_again (Again at ends) = true
@@ -59,6 +60,8 @@ pub record IsCall (before after : EvdevView) (call : Call) : Type 0 where
   pub own : after.own ≡ own_after call.answer.reply before.own
   pub agains : after.agains ≡ agains_after call.answer.reply before.agains
   pub turns : TurnsRise before.turns after.turns
+  -- what is seen is a history of accepted steps
+  pub history : IsHistory after.description (reverse after.seen)
 
 -- the same, by the step and by what the caller gets
 pub record IsEvdevCall (before after : EvdevView) (x : Step) (reply : Reply) (out new_out : List Taken) (cells new_cells : List ℤ) : Type 0 where

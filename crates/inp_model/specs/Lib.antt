@@ -11,8 +11,10 @@ pub mod Raw
 pub mod Frame
 pub mod Queue
 pub mod Reply
+pub mod History
 pub mod Run
 pub mod Evdev
+pub mod Leaves
 pub mod DeviceView
 pub mod Examples
 pub mod QueryExamples

@@ -11,7 +11,7 @@ use Rattle.inp_model.specs.Evdev.{EvdevView, IsCall}
 use Rattle.inp_model.specs.Past.{past_at}
 use Rattle.inp_model.specs.Reply.{Answer, IsAnswer, answer, is_accepted, past_after}
 use Rattle.inp_model.specs.Run.{Call, place_of}
-use Rattle.inp_reader.specs.Says.{AreCalls}
+use Rattle.inp_model.specs.Leaves.{AreCalls}
 use Rattle.inp_reader.specs.Talk.{Talk, finish, ask, LeadsTo, EndsWith}
 use Rattle.inp_script.specs.Job.{Job}
 use Rattle.inp_play.specs.Play.{talk_with}

@@ -9,10 +9,10 @@ use Rattle.inp_model.specs.DeviceView.{evdev_view}
 use Rattle.inp_model.specs.Evdev.{EvdevView, BeginsWith, agains_after}
 use Rattle.inp_model.specs.Reply.{Answer, answer, refused, accepted, past_after, is_accepted}
 use Rattle.inp_model.specs.Run.{Call, IsLegalRun, place_of}
-use Rattle.inp_device.proofs.Telling.{called_by, given_place}
-use Rattle.inp_reader.specs.Says.{AreCalls}
+use Rattle.inp_model.proofs.Telling.{called_by, given_place}
+use Rattle.inp_model.specs.Leaves.{AreCalls}
 use Rattle.inp_reader.specs.Talk.{Talk, finish, ask, LeadsTo, EndsWith}
-use Rattle.inp_recon.specs.Faithful.{IsHistory}
+use Rattle.inp_model.specs.History.{IsHistory}
 use Rattle.inp_script.proofs.Efforts.{place-below}
 use Rattle.inp_script.proofs.Replies.{answer_has}
 use Rattle.inp_script.proofs.Runs.{runs-on, seen-grows}

@@ -21,9 +21,9 @@ use Rattle.inp_model.specs.Step.{client_of}
 use Rattle.inp_recon.specs.declared.view.View.{View}
 use Rattle.inp_recon.specs.View.{view_after_answer}
 use Rattle.inp_recon.specs.ClientView.{view_at}
-use Rattle.inp_recon.specs.Faithful.{IsHistory}
+use Rattle.inp_model.specs.History.{IsHistory}
 use Rattle.inp_recon.proofs.Each.{Each}
-use Rattle.inp_device.proofs.OpenClients.{is_open-lt, opens-le}
+use Rattle.inp_model.proofs.Opens.{is_open-lt, opens-le}
 use Rattle.inp_reader.specs.declared.mode.Mode.{Mode}
 use Rattle.inp_reader.specs.declared.mode.Mode.TheVariants.{Normal, Sync as Synchronising}
 use Rattle.inp_reader.specs.declared.phase.Phase.{Phase}

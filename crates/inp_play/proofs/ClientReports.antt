@@ -20,7 +20,7 @@ use Rattle.inp_actors.specs.declared.role.Role.TheVariants.{Client}
 use Rattle.inp_actors.specs.Command.{is_command_of}
 use Rattle.inp_recon.specs.declared.view.View.{View}
 use Rattle.inp_recon.specs.View.{first_view}
-use Rattle.inp_recon.specs.Faithful.{IsHistory}
+use Rattle.inp_model.specs.History.{IsHistory}
 use Rattle.inp_recon.proofs.Each.{and-right}
 use Rattle.inp_reader.specs.declared.mode.Mode.{Mode}
 use Rattle.inp_reader.specs.declared.next.Next.{Next}

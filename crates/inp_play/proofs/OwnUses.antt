@@ -12,7 +12,7 @@ use Rattle.inp_model.specs.Run.{Call, IsLegalRun}
 use Rattle.inp_model.specs.Step.{client_of, is_same}
 use Rattle.inp_actors.specs.declared.line.Line.{Line}
 use Rattle.inp_actors.specs.declared.role.Role.{Role}
-use Rattle.inp_device.proofs.OpenClients.{is_open-lt, opens-le}
+use Rattle.inp_model.proofs.Opens.{is_open-lt, opens-le}
 use Rattle.inp_reader.specs.declared.reader.TheConstants.{NO_CLIENT}
 use Rattle.inp_reader.specs.Standing.{is_use, is_use_of}
 use Rattle.inp_reader.specs.Talk.{EndsWith}

@@ -23,11 +23,11 @@ use Rattle.inp_actors.specs.declared.device_text.DeviceText.{DeviceText}
 use Rattle.inp_actors.specs.declared.line.Line.{Line}
 use Rattle.inp_actors.specs.declared.role.Role.{Role}
 use Rattle.inp_actors.specs.Record.{RecordView}
-use Rattle.inp_device.proofs.OpenClients.{opens-le}
-use Rattle.inp_recon.specs.Faithful.{IsHistory}
+use Rattle.inp_model.proofs.Opens.{opens-le}
+use Rattle.inp_model.specs.History.{IsHistory}
 use Rattle.inp_reader.specs.declared.reader.TheConstants.{NO_CLIENT}
 use Rattle.inp_reader.specs.Talk.{EndsWith}
-use Rattle.inp_reader.proofs.Answering.{refused-not_accepted}
+use Rattle.inp_model.proofs.Refused.{refused-not_accepted}
 use Rattle.inp_reader.proofs.Calls.{IsPlaceOf}
 use Rattle.inp_script.specs.declared.run.Run.{Run}
 use Rattle.inp_script.specs.declared.sight.Sight.{Sight}

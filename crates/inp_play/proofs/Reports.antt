@@ -25,7 +25,7 @@ use Rattle.inp_model.specs.Run.{Call, IsLegalFrom, HasPlace, place_of, next_plac
 use Rattle.inp_recon.specs.declared.view.View.{View}
 use Rattle.inp_recon.specs.View.{IsSizedFor, key_count, code_count, with_flag, bits_in, flags_after_reply, keys_after_answer, switches_after_answer, leds_after_answer, first_view, view_after_event, view_after_events, view_after_answer}
 use Rattle.inp_recon.specs.ClientView.{view_after_step, client_view, past_before_read, read_up_to, view_at}
-use Rattle.inp_recon.specs.Faithful.{IsHistory}
+use Rattle.inp_model.specs.History.{IsHistory}
 use Rattle.inp_recon.specs.Synchronised.{is_synchronised}
 use Rattle.inp_recon.proofs.Each.{Each}
 use Rattle.inp_recon.proofs.Sizes.{IsSizedFor-after_events}
@@ -34,7 +34,7 @@ use Rattle.inp_recon.proofs.ViewSteps.{client_view-sized}
 use Rattle.inp_reader.specs.Spare.{is_event_of}
 use Rattle.inp_reader.specs.Standing.{is_use_of, events_of}
 use Rattle.inp_reader.proofs.Agreeing.{AgreeBut}
-use Rattle.inp_reader.proofs.Answering.{refused-not_accepted}
+use Rattle.inp_model.proofs.Refused.{refused-not_accepted}
 use Rattle.inp_reader.proofs.Calls.{IsPlaceOf, place-least}
 use Rattle.inp_reader.proofs.ClientViews.{at-earlier, at-last, idle-step, idle-taken, used-view, taken-events}
 use Rattle.inp_reader.proofs.Meeting.{AreQuiet, IsMet, AreMet, AreAllOwn, later_own, past_before, quiet-from_places, quiet-reversed, slice_get-taken, slice_get-behind}

@@ -11,7 +11,7 @@ use Rattle.inp_actors.specs.declared.actor_text.ActorText.{ActorText}
 use Rattle.inp_actors.specs.declared.line.Line.{Line}
 use Rattle.inp_actors.specs.declared.role.Role.{Role}
 use Rattle.inp_actors.specs.Record.{RecordView}
-use Rattle.inp_recon.specs.Faithful.{IsHistory}
+use Rattle.inp_model.specs.History.{IsHistory}
 use Rattle.inp_recon.specs.View.{IsSizedFor}
 use Rattle.inp_reader.specs.Talk.{EndsWith}
 use Rattle.inp_script.specs.Doing.{line_talk}

@@ -20,7 +20,7 @@ use Rattle.inp_model.specs.Reply.{Answer, IsAnswer, answer, answer_by, accepted,
 use Rattle.inp_model.specs.Run.{Call, HasPlace, place_of, next_place}
 use Rattle.inp_model.specs.Step.{client_of, is_open_step, is_same}
 use Rattle.inp_device.proofs.Allowed.{named_open}
-use Rattle.inp_device.proofs.OpenClients.{is_open-lt, opens-le}
+use Rattle.inp_model.proofs.Opens.{is_open-lt, opens-le}
 use Rattle.inp_actors.specs.declared.command.Command.{Command}
 use Rattle.inp_actors.specs.declared.command.Command.TheVariants.{Event as ToEvent, Tick, Inhibit, Uninhibit, Stream, Open, Next, Skip, Follow, Force}
 use Rattle.inp_actors.specs.declared.role.Role.TheVariants.{Tap}
@@ -28,7 +28,7 @@ use Rattle.inp_actors.specs.Command.{is_command_of}
 use Rattle.inp_recon.specs.declared.view.View.{View}
 use Rattle.inp_recon.specs.View.{IsSizedFor, code_count, first_view, view_after_events, view_after_answer}
 use Rattle.inp_recon.specs.ClientView.{client_view, past_before_read, view_at}
-use Rattle.inp_recon.specs.Faithful.{IsHistory}
+use Rattle.inp_model.specs.History.{IsHistory}
 use Rattle.inp_recon.specs.Synchronised.{Part, AllKeys, AllSwitches, AllLeds, OneAxis, AllSlots, asks_for, has_asked, has_asked_where, has_axis, is_synchronised, is_start}
 use Rattle.inp_recon.proofs.Each.{and-left, and-right}
 use Rattle.inp_recon.proofs.Sizes.{IsSizedFor-after_events, IsSizedFor-after_answer, IsSizedFor-first_view}
@@ -38,7 +38,7 @@ use Rattle.inp_reader.specs.Spare.{is_event_of}
 use Rattle.inp_reader.specs.Standing.{is_use, is_use_of, is_read, events_of}
 use Rattle.inp_reader.specs.Talk.{LeadsTo, EndsWith}
 use Rattle.inp_reader.proofs.Agreeing.{Compared, AgreeBut, is_get_keys, is_get_switches, is_get_leds, is_get_axis, is_sync_slots, agree-answer}
-use Rattle.inp_reader.proofs.Answering.{refused-not_accepted}
+use Rattle.inp_model.proofs.Refused.{refused-not_accepted}
 use Rattle.inp_reader.proofs.ClientViews.{accepted-answer, accepted-accepts, at-last, idle-step, no-events, no_read-takes, read-view, taken-events, used-taken, used-view}
 use Rattle.inp_reader.proofs.Meeting.{AreQuiet}
 use Rattle.inp_reader.proofs.Showings.{what_is_had, agree-events, at-it}

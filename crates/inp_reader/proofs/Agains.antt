@@ -27,7 +27,8 @@ use Rattle.inp_reader.specs.Standing.{is_read}
 use Rattle.inp_reader.specs.declared.started.Started.{Started}
 use Rattle.inp_reader.specs.Leaving.{agains_after_next}
 use Rattle.inp_reader.specs.Reading.{Reading, ask_each, queries, start_talk, next_talk, talk_in, plain_talk, go_on, go_on_after, sync_talk, after_open, after_queries, read_talk, read_or_hand_out, after_read, hand_out, hand_out_event, stop_of, handing, hand_synthesised, as_plain, after_full_sync, after_failed_sync, is_dropped, only_if, bit_queries, axis_queries, plain_axes, slot_queries}
-use Rattle.inp_reader.specs.Says.{AreCalls, Says}
+use Rattle.inp_model.specs.Leaves.{AreCalls}
+use Rattle.inp_reader.specs.Says.{Says}
 use Rattle.inp_reader.specs.Talk.{Talk, finish, and_then, LeadsTo, EndsWith}
 use Rattle.inp_reader.proofs.Calls.{AreAnswered, answered, answered-first, IsSplit, split-and_then, finished}
 

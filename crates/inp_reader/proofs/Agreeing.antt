@@ -22,7 +22,7 @@ use Rattle.inp_reader.specs.Reading.{queries, bit_queries, axis_queries, plain_a
 use Rattle.inp_recon.specs.Synchronised.{has_axis}
 use Rattle.inp_reader.specs.Spare.{IsSpare}
 use Rattle.inp_reader.specs.Standing.{steps_of, view_after_answers}
-use Rattle.inp_reader.proofs.Answering.{refused-not_accepted}
+use Rattle.inp_model.proofs.Refused.{refused-not_accepted}
 use Rattle.inp_reader.proofs.Calls.{AreAnswered, AreAccepted}
 use Rattle.inp_reader.proofs.Spares.{IsSpare-first_view, has-cells}
 use Rattle.inp_reader.proofs.Standings.{IsMadeAnew}

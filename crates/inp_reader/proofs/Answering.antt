@@ -14,26 +14,9 @@ use Rattle.inp_model.specs.Past.{past_at}
 use Rattle.inp_model.specs.Raw.{raw}
 use Rattle.inp_model.specs.Run.{place_of}
 use Rattle.inp_model.specs.Reply.{Answer, Case, answer_by, accepted, refused, refusals, first_reply, is_accepted, written, IsAnswer, rows, row}
+use Rattle.inp_model.proofs.Refused.{refused-not_accepted}
 use Rattle.inp_recon.specs.declared.view.View.{View}
 use Rattle.inp_recon.specs.View.{view_after_answer, slot_after_reply, cells_after_reply}
-
--- No refusal is an accepted reply
-
-abbrev AllRefuse : List Case → Type 0
-AllRefuse [] = Unit {0}
-AllRefuse (case ∷ cases) = (is_accepted case.reply ≡ false) × AllRefuse cases
-
-first_if : (holds : Bool) (given reply : Reply) (rest : Option Reply) → is_accepted given ≡ false → (rest ≡ Some reply → is_accepted reply ≡ false) → (if holds then Some given else rest) ≡ Some reply → is_accepted reply ≡ false
-first_if true given reply rest h later e = let same : given ≡ reply = cc in ap is_accepted (sym same) ∙ h
-first_if false given reply rest h later e = later e
-
-first_reply-refuses : (cases : List Case) (reply : Reply) → AllRefuse cases → first_reply cases ≡ Some reply → is_accepted reply ≡ false
-first_reply-refuses [] reply h e = absurd cc
-first_reply-refuses (case ∷ cases) reply h e = first_if case.holds case.reply reply (first_reply cases) h.0 (first_reply-refuses cases reply h.1) e
-
-pub refused-not_accepted : (d : Description) (past : List Step) (x : Step) (reply : Reply) → refused d past x ≡ Some reply → is_accepted reply ≡ false
-refused-not_accepted d past x reply h =
-    first_reply-refuses (refusals d past x) reply (refl, (refl, (refl, (refl, (refl, (refl, (refl, (refl, (refl, tt))))))))) h
 
 -- All values of all slots
 

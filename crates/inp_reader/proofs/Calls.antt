@@ -12,7 +12,8 @@ use Rattle.inp_model.specs.Reply.{IsAnswer, is_accepted}
 use Rattle.inp_model.specs.Run.{Call, place_of, next_place, IsLegalFrom}
 use Rattle.inp_reader.specs.declared.call_made.CallMade.{CallMade}
 use Rattle.inp_reader.specs.Leaving.{places_of}
-use Rattle.inp_reader.specs.Says.{kept_of, made_of, AreCalls}
+use Rattle.inp_model.specs.Leaves.{AreCalls}
+use Rattle.inp_reader.specs.Says.{kept_of, made_of}
 use Rattle.inp_reader.specs.Talk.{Talk, finish, ask, and_then, LeadsTo, EndsWith}
 use Rattle.inp_reader.proofs.Leavings.{places_of-append}
 

@@ -16,7 +16,7 @@ use Rattle.inp_model.specs.Step.{client_of, is_same}
 use Rattle.inp_recon.specs.declared.view.View.{View}
 use Rattle.inp_recon.specs.View.{IsSizedFor, first_view, view_after_events, view_after_answer}
 use Rattle.inp_recon.specs.ClientView.{view_after_step, client_view, past_before_read, view_at}
-use Rattle.inp_recon.specs.Faithful.{IsHistory}
+use Rattle.inp_model.specs.History.{IsHistory}
 use Rattle.inp_recon.proofs.Folds.{view_after_events-append}
 use Rattle.inp_recon.proofs.Sizes.{IsSizedFor-first_view}
 use Rattle.inp_recon.proofs.ViewSteps.{client_view-sized}

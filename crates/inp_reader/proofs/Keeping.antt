@@ -20,7 +20,8 @@ use Rattle.inp_recon.specs.View.{first_view, view_after_event, view_after_answer
 use Rattle.inp_recon.proofs.Sizes.{IsSizedFor-first_view, IsSizedFor-after_event, IsSizedFor-after_answer}
 use Rattle.inp_reader.specs.Synthesis.{value_at}
 use Rattle.inp_reader.specs.KeptViews.{IsKeptView}
-use Rattle.inp_reader.proofs.Answering.{refused-not_accepted, length-rows}
+use Rattle.inp_model.proofs.Refused.{refused-not_accepted}
+use Rattle.inp_reader.proofs.Answering.{length-rows}
 
 -- ---- one axis
 

@@ -14,7 +14,8 @@ use Rattle.inp_model.specs.Run.{Call, place_of, HasPlace, IsLegalFrom}
 use Rattle.inp_reader.specs.declared.call_made.CallMade.{CallMade}
 use Rattle.inp_reader.specs.Leaving.{places_of, IsRun}
 use Rattle.inp_reader.specs.Talk.{Talk}
-use Rattle.inp_reader.specs.Says.{kept_of, made_of, AreCalls, Says}
+use Rattle.inp_model.specs.Leaves.{AreCalls}
+use Rattle.inp_reader.specs.Says.{kept_of, made_of, Says}
 
 -- What stays
 

@@ -13,7 +13,8 @@ use Rattle.inp_model.specs.Reply.{IsAnswer, is_accepted, past_after}
 use Rattle.inp_model.specs.Run.{Call, place_of, next_place}
 use Rattle.inp_reader.specs.declared.call_made.CallMade.{CallMade}
 use Rattle.inp_reader.specs.Leaving.{places_of}
-use Rattle.inp_reader.specs.Says.{made_of, AreCalls}
+use Rattle.inp_model.specs.Leaves.{AreCalls}
+use Rattle.inp_reader.specs.Says.{made_of}
 use Rattle.inp_reader.specs.Standing.{is_use_of}
 use Rattle.inp_reader.proofs.Calls.{AreAnswered, IsPlaceOf, place-known, place-least}
 use Rattle.inp_reader.proofs.Leavings.{seen-kept, calls-legal, slice_get-longer}

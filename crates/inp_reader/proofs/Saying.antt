@@ -13,7 +13,8 @@ use Rattle.inp_reader.specs.declared.call_made.CallMade.{CallMade}
 use Rattle.inp_reader.specs.Talk.{Talk, finish, ask, and_then, LeadsTo, EndsWith}
 use Rattle.inp_reader.specs.Asking.{Asks, asked_result}
 use Rattle.inp_reader.specs.Reading.{ask_each, only_if}
-use Rattle.inp_reader.specs.Says.{kept_of, made_of, AreCalls, Says}
+use Rattle.inp_model.specs.Leaves.{AreCalls}
+use Rattle.inp_reader.specs.Says.{kept_of, made_of, Says}
 use Rattle.inp_reader.proofs.Answering.{view-answered}
 use Rattle.inp_reader.proofs.Talks.{LeadsTo-append, LeadsTo-and_then, EndsWith-ask_each, EndsWith-stop, AreCalls-append, made_of-append, told as told_view, stopped_at}
 

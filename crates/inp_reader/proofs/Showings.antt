@@ -18,7 +18,8 @@ use Rattle.inp_model.specs.Run.{Call}
 use Rattle.inp_recon.specs.declared.view.View.{View}
 use Rattle.inp_recon.specs.View.{IsSizedFor, with_value_at, first_view, view_after_event, view_after_events, keys_after_event, bits_after_event, slot_after_event, cells_after_event}
 use Rattle.inp_recon.specs.ClientView.{view_at}
-use Rattle.inp_recon.specs.Faithful.{IsHistory, IsDeviceState, AreFaithful}
+use Rattle.inp_model.specs.History.{IsHistory}
+use Rattle.inp_recon.specs.Faithful.{IsDeviceState, AreFaithful}
 use Rattle.inp_recon.proofs.Sizes.{IsSizedFor-first_view, length-axes_after_event, length-cells_after_event}
 use Rattle.inp_reader.specs.Reading.{Reading, queries}
 use Rattle.inp_reader.specs.Showing.{index_handed_out, ShowsTheDevice}

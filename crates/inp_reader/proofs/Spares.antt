@@ -19,7 +19,8 @@ use Rattle.inp_recon.specs.View.{key_count, code_count, AreCells, HasCells, with
 use Rattle.inp_recon.proofs.Sizes.{IsSizedFor-first_view, IsSizedFor-after_event, IsSizedFor-after_answer}
 use Rattle.inp_recon.specs.Synchronised.{has_axis}
 use Rattle.inp_reader.specs.Spare.{IsSpare, is_event_of}
-use Rattle.inp_reader.proofs.Answering.{refused-not_accepted, length-rows}
+use Rattle.inp_model.proofs.Refused.{refused-not_accepted}
+use Rattle.inp_reader.proofs.Answering.{length-rows}
 
 -- An event of the device
 

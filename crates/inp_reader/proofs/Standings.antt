@@ -31,7 +31,7 @@ use Rattle.inp_reader.specs.Reading.{Reading, ask_each, queries, bit_queries, ax
 use Rattle.inp_recon.specs.Synchronised.{is_discard_of, is_start}
 use Rattle.inp_reader.specs.Standing.{is_use_of, calls_since, steps_of, view_after_answers, taken_by_calls, events_of, is_read, AreReads, IsInStep, is_needed, StandsAt, has_opened}
 use Rattle.inp_reader.specs.Talk.{Talk, finish, and_then, LeadsTo, EndsWith}
-use Rattle.inp_reader.proofs.Answering.{refused-not_accepted}
+use Rattle.inp_model.proofs.Refused.{refused-not_accepted}
 use Rattle.inp_reader.proofs.Calls.{IsSplit, split-and_then, finished, AreAnswered, AreAccepted}
 use Rattle.inp_reader.proofs.Meeting.{AreQuiet, IsMet, AreMet, AreMet-split, AreMet-answered}
 

@@ -11,7 +11,8 @@ use Rattle.inp_recon.specs.View.{view_after_answer}
 use Rattle.inp_reader.specs.declared.call_made.CallMade.{CallMade}
 use Rattle.inp_reader.specs.Talk.{Talk, finish, ask, and_then, LeadsTo, EndsWith}
 use Rattle.inp_reader.specs.Reading.{ask_each}
-use Rattle.inp_reader.specs.Says.{kept_of, made_of, AreCalls}
+use Rattle.inp_model.specs.Leaves.{AreCalls}
+use Rattle.inp_reader.specs.Says.{kept_of, made_of}
 
 -- Talks
 

@@ -1,8 +1,9 @@
 -- When the calls that a reader makes are those of a talk.
-use Rattle.std.specs.Prelude.{◌≡◌, if◌then◌else◌, Bool, true, false, List, [], ◌∷◌, ◌++◌}
+use Rattle.std.specs.Prelude.{◌≡◌, if◌then◌else◌, List, [], ◌∷◌, ◌++◌}
 use Rattle.inp_model.specs.declared.step.Step.{Step}
 use Rattle.inp_model.specs.declared.reply.Reply.{Reply}
-use Rattle.inp_model.specs.Evdev.{EvdevView, IsCall, is_again}
+use Rattle.inp_model.specs.Evdev.{EvdevView, is_again}
+use Rattle.inp_model.specs.Leaves.{AreCalls}
 use Rattle.inp_model.specs.Run.{Call}
 use Rattle.inp_reader.specs.declared.call_made.CallMade.{CallMade}
 use Rattle.inp_reader.specs.Talk.{Talk, EndsWith}
@@ -15,11 +16,6 @@ kept_of x reply = if is_again reply then [] else record { step = x; reply = repl
 abbrev pub made_of : List Call → List CallMade
 made_of [] = []
 made_of (call ∷ calls) = kept_of call.step call.answer.reply ++ made_of calls
-
--- calls on an evdev, one after another
-unfoldable pub AreCalls : EvdevView → EvdevView → List Call → Type 0
-AreCalls before after [] = after ≡ before
-AreCalls before after (call ∷ calls) = (between : EvdevView) × IsCall before between call × AreCalls between after calls
 
 -- The calls that were made on an evdev are those of the talk, this is its result, and they are kept behind those that
 -- were kept before.

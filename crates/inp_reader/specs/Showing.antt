@@ -9,7 +9,8 @@ use Rattle.inp_model.specs.Frame.{Frame}
 use Rattle.inp_model.specs.Queue.{took}
 use Rattle.inp_model.specs.Reply.{taken_of}
 use Rattle.inp_recon.specs.ClientView.{past_before_read, read_up_to}
-use Rattle.inp_recon.specs.Faithful.{IsHistory, IsReportAt, IsFollowed, IsDeviceState}
+use Rattle.inp_model.specs.History.{IsHistory}
+use Rattle.inp_recon.specs.Faithful.{IsReportAt, IsFollowed, IsDeviceState}
 use Rattle.inp_reader.specs.declared.next.Next.{Next}
 use Rattle.inp_reader.specs.declared.next.Next.TheVariants.{Success}
 use Rattle.inp_reader.specs.Reading.{Reading, ReaderView}

@@ -10,7 +10,8 @@ use Rattle.inp_model.specs.Queue.{Entry, event_of, visible, queue, taken_by, too
 use Rattle.inp_model.specs.Reply.{refused}
 use Rattle.inp_recon.specs.View.{view_after_events}
 use Rattle.inp_recon.specs.ClientView.{client_view, past_before_read, read_up_to}
-use Rattle.inp_recon.specs.Faithful.{IsDeviceState, IsHistory, IsReportAt, IsFollowed, AreFaithful, AreReadsFaithful}
+use Rattle.inp_model.specs.History.{IsHistory}
+use Rattle.inp_recon.specs.Faithful.{IsDeviceState, IsReportAt, IsFollowed, AreFaithful, AreReadsFaithful}
 
 -- ---- a list between two others
 

@@ -9,7 +9,8 @@ use Rattle.inp_model.specs.State.{key_down, switch_on, led_on, axis_value}
 use Rattle.inp_model.specs.Passed.{announced}
 use Rattle.inp_model.specs.Frame.{Frame, place}
 use Rattle.inp_model.specs.Queue.{Entry, event_of, taken_by, took}
-use Rattle.inp_model.specs.Reply.{refused, rows}
+use Rattle.inp_model.specs.History.{IsHistory}
+use Rattle.inp_model.specs.Reply.{rows}
 use Rattle.inp_recon.specs.declared.view.View.{View}
 use Rattle.inp_recon.specs.View.{view_after_events}
 use Rattle.inp_recon.specs.ClientView.{client_view, past_before_read, read_up_to, view_at}
@@ -27,11 +28,6 @@ pub record IsDeviceState (d : Description) (r : List Event) (v : View) : Type 0 
   pub cells : v.cells ≡ rows d r
   -- the slot that was announced last
   pub slot : 0 < d.slots → v.slot ≡ announced d r
-
--- each step was accepted after the past before it
-abbrev pub IsHistory : Description → List Step → Type 0
-IsHistory d [] = Unit {0}
-IsHistory d (x ∷ past) = IsHistory d past × (refused d past x ≡ None)
 
 -- item j of a client's entries is a report of this frame
 pub record IsReportAt (entries : List Entry) (j : ℕ) (f : Frame) : Type 0 where

@@ -20,7 +20,8 @@ use Rattle.inp_recon.specs.View.{view_after_events}
 use Rattle.inp_recon.specs.ClientView.{client_view, past_before_read, read_up_to, view_at}
 use Rattle.inp_recon.specs.Synchronised.{sync_place, is_synchronised}
 use Rattle.inp_recon.specs.Undisturbed.{is_undisturbed}
-use Rattle.inp_recon.specs.Faithful.{IsHistory, IsReportAt, IsFollowed}
+use Rattle.inp_model.specs.History.{IsHistory}
+use Rattle.inp_recon.specs.Faithful.{IsReportAt, IsFollowed}
 use Rattle.inp_recon.specs.Examples.{has_key, axis, x_of, y_of}
 
 -- the keys A and B, the axis X and the motion X

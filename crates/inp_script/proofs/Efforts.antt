@@ -24,7 +24,7 @@ use Rattle.inp_model.specs.Run.{Call, place_of, next_place}
 use Rattle.inp_recon.specs.declared.view.View.{View}
 use Rattle.inp_recon.specs.View.{view_after_answer, view_after_event, HasCells, AreCells}
 use Rattle.inp_recon.proofs.Sizes.{length-cells_after_answer}
-use Rattle.inp_reader.specs.Says.{AreCalls}
+use Rattle.inp_model.specs.Leaves.{AreCalls}
 use Rattle.inp_reader.specs.declared.mode.Mode.{Mode}
 use Rattle.inp_reader.specs.declared.mode.Mode.TheVariants.{Normal, Sync as Synchronising}
 use Rattle.inp_reader.specs.declared.phase.Phase.{Phase}

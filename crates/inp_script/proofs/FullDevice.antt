@@ -69,6 +69,7 @@ full-call x why out cells h = record {
     own = refl;
     agains = refl;
     turns = tt;
+    history = (tt, refl);
   };
 }
 

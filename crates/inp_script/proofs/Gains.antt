@@ -9,7 +9,7 @@ use Rattle.inp_model.specs.Description.{Description}
 use Rattle.inp_model.specs.Evdev.{EvdevView, is_again, own_after}
 use Rattle.inp_model.specs.Reply.{is_accepted}
 use Rattle.inp_model.specs.Run.{Call, place_of}
-use Rattle.inp_reader.specs.Says.{AreCalls}
+use Rattle.inp_model.specs.Leaves.{AreCalls}
 use Rattle.inp_script.specs.declared.sight.Sight.{Sight}
 use Rattle.inp_script.specs.declared.sight.Sight.TheVariants.{Call as Called, Took, Made, Again}
 use Rattle.inp_script.specs.Doing.{Holds, DoesLine}

@@ -10,7 +10,7 @@ use Rattle.inp_model.specs.Evdev.{EvdevView, IsCall, BeginsWith, is_again}
 use Rattle.inp_model.specs.Past.{past_at}
 use Rattle.inp_model.specs.Reply.{IsAnswer, is_accepted}
 use Rattle.inp_model.specs.Run.{Call, HasPlace, IsLegalFrom, IsLegalRun, place_of, next_place}
-use Rattle.inp_reader.specs.Says.{AreCalls}
+use Rattle.inp_model.specs.Leaves.{AreCalls}
 
 slice_get-longer : (xs ys : List Step) (i : ℕ) (x : Step) → slice_get xs i ≡ Some x → slice_get (xs ++ ys) i ≡ Some x
 slice_get-longer [] ys i x h = absurd cc

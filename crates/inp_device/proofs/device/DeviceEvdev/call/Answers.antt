@@ -1,7 +1,7 @@
-use Rattle.inp_device.proofs.Telling.{evdev_called}
+use Rattle.inp_model.proofs.Telling.{evdev_called}
 use Rattle.inp_device.proofs.device.DeviceEvdev.call.Goals as goal
 
 pub returns : goal.returns
 returns c = record {
-  called = evdev_called c.args.self.now c.step.new.self c.args.step c.step.result _ _ _ _ c.step.ensures.step c.step.ensures.description c.step.ensures.agains;
+  called = evdev_called c.args.self.now c.step.new.self c.args.step c.step.result _ _ _ _ c.step.ensures.step c.step.ensures.description c.step.ensures.agains c.step.ensures.before;
 }

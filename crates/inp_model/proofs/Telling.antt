@@ -1,4 +1,4 @@
--- What the caller of a device sees of a step.
+-- What the caller of a device is told of a step.
 use Rattle.std.proofs.Common.{◌≡◌, ℕ, suc, Bool, true, false, if◌then◌else◌, List, [], ◌∷◌, ◌++◌, length, take, reverse, refl, sym, ap, subst, ◌∙◌, ℤ, arith, inl, inr, Option, Some, None}
 use Rattle.std.specs.Prelude.{slice_get}
 use Rattle.std.specs.List.{range_with_len}
@@ -14,7 +14,9 @@ use Rattle.inp_model.specs.DeviceView.{DeviceView, evdev_view}
 use Rattle.inp_model.specs.Reply.{Answer, IsAnswer, Case, first_reply, refusals, refused, accepted, answer_by, is_accepted, past_after, IsDeviceStep}
 use Rattle.inp_model.specs.Run.{Call, place_of}
 use Rattle.inp_model.specs.Evdev.{agains_after, IsCall, IsEvdevCall}
-use Rattle.inp_device.proofs.OpenClients.{range-more}
+use Rattle.inp_model.proofs.Opens.{range-more}
+use Rattle.inp_model.proofs.Refused.{accepted-unrefused}
+use Rattle.inp_model.specs.History.{IsHistory}
 
 -- The place of every answer is the length of the past
 
@@ -67,12 +69,12 @@ turned past x =
     ap reverse (sym (reverse-append (reverse past) (x ∷ []) ∙ ap (λ (ss : List Step). x ∷ ss) (reverse-reverse past)))
     ∙ reverse-reverse (reverse past ++ x ∷ [])
 
-pub called_by : (d : Description) (past : List Step) (agains : ℕ) (x : Step) (given : Answer) (b : Bool) → is_accepted given.reply ≡ b → place_of given.reply ≡ length past → IsAnswer d past x given
+pub called_by : (d : Description) (past : List Step) (agains : ℕ) (x : Step) (given : Answer) (b : Bool) → is_accepted given.reply ≡ b → place_of given.reply ≡ length past → IsAnswer d past x given → IsHistory d past
     → (let before : DeviceView = record { description = d; past = past; agains = agains } in
     let after : DeviceView = record { description = d; past = (if b then x ∷ past else past); agains = agains_after given.reply agains } in
     let call : Call = record { step = x; answer = given } in
     IsCall (evdev_view before) (evdev_view after) call)
-called_by d past agains x given true enters placed exact =
+called_by d past agains x given true enters placed exact h =
     let whole : length (reverse (x ∷ past)) ≡ suc (length past) = length-reverse (x ∷ past) in
     record {
       description = refl;
@@ -90,8 +92,9 @@ called_by d past agains x given true enters placed exact =
           ∙ sym (ap (λ b. if b then range_with_len 0 (length past) ++ place_of given.reply ∷ [] else range_with_len 0 (length past)) enters);
       agains = refl;
       turns = tt;
+      history = subst (IsHistory d) (sym (reverse-reverse (x ∷ past))) (h, accepted-unrefused d past x given exact enters);
     }
-called_by d past agains x given false enters placed exact =
+called_by d past agains x given false enters placed exact h =
     record {
       description = refl;
       tie = refl;
@@ -106,11 +109,12 @@ called_by d past agains x given false enters placed exact =
       own = sym (ap (λ b. if b then range_with_len 0 (length past) ++ place_of given.reply ∷ [] else range_with_len 0 (length past)) enters);
       agains = refl;
       turns = tt;
+      history = subst (IsHistory d) (sym (reverse-reverse past)) h;
     }
 
 pub evdev_called : (before after : DeviceView) (x : Step) (reply : Reply) (out new_out : List Taken) (cells new_cells : List ℤ) → IsDeviceStep before.description before.past x reply out new_out cells new_cells after.past
-    → after.description ≡ before.description → after.agains ≡ agains_after reply before.agains → IsEvdevCall (evdev_view before) (evdev_view after) x reply out new_out cells new_cells
-evdev_called before after x reply out new_out cells new_cells step same counted =
+    → after.description ≡ before.description → after.agains ≡ agains_after reply before.agains → IsHistory before.description before.past → IsEvdevCall (evdev_view before) (evdev_view after) x reply out new_out cells new_cells
+evdev_called before after x reply out new_out cells new_cells step same counted history =
     let given : Answer = step.given in
     let placed : place_of given.reply ≡ length before.past = given_place before.description before.past x given step.exact in
     let entered : after.past ≡ (if is_accepted given.reply then x ∷ before.past else before.past) = step.entered ∙ ap (λ r. past_after r x before.past) step.replied in
@@ -126,5 +130,5 @@ evdev_called before after x reply out new_out cells new_cells step same counted 
       out_written = step.out_written;
       cells_written = step.cells_written;
       is_call = subst (λ (v : DeviceView). IsCall (evdev_view before) (evdev_view v) (record { step = x; answer = given })) is
-          (called_by before.description before.past before.agains x given (is_accepted given.reply) refl placed step.exact);
+          (called_by before.description before.past before.agains x given (is_accepted given.reply) refl placed step.exact history);
     }
