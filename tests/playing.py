@@ -1,0 +1,59 @@
+"""How the checks of this folder run the built program, and how they say that it did something else than was wanted."""
+
+import difflib
+import os
+import subprocess
+from pathlib import Path
+from typing import NamedTuple
+
+TOP = Path(__file__).resolve().parent.parent
+RECORDS = TOP / "tests" / "records"
+EXAMPLES = TOP / "examples"
+PROGRAM = os.environ.get("INPUTPLAY") or str(TOP / "crates" / "inp_main" / "out" / "inp_main")
+
+USAGE = (
+    b"usage: inputplay [--threads] [--history] [--idle N] FILE, or inputplay --make NUMBER [--count COUNT]\n"
+)
+
+# No run takes longer than a part of a second; one that hangs is a failure.
+SECONDS = 30
+
+
+class Run(NamedTuple):
+    """What a run of the program came to."""
+
+    status: int
+    text: bytes
+    errors: bytes
+
+
+def run(words, folder, **more):
+    """Runs the program with these words in a folder. What it writes is read, unless `stdout` says where it goes."""
+    more = {"stdout": subprocess.PIPE, **more}
+    done = subprocess.run(
+        [PROGRAM, *map(str, words)],
+        cwd=folder,
+        stdin=subprocess.DEVNULL,
+        stderr=subprocess.PIPE,
+        timeout=SECONDS,
+        **more,
+    )
+    return Run(done.returncode, done.stdout or b"", done.stderr)
+
+
+def lines_of(text):
+    return text.decode("utf-8", "backslashreplace").splitlines(keepends=True)
+
+
+def differences(wanted, came):
+    """The lines in which what came differs from what was wanted, and at most so many of them that one can read them."""
+    lines = list(difflib.unified_diff(lines_of(wanted), lines_of(came), "wanted", "came", n=2))
+    shown = [line if line.endswith("\n") else line + "\n\\ no line feed\n" for line in lines[:60]]
+    return "".join(shown) + ("..\n" if len(lines) > 60 else "")
+
+
+def assert_run(test, came, status, text):
+    """The program ended with this status, wrote this text, and wrote nothing to its standard error."""
+    if came.status != status or came.text != text:
+        test.fail(f"status {status} was wanted, and {came.status} came\n{differences(text, came.text)}")
+    test.assertEqual(b"", came.errors, "nothing was wanted on standard error")
