@@ -1,4 +1,5 @@
-//! Steps on small devices, with the frames that they end as worked by hand.
+//! A core with ample memory, and a taker that keeps its frames. Which frames steps end is told by the contracts, and by
+//! the records of `tests/records`.
 ghost use Rattle.std.specs.Prelude.{◌≡◌, ◌≤◌, ◌++◌, ◌∷◌, [], false};
 ghost use Rattle.inp_model.specs.declared.stamped.TheConstants.{MOMENT_MAX};
 ghost use Rattle.inp_frames.specs.Core.{IsFor};
@@ -6,14 +7,11 @@ ghost use Rattle.inp_frames.specs.Core.{IsFor};
 use super::*;
 use inp_caps::{Caps, CapsBuilder, CapsRefused};
 use inp_model::{
-    ABS_MT_POSITION_X, ABS_MT_SLOT, ABS_MT_TRACKING_ID, AxisInfo, EV_ABS, EV_KEY, EV_REP, EV_SYN,
-    Event, KEY_A, MOMENT_MAX, REP_DELAY, REP_PERIOD, SYN_REPORT,
+    ABS_MT_POSITION_X, ABS_MT_SLOT, AxisInfo, EV_ABS, EV_KEY, EV_REP, EV_SYN, Event, KEY_A,
+    MOMENT_MAX, REP_DELAY, SYN_REPORT,
 };
 use std::alloc::{AllocError, Global};
 use std::test::Fail;
-
-// The key B.
-const KEY_B: u16 = 48;
 
 // A taker that keeps the events of its frames one behind another, and the moment of each frame.
 #[derive(Drop)]
@@ -45,11 +43,10 @@ fn no_frames(alloc: Global) -> FrameList {
     }
 }
 
-// Two keys, the autorepeat and the horizontal position of a contact; 0 slots are none.
-fn device(slots: u32, hint: u32) -> Result<Caps, CapsRefused> {
+// A key, the autorepeat, two slots and the horizontal position of a contact.
+fn device() -> Result<Caps, CapsRefused> {
     let mut builder = CapsBuilder::new();
     builder.code(EV_KEY, KEY_A)?;
-    builder.code(EV_KEY, KEY_B)?;
     builder.code(EV_REP, REP_DELAY)?;
     let info = AxisInfo {
         value: 0,
@@ -60,10 +57,8 @@ fn device(slots: u32, hint: u32) -> Result<Caps, CapsRefused> {
         resolution: 0,
     };
     builder.axis(ABS_MT_POSITION_X, info)?;
-    if slots > 0 {
-        builder.slots(slots)?;
-    }
-    builder.hint(hint)?;
+    builder.slots(2)?;
+    builder.hint(8)?;
     Ok(builder.build())
 }
 
@@ -127,64 +122,16 @@ const A_REPEAT: Event = Event {
     value: 2,
 };
 
-const B_UP: Event = Event {
-    kind: EV_KEY,
-    code: KEY_B,
-    value: 0,
-};
-
-const B_DOWN: Event = Event {
-    kind: EV_KEY,
-    code: KEY_B,
-    value: 1,
-};
-
-const NO_PERIOD: Event = Event {
-    kind: EV_REP,
-    code: REP_PERIOD,
-    value: 0,
-};
-
-const SLOT_0: Event = Event {
-    kind: EV_ABS,
-    code: ABS_MT_SLOT,
-    value: 0,
-};
-
 const SLOT_1: Event = Event {
     kind: EV_ABS,
     code: ABS_MT_SLOT,
     value: 1,
 };
 
-const SLOT_7: Event = Event {
-    kind: EV_ABS,
-    code: ABS_MT_SLOT,
-    value: 7,
-};
-
-const CONTACT: Event = Event {
-    kind: EV_ABS,
-    code: ABS_MT_TRACKING_ID,
-    value: 5,
-};
-
-const LIFT: Event = Event {
-    kind: EV_ABS,
-    code: ABS_MT_TRACKING_ID,
-    value: -1,
-};
-
 const X_5: Event = Event {
     kind: EV_ABS,
     code: ABS_MT_POSITION_X,
     value: 5,
-};
-
-const X_6: Event = Event {
-    kind: EV_ABS,
-    code: ABS_MT_POSITION_X,
-    value: 6,
 };
 
 // The report of a source.
@@ -201,239 +148,32 @@ const CORE_REPORT: Event = Event {
     value: 1,
 };
 
-// The slots, the hint, what is played, the events of all frames and the moment of each frame.
-static ROWS: [(u32, u32, &[Action], &[Event], &[u64]); 16] = [
-    // a slot is announced before its first value, and there is no slot 7
-    (
-        2,
-        8,
-        &[Action::Inject(7, &[SLOT_1, X_5, SLOT_7, X_6, REPORT])],
-        &[SLOT_1, X_5, X_6, REPORT],
-        &[7],
-    ),
-    // a full batch is cut, and the report behind it is alone
-    (
-        0,
-        2,
-        &[Action::Inject(7, &[A_DOWN, B_DOWN, REPORT])],
-        &[A_DOWN, B_DOWN, CORE_REPORT],
-        &[7],
-    ),
-    // without slots each value is passed
-    (
-        0,
-        8,
-        &[Action::Inject(7, &[X_5, X_5, REPORT])],
-        &[X_5, X_5, REPORT],
-        &[7],
-    ),
-    // an announcement counts
-    (
-        2,
-        2,
-        &[Action::Inject(7, &[SLOT_1, X_5])],
-        &[SLOT_1, X_5, CORE_REPORT],
-        &[7],
-    ),
-    // a key repeats after the delay, for the last key that was pressed, until a key is released
-    (
-        0,
-        16,
-        &[
-            Action::Inject(900_000, &[B_DOWN, REPORT]),
-            Action::Inject(1_000_000, &[A_DOWN, REPORT]),
-            Action::Tick(1_249_999),
-            Action::Tick(1_250_000),
-            Action::Inject(1_260_000, &[B_UP, REPORT]),
-            Action::Tick(1_283_000),
-        ],
-        &[
-            B_DOWN,
-            REPORT,
-            A_DOWN,
-            REPORT,
-            A_REPEAT,
-            CORE_REPORT,
-            B_UP,
-            REPORT,
-        ],
-        &[900_000, 1_000_000, 1_250_000, 1_260_000],
-    ),
-    // it repeats again after the period
-    (
-        0,
-        16,
-        &[
-            Action::Inject(0, &[A_DOWN, REPORT]),
-            Action::Tick(250_000),
-            Action::Tick(282_999),
-            Action::Tick(283_000),
-        ],
-        &[A_DOWN, REPORT, A_REPEAT, CORE_REPORT, A_REPEAT, CORE_REPORT],
-        &[0, 250_000, 283_000],
-    ),
-    // a period of 0 ends the repeats behind the next one
-    (
-        0,
-        16,
-        &[
-            Action::Inject(0, &[A_DOWN, REPORT]),
-            Action::Inject(1, &[NO_PERIOD, REPORT]),
-            Action::Tick(250_000),
-            Action::Tick(600_000),
-        ],
-        &[A_DOWN, REPORT, NO_PERIOD, REPORT, A_REPEAT, CORE_REPORT],
-        &[0, 1, 250_000],
-    ),
-    // with a period of 0 a press arms nothing
-    (
-        0,
-        16,
-        &[
-            Action::Inject(0, &[NO_PERIOD, REPORT]),
-            Action::Inject(1, &[A_DOWN, REPORT]),
-            Action::Tick(250_001),
-        ],
-        &[NO_PERIOD, REPORT, A_DOWN, REPORT],
-        &[0, 1],
-    ),
-    // a key that is up repeats no more, though no frame told of it
-    (
-        0,
-        16,
-        &[
-            Action::Inject(0, &[A_DOWN, REPORT]),
-            Action::Inject(10, &[A_UP]),
-            Action::Tick(250_000),
-            Action::Inject(250_001, &[REPORT]),
-        ],
-        &[A_DOWN, REPORT, A_UP, REPORT],
-        &[0, 250_001],
-    ),
-    // the timer is armed again for the key that the batch named last, which is up
-    (
-        0,
-        16,
-        &[
-            Action::Inject(0, &[A_DOWN, REPORT]),
-            Action::Inject(100, &[B_DOWN, B_UP]),
-            Action::Tick(250_000),
-            Action::Tick(283_000),
-        ],
-        &[A_DOWN, REPORT, B_DOWN, B_UP, A_REPEAT, CORE_REPORT],
-        &[0, 250_000],
-    ),
-    // contacts and keys are released behind the open batch, and events are ignored
-    (
-        2,
-        16,
-        &[
-            Action::Inject(0, &[A_DOWN, B_DOWN, CONTACT, REPORT]),
-            Action::Inject(1, &[X_6]),
-            Action::Inhibit(2),
-            Action::Inject(3, &[A_DOWN, REPORT]),
-            Action::Inhibit(4),
-        ],
-        &[
-            A_DOWN,
-            B_DOWN,
-            CONTACT,
-            REPORT,
-            X_6,
-            LIFT,
-            A_UP,
-            B_UP,
-            CORE_REPORT,
-        ],
-        &[0, 2],
-    ),
-    // the contact of another slot is lifted behind its name
-    (
-        2,
-        16,
-        &[
-            Action::Inject(0, &[SLOT_1, CONTACT, SLOT_0, CONTACT, REPORT]),
-            Action::Inhibit(2),
-        ],
-        &[
-            SLOT_1,
-            CONTACT,
-            SLOT_0,
-            CONTACT,
-            REPORT,
-            LIFT,
-            SLOT_1,
-            LIFT,
-            CORE_REPORT,
-        ],
-        &[0, 2],
-    ),
-    // nothing is down: the report alone is no frame; afterwards events are taken again
-    (
-        2,
-        16,
-        &[
-            Action::Inhibit(0),
-            Action::Inject(1, &[A_DOWN, REPORT]),
-            Action::Uninhibit,
-            Action::Inject(2, &[A_DOWN, REPORT]),
-        ],
-        &[A_DOWN, REPORT],
-        &[2],
-    ),
-    // a full batch is cut among the releases
-    (
-        0,
-        2,
-        &[Action::Inject(0, &[A_DOWN, B_DOWN]), Action::Inhibit(1)],
-        &[A_DOWN, B_DOWN, CORE_REPORT, A_UP, B_UP, CORE_REPORT],
-        &[0, 1],
-    ),
-    // a device that is not inhibited is uninhibited
-    (
-        0,
-        16,
-        &[
-            Action::Inject(0, &[A_DOWN, REPORT]),
-            Action::Uninhibit,
-            Action::Inject(1, &[A_UP, REPORT]),
-        ],
-        &[A_DOWN, REPORT, A_UP, REPORT],
-        &[0, 1],
-    ),
-    // a released key does not repeat while the device is inhibited, or after
-    (
-        0,
-        16,
-        &[
-            Action::Inject(0, &[A_DOWN, REPORT]),
-            Action::Inhibit(1),
-            Action::Tick(250_000),
-            Action::Uninhibit,
-            Action::Tick(250_001),
-        ],
-        &[A_DOWN, REPORT, A_UP, CORE_REPORT],
-        &[0, 1],
-    ),
-];
-
 #[test]
-fn ends_frames(rt: HostRuntime) -> Result<(), Fail> {
-    for (slots, hint, actions, events, moments) in ROWS {
-        let caps = device(slots, hint)?;
-        let mut core = Core::new(rt.alloc(), &caps)?;
-        let mut to = no_frames(rt.alloc());
-        play(&mut core, &caps, actions, &mut to);
-        assert!(rt; !to.failed);
-        assert_eq!(rt; to.events.as_slice(), events);
-        assert_eq!(rt; to.moments.as_slice(), moments);
-    }
+fn passes_frames_on(rt: HostRuntime) -> Result<(), Fail> {
+    let caps = device()?;
+    let mut core = Core::new(rt.alloc(), &caps)?;
+    let mut to = no_frames(rt.alloc());
+    play(
+        &mut core,
+        &caps,
+        &[
+            Action::Inject(0, &[A_DOWN, REPORT]),
+            Action::Tick(250_000),
+            Action::Inhibit(250_001),
+            Action::Uninhibit,
+        ],
+        &mut to,
+    );
+    assert!(rt; !to.failed);
+    let events = [A_DOWN, REPORT, A_REPEAT, CORE_REPORT, A_UP, CORE_REPORT];
+    assert_eq!(rt; to.events.as_slice(), events.as_slice());
+    assert_eq!(rt; to.moments.as_slice(), [0, 250_000, 250_001].as_slice());
     Ok(())
 }
 
 #[test]
 fn keeps_the_state(rt: HostRuntime) -> Result<(), Fail> {
-    let caps = device(2, 8)?;
+    let caps = device()?;
     let mut core = Core::new(rt.alloc(), &caps)?;
     let mut to = no_frames(rt.alloc());
     play(

@@ -2,9 +2,6 @@
 //! status.
 #![tactic(auto)]
 
-#[cfg(test)]
-mod reader_tests;
-
 use inp_edge::{FileInput, OpenGate, OutSink};
 use inp_tool::inputplay;
 use std::alloc::Global;
