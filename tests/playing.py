@@ -1,4 +1,4 @@
-"""How the checks of this folder run the built program, and how they say that it did something else than was wanted."""
+"""How the checks of this folder run the built program, and tell where something else came than was wanted."""
 
 import difflib
 import os
@@ -28,7 +28,7 @@ class Run(NamedTuple):
 
 
 def run(words, folder, **more):
-    """Runs the program with these words in a folder. What it writes is read, unless `stdout` says where it goes."""
+    """Runs the program with these words in a folder. Its text is read, unless `stdout` says where it goes."""
     more = {"stdout": subprocess.PIPE, **more}
     done = subprocess.run(
         [PROGRAM, *map(str, words)],
@@ -46,7 +46,7 @@ def lines_of(text):
 
 
 def differences(wanted, came):
-    """The lines in which what came differs from what was wanted, and at most so many of them that one can read them."""
+    """The lines in which what came differs from what was wanted, the first 60 of them."""
     lines = list(difflib.unified_diff(lines_of(wanted), lines_of(came), "wanted", "came", n=2))
     shown = [line if line.endswith("\n") else line + "\n\\ no line feed\n" for line in lines[:60]]
     return "".join(shown) + ("..\n" if len(lines) > 60 else "")

@@ -101,11 +101,19 @@ def blanks():
     return "\n".join(lines + ["do s event 1 0 0 0\r", "do t read 0x10"])
 
 
+def nothing():
+    """No device."""
+    return "inputrecord 1\n"
+
+
+# Each record by its name.
+RECORDS = {make.__name__: make for make in (clients, moments, fuzz, counts, devices, full, full_start, blanks, nothing)}
+
+
 def main():
     folder = sys.argv[1]
     os.makedirs(folder, exist_ok=True)
-    for make in (clients, moments, fuzz, counts, devices, full, full_start, blanks, lambda: "inputrecord 1\n"):
-        name = make.__name__ if make.__name__.isidentifier() else "nothing"
+    for name, make in RECORDS.items():
         with open(f"{folder}/{name}", "w", encoding="latin1", newline="") as file:
             file.write(make())
         with open(f"{folder}/{name}.stdout", "w") as file:

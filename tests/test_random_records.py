@@ -1,0 +1,74 @@
+"""Random records, and records at the bounds of what they may have, are played by the program and by a second one.
+
+The second program (bench/model) is in Python, was written from docs/RULES.md and docs/FORMATS.md alone, and
+shares no code with the first. Both must write the same report, byte for byte. The records are the same in each
+run.
+"""
+
+import sys
+import tempfile
+import unittest
+from pathlib import Path
+
+from playing import TOP, assert_run, run
+
+sys.path.insert(0, str(TOP / "bench" / "model"))
+
+from model import play
+from random_records import Generator
+from records_at_bounds import RECORDS
+
+SEED = 41
+COUNT = 60
+
+
+def random_text(number):
+    """The record that `bench/model/random_records.py FOLDER 60 41` writes under this number."""
+    return Generator(SEED * 100000 + number).record()
+
+
+def report_of(text, history=False):
+    """The report that the second program writes, and the exit status that goes with it."""
+    lines = play(text, history=history)
+    is_full = any(line.split()[-2] == "full" for line in lines if " full " in line)
+    return "".join(line + "\n" for line in lines).encode(), 6 if is_full else 0
+
+
+class SecondProgram(unittest.TestCase):
+    def setUp(self):
+        folder = tempfile.TemporaryDirectory()
+        self.addCleanup(folder.cleanup)
+        self.folder = Path(folder.name)
+
+    def plays_as_the_second_one(self, text, history):
+        (self.folder / "f").write_bytes(text.encode("latin1"))
+        report, status = report_of(text, history)
+        words = ["--history", "f"] if history else ["f"]
+        assert_run(self, run(words, self.folder), status, report)
+
+    def test_random_records(self):
+        for number in range(COUNT):
+            history = number % 3 == 2
+            with self.subTest(number=number, history=history):
+                self.plays_as_the_second_one(random_text(number), history)
+
+    def test_records_at_bounds(self):
+        for name, make in RECORDS.items():
+            with self.subTest(record=name):
+                self.plays_as_the_second_one(make(), history=True)
+
+    def test_the_random_records_have_something_to_show(self):
+        reports = b"".join(report_of(random_text(number), history=True)[0] for number in range(COUNT))
+        for text in (
+            b"EV_SYN SYN_DROPPED 0\n",
+            b"EV_SYN SYN_REPORT 1\n",
+            b"\nmade EV_",
+            b"\nagain ",
+            b" no-device\n",
+            b" bad-client\n",
+            b" busy\n",
+            b" log-full\n",
+            b"\nstop full ",
+        ):
+            with self.subTest(text=text):
+                self.assertIn(text, reports)

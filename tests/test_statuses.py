@@ -1,0 +1,268 @@
+"""Each exit status of the program, from 0 to 7, with all that the program writes, and which of two comes.
+
+It was worked out by docs/FORMATS.md ("Statuses", "Causes", "The words on the command line").
+"""
+
+import os
+import resource
+import struct
+import tempfile
+import unittest
+from pathlib import Path
+
+from playing import EXAMPLES, TOP, USAGE, assert_run, run
+
+INPUT_LIMIT = 16777216
+READ_FAILED = b"inputplay: read failed\n"
+TOO_LONG = b"inputplay: input too long\n"
+OUT_OF_MEMORY = b"inputplay: out of memory\n"
+
+ONE_KEY = (EXAMPLES / "one_key.rec").read_bytes()
+ONE_KEY_REPORT = (EXAMPLES / "one_key.report").read_bytes()
+
+# A source, a tap, and a history that is full with the open.
+FULL = b"inputrecord 1\ndevice d\nlog 1\nsource s\ntap t\ndo t open\ndo s uninhibit\n"
+FULL_REPORT = (
+    b"device d steps 1\nsource s calls 0 stop full 1\n"
+    b"tap t\ncall open reply opened 0 0 128\nstop finished\n"
+)
+
+# A source that injects what stands in a file.
+STREAM = b"inputrecord 1\ndevice d\ncap EV_KEY KEY_A\nsource s\ndo s stream keys\n"
+
+DEVICE = "inputrecord 1\ndevice d\n"
+SOURCE = DEVICE + "source s\n"
+
+# The cause, a text, and the line that has the cause. The first line that has one is told, by its first cause.
+REFUSED = [
+    ("not-text", "inputrecord 1\ndevice d\x01\n", 2),
+    ("bad-header", "", 1),
+    ("bad-header", "device d\n", 1),
+    ("bad-header", "# no line means anything\n\n", 3),
+    ("bad-header", "inputrecord 2\n", 1),
+    ("bad-line", DEVICE + "devise e\n", 3),
+    ("bad-line", DEVICE + "hint 8 8\n", 3),
+    ("bad-line", SOURCE + "do s\n", 4),
+    ("out-of-place", DEVICE + "inputrecord 1\n", 3),
+    ("out-of-place", "inputrecord 1\nhint 8\n", 2),
+    ("out-of-place", SOURCE + "hint 8\n", 4),
+    ("out-of-place", SOURCE + "do s uninhibit\ndevice e\n", 5),
+    ("no-actor", SOURCE + "do x open\n", 4),
+    ("bad-command", SOURCE + "do s open\n", 4),
+    ("bad-command", SOURCE + "do s tick 1 2\n", 4),
+    ("bad-word", SOURCE + "do s tick 9000000000000001\n", 4),
+    ("bad-word", SOURCE + "do s tick 0X1\n", 4),
+    ("bad-word", DEVICE + "clock monotonic 1\n", 3),
+    ("bad-word", "inputrecord 1\ndevice D\n", 2),
+    ("twice", DEVICE + "hint 8\nhint 8\n", 4),
+    ("twice", DEVICE + "device d\n", 3),
+    ("twice", SOURCE + "device e\ntap s\n", 5),
+    ("too-many", "inputrecord 1\n" + "".join(f"device d{i}\n" for i in range(9)), 10),
+    ("too-many", DEVICE + "".join(f"source s{i}\n" for i in range(9)), 11),
+    ("too-many", DEVICE + "".join(f"tap t{i}\n" for i in range(129)), 131),
+    ("too-many", SOURCE + "do s stream keys\n" * 17, 20),
+    ("bad-code", DEVICE + "cap EV_KEY 0\n", 3),
+    ("bad-axis", DEVICE + "axis ABS_X 0 0 9 -1 0 0\n", 3),
+    ("bad-slots", DEVICE + "slots 65\n", 3),
+    ("bad-hint", DEVICE + "hint 1\n", 3),
+    ("bad-log", DEVICE + "log 8388609\n", 3),
+    ("bad-offset", DEVICE + "clock boottime 9000000000000001\n", 3),
+]
+
+# What is wrong with words that are not accepted, and the words. The file `f` is a record.
+WRONG_WORDS = [
+    ("there are none", []),
+    ("two files", ["f", "f"]),
+    ("an option that is not accepted yet", ["--threads", "f"]),
+    ("an option that is not accepted yet", ["--idle", "3", "f"]),
+    ("no option", ["--help"]),
+    ("an option twice", ["--history", "--history", "f"]),
+    ("no number", ["--make", "4294967296"]),
+    ("no number", ["--make", "0x7"]),
+    ("no frames", ["--make", "7", "--count", "0"]),
+    ("too many frames", ["--make", "7", "--count", "10001"]),
+    ("a number and a file", ["--make", "7", "f"]),
+    ("a count and a file", ["--count", "7", "f"]),
+    ("a summary has no history", ["--history", "--make", "7"]),
+]
+
+
+def record_of(seconds, microseconds):
+    """A record of a stream: the report of a frame at this time."""
+    return struct.pack("<QQHHi", seconds, microseconds, 0, 0, 0)
+
+
+def with_room(limit_in_bytes):
+    """Has a process take no more address space than this."""
+    return lambda: resource.setrlimit(resource.RLIMIT_AS, (limit_in_bytes, limit_in_bytes))
+
+
+def with_file_size(limit_in_bytes):
+    """Has a process write no file beyond this size."""
+    return lambda: resource.setrlimit(resource.RLIMIT_FSIZE, (limit_in_bytes, limit_in_bytes))
+
+
+class Statuses(unittest.TestCase):
+    def setUp(self):
+        folder = tempfile.TemporaryDirectory()
+        self.addCleanup(folder.cleanup)
+        self.folder = Path(folder.name)
+
+    def file(self, name, bytes_of_it):
+        (self.folder / name).write_bytes(bytes_of_it)
+
+    def sparse(self, name, size):
+        """A file of so many zero bytes that takes no room on the disk."""
+        with open(self.folder / name, "wb") as file:
+            file.truncate(size)
+
+    def ends(self, words, status, text, **more):
+        assert_run(self, run(words, self.folder, **more), status, text)
+
+    def test_0_a_report_in_each_form_of_the_words(self):
+        history = (EXAMPLES / "one_key.history").read_bytes()
+        self.file("f", ONE_KEY)
+        self.file("-", ONE_KEY)
+        for words, text in [
+            (["f"], ONE_KEY_REPORT),
+            (["--", "f"], ONE_KEY_REPORT),
+            (["-"], ONE_KEY_REPORT),
+            (["--history", "f"], history),
+            (["f", "--history"], history),
+        ]:
+            with self.subTest(words=words):
+                self.ends(words, 0, text)
+
+    def test_0_a_summary(self):
+        made = b"".join(
+            [
+                b"make 7 20\ndevice pad steps 674\nsource finger calls 631\n",
+                b"client fast took 630 made 0 again 20 x 258 y 370\n",
+                b"client mid took 630 made 0 again 2 x 258 y 370\n",
+                b"client slow took 1 made 41 again 1 x 258 y 370\n",
+            ]
+        )
+        known = (TOP / "bench" / "known_5000.txt").read_bytes()
+        for words, text in [
+            (["--make", "7", "--count", "20"], made),
+            (["--make=7", "--count=20"], made),
+            (["--make", "+7", "--count", "00020"], made),
+            (["--make", "7", "--count", "5000"], known),
+        ]:
+            with self.subTest(words=words):
+                self.ends(words, 0, text)
+
+    def test_1_a_line_is_refused(self):
+        for cause, text, line in REFUSED:
+            with self.subTest(cause=cause, text=text[:60]):
+                self.file("f", text.encode("latin1"))
+                self.ends(["f"], 1, b"inputplay: line %d: %s\n" % (line, cause.encode()))
+
+    def test_1_a_stream_is_refused(self):
+        self.file("f", STREAM)
+        for what, stream in [
+            ("cut off", record_of(1, 0)[:23]),
+            ("one byte more", record_of(1, 0) + b"\0"),
+            ("too many microseconds", record_of(1, 1000000)),
+            ("too late", record_of(9000000000, 1)),
+        ]:
+            with self.subTest(stream=what):
+                self.file("keys", stream)
+                self.ends(["f"], 1, b"inputplay: line 5: bad-stream\n")
+        with self.subTest(stream="just in time"):
+            self.file("keys", record_of(9000000000, 0))
+            self.ends(["f"], 0, b"device d steps 1\nsource s calls 1 stop finished\n")
+
+    def test_2_words_that_are_not_accepted(self):
+        self.file("f", ONE_KEY)
+        for why, words in WRONG_WORDS:
+            with self.subTest(why=why, words=words):
+                self.ends(words, 2, USAGE)
+
+    def test_3_a_file_that_cannot_be_read(self):
+        self.file("f", STREAM)
+        (self.folder / "folder").mkdir()
+        for why, words in [("missing", ["g"]), ("a folder", ["folder"]), ("no stream", ["f"])]:
+            with self.subTest(why=why):
+                self.ends(words, 3, READ_FAILED)
+        (self.folder / "keys").mkdir()
+        with self.subTest(why="its stream is a folder"):
+            self.ends(["f"], 3, READ_FAILED)
+
+    def test_4_an_output_that_takes_nothing(self):
+        self.file("f", ONE_KEY)
+        self.file("refused", b"inputrecord 2\n")
+        self.file("full", FULL)
+        for words in (["f"], ["refused"], ["full"], ["missing"], ["--make", "7"]):
+            with self.subTest(words=words), open("/dev/full", "wb") as full:
+                self.ends(words, 4, b"", stdout=full)
+
+    def test_4_a_pipe_that_nobody_reads(self):
+        self.file("f", ONE_KEY)
+        reads, writes = os.pipe()
+        os.close(reads)
+        self.addCleanup(os.close, writes)
+        self.ends(["f"], 4, b"", stdout=writes, restore_signals=False)
+
+    def test_4_an_output_that_takes_a_front_part(self):
+        self.file("f", ONE_KEY)
+        with open(self.folder / "out", "wb") as out:
+            self.ends(["f"], 4, b"", stdout=out, restore_signals=False, preexec_fn=with_file_size(100))
+        self.assertEqual(ONE_KEY_REPORT[:100], (self.folder / "out").read_bytes())
+
+    def test_5_memory_runs_out(self):
+        # The greatest history takes more than 128 MiB, and takes it before the first step. With a short one the
+        # program has enough.
+        record = b"inputrecord 1\ndevice d\nlog %d\nsource s\ndo s uninhibit\n"
+        report = b"device d steps 1\nsource s calls 1 stop finished\n"
+        room = with_room(128 << 20)
+        for log, status, text in [(8388608, 5, OUT_OF_MEMORY), (1000, 0, report)]:
+            with self.subTest(log=log):
+                self.file("f", record % log)
+                self.ends(["f"], status, text, preexec_fn=room)
+
+    def test_6_a_full_history(self):
+        self.file("f", FULL)
+        self.ends(["f"], 6, FULL_REPORT)
+
+    def test_7_an_input_that_is_too_long(self):
+        self.sparse("f", INPUT_LIMIT + 1)
+        with self.subTest(file="the record"):
+            self.ends(["f"], 7, TOO_LONG)
+        self.file("f", STREAM)
+        self.sparse("keys", INPUT_LIMIT + 1)
+        with self.subTest(file="its stream"):
+            self.ends(["f"], 7, TOO_LONG)
+
+    def test_an_input_at_the_limit_is_not_too_long(self):
+        self.sparse("f", INPUT_LIMIT)
+        with self.subTest(file="the record"):
+            self.ends(["f"], 1, b"inputplay: line 1: not-text\n")
+        self.file("f", STREAM)
+        self.sparse("keys", INPUT_LIMIT // 24 * 24)
+        with self.subTest(file="its stream"):
+            self.ends(["f"], 0, b"device d steps 699050\nsource s calls 699050 stop finished\n")
+
+    def test_which_of_two_faults_is_told(self):
+        self.sparse("long", INPUT_LIMIT + 1)
+        self.file("short", b"\0")
+        self.file("good", record_of(1, 0))
+        for files, status, wanted in [
+            ("short missing", 1, b"inputplay: line 5: bad-stream\n"),
+            ("missing short", 3, READ_FAILED),
+            ("long short", 7, TOO_LONG),
+            ("missing long", 3, READ_FAILED),
+            ("good missing", 3, READ_FAILED),
+            ("good short", 1, b"inputplay: line 6: bad-stream\n"),
+        ]:
+            with self.subTest(streams=files):
+                first, second = files.encode().split()
+                self.file("f", STREAM.replace(b"keys", first) + b"do s stream %s\n" % second)
+                self.ends(["f"], status, wanted)
+
+    def test_no_stream_is_read_before_all_lines_were_judged(self):
+        self.file("f", STREAM + b"x\n")
+        self.ends(["f"], 1, b"inputplay: line 6: bad-line\n")
+
+    def test_no_file_is_read_where_words_are_not_accepted(self):
+        self.ends(["--threads", "missing"], 2, USAGE)
