@@ -211,8 +211,7 @@ class Statuses(unittest.TestCase):
         self.assertEqual(ONE_KEY_REPORT[:100], (self.folder / "out").read_bytes())
 
     def test_5_memory_runs_out(self):
-        # The greatest history takes more than 128 MiB, and takes it before the first step. With a short one the
-        # program has enough.
+        # The greatest history takes more than 128 MiB, before the first step. A short one does not.
         record = b"inputrecord 1\ndevice d\nlog %d\nsource s\ndo s uninhibit\n"
         report = b"device d steps 1\nsource s calls 1 stop finished\n"
         room = with_room(128 << 20)
