@@ -11,7 +11,7 @@ use Rattle.inp_model.specs.declared.reply.Refusal.TheVariants.{NoDevice as Revok
 use Rattle.inp_model.specs.declared.event.TheConstants.{EV_KEY, EV_LED, EV_SW}
 use Rattle.inp_model.specs.declared.event.Event.{Event}
 use Rattle.inp_model.specs.Description.{Description, has_kind}
-use Rattle.inp_model.specs.Evdev.{EvdevView, IsCall, is_again, agains_after}
+use Rattle.inp_model.specs.Evdev.{EvdevView, is_again, agains_after}
 use Rattle.inp_model.specs.Reply.{Answer, Case, IsAnswer, answer_by, accepted, refused, refusals, first_reply, is_accepted, finds_nothing}
 use Rattle.inp_model.specs.Run.{Call}
 use Rattle.inp_recon.specs.declared.view.View.{View}
@@ -27,26 +27,11 @@ use Rattle.inp_reader.specs.Standing.{is_read}
 use Rattle.inp_reader.specs.declared.started.Started.{Started}
 use Rattle.inp_reader.specs.Leaving.{agains_after_next}
 use Rattle.inp_reader.specs.Reading.{Reading, ask_each, queries, start_talk, next_talk, talk_in, plain_talk, go_on, go_on_after, sync_talk, after_open, after_queries, read_talk, read_or_hand_out, after_read, hand_out, hand_out_event, stop_of, handing, hand_synthesised, as_plain, after_full_sync, after_failed_sync, is_dropped, only_if, bit_queries, axis_queries, plain_axes, slot_queries}
-use Rattle.inp_model.specs.Leaves.{AreCalls}
+use Rattle.inp_model.specs.Leaves.{agains_after_calls}
+use Rattle.inp_model.proofs.Leaves.{agains-counted, agains-append}
 use Rattle.inp_reader.specs.Says.{Says}
 use Rattle.inp_reader.specs.Talk.{Talk, finish, and_then, LeadsTo, EndsWith}
 use Rattle.inp_reader.proofs.Calls.{AreAnswered, answered, answered-first, IsSplit, split-and_then, finished}
-
--- the count after calls
-abbrev agains_of : List Call → ℕ → ℕ
-agains_of [] n = n
-agains_of (call ∷ calls) n = agains_of calls (agains_after call.answer.reply n)
-
-agains-counted : (before after : EvdevView) (calls : List Call) → AreCalls before after calls → after.agains ≡ agains_of calls before.agains
-unfolding AreCalls
-agains-counted before after [] h = ap (λ (v : EvdevView). v.agains) h
-agains-counted before after (call ∷ calls) h =
-    let c : IsCall before h.0 call = h.1 in
-    agains-counted h.0 after calls h.2 ∙ ap (λ (n : ℕ). agains_of calls n) c.agains
-
-agains_of-append : (calls more : List Call) (n : ℕ) → agains_of (calls ++ more) n ≡ agains_of more (agains_of calls n)
-agains_of-append [] more n = refl
-agains_of-append (call ∷ calls) more n = agains_of-append calls more (agains_after call.answer.reply n)
 
 -- Only a read is answered Again
 
@@ -122,24 +107,24 @@ IsNoAgain (Ok view) = Unit {0}
 IsNoAgain (Err reply) = is_again reply ≡ false
 
 record AsksQuietly (calls : List Call) (n : ℕ) (result : Result View Reply) : Type 0 where
-  count : agains_of calls n ≡ n
+  count : agains_after_calls calls n ≡ n
   ended : IsNoAgain result
 
 after_one : (call : Call) (calls : List Call) (n : ℕ) (result : Result View Reply) → is_again call.answer.reply ≡ false → AsksQuietly calls n result → AsksQuietly (call ∷ calls) n result
-after_one call calls n result h q = record { count = ap (λ (k : ℕ). agains_of calls k) (agains_after-same call.answer.reply n h) ∙ q.count; ended = q.ended }
+after_one call calls n result h q = record { count = ap (λ (k : ℕ). agains_after_calls calls k) (agains_after-same call.answer.reply n h) ∙ q.count; ended = q.ended }
 
 quiet_if : (accepted : Bool) (talk : Talk (Result View Reply)) (reply : Reply) (calls : List Call) (n : ℕ) (result : Result View Reply) → is_again reply ≡ false → (EndsWith talk calls result → AsksQuietly calls n result)
     → EndsWith (if accepted then talk else finish (Err reply)) calls result → AsksQuietly calls n result
 quiet_if true talk reply calls n result h go_on k = go_on k
 quiet_if false talk reply calls n result h go_on k =
     let e : (calls ≡ []) × (Err reply ≡ result) = finished (Err reply) result calls k in
-    record { count = ap (λ (cs : List Call). agains_of cs n) e.0; ended = subst (λ (r : Result View Reply). IsNoAgain r) e.1 h }
+    record { count = ap (λ (cs : List Call). agains_after_calls cs n) e.0; ended = subst (λ (r : Result View Reply). IsNoAgain r) e.1 h }
 
 asks-quietly : (d : Description) (xs : List Step) (view : View) (calls : List Call) (n : ℕ) (result : Result View Reply) → NoneIsRead xs → AreAnswered d calls → EndsWith (ask_each xs view) calls result → AsksQuietly calls n result
 unfolding LeadsTo ask_each AreAnswered
 asks-quietly d [] view calls n result no_reads are h =
     let e : (calls ≡ []) × (Ok view ≡ result) = finished (Ok view) result calls h in
-    record { count = ap (λ (cs : List Call). agains_of cs n) e.0; ended = subst (λ (r : Result View Reply). IsNoAgain r) e.1 tt }
+    record { count = ap (λ (cs : List Call). agains_after_calls cs n) e.0; ended = subst (λ (r : Result View Reply). IsNoAgain r) e.1 tt }
 asks-quietly d (x ∷ xs) view [] n result no_reads are h = absurd cc
 asks-quietly d (x ∷ xs) view (call ∷ calls) n result no_reads are h =
     let next : View = view_after_answer view x call.answer.reply call.answer.cells in
@@ -178,19 +163,19 @@ again_read : (r : Reading) (given : Answer) (n : ℕ) (b : Bool) → is_accepted
 again_read r given n true h = accepted-same given.reply n h ∙ sym (again_hand_out r given.events n)
 again_read r given n false h = again_stop given.reply n h
 
-again-queued : (r : Reading) (queue : List Taken) (calls : List Call) (n : ℕ) (result : Next × Reading) → EndsWith (read_or_hand_out r queue) calls result → agains_of calls n ≡ agains_after_next result.0 n
+again-queued : (r : Reading) (queue : List Taken) (calls : List Call) (n : ℕ) (result : Next × Reading) → EndsWith (read_or_hand_out r queue) calls result → agains_after_calls calls n ≡ agains_after_next result.0 n
 unfolding LeadsTo
 again-queued r [] [] n result h = absurd cc
 again-queued r [] (call ∷ calls) n result h =
     let e : (calls ≡ []) × (after_read r call.answer ≡ result) = finished (after_read r call.answer) result calls h.1 in
-    ap (λ (cs : List Call). agains_of cs (agains_after call.answer.reply n)) e.0
+    ap (λ (cs : List Call). agains_after_calls cs (agains_after call.answer.reply n)) e.0
     ∙ again_read r call.answer n (is_accepted call.answer.reply) refl
     ∙ ap (λ (o : Next × Reading). agains_after_next o.0 n) e.1
 again-queued r (taken ∷ rest) calls n result h =
     let e : (calls ≡ []) × (hand_out_event r taken rest ≡ result) = finished (hand_out_event r taken rest) result calls h in
-    ap (λ (cs : List Call). agains_of cs n) e.0 ∙ sym (again_event r taken rest n) ∙ ap (λ (o : Next × Reading). agains_after_next o.0 n) e.1
+    ap (λ (cs : List Call). agains_after_calls cs n) e.0 ∙ sym (again_event r taken rest n) ∙ ap (λ (o : Next × Reading). agains_after_next o.0 n) e.1
 
-again-read : (r : Reading) (calls : List Call) (n : ℕ) (result : Next × Reading) → EndsWith (read_talk r) calls result → agains_of calls n ≡ agains_after_next result.0 n
+again-read : (r : Reading) (calls : List Call) (n : ℕ) (result : Next × Reading) → EndsWith (read_talk r) calls result → agains_after_calls calls n ≡ agains_after_next result.0 n
 unfolding read_talk
 again-read r calls n result h = again-queued r r.queue calls n result h
 
@@ -198,11 +183,11 @@ again_handing : (r : Reading) (left : List Event) (n : ℕ) → agains_after_nex
 again_handing r [] n = refl
 again_handing r (event ∷ left) n = refl
 
-again-go_on : (mode : Mode) (r : Reading) (calls : List Call) (n : ℕ) (result : Next × Reading) → EndsWith (go_on mode r) calls result → agains_of calls n ≡ agains_after_next result.0 n
+again-go_on : (mode : Mode) (r : Reading) (calls : List Call) (n : ℕ) (result : Next × Reading) → EndsWith (go_on mode r) calls result → agains_after_calls calls n ≡ agains_after_next result.0 n
 again-go_on Normal r calls n result h = again-read (as_plain r) calls n result h
 again-go_on Synchronising r calls n result h =
     let e : (calls ≡ []) × (handing r ≡ result) = finished (handing r) result calls h in
-    ap (λ (cs : List Call). agains_of cs n) e.0 ∙ sym (again_handing r r.left n) ∙ ap (λ (o : Next × Reading). agains_after_next o.0 n) e.1
+    ap (λ (cs : List Call). agains_after_calls cs n) e.0 ∙ sym (again_handing r r.left n) ∙ ap (λ (o : Next × Reading). agains_after_next o.0 n) e.1
 
 again_stopped : (reply : Reply) (n : ℕ) → is_again reply ≡ false → n ≡ agains_after_next (stop_of reply) n
 again_stopped (NothingVisible at ends) n h = absurd (true≢false h)
@@ -211,28 +196,28 @@ again_stopped (StepRefused at LogFull) n h = refl
 again_stopped (StepRefused at _) n h = refl
 again_stopped _ n h = refl
 
-again-go_on_after : (mode : Mode) (r : Reading) (asked : Result View Reply) (calls : List Call) (n : ℕ) (result : Next × Reading) → IsNoAgain asked → EndsWith (go_on_after mode r asked) calls result → agains_of calls n ≡ agains_after_next result.0 n
+again-go_on_after : (mode : Mode) (r : Reading) (asked : Result View Reply) (calls : List Call) (n : ℕ) (result : Next × Reading) → IsNoAgain asked → EndsWith (go_on_after mode r asked) calls result → agains_after_calls calls n ≡ agains_after_next result.0 n
 again-go_on_after mode r (Ok view) calls n result none h = again-go_on mode (after_full_sync r view) calls n result h
 again-go_on_after mode r (Err reply) calls n result none h =
     let e : (calls ≡ []) × ((stop_of reply, after_failed_sync r) ≡ result) = finished (stop_of reply, after_failed_sync r) result calls h in
-    ap (λ (cs : List Call). agains_of cs n) e.0 ∙ again_stopped reply n none ∙ ap (λ (o : Next × Reading). agains_after_next o.0 n) e.1
+    ap (λ (cs : List Call). agains_after_calls cs n) e.0 ∙ again_stopped reply n none ∙ ap (λ (o : Next × Reading). agains_after_next o.0 n) e.1
 
-again-plain : (mode : Mode) (r : Reading) (calls : List Call) (n : ℕ) (result : Next × Reading) → EndsWith (plain_talk mode r) calls result → agains_of calls n ≡ agains_after_next result.0 n
+again-plain : (mode : Mode) (r : Reading) (calls : List Call) (n : ℕ) (result : Next × Reading) → EndsWith (plain_talk mode r) calls result → agains_after_calls calls n ≡ agains_after_next result.0 n
 again-plain Normal r calls n result h = again-read r calls n result h
 again-plain Synchronising r calls n result h =
     let e : (calls ≡ []) × ((Synced, r) ≡ result) = finished (Synced, r) result calls h in
-    ap (λ (cs : List Call). agains_of cs n) e.0 ∙ ap (λ (o : Next × Reading). agains_after_next o.0 n) e.1
+    ap (λ (cs : List Call). agains_after_calls cs n) e.0 ∙ ap (λ (o : Next × Reading). agains_after_next o.0 n) e.1
 
-again-needed : (d : Description) (mode : Mode) (r : Reading) (calls : List Call) (n : ℕ) (result : Next × Reading) → AreAnswered d calls → EndsWith (and_then (sync_talk d r) (go_on_after mode r)) calls result → agains_of calls n ≡ agains_after_next result.0 n
+again-needed : (d : Description) (mode : Mode) (r : Reading) (calls : List Call) (n : ℕ) (result : Next × Reading) → AreAnswered d calls → EndsWith (and_then (sync_talk d r) (go_on_after mode r)) calls result → agains_after_calls calls n ≡ agains_after_next result.0 n
 unfolding sync_talk
 again-needed d mode r calls n result are h =
     let s : IsSplit (sync_talk d r) (go_on_after mode r) calls result = split-and_then (sync_talk d r) (go_on_after mode r) calls result h in
     let all : AreAnswered d (s.first ++ s.later) = subst (λ (cs : List Call). AreAnswered d cs) s.calls_are are in
     let q : AsksQuietly s.first n s.between = asks-quietly d (Discard r.client ∷ queries d r.client) r.view s.first n s.between (refl, NoneIsRead-queries d r.client) (answered-first d s.first s.later all) s.first_ends in
-    ap (λ (cs : List Call). agains_of cs n) s.calls_are ∙ agains_of-append s.first s.later n ∙ ap (λ (k : ℕ). agains_of s.later k) q.count
+    ap (λ (cs : List Call). agains_after_calls cs n) s.calls_are ∙ agains-append s.first s.later n ∙ ap (λ (k : ℕ). agains_after_calls s.later k) q.count
     ∙ again-go_on_after mode r s.between s.later n result q.ended s.later_ends
 
-again-talk : (d : Description) (mode : Mode) (phase : Phase) (r : Reading) (calls : List Call) (n : ℕ) (result : Next × Reading) → AreAnswered d calls → EndsWith (talk_in d mode phase r) calls result → agains_of calls n ≡ agains_after_next result.0 n
+again-talk : (d : Description) (mode : Mode) (phase : Phase) (r : Reading) (calls : List Call) (n : ℕ) (result : Next × Reading) → AreAnswered d calls → EndsWith (talk_in d mode phase r) calls result → agains_after_calls calls n ≡ agains_after_next result.0 n
 again-talk d mode Plain r calls n result are h = again-plain mode r calls n result h
 again-talk d mode Needed r calls n result are h = again-needed d mode r calls n result are h
 again-talk d mode Handing r calls n result are h = again-go_on mode r calls n result h
@@ -245,23 +230,23 @@ says-agains d before after made mode r s next same h =
 
 -- Starting
 
-agains-after_open : (d : Description) (r : Reading) (reply : Reply) (calls : List Call) (n : ℕ) (result : Started × Reading) → AreAnswered d calls → EndsWith (after_open d r reply) calls result → agains_of calls n ≡ n
+agains-after_open : (d : Description) (r : Reading) (reply : Reply) (calls : List Call) (n : ℕ) (result : Started × Reading) → AreAnswered d calls → EndsWith (after_open d r reply) calls result → agains_after_calls calls n ≡ n
 agains-after_open d r (Opened at client ring) calls n result are h =
     let next : Result View Reply → Talk (Started × Reading) = λ asked. finish (after_queries client ring r asked) in
     let s : IsSplit (ask_each (queries d client) r.view) next calls result = split-and_then (ask_each (queries d client) r.view) next calls result h in
     let all : AreAnswered d (s.first ++ s.later) = subst (λ (cs : List Call). AreAnswered d cs) s.calls_are are in
     let q : AsksQuietly s.first n s.between = asks-quietly d (queries d client) r.view s.first n s.between (NoneIsRead-queries d client) (answered-first d s.first s.later all) s.first_ends in
     let e : (s.later ≡ []) × (after_queries client ring r s.between ≡ result) = finished (after_queries client ring r s.between) result s.later s.later_ends in
-    ap (λ (cs : List Call). agains_of cs n) s.calls_are ∙ agains_of-append s.first s.later n ∙ ap (λ (cs : List Call). agains_of cs (agains_of s.first n)) e.0 ∙ q.count
+    ap (λ (cs : List Call). agains_after_calls cs n) s.calls_are ∙ agains-append s.first s.later n ∙ ap (λ (cs : List Call). agains_after_calls cs (agains_after_calls s.first n)) e.0 ∙ q.count
 agains-after_open d r _ calls n result are h =
-    ap (λ (cs : List Call). agains_of cs n) (finished _ result calls h).0
+    ap (λ (cs : List Call). agains_after_calls cs n) (finished _ result calls h).0
 
-agains-start : (d : Description) (r : Reading) (calls : List Call) (n : ℕ) (result : Started × Reading) → AreAnswered d calls → EndsWith (start_talk d r) calls result → agains_of calls n ≡ n
+agains-start : (d : Description) (r : Reading) (calls : List Call) (n : ℕ) (result : Started × Reading) → AreAnswered d calls → EndsWith (start_talk d r) calls result → agains_after_calls calls n ≡ n
 unfolding start_talk LeadsTo AreAnswered
 agains-start d r [] n result are h = absurd cc
 agains-start d r (call ∷ calls) n result are h =
     let never : is_again call.answer.reply ≡ false = not_again d are.0 call.step call.answer (ap is_read h.0) are.1 in
-    ap (λ (k : ℕ). agains_of calls k) (agains_after-same call.answer.reply n never) ∙ agains-after_open d r call.answer.reply calls n result are.2 h.1
+    ap (λ (k : ℕ). agains_after_calls calls k) (agains_after-same call.answer.reply n never) ∙ agains-after_open d r call.answer.reply calls n result are.2 h.1
 
 -- it stays in a start
 pub says-no_agains : (d : Description) (before after : EvdevView) (made : List CallMade) (r : Reading) (result : Started × Reading) → before.description ≡ d → Says before after [] made (start_talk d r) result → after.agains ≡ before.agains

@@ -17,7 +17,7 @@ use Rattle.inp_model.specs.Leaves.{AreCalls}
 use Rattle.inp_reader.specs.Says.{made_of}
 use Rattle.inp_reader.specs.Standing.{is_use_of}
 use Rattle.inp_reader.proofs.Calls.{AreAnswered, IsPlaceOf, place-known, place-least}
-use Rattle.inp_reader.proofs.Leavings.{seen-kept, calls-legal, slice_get-longer}
+use Rattle.inp_model.proofs.Leaves.{seen-kept, calls-legal, slice_get-longer}
 
 -- none of these steps is a use of the client
 unfoldable pub AreQuiet : ℕ → List Step → Type 0

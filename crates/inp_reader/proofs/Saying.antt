@@ -16,7 +16,8 @@ use Rattle.inp_reader.specs.Reading.{ask_each, only_if}
 use Rattle.inp_model.specs.Leaves.{AreCalls}
 use Rattle.inp_reader.specs.Says.{kept_of, made_of, Says}
 use Rattle.inp_reader.proofs.Answering.{view-answered}
-use Rattle.inp_reader.proofs.Talks.{LeadsTo-append, LeadsTo-and_then, EndsWith-ask_each, EndsWith-stop, AreCalls-append, made_of-append, told as told_view, stopped_at}
+use Rattle.inp_model.proofs.Leaves.{AreCalls-append}
+use Rattle.inp_reader.proofs.Talks.{LeadsTo-append, LeadsTo-and_then, EndsWith-ask_each, EndsWith-stop, made_of-append, told as told_view, stopped_at}
 
 kept_after : (old mid new : List CallMade) (calls more : List Call) → mid ≡ old ++ made_of calls → new ≡ mid ++ made_of more → new ≡ old ++ made_of (calls ++ more)
 kept_after old mid new calls more h k =

@@ -3,7 +3,6 @@ use Rattle.std.proofs.Common.{◌≡◌, List, [], ◌∷◌, ◌++◌, refl, sy
 use Rattle.std.specs.Prelude.{Result, Ok, Err}
 use Rattle.inp_model.specs.declared.step.Step.{Step}
 use Rattle.inp_model.specs.declared.reply.Reply.{Reply}
-use Rattle.inp_model.specs.Evdev.{EvdevView, IsCall}
 use Rattle.inp_model.specs.Reply.{Answer, is_accepted}
 use Rattle.inp_model.specs.Run.{Call}
 use Rattle.inp_recon.specs.declared.view.View.{View}
@@ -11,7 +10,6 @@ use Rattle.inp_recon.specs.View.{view_after_answer}
 use Rattle.inp_reader.specs.declared.call_made.CallMade.{CallMade}
 use Rattle.inp_reader.specs.Talk.{Talk, finish, ask, and_then, LeadsTo, EndsWith}
 use Rattle.inp_reader.specs.Reading.{ask_each}
-use Rattle.inp_model.specs.Leaves.{AreCalls}
 use Rattle.inp_reader.specs.Says.{kept_of, made_of}
 
 -- Talks
@@ -72,11 +70,6 @@ EndsWith-stop (x ∷ xs) ys view stop (call ∷ calls) h =
     (h.0, stop_if (is_accepted call.answer.reply) (ask_each xs next) (ask_each (xs ++ ys) next) call.answer.reply stop calls (λ g. EndsWith-stop xs ys next stop calls g) h.1)
 
 -- Calls
-
-pub AreCalls-append : (before between after : EvdevView) (calls more : List Call) → AreCalls before between calls → AreCalls between after more → AreCalls before after (calls ++ more)
-unfolding AreCalls
-AreCalls-append before between after [] more h k = subst (λ v. AreCalls v after more) h k
-AreCalls-append before between after (call ∷ calls) more h k = (h.0, h.1, AreCalls-append h.0 between after calls more h.2 k)
 
 pub made_of-append : (calls more : List Call) → made_of (calls ++ more) ≡ made_of calls ++ made_of more
 made_of-append [] more = refl
