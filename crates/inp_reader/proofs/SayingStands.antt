@@ -3,9 +3,13 @@ use Rattle.std.proofs.Common.{◌≡◌, inl, inr, ℕ, Bool, true, false, List,
 use Rattle.std.specs.Prelude.{Result, Ok, Err}
 use Rattle.inp_model.specs.declared.event.Event.{Event}
 use Rattle.inp_model.specs.declared.taken.Taken.{Taken}
+use Rattle.inp_model.specs.declared.step.Step.{Step}
 use Rattle.inp_model.specs.declared.reply.Reply.{Reply}
 use Rattle.inp_model.specs.Description.{Description, IsDescription}
-use Rattle.inp_model.specs.Evdev.{EvdevView}
+use Rattle.inp_model.specs.Evdev.{EvdevView, IsCall}
+use Rattle.inp_model.specs.History.{IsHistory}
+use Rattle.inp_model.specs.Leaves.{AreCalls}
+use Rattle.inp_model.proofs.Leaves.{description-kept, history-kept}
 use Rattle.inp_model.specs.Reply.{Answer, is_accepted}
 use Rattle.inp_model.specs.Run.{Call}
 use Rattle.inp_recon.specs.declared.view.View.{View}
@@ -31,23 +35,50 @@ use Rattle.inp_reader.proofs.Sparing.{says-keeps_next}
 use Rattle.inp_reader.proofs.Agreeing.{spare-made_anew}
 use Rattle.inp_reader.proofs.Calls.{IsSplit, split-and_then, finished}
 use Rattle.inp_reader.proofs.Meeting.{AreMet, says-met}
-use Rattle.inp_reader.proofs.Standings.{HandsOut, Leaves, StoodOrOpened, stands-after-next, stands-after-start}
+use Rattle.inp_reader.proofs.Standings.{HandsOut, IsOpenInStep, Leaves, StoodOrOpened, stands-after-next, stands-after-start}
+
+-- What is seen is a history of accepted steps
+
+-- after calls, where it was before
+history-still : (d : Description) (before after : EvdevView) (calls : List Call) → before.description ≡ d → AreCalls before after calls → IsHistory d (reverse before.seen) → IsHistory d (reverse after.seen)
+history-still d before after calls same are h =
+    subst (λ (k : Description). IsHistory k (reverse after.seen)) (description-kept before after calls are ∙ same)
+    (history-kept before after calls are (subst (λ (k : Description). IsHistory k (reverse before.seen)) (sym same) h))
+
+-- after any start, which makes a call
+history-started : (d : Description) (before after : EvdevView) (r : Reading) (calls : List Call) (result : Started × Reading) → before.description ≡ d → AreCalls before after calls → EndsWith (start_talk d r) calls result → IsHistory d (reverse after.seen)
+unfolding start_talk LeadsTo AreCalls
+history-started d before after r [] result same are h = absurd cc
+history-started d before after r (call ∷ calls) result same are h =
+    let c : IsCall before are.0 call = are.1 in
+    history-still d are.0 after calls (c.description ∙ same) are.2 (subst (λ (k : Description). IsHistory k (reverse are.0.seen)) (c.description ∙ same) c.history)
+
+stands-with : (d : Description) (past : List Step) (r : Reading) → IsHistory d past → IsOpenInStep d past r → StandsAt d past r
+stands-with d past r h s = record { history = h; opened = s.opened; in_step = s.in_step }
+
+open-in-step : (d : Description) (past : List Step) (r : Reading) → StandsAt d past r → IsOpenInStep d past r
+open-in-step d past r s = record { opened = s.opened; in_step = s.in_step }
+
+-- `start`
+
+start-leaves : (d : Description) (before after : EvdevView) (made : List CallMade) (r s : Reading) (started : Started) → before.description ≡ d → HasSpare d r → Says before after [] made (start_talk d r) (started, s)
+    → StoodOrOpened d (reverse before.seen) r started → IsAlone before after (record { description = d; reading = s; made = made }) → StandsAt d (reverse after.seen) s
+start-leaves d before after made r s started same spare h stood alone =
+    stands-with d (reverse after.seen) s (history-started d before after r h.calls (started, s) same h.are_calls h.talk_ends)
+    (stands-after-start d (reverse before.seen) (reverse after.seen) r h.calls (started, s) (λ client. spare-made_anew d client r.view spare.view)
+    (says-met d s.client before after made h.calls same h.are_calls h.kept alone.only_own) stood h.talk_ends)
 
 -- a start that opened a client
 pub start-opens : (d : Description) (before after : EvdevView) (made : List CallMade) (r s : Reading) (started : Started) → before.description ≡ d → HasSpare d r → Says before after [] made (start_talk d r) (started, s)
     → has_opened started ≡ true → IsAlone before after (record { description = d; reading = s; made = made }) → StandsAt d (reverse after.seen) s
 unfolding StoodOrOpened
-start-opens d before after made r s started same spare h opened alone =
-    stands-after-start d (reverse before.seen) (reverse after.seen) r h.calls (started, s) (λ client. spare-made_anew d client r.view spare.view)
-    (says-met d s.client before after made h.calls same h.are_calls h.kept alone.only_own) (inr opened) h.talk_ends
+start-opens d before after made r s started same spare h opened alone = start-leaves d before after made r s started same spare h (inr opened) alone
 
 -- any start of a reader that stood
 pub start-stands : (d : Description) (before after : EvdevView) (made : List CallMade) (r s : Reading) (started : Started) → before.description ≡ d → HasSpare d r → Says before after [] made (start_talk d r) (started, s)
     → StandsAt d (reverse before.seen) r → IsAlone before after (record { description = d; reading = s; made = made }) → StandsAt d (reverse after.seen) s
 unfolding StoodOrOpened
-start-stands d before after made r s started same spare h stood alone =
-    stands-after-start d (reverse before.seen) (reverse after.seen) r h.calls (started, s) (λ client. spare-made_anew d client r.view spare.view)
-    (says-met d s.client before after made h.calls same h.are_calls h.kept alone.only_own) (inl stood) h.talk_ends
+start-stands d before after made r s started same spare h stood alone = start-leaves d before after made r s started same spare h (inl (open-in-step d (reverse before.seen) r stood)) alone
 
 -- `next` keeps the client
 
@@ -106,20 +137,23 @@ pub next-leaves : (d : Description) (before after : EvdevView) (made : List Call
 next-leaves d before after made mode r s next same spare h stood alone =
     let client : s.client ≡ r.client = client-in d mode r.phase r h.calls (next, s) h.talk_ends in
     let met : AreMet d s.client (reverse before.seen) (reverse after.seen) h.calls = says-met d s.client before after made h.calls same h.are_calls h.kept alone.only_own in
-    stands-after-next d mode (reverse before.seen) (reverse after.seen) r h.calls (next, s) stood (spare-made_anew d r.client r.view spare.view)
+    stands-after-next d mode (reverse before.seen) (reverse after.seen) r h.calls (next, s) (open-in-step d (reverse before.seen) r stood) (spare-made_anew d r.client r.view spare.view)
     (subst (λ (n : ℕ). AreMet d n (reverse before.seen) (reverse after.seen) h.calls) client met) h.talk_ends
 
 pub next-stands : (d : Description) (before after : EvdevView) (made : List CallMade) (mode : Mode) (r s : Reading) (next : Next) → before.description ≡ d → HasSpare d r → Says before after [] made (next_talk d mode r) (next, s)
     → StandsAt d (reverse before.seen) r → IsAlone before after (record { description = d; reading = s; made = made }) → StandsAt d (reverse after.seen) s
-next-stands d before after made mode r s next same spare h stood alone = (next-leaves d before after made mode r s next same spare h stood alone).stands
+next-stands d before after made mode r s next same spare h stood alone =
+    stands-with d (reverse after.seen) s (history-still d before after h.calls same h.are_calls stood.history)
+    (next-leaves d before after made mode r s next same spare h stood alone).stands
 
 -- what an event that was handed out shows
-answer-shows : (d : Description) (told : EvdevView) (s : Reading) (made : List CallMade) (next : Next) → IsDescription d → IsSpare d s.view → HandsOut d (reverse told.seen) next s → AnswerShows told (record { description = d; reading = s; made = made }) next
-answer-shows d told s made (Success taken) is spare h = λ history. shows-device (faithful_by_reads reads-faithful) d (reverse told.seen) s taken is history spare h
-answer-shows d told s made _ is spare h = tt
+answer-shows : (d : Description) (told : EvdevView) (s : Reading) (made : List CallMade) (next : Next) → IsDescription d → IsHistory d (reverse told.seen) → IsSpare d s.view → HandsOut d (reverse told.seen) next s → AnswerShows told (record { description = d; reading = s; made = made }) next
+answer-shows d told s made (Success taken) is history spare h = shows-device (faithful_by_reads reads-faithful) d (reverse told.seen) s taken is history spare h
+answer-shows d told s made _ is history spare h = tt
 
 pub next-shows : (d : Description) (before after : EvdevView) (made : List CallMade) (mode : Mode) (r s : Reading) (next : Next) → before.description ≡ d → IsDescription d → HasSpare d r → Says before after [] made (next_talk d mode r) (next, s)
     → StandsAt d (reverse before.seen) r → IsAlone before after (record { description = d; reading = s; made = made }) → AnswerShows after (record { description = d; reading = s; made = made }) next
 next-shows d before after made mode r s next same is spare h stood alone =
     let kept : HasSpare d s = says-keeps_next d before after [] made mode r (next, s) same spare h in
-    answer-shows d after s made next is kept.view (next-leaves d before after made mode r s next same spare h stood alone).hands_out
+    answer-shows d after s made next is (history-still d before after h.calls same h.are_calls stood.history) kept.view
+    (next-leaves d before after made mode r s next same spare h stood alone).hands_out

@@ -29,7 +29,7 @@ use Rattle.inp_reader.specs.declared.next.Next.TheVariants.{Success, Dropped, Sy
 use Rattle.inp_reader.specs.declared.started.Started.{Started}
 use Rattle.inp_reader.specs.Reading.{Reading, ask_each, queries, bit_queries, axis_queries, plain_axes, slot_queries, only_if, start_talk, next_talk, talk_in, plain_talk, go_on, go_on_after, sync_talk, after_open, after_queries, start_stop_of, read_talk, read_or_hand_out, after_read, hand_out, hand_out_event, stop_of, handing, hand_synthesised, as_plain, after_full_sync, after_failed_sync, is_dropped}
 use Rattle.inp_recon.specs.Synchronised.{is_discard_of, is_start}
-use Rattle.inp_reader.specs.Standing.{is_use_of, calls_since, steps_of, view_after_answers, taken_by_calls, events_of, is_read, AreReads, IsInStep, is_needed, StandsAt, has_opened}
+use Rattle.inp_reader.specs.Standing.{is_use_of, calls_since, steps_of, view_after_answers, taken_by_calls, events_of, is_read, AreReads, IsInStep, is_needed, has_opened}
 use Rattle.inp_reader.specs.Talk.{Talk, finish, and_then, LeadsTo, EndsWith}
 use Rattle.inp_model.proofs.Refused.{refused-not_accepted}
 use Rattle.inp_reader.proofs.Calls.{IsSplit, split-and_then, finished, AreAnswered, AreAccepted}
@@ -282,9 +282,14 @@ abbrev pub HandsOut : Description → List Step → Next → Reading → Type 0
 HandsOut d past (Success taken) r = IsHandedOut d past r taken
 HandsOut d past _ r = Unit {0}
 
+-- what of where a reader stands is about its client
+pub record IsOpenInStep (d : Description) (past : List Step) (r : Reading) : Type 0 where
+  pub opened : r.client < opens past
+  pub in_step : is_needed r.phase ≡ false → IsInStep d past r
+
 -- how `next` leaves a reader
 pub record Leaves (d : Description) (past : List Step) (result : Next × Reading) : Type 0 where
-  pub stands : StandsAt d past result.1
+  pub stands : IsOpenInStep d past result.1
   pub hands_out : HandsOut d past result.0 result.1
 
 -- the same reader, at a past since which nothing was read or asked for
@@ -504,13 +509,13 @@ stands-needed d mode past after r calls result opened anew m h =
 
 -- `next`
 
-stands-in : (d : Description) (mode : Mode) (phase : Phase) (past after : List Step) (r : Reading) (calls : List Call) (result : Next × Reading) → r.phase ≡ phase → StandsAt d past r → IsMadeAnew d r.client r.view → AreMet d r.client past after calls → EndsWith (talk_in d mode phase r) calls result → Leaves d after result
+stands-in : (d : Description) (mode : Mode) (phase : Phase) (past after : List Step) (r : Reading) (calls : List Call) (result : Next × Reading) → r.phase ≡ phase → IsOpenInStep d past r → IsMadeAnew d r.client r.view → AreMet d r.client past after calls → EndsWith (talk_in d mode phase r) calls result → Leaves d after result
 stands-in d mode Plain past after r calls result e s anew m h = stands-plain d mode past after r calls result s.opened (s.in_step (ap is_needed e)) m h
 stands-in d mode Needed past after r calls result e s anew m h = stands-needed d mode past after r calls result s.opened anew m h
 stands-in d mode Handing past after r calls result e s anew m h = stands-go_on d mode past after r calls result s.opened (s.in_step (ap is_needed e)) m h
 
 -- a reader that stood stands after `next`, and what that handed out is the last event that was
-pub stands-after-next : (d : Description) (mode : Mode) (past after : List Step) (r : Reading) (calls : List Call) (result : Next × Reading) → StandsAt d past r → IsMadeAnew d r.client r.view → AreMet d r.client past after calls → EndsWith (next_talk d mode r) calls result → Leaves d after result
+pub stands-after-next : (d : Description) (mode : Mode) (past after : List Step) (r : Reading) (calls : List Call) (result : Next × Reading) → IsOpenInStep d past r → IsMadeAnew d r.client r.view → AreMet d r.client past after calls → EndsWith (next_talk d mode r) calls result → Leaves d after result
 stands-after-next d mode past after r calls result s anew m h = stands-in d mode r.phase past after r calls result refl s anew m h
 
 -- `start`
@@ -547,7 +552,7 @@ met-unused d client past after call h m unused = ap (λ (p : List Step). calls_s
 
 -- what a start leaves once its queries ended
 pub stands-queried : (d : Description) (client ring : ℕ) (past after : List Step) (r : Reading) (asked : Result View Reply) (calls : List Call) → client < opens past → calls_since d past client ≡ [] → IsMadeAnew d client r.view → AreMet d client past after calls → EndsWith (ask_each (queries d client) r.view) calls asked
-    → StandsAt d after (after_queries client ring r asked).1
+    → IsOpenInStep d after (after_queries client ring r asked).1
 stands-queried d client ring past after r (Ok view) calls opened none anew m h =
     let a : IsAsked d client past after (queries d client) r.view calls view = asks d client past after (queries d client) r.view calls view opened (AllAsk-queries d client) m h in
     record {
@@ -557,10 +562,10 @@ stands-queried d client ring past after r (Ok view) calls opened none anew m h =
 stands-queried d client ring past after r (Err reply) calls opened none anew m h =
     record { opened = opens-met d client past after calls opened m; in_step = λ needed. absurd (true≢false needed) }
 
-started-same : (d : Description) (past after : List Step) (x result : Started × Reading) → after ≡ past → x ≡ result → StandsAt d past x.1 → StandsAt d after result.1
+started-same : (d : Description) (past after : List Step) (x result : Started × Reading) → after ≡ past → x ≡ result → IsOpenInStep d past x.1 → IsOpenInStep d after result.1
 started-same d past after x result same e h =
-    let P : List Step → Type 0 = λ p. StandsAt d p result.1 in
-    subst P (sym same) (subst (λ (o : Started × Reading). StandsAt d past o.1) e h)
+    let P : List Step → Type 0 = λ p. IsOpenInStep d p result.1 in
+    subst P (sym same) (subst (λ (o : Started × Reading). IsOpenInStep d past o.1) e h)
 
 client-of-queried : (client ring : ℕ) (r : Reading) (asked : Result View Reply) → (after_queries client ring r asked).1.client ≡ client
 client-of-queried client ring r (Ok view) = refl
@@ -572,9 +577,9 @@ not-opened _ = refl
 
 -- how a reader may have stood before a start: it did, or the start opened a client
 unfoldable pub StoodOrOpened : Description → List Step → Reading → Started → Type 0
-StoodOrOpened d past r started = StandsAt d past r ⊎ (has_opened started ≡ true)
+StoodOrOpened d past r started = IsOpenInStep d past r ⊎ (has_opened started ≡ true)
 
-stands-stopped : (d : Description) (past after : List Step) (r : Reading) (call : Call) (reply : Reply) → call.step ≡ Open → IsMet d r.client past after call → StandsAt d past r ⊎ (has_opened (start_stop_of reply) ≡ true) → StandsAt d after r
+stands-stopped : (d : Description) (past after : List Step) (r : Reading) (call : Call) (reply : Reply) → call.step ≡ Open → IsMet d r.client past after call → IsOpenInStep d past r ⊎ (has_opened (start_stop_of reply) ≡ true) → IsOpenInStep d after r
 stands-stopped d past after r call reply opening m (inl s) = record {
   opened = met-opens d r.client past after call s.opened m;
   in_step = λ needed. in-step-kept d past after r (s.in_step needed) (met-unused d r.client past after call s.opened m (ap (λ (x : Step). is_use_of r.client x) opening));
@@ -582,7 +587,7 @@ stands-stopped d past after r call reply opening m (inl s) = record {
 stands-stopped d past after r call reply opening m (inr o) = absurd (true≢false (sym o ∙ not-opened reply))
 
 stands-after_open : (d : Description) (past mid after : List Step) (r : Reading) (call : Call) (reply : Reply) (calls : List Call) (result : Started × Reading) → call.answer.reply ≡ reply → call.step ≡ Open → ((client : ℕ) → IsMadeAnew d client r.view)
-    → IsMet d result.1.client past mid call → AreMet d result.1.client mid after calls → StoodOrOpened d past r result.0 → EndsWith (after_open d r reply) calls result → StandsAt d after result.1
+    → IsMet d result.1.client past mid call → AreMet d result.1.client mid after calls → StoodOrOpened d past r result.0 → EndsWith (after_open d r reply) calls result → IsOpenInStep d after result.1
 unfolding StoodOrOpened
 stands-after_open d past mid after r call (Opened at client ring) calls result is opening anew met m stood h =
     let next : Result View Reply → Talk (Started × Reading) = λ asked. finish (after_queries client ring r asked) in
@@ -603,12 +608,12 @@ stands-after_open d past mid after r call reply calls result is opening anew met
     let stopped : Started × Reading = (start_stop_of reply, r) in
     let e : (calls ≡ []) × (stopped ≡ result) = finished stopped result calls h in
     let same : result.1.client ≡ r.client = ap (λ (o : Started × Reading). o.1.client) (sym e.1) in
-    let before : StandsAt d past r ⊎ (has_opened (start_stop_of reply) ≡ true) = subst (λ (n : Started). StandsAt d past r ⊎ (has_opened n ≡ true)) (ap (λ (o : Started × Reading). o.0) (sym e.1)) stood in
+    let before : IsOpenInStep d past r ⊎ (has_opened (start_stop_of reply) ≡ true) = subst (λ (n : Started). IsOpenInStep d past r ⊎ (has_opened n ≡ true)) (ap (λ (o : Started × Reading). o.0) (sym e.1)) stood in
     started-same d mid after stopped result (nothing-met d result.1.client mid after calls e.0 m) e.1
     (stands-stopped d past mid r call reply opening (subst (λ (n : ℕ). IsMet d n past mid call) same met) before)
 
 -- a reader stands after a start that opened a client, and after any start where it stood
-pub stands-after-start : (d : Description) (past after : List Step) (r : Reading) (calls : List Call) (result : Started × Reading) → ((client : ℕ) → IsMadeAnew d client r.view) → AreMet d result.1.client past after calls → StoodOrOpened d past r result.0 → EndsWith (start_talk d r) calls result → StandsAt d after result.1
+pub stands-after-start : (d : Description) (past after : List Step) (r : Reading) (calls : List Call) (result : Started × Reading) → ((client : ℕ) → IsMadeAnew d client r.view) → AreMet d result.1.client past after calls → StoodOrOpened d past r result.0 → EndsWith (start_talk d r) calls result → IsOpenInStep d after result.1
 unfolding start_talk LeadsTo AreMet
 stands-after-start d past after r [] result anew m stood h = absurd cc
 stands-after-start d past after r (call ∷ calls) result anew m stood h =

@@ -9,7 +9,6 @@ use Rattle.inp_model.specs.Frame.{Frame}
 use Rattle.inp_model.specs.Queue.{took}
 use Rattle.inp_model.specs.Reply.{taken_of}
 use Rattle.inp_recon.specs.ClientView.{past_before_read, read_up_to}
-use Rattle.inp_model.specs.History.{IsHistory}
 use Rattle.inp_recon.specs.Faithful.{IsReportAt, IsFollowed, IsDeviceState}
 use Rattle.inp_reader.specs.declared.next.Next.{Next}
 use Rattle.inp_reader.specs.declared.next.Next.TheVariants.{Success}
@@ -28,9 +27,7 @@ pub record ShowsTheDevice (d : Description) (past : List Step) (r : Reading) (ta
       → IsFollowed d (past_before_read d past r.client (index_handed_out d past r)) r.client (read_up_to d past r.client (index_handed_out d past r)) f
       → IsDeviceState d f.cut.until r.view
 
--- what `next` answered, in a history of accepted steps
+-- what `next` answered, where it handed out an event of the device
 abbrev pub AnswerShows : EvdevView → ReaderView → Next → Type 0
-AnswerShows told reader (Success taken) =
-    IsHistory reader.description (reverse told.seen)
-    → ShowsTheDevice reader.description (reverse told.seen) reader.reading taken
+AnswerShows told reader (Success taken) = ShowsTheDevice reader.description (reverse told.seen) reader.reading taken
 AnswerShows told reader _ = Unit {0}

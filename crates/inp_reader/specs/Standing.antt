@@ -7,6 +7,7 @@ use Rattle.inp_model.specs.declared.step.Step.{Step}
 use Rattle.inp_model.specs.declared.step.Step.TheVariants.{Read, Discard, GetKeys, GetSwitches, GetLeds, GetSounds, GetAxis, GetSlots, SyncSlots}
 use Rattle.inp_model.specs.Description.{Description}
 use Rattle.inp_model.specs.Evdev.{EvdevView}
+use Rattle.inp_model.specs.History.{IsHistory}
 use Rattle.inp_model.specs.Past.{opens}
 use Rattle.inp_model.specs.Reply.{answer}
 use Rattle.inp_model.specs.Run.{Call}
@@ -92,9 +93,10 @@ abbrev pub is_needed : Phase → Bool
 is_needed Needed = true
 is_needed _ = false
 
--- A reader stands at the end of a history, which is written newest first: its client was opened there, and unless it is
--- to synchronise it is in step.
+-- A reader stands at the end of a history of accepted steps, which is written newest first: its client was opened there,
+-- and unless it is to synchronise it is in step.
 pub record StandsAt (d : Description) (past : List Step) (r : Reading) : Type 0 where
+  pub history : IsHistory d past
   pub opened : r.client < opens past
   pub in_step : is_needed r.phase ≡ false → IsInStep d past r
 

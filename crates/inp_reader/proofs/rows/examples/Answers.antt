@@ -37,6 +37,7 @@ returns-clause-follows c = (refl, refl, refl, refl)
 pub returns-clause-stands : goal.returns-clause-stands
 unfolding computing computing_reader
 returns-clause-stands c = record {
+  history = (((((tt, refl), refl), refl), refl), refl);
   opened = lit< tt;
   in_step = λ needed. record {
     asked = take 1 calls;
