@@ -64,6 +64,10 @@ length-axis_changes_by first same last old new h =
 length-axis_changes : (old new : List ℤ) → ((code : ℕ) → 47 ≤ code → code ≤ 61 → value_at old code ≡ value_at new code) → length (axis_changes old new) ≤ 49
 length-axis_changes old new h = length-axis_changes_by 47 15 2 old new (λ k l m. false_from_ne_true (differs_at old new k) (λ t. tells_ints.apart (value_at old k) (value_at new k) t (h k l (omega (arith, m)))))
 
+-- the same where nothing is known of the middle
+length-axis_changes_any : (old new : List ℤ) → length (axis_changes old new) ≤ 64
+length-axis_changes_any old new = omega (arith, length-map (where_below 64 (differs_at old new)) (λ code. axis_event new code code), length-where_below 64 (differs_at old new))
+
 -- ---- slots
 
 length-cond : (e : Event) (b : Bool) → length (cond b [] (e ∷ [])) ≤ 1
@@ -126,8 +130,14 @@ length-class_changes slots old new h =
     length-bit_changes EV_KEY 768 old.keys new.keys
     ) (length-bit_changes EV_LED 64 old.leds new.leds) (length-bit_changes EV_SW 64 old.switches new.switches) (length-axis_changes old.axes new.axes h.axes)
 
-length-groups : (slots : ℕ) (first classes cells : List Event) → length first ≤ 2 * slots → length classes ≤ 945 → length cells ≤ 15 * slots + 1 → length (with_report first ++ with_report (classes ++ cells)) ≤ 948 + 17 * slots
-length-groups slots first classes cells h l m =
+length-class_changes_any : (old new : View) → length (class_changes old new) ≤ 960
+length-class_changes_any old new =
+    length-four (bit_changes EV_KEY 768 old.keys new.keys) (bit_changes EV_LED 64 old.leds new.leds) (bit_changes EV_SW 64 old.switches new.switches) (axis_changes old.axes new.axes) 768 64 64 64 (
+    length-bit_changes EV_KEY 768 old.keys new.keys
+    ) (length-bit_changes EV_LED 64 old.leds new.leds) (length-bit_changes EV_SW 64 old.switches new.switches) (length-axis_changes_any old.axes new.axes)
+
+length-groups : (slots most : ℕ) (first classes cells : List Event) → length first ≤ 2 * slots → length classes ≤ most → length cells ≤ 15 * slots + 1 → length (with_report first ++ with_report (classes ++ cells)) ≤ most + 3 + 17 * slots
+length-groups slots most first classes cells h l m =
     omega (
       arith,
       length-append (with_report first) (with_report (classes ++ cells)),
@@ -144,4 +154,12 @@ unfolding synth
 length-synth slots old new h =
     let mid : View = view_after_events old (lifts old new) in
     let sized : IsSizedFor slots mid = IsSizedFor-after_events slots old (lifts old new) h.old_sized in
-    length-groups slots (lifts old new) (class_changes old new) (slot_changes mid new) (length-lifts slots old new h.old_sized.cells) (length-class_changes slots old new h) (length-slot_changes slots mid new sized.cells)
+    length-groups slots 945 (lifts old new) (class_changes old new) (slot_changes mid new) (length-lifts slots old new h.old_sized.cells) (length-class_changes slots old new h) (length-slot_changes slots mid new sized.cells)
+
+-- the same where nothing is known of the axes whose values belong to slots
+pub length-synth_sized : (slots : ℕ) (old new : View) → IsSizedFor slots old → length (synth old new) ≤ 963 + 17 * slots
+unfolding synth
+length-synth_sized slots old new h =
+    let mid : View = view_after_events old (lifts old new) in
+    let sized : IsSizedFor slots mid = IsSizedFor-after_events slots old (lifts old new) h in
+    length-groups slots 960 (lifts old new) (class_changes old new) (slot_changes mid new) (length-lifts slots old new h.cells) (length-class_changes_any old new) (length-slot_changes slots mid new sized.cells)

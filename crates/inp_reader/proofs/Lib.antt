@@ -26,4 +26,5 @@ pub mod Agreeing
 pub mod Sparing
 pub mod SayingStands
 pub mod ClientViews
+pub mod Efforts
 pub mod Showings

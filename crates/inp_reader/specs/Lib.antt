@@ -4,6 +4,7 @@ pub mod Laws
 pub mod Reading
 pub mod Says
 pub mod Leaving
+pub mod Effort
 pub mod Standing
 pub mod Spare
 pub mod KeptViews

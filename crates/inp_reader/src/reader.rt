@@ -1,10 +1,11 @@
 //! The reader.
-ghost use Rattle.std.specs.Prelude.{◌≡◌, ◌≤◌, true, [], ◌++◌, length, IfOk};
+ghost use Rattle.std.specs.Prelude.{◌≡◌, ◌≤◌, ◌*◌, true, false, [], ◌++◌, length, IfOk};
 ghost use Rattle.inp_model.specs.Evdev.{BeginsWith};
 ghost use Rattle.inp_recon.specs.View.{first_view};
 ghost use Rattle.inp_reader.specs.declared.phase.Phase.TheVariants.{Plain};
 ghost use Rattle.inp_reader.specs.Says.{Says};
 ghost use Rattle.inp_reader.specs.Leaving.{places_of, agains_after_next, IsRun};
+ghost use Rattle.inp_reader.specs.Effort.{effort, IsLess, is_idle};
 ghost use Rattle.inp_reader.specs.Standing.{Stands, IsAlone, has_opened};
 ghost use Rattle.inp_reader.specs.Showing.{AnswerShows};
 ghost use Rattle.inp_reader.specs.Reading.{start_talk, next_talk, with_sync_needed};
@@ -149,6 +150,9 @@ impl Reader {
     /// before stands at the end of what is seen afterwards, if nobody else used its client in between.
     /// Where such a reader hands out a SYN_REPORT, its view is the device's state at the end of that frame, if the client
     /// could follow the device up to there.
+    ///
+    /// A loop over `next` ends: each of the first four answers leaves less to do than before (a number, its effort), and
+    /// `Again` leaves no more. But a `Sync` call in phase Plain has nothing to do: it makes no call and answers `Synced`.
     pub fn next<E: Evdev>(&mut self, dev: &mut E, mode: Mode) -> Next
         requires description { (E.told dev.old).description ≡ self.old.description }
         ensures says { Says (E.told dev.old) (E.told dev.new) [] self.new.made
@@ -160,6 +164,8 @@ impl Reader {
         ensures own { (E.told dev.new).own ≡ (E.told dev.old).own ++ places_of self.new.made }
         ensures agains { (E.told dev.new).agains ≡ agains_after_next result (E.told dev.old).agains }
         ensures run { IsRun (E.told dev.old) (E.told dev.new) self.new.made }
+        ensures less { is_idle mode self.old.reading.phase ≡ false → IsLess result
+            (effort (E.told dev.new) self.new.reading) (effort (E.told dev.old) self.old.reading) }
         ensures stands { Stands (E.told dev.old) self.old
             → IsAlone (E.told dev.old) (E.told dev.new) self.new → Stands (E.told dev.new) self.new }
         ensures shows { Stands (E.told dev.old) self.old
@@ -178,9 +184,10 @@ impl Reader {
         self.session.force_sync();
     }
 
-    /// What the device is, as far as the reader has handed it out.
+    /// What the device is, as far as the reader has handed it out. It has fourteen values a slot.
     pub fn view(&self) -> &View
         ensures view { result.now ≡ self.now.reading.view }
+        ensures sized { length result.now.cells ≡ 14 * self.now.description.slots }
     {
         &self.session.view
     }

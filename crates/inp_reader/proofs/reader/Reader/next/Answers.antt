@@ -1,4 +1,5 @@
-use Rattle.std.proofs.Common.{ap, sym, subst, ◌∙◌, arith, length}
+use Rattle.std.proofs.Common.{ap, sym, subst, ◌∙◌, ◌≡◌, false, arith, length}
+use Rattle.inp_reader.specs.Effort.{effort, IsLess, is_idle}
 use Rattle.inp_reader.specs.Reading.{ReaderView}
 use Rattle.inp_reader.specs.Session.{reading_of}
 use Rattle.inp_reader.specs.Standing.{Stands}
@@ -6,6 +7,7 @@ use Rattle.inp_reader.proofs.Sparing.{says-keeps_next}
 use Rattle.inp_reader.proofs.SayingStands.{next-stands, next-shows}
 use Rattle.inp_reader.proofs.Leavings.{says-anew, says-seen, says-tie, says-own, says-run}
 use Rattle.inp_reader.proofs.Agains.{says-agains}
+use Rattle.inp_reader.proofs.Efforts.{says-less}
 use Rattle.inp_reader.proofs.reader.Reader.next.Goals as goal
 
 pub returns-clause-tie : goal.returns-clause-tie
@@ -44,3 +46,9 @@ pub returns-clause-shows : goal.returns-clause-shows
 returns-clause-shows g c = λ stood alone.
     next-shows c.self.inside.caps _ _ _ c.args.mode (reading_of c.self.inside.session) (reading_of c.next.new.self) c.next.result (c.requires.description ∙ ap (λ (v : ReaderView). v.description) (sym c.self.view_is)) c.self.invariant.described c.self.invariant.spare (says-anew _ _ _ _ _ _ c.clear.ensures c.next.ensures.says)
     (subst (λ (v : ReaderView). Stands (g.E.Evdev.told c.args.dev.now) v) (sym c.self.view_is) stood) alone
+
+pub returns-clause-less : goal.returns-clause-less
+returns-clause-less g c = λ busy.
+    subst (λ (v : ReaderView). IsLess c.next.result (effort (g.E.Evdev.told c.next.new.dev) (reading_of c.next.new.self)) (effort (g.E.Evdev.told c.args.dev.now) v.reading)) c.self.view_is
+    (says-less c.self.inside.caps _ _ _ _ c.args.mode (reading_of c.self.inside.session) (reading_of c.next.new.self) c.next.result (c.requires.description ∙ ap (λ (v : ReaderView). v.description) (sym c.self.view_is)) c.self.invariant.spare.view.sized c.next.ensures.says
+    (subst (λ (v : ReaderView). is_idle c.args.mode v.reading.phase ≡ false) (sym c.self.view_is) busy))
