@@ -3,15 +3,16 @@ use Rattle.std.proofs.Common.{◌≡◌, ℕ, List, [], ◌∷◌, ◌++◌, len
 use Rattle.inp_model.specs.declared.step.Step.{Step}
 use Rattle.inp_model.specs.declared.reply.Reply.{Reply}
 use Rattle.inp_model.specs.declared.reply.Reply.TheVariants.{Again, Refused}
-use Rattle.inp_model.specs.Evdev.{EvdevView, BeginsWith, own_after}
-use Rattle.inp_model.specs.Leaves.{places_of as places_of_calls}
+use Rattle.inp_model.specs.Evdev.{EvdevView, own_after}
+use Rattle.inp_model.specs.Leaves.{AreCalls, places_of as places_of_calls}
 use Rattle.inp_model.specs.Reply.{is_accepted}
 use Rattle.inp_model.specs.Run.{Call, place_of}
-use Rattle.inp_model.proofs.Leaves.{tie-kept, seen-kept, own-grown, calls-legal}
+use Rattle.inp_model.proofs.Leaves.{own-grown, calls-leave, AreCalls-append}
 use Rattle.inp_reader.specs.declared.call_made.CallMade.{CallMade}
-use Rattle.inp_reader.specs.Leaving.{places_of, IsRun}
+use Rattle.inp_reader.specs.Leaving.{places_of, LeavesMade}
 use Rattle.inp_reader.specs.Talk.{Talk}
 use Rattle.inp_reader.specs.Says.{kept_of, made_of, Says}
+use Rattle.inp_reader.proofs.Talks.{made_of-append}
 
 -- Own places
 
@@ -35,23 +36,37 @@ places-kept (call ∷ calls) =
     ∙ ap (λ (ps : List ℕ). ps ++ places_of (made_of calls)) (place-kept call.step call.answer.reply)
     ∙ sym (places_of-append one (made_of calls))
 
--- The facts that a reader's calls state
+-- All that calls leave
+
+pub made-left : (before after : EvdevView) (calls : List Call) (made : List CallMade) → made ≡ made_of calls → AreCalls before after calls → LeavesMade before after made
+made-left before after calls made kept are = record {
+  calls = calls;
+  kept = kept;
+  are_calls = are;
+  leaves = calls-leave before after calls are;
+  own =
+      own-grown before after calls are
+      ∙ ap (λ (ps : List ℕ). before.own ++ ps) (places-kept calls)
+      ∙ ap (λ (ms : List CallMade). before.own ++ places_of ms) (sym kept);
+}
 
 -- the calls of the last `start` or `next` are kept alone
 pub says-anew : {A : Type 0} (before after : EvdevView) (old new : List CallMade) (talk : Talk A) (result : A) → old ≡ [] → Says before after old new talk result → Says before after [] new talk result
 says-anew before after old new talk result h s = subst (λ (ms : List CallMade). Says before after ms new talk result) h s
 
-pub says-seen : {A : Type 0} (before after : EvdevView) (old new : List CallMade) (talk : Talk A) (result : A) → Says before after old new talk result → BeginsWith before.seen after.seen
-says-seen before after old new talk result s = seen-kept before after s.calls s.are_calls
+pub says-left : {A : Type 0} (before after : EvdevView) (made : List CallMade) (talk : Talk A) (result : A) → Says before after [] made talk result → LeavesMade before after made
+says-left before after made talk result s = made-left before after s.calls made s.kept s.are_calls
 
-pub says-tie : {A : Type 0} (before after : EvdevView) (old new : List CallMade) (talk : Talk A) (result : A) → Says before after old new talk result → after.tie ≡ before.tie
-says-tie before after old new talk result s = tie-kept before after s.calls s.are_calls
+-- The law of two calls
 
-pub says-own : {A : Type 0} (before after : EvdevView) (made : List CallMade) (talk : Talk A) (result : A) → Says before after [] made talk result → after.own ≡ before.own ++ places_of made
-says-own before after made talk result s =
-    own-grown before after s.calls s.are_calls
-    ∙ ap (λ (ps : List ℕ). before.own ++ ps) (places-kept s.calls)
-    ∙ ap (λ (ms : List CallMade). before.own ++ places_of ms) (sym s.kept)
+-- no call
+pub leaves_made-none : (told : EvdevView) → LeavesMade told told []
+unfolding AreCalls
+leaves_made-none told = made-left told told [] [] refl refl
 
-pub says-run : {A : Type 0} (before after : EvdevView) (made : List CallMade) (talk : Talk A) (result : A) → Says before after [] made talk result → IsRun before after made
-says-run before after made talk result s = record { calls = s.calls; kept = s.kept; legal = calls-legal before after s.calls s.are_calls }
+-- What one call leaves, and then another one, is what both together leave.
+pub leaves_made-then : (before between after : EvdevView) (made more : List CallMade) → LeavesMade before between made → LeavesMade between after more → LeavesMade before after (made ++ more)
+leaves_made-then before between after made more h k =
+    made-left before after (h.calls ++ k.calls) (made ++ more)
+    (ap (λ (ms : List CallMade). ms ++ more) h.kept ∙ ap (λ (ms : List CallMade). made_of h.calls ++ ms) k.kept ∙ sym (made_of-append h.calls k.calls))
+    (AreCalls-append before between after h.calls k.calls h.are_calls k.are_calls)

@@ -1,8 +1,9 @@
--- What the calls of a reader leave of what is told of an evdev.
-use Rattle.std.specs.Prelude.{◌≡◌, ℕ, ◌+◌, ◌-◌, ◌^◌, nat_lt, if◌then◌else◌, List, [], ◌∷◌, ◌++◌, length}
+-- What the calls of a reader leave of what is told of an evdev (docs/RULES.md, "Places and moments").
+use Rattle.std.specs.Prelude.{◌≡◌, ℕ, ◌+◌, ◌-◌, ◌^◌, nat_lt, if◌then◌else◌, List, [], ◌∷◌, ◌++◌}
 use Rattle.inp_model.specs.Evdev.{EvdevView}
+use Rattle.inp_model.specs.Leaves.{AreCalls, Leaves}
 use Rattle.inp_model.specs.Reply.{is_accepted}
-use Rattle.inp_model.specs.Run.{Call, place_of, IsLegalFrom}
+use Rattle.inp_model.specs.Run.{Call, place_of}
 use Rattle.inp_reader.specs.declared.call_made.CallMade.{CallMade}
 use Rattle.inp_reader.specs.declared.next.Next.{Next}
 use Rattle.inp_reader.specs.declared.next.Next.TheVariants.{Again}
@@ -18,9 +19,11 @@ abbrev pub agains_after_next : Next → ℕ → ℕ
 agains_after_next (Again at ends) n = if nat_lt n (2 ^ 64 - 1) then n + 1 else n
 agains_after_next _ n = n
 
--- The calls are a legal run of the history that is seen afterwards, from what was seen before: each has its place, none
--- below it, and each reply is the one-thread device's there. They are those that were kept, and those answered Again.
-pub record IsRun (before after : EvdevView) (made : List CallMade) : Type 0 where
+-- What the calls that a reader made leave of what is told of an evdev. They are those that it kept, and those answered
+-- Again. What they leave is said of all of them (`Leaves` of `inp_model`), and the own places once more of those kept.
+pub record LeavesMade (before after : EvdevView) (made : List CallMade) : Type 0 where
   pub calls : List Call
   pub kept : made ≡ made_of calls
-  pub legal : IsLegalFrom after.description after.seen (length before.seen) calls
+  pub are_calls : AreCalls before after calls
+  pub leaves : Leaves before after calls
+  pub own : after.own ≡ before.own ++ places_of made

@@ -1,10 +1,9 @@
 //! The reader.
-ghost use Rattle.std.specs.Prelude.{◌≡◌, ◌≤◌, ◌*◌, true, false, [], ◌++◌, length, IfOk};
-ghost use Rattle.inp_model.specs.Evdev.{BeginsWith};
+ghost use Rattle.std.specs.Prelude.{◌≡◌, ◌≤◌, ◌*◌, true, false, [], length, IfOk};
 ghost use Rattle.inp_recon.specs.View.{first_view};
 ghost use Rattle.inp_reader.specs.declared.phase.Phase.TheVariants.{Plain};
 ghost use Rattle.inp_reader.specs.Says.{Says};
-ghost use Rattle.inp_reader.specs.Leaving.{places_of, agains_after_next, IsRun};
+ghost use Rattle.inp_reader.specs.Leaving.{LeavesMade, agains_after_next};
 ghost use Rattle.inp_reader.specs.Effort.{effort, IsLess, is_idle};
 ghost use Rattle.inp_reader.specs.Standing.{Stands, IsAlone, has_opened};
 ghost use Rattle.inp_reader.specs.Showing.{AnswerShows};
@@ -99,20 +98,17 @@ impl Reader {
     ///
     /// An older client is not closed. Only the open may meet want of memory.
     ///
-    /// The calls are a legal run of the history that is seen afterwards, and the own places of the device's caller grow by
-    /// theirs. After `Opened` the reader stands at the end of that history, if nobody else used its client in between;
-    /// after `Refused` it stands there if it stood at what was seen before.
+    /// The calls are a legal run of the history that is seen afterwards; what was seen before and the device stay, and the
+    /// own places of the device's caller grow by theirs. None is answered Again. After `Opened` the reader stands at the end
+    /// of that history, if nobody else used its client in between; after `Refused` it stands there if it stood at what was
+    /// seen before.
     pub fn start<E: Evdev>(&mut self, dev: &mut E) -> Started
         requires description { (E.told dev.old).description ≡ self.old.description }
         ensures says { Says (E.told dev.old) (E.told dev.new) [] self.new.made
             (start_talk self.old.description self.old.reading) (result, self.new.reading) }
         ensures reader { self.new.description ≡ self.old.description }
-        ensures device { (E.told dev.new).description ≡ (E.told dev.old).description }
-        ensures tie { (E.told dev.new).tie ≡ (E.told dev.old).tie }
-        ensures seen { BeginsWith (E.told dev.old).seen (E.told dev.new).seen }
-        ensures own { (E.told dev.new).own ≡ (E.told dev.old).own ++ places_of self.new.made }
+        ensures left { LeavesMade (E.told dev.old) (E.told dev.new) self.new.made }
         ensures agains { (E.told dev.new).agains ≡ (E.told dev.old).agains }
-        ensures run { IsRun (E.told dev.old) (E.told dev.new) self.new.made }
         ensures opened { has_opened result ≡ true
             → IsAlone (E.told dev.old) (E.told dev.new) self.new → Stands (E.told dev.new) self.new }
         ensures stands { Stands (E.told dev.old) self.old
@@ -145,9 +141,10 @@ impl Reader {
     /// Key value 2, an autorepeat, is handed out and does not change the view (this project's choice). It takes no
     /// memory. It makes at most 55 calls, but for a synchronisation at most one.
     ///
-    /// The calls are a legal run of the history that is seen afterwards, the own places of the device's caller grow by
-    /// theirs, and its count of answers Again rises by one at `Again` alone. A reader that stood at the end of what was seen
-    /// before stands at the end of what is seen afterwards, if nobody else used its client in between.
+    /// The calls are a legal run of the history that is seen afterwards; what was seen before and the device stay, the own
+    /// places of the device's caller grow by theirs, and its count of answers Again rises by one at `Again` alone. A reader
+    /// that stood at the end of what was seen before stands at the end of what is seen afterwards, if nobody else used its
+    /// client in between.
     /// Where such a reader hands out a SYN_REPORT, its view is the device's state at the end of that frame, if the client
     /// could follow the device up to there.
     ///
@@ -158,12 +155,8 @@ impl Reader {
         ensures says { Says (E.told dev.old) (E.told dev.new) [] self.new.made
             (next_talk self.old.description mode self.old.reading) (result, self.new.reading) }
         ensures reader { self.new.description ≡ self.old.description }
-        ensures device { (E.told dev.new).description ≡ (E.told dev.old).description }
-        ensures tie { (E.told dev.new).tie ≡ (E.told dev.old).tie }
-        ensures seen { BeginsWith (E.told dev.old).seen (E.told dev.new).seen }
-        ensures own { (E.told dev.new).own ≡ (E.told dev.old).own ++ places_of self.new.made }
+        ensures left { LeavesMade (E.told dev.old) (E.told dev.new) self.new.made }
         ensures agains { (E.told dev.new).agains ≡ agains_after_next result (E.told dev.old).agains }
-        ensures run { IsRun (E.told dev.old) (E.told dev.new) self.new.made }
         ensures less { is_idle mode self.old.reading.phase ≡ false → IsLess result
             (effort (E.told dev.new) self.new.reading) (effort (E.told dev.old) self.old.reading) }
         ensures stands { Stands (E.told dev.old) self.old

@@ -5,22 +5,13 @@ use Rattle.inp_reader.specs.Session.{reading_of}
 use Rattle.inp_reader.specs.Standing.{Stands}
 use Rattle.inp_reader.proofs.Sparing.{says-keeps_next}
 use Rattle.inp_reader.proofs.SayingStands.{next-stands, next-shows}
-use Rattle.inp_reader.proofs.Leavings.{says-anew, says-seen, says-tie, says-own, says-run}
+use Rattle.inp_reader.proofs.Leavings.{says-anew, says-left}
 use Rattle.inp_reader.proofs.Agains.{says-agains}
 use Rattle.inp_reader.proofs.Efforts.{says-less}
 use Rattle.inp_reader.proofs.reader.Reader.next.Goals as goal
 
-pub returns-clause-tie : goal.returns-clause-tie
-returns-clause-tie g c = says-tie _ _ _ _ _ _ c.next.ensures.says
-
-pub returns-clause-seen : goal.returns-clause-seen
-returns-clause-seen g c = says-seen _ _ _ _ _ _ c.next.ensures.says
-
-pub returns-clause-own : goal.returns-clause-own
-returns-clause-own g c = says-own _ _ _ _ _ (says-anew _ _ _ _ _ _ c.clear.ensures c.next.ensures.says)
-
-pub returns-clause-run : goal.returns-clause-run
-returns-clause-run g c = says-run _ _ _ _ _ (says-anew _ _ _ _ _ _ c.clear.ensures c.next.ensures.says)
+pub returns-clause-left : goal.returns-clause-left
+returns-clause-left g c = says-left _ _ _ _ _ (says-anew _ _ _ _ _ _ c.clear.ensures c.next.ensures.says)
 
 pub returns-clause-agains : goal.returns-clause-agains
 returns-clause-agains g c =
