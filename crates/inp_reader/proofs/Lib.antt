@@ -27,4 +27,5 @@ pub mod Sparing
 pub mod SayingStands
 pub mod ClientViews
 pub mod Efforts
+pub mod Alones
 pub mod Showings

@@ -62,7 +62,7 @@ open-in-step d past r s = record { opened = s.opened; in_step = s.in_step }
 -- `start`
 
 start-leaves : (d : Description) (before after : EvdevView) (made : List CallMade) (r s : Reading) (started : Started) → before.description ≡ d → HasSpare d r → Says before after [] made (start_talk d r) (started, s)
-    → StoodOrOpened d (reverse before.seen) r started → IsAlone before after (record { description = d; reading = s; made = made }) → StandsAt d (reverse after.seen) s
+    → StoodOrOpened d (reverse before.seen) r started → IsAlone before after s.client made → StandsAt d (reverse after.seen) s
 start-leaves d before after made r s started same spare h stood alone =
     stands-with d (reverse after.seen) s (history-started d before after r h.calls (started, s) same h.are_calls h.talk_ends)
     (stands-after-start d (reverse before.seen) (reverse after.seen) r h.calls (started, s) (λ client. spare-made_anew d client r.view spare.view)
@@ -70,13 +70,13 @@ start-leaves d before after made r s started same spare h stood alone =
 
 -- a start that opened a client
 pub start-opens : (d : Description) (before after : EvdevView) (made : List CallMade) (r s : Reading) (started : Started) → before.description ≡ d → HasSpare d r → Says before after [] made (start_talk d r) (started, s)
-    → has_opened started ≡ true → IsAlone before after (record { description = d; reading = s; made = made }) → StandsAt d (reverse after.seen) s
+    → has_opened started ≡ true → IsAlone before after s.client made → StandsAt d (reverse after.seen) s
 unfolding StoodOrOpened
 start-opens d before after made r s started same spare h opened alone = start-leaves d before after made r s started same spare h (inr opened) alone
 
 -- any start of a reader that stood
 pub start-stands : (d : Description) (before after : EvdevView) (made : List CallMade) (r s : Reading) (started : Started) → before.description ≡ d → HasSpare d r → Says before after [] made (start_talk d r) (started, s)
-    → StandsAt d (reverse before.seen) r → IsAlone before after (record { description = d; reading = s; made = made }) → StandsAt d (reverse after.seen) s
+    → StandsAt d (reverse before.seen) r → IsAlone before after s.client made → StandsAt d (reverse after.seen) s
 unfolding StoodOrOpened
 start-stands d before after made r s started same spare h stood alone = start-leaves d before after made r s started same spare h (inl (open-in-step d (reverse before.seen) r stood)) alone
 
@@ -133,7 +133,7 @@ client-in d mode Handing r calls result h = client-go_on mode r calls result h
 
 -- any `next` of a reader that stood
 pub next-leaves : (d : Description) (before after : EvdevView) (made : List CallMade) (mode : Mode) (r s : Reading) (next : Next) → before.description ≡ d → HasSpare d r → Says before after [] made (next_talk d mode r) (next, s)
-    → StandsAt d (reverse before.seen) r → IsAlone before after (record { description = d; reading = s; made = made }) → Leaves d (reverse after.seen) (next, s)
+    → StandsAt d (reverse before.seen) r → IsAlone before after s.client made → Leaves d (reverse after.seen) (next, s)
 next-leaves d before after made mode r s next same spare h stood alone =
     let client : s.client ≡ r.client = client-in d mode r.phase r h.calls (next, s) h.talk_ends in
     let met : AreMet d s.client (reverse before.seen) (reverse after.seen) h.calls = says-met d s.client before after made h.calls same h.are_calls h.kept alone.only_own in
@@ -141,7 +141,7 @@ next-leaves d before after made mode r s next same spare h stood alone =
     (subst (λ (n : ℕ). AreMet d n (reverse before.seen) (reverse after.seen) h.calls) client met) h.talk_ends
 
 pub next-stands : (d : Description) (before after : EvdevView) (made : List CallMade) (mode : Mode) (r s : Reading) (next : Next) → before.description ≡ d → HasSpare d r → Says before after [] made (next_talk d mode r) (next, s)
-    → StandsAt d (reverse before.seen) r → IsAlone before after (record { description = d; reading = s; made = made }) → StandsAt d (reverse after.seen) s
+    → StandsAt d (reverse before.seen) r → IsAlone before after s.client made → StandsAt d (reverse after.seen) s
 next-stands d before after made mode r s next same spare h stood alone =
     stands-with d (reverse after.seen) s (history-still d before after h.calls same h.are_calls stood.history)
     (next-leaves d before after made mode r s next same spare h stood alone).stands
@@ -152,7 +152,7 @@ answer-shows d told s made (Success taken) is history spare h = shows-device (fa
 answer-shows d told s made _ is history spare h = tt
 
 pub next-shows : (d : Description) (before after : EvdevView) (made : List CallMade) (mode : Mode) (r s : Reading) (next : Next) → before.description ≡ d → IsDescription d → HasSpare d r → Says before after [] made (next_talk d mode r) (next, s)
-    → StandsAt d (reverse before.seen) r → IsAlone before after (record { description = d; reading = s; made = made }) → AnswerShows after (record { description = d; reading = s; made = made }) next
+    → StandsAt d (reverse before.seen) r → IsAlone before after s.client made → AnswerShows after (record { description = d; reading = s; made = made }) next
 next-shows d before after made mode r s next same is spare h stood alone =
     let kept : HasSpare d s = says-keeps_next d before after [] made mode r (next, s) same spare h in
     answer-shows d after s made next is (history-still d before after h.calls same h.are_calls stood.history) kept.view

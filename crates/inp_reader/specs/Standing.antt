@@ -15,6 +15,7 @@ use Rattle.inp_model.specs.Step.{client_of, is_same}
 use Rattle.inp_recon.specs.declared.view.View.{View}
 use Rattle.inp_recon.specs.Synchronised.{is_start}
 use Rattle.inp_recon.specs.View.{first_view, view_after_events, view_after_answer}
+use Rattle.inp_reader.specs.declared.call_made.CallMade.{CallMade}
 use Rattle.inp_reader.specs.declared.phase.Phase.{Phase}
 use Rattle.inp_reader.specs.declared.phase.Phase.TheVariants.{Needed}
 use Rattle.inp_reader.specs.declared.started.Started.{Started}
@@ -104,10 +105,9 @@ pub record StandsAt (d : Description) (past : List Step) (r : Reading) : Type 0 
 abbrev pub Stands : EvdevView → ReaderView → Type 0
 Stands told reader = StandsAt reader.description (reverse told.seen) reader.reading
 
--- Nobody else used the client in between: each step that did and entered the history is one of the calls that the reader
--- made last.
-pub record IsAlone (before after : EvdevView) (reader : ReaderView) : Type 0 where
-  pub only_own : (place : ℕ) (x : Step) → length before.seen ≤ place → slice_get after.seen place ≡ Some x → is_use_of reader.reading.client x ≡ true → Contains (places_of reader.made) place
+-- Nobody else used a client in between: each step that did and entered the history is one of these calls.
+pub record IsAlone (before after : EvdevView) (client : ℕ) (made : List CallMade) : Type 0 where
+  pub only_own : (place : ℕ) (x : Step) → length before.seen ≤ place → slice_get after.seen place ≡ Some x → is_use_of client x ≡ true → Contains (places_of made) place
 
 -- a start opened a client
 abbrev pub has_opened : Started → Bool

@@ -110,9 +110,11 @@ impl Reader {
         ensures left { LeavesMade (E.told dev.old) (E.told dev.new) self.new.made }
         ensures agains { (E.told dev.new).agains ≡ (E.told dev.old).agains }
         ensures opened { has_opened result ≡ true
-            → IsAlone (E.told dev.old) (E.told dev.new) self.new → Stands (E.told dev.new) self.new }
+            → IsAlone (E.told dev.old) (E.told dev.new) self.new.reading.client self.new.made
+            → Stands (E.told dev.new) self.new }
         ensures stands { Stands (E.told dev.old) self.old
-            → IsAlone (E.told dev.old) (E.told dev.new) self.new → Stands (E.told dev.new) self.new }
+            → IsAlone (E.told dev.old) (E.told dev.new) self.new.reading.client self.new.made
+            → Stands (E.told dev.new) self.new }
     {
         self.session.asker.made.clear();
         self.session.start(dev, &self.caps)
@@ -160,9 +162,10 @@ impl Reader {
         ensures less { is_idle mode self.old.reading.phase ≡ false → IsLess result
             (effort (E.told dev.new) self.new.reading) (effort (E.told dev.old) self.old.reading) }
         ensures stands { Stands (E.told dev.old) self.old
-            → IsAlone (E.told dev.old) (E.told dev.new) self.new → Stands (E.told dev.new) self.new }
+            → IsAlone (E.told dev.old) (E.told dev.new) self.new.reading.client self.new.made
+            → Stands (E.told dev.new) self.new }
         ensures shows { Stands (E.told dev.old) self.old
-            → IsAlone (E.told dev.old) (E.told dev.new) self.new
+            → IsAlone (E.told dev.old) (E.told dev.new) self.new.reading.client self.new.made
             → AnswerShows (E.told dev.new) self.new result }
     {
         self.session.asker.made.clear();
