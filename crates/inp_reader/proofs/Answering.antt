@@ -1,5 +1,5 @@
 -- What a one-thread device answers to a query, as far as a view is set by it.
-use Rattle.std.proofs.Common.{◌≡◌, List, [], ◌∷◌, refl, sym, ap, subst, ◌∙◌, Bool, true, false, if◌then◌else◌, Option, Some, None, ℤ, ℕ, ◌*◌, ◌+◌, length, take, drop, inl, inr, arith, length-append, zero, suc}
+use Rattle.std.proofs.Common.{◌≡◌, List, [], refl, sym, ap, subst, ◌∙◌, false, Option, Some, None, ℤ, ℕ, ◌*◌, ◌+◌, length, take, drop, inl, inr, arith, length-append, zero, suc}
 use Rattle.std.specs.Prelude.{flat_map}
 use Rattle.std.proofs.lemmas.List.{take-append-le}
 use Rattle.std.specs.List.{range_with_len}
@@ -13,7 +13,7 @@ use Rattle.inp_model.specs.Evdev.{EvdevView, IsCall}
 use Rattle.inp_model.specs.Past.{past_at}
 use Rattle.inp_model.specs.Raw.{raw}
 use Rattle.inp_model.specs.Run.{place_of}
-use Rattle.inp_model.specs.Reply.{Answer, Case, answer_by, accepted, refused, refusals, first_reply, is_accepted, written, IsAnswer, rows, row}
+use Rattle.inp_model.specs.Reply.{Answer, answer_by, accepted, refused, is_accepted, written, IsAnswer, rows, row}
 use Rattle.inp_model.proofs.Refused.{refused-not_accepted}
 use Rattle.inp_recon.specs.declared.view.View.{View}
 use Rattle.inp_recon.specs.View.{view_after_answer, slot_after_reply, cells_after_reply}

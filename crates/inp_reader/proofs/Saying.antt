@@ -1,16 +1,16 @@
 -- Facts on `Says`: one part of a talk after another.
-use Rattle.std.proofs.Common.{◌≡◌, List, [], ◌∷◌, ◌++◌, refl, sym, ap, subst, ◌∙◌, append_assoc, append-nil, Bool, true, false, if◌then◌else◌, Option, Some, None, ℤ, ℕ, ◌*◌, length}
+use Rattle.std.proofs.Common.{◌≡◌, List, [], ◌∷◌, ◌++◌, refl, sym, ap, subst, ◌∙◌, append_assoc, append-nil, Bool, true, false, if◌then◌else◌, Option, Some, None, ℤ, ◌*◌, length}
 use Rattle.std.specs.Prelude.{Result, Ok, Err, is_some}
 use Rattle.inp_model.specs.declared.step.Step.{Step}
 use Rattle.inp_model.specs.declared.reply.Reply.{Reply}
 use Rattle.inp_model.specs.Description.{Description}
 use Rattle.inp_model.specs.Evdev.{EvdevView, IsCall}
-use Rattle.inp_model.specs.Reply.{Answer, is_accepted, written}
+use Rattle.inp_model.specs.Reply.{Answer, is_accepted}
 use Rattle.inp_model.specs.Run.{Call}
 use Rattle.inp_recon.specs.declared.view.View.{View}
 use Rattle.inp_recon.specs.View.{view_after_answer}
 use Rattle.inp_reader.specs.declared.call_made.CallMade.{CallMade}
-use Rattle.inp_reader.specs.Talk.{Talk, finish, ask, and_then, LeadsTo, EndsWith}
+use Rattle.inp_reader.specs.Talk.{Talk, finish, ask, and_then, LeadsTo}
 use Rattle.inp_reader.specs.Asking.{Asks, asked_result}
 use Rattle.inp_reader.specs.Reading.{ask_each, only_if}
 use Rattle.inp_model.specs.Leaves.{AreCalls}

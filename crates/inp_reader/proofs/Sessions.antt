@@ -1,5 +1,5 @@
 -- Facts on `Says` for the talks of `start` and `next`.
-use Rattle.std.proofs.Common.{◌≡◌, ℕ, List, [], ◌∷◌, ◌++◌, refl, sym, ap, subst, ◌∙◌, append-nil, Bool, true, false, if◌then◌else◌}
+use Rattle.std.proofs.Common.{◌≡◌, ℕ, List, [], ◌∷◌, ◌++◌, refl, sym, ap, subst, ◌∙◌, Bool, true, false, if◌then◌else◌}
 use Rattle.std.specs.Prelude.{Result, Ok, Err}
 use Rattle.inp_model.specs.declared.event.Event.{Event}
 use Rattle.inp_model.specs.declared.taken.Taken.{Taken}
@@ -18,7 +18,7 @@ use Rattle.inp_reader.specs.declared.next.Next.{Next}
 use Rattle.inp_reader.specs.declared.started.Started.{Started}
 use Rattle.inp_reader.specs.declared.started.Started.TheVariants.{Opened as StartedOn}
 use Rattle.inp_reader.specs.Talk.{Talk, finish, ask, and_then}
-use Rattle.inp_reader.specs.Asking.{Asks, Reads}
+use Rattle.inp_reader.specs.Asking.{Reads}
 use Rattle.inp_reader.specs.Reading.{Reading, ask_each, read_or_hand_out, read_talk, after_read, hand_out, stop_of, start_stop_of, after_open, after_queries, start_talk, go_on, go_on_after, after_full_sync, after_failed_sync}
 use Rattle.inp_reader.specs.Says.{Says, kept_of}
 use Rattle.inp_reader.proofs.Saying.{says-nothing, says-then, says-call}

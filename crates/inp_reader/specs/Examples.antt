@@ -1,25 +1,25 @@
 -- Short histories, worked out by hand: what a reader asks and answers on a one-thread device.
 use Rattle.std.specs.Prelude.{ℕ, zero, suc, ◌≡◌, ℤ, pos, negsuc, Bool, true, false, not, if◌then◌else◌, List, [], ◌∷◌, ◌++◌, replicate, reverse}
-use Rattle.inp_model.specs.declared.event.TheConstants.{EV_SYN, EV_ABS}
+use Rattle.inp_model.specs.declared.event.TheConstants.{EV_ABS}
 use Rattle.inp_model.specs.declared.multi_touch.TheConstants.{ABS_MT_POSITION_X, ABS_MT_TRACKING_ID}
 use Rattle.inp_model.specs.declared.event.Event.{Event}
 use Rattle.inp_model.specs.declared.step.Step.{Step}
 use Rattle.inp_model.specs.declared.step.Step.TheVariants.{Inject, Open, Close, Read, Discard, GetKeys, GetAxis, Revoke}
 use Rattle.inp_model.specs.declared.reply.Reply.TheVariants.{Opened, Took, Discarded, Axis, Refused as StepRefused}
-use Rattle.inp_model.specs.declared.reply.Refusal.TheVariants.{LogFull, NoDevice as Revoked, BadClient}
+use Rattle.inp_model.specs.declared.reply.Refusal.TheVariants.{LogFull}
 use Rattle.inp_model.specs.Description.{Description, one_key, no_info}
 use Rattle.inp_model.specs.Event.{syn_dropped}
 use Rattle.inp_model.specs.Reply.{answer, past_after}
 use Rattle.inp_model.specs.Run.{Call}
-use Rattle.inp_model.specs.Examples.{key, report, at, stroke}
+use Rattle.inp_model.specs.Examples.{report, at, stroke}
 use Rattle.inp_recon.specs.View.{first_view}
 use Rattle.inp_reader.specs.declared.mode.Mode.{Mode}
 use Rattle.inp_reader.specs.declared.mode.Mode.TheVariants.{Normal, Sync as Synchronising}
 use Rattle.inp_reader.specs.declared.phase.Phase.TheVariants.{Plain, Needed}
 use Rattle.inp_reader.specs.declared.started.Started.{Started}
-use Rattle.inp_reader.specs.declared.started.Started.TheVariants.{Opened as StartedOn, Refused}
+use Rattle.inp_reader.specs.declared.started.Started.TheVariants.{Refused}
 use Rattle.inp_reader.specs.declared.next.Next.{Next}
-use Rattle.inp_reader.specs.declared.next.Next.TheVariants.{Success, Dropped, Sync, Again, Synced, NoDevice, Closed}
+use Rattle.inp_reader.specs.declared.next.Next.TheVariants.{Dropped, Sync, Again, Synced, NoDevice, Closed}
 use Rattle.inp_reader.specs.declared.call_made.CallMade.{CallMade}
 use Rattle.inp_reader.specs.Talk.{Talk, finish, ask}
 use Rattle.inp_reader.specs.Reading.{Reading, start_talk, next_talk}

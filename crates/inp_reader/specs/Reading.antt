@@ -1,5 +1,5 @@
 -- What a reader keeps, and what `start` and `next` ask and answer (docs/RULES.md, "The reader").
-use Rattle.std.specs.Prelude.{ℕ, ◌+◌, ◌-◌, Bool, true, false, ◌&&◌, not, if◌then◌else◌, nat_eq, nat_lt, List, [], ◌∷◌, ◌++◌, map, filter, Option, Some, None, Result, Ok, Err}
+use Rattle.std.specs.Prelude.{ℕ, ◌+◌, ◌-◌, Bool, ◌&&◌, if◌then◌else◌, nat_eq, nat_lt, List, [], ◌∷◌, ◌++◌, map, filter, Result, Ok, Err}
 use Rattle.std.specs.List.{range_with_len}
 use Rattle.inp_model.specs.declared.event.TheConstants.{EV_SYN, EV_KEY, EV_ABS, EV_SW, EV_LED, ABS_MAX, SYN_DROPPED}
 use Rattle.inp_model.specs.declared.multi_touch.TheConstants.{ABS_MT_SLOT, ABS_MT_TOOL_Y}
@@ -9,7 +9,6 @@ use Rattle.inp_model.specs.declared.step.Step.{Step}
 use Rattle.inp_model.specs.declared.step.Step.TheVariants.{Open, Read, Discard, GetKeys, GetSwitches, GetLeds, GetAxis, SyncSlots}
 use Rattle.inp_model.specs.declared.reply.Reply.{Reply}
 use Rattle.inp_model.specs.declared.reply.Reply.TheVariants.{Opened, Again as NothingVisible, Refused as StepRefused}
-use Rattle.inp_model.specs.declared.reply.Refusal.{Refusal}
 use Rattle.inp_model.specs.declared.reply.Refusal.TheVariants.{BadClient, NoDevice as Revoked, LogFull}
 use Rattle.inp_model.specs.Description.{Description, has_kind, supports}
 use Rattle.inp_model.specs.Reply.{Answer, is_accepted}

@@ -1,4 +1,4 @@
-use Rattle.std.proofs.Common.{arith, sym, ◌∙◌, ap, append_assoc, ◌++◌, ◌+◌, ◌-◌}
+use Rattle.std.proofs.Common.{arith, sym, ◌∙◌, ap, ◌++◌, ◌+◌, ◌-◌}
 use Rattle.inp_model.specs.declared.step.Step.TheVariants.{GetAxis}
 use Rattle.inp_reader.specs.Reading.{axis_queries, axes_among, only_if}
 use Rattle.inp_reader.proofs.Axes.{axis_queries-next, axis_queries-behind, axis_queries-none}

@@ -1,4 +1,4 @@
-use Rattle.std.proofs.Common.{◌∙◌, arith, refl, ◌≡◌, ◌<◌, length}
+use Rattle.std.proofs.Common.{◌∙◌, arith, refl}
 use Rattle.inp_reader.proofs.Synthesising.{taken-none, taken-more}
 use Rattle.inp_reader.proofs.event_list.EventList.apply.Goals as goal
 

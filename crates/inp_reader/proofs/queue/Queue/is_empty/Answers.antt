@@ -1,5 +1,4 @@
-use Rattle.std.proofs.Common.{rules, ap, sym, ◌∙◌, arith, ◌≡◌, ◌≤◌, nat_eq, IsTrue, true, []}
-use Rattle.std.proofs.lemmas.Bool.Decides.{nat_tests}
+use Rattle.std.proofs.Common.{sym, ◌∙◌, arith}
 use Rattle.inp_reader.proofs.Queues.{part-empty, no_part, is_same}
 use Rattle.inp_reader.proofs.queue.Queue.is_empty.Goals as goal
 

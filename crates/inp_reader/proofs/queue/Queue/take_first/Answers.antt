@@ -1,4 +1,4 @@
-use Rattle.std.proofs.Common.{◌∙◌, sym, arith, ◌<◌, ◌≡◌, false, nat_eq}
+use Rattle.std.proofs.Common.{◌∙◌, sym, arith}
 use Rattle.std.proofs.lemmas.Bool.Decides.{nat_tests}
 use Rattle.inp_reader.proofs.Queues.{part-first}
 use Rattle.inp_reader.proofs.queue.Queue.take_first.Goals as goal

@@ -1,4 +1,4 @@
-use Rattle.std.proofs.Common.{◌∙◌, sym, arith, ◌<◌, length, ◌≡◌}
+use Rattle.std.proofs.Common.{◌∙◌, sym, arith, ◌<◌, length}
 use Rattle.std.proofs.lemmas.Bool.Decides.{nat_tests}
 use Rattle.inp_reader.proofs.Queues.{rest-first}
 use Rattle.inp_reader.proofs.synthesis.Synthesis.take_first.Goals as goal
