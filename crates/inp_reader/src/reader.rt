@@ -5,7 +5,7 @@ ghost use Rattle.inp_reader.specs.declared.phase.Phase.TheVariants.{Plain};
 ghost use Rattle.inp_reader.specs.Says.{Says};
 ghost use Rattle.inp_reader.specs.Leaving.{LeavesMade, agains_after_next};
 ghost use Rattle.inp_reader.specs.Effort.{effort, IsLess, is_idle};
-ghost use Rattle.inp_reader.specs.Standing.{Stands, IsAlone, has_opened};
+ghost use Rattle.inp_reader.specs.Standing.{Stands, IsAlone, is_needed, has_opened};
 ghost use Rattle.inp_reader.specs.Showing.{AnswerShows};
 ghost use Rattle.inp_reader.specs.Reading.{start_talk, next_talk, with_sync_needed};
 
@@ -159,6 +159,8 @@ impl Reader {
         ensures reader { self.new.description ≡ self.old.description }
         ensures left { LeavesMade (E.told dev.old) (E.told dev.new) self.new.made }
         ensures agains { (E.told dev.new).agains ≡ agains_after_next result (E.told dev.old).agains }
+        ensures few { length self.new.made ≤ 55 }
+        ensures one { is_needed self.old.reading.phase ≡ false → length self.new.made ≤ 1 }
         ensures less { is_idle mode self.old.reading.phase ≡ false → IsLess result
             (effort (E.told dev.new) self.new.reading) (effort (E.told dev.old) self.old.reading) }
         ensures stands { Stands (E.told dev.old) self.old

@@ -1,10 +1,11 @@
 //! What a reader keeps, and what it does.
-ghost use Rattle.std.specs.Prelude.{◌≡◌, ◌≤◌, ◌<◌, ◌+◌, [], ◌++◌, length};
+ghost use Rattle.std.specs.Prelude.{◌≡◌, ◌≤◌, ◌<◌, ◌+◌, false, [], ◌++◌, length};
 ghost use Rattle.inp_model.specs.declared.step.Step.TheVariants.{Read};
 ghost use Rattle.inp_reader.specs.Asking.{Reads, asked_result};
 ghost use Rattle.inp_reader.specs.Reading.{ask_each, queries, start_talk, after_queries, after_read, read_talk, hand_out, handing, as_plain, after_sync, sync_talk, go_on, go_on_after, plain_talk, next_talk, with_sync_needed};
 ghost use Rattle.inp_reader.specs.Says.{Says, kept_of};
 ghost use Rattle.inp_reader.specs.Session.{reading_of, IsSession};
+ghost use Rattle.inp_reader.specs.Standing.{is_needed};
 ghost use Rattle.inp_reader.specs.Talk.{ask, finish, and_then};
 
 use crate::asker::Asker;
@@ -226,6 +227,8 @@ impl Session {
             (next_talk caps.now mode (reading_of self.old)) (result, reading_of self.new) }
         ensures session { IsSession caps.now (E.told dev.new) self.new }
         ensures few { length self.new.asker.made ≤ length self.old.asker.made + 55 }
+        ensures one { is_needed self.old.phase ≡ false
+            → length self.new.asker.made ≤ length self.old.asker.made + 1 }
     {
         match self.phase {
             Phase::Plain => self.next_in_plain(dev, caps, mode),
