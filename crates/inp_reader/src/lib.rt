@@ -14,14 +14,22 @@
 //! (`specs/Laws.antt`); and the views that a reader keeps are such that this holds (`specs/KeptViews.antt`).
 //! [`examples`] shows what these definitions compute on short histories.
 //!
-//! What follows from the calls is said beside it. `specs/Leaving.antt`: they are a legal run of the history that is seen
-//! afterwards, the caller's own places grow by theirs, and its count of answers Again rises where `next` answers so.
-//! `specs/Standing.antt`: a reader *stands* at the end of a history where, since its client was opened or last removed what
-//! was visible, it asked for the whole state once and then read; what it handed out and what it has queued are all that it
-//! read, in order; and its view is what the answers and the events that it handed out make of a new view. It stands after a
-//! start that opened a client, and each later call keeps it so, as long as nobody else uses its client.
-//! `specs/Showing.antt`: at each report that it hands out its view is then the device's state at the end of that frame,
-//! where its client could follow the device up to there.
+//! What follows from the calls is said beside it:
+//!
+//! - `specs/Leaving.antt`: what they leave, in one record (`LeavesMade`). They are a legal run of the history that is seen
+//!   afterwards; the device and what was seen before stay, the caller's own places grow by theirs, and a history of
+//!   accepted steps stays one. The count of answers Again rises where `next` answers so.
+//! - `specs/Effort.antt`: an answer of `next` leaves less to do, by which a caller's loop ends.
+//! - `specs/Standing.antt`: a reader *stands* at the end of a history of accepted steps where, since its client was opened
+//!   or last removed what was visible, it asked for the whole state once and then read; what it handed out and what it has
+//!   queued are all that it read, in order; and its view is what the answers and the events that it handed out make of a new
+//!   view. It stands after a start that opened a client, and each later call keeps it so, as long as nobody else uses its
+//!   client.
+//! - `specs/Showing.antt`: at each report that it hands out its view is then the device's state at the end of that frame,
+//!   where its client could follow the device up to there.
+//!
+//! For the crates above there are lemmas of two calls, one after the other: what both leave (`leaves_made-then`,
+//! `proofs/Leavings.antt`), and that nobody else used the client (`proofs/Alones.antt`).
 //!
 //! A reader takes all its memory when it is made; only the open of a start may meet want of memory. It makes at most 64
 //! calls in a `start` or a `next`, one but for a synchronisation.
