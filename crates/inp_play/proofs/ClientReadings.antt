@@ -1,5 +1,5 @@
 -- Where a client's reader stands in the history of its device, and what an event shows that it hands out.
-use Rattle.std.proofs.Common.{◌≡◌, ◌≤◌, ◌<◌, ◌⊎◌, inl, inr, ℕ, suc, Bool, true, false, if◌then◌else◌, List, [], ◌∷◌, ◌++◌, length, map, take, reverse, refl, sym, ap, subst, ◌∙◌, arith, append-nil, Some, None}
+use Rattle.std.proofs.Common.{◌≡◌, ◌≤◌, ◌<◌, ◌⊎◌, inl, inr, ℕ, suc, Bool, true, false, if◌then◌else◌, List, [], ◌∷◌, ◌++◌, length, map, take, reverse, refl, sym, ap, subst, ◌∙◌, arith, append-nil, Option, Some, None}
 use Rattle.std.specs.Prelude.{Result, Ok, Err, slice_get}
 use Rattle.std.proofs.lemmas.Bool.{true≢false, cond-true, cond-false}
 use Rattle.std.proofs.lemmas.List.{length-map, length-reverse, length-take}
@@ -45,7 +45,12 @@ use Rattle.inp_reader.proofs.Showings.{handed-is-taken, agree-then}
 use Rattle.inp_reader.proofs.Sparing.{keeps-next, keeps-start}
 use Rattle.inp_reader.proofs.Standings.{IsHandedOut, HandsOut, Leaves, met-opens, met-unused, in-step-kept, stands-after-next, stands-queried, open-step, open-opens}
 use Rattle.inp_script.proofs.LastAgain.{finish-only, and_then-parts}
-use Rattle.inp_play.specs.JobViews.{AgreesIn, ShowsAt}
+use Rattle.inp_script.specs.declared.sight.Sight.{Sight}
+use Rattle.inp_script.specs.Sight.{call_sight}
+use Rattle.inp_script.proofs.Told.{noted_sight}
+use Rattle.inp_play.specs.JobViews.{LastRead, AgreesIn, ShowsAt, is_read_as, read_after_sight}
+use Rattle.inp_play.proofs.AtHand.{AreAtHand, hand-kept, met-took}
+use Rattle.inp_play.proofs.LastReads.{read_after-other}
 use Rattle.inp_play.proofs.Owners.{opened-exact, not-refused, past-next}
 use Rattle.inp_play.proofs.OwnUses.{names-open}
 use Rattle.inp_play.proofs.Reports.{HasNoOthers, no-others-at, agrees-had, sized-at, shows-later, whole-past, history-at, place_behind, AreToCome, to-come-next, call-met, calls-met}
@@ -62,7 +67,7 @@ agrees-back d v w a = record {
   slot = λ some. sym (a.slot some);
 }
 
-handed-shows : (d : Description) (past : List Step) (r : Reading) (t : Taken) → IsHistory d past → IsSpare d r.view → IsHandedOut d past r t → ShowsAt d past r.client t r.view
+handed-shows : (d : Description) (past : List Step) (r : Reading) (t : Taken) → IsHistory d past → IsSpare d r.view → IsHandedOut d past r t → ShowsAt d past r.client (Some (index_handed_out d past r)) t r.view
 handed-shows d past r t history spare out =
     let i : ℕ = index_handed_out d past r in
     let is : slice_get (map taken_of (took d past r.client)) i ≡ Some t = handed-is-taken d past r t out history in
@@ -70,6 +75,7 @@ handed-shows d past r t history spare out =
     let bare : HasNoOthers d r.view = record { keys = spare.keys; switches = spare.switches; leds = spare.leds } in
     record {
       index = i;
+      is_own = refl;
       is_taken = is;
       agrees = λ synchronised.
           agrees-back d (view_at d past r.client i) r.view
@@ -206,23 +212,24 @@ module _ (d : Description) (h : List Step) (Q : ℕ → Type 0) where
     pub stands : (Q r.client × StandsAt d (past_at h least) r) ⊎ IsUnopened r
 
   -- what an event shows that it hands out
-  abbrev pub HandsAt : Next → Reading → Type 0
-  HandsAt (Success taken) r = ShowsAt d (reverse h) r.client taken r.view
-  HandsAt _ r = Unit {0}
+  abbrev pub HandsAt : ℕ → Next → Reading → Type 0
+  HandsAt least (Success taken) r = ShowsAt d (reverse h) r.client (Some (index_handed_out d (past_at h least) r)) taken r.view
+  HandsAt least _ r = Unit {0}
 
   pub record NextReads (least : ℕ) (next : Next) (r : Reading) : Type 0 where
     pub reading : IsReadingAt least r
-    pub hands : HandsAt next r
+    pub hands : HandsAt least next r
 
-  hands-later : (least : ℕ) (next : Next) (r : Reading) → IsHistory d (reverse h) → IsSpare d r.view → HandsOut d (past_at h least) next r → HandsAt next r
+  hands-later : (least : ℕ) (next : Next) (r : Reading) → IsHistory d (reverse h) → IsSpare d r.view → HandsOut d (past_at h least) next r → HandsAt least next r
   hands-later least (Success taken) r history spare out =
-      subst (λ (p : List Step). ShowsAt d p r.client taken r.view) (sym (whole-past h least))
-      (shows-later d _ (past_at h least) r.client taken r.view (handed-shows d (past_at h least) r taken (history-at d h least history) spare out))
+      let own : Option ℕ = Some (index_handed_out d (past_at h least) r) in
+      subst (λ (p : List Step). ShowsAt d p r.client own taken r.view) (sym (whole-past h least))
+      (shows-later d _ (past_at h least) r.client own taken r.view (handed-shows d (past_at h least) r taken (history-at d h least history) spare out))
   hands-later least _ r history spare out = tt
 
-  hands-none : (next : Next) (r : Reading) → HandsNone next → HandsAt next r
-  hands-none (Success taken) r none = absurd none
-  hands-none _ r none = tt
+  hands-none : (least : ℕ) (next : Next) (r : Reading) → HandsNone next → HandsAt least next r
+  hands-none least (Success taken) r none = absurd none
+  hands-none least _ r none = tt
 
   pub next-reads : (least : ℕ) (mode : Mode) (r s : Reading) (next : Next) (calls more : List Call) → IsHistory d (reverse h) → length h < NO_CLIENT → AreToCome d h Q least (calls ++ more) → IsReadingAt least r → EndsWith (next_talk d mode r) calls (next, s) → NextReads (place_behind least calls) next s
   next-reads least mode r s next calls more history short c reads ends = by reads.stands
@@ -245,7 +252,7 @@ module _ (d : Description) (h : List Step) (Q : ℕ → Type 0) where
           }
       by (inr u) =
           let o : StaysUnopened (next, s) = unopened-in d mode r.phase r calls (next, s) u ends (shut-calls d h least calls short legal) in
-          record { reading = record { spare = spare; stands = inr o.unopened }; hands = hands-none next s o.none }
+          record { reading = record { spare = spare; stands = inr o.unopened }; hands = hands-none (place_behind least calls) next s o.none }
 
   -- a call that is no use of its client leaves it
   pub quiet-reads : (least : ℕ) (r : Reading) (call : Call) (more : List Call) → AreToCome d h Q least (call ∷ more) → is_use_of r.client call.step ≡ false → IsReadingAt least r → IsReadingAt (next_place call.answer.reply) r
@@ -265,6 +272,17 @@ module _ (d : Description) (h : List Step) (Q : ℕ → Type 0) where
             },
           )
       by (inr u) = inr u
+
+  -- nor does it change what is at hand
+  pub quiet-hand : (least : ℕ) (r : Reading) (call : Call) (more : List Call) (last : Option LastRead) → AreToCome d h Q least (call ∷ more) → is_use_of r.client call.step ≡ false → IsReadingAt least r → AreAtHand d h least r.client last r.queue → AreAtHand d h (next_place call.answer.reply) r.client last r.queue
+  quiet-hand least r call more last c unused reads hand = by reads.stands
+    where
+      at : ℕ
+      at = next_place call.answer.reply
+
+      by : (Q r.client × StandsAt d (past_at h least) r) ⊎ IsUnopened r → AreAtHand d h at r.client last r.queue
+      by (inl s) = hand-kept d h least at r.client last r.queue (met-took d r.client (past_at h least) (past_at h at) call (call-met d h Q r.client least call more c s.0) unused) hand
+      by (inr u) = inl u.queue
 
   -- what an accepted Open leaves: a client that did nothing yet
   opened-stands : (least at client ring : ℕ) (r : Reading) (call : Call) (calls more : List Call) (asked : Result View Reply) → AreToCome d h Q least (call ∷ calls ++ more) → call.answer.reply ≡ Opened at client ring → HasSpare d r → EndsWith (ask_each (queries d client) r.view) calls asked
@@ -319,3 +337,34 @@ module _ (d : Description) (h : List Step) (Q : ℕ → Type 0) where
           let same : r ≡ s = ap (λ (o : Started × Reading). o.1) f.1 in
           let quiet : IsReadingAt n r = quiet-reads least r call (calls ++ more) c (ap (λ (x : Step). is_use_of r.client x) ends.0) reads in
           subst (IsReadingAt (place_behind n calls)) same (subst (λ (cs : List Call). IsReadingAt (place_behind n cs) r) (sym f.0) quiet)
+
+  no-queue : (client ring : ℕ) (r : Reading) (asked : Result View Reply) → (after_queries client ring r asked).1.queue ≡ []
+  no-queue client ring r (Ok view) = refl
+  no-queue client ring r (Err reply) = refl
+
+  -- a start leaves nothing at hand, or all as it was
+  pub start-hand : (least : ℕ) (r s : Reading) (started : Started) (calls more : List Call) (last : ℕ → Option LastRead) → AreToCome d h Q least (calls ++ more) → IsReadingAt least r → EndsWith (start_talk d r) calls (started, s)
+      → AreAtHand d h least r.client (last r.client) r.queue → AreAtHand d h (place_behind least calls) s.client (read_after_sight s.client (last s.client) (noted_sight calls)) s.queue
+  unfolding LeadsTo start_talk read_after_sight
+  start-hand least r s started [] more last c reads ends hand = absurd cc
+  start-hand least r s started (call ∷ calls) more last c reads ends hand = by call.answer.reply ends.1
+    where
+      n : ℕ
+      n = next_place call.answer.reply
+
+      by : (reply : Reply) → EndsWith (after_open d r reply) calls (started, s) → AreAtHand d h (place_behind n calls) s.client (read_after_sight s.client (last s.client) (noted_sight (call ∷ calls))) s.queue
+      by (Opened at client ring) e =
+          let next : Result View Reply → Talk (Started × Reading) = λ asked. finish (after_queries client ring r asked) in
+          let p = and_then-parts (ask_each (queries d client) r.view) next calls (started, s) e in
+          let f = finish-only (after_queries client ring r p.mid) (started, s) p.second p.second_ends in
+          inl (ap (λ (o : Started × Reading). o.1.queue) (sym f.1) ∙ no-queue client ring r p.mid)
+      by reply e =
+          let f = finish-only (start_stop_of reply, r) (started, s) calls e in
+          let same : r ≡ s = ap (λ (o : Started × Reading). o.1) f.1 in
+          let quiet : AreAtHand d h n r.client (last r.client) r.queue = quiet-hand least r call (calls ++ more) (last r.client) c (ap (λ (x : Step). is_use_of r.client x) ends.0) reads hand in
+          let other : is_read_as r.client call.step ≡ false = ap (λ (x : Step). is_read_as r.client x) ends.0 in
+          let told : read_after_sight r.client (last r.client) (noted_sight (call ∷ [])) ≡ last r.client =
+          ap (λ (es : List Sight). read_after_sight r.client (last r.client) es) (append-nil (call_sight call.step call.answer.reply)) ∙ read_after-other r.client (last r.client) call.step call.answer.reply other in
+          subst (λ (x : Reading). AreAtHand d h (place_behind n calls) x.client (read_after_sight x.client (last x.client) (noted_sight (call ∷ calls))) x.queue) same
+          (subst (λ (cs : List Call). AreAtHand d h (place_behind n cs) r.client (read_after_sight r.client (last r.client) (noted_sight (call ∷ cs))) r.queue) (sym f.0)
+          (subst (λ (o : Option LastRead). AreAtHand d h n r.client o r.queue) (sym told) quiet))

@@ -1,5 +1,6 @@
 -- The view of a client's job at each report that it took.
 use Rattle.std.proofs.Common.{◌≡◌, ◌<◌, ◌⊎◌, inl, inr, ℕ, zero, suc, Bool, true, false, ◌&&◌, if◌then◌else◌, nat_eq, nat_le, List, [], ◌∷◌, ◌++◌, length, map, reverse, refl, sym, ap, subst, ◌∙◌, arith, append-nil, append_assoc, Option, Some, None}
+use Rattle.std.specs.Prelude.{slice_get}
 use Rattle.std.proofs.lemmas.Bool.{true≢false}
 use Rattle.inp_model.specs.declared.event.Event.{Event}
 use Rattle.inp_model.specs.declared.event.TheConstants.{EV_SYN, SYN_DROPPED, SYN_REPORT}
@@ -11,7 +12,8 @@ use Rattle.inp_model.specs.declared.reply.Reply.TheVariants.{Again as NothingVis
 use Rattle.inp_model.specs.Description.{Description}
 use Rattle.inp_model.specs.Event.{is_report}
 use Rattle.inp_model.specs.Past.{past_at}
-use Rattle.inp_model.specs.Reply.{Answer, IsAnswer, accepted}
+use Rattle.inp_model.specs.Queue.{took}
+use Rattle.inp_model.specs.Reply.{Answer, IsAnswer, accepted, taken_of}
 use Rattle.inp_model.specs.Run.{Call, HasPlace, place_of, next_place}
 use Rattle.inp_model.specs.Step.{client_of, is_same, is_open_step}
 use Rattle.inp_actors.specs.declared.command.Command.{Command}
@@ -28,8 +30,10 @@ use Rattle.inp_reader.specs.declared.next.Next.TheVariants.{Success, Dropped, Sy
 use Rattle.inp_reader.specs.declared.reader.TheConstants.{NO_CLIENT}
 use Rattle.inp_reader.specs.declared.started.Started.{Started}
 use Rattle.inp_reader.specs.Reading.{Reading, is_dropped, start_talk, next_talk, with_sync_needed}
+use Rattle.inp_reader.specs.Showing.{index_handed_out}
 use Rattle.inp_reader.specs.Standing.{is_use, is_use_of, StandsAt}
 use Rattle.inp_reader.specs.Talk.{Talk, finish, LeadsTo, EndsWith}
+use Rattle.inp_reader.proofs.SayingStands.{client-in}
 use Rattle.inp_reader.proofs.Sparing.{new-spare}
 use Rattle.inp_script.specs.declared.sight.Sight.{Sight}
 use Rattle.inp_script.specs.declared.sight.Sight.TheVariants.{Took, Made, Again as AgainSight}
@@ -47,24 +51,34 @@ use Rattle.inp_script.proofs.LastAgain.{finish-only, and_then-parts}
 use Rattle.inp_script.proofs.LineFolds.{IsClientFold, folds-on, start_job-folds, IsSilent, no_events, silent-fold}
 use Rattle.inp_script.proofs.LineTold.{memory_there}
 use Rattle.inp_script.proofs.Told.{noted-back, noted_sight}
-use Rattle.inp_play.specs.JobViews.{client_after_sight, reads_as, folded_view, sight_view, ShowsAt, IsSeenAt}
-use Rattle.inp_play.proofs.ClientReadings.{IsUnopened, IsReadingAt, NextReads, HandsAt, next-reads, start-reads, quiet-reads, legal-first}
+use Rattle.inp_play.specs.JobViews.{LastRead, client_after_sight, reads_as, is_read_as, read_after_sight, index_in_history, folded_view, sight_view, ShowsAt, IsSeenAt}
+use Rattle.inp_play.proofs.AtHand.{IsOwnEvent, AreAtHand, IsRest, hand-first, hand-took, hand-index, hand-taken, taken-later, index-took, next-hand}
+use Rattle.inp_play.proofs.ClientReadings.{IsUnopened, IsReadingAt, NextReads, HandsAt, next-reads, start-reads, quiet-reads, quiet-hand, start-hand, legal-first}
+use Rattle.inp_play.proofs.Folded.{legal-placed}
 use Rattle.inp_play.proofs.JobClients.{Drops, last_opened, next-names, start-names}
-use Rattle.inp_play.proofs.JobLosses.{legal-placed}
+use Rattle.inp_play.proofs.LastReads.{read_after-append, read_after-took, read_after-made, read_after-again, read_after-told, unused-unread}
 use Rattle.inp_play.proofs.Listing.{eq_same}
+use Rattle.inp_play.proofs.QueueSources.{with_handed, next-sources}
 use Rattle.inp_play.proofs.Reports.{AtEach, at_each-append, at_each-call, at_each-again, at_each-noted, place_behind, place_behind-append, AreToCome, to-come-behind}
 use Rattle.inp_play.proofs.TapViews.{client_after-append, client_after-none, client_after-taking, client_after-kept}
 
--- what is promised of an event that a client's job took
-abbrev pub ClientSaw : Description → List Step → List Sight → Taken → Type 0
-ClientSaw d h sight taken = is_report taken.event ≡ true → IsSeenAt d h Client sight taken
+-- What is promised of an event that a client's job took: it is the one of its own index, and at a report the view is shown.
+pub record ClientSaw (d : Description) (h : List Step) (sight : List Sight) (taken : Taken) : Type 0 where
+  pub own : IsOwnEvent d h sight taken
+  pub seen : is_report taken.event ≡ true → IsSeenAt d h Client sight taken
+
+-- the events that a job's reader has at hand, by the last read that its sight tells of
+abbrev pub HasAtHand : Description → List Step → ℕ → Job → List Taken → Type 0
+HasAtHand d h least j queue = AreAtHand d h least j.reading.client (read_after_sight j.reading.client None j.sight) queue
 
 -- A client's job before the calls that are to come: its view is the fold of its sight, it reads as the client that it opened
--- last, its reader stands so in the history, and at each report its view was that of its client.
+-- last, its reader stands so in the history, what it has at hand is the rest of its last read, and at each report its view
+-- was that of its client.
 pub record IsClientJob (d : Description) (h : List Step) (Q : ℕ → Type 0) (least : ℕ) (j : Job) : Type 0 where
   pub reading : IsReadingAt d h Q least j.reading
   pub folded : client_fold d h (settled (first_view d)) j.sight ≡ settled j.reading.view
   pub reads : reads_as j.sight ≡ j.reading.client
+  pub hand : HasAtHand d h least j j.reading.queue
   pub seen : AtEach (ClientSaw d h) [] j.sight
 
 -- a loss is no report
@@ -103,30 +117,70 @@ module _ (d : Description) (h : List Step) (Q : ℕ → Type 0) (history : IsHis
 
   -- One entry more
 
-  took-seen : (j : Job) (taken : Taken) → client_fold d h (settled (first_view d)) (j.sight ++ Took taken ∷ []) ≡ settled j.reading.view → reads_as j.sight ≡ j.reading.client → ShowsAt d (reverse h) j.reading.client taken j.reading.view → ClientSaw d h (j.sight ++ Took taken ∷ []) taken
+  -- the index of an event that was handed out
+  took-index : (least : ℕ) (j : Job) (taken : Taken) → reads_as j.sight ≡ j.reading.client → IsRest d h least j.reading.client (read_after_sight j.reading.client None j.sight) (taken ∷ j.reading.queue)
+      → index_in_history d h (j.sight ++ Took taken ∷ []) ≡ Some (index_handed_out d (past_at h least) j.reading)
   unfolding client_after_sight
-  took-seen j taken folded reads shows = λ report.
-      let now : reads_as (j.sight ++ Took taken ∷ []) ≡ j.reading.client = client_after-append NO_CLIENT j.sight (Took taken ∷ []) ∙ reads in
-      let view : sight_view Client d h (j.sight ++ Took taken ∷ []) ≡ j.reading.view = ap folded_view folded in
-      subst (λ (n : ℕ). ShowsAt d (reverse h) n taken (sight_view Client d h (j.sight ++ Took taken ∷ []))) (sym now)
-      (subst (λ (v : View). ShowsAt d (reverse h) j.reading.client taken v) (sym view) shows)
+  took-index least j taken reads rest =
+      let client : ℕ = j.reading.client in
+      index-took d h client j.sight taken (client_after-append NO_CLIENT j.sight (Took taken ∷ []) ∙ reads)
+      ∙ hand-index d h least client (read_after_sight client None j.sight) taken j.reading.queue rest
 
-  took-job : (least : ℕ) (j : Job) (taken : Taken) → IsReadingAt d h Q least j.reading → client_fold d h (settled (first_view d)) (j.sight ++ Took taken ∷ []) ≡ settled j.reading.view → reads_as j.sight ≡ j.reading.client → AtEach (ClientSaw d h) [] j.sight → ClientSaw d h (j.sight ++ Took taken ∷ []) taken
+  took-own : (least : ℕ) (j : Job) (taken : Taken) → reads_as j.sight ≡ j.reading.client → IsRest d h least j.reading.client (read_after_sight j.reading.client None j.sight) (taken ∷ j.reading.queue) → IsOwnEvent d h (j.sight ++ Took taken ∷ []) taken
+  unfolding client_after_sight
+  took-own least j taken reads rest =
+      let client : ℕ = j.reading.client in
+      let i : ℕ = index_handed_out d (past_at h least) j.reading in
+      let now : reads_as (j.sight ++ Took taken ∷ []) ≡ client = client_after-append NO_CLIENT j.sight (Took taken ∷ []) ∙ reads in
+      let is : slice_get (map taken_of (took d (reverse h) client)) i ≡ Some taken =
+      taken-later d h least client i taken (hand-taken d h least client (read_after_sight client None j.sight) taken j.reading.queue rest) in
+      record {
+        index = i;
+        is_own = took-index least j taken reads rest;
+        is_taken = subst (λ (n : ℕ). slice_get (map taken_of (took d (reverse h) n)) i ≡ Some taken) (sym now) is;
+      }
+
+  took-seen : (least : ℕ) (j : Job) (taken : Taken) → client_fold d h (settled (first_view d)) (j.sight ++ Took taken ∷ []) ≡ settled j.reading.view → reads_as j.sight ≡ j.reading.client
+      → IsRest d h least j.reading.client (read_after_sight j.reading.client None j.sight) (taken ∷ j.reading.queue)
+      → ShowsAt d (reverse h) j.reading.client (Some (index_handed_out d (past_at h least) j.reading)) taken j.reading.view → IsSeenAt d h Client (j.sight ++ Took taken ∷ []) taken
+  unfolding client_after_sight
+  took-seen least j taken folded reads rest shows =
+      let sight : List Sight = j.sight ++ Took taken ∷ [] in
+      let now : reads_as sight ≡ j.reading.client = client_after-append NO_CLIENT j.sight (Took taken ∷ []) ∙ reads in
+      let view : sight_view Client d h sight ≡ j.reading.view = ap folded_view folded in
+      subst (λ (n : ℕ). ShowsAt d (reverse h) n (index_in_history d h sight) taken (sight_view Client d h sight)) (sym now)
+      (subst (λ (o : Option ℕ). ShowsAt d (reverse h) j.reading.client o taken (sight_view Client d h sight)) (sym (took-index least j taken reads rest))
+      (subst (λ (v : View). ShowsAt d (reverse h) j.reading.client (Some (index_handed_out d (past_at h least) j.reading)) taken v) (sym view) shows))
+
+  -- what the reader has at hand goes on with the job
+  hand-on : (least : ℕ) (j : Job) (entry : Sight) (queue : List Taken) → read_after_sight j.reading.client (read_after_sight j.reading.client None j.sight) (entry ∷ []) ≡ read_after_sight j.reading.client None j.sight → HasAtHand d h least j queue → HasAtHand d h least (with_sight j entry) queue
+  hand-on least j entry queue same hand =
+      subst (λ (o : Option LastRead). AreAtHand d h least j.reading.client o queue) (sym (read_after-append j.reading.client None j.sight (entry ∷ []) ∙ same)) hand
+
+  took-job : (least : ℕ) (j : Job) (taken : Taken) → IsReadingAt d h Q least j.reading → client_fold d h (settled (first_view d)) (j.sight ++ Took taken ∷ []) ≡ settled j.reading.view → reads_as j.sight ≡ j.reading.client
+      → IsRest d h least j.reading.client (read_after_sight j.reading.client None j.sight) (taken ∷ j.reading.queue) → AtEach (ClientSaw d h) [] j.sight → ClientSaw d h (j.sight ++ Took taken ∷ []) taken
       → IsAt least (with_sight j (Took taken))
   unfolding client_after_sight
-  took-job least j taken reading folded reads seen saw = record {
-    reading = reading;
-    folded = folded;
-    reads = client_after-append NO_CLIENT j.sight (Took taken ∷ []) ∙ reads;
-    seen = at_each-append (ClientSaw d h) [] j.sight (Took taken ∷ []) seen (saw, tt);
-  }
+  took-job least j taken reading folded reads rest seen saw =
+      let client : ℕ = j.reading.client in
+      let last : Option LastRead = read_after_sight client None j.sight in
+      record {
+        reading = reading;
+        folded = folded;
+        reads = client_after-append NO_CLIENT j.sight (Took taken ∷ []) ∙ reads;
+        hand =
+            subst (λ (o : Option LastRead). AreAtHand d h least client o j.reading.queue) (sym (read_after-append client None j.sight (Took taken ∷ []) ∙ read_after-took client last taken))
+            (inr (hand-took d h least client last taken j.reading.queue rest));
+        seen = at_each-append (ClientSaw d h) [] j.sight (Took taken ∷ []) seen (saw, tt);
+      }
 
-  made-job : (least : ℕ) (j : Job) (event : Event) → IsReadingAt d h Q least j.reading → client_fold d h (settled (first_view d)) (j.sight ++ Made event ∷ []) ≡ settled j.reading.view → reads_as j.sight ≡ j.reading.client → AtEach (ClientSaw d h) [] j.sight → IsAt least (with_sight j (Made event))
+  made-job : (least : ℕ) (j : Job) (event : Event) → IsReadingAt d h Q least j.reading → client_fold d h (settled (first_view d)) (j.sight ++ Made event ∷ []) ≡ settled j.reading.view → reads_as j.sight ≡ j.reading.client → HasAtHand d h least j j.reading.queue → AtEach (ClientSaw d h) [] j.sight → IsAt least (with_sight j (Made event))
   unfolding client_after_sight
-  made-job least j event reading folded reads seen = record {
+  made-job least j event reading folded reads hand seen = record {
     reading = reading;
     folded = folded;
     reads = client_after-append NO_CLIENT j.sight (Made event ∷ []) ∙ reads;
+    hand = hand-on least j (Made event) j.reading.queue (read_after-made j.reading.client (read_after_sight j.reading.client None j.sight) event) hand;
     seen = at_each-append (ClientSaw d h) [] j.sight (Made event ∷ []) seen (tt, tt);
   }
 
@@ -136,11 +190,12 @@ module _ (d : Description) (h : List Step) (Q : ℕ → Type 0) (history : IsHis
     reading = s.reading;
     folded = folds-on d h (first_view d) j (AgainSight at ends ∷ []) s.folded;
     reads = client_after-append NO_CLIENT j.sight (AgainSight at ends ∷ []) ∙ s.reads;
+    hand = hand-on least j (AgainSight at ends) j.reading.queue (read_after-again j.reading.client (read_after_sight j.reading.client None j.sight) at ends) s.hand;
     seen = at_each-append (ClientSaw d h) [] j.sight (AgainSight at ends ∷ []) s.seen (tt, tt);
   }
 
   stop-job : (least : ℕ) (j : Job) (stop : Stop) → IsAt least j → IsAt least (with_stop j stop)
-  stop-job least j stop s = record { reading = s.reading; folded = s.folded; reads = s.reads; seen = s.seen }
+  stop-job least j stop s = record { reading = s.reading; folded = s.folded; reads = s.reads; hand = s.hand; seen = s.seen }
 
   -- Rounds
 
@@ -164,26 +219,31 @@ module _ (d : Description) (h : List Step) (Q : ℕ → Type 0) (history : IsHis
       by false = s
 
   -- no entry is added
-  bare-job : (least : ℕ) (j : Job) → IsReadingAt d h Q least j.reading → client_fold d h (settled (first_view d)) (j.sight ++ []) ≡ settled j.reading.view → reads_as j.sight ≡ j.reading.client → AtEach (ClientSaw d h) [] j.sight → IsAt least j
-  bare-job least j reading folded reads seen = record {
+  bare-job : (least : ℕ) (j : Job) → IsReadingAt d h Q least j.reading → client_fold d h (settled (first_view d)) (j.sight ++ []) ≡ settled j.reading.view → reads_as j.sight ≡ j.reading.client → HasAtHand d h least j j.reading.queue → AtEach (ClientSaw d h) [] j.sight → IsAt least j
+  bare-job least j reading folded reads hand seen = record {
     reading = reading;
     folded = ap (λ (es : List Sight). client_fold d h (settled (first_view d)) es) (sym (append-nil j.sight)) ∙ folded;
     reads = reads;
+    hand = hand;
     seen = seen;
   }
 
-  turn-job : (least : ℕ) (wait : Option Waiting) (left : Option ℕ) (agains : ℕ) (next : Next) (j : Job) → IsReadingAt d h Q least j.reading → client_fold d h (settled (first_view d)) (j.sight ++ entries_of_next next) ≡ settled j.reading.view → reads_as j.sight ≡ j.reading.client → AtEach (ClientSaw d h) [] j.sight
-      → HandsAt d h Q next j.reading → Drops next → OfTurn least (turn_after wait left agains next j)
-  turn-job least wait left agains (Success taken) j reading folded reads seen hands drops =
-      turn-handed least (one_less left) (with_sight j (Took taken)) (took-job least j taken reading folded reads seen (took-seen j taken folded reads hands))
-  turn-job least wait left agains (Dropped taken) j reading folded reads seen hands drops =
-      turn-handed least (one_less left) (with_sight j (Took taken)) (took-job least j taken reading folded reads seen (λ report. absurd (not-both taken.event drops report)))
-  turn-job least wait left agains (Sync event) j reading folded reads seen hands drops = turn-handed least (one_less left) (with_sight j (Made event)) (made-job least j event reading folded reads seen)
-  turn-job least wait left agains Synced j reading folded reads seen hands drops = bare-job least j reading folded reads seen
-  turn-job least wait left agains (Again at ends) j reading folded reads seen hands drops = turn-again least (patience wait ends) left (suc agains) at ends j (bare-job least j reading folded reads seen)
-  turn-job least wait left agains NoDevice j reading folded reads seen hands drops = bare-job least j reading folded reads seen
-  turn-job least wait left agains Closed j reading folded reads seen hands drops = bare-job least j reading folded reads seen
-  turn-job least wait left agains (Full at) j reading folded reads seen hands drops = stop-job least j (FullHistory at) (bare-job least j reading folded reads seen)
+  turn-job : (least : ℕ) (wait : Option Waiting) (left : Option ℕ) (agains : ℕ) (next : Next) (j : Job) → IsReadingAt d h Q least j.reading → client_fold d h (settled (first_view d)) (j.sight ++ entries_of_next next) ≡ settled j.reading.view → reads_as j.sight ≡ j.reading.client
+      → HasAtHand d h least j (with_handed next j.reading.queue) → AtEach (ClientSaw d h) [] j.sight → HandsAt d h Q least next j.reading → Drops next → OfTurn least (turn_after wait left agains next j)
+  turn-job least wait left agains (Success taken) j reading folded reads hand seen hands drops =
+      let rest = hand-first d h least j.reading.client (read_after_sight j.reading.client None j.sight) taken j.reading.queue hand in
+      let saw : ClientSaw d h (j.sight ++ Took taken ∷ []) taken = record { own = took-own least j taken reads rest; seen = λ report. took-seen least j taken folded reads rest hands } in
+      turn-handed least (one_less left) (with_sight j (Took taken)) (took-job least j taken reading folded reads rest seen saw)
+  turn-job least wait left agains (Dropped taken) j reading folded reads hand seen hands drops =
+      let rest = hand-first d h least j.reading.client (read_after_sight j.reading.client None j.sight) taken j.reading.queue hand in
+      let saw : ClientSaw d h (j.sight ++ Took taken ∷ []) taken = record { own = took-own least j taken reads rest; seen = λ report. absurd (not-both taken.event drops report) } in
+      turn-handed least (one_less left) (with_sight j (Took taken)) (took-job least j taken reading folded reads rest seen saw)
+  turn-job least wait left agains (Sync event) j reading folded reads hand seen hands drops = turn-handed least (one_less left) (with_sight j (Made event)) (made-job least j event reading folded reads hand seen)
+  turn-job least wait left agains Synced j reading folded reads hand seen hands drops = bare-job least j reading folded reads hand seen
+  turn-job least wait left agains (Again at ends) j reading folded reads hand seen hands drops = turn-again least (patience wait ends) left (suc agains) at ends j (bare-job least j reading folded reads hand seen)
+  turn-job least wait left agains NoDevice j reading folded reads hand seen hands drops = bare-job least j reading folded reads hand seen
+  turn-job least wait left agains Closed j reading folded reads hand seen hands drops = bare-job least j reading folded reads hand seen
+  turn-job least wait left agains (Full at) j reading folded reads hand seen hands drops = stop-job least j (FullHistory at) (bare-job least j reading folded reads hand seen)
 
   placed : (least : ℕ) (calls more : List Call) → AreToCome d h Q least (calls ++ more) → ArePlaced d h calls
   placed least calls more c = legal-placed d h least calls (legal-first d h least calls more c.legal)
@@ -198,6 +258,13 @@ module _ (d : Description) (h : List Step) (Q : ℕ → Type 0) (history : IsHis
 
   noted-seen : (j : Job) (calls : List Call) → AtEach (ClientSaw d h) [] j.sight → AtEach (ClientSaw d h) [] (j.sight ++ noted_sight calls)
   noted-seen j calls seen = at_each-append (ClientSaw d h) [] j.sight (noted_sight calls) seen (at_each-noted (ClientSaw d h) j.sight calls)
+
+  -- what is at hand behind the entries of a reader's calls
+  noted-hand : (at client now : ℕ) (sight after : List Sight) (calls : List Call) (queue : List Taken) → now ≡ client → after ≡ sight ++ noted_sight calls
+      → AreAtHand d h at client (read_after_sight client (read_after_sight client None sight) (noted_sight calls)) queue → AreAtHand d h at now (read_after_sight now None after) queue
+  noted-hand at client now sight after calls queue same is hand =
+      subst (λ (n : ℕ). AreAtHand d h at n (read_after_sight n None after) queue) (sym same)
+      (subst (λ (o : Option LastRead). AreAtHand d h at client o queue) (sym (ap (λ (es : List Sight). read_after_sight client None es) is ∙ read_after-append client None sight (noted_sight calls))) hand)
 
   round-job : (least : ℕ) (wait : Option Waiting) (skips : Bool) (g : Going) (turn : Turn) (calls more : List Call) → AreToCome d h Q least (calls ++ more) → EndsWith (next_round d wait skips g) calls turn → IsAt least g.job → OfTurn (place_behind least calls) turn
   unfolding next_round
@@ -218,9 +285,15 @@ module _ (d : Description) (h : List Step) (Q : ℕ → Type 0) (history : IsHis
       ∙ told in
       let now : reads_as p.mid.1 ≡ p.mid.0.1.client = ap reads_as b.1 ∙ noted-reads g.job p.first p.mid.0.1.client s.reads names.0 in
       let seen : AtEach (ClientSaw d h) [] p.mid.1 = subst (AtEach (ClientSaw d h) []) (sym b.1) (noted-seen g.job p.first s.seen) in
+      let job : Job = record g.job { reading = p.mid.0.1; sight = p.mid.1 } in
+      let same : p.mid.0.1.client ≡ r.client = client-in d mode r.phase r p.first p.mid.0 b.0 in
+      let left_hand : AreAtHand d h (place_behind least p.first) r.client (read_after_sight r.client (read_after_sight r.client None g.job.sight) (noted_sight p.first)) (with_handed p.mid.0.0 p.mid.0.1.queue) =
+      next-hand d h Q least r.client (read_after_sight r.client None g.job.sight) r.queue (with_handed p.mid.0.0 p.mid.0.1.queue) p.first (p.second ++ more) here s.hand (next-sources d mode r p.mid.0.1 p.mid.0.0 p.first b.0) in
+      let hand : HasAtHand d h (place_behind least p.first) job (with_handed p.mid.0.0 p.mid.0.1.queue) =
+      noted-hand (place_behind least p.first) r.client p.mid.0.1.client g.job.sight p.mid.1 p.first (with_handed p.mid.0.0 p.mid.0.1.queue) same b.1 left_hand in
       subst (λ (cs : List Call). OfTurn (place_behind least cs) turn) (none-behind calls p.first p.second p.whole f.0)
       (subst (OfTurn (place_behind least p.first)) f.1
-      (turn-job (place_behind least p.first) wait g.left g.agains p.mid.0.0 (record g.job { reading = p.mid.0.1; sight = p.mid.1 }) reads.reading folded now seen reads.hands names.1))
+      (turn-job (place_behind least p.first) wait g.left g.agains p.mid.0.0 job reads.reading folded now hand seen reads.hands names.1))
 
   same-job : (least : ℕ) (j k : Job) (calls : List Call) → EndsWith (finish (Some j)) calls (Some k) → IsAt least j → IsAt (place_behind least calls) k
   same-job least j k calls ends s =
@@ -252,6 +325,12 @@ module _ (d : Description) (h : List Step) (Q : ℕ → Type 0) (history : IsHis
 
   -- Starts
 
+  start-job-hand : (least : ℕ) (j : Job) (r : Reading) (started : Started) (sight : List Sight) (calls more : List Call) → AreToCome d h Q least (calls ++ more) → IsReadingAt d h Q least j.reading → EndsWith (start_talk d j.reading) calls (started, r) → sight ≡ j.sight ++ noted_sight calls
+      → HasAtHand d h least j j.reading.queue → AreAtHand d h (place_behind least calls) r.client (read_after_sight r.client None sight) r.queue
+  start-job-hand least j r started sight calls more c reads ends is hand =
+      subst (λ (o : Option LastRead). AreAtHand d h (place_behind least calls) r.client o r.queue) (sym (ap (λ (es : List Sight). read_after_sight r.client None es) is ∙ read_after-append r.client None j.sight (noted_sight calls)))
+      (start-hand d h Q least j.reading r started calls more (λ client. read_after_sight client None j.sight) c reads ends hand)
+
   start-job : (least : ℕ) (j k : Job) (calls more : List Call) → AreToCome d h Q least (calls ++ more) → EndsWith (start_job d j) calls (Some k) → IsAt least j → IsAt (place_behind least calls) k
   unfolding start_job
   start-job least j k calls more c ends s =
@@ -267,6 +346,7 @@ module _ (d : Description) (h : List Step) (Q : ℕ → Type 0) (history : IsHis
         reading = start-reads d h Q least j.reading p.mid.0.1 p.mid.0.0 p.first (p.second ++ more) here s.reading b.0;
         folded = subst (IsClientFold d h (first_view d)) (sym same) folded;
         reads = ap reads_as b.1 ∙ noted-reads j p.first p.mid.0.1.client s.reads (start-names d j.reading p.mid.0.1 p.mid.0.0 p.first b.0);
+        hand = start-job-hand least j p.mid.0.1 p.mid.0.0 p.mid.1 p.first (p.second ++ more) here s.reading b.0 b.1 s.hand;
         seen = subst (AtEach (ClientSaw d h) []) (sym b.1) (noted-seen j p.first s.seen);
       } in
       subst (λ (cs : List Call). IsAt (place_behind least cs) k) (none-behind calls p.first p.second p.whole f.0) (subst (IsAt (place_behind least p.first)) same one)
@@ -283,6 +363,16 @@ module _ (d : Description) (h : List Step) (Q : ℕ → Type 0) (history : IsHis
 
   not-used : (client : ℕ) (x : Step) → is_use x ≡ false → is_use_of client x ≡ false
   not-used client x h = ap (λ (b : Bool). b && is_same (client_of x) client) h
+
+  -- a call that reads nothing leaves the last read
+  idle-last : (j : Job) (x : Step) (a : Answer) → a.events ≡ [] → is_read_as j.reading.client x ≡ false → read_after_sight j.reading.client None (after_call j x a).sight ≡ read_after_sight j.reading.client None j.sight
+  idle-last j x a none other =
+      let client : ℕ = j.reading.client in
+      let front : List Sight = call_sight x a.reply ++ again_sight a.reply in
+      ap (λ (ts : List Taken). read_after_sight client None (j.sight ++ (front ++ map taken_sight ts))) none
+      ∙ ap (λ (es : List Sight). read_after_sight client None (j.sight ++ es)) (append-nil front)
+      ∙ read_after-append client None j.sight front
+      ∙ read_after-told client (read_after_sight client None j.sight) x a.reply other
 
   call-job : (least : ℕ) (j k : Job) (x : Step) (calls more : List Call) → IsIdle x → AreToCome d h Q least (calls ++ more) → EndsWith (call_talk j x) calls (Some k) → IsAt least j → IsAt (place_behind least calls) k
   unfolding LeadsTo
@@ -305,6 +395,9 @@ module _ (d : Description) (h : List Step) (Q : ℕ → Type 0) (history : IsHis
             ∙ ap (λ (n : ℕ). client_after_sight n (front ++ map taken_sight a.events)) s.reads
             ∙ client_after-taking j.reading.client x a.reply a.events
             ∙ client_after-kept x a.reply j.reading.client idle.shut;
+        hand =
+            subst (λ (o : Option LastRead). AreAtHand d h (next_place a.reply) j.reading.client o j.reading.queue) (sym (idle-last j x a none (unused-unread j.reading.client x idle.unused)))
+            (quiet-hand d h Q least j.reading call (calls ++ more) (read_after_sight j.reading.client None j.sight) c unused s.reading s.hand);
         seen =
             at_each-append (ClientSaw d h) [] j.sight (front ++ map taken_sight a.events) s.seen
             (at_each-append (ClientSaw d h) j.sight front (map taken_sight a.events)
@@ -318,6 +411,7 @@ module _ (d : Description) (h : List Step) (Q : ℕ → Type 0) (history : IsHis
     reading = record { spare = record { view = s.reading.spare.view; queue = s.reading.spare.queue }; stands = by s.reading.stands };
     folded = s.folded;
     reads = s.reads;
+    hand = s.hand;
     seen = s.seen;
   }
     where
@@ -353,5 +447,6 @@ module _ (d : Description) (h : List Step) (Q : ℕ → Type 0) (history : IsHis
     reading = record { spare = new-spare d d (first_reading d) refl refl refl; stands = inr (record { client = refl; queue = refl }) };
     folded = refl;
     reads = refl;
+    hand = inl refl;
     seen = tt;
   }

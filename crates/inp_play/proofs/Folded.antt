@@ -4,7 +4,7 @@ use Rattle.std.specs.Prelude.{slice_get}
 use Rattle.inp_model.specs.declared.stamped.Stamped.{Stamped}
 use Rattle.inp_model.specs.declared.step.Step.{Step}
 use Rattle.inp_model.specs.Description.{Description}
-use Rattle.inp_model.specs.Run.{Call, IsLegalRun}
+use Rattle.inp_model.specs.Run.{Call, IsLegalFrom, IsLegalRun, next_place}
 use Rattle.inp_actors.specs.declared.actor_text.ActorText.{ActorText}
 use Rattle.inp_actors.specs.declared.line.Line.{Line}
 use Rattle.inp_actors.specs.declared.role.Role.{Role}
@@ -20,8 +20,12 @@ use Rattle.inp_script.proofs.Folds.{ArePlaced}
 use Rattle.inp_script.proofs.LastAgain.{finish-only, and_then-parts}
 use Rattle.inp_script.proofs.LineFolds.{line_talk-folds, is_folded-first}
 use Rattle.inp_play.specs.Job.{lines_by, on_job, lines_talk}
-use Rattle.inp_play.proofs.JobLosses.{legal-placed}
 use Rattle.inp_play.proofs.Listing.{eq_same}
+
+-- each call of a legal run has its place
+pub legal-placed : (d : Description) (h : List Step) (least : ℕ) (calls : List Call) → IsLegalFrom d h least calls → ArePlaced d h calls
+legal-placed d h least [] l = tt
+legal-placed d h least (call ∷ calls) l = (l.1, legal-placed d h (next_place call.answer.reply) calls l.2)
 
 -- each line is one that the role has
 abbrev pub AreOfRole : Role → List Line → Type 0

@@ -1,7 +1,6 @@
 -- How many steps a `follow` that does not wait adds to the history of its device.
-use Rattle.std.proofs.Common.{◌≡◌, ◌≤◌, ◌<◌, ℕ, zero, suc, ◌+◌, ◌-◌, ◌*◌, Bool, true, false, if◌then◌else◌, nat_eq, min, List, [], ◌∷◌, ◌++◌, length, refl, sym, ap, subst, ◌∙◌, arith, ◌⊎◌, inl, inr, Option, Some, None}
+use Rattle.std.proofs.Common.{◌≡◌, ◌≤◌, ◌<◌, ℕ, zero, suc, ◌+◌, ◌-◌, ◌*◌, Bool, true, false, if◌then◌else◌, nat_eq, List, [], ◌∷◌, ◌++◌, length, refl, sym, ap, subst, ◌∙◌, arith, ◌⊎◌, inl, inr, Option, Some, None}
 use Rattle.std.specs.Prelude.{Result, Ok, Err}
-use Rattle.std.proofs.lemmas.Bool.Decides.{nat_tests}
 use Rattle.inp_model.specs.declared.event.Event.{Event}
 use Rattle.inp_model.specs.declared.taken.Taken.{Taken}
 use Rattle.inp_model.specs.declared.step.Step.{Step}
@@ -16,17 +15,16 @@ use Rattle.inp_model.specs.Reply.{Answer, Case, answer, refused, refusals, first
 use Rattle.inp_losses.proofs.Causes.{queue-room}
 use Rattle.inp_recon.specs.declared.view.View.{View}
 use Rattle.inp_recon.specs.View.{view_after_event, view_after_answer}
-use Rattle.inp_reader.specs.declared.mode.Mode.{Mode}
-use Rattle.inp_reader.specs.declared.mode.Mode.TheVariants.{Normal, Sync as Synchronising}
+use Rattle.inp_reader.specs.declared.mode.Mode.TheVariants.{Sync as Synchronising}
 use Rattle.inp_reader.specs.declared.phase.Phase.{Phase}
 use Rattle.inp_reader.specs.declared.phase.Phase.TheVariants.{Plain, Needed, Handing}
 use Rattle.inp_reader.specs.declared.started.Started.{Started}
 use Rattle.inp_reader.specs.declared.next.Next.{Next}
 use Rattle.inp_reader.specs.declared.next.Next.TheVariants.{Success, Dropped, Sync, Again, Synced, NoDevice, Closed, Full}
-use Rattle.inp_reader.specs.Reading.{Reading, ask_each, queries, after_queries, after_open, start_talk, stop_of, hand_out_event, hand_out, is_dropped, after_read, read_or_hand_out, read_talk, hand_synthesised, after_full_sync, after_failed_sync, go_on, go_on_after, sync_talk, talk_in, next_talk}
+use Rattle.inp_reader.specs.Reading.{Reading, ask_each, queries, after_queries, after_open, start_talk, stop_of, hand_out_event, hand_out, is_dropped, after_read, read_or_hand_out, read_talk, hand_synthesised, after_full_sync, go_on_after, sync_talk, talk_in, next_talk}
 use Rattle.inp_reader.specs.Talk.{Talk, finish, ask, and_then}
 use Rattle.inp_script.specs.declared.sight.Sight.{Sight}
-use Rattle.inp_script.specs.Client.{Going, Turn, goes_on, ends_with, turn_after, after_next, mode_of, next_round, on_turn, rounds, hand_talk, start_job, start_ends}
+use Rattle.inp_script.specs.Client.{Going, Turn, turn_after, after_next, mode_of, next_round, on_turn, rounds, hand_talk, start_job, start_ends}
 use Rattle.inp_script.specs.Job.{Job}
 use Rattle.inp_script.specs.Line.{call_if, tap_call_if}
 use Rattle.inp_script.specs.Sight.{call_sight, noted}

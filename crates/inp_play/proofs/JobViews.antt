@@ -1,5 +1,5 @@
--- At each report that a job took, its view is its client's in the history.
-use Rattle.std.proofs.Common.{◌≡◌, ◌≤◌, ◌<◌, inl, inr, ℕ, Bool, true, false, ◌||◌, List, [], ◌∷◌, ◌++◌, length, map, reverse, nat_lt, refl, sym, ap, subst, ◌∙◌, arith, if◌then◌else◌, Option, Some, None}
+-- At each report that a job took, its view is its client's in the history, and each loss that it took has its cause.
+use Rattle.std.proofs.Common.{◌≡◌, ◌<◌, inl, inr, ℕ, Bool, true, false, ◌||◌, List, [], ◌∷◌, ◌++◌, length, map, take, reverse, suc, refl, sym, ap, subst, ◌∙◌, arith, if◌then◌else◌, Option, Some, None}
 use Rattle.std.specs.Prelude.{filter, slice_get}
 use Rattle.std.specs.List.{list_any}
 use Rattle.std.proofs.lemmas.Bool.{eq-eqb}
@@ -9,12 +9,11 @@ use Rattle.inp_model.specs.declared.step.Step.{Step}
 use Rattle.inp_model.specs.declared.step.Step.TheVariants.{Inject}
 use Rattle.inp_model.specs.declared.reply.Reply.{Reply}
 use Rattle.inp_model.specs.declared.reply.Reply.TheVariants.{Opened}
-use Rattle.inp_model.specs.Description.{Description, IsDescription}
+use Rattle.inp_model.specs.Description.{Description}
 use Rattle.inp_model.specs.Past.{past_at}
 use Rattle.inp_model.specs.Reply.{Answer, IsAnswer, is_accepted}
 use Rattle.inp_model.specs.Run.{Call, IsLegalRun, place_of}
 use Rattle.inp_actors.specs.declared.actor_text.ActorText.{ActorText}
-use Rattle.inp_actors.specs.declared.device_text.DeviceText.{DeviceText}
 use Rattle.inp_actors.specs.declared.command.Command.{Command}
 use Rattle.inp_actors.specs.declared.command.Command.TheVariants.{Event as ToEvent, Tick, Inhibit, Uninhibit, Stream}
 use Rattle.inp_actors.specs.declared.line.Line.{Line}
@@ -29,21 +28,22 @@ use Rattle.inp_reader.specs.Standing.{is_read}
 use Rattle.inp_reader.specs.Talk.{Talk, finish, LeadsTo, EndsWith}
 use Rattle.inp_reader.proofs.ClientViews.{no_read-takes}
 use Rattle.inp_reader.proofs.Meeting.{AreAllOwn}
-use Rattle.inp_script.specs.declared.run.Run.{Run}
 use Rattle.inp_script.specs.declared.sight.Sight.{Sight}
 use Rattle.inp_script.specs.declared.stop.Stop.{Stop}
 use Rattle.inp_script.specs.Doing.{command_talk, unless_stopped, line_talk}
 use Rattle.inp_script.specs.Job.{Job, JobView, first_job}
 use Rattle.inp_script.specs.Legal.{entries_of, is_call_entry}
 use Rattle.inp_script.specs.Line.{step_of, after_call, call_if, stream_talk, stream_at, source_talk}
+use Rattle.inp_script.specs.declared.sight.Sight.TheVariants.{Took}
 use Rattle.inp_script.specs.Sight.{call_sight, again_sight, taken_sight}
-use Rattle.inp_script.specs.Runs.{IsRunOf}
 use Rattle.inp_script.proofs.LastAgain.{finish-only, and_then-parts}
-use Rattle.inp_play.specs.Job.{lines_by, on_job, lines_talk, IsJob, entries_at}
-use Rattle.inp_play.specs.JobViews.{AreReportsSeen}
+use Rattle.inp_play.specs.Job.{lines_by, on_job, lines_talk}
+use Rattle.inp_play.specs.JobViews.{AreReportsSeen, sight_view}
+use Rattle.inp_play.specs.Losses.{AreLossesCaused}
+use Rattle.inp_play.proofs.AtHand.{IsOwnEvent, own-caused, shown-own}
 use Rattle.inp_play.proofs.ClientReports.{IsClientJob, ClientSaw, client-line, client-first}
 use Rattle.inp_play.proofs.Folded.{AreOfRole, its_lines}
-use Rattle.inp_play.proofs.Owners.{HasOwners, is_opened_as, is_opening_of, history-of-jobs, owners-of-run}
+use Rattle.inp_play.proofs.Owners.{HasOwners, is_opened_as, is_opening_of, history-of-jobs}
 use Rattle.inp_play.proofs.OwnUses.{own-uses}
 use Rattle.inp_play.proofs.Reports.{AtEach, at_each-append, at_each-at, at_each-call, at_each-again, AreToCome, to-come-next, to-come-behind, place_behind, place_behind-append}
 use Rattle.inp_play.proofs.TapViews.{TapStands, TapSaw, tap-line, tap-first}
@@ -170,8 +170,14 @@ module _ (d : Description) (h : List Step) (Q : ℕ → Type 0) (history : IsHis
 
   stands-seen : (role : Role) (least : ℕ) (j : Job) → JobStands role d h Q least j → AreReportsSeen d h role j.sight
   stands-seen Source least j s = λ k taken at report. absurd (at_each-at TookNothing [] j.sight k taken s at)
-  stands-seen Client least j s = λ k taken at report. at_each-at (ClientSaw d h) [] j.sight k taken s.seen at report
+  stands-seen Client least j s = λ k taken at report. (let saw : ClientSaw d h (take (suc k) j.sight) taken = at_each-at (ClientSaw d h) [] j.sight k taken s.seen at in saw.seen report)
   stands-seen Tap least j s = λ k taken at report. at_each-at (TapSaw d h) [] j.sight k taken s.seen at
+
+  -- each event that it took is the one of its own index
+  stands-own : (role : Role) (least : ℕ) (j : Job) → JobStands role d h Q least j → (k : ℕ) (taken : Taken) → slice_get j.sight k ≡ Some (Took taken) → IsOwnEvent d h (take (suc k) j.sight) taken
+  stands-own Source least j s = λ k taken at. absurd (at_each-at TookNothing [] j.sight k taken s at)
+  stands-own Client least j s = λ k taken at. (let saw : ClientSaw d h (take (suc k) j.sight) taken = at_each-at (ClientSaw d h) [] j.sight k taken s.seen at in saw.own)
+  stands-own Tap least j s = λ k taken at. shown-own d h (take (suc k) j.sight) taken (sight_view Tap d h (take (suc k) j.sight)) (at_each-at (TapSaw d h) [] j.sight k taken s.seen at)
 
 -- ---- all of it
 
@@ -188,9 +194,14 @@ opened-among all (call ∷ calls) f = (
     or-true true b k = refl
     or-true false b k = k
 
-pub reports-seen : (r : RecordView) (d : Description) (h : List Step) (jobs : List JobView) (i : ℕ) (job : JobView) (text : ActorText) (rounds : ℕ) (last : Job) (calls : List Call) → IsRecord r → HasOwners d h jobs → slice_get jobs i ≡ Some job → slice_get r.actors job.actor ≡ Some text
-    → IsLegalRun d h calls → entries_of calls ≡ filter is_call_entry job.sight → EndsWith (lines_talk text.role d r.streams rounds (lines_by job.actor r.lines) (first_job d)) calls (Some last) → job.sight ≡ last.sight → AreReportsSeen d h text.role job.sight
-reports-seen r d h jobs i job text rounds last calls is_record owners is_job is_text legal told follows same =
+-- What the sight of a job shows: its view at each report, and why it lost events.
+pub record IsShown (d : Description) (h : List Step) (role : Role) (sight : List Sight) : Type 0 where
+  pub seen : AreReportsSeen d h role sight
+  pub losses : AreLossesCaused d h sight
+
+pub job-shown : (r : RecordView) (d : Description) (h : List Step) (jobs : List JobView) (i : ℕ) (job : JobView) (text : ActorText) (rounds : ℕ) (last : Job) (calls : List Call) → IsRecord r → HasOwners d h jobs → slice_get jobs i ≡ Some job → slice_get r.actors job.actor ≡ Some text
+    → IsLegalRun d h calls → entries_of calls ≡ filter is_call_entry job.sight → EndsWith (lines_talk text.role d r.streams rounds (lines_by job.actor r.lines) (first_job d)) calls (Some last) → job.sight ≡ last.sight → IsShown d h text.role job.sight
+job-shown r d h jobs i job text rounds last calls is_record owners is_job is_text legal told follows same =
     let lines : List Line = lines_by job.actor r.lines in
     let Q : ℕ → Type 0 = λ client. list_any (is_opened_as client) calls ≡ true in
     let own : (client : ℕ) → Q client → AreAllOwn client 0 h calls = λ client q place x from at used. own-uses text.role d h r.streams rounds lines jobs i job last calls owners is_job legal told follows client place x q at used in
@@ -198,13 +209,9 @@ reports-seen r d h jobs i job text rounds last calls is_record owners is_job is_
     let c : AreToCome d h Q 0 calls = record { within = omega arith; legal = legal; own = own; opened = opened-among calls calls (λ client k. k) } in
     let stands : JobStands text.role d h Q (place_behind 0 calls) last =
     lines-stand d h Q history owners.short text.role r.streams rounds lines 0 (first_job d) last calls (its_lines r job.actor text is_text r.lines is_record.commands) c follows (first-stands d h Q history owners.short text.role) in
-    subst (AreReportsSeen d h text.role) (sym same) (stands-seen d h Q history owners.short text.role (place_behind 0 calls) last stands)
-
--- the same from the facts of a run
-pub run-seen : (r : RecordView) (d : Description) (number : ℕ) (device : DeviceText) (run : Run) → IsRecord r → IsDescription d → IsRunOf r.actors number device run → length run.history ≤ d.log_limit
-    → ((i : ℕ) (job : JobView) (text : ActorText) → slice_get run.jobs i ≡ Some job → slice_get r.actors job.actor ≡ Some text → IsJob r d run.history text.role job)
-    → ((place : ℕ) → entries_at place run.jobs ≡ (if nat_lt place (length run.history) then 1 else 0))
-    → (i : ℕ) (job : JobView) (text : ActorText) → slice_get run.jobs i ≡ Some job → slice_get r.actors job.actor ≡ Some text → AreReportsSeen d run.history text.role job.sight
-run-seen r d number device run is_record is is_run_of within jobs once i job text is_job is_text =
-    let j : IsJob r d run.history text.role job = jobs i job text is_job is_text in
-    reports-seen r d run.history run.jobs i job text j.rounds j.last j.calls is_record (owners-of-run r d number device run is is_run_of within jobs once) is_job is_text j.legal j.told j.follows (ap (λ (x : JobView). x.sight) j.ended)
+    let own_events : (k : ℕ) (taken : Taken) → slice_get last.sight k ≡ Some (Took taken) → IsOwnEvent d h (take (suc k) last.sight) taken = stands-own d h Q history owners.short text.role (place_behind 0 calls) last stands in
+    subst (IsShown d h text.role) (sym same)
+    (record {
+      seen = stands-seen d h Q history owners.short text.role (place_behind 0 calls) last stands;
+      losses = λ k taken at lost. own-caused d h (take (suc k) last.sight) taken (own_events k taken at) lost;
+    })

@@ -4,13 +4,14 @@ pub mod ReaderTalks
 pub mod LineTalks
 pub mod Places
 pub mod LineRuns
-pub mod Given
-pub mod JobLosses
 pub mod Folded
 pub mod JobClients
 pub mod Owners
 pub mod OwnUses
 pub mod Reports
+pub mod LastReads
+pub mod QueueSources
+pub mod AtHand
 pub mod TapViews
 pub mod ClientReadings
 pub mod ClientReports

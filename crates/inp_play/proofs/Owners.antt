@@ -1,11 +1,11 @@
 -- Each step of a device's history that names a client is a call of the job that opened it.
 use Rattle.std.proofs.Common.{◌≡◌, ◌⊎◌, ℕ, zero, suc, ◌+◌, ◌<◌, ◌≤◌, Bool, true, false, ◌&&◌, ◌||◌, if◌then◌else◌, nat_eq, nat_lt, List, [], ◌∷◌, ◌++◌, length, take, reverse, refl, sym, ap, subst, ◌∙◌, arith, inl, inr, Option, Some, None}
-use Rattle.std.specs.Prelude.{filter, slice_get, option_map}
-use Rattle.std.specs.List.{list_any, sum_by, range_with_len}
+use Rattle.std.specs.Prelude.{filter, slice_get}
+use Rattle.std.specs.List.{list_any, sum_by}
 use Rattle.std.proofs.lemmas.Bool.{true≢false, cases_lt, cond-true, lt-ltb}
 use Rattle.std.proofs.lemmas.List.{reverse-append, length-reverse, length-take, take_all}
 use Rattle.std.proofs.lemmas.List.Sums.{sum_by-cons}
-use Rattle.std.proofs.lemmas.Option.{slice_get_within, same_Some, slice_get-map}
+use Rattle.std.proofs.lemmas.Option.{slice_get_within, same_Some}
 use Rattle.inp_model.specs.declared.limits.TheConstants.{LOG_MAX}
 use Rattle.inp_model.specs.declared.stamped.Stamped.{Stamped}
 use Rattle.inp_model.specs.declared.step.Step.{Step}
@@ -18,27 +18,22 @@ use Rattle.inp_model.specs.Past.{past_at, opens}
 use Rattle.inp_model.specs.Reply.{Answer, IsAnswer, answer_by, accepted, refused, is_accepted}
 use Rattle.inp_model.specs.Run.{Call, HasPlace, IsLegalFrom, IsLegalRun, place_of, next_place}
 use Rattle.inp_model.specs.Step.{client_of, is_open_step}
-use Rattle.inp_actors.specs.declared.actor_text.ActorText.{ActorText}
-use Rattle.inp_actors.specs.declared.device_text.DeviceText.{DeviceText}
 use Rattle.inp_actors.specs.declared.line.Line.{Line}
 use Rattle.inp_actors.specs.declared.role.Role.{Role}
-use Rattle.inp_actors.specs.Record.{RecordView}
 use Rattle.inp_model.proofs.Opens.{opens-le}
 use Rattle.inp_model.specs.History.{IsHistory}
 use Rattle.inp_reader.specs.declared.reader.TheConstants.{NO_CLIENT}
 use Rattle.inp_reader.specs.Talk.{EndsWith}
 use Rattle.inp_model.proofs.Refused.{refused-not_accepted}
 use Rattle.inp_reader.proofs.Calls.{IsPlaceOf}
-use Rattle.inp_script.specs.declared.run.Run.{Run}
 use Rattle.inp_script.specs.declared.sight.Sight.{Sight}
 use Rattle.inp_script.specs.Job.{Job, JobView, first_job}
 use Rattle.inp_script.specs.Legal.{entries_of, is_call_entry}
 use Rattle.inp_script.specs.Line.{client_after}
-use Rattle.inp_script.specs.Runs.{is_on_device, actors_of, IsRunOf}
-use Rattle.inp_play.specs.Job.{lines_by, lines_talk, IsJob, entries_at}
+use Rattle.inp_play.specs.Job.{lines_talk, entries_at}
 use Rattle.inp_play.proofs.JobClients.{NameLast, job-names}
 use Rattle.inp_play.proofs.Leaving.{call_entries}
-use Rattle.inp_play.proofs.Listing.{eq_same, eq_true, IsAt, slice_get-filter}
+use Rattle.inp_play.proofs.Listing.{eq_same, eq_true}
 use Rattle.inp_play.proofs.Places.{entries, entries-append, entries-calls, entries-call}
 
 -- The calls of a job: a legal run of the history, those that its sight tells of, and each names no client but the one that
@@ -65,39 +60,6 @@ pub short-history : (d : Description) (history : List Step) → IsDescription d 
 short-history d history is h =
     let most : d.log_limit ≤ LOG_MAX = is.log_limit.1 in
     omega (arith, h, most)
-
--- a run's facts of its jobs
-pub calls-of-job : (r : RecordView) (d : Description) (history : List Step) (role : Role) (job : JobView) → IsJob r d history role job → AreCallsOf d history job
-calls-of-job r d history role job j = record {
-  calls = j.calls;
-  legal = j.legal;
-  told = j.told;
-  names = (job-names role d r.streams j.rounds (lines_by job.actor r.lines) j.last j.calls j.follows).0;
-}
-
-its-text : (device : ℕ) (o : Option ActorText) → is_on_device device o ≡ true → (text : ActorText) × (o ≡ Some text)
-its-text device None h = absurd (true≢false (sym h))
-its-text device (Some text) h = (text, refl)
-
--- each job of a device is one of an actor of the record
-pub job-text : (r : RecordView) (number : ℕ) (device : DeviceText) (run : Run) (i : ℕ) (job : JobView) → IsRunOf r.actors number device run → slice_get run.jobs i ≡ Some job → (text : ActorText) × (slice_get r.actors job.actor ≡ Some text)
-job-text r number device run i job is_run_of is_job =
-    let numbers : slice_get (actors_of r.actors number) i ≡ Some job.actor =
-    ap (λ (ns : List ℕ). slice_get ns i) (sym is_run_of.jobs) ∙ slice_get-map (λ (j : JobView). j.actor) run.jobs i ∙ ap (λ (o : Option JobView). option_map (λ (j : JobView). j.actor) o) is_job in
-    let on : IsAt (λ (n : ℕ). is_on_device number (slice_get r.actors n)) (range_with_len 0 (length r.actors)) job.actor =
-    slice_get-filter (λ (n : ℕ). is_on_device number (slice_get r.actors n)) (range_with_len 0 (length r.actors)) i job.actor numbers in
-    its-text number (slice_get r.actors job.actor) on.passes
-
-pub owners-of-run : (r : RecordView) (d : Description) (number : ℕ) (device : DeviceText) (run : Run) → IsDescription d → IsRunOf r.actors number device run → length run.history ≤ d.log_limit
-    → ((i : ℕ) (job : JobView) (text : ActorText) → slice_get run.jobs i ≡ Some job → slice_get r.actors job.actor ≡ Some text → IsJob r d run.history text.role job)
-    → ((place : ℕ) → entries_at place run.jobs ≡ (if nat_lt place (length run.history) then 1 else 0)) → HasOwners d run.history run.jobs
-owners-of-run r d number device run is is_run_of within jobs once = record {
-  each = λ i job is_job.
-      let text = job-text r number device run i job is_run_of is_job in
-      calls-of-job r d run.history text.0.role job (jobs i job text.0 is_job text.1);
-  once = once;
-  short = short-history d run.history is within;
-}
 
 -- Sums of one
 

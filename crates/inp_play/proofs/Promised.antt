@@ -3,7 +3,7 @@ use Rattle.std.proofs.Common.{◌≡◌, ℕ, zero, suc, ◌+◌, ◌≤◌, Boo
 use Rattle.std.specs.Prelude.{filter, slice_get, option_map, Result, Ok, Err, IfOk}
 use Rattle.std.specs.List.{enumerate_from, range_with_len}
 use Rattle.std.proofs.lemmas.Bool.Decides.{nat_tests}
-use Rattle.std.proofs.lemmas.List.{length-map, length-reverse, reverse-reverse}
+use Rattle.std.proofs.lemmas.List.{length-map, length-reverse}
 use Rattle.std.proofs.lemmas.List.FromFn.{length-enumerate_from}
 use Rattle.std.proofs.lemmas.Option.{get_or_from_slice_get, same_Some, slice_get-map}
 use Rattle.inp_model.specs.declared.step.Step.{Step}
@@ -22,11 +22,13 @@ use Rattle.inp_script.specs.declared.run.Run.{Run}
 use Rattle.inp_script.specs.Job.{ActorView, JobView, job_end}
 use Rattle.inp_script.specs.Runs.{is_on_device, IsRunOf}
 use Rattle.inp_play.specs.Job.{lines_by, lines_talk, IsJob, IsRun, entries_at, AreDescribed, ArePromised}
+use Rattle.inp_play.specs.JobViews.{AreReportsSeen}
+use Rattle.inp_play.specs.Losses.{AreLossesCaused}
 use Rattle.inp_play.specs.Play.{Stage, description_at, first_actor, first_stage, after_lines, jobs_on, run_of, runs_of, play, IsPlay}
 use Rattle.inp_play.proofs.Folded.{view-folded}
-use Rattle.inp_play.proofs.JobLosses.{losses-caused}
-use Rattle.inp_play.proofs.JobViews.{run-seen}
+use Rattle.inp_play.proofs.JobViews.{IsShown, job-shown}
 use Rattle.inp_play.proofs.Listing.{option_map-some, slice_get-filter, slice_get-numbered, map-filter, sum_by-kept, sum_by-none, eq_same}
+use Rattle.inp_play.proofs.Owners.{AreCallsOf, HasOwners, calls-of, short-history, history-of-jobs}
 use Rattle.inp_play.proofs.Places.{entries, below}
 use Rattle.inp_play.proofs.Stages.{IsSoFar, IsStage, weight, number_is, stages}
 
@@ -141,8 +143,14 @@ so_far_on r rounds stage i device past a text s is_device is_past is_actor is_te
     let caps : description_at r text.device ≡ device.caps = ap (λ (n : ℕ). description_at r n) on ∙ description_is r i device is_device in
     subst (λ (d : Description). IsSoFar r rounds r.lines d text.role past a) caps (s.actors a.actor a text past is_actor is_text there)
 
-is_job : (r : RecordView) (rounds : ℕ) (d : Description) (past : List Step) (a : ActorView) (text : ActorText) → IsRecord r → slice_get r.actors a.actor ≡ Some text → IsSoFar r rounds r.lines d text.role past a → IsJob r d (reverse past) text.role (job_end a)
-is_job r rounds d past a text is_record is_text s = record {
+-- what a job shows, where the calls of all jobs are known
+shows : (r : RecordView) (rounds : ℕ) (d : Description) (past : List Step) (jobs : List JobView) (k : ℕ) (a : ActorView) (text : ActorText) → IsRecord r → HasOwners d (reverse past) jobs → slice_get jobs k ≡ Some (job_end a) → slice_get r.actors a.actor ≡ Some text → IsSoFar r rounds r.lines d text.role past a
+    → IsShown d (reverse past) text.role a.job.sight
+shows r rounds d past jobs k a text is_record owners is_job is_text s =
+    job-shown r d (reverse past) jobs k (job_end a) text rounds a.job s.calls is_record owners is_job is_text s.legal s.told s.follows refl
+
+is_job : (r : RecordView) (rounds : ℕ) (d : Description) (past : List Step) (a : ActorView) (text : ActorText) → IsRecord r → slice_get r.actors a.actor ≡ Some text → IsSoFar r rounds r.lines d text.role past a → AreLossesCaused d (reverse past) a.job.sight → IsJob r d (reverse past) text.role (job_end a)
+is_job r rounds d past a text is_record is_text s losses = record {
   calls = s.calls;
   legal = s.legal;
   memory = s.memory;
@@ -150,7 +158,7 @@ is_job r rounds d past a text is_record is_text s = record {
   rounds = rounds;
   last = a.job;
   follows = s.follows;
-  losses = losses-caused text.role d r.streams rounds (lines_by a.actor r.lines) (reverse past) a.job s.calls s.legal s.told s.follows;
+  losses = losses;
   folded = view-folded r d (reverse past) rounds a.actor text a.job s.calls is_record is_text s.legal s.follows;
   ended = refl;
 }
@@ -172,29 +180,61 @@ is_run_of r rounds stage i device past s is_device is_past =
     ends_numbers [] = refl
     ends_numbers (a ∷ actors) = ap (λ (ns : List ℕ). a.actor ∷ ns) (ends_numbers actors)
 
+-- a job of a device, by what its actor did
+record IsWorkOf (r : RecordView) (rounds : ℕ) (stage : Stage) (i : ℕ) (device : DeviceText) (past : List Step) (job : JobView) : Type 0 where
+  end : IsEndOf r stage i job
+  text : ActorText
+  is_text : slice_get r.actors end.actor.actor ≡ Some text
+  so_far : IsSoFar r rounds r.lines device.caps text.role past end.actor
+
+work_of : (r : RecordView) (rounds : ℕ) (stage : Stage) (i : ℕ) (device : DeviceText) (past : List Step) (k : ℕ) (job : JobView) → IsStage r rounds r.lines stage → slice_get r.devices i ≡ Some device → slice_get stage.pasts i ≡ Some past → slice_get (run_of r stage (i, past)).jobs k ≡ Some job → IsWorkOf r rounds stage i device past job
+work_of r rounds stage i device past k job s is_device is_past h =
+    let e : IsEndOf r stage i job = end_of r rounds stage i k job s h in
+    let t = its_device i (slice_get r.actors e.actor.actor) e.on in
+    record { end = e; text = t.0; is_text = t.1; so_far = so_far_on r rounds stage i device past e.actor t.0 s is_device is_past e.is_actor t.1 t.2 }
+
+-- its role is that of the actor that it names
+same_text : (r : RecordView) (rounds : ℕ) (stage : Stage) (i : ℕ) (device : DeviceText) (past : List Step) (job : JobView) (text : ActorText) (w : IsWorkOf r rounds stage i device past job) → slice_get r.actors job.actor ≡ Some text → w.text ≡ text
+same_text r rounds stage i device past job text w is_text =
+    let actor_is : job.actor ≡ w.end.actor.actor = ap (λ (j : JobView). j.actor) (sym w.end.same) in
+    same_Some w.text text (sym w.is_text ∙ ap (λ (n : ℕ). slice_get r.actors n) (sym actor_is) ∙ is_text)
+
 is_run : (r : RecordView) (rounds : ℕ) (stage : Stage) (i : ℕ) (device : DeviceText) (past : List Step) → IsRecord r → AreDescribed r → IsStage r rounds r.lines stage → slice_get r.devices i ≡ Some device → slice_get stage.pasts i ≡ Some past → IsRun r device.caps (run_of r stage (i, past))
 is_run r rounds stage i device past is_record described s is_device is_past =
-    let end : (k : ℕ) (job : JobView) → slice_get (map job_end (jobs_on r stage.actors i)) k ≡ Some job → IsEndOf r stage i job = λ k job h. end_of r rounds stage i k job s h in
-    let within : length (reverse past) ≤ device.caps.log_limit = subst (λ (d : Description). length (reverse past) ≤ d.log_limit) (description_is r i device is_device) (omega (arith, length-reverse past, s.within i past is_past)) in
-    let jobs : (k : ℕ) (job : JobView) (text : ActorText) → slice_get (run_of r stage (i, past)).jobs k ≡ Some job → slice_get r.actors job.actor ≡ Some text → IsJob r device.caps (reverse past) text.role job =
-    λ k job text h is_text.
-    let e = end k job h in
-    let actor_is : job.actor ≡ e.actor.actor = ap (λ (j : JobView). j.actor) (sym e.same) in
-    let t = its_device i (slice_get r.actors e.actor.actor) e.on in
-    let texts : t.0 ≡ text = same_Some t.0 text (sym t.1 ∙ ap (λ (n : ℕ). slice_get r.actors n) (sym actor_is) ∙ is_text) in
-    let far : IsSoFar r rounds r.lines device.caps t.0.role past e.actor = so_far_on r rounds stage i device past e.actor t.0 s is_device is_past e.is_actor t.1 t.2 in
-    subst (λ (x : ActorText). IsJob r device.caps (reverse past) x.role job) texts (subst (λ (j : JobView). IsJob r device.caps (reverse past) t.0.role j) e.same (is_job r rounds device.caps past e.actor t.0 is_record t.1 far)) in
-    let once : (place : ℕ) → entries_at place (run_of r stage (i, past)).jobs ≡ (if nat_lt place (length (reverse past)) then 1 else 0) = λ place.
+    let d : Description = device.caps in
+    let all : List JobView = (run_of r stage (i, past)).jobs in
+    let work : (k : ℕ) (job : JobView) → slice_get all k ≡ Some job → IsWorkOf r rounds stage i device past job = λ k job h. work_of r rounds stage i device past k job s is_device is_past h in
+    let within : length (reverse past) ≤ d.log_limit = subst (λ (d : Description). length (reverse past) ≤ d.log_limit) (description_is r i device is_device) (omega (arith, length-reverse past, s.within i past is_past)) in
+    let once : (place : ℕ) → entries_at place all ≡ (if nat_lt place (length (reverse past)) then 1 else 0) = λ place.
     sum_by-kept (λ (job : JobView). entries place job.sight) job_end (λ (a : ActorView). is_on_device i (slice_get r.actors a.actor)) stage.actors
     ∙ s.once i past place is_past
     ∙ ap (λ (n : ℕ). below place n) (sym (length-reverse past)) in
+    let owners : HasOwners d (reverse past) all = record {
+      each = λ k job h.
+          let w : IsWorkOf r rounds stage i device past job = work k job h in
+          subst (AreCallsOf d (reverse past)) w.end.same
+          (calls-of w.text.role d (reverse past) r.streams rounds (lines_by w.end.actor.actor r.lines) (job_end w.end.actor) w.end.actor.job w.so_far.calls w.so_far.legal w.so_far.told w.so_far.follows);
+      once = once;
+      short = short-history d (reverse past) (described i device is_device) within;
+    } in
+    let shown : (k : ℕ) (job : JobView) (h : slice_get all k ≡ Some job) → (let w : IsWorkOf r rounds stage i device past job = work k job h in IsShown d (reverse past) w.text.role w.end.actor.job.sight) = λ k job h.
+    let w : IsWorkOf r rounds stage i device past job = work k job h in
+    shows r rounds d past all k w.end.actor w.text is_record owners (h ∙ ap (λ (j : JobView). Some j) (sym w.end.same)) w.is_text w.so_far in
     record {
       within = within;
-      jobs = jobs;
+      jobs = λ k job text h is_text.
+          let w : IsWorkOf r rounds stage i device past job = work k job h in
+          let here : IsShown d (reverse past) w.text.role w.end.actor.job.sight = shown k job h in
+          subst (λ (x : ActorText). IsJob r d (reverse past) x.role job) (same_text r rounds stage i device past job text w is_text)
+          (subst (λ (j : JobView). IsJob r d (reverse past) w.text.role j) w.end.same (is_job r rounds d past w.end.actor w.text is_record w.is_text w.so_far here.losses));
+      accepted = history-of-jobs d (reverse past) all owners;
       faithful = λ client.
-          faithful_by_reads reads-faithful device.caps (reverse (reverse past)) client (described i device is_device)
-          (subst (λ (p : List Step). IsHistory device.caps p) (sym (reverse-reverse past)) (subst (λ (d : Description). IsHistory d past) (description_is r i device is_device) (s.history i past is_past)));
-      seen = run-seen r device.caps i device (run_of r stage (i, past)) is_record (described i device is_device) (is_run_of r rounds stage i device past s is_device is_past) within jobs once;
+          faithful_by_reads reads-faithful d (reverse (reverse past)) client (described i device is_device) (history-of-jobs d (reverse past) all owners);
+      seen = λ k job text h is_text.
+          let w : IsWorkOf r rounds stage i device past job = work k job h in
+          let here : IsShown d (reverse past) w.text.role w.end.actor.job.sight = shown k job h in
+          subst (λ (x : ActorText). AreReportsSeen d (reverse past) x.role job.sight) (same_text r rounds stage i device past job text w is_text)
+          (subst (λ (j : JobView). AreReportsSeen d (reverse past) w.text.role j.sight) w.end.same here.seen);
       once = once;
     }
 

@@ -92,14 +92,14 @@ at_each-noted P before (call ∷ calls) =
 
 -- ---- a history that grows
 
-get-front : {X : Type 0} (xs ys : List X) (i : ℕ) (x : X) → slice_get xs i ≡ Some x → slice_get (xs ++ ys) i ≡ Some x
+pub get-front : {X : Type 0} (xs ys : List X) (i : ℕ) (x : X) → slice_get xs i ≡ Some x → slice_get (xs ++ ys) i ≡ Some x
 get-front [] ys i x h = absurd cc
 get-front (y ∷ xs) ys zero x h = h
 get-front (y ∷ xs) ys (suc i) x h = get-front xs ys i x h
 
-shows-one : (d : Description) (past : List Step) (client : ℕ) (taken : Taken) (view : View) (x : Step) → ShowsAt d past client taken view → ShowsAt d (x ∷ past) client taken view
+shows-one : (d : Description) (past : List Step) (client : ℕ) (own : Option ℕ) (taken : Taken) (view : View) (x : Step) → ShowsAt d past client own taken view → ShowsAt d (x ∷ past) client own taken view
 unfolding took past_before_read
-shows-one d past client taken view x s =
+shows-one d past client own taken view x s =
     let T : List Entry = took d past client in
     let E : List Entry = taken_by d past client x in
     let i : ℕ = s.index in
@@ -113,6 +113,7 @@ shows-one d past client taken view x s =
     ∙ ap (λ (es : List Entry). is_synchronised d earlier client es) (before (length (took d earlier client))) in
     record {
       index = i;
+      is_own = s.is_own;
       is_taken = ap (λ (ts : List Taken). slice_get ts i) (map-append taken_of T E) ∙ get-front (map taken_of T) (map taken_of E) i taken s.is_taken;
       agrees = λ h. subst (λ (v : View). AgreesIn d view v) (sym (at-earlier d past client i x within)) (s.agrees (sym synchronised ∙ h));
     }
@@ -123,9 +124,9 @@ shows-one d past client taken view x s =
     take-front (suc n) (x ∷ xs) ys h = ap (λ (es : List Entry). x ∷ es) (take-front n xs ys (omega (arith, h)))
 
 -- what a client took stays so
-pub shows-later : (d : Description) (more past : List Step) (client : ℕ) (taken : Taken) (view : View) → ShowsAt d past client taken view → ShowsAt d (more ++ past) client taken view
-shows-later d [] past client taken view s = s
-shows-later d (x ∷ more) past client taken view s = shows-one d (more ++ past) client taken view x (shows-later d more past client taken view s)
+pub shows-later : (d : Description) (more past : List Step) (client : ℕ) (own : Option ℕ) (taken : Taken) (view : View) → ShowsAt d past client own taken view → ShowsAt d (more ++ past) client own taken view
+shows-later d [] past client own taken view s = s
+shows-later d (x ∷ more) past client own taken view s = shows-one d (more ++ past) client own taken view x (shows-later d more past client own taken view s)
 
 pub history-later : (d : Description) (more past : List Step) → IsHistory d (more ++ past) → IsHistory d past
 history-later d [] past h = h

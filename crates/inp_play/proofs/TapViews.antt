@@ -38,7 +38,6 @@ use Rattle.inp_reader.specs.Spare.{is_event_of}
 use Rattle.inp_reader.specs.Standing.{is_use, is_use_of, is_read, events_of}
 use Rattle.inp_reader.specs.Talk.{LeadsTo, EndsWith}
 use Rattle.inp_reader.proofs.Agreeing.{Compared, AgreeBut, is_get_keys, is_get_switches, is_get_leds, is_get_axis, is_sync_slots, agree-answer}
-use Rattle.inp_model.proofs.Refused.{refused-not_accepted}
 use Rattle.inp_reader.proofs.ClientViews.{accepted-answer, accepted-accepts, at-last, idle-step, no-events, no_read-takes, read-view, taken-events, used-taken, used-view}
 use Rattle.inp_reader.proofs.Meeting.{AreQuiet}
 use Rattle.inp_reader.proofs.Showings.{what_is_had, agree-events, at-it}
@@ -53,7 +52,9 @@ use Rattle.inp_script.specs.Line.{step_of, client_after, event_of_taken, view_af
 use Rattle.inp_script.specs.Sight.{call_sight, again_sight, taken_sight, lacks_memory}
 use Rattle.inp_script.proofs.Folds.{tap_fold-append, call-folds, entries-fold, fold-taken, again_sets_nothing, tap_memory}
 use Rattle.inp_script.proofs.LastAgain.{finish-only}
-use Rattle.inp_play.specs.JobViews.{client_after_sight, reads_as, ShowsAt, IsSeenAt}
+use Rattle.inp_play.specs.JobViews.{client_after_sight, reads_as, index_in_history, ShowsAt, IsSeenAt}
+use Rattle.inp_play.proofs.AtHand.{accepted-exact, index-read}
+use Rattle.inp_play.proofs.LastReads.{read-as}
 use Rattle.inp_play.proofs.Reports.{AtEach, at_each-append, at_each-call, at_each-again, shows-later, history-at, whole-past, HasNoOthers, no-others-first, no-others-events, no-others-answer, no-others-at, agrees-had, sized-at, AreToCome, quiet-before, past-entered, place_behind}
 
 -- ---- what was asked for since the client's start
@@ -253,7 +254,7 @@ front-of done rest es t h =
     ∙ take_at (done ++ t ∷ []) rest (suc (length done)) (length-append done (t ∷ []) ∙ omega arith)
 
 read-shows : (d : Description) (past : List Step) (client : ℕ) (x : Step) (v : View) (done rest : List Taken) (t : Taken) → IsHistory d (x ∷ past) → is_use_of client x ≡ true → (answer d past x).events ≡ done ++ t ∷ rest → HasNoOthers d v → IsSizedFor d.slots v → IsAsked d past client v
-    → ShowsAt d (x ∷ past) client t (view_after_events v (events_of (done ++ t ∷ [])))
+    → ShowsAt d (x ∷ past) client (Some (length (took d past client) + length done)) t (view_after_events v (events_of (done ++ t ∷ [])))
 unfolding took past_before_read
 read-shows d past client x v done rest t history used is bare sized a =
     let T : List Entry = took d past client in
@@ -275,6 +276,7 @@ read-shows d past client x v done rest t history used is bare sized a =
     subst (λ (ts : List Taken). All (λ (u : Taken). is_event_of d u.event ≡ true) ts) (front-of done rest given.events t is) (All-take (λ (u : Taken). is_event_of d u.event ≡ true) (suc (length done)) given.events (events-of d past x given (inl refl))) in
     record {
       index = i;
+      is_own = refl;
       is_taken =
           ap (λ (ts : List Taken). slice_get ts i) (map-append taken_of T E ∙ ap (λ (ts : List Taken). map taken_of T ++ ts) (told ∙ is ∙ sym (append_assoc done (t ∷ []) rest)))
           ∙ at-it (map taken_of T) done rest t i (ap (λ (m : ℕ). m + length done) (sym (length-map T taken_of)));
@@ -367,15 +369,6 @@ refused-events-by d past x (Some reply) h = refl
 refused-events : (d : Description) (past : List Step) (x : Step) (given : Answer) → IsAnswer d past x given → is_accepted given.reply ≡ false → given.events ≡ []
 refused-events d past x given (inl e) h = ap (λ (a : Answer). a.events) e ∙ refused-events-by d past x (refused d past x) (ap (λ (a : Answer). is_accepted a.reply) (sym e) ∙ h)
 refused-events d past x given (inr l) h = ap (λ (a : Answer). a.events) l.2
-
--- one that is accepted is the one-thread device's
-accepted-exact-by : (d : Description) (past : List Step) (x : Step) (o : Option Reply) → refused d past x ≡ o → is_accepted (answer_by o (accepted d past x)).reply ≡ true → o ≡ None
-accepted-exact-by d past x None h is = refl
-accepted-exact-by d past x (Some reply) h is = absurd (true≢false (sym is ∙ refused-not_accepted d past x reply h))
-
-accepted-exact : (d : Description) (past : List Step) (x : Step) (given : Answer) → IsAnswer d past x given → is_accepted given.reply ≡ true → (given ≡ answer d past x) × (refused d past x ≡ None)
-accepted-exact d past x given (inl e) h = (e, accepted-exact-by d past x (refused d past x) refl (ap (λ (a : Answer). is_accepted a.reply) (sym e) ∙ h))
-accepted-exact d past x given (inr l) h = absurd (false≢true (ap (λ (a : Answer). is_accepted a.reply) (sym l.2) ∙ h))
 
 -- a tap sets its view by an answer and then by the events, of which only a read has any
 made-same : (d : Description) (past : List Step) (v : View) (x : Step) (o : Option Reply) → (let given : Answer = answer_by o (accepted d past x) in view_after_call v x given ≡ view_made v x given)
@@ -495,11 +488,12 @@ module _ (d : Description) (h : List Step) (Q : ℕ → Type 0) (history : IsHis
       let a : Q client × IsAsked d past client v = named-asked least j call calls c s exact.1 named in
       let next : past_at h (next_place reply) ≡ x ∷ past = past-entered d h call placed ∙ cond-true (is_accepted reply) (x ∷ past) past is in
       let here : IsHistory d (x ∷ past) = subst (IsHistory d) next (history-at d h (next_place reply) history) in
-      let shown : ShowsAt d (x ∷ past) client t (view_after_events v (events_of taken)) =
+      let i : ℕ = length (took d past client) + length front in
+      let shown : ShowsAt d (x ∷ past) client (Some i) t (view_after_events v (events_of taken)) =
       read-shows d past client x v front behind t here (read-is_use client x read named) (ap (λ (g : Answer). g.events) (sym exact.0) ∙ e) s.bare s.sized a.1 in
       let whole : reverse h ≡ reverse (drop (next_place reply) h) ++ (x ∷ past) = whole-past h (next_place reply) ∙ ap (λ (p : List Step). reverse (drop (next_place reply) h) ++ p) next in
-      let later : ShowsAt d (reverse h) client t (view_after_events v (events_of taken)) =
-      subst (λ (p : List Step). ShowsAt d p client t (view_after_events v (events_of taken))) (sym whole) (shows-later d (reverse (drop (next_place reply) h)) (x ∷ past) client t (view_after_events v (events_of taken)) shown) in
+      let later : ShowsAt d (reverse h) client (Some i) t (view_after_events v (events_of taken)) =
+      subst (λ (p : List Step). ShowsAt d p client (Some i) t (view_after_events v (events_of taken))) (sym whole) (shows-later d (reverse (drop (next_place reply) h)) (x ∷ past) client (Some i) t (view_after_events v (events_of taken)) shown) in
       let sight : (j.sight ++ told) ++ es ≡ j.sight ++ (told ++ es) = append_assoc j.sight told es in
       let same : reads_as ((j.sight ++ told) ++ es) ≡ client =
       ap reads_as sight ∙ client_after-append NO_CLIENT j.sight (told ++ es) ∙ ap (λ (n : ℕ). client_after_sight n (told ++ es)) s.reads
@@ -509,8 +503,13 @@ module _ (d : Description) (h : List Step) (Q : ℕ → Type 0) (history : IsHis
       ∙ tap_fold-append d h (first_view d) j.sight (told ++ es) ∙ ap (λ (u : View). tap_fold d h u (told ++ es)) s.fold
       ∙ tap_fold-append d h v told es ∙ ap (λ (u : View). tap_fold d h u es) (entries-fold d h v x given placed.exact ∙ read-sets_nothing v x reply given.cells read)
       ∙ fold-taken d h v taken in
-      subst (λ (n : ℕ). ShowsAt d (reverse h) n t (tap_fold d h (first_view d) ((j.sight ++ told) ++ es))) (sym same)
-      (subst (λ (u : View). ShowsAt d (reverse h) client t u) (sym view) later)
+      let count : (0 + length taken) - 1 ≡ length front = omega (arith, length-append front (t ∷ [])) in
+      let own : index_in_history d h ((j.sight ++ told) ++ es) ≡ Some i =
+      index-read d h client j.sight x reply taken same (read-as client x read named) is
+      ∙ ap (λ (n : ℕ). Some (length (took d past client) + n)) count in
+      subst (λ (n : ℕ). ShowsAt d (reverse h) n (index_in_history d h ((j.sight ++ told) ++ es)) t (tap_fold d h (first_view d) ((j.sight ++ told) ++ es))) (sym same)
+      (subst (λ (o : Option ℕ). ShowsAt d (reverse h) client o t (tap_fold d h (first_view d) ((j.sight ++ told) ++ es))) (sym own)
+      (subst (λ (u : View). ShowsAt d (reverse h) client (Some i) t u) (sym view) later))
 
   -- all that a tap's call gave
   tap-events : (least : ℕ) (j : Job) (call : Call) (calls : List Call) → AreToCome d h Q least (call ∷ calls) → TapStands d h Q least j → IsTapStep j.reading.client call.step

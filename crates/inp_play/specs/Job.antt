@@ -17,7 +17,7 @@ use Rattle.inp_actors.specs.declared.actor_text.ActorText.{ActorText}
 use Rattle.inp_actors.specs.declared.device_text.DeviceText.{DeviceText}
 use Rattle.inp_actors.specs.declared.line.Line.{Line}
 use Rattle.inp_actors.specs.Record.{RecordView, IsRecord}
-use Rattle.inp_recon.specs.Faithful.{IsFaithful}
+use Rattle.inp_recon.specs.Faithful.{IsHistory, IsFaithful}
 use Rattle.inp_reader.specs.Talk.{Talk, finish, and_then, EndsWith}
 use Rattle.inp_script.specs.declared.run.Run.{Run}
 use Rattle.inp_script.specs.declared.sight.Sight.{Sight}
@@ -27,7 +27,7 @@ use Rattle.inp_script.specs.Fold.{IsFolded}
 use Rattle.inp_script.specs.Job.{Job, JobView, first_job, job_end}
 use Rattle.inp_script.specs.Legal.{entries_of, is_call_entry}
 use Rattle.inp_script.specs.Runs.{AreRunsOf}
-use Rattle.inp_play.specs.JobViews.{AreReportsSeen, ShowsTheState, reads_as, sight_view}
+use Rattle.inp_play.specs.JobViews.{AreReportsSeen, ShowsTheState, reads_as, index_in_history, sight_view}
 use Rattle.inp_play.specs.Losses.{AreLossesCaused}
 use Rattle.inp_play.specs.Play.{IsPlay}
 
@@ -86,6 +86,8 @@ entries_at place jobs = sum_by (λ (job : JobView). count_by (is_entry_at place)
 pub record IsRun (r : RecordView) (d : Description) (run : Run) : Type 0 where
   pub within : length run.history ≤ d.log_limit
   pub jobs : (i : ℕ) (job : JobView) (text : ActorText) → slice_get run.jobs i ≡ Some job → slice_get r.actors job.actor ≡ Some text → IsJob r d run.history text.role job
+  -- each step of the history was accepted after those before it
+  pub accepted : IsHistory d (reverse run.history)
   -- the history is faithful to each client
   pub faithful : (client : ℕ) → IsFaithful d (reverse run.history) client
   -- at each report that a job took, its view is the one that its client has in the history
@@ -112,4 +114,5 @@ JobsShowTheDevice =
     (r : RecordView) (d : Description) (run : Run) (i k : ℕ) (job : JobView) (text : ActorText) (taken : Taken)
     → IsRun r d run → slice_get run.jobs i ≡ Some job → slice_get r.actors job.actor ≡ Some text
     → slice_get job.sight k ≡ Some (Took taken) → is_report taken.event ≡ true
-    → ShowsTheState d (reverse run.history) (reads_as (take (suc k) job.sight)) taken (sight_view text.role d run.history (take (suc k) job.sight))
+    → (let sight = take (suc k) job.sight in
+    ShowsTheState d (reverse run.history) (reads_as sight) (index_in_history d run.history sight) taken (sight_view text.role d run.history sight))

@@ -1,12 +1,15 @@
 -- What a job's view is at each report that it took (docs/RULES.md, "What a sight tells of the device").
-use Rattle.std.specs.Prelude.{ℕ, suc, ◌≡◌, ◌<◌, pos, true, List, [], ◌∷◌, map, take, reverse, slice_get, slice_index_or, Some}
+use Rattle.std.specs.Prelude.{ℕ, suc, ◌+◌, ◌-◌, ◌≡◌, ◌<◌, pos, Bool, true, false, ◌&&◌, if◌then◌else◌, nat_eq, List, [], ◌∷◌, length, map, take, reverse, slice_get, slice_index_or, Option, Some, None, option_map}
 use Rattle.inp_model.specs.declared.taken.Taken.{Taken}
 use Rattle.inp_model.specs.declared.step.Step.{Step}
+use Rattle.inp_model.specs.declared.step.Step.TheVariants.{Read}
 use Rattle.inp_model.specs.Description.{Description}
 use Rattle.inp_model.specs.Event.{is_report}
 use Rattle.inp_model.specs.Frame.{Frame}
+use Rattle.inp_model.specs.Past.{past_at}
 use Rattle.inp_model.specs.Queue.{took}
-use Rattle.inp_model.specs.Reply.{taken_of}
+use Rattle.inp_model.specs.Reply.{is_accepted, taken_of}
+use Rattle.inp_model.specs.Run.{place_of}
 use Rattle.inp_actors.specs.declared.role.Role.{Role}
 use Rattle.inp_actors.specs.declared.role.Role.TheVariants.{Source, Client, Tap}
 use Rattle.inp_recon.specs.declared.view.View.{View}
@@ -35,6 +38,43 @@ client_after_sight client (entry ∷ sight) = client_after_sight (client_after_e
 abbrev pub reads_as : List Sight → ℕ
 reads_as sight = client_after_sight NO_CLIENT sight
 
+-- a read as this client
+abbrev pub is_read_as : ℕ → Step → Bool
+is_read_as client (Read named count) = nat_eq named client
+is_read_as client _ = false
+
+-- an accepted read of a job, and how much of it the job was handed so far
+pub record LastRead : Type 0 where
+  -- the place of the read
+  pub place : ℕ
+  -- how many events the sight took behind it
+  pub events : ℕ
+
+-- an accepted read as this client is the last one so far, and an event more was taken behind it at each Took
+abbrev pub read_after_entry : ℕ → Option LastRead → Sight → Option LastRead
+read_after_entry client last (Call x reply) =
+    if is_read_as client x && is_accepted reply then Some (record { place = place_of reply; events = 0 }) else last
+read_after_entry client last (Took taken) = option_map (λ (read : LastRead). record read { events = suc read.events }) last
+read_after_entry client last (Made event) = last
+read_after_entry client last (Again at ends) = last
+
+unfoldable pub read_after_sight : ℕ → Option LastRead → List Sight → Option LastRead
+read_after_sight client last [] = last
+read_after_sight client last (entry ∷ sight) = read_after_sight client (read_after_entry client last entry) sight
+
+-- the last accepted read of a sight as the client that the job reads as then
+abbrev pub last_read : List Sight → Option LastRead
+last_read sight = read_after_sight (reads_as sight) None sight
+
+-- Which event of a client a job took last: so many events had the client taken before this read, and of those behind it
+-- all but the last one were handed to the job before.
+abbrev pub index_behind : Description → List Step → ℕ → LastRead → ℕ
+index_behind d history client read = length (took d (past_at history read.place) client) + (read.events - 1)
+
+-- which event of its client the last one of a sight is
+abbrev pub index_in_history : Description → List Step → List Sight → Option ℕ
+index_in_history d history sight = option_map (index_behind d history (reads_as sight)) (last_read sight)
+
 -- while not all queries are answered the view is the one before them
 abbrev pub folded_view : Folding → View
 folded_view (settled view) = view
@@ -56,18 +96,20 @@ pub record AgreesIn (d : Description) (v w : View) : Type 0 where
   pub cells : v.cells ≡ w.cells
   pub slot : 0 < d.slots → v.slot ≡ w.slot
 
--- An event is one of those that a client took, and where the client is synchronised then, this view agrees with the
--- client's view in the history. A history is written newest first, and is called a past.
-pub record ShowsAt (d : Description) (past : List Step) (client : ℕ) (taken : Taken) (view : View) : Type 0 where
+-- An event is the one of its own index among those that a client took, and where the client is synchronised then, this view
+-- agrees with the client's view in the history. A history is written newest first, and is called a past.
+pub record ShowsAt (d : Description) (past : List Step) (client : ℕ) (own : Option ℕ) (taken : Taken) (view : View) : Type 0 where
   -- which of the events that the client took
   pub index : ℕ
+  pub is_own : own ≡ Some index
   pub is_taken : slice_get (map taken_of (took d past client)) index ≡ Some taken
   pub agrees : is_synchronised d (past_before_read d past client index) client (read_up_to d past client index) ≡ true
       → AgreesIn d view (view_at d past client index)
 
 -- the same of the last event of a sight, and of the client that the job reads as then
 abbrev pub IsSeenAt : Description → List Step → Role → List Sight → Taken → Type 0
-IsSeenAt d history role sight taken = ShowsAt d (reverse history) (reads_as sight) taken (sight_view role d history sight)
+IsSeenAt d history role sight taken =
+    ShowsAt d (reverse history) (reads_as sight) (index_in_history d history sight) taken (sight_view role d history sight)
 
 -- At each report that a job took, its view up to then is the one that its client has in the history.
 abbrev pub AreReportsSeen : Description → List Step → Role → List Sight → Type 0
@@ -75,10 +117,11 @@ AreReportsSeen d history role sight =
     (k : ℕ) (taken : Taken) → slice_get sight k ≡ Some (Took taken) → is_report taken.event ≡ true
     → IsSeenAt d history role (take (suc k) sight) taken
 
--- An event is one of those that a client took, and where it is the report of a frame up to which the client could follow
--- the device, this view is the device's state at the frame's end.
-pub record ShowsTheState (d : Description) (past : List Step) (client : ℕ) (taken : Taken) (view : View) : Type 0 where
+-- An event is the one of its own index among those that a client took, and where it is the report of a frame up to which the
+-- client could follow the device, this view is the device's state at the frame's end.
+pub record ShowsTheState (d : Description) (past : List Step) (client : ℕ) (own : Option ℕ) (taken : Taken) (view : View) : Type 0 where
   pub index : ℕ
+  pub is_own : own ≡ Some index
   pub is_taken : slice_get (map taken_of (took d past client)) index ≡ Some taken
   pub shows : (f : Frame)
       → IsReportAt (took d past client) index f

@@ -1,5 +1,6 @@
 pub mod Play
 pub mod Player
-pub mod Losses
 pub mod JobViews
+pub mod IndexExamples
+pub mod Losses
 pub mod Job

@@ -1,4 +1,5 @@
 //! What is true of what comes of each record.
+ghost use Rattle.inp_play.specs.IndexExamples.{CountsBehindTheLastRead, TellsEqualEventsApart, CountsAcceptedReadsOfItsClient};
 ghost use Rattle.inp_play.specs.Job.{EachPlayIsPromised, JobsShowTheDevice};
 ghost use Rattle.inp_play.specs.Play.{HasOnePlay};
 
@@ -16,4 +17,11 @@ pub fn each_play_is_promised()
 /// client could follow the device up to there. It does nothing: its contract is the point.
 pub fn jobs_show_the_device()
     ensures shown { JobsShowTheDevice }
+{}
+
+/// Which event of its client a job took last, computed on a short sight. It does nothing: its contract is the point.
+pub fn indices_on_a_short_sight()
+    ensures counts { CountsBehindTheLastRead }
+    ensures apart { TellsEqualEventsApart }
+    ensures own_client { CountsAcceptedReadsOfItsClient }
 {}

@@ -15,5 +15,7 @@ mod playing;
 #[cfg(test)]
 mod tests;
 
-pub use laws::{at_most_one_play, each_play_is_promised, jobs_show_the_device};
+pub use laws::{
+    at_most_one_play, each_play_is_promised, indices_on_a_short_sight, jobs_show_the_device,
+};
 pub use playing::play;

@@ -1,5 +1,5 @@
 -- A job's view at a report is its client's there, and so the device's.
-use Rattle.std.proofs.Common.{ℕ, Bool, false, List, reverse, ap, ◌∙◌}
+use Rattle.std.proofs.Common.{ℕ, Bool, false, List, reverse, ap, ◌∙◌, Option}
 use Rattle.std.specs.Prelude.{slice_index_or}
 use Rattle.inp_model.specs.declared.event.Event.{Event}
 use Rattle.inp_model.specs.declared.taken.Taken.{Taken}
@@ -20,9 +20,10 @@ state-agrees d r v w a s = record {
   slot = λ some. a.slot some ∙ s.slot some;
 }
 
-shown : (d : Description) (past : List Step) (client : ℕ) (taken : Taken) (view : View) → IsFaithful d past client → ShowsAt d past client taken view → ShowsTheState d past client taken view
-shown d past client taken view faithful s = record {
+shown : (d : Description) (past : List Step) (client : ℕ) (own : Option ℕ) (taken : Taken) (view : View) → IsFaithful d past client → ShowsAt d past client own taken view → ShowsTheState d past client own taken view
+shown d past client own taken view faithful s = record {
   index = s.index;
+  is_own = s.is_own;
   is_taken = s.is_taken;
   shows = λ f report followed. state-agrees d f.cut.until view _ (s.agrees followed.synchronised) (faithful s.index f report followed);
 }
@@ -30,5 +31,5 @@ shown d past client taken view faithful s = record {
 pub returns : goal.returns
 returns c = record {
   shown = λ r d run i k job text taken is_run is_job is_text at report.
-      shown d (reverse run.history) _ taken _ (is_run.faithful _) (is_run.seen i job text is_job is_text k taken at report);
+      shown d (reverse run.history) _ _ taken _ (is_run.faithful _) (is_run.seen i job text is_job is_text k taken at report);
 }
