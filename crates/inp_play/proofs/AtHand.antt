@@ -24,19 +24,13 @@ use Rattle.inp_script.specs.declared.sight.Sight.{Sight}
 use Rattle.inp_script.specs.declared.sight.Sight.TheVariants.{Took}
 use Rattle.inp_script.specs.Sight.{call_sight, again_sight, taken_sight}
 use Rattle.inp_script.proofs.Told.{noted_sight}
-use Rattle.inp_play.specs.JobViews.{LastRead, reads_as, is_read_as, read_after_sight, index_behind, index_in_history, ShowsAt}
+use Rattle.inp_play.specs.JobViews.{LastRead, IsOwnEvent, reads_as, is_read_as, read_after_sight, index_behind, index_in_history, ShowsAt}
 use Rattle.inp_play.specs.Losses.{HasLossCause}
 use Rattle.inp_play.proofs.LastReads.{one_event_more, read_after-append, read_after-took, read_after-read, read_after-call, read_after-takens}
 use Rattle.inp_play.proofs.QueueSources.{ComeFrom}
 use Rattle.inp_play.proofs.Reports.{get-front, whole-past, AreToCome, to-come-behind, past-entered, place_behind, place_behind-append}
 
 -- ---- an event that a job took
-
--- The last event of a sight is the one of its own index among those that its client took.
-pub record IsOwnEvent (d : Description) (h : List Step) (sight : List Sight) (taken : Taken) : Type 0 where
-  pub index : ℕ
-  pub is_own : index_in_history d h sight ≡ Some index
-  pub is_taken : slice_get (map taken_of (took d (reverse h) (reads_as sight))) index ≡ Some taken
 
 -- an entry of an event at a place
 record IsEntryAt (entries : List Entry) (index : ℕ) (taken : Taken) : Type 0 where

@@ -51,8 +51,8 @@ use Rattle.inp_script.proofs.LastAgain.{finish-only, and_then-parts}
 use Rattle.inp_script.proofs.LineFolds.{IsClientFold, folds-on, start_job-folds, IsSilent, no_events, silent-fold}
 use Rattle.inp_script.proofs.LineTold.{memory_there}
 use Rattle.inp_script.proofs.Told.{noted-back, noted_sight}
-use Rattle.inp_play.specs.JobViews.{LastRead, client_after_sight, reads_as, is_read_as, read_after_sight, index_in_history, folded_view, sight_view, ShowsAt, IsSeenAt}
-use Rattle.inp_play.proofs.AtHand.{IsOwnEvent, AreAtHand, IsRest, hand-first, hand-took, hand-index, hand-taken, taken-later, index-took, next-hand}
+use Rattle.inp_play.specs.JobViews.{LastRead, IsOwnEvent, client_after_sight, reads_as, is_read_as, read_after_sight, index_in_history, folded_view, sight_view, ShowsAt, IsSeenAt}
+use Rattle.inp_play.proofs.AtHand.{AreAtHand, IsRest, hand-first, hand-took, hand-index, hand-taken, taken-later, index-took, next-hand}
 use Rattle.inp_play.proofs.ClientReadings.{IsUnopened, IsReadingAt, NextReads, HandsAt, next-reads, start-reads, quiet-reads, quiet-hand, start-hand, legal-first}
 use Rattle.inp_play.proofs.Folded.{legal-placed}
 use Rattle.inp_play.proofs.JobClients.{Drops, last_opened, next-names, start-names}

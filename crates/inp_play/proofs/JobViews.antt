@@ -38,9 +38,9 @@ use Rattle.inp_script.specs.declared.sight.Sight.TheVariants.{Took}
 use Rattle.inp_script.specs.Sight.{call_sight, again_sight, taken_sight}
 use Rattle.inp_script.proofs.LastAgain.{finish-only, and_then-parts}
 use Rattle.inp_play.specs.Job.{lines_by, on_job, lines_talk}
-use Rattle.inp_play.specs.JobViews.{AreReportsSeen, sight_view}
+use Rattle.inp_play.specs.JobViews.{IsOwnEvent, AreEventsOwn, AreReportsSeen, sight_view}
 use Rattle.inp_play.specs.Losses.{AreLossesCaused}
-use Rattle.inp_play.proofs.AtHand.{IsOwnEvent, own-caused, shown-own}
+use Rattle.inp_play.proofs.AtHand.{own-caused, shown-own}
 use Rattle.inp_play.proofs.ClientReports.{IsClientJob, ClientSaw, client-line, client-first}
 use Rattle.inp_play.proofs.Folded.{AreOfRole, its_lines}
 use Rattle.inp_play.proofs.Owners.{HasOwners, is_opened_as, is_opening_of, history-of-jobs}
@@ -174,7 +174,7 @@ module _ (d : Description) (h : List Step) (Q : ℕ → Type 0) (history : IsHis
   stands-seen Tap least j s = λ k taken at report. at_each-at (TapSaw d h) [] j.sight k taken s.seen at
 
   -- each event that it took is the one of its own index
-  stands-own : (role : Role) (least : ℕ) (j : Job) → JobStands role d h Q least j → (k : ℕ) (taken : Taken) → slice_get j.sight k ≡ Some (Took taken) → IsOwnEvent d h (take (suc k) j.sight) taken
+  stands-own : (role : Role) (least : ℕ) (j : Job) → JobStands role d h Q least j → AreEventsOwn d h j.sight
   stands-own Source least j s = λ k taken at. absurd (at_each-at TookNothing [] j.sight k taken s at)
   stands-own Client least j s = λ k taken at. (let saw : ClientSaw d h (take (suc k) j.sight) taken = at_each-at (ClientSaw d h) [] j.sight k taken s.seen at in saw.own)
   stands-own Tap least j s = λ k taken at. shown-own d h (take (suc k) j.sight) taken (sight_view Tap d h (take (suc k) j.sight)) (at_each-at (TapSaw d h) [] j.sight k taken s.seen at)
@@ -194,8 +194,9 @@ opened-among all (call ∷ calls) f = (
     or-true true b k = refl
     or-true false b k = k
 
--- What the sight of a job shows: its view at each report, and why it lost events.
+-- What the sight of a job shows: which events it took, its view at each report, and why it lost events.
 pub record IsShown (d : Description) (h : List Step) (role : Role) (sight : List Sight) : Type 0 where
+  pub own : AreEventsOwn d h sight
   pub seen : AreReportsSeen d h role sight
   pub losses : AreLossesCaused d h sight
 
@@ -209,9 +210,10 @@ job-shown r d h jobs i job text rounds last calls is_record owners is_job is_tex
     let c : AreToCome d h Q 0 calls = record { within = omega arith; legal = legal; own = own; opened = opened-among calls calls (λ client k. k) } in
     let stands : JobStands text.role d h Q (place_behind 0 calls) last =
     lines-stand d h Q history owners.short text.role r.streams rounds lines 0 (first_job d) last calls (its_lines r job.actor text is_text r.lines is_record.commands) c follows (first-stands d h Q history owners.short text.role) in
-    let own_events : (k : ℕ) (taken : Taken) → slice_get last.sight k ≡ Some (Took taken) → IsOwnEvent d h (take (suc k) last.sight) taken = stands-own d h Q history owners.short text.role (place_behind 0 calls) last stands in
+    let own_events : AreEventsOwn d h last.sight = stands-own d h Q history owners.short text.role (place_behind 0 calls) last stands in
     subst (IsShown d h text.role) (sym same)
     (record {
+      own = own_events;
       seen = stands-seen d h Q history owners.short text.role (place_behind 0 calls) last stands;
       losses = λ k taken at lost. own-caused d h (take (suc k) last.sight) taken (own_events k taken at) lost;
     })

@@ -23,7 +23,6 @@ use Rattle.inp_script.specs.Job.{ActorView, JobView, job_end}
 use Rattle.inp_script.specs.Runs.{is_on_device, IsRunOf}
 use Rattle.inp_play.specs.Job.{lines_by, lines_talk, IsJob, IsRun, entries_at, AreDescribed, ArePromised}
 use Rattle.inp_play.specs.JobViews.{AreReportsSeen}
-use Rattle.inp_play.specs.Losses.{AreLossesCaused}
 use Rattle.inp_play.specs.Play.{Stage, description_at, first_actor, first_stage, after_lines, jobs_on, run_of, runs_of, play, IsPlay}
 use Rattle.inp_play.proofs.Folded.{view-folded}
 use Rattle.inp_play.proofs.JobViews.{IsShown, job-shown}
@@ -149,8 +148,8 @@ shows : (r : RecordView) (rounds : ℕ) (d : Description) (past : List Step) (jo
 shows r rounds d past jobs k a text is_record owners is_job is_text s =
     job-shown r d (reverse past) jobs k (job_end a) text rounds a.job s.calls is_record owners is_job is_text s.legal s.told s.follows refl
 
-is_job : (r : RecordView) (rounds : ℕ) (d : Description) (past : List Step) (a : ActorView) (text : ActorText) → IsRecord r → slice_get r.actors a.actor ≡ Some text → IsSoFar r rounds r.lines d text.role past a → AreLossesCaused d (reverse past) a.job.sight → IsJob r d (reverse past) text.role (job_end a)
-is_job r rounds d past a text is_record is_text s losses = record {
+is_job : (r : RecordView) (rounds : ℕ) (d : Description) (past : List Step) (a : ActorView) (text : ActorText) → IsRecord r → slice_get r.actors a.actor ≡ Some text → IsSoFar r rounds r.lines d text.role past a → IsShown d (reverse past) text.role a.job.sight → IsJob r d (reverse past) text.role (job_end a)
+is_job r rounds d past a text is_record is_text s shown = record {
   calls = s.calls;
   legal = s.legal;
   memory = s.memory;
@@ -158,7 +157,8 @@ is_job r rounds d past a text is_record is_text s losses = record {
   rounds = rounds;
   last = a.job;
   follows = s.follows;
-  losses = losses;
+  own = shown.own;
+  losses = shown.losses;
   folded = view-folded r d (reverse past) rounds a.actor text a.job s.calls is_record is_text s.legal s.follows;
   ended = refl;
 }
@@ -226,7 +226,7 @@ is_run r rounds stage i device past is_record described s is_device is_past =
           let w : IsWorkOf r rounds stage i device past job = work k job h in
           let here : IsShown d (reverse past) w.text.role w.end.actor.job.sight = shown k job h in
           subst (λ (x : ActorText). IsJob r d (reverse past) x.role job) (same_text r rounds stage i device past job text w is_text)
-          (subst (λ (j : JobView). IsJob r d (reverse past) w.text.role j) w.end.same (is_job r rounds d past w.end.actor w.text is_record w.is_text w.so_far here.losses));
+          (subst (λ (j : JobView). IsJob r d (reverse past) w.text.role j) w.end.same (is_job r rounds d past w.end.actor w.text is_record w.is_text w.so_far here));
       accepted = history-of-jobs d (reverse past) all owners;
       faithful = λ client.
           faithful_by_reads reads-faithful d (reverse (reverse past)) client (described i device is_device) (history-of-jobs d (reverse past) all owners);

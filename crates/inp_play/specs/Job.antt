@@ -27,7 +27,7 @@ use Rattle.inp_script.specs.Fold.{IsFolded}
 use Rattle.inp_script.specs.Job.{Job, JobView, first_job, job_end}
 use Rattle.inp_script.specs.Legal.{entries_of, is_call_entry}
 use Rattle.inp_script.specs.Runs.{AreRunsOf}
-use Rattle.inp_play.specs.JobViews.{AreReportsSeen, ShowsTheState, reads_as, index_in_history, sight_view}
+use Rattle.inp_play.specs.JobViews.{AreEventsOwn, AreReportsSeen, ShowsTheState, reads_as, index_in_history, sight_view}
 use Rattle.inp_play.specs.Losses.{AreLossesCaused}
 use Rattle.inp_play.specs.Play.{IsPlay}
 
@@ -66,6 +66,8 @@ pub record IsJob (r : RecordView) (d : Description) (history : List Step) (role 
   pub last : Job
   -- it follows its lines
   pub follows : EndsWith (lines_talk role d r.streams rounds (lines_by job.actor r.lines) (first_job d)) calls (Some last)
+  -- each event that it took is the one of its own index among those that its client took
+  pub own : AreEventsOwn d history job.sight
   -- each loss that it took has its cause
   pub losses : AreLossesCaused d history job.sight
   -- its view is the fold of its whole sight

@@ -75,6 +75,17 @@ index_behind d history client read = length (took d (past_at history read.place)
 abbrev pub index_in_history : Description → List Step → List Sight → Option ℕ
 index_in_history d history sight = option_map (index_behind d history (reads_as sight)) (last_read sight)
 
+-- The last event of a sight is the one of its own index among those that the job's client took.
+pub record IsOwnEvent (d : Description) (history : List Step) (sight : List Sight) (taken : Taken) : Type 0 where
+  pub index : ℕ
+  pub is_own : index_in_history d history sight ≡ Some index
+  pub is_taken : slice_get (map taken_of (took d (reverse history) (reads_as sight))) index ≡ Some taken
+
+-- each event that a job took is such
+abbrev pub AreEventsOwn : Description → List Step → List Sight → Type 0
+AreEventsOwn d history sight =
+    (k : ℕ) (taken : Taken) → slice_get sight k ≡ Some (Took taken) → IsOwnEvent d history (take (suc k) sight) taken
+
 -- while not all queries are answered the view is the one before them
 abbrev pub folded_view : Folding → View
 folded_view (settled view) = view
