@@ -17,7 +17,8 @@ use Rattle.inp_actors.specs.declared.actor_text.ActorText.{ActorText}
 use Rattle.inp_actors.specs.declared.device_text.DeviceText.{DeviceText}
 use Rattle.inp_actors.specs.declared.line.Line.{Line}
 use Rattle.inp_actors.specs.Record.{RecordView, IsRecord}
-use Rattle.inp_recon.specs.Faithful.{IsHistory, IsFaithful}
+use Rattle.inp_model.specs.History.{IsHistory}
+use Rattle.inp_recon.specs.Faithful.{IsFaithful}
 use Rattle.inp_reader.specs.Talk.{Talk, finish, and_then, EndsWith}
 use Rattle.inp_script.specs.declared.run.Run.{Run}
 use Rattle.inp_script.specs.declared.sight.Sight.{Sight}
