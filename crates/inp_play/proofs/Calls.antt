@@ -15,7 +15,8 @@ use Rattle.inp_reader.specs.Talk.{Talk, finish, ask, LeadsTo, EndsWith}
 use Rattle.inp_model.specs.History.{IsHistory}
 use Rattle.inp_script.proofs.Efforts.{place-below}
 use Rattle.inp_script.proofs.Replies.{answer_has}
-use Rattle.inp_script.proofs.Runs.{runs-on, seen-grows}
+use Rattle.inp_script.proofs.Runs.{runs-on}
+use Rattle.inp_model.proofs.Leaves.{seen-kept}
 use Rattle.inp_play.specs.Job.{is_no_memory, lacks_memory}
 use Rattle.inp_play.specs.Play.{talk_with}
 
@@ -63,7 +64,7 @@ exact-calls d past after agains (call ∷ calls) e =
 pub exact-grows : (d : Description) (past after : List Step) (calls : List Call) → AreExact d past after calls → BeginsWith (reverse past) (reverse after)
 exact-grows d past after calls e =
     let c = exact-calls d past after 0 calls e in
-    seen-grows (device_after d past 0) (device_after d after c.0) calls c.1
+    seen-kept (device_after d past 0) (device_after d after c.0) calls c.1
 
 -- a legal run goes on with them
 pub exact-legal : (d : Description) (past after : List Step) (before calls : List Call) → AreExact d past after calls → IsLegalRun d (reverse past) before → IsLegalRun d (reverse after) (before ++ calls)

@@ -7,50 +7,29 @@ use Rattle.inp_model.specs.declared.reply.Reply.{Reply}
 use Rattle.inp_model.specs.declared.reply.Reply.TheVariants.{Again as NothingVisible}
 use Rattle.inp_model.specs.Description.{Description}
 use Rattle.inp_model.specs.Evdev.{EvdevView, is_again, own_after}
-use Rattle.inp_model.specs.Reply.{is_accepted}
-use Rattle.inp_model.specs.Run.{Call, place_of}
-use Rattle.inp_model.specs.Leaves.{AreCalls}
+use Rattle.inp_model.specs.Run.{Call}
+use Rattle.inp_model.specs.Leaves.{AreCalls, places_of}
+use Rattle.inp_model.proofs.Leaves.{own-grown}
 use Rattle.inp_script.specs.declared.sight.Sight.{Sight}
 use Rattle.inp_script.specs.declared.sight.Sight.TheVariants.{Call as Called, Took, Made, Again}
 use Rattle.inp_script.specs.Doing.{Holds, DoesLine}
 use Rattle.inp_script.specs.Job.{Job, ActorView}
-use Rattle.inp_script.specs.Legal.{entries_of, is_call_entry, places_in, IsLegalSight, GainsPlaces}
+use Rattle.inp_script.specs.Legal.{entries_of, is_call_entry, places_in, IsLegalSight, LeavesOut, GainsPlaces}
 use Rattle.inp_script.specs.Line.{end_talk}
 use Rattle.inp_script.specs.Sight.{call_sight, again_sight}
 use Rattle.inp_script.specs.declared.waiting.Waiting.{Waiting}
 use Rattle.inp_actors.specs.Record.{RecordView}
 use Rattle.inp_script.proofs.LineTold.{line-told, end-told}
-use Rattle.inp_script.proofs.Runs.{LeavesOut, leaves_out-append, legal-less, runs-on}
+use Rattle.inp_script.proofs.Runs.{leaves_out-append, legal-less, runs-on}
 use Rattle.inp_script.proofs.Told.{Tells, entries_of-append}
 
 -- The places of calls
-
-places_of : List Call → List ℕ
-places_of [] = []
-places_of (call ∷ calls) = own_after call.answer.reply [] ++ places_of calls
-
-own_more : (reply : Reply) (own : List ℕ) → own_after reply own ≡ own ++ own_after reply []
-own_more reply own = by_flag (is_accepted reply)
-  where
-    by_flag : (b : Bool) → (if b then own ++ place_of reply ∷ [] else own) ≡ own ++ (if b then [] ++ place_of reply ∷ [] else [])
-    by_flag true = refl
-    by_flag false = sym (append-nil own)
-
-calls-own : (a b : EvdevView) (calls : List Call) → AreCalls a b calls → b.own ≡ a.own ++ places_of calls
-unfolding AreCalls places_of
-calls-own a b [] are = ap (λ (t : EvdevView). t.own) are ∙ sym (append-nil a.own)
-calls-own a b (call ∷ calls) are =
-    let more : List ℕ = places_of calls in
-    calls-own are.0 b calls are.2
-    ∙ ap (λ (own : List ℕ). own ++ more) (are.1.own ∙ own_more call.answer.reply a.own)
-    ∙ append_assoc a.own (own_after call.answer.reply []) more
 
 again_has_none : (reply : Reply) → is_again reply ≡ true → own_after reply [] ≡ []
 again_has_none (NothingVisible at ends) h = refl
 again_has_none _ h = absurd cc
 
 left_out-places : (kept calls : List Call) → LeavesOut kept calls → places_of kept ≡ places_of calls
-unfolding places_of
 left_out-places kept [] out = ap (λ (cs : List Call). places_of cs) out
 left_out-places kept (call ∷ calls) (inl out) = ap (λ (cs : List Call). places_of cs) out.1 ∙ ap (λ (ps : List ℕ). own_after call.answer.reply [] ++ ps) (left_out-places out.0 calls out.2)
 left_out-places kept (call ∷ calls) (inr out) = left_out-places kept calls out.1 ∙ ap (λ (ps : List ℕ). ps ++ places_of calls) (sym (again_has_none call.answer.reply out.0))
@@ -82,7 +61,6 @@ call_sight-places x reply = by_flag (is_again reply) refl
     by_flag false e = append-nil (own_after reply [])
 
 entries-places : (calls : List Call) → places_in (entries_of calls) ≡ places_of calls
-unfolding places_of
 entries-places [] = refl
 entries-places (call ∷ calls) =
     let reply : Reply = call.answer.reply in
@@ -97,7 +75,7 @@ gains-places a b calls old new are t = record {
   gained = t.gained;
   sight = t.sight;
   own =
-      calls-own a b calls are
+      own-grown a b calls are
       ∙ ap (λ (ps : List ℕ). a.own ++ ps) (sym (left_out-places t.kept calls t.part) ∙ sym (entries-places t.kept) ∙ ap (λ (es : List Sight). places_in es) t.entries ∙ places_in-entries t.gained);
 }
 

@@ -6,7 +6,8 @@ use Rattle.inp_model.specs.Reply.{Answer}
 use Rattle.inp_model.specs.Run.{Call}
 use Rattle.inp_model.specs.Leaves.{AreCalls}
 use Rattle.inp_reader.specs.Talk.{Talk, finish, ask, and_then, LeadsTo}
-use Rattle.inp_reader.proofs.Talks.{LeadsTo-append, LeadsTo-and_then, AreCalls-append}
+use Rattle.inp_model.proofs.Leaves.{AreCalls-append}
+use Rattle.inp_reader.proofs.Talks.{LeadsTo-append, LeadsTo-and_then}
 use Rattle.inp_script.specs.Doing.{Holds}
 
 -- no call

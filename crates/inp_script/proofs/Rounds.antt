@@ -5,7 +5,8 @@ use Rattle.inp_model.specs.Evdev.{EvdevView}
 use Rattle.inp_model.specs.Run.{Call}
 use Rattle.inp_model.specs.Leaves.{AreCalls}
 use Rattle.inp_reader.specs.Talk.{Talk, finish, LeadsTo, EndsWith}
-use Rattle.inp_reader.proofs.Talks.{LeadsTo-append, LeadsTo-and_then, AreCalls-append}
+use Rattle.inp_model.proofs.Leaves.{AreCalls-append}
+use Rattle.inp_reader.proofs.Talks.{LeadsTo-append, LeadsTo-and_then}
 use Rattle.inp_script.specs.declared.waiting.Waiting.{Waiting}
 use Rattle.inp_script.specs.Client.{Going, Turn, goes_on, ends_with, is_done, next_round, on_turn, rounds, hand_talk}
 use Rattle.inp_script.specs.Doing.{Holds, HandsOut}

@@ -1,65 +1,30 @@
 -- Legal runs: of a longer history, of more calls, and of fewer answers Again.
-use Rattle.std.proofs.Common.{◌≡◌, ℕ, zero, suc, ◌≤◌, ◌⊎◌, inl, inr, Bool, true, false, if◌then◌else◌, List, [], ◌∷◌, ◌++◌, length, reverse, refl, sym, ap, subst, ◌∙◌, arith, append_assoc, length-append, Some, IsTrue}
+use Rattle.std.proofs.Common.{◌≡◌, ℕ, suc, ◌≤◌, inl, inr, Bool, true, false, if◌then◌else◌, List, [], ◌∷◌, ◌++◌, length, refl, sym, ap, subst, ◌∙◌, arith, length-append, Some, IsTrue}
 use Rattle.std.specs.List.{slice_get}
-use Rattle.std.proofs.lemmas.List.{take-append-le}
 use Rattle.std.proofs.lemmas.Option.{slice_get_within}
 use Rattle.inp_model.specs.declared.step.Step.{Step}
 use Rattle.inp_model.specs.declared.reply.Reply.{Reply}
 use Rattle.inp_model.specs.Description.{Description}
-use Rattle.inp_model.specs.Evdev.{EvdevView, IsCall, BeginsWith, is_again}
-use Rattle.inp_model.specs.Past.{past_at}
+use Rattle.inp_model.specs.Evdev.{EvdevView, BeginsWith, is_again}
+use Rattle.inp_model.specs.Leaves.{AreCalls}
 use Rattle.inp_model.specs.Reply.{IsAnswer, is_accepted}
 use Rattle.inp_model.specs.Run.{Call, HasPlace, IsLegalFrom, IsLegalRun, place_of, next_place}
-use Rattle.inp_model.specs.Leaves.{AreCalls}
-
-slice_get-longer : (xs ys : List Step) (i : ℕ) (x : Step) → slice_get xs i ≡ Some x → slice_get (xs ++ ys) i ≡ Some x
-slice_get-longer [] ys i x h = absurd cc
-slice_get-longer (y ∷ xs) ys zero x h = h
-slice_get-longer (y ∷ xs) ys (suc i) x h = slice_get-longer xs ys i x h
+use Rattle.inp_model.proofs.Leaves.{calls-legal, description-kept, past_at-longer, seen-kept, slice_get-longer}
+use Rattle.inp_script.specs.Legal.{LeavesOut}
 
 -- a call keeps its place in a longer history
-has_place-longer : (d : Description) (h more : List Step) (call : Call) → HasPlace d h call → HasPlace d (h ++ more) call
-has_place-longer d h more call p =
-    let at : ℕ = place_of call.answer.reply in
-    let same : past_at (h ++ more) at ≡ past_at h at = ap (λ (xs : List Step). reverse xs) (take-append-le at h more p.within) in
-    record {
-      within = omega (arith, p.within, length-append h more);
-      exact = subst (λ (past : List Step). IsAnswer d past call.step call.answer) (sym same) p.exact;
-      entered = λ e. slice_get-longer h more at call.step (p.entered e);
-    }
-
 pub has_place-on : (d : Description) (h k : List Step) (call : Call) → BeginsWith h k → HasPlace d h call → HasPlace d k call
-has_place-on d h k call b p = subst (λ (xs : List Step). HasPlace d xs call) (sym b.1) (has_place-longer d h b.0 call p)
-
--- what is seen grows
-pub begins-again : (h k l : List Step) → BeginsWith h k → BeginsWith k l → BeginsWith h l
-begins-again h k l a b = (a.0 ++ b.0, b.1 ∙ ap (λ (xs : List Step). xs ++ b.0) a.1 ∙ append_assoc h a.0 b.0)
-
-pub seen-grows : (a b : EvdevView) (calls : List Call) → AreCalls a b calls → BeginsWith a.seen b.seen
-unfolding AreCalls
-seen-grows a b [] are = ([], ap (λ (t : EvdevView). t.seen) are ∙ sym (nil_behind a.seen))
-  where
-    nil_behind : (xs : List Step) → xs ++ [] ≡ xs
-    nil_behind [] = refl
-    nil_behind (x ∷ xs) = ap (λ (ys : List Step). x ∷ ys) (nil_behind xs)
-seen-grows a b (call ∷ calls) are = begins-again a.seen are.0.seen b.seen are.1.seen (seen-grows are.0 b calls are.2)
+has_place-on d h k call b p =
+    let at : ℕ = place_of call.answer.reply in
+    subst (λ (xs : List Step). HasPlace d xs call) (sym b.1) (record {
+      within = omega (arith, p.within, length-append h b.0);
+      exact = subst (λ (past : List Step). IsAnswer d past call.step call.answer) (sym (past_at-longer h b.0 at p.within)) p.exact;
+      entered = λ e. slice_get-longer h b.0 at call.step (p.entered e);
+    })
 
 legal-weaker : (d : Description) (h : List Step) (least lower : ℕ) (calls : List Call) → lower ≤ least → IsLegalFrom d h least calls → IsLegalFrom d h lower calls
 legal-weaker d h least lower [] less l = tt
 legal-weaker d h least lower (call ∷ calls) less l = (omega (arith, l.0, less), l.1, l.2)
-
--- calls on an evdev are a legal run from what was seen before on
-calls-legal : (d : Description) (a b : EvdevView) (calls : List Call) → a.description ≡ d → AreCalls a b calls → IsLegalFrom d b.seen (length a.seen) calls
-unfolding AreCalls
-calls-legal d a b [] same are = tt
-calls-legal d a b (call ∷ calls) same are =
-    let h : IsCall a are.0 call = are.1 in
-    let same_mid : are.0.description ≡ d = h.description ∙ same in
-    let placed : HasPlace d are.0.seen call = subst (λ (e : Description). HasPlace e are.0.seen call) same_mid h.placed in (
-      h.fresh,
-      has_place-on d are.0.seen b.seen call (seen-grows are.0 b calls are.2) placed,
-      subst (λ (n : ℕ). IsLegalFrom d b.seen n calls) h.long (calls-legal d are.0 b calls same_mid are.2),
-    )
 
 next_place-within : (d : Description) (h : List Step) (call : Call) → HasPlace d h call → next_place call.answer.reply ≤ length h
 next_place-within d h call p = by_flag (is_accepted call.answer.reply) p.entered
@@ -76,14 +41,10 @@ legal-append d h k least (call ∷ before) calls begins less l m =
 -- a legal run goes on with the calls that are made
 pub runs-on : (d : Description) (a b : EvdevView) (before calls : List Call) → a.description ≡ d → IsLegalRun d a.seen before → AreCalls a b calls → IsLegalRun d b.seen (before ++ calls)
 runs-on d a b before calls same l are =
-    legal-append d a.seen b.seen 0 before calls (seen-grows a b calls are) (omega arith) l (calls-legal d a b calls same are)
+    legal-append d a.seen b.seen 0 before calls (seen-kept a b calls are) (omega arith) l
+    (subst (λ (e : Description). IsLegalFrom e b.seen (length a.seen) calls) (description-kept a b calls are ∙ same) (calls-legal a b calls are))
 
 -- Fewer answers Again
-
--- the first calls are the other ones, but for some that were answered Again
-abbrev pub LeavesOut : List Call → List Call → Type 0
-LeavesOut kept [] = kept ≡ []
-LeavesOut kept (call ∷ calls) = ((rest : List Call) × (kept ≡ call ∷ rest) × LeavesOut rest calls) ⊎ ((is_again call.answer.reply ≡ true) × LeavesOut kept calls)
 
 pub leaves_out-append : (kept more calls others : List Call) → LeavesOut kept calls → LeavesOut more others → LeavesOut (kept ++ more) (calls ++ others)
 leaves_out-append kept more [] others h k = subst (λ (cs : List Call). LeavesOut (cs ++ more) others) (sym h) k

@@ -11,9 +11,9 @@ use Rattle.inp_model.specs.Run.{Call}
 use Rattle.inp_reader.specs.Talk.{Talk, finish, ask, LeadsTo, EndsWith}
 use Rattle.inp_script.specs.declared.sight.Sight.{Sight}
 use Rattle.inp_script.specs.declared.sight.Sight.TheVariants.{Call as Called, Again}
-use Rattle.inp_script.specs.Legal.{entries_of, is_call_entry}
+use Rattle.inp_script.specs.Legal.{entries_of, is_call_entry, LeavesOut}
 use Rattle.inp_script.specs.Sight.{call_sight, again_sight, taken_sight, sight_of_call, noted}
-use Rattle.inp_script.proofs.Runs.{LeavesOut, leaves_out-append, leaves_out-none}
+use Rattle.inp_script.proofs.Runs.{leaves_out-append, leaves_out-none}
 
 -- these calls made the one sight of the other
 pub record Tells (calls : List Call) (old new : List Sight) : Type 0 where

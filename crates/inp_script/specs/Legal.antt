@@ -2,7 +2,7 @@
 use Rattle.std.specs.Prelude.{◌≡◌, ℕ, ◌+◌, ◌-◌, ◌^◌, ◌≤◌, ◌⊎◌, Bool, true, false, List, [], ◌∷◌, ◌++◌, filter, None, Some}
 use Rattle.inp_model.specs.declared.step.Step.{Step}
 use Rattle.inp_model.specs.Description.{Description}
-use Rattle.inp_model.specs.Evdev.{EvdevView, own_after}
+use Rattle.inp_model.specs.Evdev.{EvdevView, is_again, own_after}
 use Rattle.inp_model.specs.Run.{Call, IsLegalRun}
 use Rattle.inp_script.specs.declared.sight.Sight.{Sight}
 use Rattle.inp_script.specs.declared.sight.Sight.TheVariants.{Call as Called, Took, Made, Again}
@@ -46,6 +46,12 @@ pub record GainsPlaces (before after : EvdevView) (old new : List Sight) : Type 
 -- seen now.
 abbrev pub StaysLegal : Description → EvdevView → EvdevView → List Sight → List Sight → Type 0
 StaysLegal d before after old new = IsLegalSight d before.seen old → IsLegalSight d after.seen new
+
+-- The first calls are the other ones, in order, but for some of those that were answered Again. A sight leaves out so the
+-- calls that a line waited through.
+abbrev pub LeavesOut : List Call → List Call → Type 0
+LeavesOut kept [] = kept ≡ []
+LeavesOut kept (call ∷ calls) = ((rest : List Call) × (kept ≡ call ∷ rest) × LeavesOut rest calls) ⊎ ((is_again call.answer.reply ≡ true) × LeavesOut kept calls)
 
 -- Where a line stopped its job as idle, the evdev's count of answers Again rose by as many as it says at least, or stands at
 -- the end of its type.
