@@ -45,31 +45,50 @@ talk_with-exact d past (ask x rest) = (refl, talk_with-exact d (past_after (answ
 pub answer-place : (d : Description) (past : List Step) (x : Step) → place_of (answer d past x).reply ≡ length past
 answer-place d past x = given_place d past x (answer d past x) (inl refl)
 
+-- Each step was accepted after those before it
+
+history-one : (d : Description) (past : List Step) (x : Step) → IsHistory d past → IsHistory d (past_after (answer d past x).reply x past)
+history-one d past x h =
+    by (is_accepted (answer d past x).reply)
+    (answer_has (λ given. is_accepted given.reply ≡ true → refused d past x ≡ None) d past x
+    (λ refusal is e. absurd (let k : false ≡ true = sym is.accepted ∙ e in cc)) (λ none e. none))
+  where
+    by : (b : Bool) → (b ≡ true → refused d past x ≡ None) → IsHistory d (if b then x ∷ past else past)
+    by true unrefused = (h, unrefused refl)
+    by false unrefused = h
+
+pub exact-history : (d : Description) (past after : List Step) (calls : List Call) → AreExact d past after calls → IsHistory d past → IsHistory d after
+exact-history d past after [] e h = subst (IsHistory d) (sym e) h
+exact-history d past after (call ∷ calls) e h =
+    exact-history d (past_after call.answer.reply call.step past) after calls e.1
+    (subst (λ (a : Answer). IsHistory d (past_after a.reply call.step past)) (sym e.0) (history-one d past call.step h))
+
 -- What the caller of a device sees of them
 
 abbrev device_after : Description → List Step → ℕ → EvdevView
 device_after d past agains = evdev_view (record { description = d; past = past; agains = agains })
 
-exact-calls : (d : Description) (past after : List Step) (agains : ℕ) (calls : List Call) → AreExact d past after calls → (n : ℕ) × AreCalls (device_after d past agains) (device_after d after n) calls
+exact-calls : (d : Description) (past after : List Step) (agains : ℕ) (calls : List Call) → AreExact d past after calls → IsHistory d past → (n : ℕ) × AreCalls (device_after d past agains) (device_after d after n) calls
 unfolding AreCalls
-exact-calls d past after agains [] e = (agains, ap (λ (p : List Step). device_after d p agains) e)
-exact-calls d past after agains (call ∷ calls) e =
+exact-calls d past after agains [] e h = (agains, ap (λ (p : List Step). device_after d p agains) e)
+exact-calls d past after agains (call ∷ calls) e h =
     let reply : Reply = call.answer.reply in
     let between : List Step = past_after reply call.step past in
-    let more = exact-calls d between after (agains_after reply agains) calls e.1 in
+    let history : IsHistory d between = subst (λ (a : Answer). IsHistory d (past_after a.reply call.step past)) (sym e.0) (history-one d past call.step h) in
+    let more = exact-calls d between after (agains_after reply agains) calls e.1 history in
     let placed : place_of reply ≡ length past = given_place d past call.step call.answer (inl e.0) in
-    (more.0, (device_after d between (agains_after reply agains), called_by d past agains call.step call.answer (is_accepted reply) refl placed (inl e.0), more.1))
+    (more.0, (device_after d between (agains_after reply agains), called_by d past agains call.step call.answer (is_accepted reply) refl placed (inl e.0) h, more.1))
 
 -- a past grows
-pub exact-grows : (d : Description) (past after : List Step) (calls : List Call) → AreExact d past after calls → BeginsWith (reverse past) (reverse after)
-exact-grows d past after calls e =
-    let c = exact-calls d past after 0 calls e in
+pub exact-grows : (d : Description) (past after : List Step) (calls : List Call) → AreExact d past after calls → IsHistory d past → BeginsWith (reverse past) (reverse after)
+exact-grows d past after calls e h =
+    let c = exact-calls d past after 0 calls e h in
     seen-kept (device_after d past 0) (device_after d after c.0) calls c.1
 
 -- a legal run goes on with them
-pub exact-legal : (d : Description) (past after : List Step) (before calls : List Call) → AreExact d past after calls → IsLegalRun d (reverse past) before → IsLegalRun d (reverse after) (before ++ calls)
-exact-legal d past after before calls e l =
-    let c = exact-calls d past after 0 calls e in
+pub exact-legal : (d : Description) (past after : List Step) (before calls : List Call) → AreExact d past after calls → IsHistory d past → IsLegalRun d (reverse past) before → IsLegalRun d (reverse after) (before ++ calls)
+exact-legal d past after before calls e h l =
+    let c = exact-calls d past after 0 calls e h in
     runs-on d (device_after d past 0) (device_after d after c.0) before calls refl l c.1
 
 -- Memory does not run out
@@ -101,21 +120,3 @@ exact-within d past after [] e h = omega (arith, ap length e)
 exact-within d past after (call ∷ calls) e h =
     exact-within d (past_after call.answer.reply call.step past) after calls e.1
     (subst (λ (a : Answer). length (past_after a.reply call.step past) ≤ d.log_limit) (sym e.0) (within-one d past call.step h))
-
--- Each step was accepted after those before it
-
-history-one : (d : Description) (past : List Step) (x : Step) → IsHistory d past → IsHistory d (past_after (answer d past x).reply x past)
-history-one d past x h =
-    by (is_accepted (answer d past x).reply)
-    (answer_has (λ given. is_accepted given.reply ≡ true → refused d past x ≡ None) d past x
-    (λ refusal is e. absurd (let k : false ≡ true = sym is.accepted ∙ e in cc)) (λ none e. none))
-  where
-    by : (b : Bool) → (b ≡ true → refused d past x ≡ None) → IsHistory d (if b then x ∷ past else past)
-    by true unrefused = (h, unrefused refl)
-    by false unrefused = h
-
-pub exact-history : (d : Description) (past after : List Step) (calls : List Call) → AreExact d past after calls → IsHistory d past → IsHistory d after
-exact-history d past after [] e h = subst (IsHistory d) (sym e) h
-exact-history d past after (call ∷ calls) e h =
-    exact-history d (past_after call.answer.reply call.step past) after calls e.1
-    (subst (λ (a : Answer). IsHistory d (past_after a.reply call.step past)) (sym e.0) (history-one d past call.step h))

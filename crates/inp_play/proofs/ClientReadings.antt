@@ -35,7 +35,7 @@ use Rattle.inp_reader.specs.declared.started.Started.{Started}
 use Rattle.inp_reader.specs.Reading.{Reading, ask_each, queries, after_queries, after_open, start_stop_of, start_talk, stop_of, hand_out, after_read, read_or_hand_out, read_talk, hand_synthesised, as_plain, after_failed_sync, go_on, go_on_after, sync_talk, talk_in, next_talk}
 use Rattle.inp_reader.specs.Showing.{index_handed_out}
 use Rattle.inp_reader.specs.Spare.{IsSpare, HasSpare}
-use Rattle.inp_reader.specs.Standing.{is_use_of, calls_since, StandsAt}
+use Rattle.inp_reader.specs.Standing.{is_use_of, calls_since}
 use Rattle.inp_reader.specs.Talk.{Talk, finish, LeadsTo, EndsWith}
 use Rattle.inp_reader.proofs.Agreeing.{spare-made_anew}
 use Rattle.inp_reader.proofs.Calls.{AreAnswered}
@@ -43,7 +43,7 @@ use Rattle.inp_reader.proofs.Meeting.{AreMet, IsMet}
 use Rattle.inp_reader.proofs.SayingStands.{client-in}
 use Rattle.inp_reader.proofs.Showings.{handed-is-taken, agree-then}
 use Rattle.inp_reader.proofs.Sparing.{keeps-next, keeps-start}
-use Rattle.inp_reader.proofs.Standings.{IsHandedOut, HandsOut, Leaves, met-opens, met-unused, in-step-kept, stands-after-next, stands-queried, open-step, open-opens}
+use Rattle.inp_reader.proofs.Standings.{IsHandedOut, HandsOut, IsOpenInStep, Leaves, met-opens, met-unused, in-step-kept, stands-after-next, stands-queried, open-step, open-opens}
 use Rattle.inp_script.proofs.LastAgain.{finish-only, and_then-parts}
 use Rattle.inp_script.specs.declared.sight.Sight.{Sight}
 use Rattle.inp_script.specs.Sight.{call_sight}
@@ -209,7 +209,7 @@ module _ (d : Description) (h : List Step) (Q : ℕ → Type 0) where
   -- It stands in the past before this place as one of its clients, or has opened none. What its device cannot have is off.
   pub record IsReadingAt (least : ℕ) (r : Reading) : Type 0 where
     pub spare : HasSpare d r
-    pub stands : (Q r.client × StandsAt d (past_at h least) r) ⊎ IsUnopened r
+    pub stands : (Q r.client × IsOpenInStep d (past_at h least) r) ⊎ IsUnopened r
 
   -- what an event shows that it hands out
   abbrev pub HandsAt : ℕ → Next → Reading → Type 0
@@ -240,7 +240,7 @@ module _ (d : Description) (h : List Step) (Q : ℕ → Type 0) where
       spare : HasSpare d s
       spare = keeps-next d mode r calls (next, s) reads.spare (legal-answered d h least calls legal) ends
 
-      by : (Q r.client × StandsAt d (past_at h least) r) ⊎ IsUnopened r → NextReads (place_behind least calls) next s
+      by : (Q r.client × IsOpenInStep d (past_at h least) r) ⊎ IsUnopened r → NextReads (place_behind least calls) next s
       by (inl at) =
           let same : s.client ≡ r.client = client-in d mode r.phase r calls (next, s) ends in
           let met : AreMet d r.client (past_at h least) (past_at h (place_behind least calls)) calls = calls-met d h Q r.client least calls more c at.0 in
@@ -261,7 +261,7 @@ module _ (d : Description) (h : List Step) (Q : ℕ → Type 0) where
       at : ℕ
       at = next_place call.answer.reply
 
-      by : (Q r.client × StandsAt d (past_at h least) r) ⊎ IsUnopened r → (Q r.client × StandsAt d (past_at h at) r) ⊎ IsUnopened r
+      by : (Q r.client × IsOpenInStep d (past_at h least) r) ⊎ IsUnopened r → (Q r.client × IsOpenInStep d (past_at h at) r) ⊎ IsUnopened r
       by (inl s) =
           let met : IsMet d r.client (past_at h least) (past_at h at) call = call-met d h Q r.client least call more c s.0 in
           inl (
@@ -280,13 +280,13 @@ module _ (d : Description) (h : List Step) (Q : ℕ → Type 0) where
       at : ℕ
       at = next_place call.answer.reply
 
-      by : (Q r.client × StandsAt d (past_at h least) r) ⊎ IsUnopened r → AreAtHand d h at r.client last r.queue
+      by : (Q r.client × IsOpenInStep d (past_at h least) r) ⊎ IsUnopened r → AreAtHand d h at r.client last r.queue
       by (inl s) = hand-kept d h least at r.client last r.queue (met-took d r.client (past_at h least) (past_at h at) call (call-met d h Q r.client least call more c s.0) unused) hand
       by (inr u) = inl u.queue
 
   -- what an accepted Open leaves: a client that did nothing yet
   opened-stands : (least at client ring : ℕ) (r : Reading) (call : Call) (calls more : List Call) (asked : Result View Reply) → AreToCome d h Q least (call ∷ calls ++ more) → call.answer.reply ≡ Opened at client ring → HasSpare d r → EndsWith (ask_each (queries d client) r.view) calls asked
-      → Q client × StandsAt d (past_at h (place_behind (next_place call.answer.reply) calls)) (after_queries client ring r asked).1
+      → Q client × IsOpenInStep d (past_at h (place_behind (next_place call.answer.reply) calls)) (after_queries client ring r asked).1
   opened-stands least at client ring r call calls more asked c is spare ends =
       let place : ℕ = place_of call.answer.reply in
       let n : ℕ = next_place call.answer.reply in
@@ -306,7 +306,7 @@ module _ (d : Description) (h : List Step) (Q : ℕ → Type 0) where
   client-queried client ring r (Err reply) = refl
 
   start-opened : (least at client ring : ℕ) (r s : Reading) (started : Started) (call : Call) (calls more : List Call) → AreToCome d h Q least (call ∷ calls ++ more) → call.answer.reply ≡ Opened at client ring → HasSpare d r → EndsWith (after_open d r (Opened at client ring)) calls (started, s)
-      → Q s.client × StandsAt d (past_at h (place_behind (next_place call.answer.reply) calls)) s
+      → Q s.client × IsOpenInStep d (past_at h (place_behind (next_place call.answer.reply) calls)) s
   start-opened least at client ring r s started call calls more c is spare ends =
       let n : ℕ = next_place call.answer.reply in
       let next : Result View Reply → Talk (Started × Reading) = λ asked. finish (after_queries client ring r asked) in
@@ -316,8 +316,8 @@ module _ (d : Description) (h : List Step) (Q : ℕ → Type 0) where
       let t = opened-stands least at client ring r call p.first more p.mid (subst (λ (cs : List Call). AreToCome d h Q least (call ∷ cs ++ more)) whole c) is spare p.first_ends in
       let same : (after_queries client ring r p.mid).1 ≡ s = ap (λ (o : Started × Reading). o.1) f.1 in
       let own : Q (after_queries client ring r p.mid).1.client = subst Q (sym (client-queried client ring r p.mid)) t.0 in
-      subst (λ (cs : List Call). Q s.client × StandsAt d (past_at h (place_behind n cs)) s) (sym whole)
-      (subst (λ (x : Reading). Q x.client × StandsAt d (past_at h (place_behind n p.first)) x) same (own, t.1))
+      subst (λ (cs : List Call). Q s.client × IsOpenInStep d (past_at h (place_behind n cs)) s) (sym whole)
+      (subst (λ (x : Reading). Q x.client × IsOpenInStep d (past_at h (place_behind n p.first)) x) same (own, t.1))
 
   pub start-reads : (least : ℕ) (r s : Reading) (started : Started) (calls more : List Call) → AreToCome d h Q least (calls ++ more) → IsReadingAt least r → EndsWith (start_talk d r) calls (started, s) → IsReadingAt (place_behind least calls) s
   unfolding LeadsTo start_talk

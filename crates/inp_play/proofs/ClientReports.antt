@@ -31,7 +31,8 @@ use Rattle.inp_reader.specs.declared.reader.TheConstants.{NO_CLIENT}
 use Rattle.inp_reader.specs.declared.started.Started.{Started}
 use Rattle.inp_reader.specs.Reading.{Reading, is_dropped, start_talk, next_talk, with_sync_needed}
 use Rattle.inp_reader.specs.Showing.{index_handed_out}
-use Rattle.inp_reader.specs.Standing.{is_use, is_use_of, StandsAt}
+use Rattle.inp_reader.specs.Standing.{is_use, is_use_of}
+use Rattle.inp_reader.proofs.Standings.{IsOpenInStep}
 use Rattle.inp_reader.specs.Talk.{Talk, finish, LeadsTo, EndsWith}
 use Rattle.inp_reader.proofs.SayingStands.{client-in}
 use Rattle.inp_reader.proofs.Sparing.{new-spare}
@@ -418,7 +419,7 @@ module _ (d : Description) (h : List Step) (Q : ℕ → Type 0) (history : IsHis
       r : Reading
       r = with_sync_needed j.reading
 
-      by : (Q j.reading.client × StandsAt d (past_at h least) j.reading) ⊎ IsUnopened j.reading → (Q r.client × StandsAt d (past_at h least) r) ⊎ IsUnopened r
+      by : (Q j.reading.client × IsOpenInStep d (past_at h least) j.reading) ⊎ IsUnopened j.reading → (Q r.client × IsOpenInStep d (past_at h least) r) ⊎ IsUnopened r
       by (inl t) = inl (t.0, record { opened = t.1.opened; in_step = λ needed. absurd (true≢false needed) })
       by (inr u) = inr (record { client = u.client; queue = u.queue })
 

@@ -77,9 +77,9 @@ memory-append (call ∷ calls) more h k = by_flag (lacks_memory call) (λ e. mem
     by_flag false longer e = longer e
 
 so_far-more : (r : RecordView) (rounds : ℕ) (lines : List Line) (line : Line) (d : Description) (role : Role) (past after : List Step) (a : ActorView) (job : Job) (calls : List Call) → IsSoFar r rounds lines d role past a
-    → line.actor ≡ a.actor → EndsWith (line_talk a.role a.description r.streams None rounds line.command a.job) calls (Some job) → AreExact a.description past after calls → IsKept a.description job (filter is_call_entry a.job.sight ++ entries_of calls)
+    → line.actor ≡ a.actor → EndsWith (line_talk a.role a.description r.streams None rounds line.command a.job) calls (Some job) → AreExact a.description past after calls → IsHistory d past → IsKept a.description job (filter is_call_entry a.job.sight ++ entries_of calls)
     → IsSoFar r rounds (lines ++ line ∷ []) d role after (record a { job = job })
-so_far-more r rounds lines line d role past after a job calls s own ends exact kept =
+so_far-more r rounds lines line d role past after a job calls s own ends exact history kept =
     let exact_here : AreExact d past after calls = subst (λ (e : Description). AreExact e past after calls) s.description exact in
     let ends_here : EndsWith (line_talk role d r.streams None rounds line.command a.job) calls (Some job) =
     subst (λ (x : Role). EndsWith (line_talk x d r.streams None rounds line.command a.job) calls (Some job)) s.role_is
@@ -89,7 +89,7 @@ so_far-more r rounds lines line d role past after a job calls s own ends exact k
       role_is = s.role_is;
       description = s.description;
       calls = s.calls ++ calls;
-      legal = exact-legal d past after s.calls calls exact_here s.legal;
+      legal = exact-legal d past after s.calls calls exact_here history s.legal;
       memory = memory-append s.calls calls s.memory (exact-memory d past after calls exact_here);
       told = entries_of-append s.calls calls ∙ ap (λ es. es ++ entries_of calls) s.told ∙ sym kept_here.1;
       follows = subst (λ (ls : List Line). EndsWith (lines_talk role d r.streams rounds ls (first_job d)) (s.calls ++ calls) (Some job)) (sym (lines_by-more a.actor lines line (eq_true line.actor a.actor own)))
@@ -147,7 +147,7 @@ actors-more r rounds lines stage now line s u i a text past is_a is_text is_past
     own same is behind =
         let texts : u.text ≡ text = same_Some u.text text (sym u.is_text ∙ ap (λ (k : ℕ). slice_get r.actors k) (sym same) ∙ is_text) in
         let more : IsSoFar r rounds (lines ++ line ∷ []) (description_at r u.text.device) u.text.role u.after (record u.actor { job = u.job }) =
-        so_far-more r rounds lines line (description_at r u.text.device) u.text.role u.past u.after u.actor u.job u.calls (its_actor r rounds lines stage now line s u) (sym (its_number r rounds lines stage now line s u)) u.ends u.exact (its_kept r rounds lines stage now line s u) in
+        so_far-more r rounds lines line (description_at r u.text.device) u.text.role u.past u.after u.actor u.job u.calls (its_actor r rounds lines stage now line s u) (sym (its_number r rounds lines stage now line s u)) u.ends u.exact (s.history u.text.device u.past u.is_past) (its_kept r rounds lines stage now line s u) in
         subst (λ (b : ActorView). IsSoFar r rounds (lines ++ line ∷ []) (description_at r text.device) text.role past b) (sym is)
         (subst (λ (p : List Step). IsSoFar r rounds (lines ++ line ∷ []) (description_at r text.device) text.role p (record u.actor { job = u.job })) (sym behind)
         (subst (λ (t : ActorText). IsSoFar r rounds (lines ++ line ∷ []) (description_at r t.device) t.role u.after (record u.actor { job = u.job })) texts more))
@@ -168,8 +168,10 @@ actors-more r rounds lines stage now line s u i a text past is_a is_text is_past
     by_actor (inl is) (inl behind) = own is.0 is.1 behind.1
     by_actor (inl is) (inr behind) = absurd (behind.0 (on_device is.0))
     by_actor (inr is) (inl behind) =
+        let description : u.actor.description ≡ description_at r u.text.device = (its_actor r rounds lines stage now line s u).description in
+        let history : IsHistory u.actor.description u.past = subst (λ (e : Description). IsHistory e u.past) (sym description) (s.history u.text.device u.past u.is_past) in
         let before : slice_get stage.pasts text.device ≡ Some u.past = ap (λ (k : ℕ). slice_get stage.pasts k) behind.0 ∙ u.is_past in
-        other is.0 is.1 u.past before (subst (λ (p : List Step). BeginsWith (reverse u.past) (reverse p)) (sym behind.1) (exact-grows u.actor.description u.past u.after u.calls u.exact))
+        other is.0 is.1 u.past before (subst (λ (p : List Step). BeginsWith (reverse u.past) (reverse p)) (sym behind.1) (exact-grows u.actor.description u.past u.after u.calls u.exact history))
     by_actor (inr is) (inr behind) = other is.0 is.1 past behind.1 ([], sym (append-nil (reverse past)))
 
 within-more : (r : RecordView) (rounds : ℕ) (lines : List Line) (stage now : Stage) (line : Line) → IsStage r rounds lines stage → (u : IsLineDone r rounds stage now line)
