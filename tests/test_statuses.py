@@ -211,14 +211,14 @@ class Statuses(unittest.TestCase):
         self.assertEqual(ONE_KEY_REPORT[:100], (self.folder / "out").read_bytes())
 
     def test_5_memory_runs_out(self):
-        # The greatest history takes more than 128 MiB, before the first step. A short one does not.
-        record = b"inputrecord 1\ndevice d\nlog %d\nsource s\ndo s uninhibit\n"
-        report = b"device d steps 1\nsource s calls 1 stop finished\n"
-        room = with_room(128 << 20)
+        # A device takes the memory for its whole history before the first step. The greatest history is 8388608
+        # steps, and eight of them are far more than 64 MiB.
+        record = b"inputrecord 1\n" + b"".join(b"device d%d\nlog LOG\nsource s%d\n" % (i, i) for i in range(8))
+        report = b"".join(b"device d%d steps 0\nsource s%d calls 0 stop finished\n" % (i, i) for i in range(8))
         for log, status, text in [(8388608, 5, OUT_OF_MEMORY), (1000, 0, report)]:
             with self.subTest(log=log):
-                self.file("f", record % log)
-                self.ends(["f"], status, text, preexec_fn=room)
+                self.file("f", record.replace(b"LOG", b"%d" % log))
+                self.ends(["f"], status, text, preexec_fn=with_room(64 << 20))
 
     def test_6_a_full_history(self):
         self.file("f", FULL)
