@@ -202,7 +202,7 @@ class Statuses(unittest.TestCase):
         reads, writes = os.pipe()
         os.close(reads)
         self.addCleanup(os.close, writes)
-        self.ends(["f"], 4, b"", stdout=writes, restore_signals=False)
+        self.ends(["f"], 4, b"", stdout=writes)
 
     def test_4_an_output_that_takes_a_front_part(self):
         self.file("f", ONE_KEY)
