@@ -211,10 +211,13 @@ class Statuses(unittest.TestCase):
         self.assertEqual(ONE_KEY_REPORT[:100], (self.folder / "out").read_bytes())
 
     def test_5_memory_runs_out(self):
-        # A device takes the memory for its whole history before the first step. The greatest history is 8388608
-        # steps, and eight of them are far more than 64 MiB.
-        record = b"inputrecord 1\n" + b"".join(b"device d%d\nlog LOG\nsource s%d\n" % (i, i) for i in range(8))
-        report = b"".join(b"device d%d steps 0\nsource s%d calls 0 stop finished\n" % (i, i) for i in range(8))
+        # A device takes the memory for its whole history before the first step. The greatest history has
+        # 8388608 steps, and eight of them are far more than 64 MiB.
+        record = b"inputrecord 1\n"
+        report = b""
+        for i in range(8):
+            record += b"device d%d\nlog LOG\nsource s%d\n" % (i, i)
+            report += b"device d%d steps 0\nsource s%d calls 0 stop finished\n" % (i, i)
         for log, status, text in [(8388608, 5, OUT_OF_MEMORY), (1000, 0, report)]:
             with self.subTest(log=log):
                 self.file("f", record.replace(b"LOG", b"%d" % log))
