@@ -33,8 +33,9 @@
 //!
 //! # The gate
 //!
-//! A job calls its [`Gate`] before each of its calls, so that a test can order jobs. [`OpenGate`]
-//! lets each through at once.
+//! A job calls its [`Gate`] before each of its calls, so that a test can order jobs. A call of
+//! [`Gate::before`] tells contracts that this call of this job passed, and over a gate that is not
+//! known nothing else does. [`OpenGate`] lets each through at once.
 //!
 //! # What is not said
 //!
