@@ -1,16 +1,39 @@
 -- The list of clients as it is made of their numbers, for callers: `f` gives the client of each number.
-use Rattle.std.proofs.Common.{◌≡◌, ◌≢◌, ◌<◌, ℕ, Bool, true, false, not, ◌&&◌, ◌||◌, if◌then◌else◌, nat_eq, nat_lt, List, [], ◌∷◌, map, All, Some, refl, sym, ap, ◌∙◌, inl, inr}
-use Rattle.std.specs.List.{filter, list_any, range_with_len}
+use Rattle.std.proofs.Common.{◌≡◌, ◌≢◌, ◌<◌, ◌≤◌, ℕ, zero, suc, Bool, true, false, not, ◌&&◌, ◌||◌, if◌then◌else◌, nat_eq, nat_lt, List, [], ◌∷◌, ◌++◌, length, map, All, Some, refl, sym, ap, ◌∙◌, inl, inr, arith}
+use Rattle.std.specs.List.{filter, list_any, range_with_len, insert, AllWithin}
 use Rattle.std.specs.Option.{option_map_or}
-use Rattle.std.proofs.lemmas.Bool.{cases_eq, eq-eqb, ne_eqb, cond-true, cond-false, false≢true}
-use Rattle.std.proofs.lemmas.List.Elements.{All-map, All-filter}
+use Rattle.std.proofs.lemmas.Bool.{cases_eq, eq-eqb, ne_eqb, lt-ltb, le-ltb, cond-true, cond-false, false≢true}
+use Rattle.std.proofs.lemmas.List.Elements.{All-map, All-head, All-tail}
 use Rattle.inp_client.specs.Client.{ClientView}
 use Rattle.inp_client.proofs.Lists.{any_below}
-use Rattle.inp_client.specs.Clients.{has_number, has_client, client_named, has_revoked_client, events_of, map_client, without_client, AllBelow}
+use Rattle.inp_client.specs.Clients.{has_number, has_client, client_named, has_revoked_client, events_of, map_client, with_client, without_client}
 
--- what is above all numbers stays so where a client is closed
-pub AllBelow-without_client : (n number : ℕ) (clients : List ClientView) → AllBelow n clients → AllBelow n (without_client number clients)
-AllBelow-without_client n number clients below = All-filter (λ c. not (has_number number c)) (λ c. c.number < n) clients below
+-- each open client has a lower number
+abbrev pub AllBelow : ℕ → List ClientView → Type 0
+AllBelow number clients = All (λ c. c.number < number) clients
+
+-- no open client has such a number
+pub unused_above : (number : ℕ) (clients : List ClientView) → AllBelow number clients → has_client number clients ≡ false
+unused_above number [] below = refl
+unused_above number (c ∷ clients) below =
+    let first : c.number < number = All-head (λ c. c.number < number) c clients below in
+    rw (ne_eqb c.number number (λ e. omega (arith, e))) (unused_above number clients (All-tail (λ c. c.number < number) c clients below))
+
+-- one with such a number comes last
+pub with_client_above : (new : ClientView) (clients : List ClientView) → AllBelow new.number clients → with_client new clients ≡ clients ++ new ∷ []
+with_client_above new [] below = refl
+with_client_above new (c ∷ clients) below =
+    let first : c.number < new.number = All-head (λ c. c.number < new.number) c clients below in
+    rw (lt-ltb c.number new.number first) (ap (λ (cs : List ClientView). c ∷ cs) (with_client_above new clients (All-tail (λ c. c.number < new.number) c clients below)))
+
+-- one that is made of an element is opened where that element is inserted in its place
+pub map-insert : {X : Type 0} (g : X → ClientView) (xs : List X) (i : ℕ) (y : X) → i ≤ length xs → AllWithin (λ x. (g x).number < (g y).number) xs 0 i → AllWithin (λ x. (g y).number ≤ (g x).number) xs i (length xs) → map g (insert xs i y) ≡ with_client (g y) (map g xs)
+map-insert g [] zero y within lower others = refl
+map-insert g [] (suc i) y within lower others = absurd (omega arith)
+map-insert g (x ∷ xs) zero y within lower others = rw (le-ltb (g x).number (g y).number (others 0 x (omega arith) (omega arith))) refl
+map-insert g (x ∷ xs) (suc i) y within lower others =
+    rw (lt-ltb (g x).number (g y).number (lower 0 x (omega arith) (omega arith)))
+    (ap (λ (cs : List ClientView). g x ∷ cs) (map-insert g xs i y (omega arith) (λ k d le lt. lower (suc k) d (omega arith) (omega arith)) (λ k d le lt. others (suc k) d (omega arith) (omega arith))))
 
 module _ (f : ℕ → ClientView) (numbered : (n : ℕ) → (f n).number ≡ n) where
   has_number_of : (number n : ℕ) → has_number number (f n) ≡ nat_eq n number

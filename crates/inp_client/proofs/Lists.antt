@@ -1,8 +1,9 @@
 -- Lists: a map, a filter, a search and a removal by what holds of each element.
-use Rattle.std.proofs.Common.{◌≡◌, ◌≢◌, ◌+◌, ◌<◌, ℕ, zero, suc, Bool, true, false, not, ◌&&◌, ◌||◌, if◌then◌else◌, nat_eq, nat_le, nat_lt, List, [], ◌∷◌, length, get_or, replicate, map, All, Some, refl, ap, ◌∙◌, inl, inr, zero-add, arith}
-use Rattle.std.specs.List.{filter, find, list_any, range_with_len, remove}
+use Rattle.std.proofs.Common.{◌≡◌, ◌≢◌, ◌+◌, ◌-◌, ◌<◌, ◌≤◌, ℕ, zero, suc, Bool, true, false, not, ◌&&◌, ◌||◌, if◌then◌else◌, nat_eq, nat_le, nat_lt, List, [], ◌∷◌, length, get_or, replicate, map, All, AllPairs, Some, refl, sym, ap, subst, ◌∙◌, inl, inr, zero-add, arith}
+use Rattle.std.specs.List.{filter, find, list_any, range_with_len, remove, insert, AllWithin}
 use Rattle.std.proofs.lemmas.Bool.{cases_lt, cases_order, eq-eqb, ne_eqb, lt-ltb, le-ltb, le-leb, lt-leb}
 use Rattle.std.proofs.lemmas.List.FromFn.{get_or-map-range_with_len}
+use Rattle.std.proofs.lemmas.List.Edits.{length-insert, get_or-insert_below, get_or-insert_at, get_or-insert_above}
 use Rattle.std.proofs.lemmas.List.Elements.{All-head, All-tail, All-from_get_or}
 
 -- Each element of a list is made of the element at its place in another.
@@ -41,6 +42,35 @@ one_removed p g g' (x ∷ xs) zero d within passes others =
 one_removed p g g' (x ∷ xs) (suc i) d within passes others =
     let first = others 0 (omega arith) (λ e. omega (arith, e)) in
     rw first.0 (ap (λ z. z ∷ map g' (remove xs i)) first.1 ∙ ap (λ zs. g x ∷ zs) (one_removed p g g' xs i d (omega arith) passes (λ j in_j differs. others (suc j) (omega arith) (λ e. differs (omega (arith, e))))))
+
+-- what stands at an index after an insert: what stood there, the new element, or what stood one place before
+insert_read : {X : Type 0} (P : X → Type 0) (xs : List X) (i : ℕ) (y : X) (k : ℕ) (d : X) → i ≤ length xs → (k < i → P (get_or xs k d)) → (k ≡ i → P y) → ((m : ℕ) → k ≡ m + 1 → i ≤ m → P (get_or xs m d)) → P (get_or (insert xs i y) k d)
+insert_read P xs i y k d within below here above =
+    elim (cases_order k i) [
+      | inl same ↦ subst (λ n. P (get_or (insert xs i y) n d)) (sym same) (rw (get_or-insert_at xs i y d within) (here same))
+      | inr (inl lower) ↦ rw (get_or-insert_below xs i y d k lower within) (below lower)
+      | inr (inr higher) ↦
+          let le : i ≤ k - 1 = omega arith in
+          let e : k ≡ k - 1 + 1 = omega arith in
+          subst (λ n. P (get_or (insert xs i y) n d)) (sym e) (rw (get_or-insert_above xs i y d (k - 1) le within) (above (k - 1) e le))
+    ]
+
+pub All-insert : {X : Type 0} (P : X → Type 0) (xs : List X) (i : ℕ) (y : X) → i ≤ length xs → All P xs → P y → All P (insert xs i y)
+All-insert P xs i y within all one = λ k d in_k.
+    let long = length-insert xs i y within in
+    insert_read P xs i y k d within (λ lower. all k d (omega arith)) (λ same. one) (λ m e le. all m d (omega arith))
+
+-- an insert between what is related to it and what it is related to
+pub all_pairs_insert : {X : Type 0} (R : X → X → Type 0) (xs : List X) (i : ℕ) (y : X) → i ≤ length xs → AllPairs R xs → AllWithin (λ x. R x y) xs 0 i → AllWithin (λ x. R y x) xs i (length xs) → AllPairs R (insert xs i y)
+all_pairs_insert R xs i y within pairs before behind = λ a b d lower in_b.
+    let long = length-insert xs i y within in
+    insert_read (λ z. R (get_or (insert xs i y) a d) z) xs i y b d within
+    (λ b_below. insert_read (λ z. R z (get_or xs b d)) xs i y a d within
+    (λ a_below. pairs a b d lower (omega arith)) (λ same. absurd (omega (arith, same))) (λ m e le. absurd (omega (arith, e))))
+    (λ b_here. insert_read (λ z. R z y) xs i y a d within
+    (λ a_below. before a d (omega arith) a_below) (λ same. absurd (omega (arith, same, b_here))) (λ m e le. absurd (omega (arith, e, b_here))))
+    (λ n b_is n_above. insert_read (λ z. R z (get_or xs n d)) xs i y a d within
+    (λ a_below. pairs a n d (omega arith) (omega (arith, b_is))) (λ same. behind n d n_above (omega (arith, b_is))) (λ m e le. pairs m n d (omega (arith, e, b_is)) (omega (arith, b_is))))
 
 -- a filter that every element passes
 pub filter_all : {X : Type 0} (p : X → Bool) → ((x : X) → p x ≡ true) → (xs : List X) → filter p xs ≡ xs

@@ -1,21 +1,23 @@
 -- Clients in their locations: what a write, a removal and an insert leave.
-use Rattle.std.proofs.Common.{◌≡◌, ◌≢◌, ◌<◌, ◌+◌, ℕ, Bool, true, false, cond, ◌||◌, nat_eq, if◌then◌else◌, List, [], ◌∷◌, ◌++◌, length, get_or, map, All, Option, Some, None, is_some, unwrap_or, refl, sym, ap, ◌∙◌, inl, inr, arith}
-use Rattle.std.specs.List.{list_any, remove}
+use Rattle.std.proofs.Common.{◌≡◌, ◌≢◌, ◌<◌, ◌≤◌, ◌+◌, ℕ, Bool, true, false, cond, ◌||◌, nat_eq, if◌then◌else◌, List, [], ◌∷◌, length, get_or, map, All, Option, Some, None, is_some, unwrap_or, refl, sym, ap, ◌∙◌, inl, inr, arith}
+use Rattle.std.specs.List.{list_any, remove, insert}
 use Rattle.std.specs.Option.{option_map}
-use Rattle.std.proofs.lemmas.Bool.{cases_eq, cases_lt, cases_order, eq-eqb, ne_eqb, cond-true, cond-false}
-use Rattle.std.proofs.lemmas.List.{get_or-map, length-map, length_push, map_push}
-use Rattle.std.proofs.lemmas.List.Elements.{All-head, All-tail, All-push, All-from_get_or}
-use Rattle.std.proofs.lemmas.List.Quantifiers.{all_pairs_push, all_pairs_remove}
-use Rattle.std.proofs.lemmas.List.Edits.{length-remove, get_or-remove_below, get_or-remove_above}
+use Rattle.std.proofs.lemmas.Bool.{cases_eq, cases_lt, cases_order, eq-eqb, ne_eqb, cond-true, cond-false, false≢true}
+use Rattle.std.proofs.lemmas.List.{get_or-map, length-map}
+use Rattle.std.proofs.lemmas.List.Elements.{All-head, All-tail, All-from_get_or}
+use Rattle.std.proofs.lemmas.List.Quantifiers.{all_pairs_remove}
+use Rattle.std.proofs.lemmas.List.Edits.{length-insert, length-remove, get_or-remove_below, get_or-remove_above}
+use Rattle.std.proofs.lemmas.List.Folds.{list_any_at}
 use Rattle.std.proofs.lemmas.List.Sums.{sum_by-set}
 use Rattle.std.proofs.lemmas.Option.{same_Some, none-some}
 use Rattle.slab.specs.Slab.{Slab, get, slab_len, with_value, Updates, ContainsKey}
 use Rattle.slab.proofs.SlabLemmas.{ContainsKey-within, Updates-with_value}
 use Rattle.inp_client.specs.declared.location.Location.{Location}
 use Rattle.inp_client.specs.Client.{ClientView, new_client}
-use Rattle.inp_client.specs.Clients.{has_number, has_client, client_named, map_client, without_client, AllBelow}
-use Rattle.inp_client.proofs.Lists.{map_over, map_same, find_at, one_removed}
-use Rattle.inp_client.specs.Locations.{client_at, number_at, clients_in, has_location, AreAscending, AreLocated}
+use Rattle.inp_client.specs.Clients.{has_number, has_client, client_named, map_client, with_client, without_client}
+use Rattle.inp_client.proofs.Lists.{map_over, map_same, find_at, one_removed, All-insert, all_pairs_insert}
+use Rattle.inp_client.proofs.ClientLists.{map-insert}
+use Rattle.inp_client.specs.Locations.{client_at, number_at, clients_in, has_location, AreAscending, AreLocated, IsPlaceFor}
 
 -- two locations with one number are one
 one_location : (locations : List Location) → AreAscending locations → (i j : ℕ) (d : Location) → i < length locations → j < length locations → (get_or locations i d).number ≡ (get_or locations j d).number → i ≡ j
@@ -189,29 +191,58 @@ module _ {locations : List Location} {slab : Slab ClientView} (located : AreLoca
           ap (λ (o : Option ClientView). unwrap_or o (new_client 0 0)) (others_stay j in_j differs),
         ))
 
-  -- A client with a number above all others comes under a key that was vacant.
-  module _ (key : ℕ) (new : ClientView) (after : Slab ClientView) (vacant : get slab key ≡ None) (inserted : Updates slab after key (Some new)) where
+  -- A client with a number that no other has comes under a key that was vacant, and its location in its place.
+  module _ (key : ℕ) (new : ClientView) (after : Slab ClientView) (i : ℕ) (vacant : get slab key ≡ None) (inserted : Updates slab after key (Some new)) (place : IsPlaceFor locations new.number i) where
+    abbrev new_location : Location
+    new_location = record { number = new.number; key = key }
+
     all_stay : (j : ℕ) (d : Location) → j < length locations → get after (get_or locations j d).key ≡ get slab (get_or locations j d).key
     all_stay j d in_j =
         let there = client_of_location j d in_j in
         inserted.others _ (λ e. none-some there.0 (sym vacant ∙ ap (get slab) (sym e) ∙ there.1))
 
-    pub located_after_insert : AllBelow new.number (clients_in locations slab) → slab_len after ≡ slab_len slab + 1 → AreLocated (locations ++ (record { number = new.number; key = key }) ∷ []) after
-    located_after_insert below more = record {
-      ascending = all_pairs_push (λ s t. s.number < t.number) locations (record { number = new.number; key = key }) located.ascending (λ j d in_j. lower j d in_j);
-      keyed = All-push (λ s. number_at after s.key ≡ Some s.number) locations (record { number = new.number; key = key }) (λ j d in_j. ap (option_map (λ c. c.number)) (all_stay j d in_j) ∙ located.keyed j d in_j) (ap (option_map (λ c. c.number)) inserted.changed);
-      counted = omega (arith, more, located.counted, length_push locations (record { number = new.number; key = key }));
+    -- the same clients lie in the locations
+    clients_stay : (j : ℕ) (d : Location) → j < length locations → client_at after (get_or locations j d).key ≡ client_at slab (get_or locations j d).key
+    clients_stay j d in_j = ap (λ (o : Option ClientView). unwrap_or o (new_client 0 0)) (all_stay j d in_j)
+
+    -- and have the numbers of the locations
+    numbers_stay : (j : ℕ) (d : Location) → j < length locations → (client_at after (get_or locations j d).key).number ≡ (get_or locations j d).number
+    numbers_stay j d in_j = ap (λ (c : ClientView). c.number) (clients_stay j d in_j) ∙ number_in_location j d in_j
+
+    new_there : client_at after key ≡ new
+    new_there = ap (λ (o : Option ClientView). unwrap_or o (new_client 0 0)) inserted.changed
+
+    pub located_after_insert : has_client new.number (clients_in locations slab) ≡ false → slab_len after ≡ slab_len slab + 1 → AreLocated (insert locations i (record { number = new.number; key = key })) after
+    located_after_insert unused more = record {
+      ascending = all_pairs_insert (λ s t. s.number < t.number) locations i new_location place.within located.ascending place.lower (λ j d le in_j. higher j d le in_j);
+      keyed = All-insert (λ s. number_at after s.key ≡ Some s.number) locations i new_location place.within (λ j d in_j. ap (option_map (λ c. c.number)) (all_stay j d in_j) ∙ located.keyed j d in_j) (ap (option_map (λ c. c.number)) inserted.changed);
+      counted = omega (arith, more, located.counted, length-insert locations i new_location place.within);
     }
       where
-        lower : (j : ℕ) (d : Location) → j < length locations → (get_or locations j d).number < new.number
-        lower j d in_j =
-            let e : ClientView = client_at slab d.key in
-            let long : length (clients_in locations slab) ≡ length locations = length-map locations (λ s. client_at slab s.key) in
-            let read = get_or-map (λ s. client_at slab s.key) locations j d e in_j in
-            omega (arith, below j e (omega arith), ap (λ (x : ClientView). x.number) read, number_in_location j d in_j)
+        no_location : has_location new.number locations ≡ false
+        no_location = sym (has_client-clients_in new.number) ∙ unused
 
-    pub clients_after_insert : clients_in (locations ++ (record { number = new.number; key = key }) ∷ []) after ≡ clients_in locations slab ++ new ∷ []
+        higher : (j : ℕ) (d : Location) → i ≤ j → j < length locations → new.number < (get_or locations j d).number
+        higher j d le in_j = elim (cases_eq (get_or locations j d).number new.number) [
+          | inl same ↦ absurd (false≢true (sym no_location ∙ list_any_at (λ s. nat_eq s.number new.number) locations j d in_j (eq-eqb _ _ same)))
+          | inr differs ↦ omega (arith, place.others j d le in_j, differs)
+        ]
+
+    pub clients_after_insert : clients_in (insert locations i (record { number = new.number; key = key })) after ≡ with_client new (clients_in locations slab)
     clients_after_insert =
-        map_push (λ s. client_at after s.key) locations (record { number = new.number; key = key })
-        ∙ ap (λ (xs : List ClientView). xs ++ client_at after key ∷ []) (map_same (λ s. client_at after s.key) (λ s. client_at slab s.key) locations (λ j d in_j. ap (λ (o : Option ClientView). unwrap_or o (new_client 0 0)) (all_stay j d in_j)))
-        ∙ ap (λ (o : Option ClientView). clients_in locations slab ++ unwrap_or o (new_client 0 0) ∷ []) inserted.changed
+        map-insert (λ s. client_at after s.key) locations i new_location place.within
+        (λ j d le lt. lower j d lt)
+        (λ j d le in_j. higher j d le in_j)
+        ∙ ap (λ (c : ClientView). with_client c (map (λ s. client_at after s.key) locations)) new_there
+        ∙ ap (with_client new) (map_same (λ s. client_at after s.key) (λ s. client_at slab s.key) locations (λ j d in_j. clients_stay j d in_j))
+      where
+        new_number : (client_at after key).number ≡ new.number
+        new_number = ap (λ (c : ClientView). c.number) new_there
+
+        lower : (j : ℕ) (d : Location) → j < i → (client_at after (get_or locations j d).key).number < (client_at after key).number
+        lower j d lt =
+            let in_j : j < length locations = omega (arith, place.within) in
+            omega (arith, place.lower j d (omega arith) lt, numbers_stay j d in_j, new_number)
+
+        higher : (j : ℕ) (d : Location) → i ≤ j → j < length locations → (client_at after key).number ≤ (client_at after (get_or locations j d).key).number
+        higher j d le in_j = omega (arith, place.others j d le in_j, numbers_stay j d in_j, new_number)

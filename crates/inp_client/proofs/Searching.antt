@@ -1,6 +1,6 @@
 -- What a binary search of the locations finds.
-use Rattle.std.proofs.Common.{◌≡◌, ◌≢◌, ◌<◌, ◌≤◌, ℕ, false, nat_eq, List, length, get_or, Contains, Option, Some, None, IfSome, IfNone, is_some, Result, Ok, Err, sym, ap, ◌∙◌, inl, inr, arith, tests}
-use Rattle.std.specs.List.Sorted.{IsBinarySearchResult, IsSearchInRange}
+use Rattle.std.proofs.Common.{◌≡◌, ◌≢◌, ◌<◌, ◌≤◌, ℕ, true, false, nat_eq, nat_lt, List, length, get_or, Contains, Option, Some, None, IfSome, IfNone, is_some, Result, Ok, Err, sym, ap, ◌∙◌, inl, inr, arith, tests}
+use Rattle.std.specs.List.Sorted.{IsBinarySearchResult, IsSearchInRange, IsPartitionPoint}
 use Rattle.std.specs.Ordering.{nat_cmp, ordering_index}
 use Rattle.std.specs.Result.{result_ok}
 use Rattle.std.specs.declared.cmp.Ordering.TheVariants.{Less, Equal, Greater}
@@ -8,7 +8,7 @@ use Rattle.std.proofs.lemmas.Bool.{cases_lt, eq-eqb, ne_eqb}
 use Rattle.std.proofs.lemmas.List.{get_or_default}
 use Rattle.std.proofs.lemmas.List.Folds.{list_any_none, list_any_at}
 use Rattle.inp_client.specs.declared.location.Location.{Location}
-use Rattle.inp_client.specs.Locations.{has_location, AreAscending, IsIndexOf}
+use Rattle.inp_client.specs.Locations.{has_location, AreAscending, IsIndexOf, IsPlaceFor}
 
 equal_numbers : (a b : ℕ) → nat_cmp a b ≡ Equal → a ≡ b
 equal_numbers a b e = grind (arith, tests)
@@ -23,7 +23,7 @@ rising : (a b n : ℕ) → a ≤ b → ordering_index (nat_cmp a n) ≤ ordering
 rising a b n le = grind (arith, tests)
 
 -- numbers do not fall along the locations
-not_falling : (locations : List Location) → AreAscending locations → (i j : ℕ) (d : Location) → i ≤ j → j < length locations → (get_or locations i d).number ≤ (get_or locations j d).number
+pub not_falling : (locations : List Location) → AreAscending locations → (i j : ℕ) (d : Location) → i ≤ j → j < length locations → (get_or locations i d).number ≤ (get_or locations j d).number
 not_falling locations up i j d le within =
     elim (cases_lt i j) [
       | inl lower ↦ omega (arith, up i j d lower within)
@@ -59,3 +59,17 @@ location_at_index locations number i d at =
     let location : Location = get_or locations i d in
     let numbered : ℕ → Location = λ n. record { number = n; key = location.key } in
     (i, at.within, get_or_default locations i (numbered number) d at.within ∙ ap numbered (at.numbered d))
+
+-- where numbers no longer are lower, a new one has its place
+is_lower : (a b : ℕ) → nat_lt a b ≡ true → a < b
+is_lower a b e = grind (arith, tests)
+
+is_no_lower : (a b : ℕ) → nat_lt a b ≡ false → b ≤ a
+is_no_lower a b e = grind (arith, tests)
+
+pub place_is : (locations : List Location) (number i : ℕ) → i ≤ length locations → IsPartitionPoint (λ s. nat_lt s.number number ≡ true) (λ s. nat_lt s.number number ≡ false) locations i → IsPlaceFor locations number i
+place_is locations number i within parted = record {
+  within = within;
+  lower = λ k d le below. is_lower _ _ (parted.0 k d le below);
+  others = λ k d le in_k. is_no_lower _ _ (parted.1 k d le in_k);
+}

@@ -1,5 +1,5 @@
 -- The list of the open clients, ascending by number.
-use Rattle.std.specs.Prelude.{ℕ, ◌<◌, Bool, false, not, if◌then◌else◌, nat_eq, List, [], map, filter, All, Option}
+use Rattle.std.specs.Prelude.{ℕ, Bool, false, not, if◌then◌else◌, nat_eq, nat_lt, List, [], ◌∷◌, map, filter, Option}
 use Rattle.std.specs.List.{find, list_any}
 use Rattle.std.specs.Option.{option_map_or}
 use Rattle.inp_model.specs.declared.taken.Taken.{Taken}
@@ -33,6 +33,7 @@ map_client number change clients = map (λ c. if has_number number c then change
 abbrev pub without_client : ℕ → List ClientView → List ClientView
 without_client number clients = filter (λ c. not (has_number number c)) clients
 
--- each open client has a lower number
-abbrev pub AllBelow : ℕ → List ClientView → Type 0
-AllBelow number clients = All (λ c. c.number < number) clients
+-- one client is opened: it stands behind those with lower numbers, and the others stay
+abbrev pub with_client : ClientView → List ClientView → List ClientView
+with_client new [] = new ∷ []
+with_client new (c ∷ clients) = if nat_lt c.number new.number then c ∷ with_client new clients else new ∷ c ∷ clients

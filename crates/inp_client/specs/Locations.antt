@@ -1,7 +1,7 @@
 -- How the open clients are kept: each in a slab under a key of its own, with a list of their numbers and keys.
-use Rattle.std.specs.Prelude.{◌≡◌, ℕ, ◌<◌, Bool, nat_eq, List, length, map, All, AllPairs, Option, Some, unwrap_or}
+use Rattle.std.specs.Prelude.{◌≡◌, ℕ, ◌<◌, ◌≤◌, Bool, nat_eq, List, length, map, All, AllPairs, Option, Some, unwrap_or}
 use Rattle.std.specs.Option.{option_map}
-use Rattle.std.specs.List.{list_any, HoldsAt}
+use Rattle.std.specs.List.{list_any, HoldsAt, AllWithin}
 use Rattle.slab.specs.Slab.{Slab, get, slab_len}
 use Rattle.inp_client.specs.declared.location.Location.{Location}
 use Rattle.inp_client.specs.Client.{ClientView, new_client}
@@ -30,6 +30,12 @@ AreAscending locations = AllPairs (λ a b. a.number < b.number) locations
 pub record IsIndexOf (locations : List Location) (number index : ℕ) : Type 0 where
   pub within : index < length locations
   pub numbered : HoldsAt (λ at. at.number ≡ number) locations index
+
+-- the locations before the index have lower numbers, and no other one has
+pub record IsPlaceFor (locations : List Location) (number index : ℕ) : Type 0 where
+  pub within : index ≤ length locations
+  pub lower : AllWithin (λ at. at.number < number) locations 0 index
+  pub others : AllWithin (λ at. number ≤ at.number) locations index (length locations)
 
 -- each client of the slab has one location, and the locations ascend by number
 pub record AreLocated (locations : List Location) (slab : Slab ClientView) : Type 0 where

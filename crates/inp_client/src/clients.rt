@@ -1,5 +1,5 @@
 //! The open clients of a device.
-ghost use Rattle.std.specs.Prelude.{◌≡◌, ◌≢◌, ◌≤◌, ◌<◌, ◌↔◌, ◌++◌, ◌∷◌, [], true, length, min, map, take, Contains, Err, IfOk, OnOk, OnErr};
+ghost use Rattle.std.specs.Prelude.{◌≡◌, ◌≢◌, ◌≤◌, ◌<◌, ◌↔◌, [], true, false, length, min, map, take, Contains, Err, IfOk, OnOk, OnErr};
 ghost use Rattle.slab.specs.Slab.{ContainsKey};
 ghost use Rattle.inp_model.specs.declared.event.TheConstants.{EV_SYN};
 ghost use Rattle.inp_model.specs.declared.limits.TheConstants.{CLIENTS_MAX};
@@ -10,12 +10,12 @@ ghost use Rattle.inp_model.specs.Reply.{written};
 ghost use Rattle.inp_model.specs.Step.{Codes, Slots};
 ghost use Rattle.inp_ring.specs.Ring.{event_of};
 ghost use Rattle.inp_client.specs.Client.{new_client, after_offer, after_take, after_flush, after_mask, after_clock, after_revoke};
-ghost use Rattle.inp_client.specs.Clients.{has_client, has_revoked_client, events_of, map_client, without_client, AllBelow};
+ghost use Rattle.inp_client.specs.Clients.{has_client, has_revoked_client, events_of, map_client, with_client, without_client};
 ghost use Rattle.inp_client.specs.Locations.{clients_in, AreLocated};
 ghost use Rattle.inp_client.specs.declared.open_refused.OpenRefused.TheVariants.{TooMany};
 
 use crate::client::Client;
-use crate::location::{Location, index_of};
+use crate::location::{Location, index_of, place_for};
 use crate::open_refused::OpenRefused;
 use inp_caps::Caps;
 use inp_model::{CLIENTS_MAX, Clock, Event, MOMENT_MAX, NoMemory, Taken};
@@ -25,8 +25,8 @@ use std::marker::Model;
 
 /// The open clients of a device, at most 64, each under its number (evdev's clients).
 ///
-/// A number is never used again, so the clients ascend by number in the order in which they were opened, and one is
-/// found by binary search. A contract sees the list of the open clients.
+/// They ascend by number, so that one is found by binary search. A contract sees the list of the open clients, ascending
+/// by number.
 #[derive(Drop)]
 pub struct Clients {
     alloc: Global,
@@ -63,13 +63,13 @@ impl Clients {
 
     /// Opens a client, with an empty ring of 64 to 4,096 places, all bits of its masks set, on the realtime clock.
     ///
-    /// Its number must be above that of each open client. It is refused where 64 are open, and may be refused for want
-    /// of memory; nothing changes then.
+    /// No open client may have its number. It is refused where 64 are open, and may be refused for want of memory;
+    /// nothing changes then.
     pub fn open(&mut self, number: u32, ring: u32) -> Result<(), OpenRefused>
         requires ring { (64 ≤ ring) × (ring ≤ 4096) }
-        requires above { AllBelow number self.old }
+        requires unused { has_client number self.old ≡ false }
         ensures too_many { (result ≡ Err TooMany) ↔ (length self.old ≡ CLIENTS_MAX) }
-        ensures ok { OnOk result (self.new ≡ self.old ++ new_client number ring ∷ []) }
+        ensures ok { OnOk result (self.new ≡ with_client (new_client number ring) self.old) }
         ensures err { OnErr result (self.new ≡ self.old) }
     {
         if self.locations.len() == CLIENTS_MAX as usize {
@@ -77,7 +77,10 @@ impl Clients {
         }
         let client = Client::new(self.alloc, number, ring)?;
         let key = self.slab.insert_reserved(client);
-        self.locations.push_reserved(Location { number, key });
+        let place = place_for(&self.locations, number);
+        self.locations
+            .insert(place, Location { number, key })
+            .unwrap();
         Ok(())
     }
 

@@ -1,7 +1,6 @@
 //! Clients, against queues worked out by hand.
-ghost use Rattle.std.specs.Prelude.{◌≡◌, ◌+◌, ◌<◌, ◌≤◌, ◌^◌, ℕ, true, IfOk};
+ghost use Rattle.std.specs.Prelude.{◌≡◌, ◌<◌, true};
 ghost use Rattle.inp_model.specs.Past.{has_mask, mask_words};
-ghost use Rattle.inp_client.specs.Clients.{AllBelow};
 
 use super::*;
 use inp_caps::{Caps, CapsBuilder};
@@ -9,7 +8,6 @@ use inp_model::{
     ABS_MT_SLOT, CLIENTS_MAX, Clock, EV_ABS, EV_KEY, EV_MSC, EV_REP, EV_SYN, Event, SYN_DROPPED,
     SYN_REPORT, Taken,
 };
-use std::alloc::Global;
 use std::process::Abort;
 use std::test::Fail;
 
@@ -63,28 +61,27 @@ fn timed(event: Event, now: u32, ahead: u64) -> Taken {
 }
 
 /// The clients 0, 1 and 2, with rings of 64 places.
-fn three(alloc: Global) -> Result<Clients, Fail> {
-    let mut clients = Clients::new(alloc)?;
-    open_up_to(&mut clients, 0, 3)?;
+fn three(rt: &(impl Abort + AllocGlobal)) -> Result<Clients, Fail> {
+    let mut clients = Clients::new(rt.alloc())?;
+    open_up_to(rt, &mut clients, 0, 3)?;
     Ok(clients)
 }
 
 /// Opens the clients with the numbers from one up to another.
-fn open_up_to(clients: &mut Clients, first: u32, end: u32) -> Result<(), OpenRefused>
-    requires order { first ≤ end }
-    requires above { AllBelow first clients.old }
-    ensures above { AllBelow end clients.new }
-{
+fn open_up_to(
+    rt: &impl Abort,
+    clients: &mut Clients,
+    first: u32,
+    end: u32,
+) -> Result<(), OpenRefused> {
     for number in first..end {
-        open_one(clients, number)?;
+        open_one(rt, clients, number)?;
     }
     Ok(())
 }
 
-fn open_one(clients: &mut Clients, number: u32) -> Result<(), OpenRefused>
-    requires above { AllBelow number clients.old }
-    ensures above { AllBelow (number + 1) clients.new }
-{
+fn open_one(rt: &impl Abort, clients: &mut Clients, number: u32) -> Result<(), OpenRefused> {
+    assert!(rt; !clients.is_open(number), "client {number}");
     clients.open(number, 64)
 }
 
@@ -128,7 +125,7 @@ fn visible(rt: &impl Abort, clients: &Clients, number: u32) -> u32 {
 #[test]
 fn masks_say_what_is_admitted(rt: HostRuntime) -> Result<(), Fail> {
     let caps = caps()?;
-    let mut clients = three(rt.alloc())?;
+    let mut clients = three(&rt)?;
     // All keys but A; all types but EV_SYN and EV_REP; no code of EV_MSC.
     set_mask(&rt, &mut clients, 0, EV_KEY, 0, 0xffff_ffff_bfff_ffff);
     set_mask(&rt, &mut clients, 1, EV_SYN, 0, !0x10_0001);
@@ -179,7 +176,7 @@ fn masks_say_what_is_admitted(rt: HostRuntime) -> Result<(), Fail> {
 #[test]
 fn a_mask_leaves_what_is_queued(rt: HostRuntime) -> Result<(), Fail> {
     let caps = caps()?;
-    let mut clients = three(rt.alloc())?;
+    let mut clients = three(&rt)?;
     offer(&mut clients, &caps, &[key(A, 1), REPORT], 1, None);
     set_mask(&rt, &mut clients, 0, EV_KEY, 0, 0);
     set_mask(&rt, &mut clients, 0, EV_KEY, 11, 0);
@@ -202,7 +199,7 @@ fn a_mask_leaves_what_is_queued(rt: HostRuntime) -> Result<(), Fail> {
 #[test]
 fn the_holder_gets_frames_alone_and_a_revoked_client_none(rt: HostRuntime) -> Result<(), Fail> {
     let caps = caps()?;
-    let mut clients = three(rt.alloc())?;
+    let mut clients = three(&rt)?;
     offer(&mut clients, &caps, &[key(A, 1), REPORT], 1, Some(1));
     expect(&rt, &mut clients, 0, &[]);
     expect(&rt, &mut clients, 1, &[at(key(A, 1), 1), at(REPORT, 1)]);
@@ -231,7 +228,7 @@ fn the_holder_gets_frames_alone_and_a_revoked_client_none(rt: HostRuntime) -> Re
 #[test]
 fn another_clock_empties_a_queue(rt: HostRuntime) -> Result<(), Fail> {
     let caps = caps()?;
-    let mut clients = three(rt.alloc())?;
+    let mut clients = three(&rt)?;
     set_clock(&rt, &mut clients, &caps, 0, Clock::Monotonic, 5);
     assert_eq!(rt; visible(&rt, &clients, 0), 0);
     offer(&mut clients, &caps, &[key(A, 1), REPORT], 10, None);
@@ -265,7 +262,7 @@ fn another_clock_empties_a_queue(rt: HostRuntime) -> Result<(), Fail> {
 #[test]
 fn one_clients_queue_is_flushed_and_discarded(rt: HostRuntime) -> Result<(), Fail> {
     let caps = caps()?;
-    let mut clients = three(rt.alloc())?;
+    let mut clients = three(&rt)?;
     let slot = event(EV_ABS, ABS_MT_SLOT, 1);
     offer(&mut clients, &caps, &[key(A, 1), REPORT], 1, None);
     offer(&mut clients, &caps, &[slot, key(B, 1), REPORT], 2, None);
@@ -294,34 +291,31 @@ fn one_clients_queue_is_flushed_and_discarded(rt: HostRuntime) -> Result<(), Fai
     Ok(())
 }
 
-/// Closes each client with an even number below 64.
-fn close_even(clients: &mut Clients)
-    ensures below { (n : ℕ) → AllBelow n clients.old → AllBelow n clients.new }
-{
-    for half in 0..32 {
-        close_if_open(clients, 2 * half);
-    }
-}
-
-fn close_if_open(clients: &mut Clients, number: u32)
-    ensures below { (n : ℕ) → AllBelow n clients.old → AllBelow n clients.new }
-{
-    if clients.is_open(number) {
-        clients.close(number);
-    }
+/// Closes a client.
+fn close_one(rt: &impl Abort, clients: &mut Clients, number: u32) {
+    assert!(rt; clients.is_open(number), "client {number}");
+    clients.close(number);
 }
 
 #[test]
 fn sixty_four_clients_with_a_mask_each(rt: HostRuntime) -> Result<(), Fail> {
     let caps = caps()?;
     let mut clients = Clients::new(rt.alloc())?;
-    open_up_to(&mut clients, 0, 64)?;
-    assert_eq!(rt; open_up_to(&mut clients, 64, 65), Err(OpenRefused::TooMany));
-    close_even(&mut clients);
+    open_up_to(&rt, &mut clients, 0, 64)?;
+    assert_eq!(rt;
+        open_up_to(&rt, &mut clients, 64, 65),
+        Err(OpenRefused::TooMany)
+    );
+    for half in 0..32 {
+        close_one(&rt, &mut clients, 2 * half);
+    }
     assert_eq!(rt; clients.count(), 32);
-    open_up_to(&mut clients, 65, 97)?;
+    open_up_to(&rt, &mut clients, 65, 97)?;
     assert_eq!(rt; clients.count(), CLIENTS_MAX);
-    assert_eq!(rt; open_up_to(&mut clients, 97, 98), Err(OpenRefused::TooMany));
+    assert_eq!(rt;
+        open_up_to(&rt, &mut clients, 97, 98),
+        Err(OpenRefused::TooMany)
+    );
 
     // The client `number` admits the key `number % 64` alone, of the first 64.
     for number in 0..97 {
@@ -343,6 +337,27 @@ fn sixty_four_clients_with_a_mask_each(rt: HostRuntime) -> Result<(), Fail> {
             expect_own_key(&rt, &mut clients, number);
         }
     }
+    Ok(())
+}
+
+#[test]
+fn a_client_is_opened_under_any_number_that_is_not_open(rt: HostRuntime) -> Result<(), Fail> {
+    let caps = caps()?;
+    let mut clients = Clients::new(rt.alloc())?;
+    for number in [5, 2, u32::MAX, 0, 3] {
+        open_one(&rt, &mut clients, number)?;
+    }
+    offer(&mut clients, &caps, &[key(A, 1), REPORT], 1, None);
+    close_one(&rt, &mut clients, 2);
+    open_one(&rt, &mut clients, 2)?;
+    offer(&mut clients, &caps, &[key(A, 0), REPORT], 2, None);
+    let fresh = [at(key(A, 0), 2), at(REPORT, 2)];
+    expect(&rt, &mut clients, 2, &fresh);
+    let all = [at(key(A, 1), 1), at(REPORT, 1), fresh[0], fresh[1]];
+    for number in [0, 3, 5, u32::MAX] {
+        expect(&rt, &mut clients, number, &all);
+    }
+    assert_eq!(rt; clients.count(), 5);
     Ok(())
 }
 

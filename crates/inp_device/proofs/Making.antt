@@ -29,7 +29,8 @@ use Rattle.inp_device.specs.Handler.{fresh_handler}
 use Rattle.inp_bits.proofs.Indices.{All-filter_range}
 use Rattle.inp_ring.specs.Ring.{event_of}
 use Rattle.inp_client.specs.Client.{ClientView, new_client, after_take, after_flush}
-use Rattle.inp_client.specs.Clients.{has_client, has_revoked_client, events_of, map_client, AllBelow}
+use Rattle.inp_client.specs.Clients.{has_client, has_revoked_client, events_of, map_client, with_client}
+use Rattle.inp_client.proofs.ClientLists.{AllBelow, unused_above, with_client_above}
 use Rattle.inp_device.specs.Present.{client_after, clients_after, HasBits, AsksBits, StandsFor, IsReadyFor, IsMade}
 use Rattle.inp_model.proofs.Opens.{opens-le}
 use Rattle.inp_device.proofs.Queues.{visible-map}
@@ -244,10 +245,14 @@ all_below d past =
     subst (λ (n : ℕ). AllBelow n (clients_after d past)) zero_plus
     (All-map (λ (c : ClientView). c.number < 0 + opens past) (client_after d past) (open_clients past) (All-filter_range (is_open past) 0 (opens past)))
 
-pub opens_above : (history : List Step) (old : Present) → IsReadyFor history Open old → AllBelow old.opens old.handler.clients
+opens_above : (history : List Step) (old : Present) → IsReadyFor history Open old → AllBelow old.opens old.handler.clients
 opens_above history old ready =
     subst (λ (n : ℕ). AllBelow n old.handler.clients) (sym ready.stands.opens)
     (subst (AllBelow (opens (reverse history))) (sym ready.stands.handler.clients) (all_below old.caps (reverse history)))
+
+-- so no open client has that number
+pub opens_unused : (history : List Step) (old : Present) → IsReadyFor history Open old → has_client old.opens old.handler.clients ≡ false
+opens_unused history old ready = unused_above old.opens old.handler.clients (opens_above history old ready)
 
 le_true : (m n : ℕ) → nat_le m n ≡ false → n < m
 le_true m n h = grind (arith, nat_tests, h)
@@ -260,7 +265,7 @@ opens_few history old ready =
     omega (arith, open_few, ap length ready.stands.handler.clients, length-map (open_clients past) (client_after old.caps past))
 
 pub made_open : (history : List Step) (old new : Present) (places : ℕ) → IsReadyFor history Open old → places ≡ ring old.caps → new.caps ≡ old.caps → new.core ≡ old.core → new.handler.caps ≡ old.handler.caps
-    → new.handler.clients ≡ old.handler.clients ++ new_client old.opens places ∷ [] → new.handles.holder ≡ old.handles.holder → new.opens ≡ old.opens + 1 → new.ends ≡ old.ends
+    → new.handler.clients ≡ with_client (new_client old.opens places) old.handler.clients → new.handles.holder ≡ old.handles.holder → new.opens ≡ old.opens + 1 → new.ends ≡ old.ends
     → IsMade history Open old (Opened (length history) old.opens places) [] [] [] [] new
 made_open history old new places ready ringed caps core handler clients grab opened ended =
     let past : List Step = reverse history in
@@ -276,6 +281,7 @@ made_open history old new places ready ringed caps core handler clients grab ope
       core = core;
       handler = handler;
       clients = clients
+          ∙ with_client_above (new_client old.opens places) old.handler.clients (opens_above history old ready)
           ∙ ap (λ (cs : List ClientView). cs ++ new_client old.opens places ∷ []) ready.stands.handler.clients
           ∙ ap (λ (n : ℕ). clients_after old.caps past ++ new_client n places ∷ []) ready.stands.opens
           ∙ ap (λ (n : ℕ). clients_after old.caps past ++ new_client (opens past) n ∷ []) ringed

@@ -1,11 +1,11 @@
 use Rattle.std.proofs.Common.{reverse, refl}
 use Rattle.inp_model.specs.declared.step.Step.TheVariants.{Open}
 use Rattle.std.proofs.Common.{arith}
-use Rattle.inp_device.proofs.Making.{opens_above, opens_fit, made_open, stands_same}
+use Rattle.inp_device.proofs.Making.{opens_unused, opens_fit, made_open, stands_same}
 use Rattle.inp_device.proofs.present.Present.open.Goals as goal
 
-pub open-requires-clause-above : goal.open-requires-clause-above
-open-requires-clause-above c = opens_above c.args.history.now c.args.self.now c.requires.ready
+pub open-requires-clause-unused : goal.open-requires-clause-unused
+open-requires-clause-unused c = opens_unused c.args.history.now c.args.self.now c.requires.ready
 
 pub overflow_add-self : goal.overflow_add-self
 overflow_add-self c = omega (arith, opens_fit c.args.history.now Open c.args.self.now c.requires.ready, c.requires.ready.few)
