@@ -9,6 +9,8 @@ use inp_edge::Gate;
 use inp_model::{Evdev, Reply, Step, Taken};
 
 /// An evdev that passes a gate before each call. To a contract it is the evdev behind the gate.
+///
+/// After a call the gate was told of it: its job, and how many calls were made before.
 #[derive(Drop)]
 pub struct Gated<'a, E, G> {
     /// The evdev that makes the calls.
@@ -47,6 +49,7 @@ impl<'a, E: Evdev, G: Gate> Evdev for Gated<'a, E, G> {
             step result out.old out.new cells.old cells.new }
         ensures calls { self.new.calls ≡ min (self.old.calls + 1) (2 ^ 32 - 1) }
         ensures job { self.new.job ≡ self.old.job }
+        ensures passed { G.passed self.old.gate.now self.old.job self.old.calls }
     {
         self.gate.before(self.job, self.calls);
         self.calls = self.calls.saturating_add(1);

@@ -9,9 +9,10 @@ use inp_actors::{
     ActorText, Actors, Command, DeviceText, Devices, Line, Lines, Name, Record, Role, Streams,
 };
 use inp_caps::{Caps, CapsBuilder};
-use inp_edge::OpenGate;
+use inp_edge::{Gate, OpenGate};
 use inp_model::{EV_KEY, Evdev, KEY_A, NoMemory, Refusal, Reply, Step, Taken};
 use std::alloc::Global;
+use std::sync::atomic::{AtomicU64, Ordering};
 use std::test::Fail;
 
 /// A keyboard whose history has the one step that it may have, and no client. So each step is refused.
@@ -178,5 +179,46 @@ fn actors_see_refusals_and_stop_at_the_limit(rt: HostRuntime) -> Result<(), Fail
     );
     assert_eq!(rt; *tap.stop(), Stop::Finished);
     assert_eq!(rt; tap.actor(), 2);
+    Ok(())
+}
+
+/// A gate that keeps what it was told last, and how often it was told something.
+#[derive(Drop)]
+struct NotingGate {
+    times: AtomicU64,
+    job: AtomicU64,
+    call: AtomicU64,
+}
+
+impl Gate for NotingGate {
+    ghost passed = { λ _ _ _. Unit {0} };
+
+    fn before(&self, job: u32, call: u32) {
+        let _before = self.times.fetch_add(1, Ordering::SeqCst);
+        self.job.store(u64::from(job), Ordering::SeqCst);
+        self.call.store(u64::from(call), Ordering::SeqCst);
+    }
+}
+
+/// Makes a call that is refused.
+fn end<E: Evdev>(dev: &mut E) {
+    dev.call(Step::End, &mut [], &mut []);
+}
+
+#[test]
+fn a_gate_is_told_the_job_and_the_call(rt: HostRuntime) -> Result<(), Fail> {
+    let gate = NotingGate {
+        times: AtomicU64::new(0),
+        job: AtomicU64::new(0),
+        call: AtomicU64::new(0),
+    };
+    let mut dev = Gated::new(FullDevice, &gate, 7);
+    assert_eq!(rt; gate.times.load(Ordering::SeqCst), 0, "no call yet");
+    for call in 0..4 {
+        end(&mut dev);
+        assert_eq!(rt; gate.times.load(Ordering::SeqCst), call + 1);
+        assert_eq!(rt; gate.job.load(Ordering::SeqCst), 7);
+        assert_eq!(rt; gate.call.load(Ordering::SeqCst), call);
+    }
     Ok(())
 }
