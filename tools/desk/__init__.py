@@ -1,0 +1,1 @@
+"""What the tools of this folder share: formats of captures and descriptions, and how a record is written."""

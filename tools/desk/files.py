@@ -1,0 +1,67 @@
+"""Reads a file of a description or a capture, in whichever of the known forms it is, and chooses one of its devices."""
+
+import re
+
+from desk import evemu, evtest, libinput, procfs, raw, recordlines
+from desk.command import Wrong
+
+# The first that recognises a text reads it.
+FORMS = [
+    (evemu.is_evemu, evemu.parse),
+    (libinput.is_libinput, libinput.parse),
+    (procfs.is_procfs, procfs.parse),
+    (recordlines.is_record, recordlines.parse),
+    (evtest.is_evtest, evtest.parse),
+]
+KNOWN = "the output of evtest, an evemu file, a recording of libinput, /proc/bus/input/devices, a record's lines"
+GREATEST_SIZE = 1 << 28
+
+
+def read_bytes(path):
+    try:
+        with open(path, "rb") as file:
+            data = file.read(GREATEST_SIZE + 1)
+    except (OSError, ValueError) as fault:
+        raise Wrong(f"{path}: {getattr(fault, 'strerror', None) or fault}") from None
+    if len(data) > GREATEST_SIZE:
+        raise Wrong(f"{path}: more than {GREATEST_SIZE} bytes")
+    return data
+
+
+def recordings_of(data, raw_size=None):
+    if not data:
+        raise Wrong("the file is empty")
+    if raw_size or raw.is_raw(data):
+        return raw.parse(data, raw_size)
+    text = data.decode("utf-8", "replace").replace("\r\n", "\n").replace("\r", "\n")
+    for recognises, parse in FORMS:
+        if recognises(text):
+            recordings = parse(text)
+            if not recordings:
+                raise Wrong("it has no device and no event")
+            return recordings
+    raise Wrong(f"not in a form that is known here ({KNOWN}, a raw capture)")
+
+
+def read(path, chosen=None, raw_size=None):
+    """The recording of a file, the chosen one where it has several."""
+    try:
+        return choose(recordings_of(read_bytes(path), raw_size), chosen)
+    except Wrong as wrong:
+        text = str(wrong)
+        raise Wrong(text if text.startswith(f"{path}: ") else f"{path}: {text}") from None
+
+
+def choose(recordings, chosen):
+    """The one recording, or that whose number, from 1, or whose name is chosen."""
+    if len(recordings) == 1:
+        return recordings[0]
+    names = [recording.device.name if recording.device else "" for recording in recordings]
+    listed = ", ".join(f'{i + 1} "{name}"' for i, name in enumerate(names))
+    if chosen is None:
+        raise Wrong(f"{len(recordings)} devices: {listed}; choose one with --device")
+    if chosen in names and names.count(chosen) == 1:
+        return recordings[names.index(chosen)]
+    if re.fullmatch("[0-9]{1,4}", chosen) and 1 <= int(chosen) <= len(recordings):
+        return recordings[int(chosen) - 1]
+    raise Wrong(f'no one device "{chosen}"; there are {listed}')
