@@ -1,7 +1,7 @@
-"""A capture made ready for a record: its frames with their times from its first event on, and what is to be said of it."""
+"""A capture made ready for a record: its frames, timed from the first event on, and what is to be said of it."""
 
 from desk.command import Wrong
-from desk.description import GREATEST_HINT, estimate, hint_of
+from desk.description import GREATEST_HINT, GREATEST_SLOTS, estimate, hint_of
 from desk.names import ABS, KEY, MSC, SLOT, SYN, code_text, event_text, is_in_a_record, kernel_kind_text
 from desk.recording import Event, frames_of
 
@@ -34,8 +34,8 @@ class Capture:
 
     def refuse_hidden_keys(self, recording, takes_hidden_keys):
         if recording.hides_keys and not takes_hidden_keys:
-            raise Wrong("libinput record hid most keys as KEY_A: record with --show-keycodes, or take them with "
-                        "--hidden-keys")
+            raise Wrong("libinput record hid most keys as KEY_A: record with --show-keycodes, or take them "
+                        "with --hidden-keys")
         if recording.hides_keys:
             self.notes.append("libinput record hid most keys as KEY_A, and their scan codes as 30")
         elif recording.hides_scan_codes:
@@ -44,8 +44,8 @@ class Capture:
     def from_the_first_on(self, events):
         base = min(event.time for event in events)
         if base != events[0].time:
-            self.notes.append(f"times go back by {seconds(events[0].time - base)} behind the first event; they are told "
-                              f"from the earliest one on")
+            back = seconds(events[0].time - base)
+            self.notes.append(f"times go back by {back} behind the first event; they are told from the earliest one on")
         if max(event.time for event in events) - base > LATEST:
             raise Wrong(f"it lasts longer than a record can: {LATEST} us")
         return [Event(time - base, kind, code, value) for time, kind, code, value in events]
@@ -53,28 +53,33 @@ class Capture:
     def without_what_a_record_lacks(self, events):
         kept = [event for event in events if is_in_a_record(event.kind, event.code)]
         if len(kept) < len(events):
-            lacking = {(event.kind, event.code) for event in events} - {(event.kind, event.code) for event in kept}
-            names = ", ".join(f"{kernel_kind_text(kind)} {code_text(kind, code)}" for kind, code in sorted(lacking)[:4])
-            more = ", .." if len(lacking) > 4 else ""
-            self.notes.append(f"{len(events) - len(kept)} events are left out, since a record has no {names}{more}")
+            lacking = sorted({event[1:3] for event in events} - {event[1:3] for event in kept})
+            names = [f"{kernel_kind_text(kind)} {code_text(kind, code)}" for kind, code in lacking[:4]]
+            names += [".."] if len(lacking) > 4 else []
+            count = len(events) - len(kept)
+            self.notes.append(f"{count} events are left out, since a record has no {', '.join(names)}")
         return kept
 
     def find_slots(self, device, events):
-        """A capture that names slots is of a device with slots, and of at least so many."""
+        """A capture that names slots is of a device with slots. It tells how many where nothing else does."""
         named = [event.value for event in events if (event.kind, event.code) == (ABS, SLOT)]
         if not named or SLOT not in device.axes:
             return
-        if max(named) >= 64:
-            raise Wrong(f"an event is in slot {max(named)}, and a record has at most 64 slots")
-        least = device.axes[SLOT].maximum + 1 if device.has_ranges else 1
-        if not device.slot_count() or not device.has_ranges:
-            device.slots = max(least, max(named) + 1)
+        if max(named) >= GREATEST_SLOTS:
+            raise Wrong(f"an event is in slot {max(named)}, and a record has at most {GREATEST_SLOTS} slots")
+        if not device.has_ranges:
+            device.slots = max(named) + 1
+        elif not device.slot_count() and device.slots is None:
+            device.slots = device.axes[SLOT].maximum + 1
+        if not 0 <= min(named) <= max(named) < device.slot_count():
+            raise Wrong(f"its slots are {min(named)} to {max(named)}, and the description has "
+                        f"{device.slot_count()} slots: is it another device's?")
 
     def find_reports(self, device):
-        """Gives the frames of a form that does not tell the value of a SYN_REPORT the one that it must have had.
+        """Gives each SYN_REPORT whose value the form does not tell the one that it must have had.
 
-        The kernel writes 1 where it repeats a key itself, and where it cuts a frame since as many events as it reckons
-        with are there. A repeat behind its scan code is the keyboard's own.
+        The kernel writes 1 where it repeats a key itself, and where it cuts a frame since as many events as
+        it reckons with are there. A repeat behind its scan code is the keyboard's own.
         """
         longest = max(len(frame.events) for frame in self.frames)
         hint = min(hint_of(device), estimate(device))
@@ -95,8 +100,8 @@ class Capture:
         times += [lost_at_end] if lost_at_end is not None else []
         if times:
             more = f" and at {len(times) - 1} places more" if len(times) > 1 else ""
-            self.notes.append(f"the capture lost events at {seconds(times[0])}{more} (SYN_DROPPED); what they changed, as "
-                              f"far as the events behind them tell, is set there")
+            self.notes.append(f"the capture lost events at {seconds(times[0])}{more} (SYN_DROPPED); what they "
+                              f"changed, as far as the events behind them tell, is set there")
 
 
 def is_repeat_of_the_kernel(events):
@@ -109,5 +114,5 @@ def is_repeat_of_the_kernel(events):
 def refuse_other_device(device, events):
     for event in events:
         if event.kind != SYN and not device.has(event.kind, event.code):
-            raise Wrong(f"an event of it, {event_text(event[1:])} at {seconds(event.time)}, is of a code that the "
-                        f"description lacks: is it another device's?")
+            raise Wrong(f"an event of it, {event_text(event[1:])} at {seconds(event.time)}, is of a code "
+                        f"that the description lacks: is it another device's?")

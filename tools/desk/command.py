@@ -1,4 +1,4 @@
-"""How each command here reads its words, and how it ends: one line for wrong input and status 2, or its text whole."""
+"""How a command reads its words, and how it ends: one line for wrong input and status 2, or its whole text."""
 
 import argparse
 import os

@@ -31,7 +31,7 @@ def name_of(device, given=None):
 
 
 def contacts_of(device):
-    """How many contacts the kernel reckons with: the slots, or without slots what the range of the contact's id tells."""
+    """How many contacts the kernel reckons with: the slots, or without slots as the range of the ids tells."""
     slots = device.slot_count()
     if slots:
         return slots
@@ -44,8 +44,8 @@ def contacts_of(device):
 def estimate(device):
     """How many events the kernel reckons with in a frame.
 
-    8, one more for each relative axis and each absolute one that has one value, and for each contact one more and as
-    many as there are axes that have a value for each contact.
+    8, one more for each relative axis and each absolute one that has one value, and for each contact one
+    more and as many as there are axes that have a value for each contact.
     """
     contacts = contacts_of(device)
     events = 8 + contacts + len(device.codes.get(REL, ()))
@@ -53,7 +53,7 @@ def estimate(device):
 
 
 def hint_of(device):
-    """The hint that the record has: the kernel's estimate, or the line of a description that has one already."""
+    """The hint that the record has: the kernel's estimate, or that of a description that has one already."""
     if device.hint is not None:
         return device.hint
     return max(LEAST_HINT, min(estimate(device), GREATEST_HINT))
@@ -79,7 +79,7 @@ def is_brought_by_slots(device, code, axis):
     """The two axes that `slots` adds need no line where they are as it adds them."""
     if not slots_of(device):
         return False
-    return code == SLOT or (code == TRACKING_ID and (axis == Axis(axis.value, 0, 65535) or not device.has_ranges))
+    return code == SLOT or (code == TRACKING_ID and axis in (Axis(axis.value, 0, 65535), Axis(None)))
 
 
 def description_lines(device, name, is_raw=False):
@@ -88,7 +88,8 @@ def description_lines(device, name, is_raw=False):
     if slots_of(device):
         lines.append(f"slots {slots_of(device)}")
     for kind in sorted(device.codes):
-        codes = [] if kind in (REP, ABS) else [code for code in sorted(device.codes[kind]) if is_in_a_record(kind, code)]
+        codes = [code for code in sorted(device.codes[kind]) if is_in_a_record(kind, code)]
+        codes = [] if kind in (REP, ABS) else codes
         lines += [f"cap {kind_text(kind)} {code_text(kind, code)}" for code in codes]
         if kind in GREATEST and not codes and not (kind == ABS and device.axes):
             lines.append(f"type {kind_text(kind)}")
@@ -102,7 +103,8 @@ def description_lines(device, name, is_raw=False):
 def state_lines(device):
     """What is on, the announced slot and the autorepeat, which a description has no place for."""
     states = [(kind, code, 1) for kind in (KEY, LED, SW) for code in sorted(device.on[kind])]
-    states += [(REP, code, value) for code, value in sorted(device.repeat.items()) if value != REPEAT_AT_FIRST.get(code)]
+    settings = sorted(device.repeat.items())
+    states += [(REP, code, value) for code, value in settings if value != REPEAT_AT_FIRST.get(code)]
     if slots_of(device) and device.axes[SLOT].value:
         states.append((ABS, SLOT, device.axes[SLOT].value))
     return [f"# state {kind_text(kind)} {code_text(kind, code)} {value}" for kind, code, value in states]
@@ -125,27 +127,28 @@ def what_procfs_lacks(device):
         return []
     lacks = ["ranges and values of axes are not told here; each is written as 0 0 0 0 0 0"]
     if device.slot_count():
-        lacks.append("the number of slots is not told here")
+        lacks.append("the number of slots is not told here; put the right one into the line `slots`")
     return lacks
 
 
 def left_out(device):
     said = []
     if device.properties:
-        said.append("left out: " + " ".join(property_text(number) for number in sorted(set(device.properties))))
+        names = [property_text(number) for number in sorted(set(device.properties))]
+        said.append(" ".join(["left out:"] + names))
     for kind in sorted(device.codes):
         codes = sorted(code for code in device.codes[kind] if not is_in_a_record(kind, code))
         if codes or kind in NOT_IN_A_RECORD:
-            what = " (force feedback)" if kind in (0x15, 0x17) else ""
-            said.append(" ".join(["left out:", kernel_kind_text(kind) + what] + [str(code) for code in codes]))
+            name = kernel_kind_text(kind) + (" (force feedback)" if kind in (0x15, 0x17) else "")
+            said.append(" ".join(["left out:", name] + [str(code) for code in codes]))
     return said
 
 
 def limits(device):
     said = []
     if device.hint is None and estimate(device) > GREATEST_HINT:
-        said.append(f"the kernel reckons with {estimate(device)} events in a frame; a record's hint is at most "
-                    f"{GREATEST_HINT}")
+        said.append(f"the kernel reckons with {estimate(device)} events in a frame; a record's hint is at "
+                    f"most {GREATEST_HINT}")
     if device.slot_count() > GREATEST_SLOTS:
         said.append(f"the device has {device.slot_count()} slots; a record has at most {GREATEST_SLOTS}")
     if SLOT in device.axes and not device.slot_count():
@@ -160,4 +163,5 @@ def fuzz_comments(device, is_raw):
         if axis.fuzz != fuzz_of(code, axis, is_raw):
             sizes.setdefault(axis.fuzz, []).append(code_text(ABS, code))
     why = "no fuzz that a record has" if is_raw else "a kernel has applied it to a capture already"
-    return [f"# fuzz {fuzz} is written as 0 ({why}): {' '.join(codes)}" for fuzz, codes in sorted(sizes.items())]
+    sizes = sorted(sizes.items())
+    return [f"# fuzz {fuzz} is written as 0 ({why}): {' '.join(codes)}" for fuzz, codes in sizes]

@@ -1,8 +1,8 @@
-"""Reads a device and its events as `evemu-describe` and `evemu-record` write them, of the versions 1.0 to 1.3.
+"""Reads a device and its events as `evemu-describe` and `evemu-record` write them, versions 1.0 to 1.3.
 
-Types and codes are hexadecimal, values decimal and padded by zeros. `B: TT ..` has the codes of the type TT as bytes of
-bits, the lowest code first, over as many lines as it takes; that of the type 0 is always the same and means nothing.
-Values of axes stand in comments alone.
+Types and codes are hexadecimal, values decimal and padded by zeros. `B: TT ..` has the codes of the type TT
+as bytes of bits, the lowest code first, over as many lines as it takes; that of the type 0 is always the
+same and means nothing. Values of axes stand in comments alone.
 """
 
 import re
@@ -76,8 +76,8 @@ class Parser:
         found = AXIS.match(rest)
         if not found:
             raise Wrong("an axis wants four or five numbers behind its code")
-        code = int(found[1], 16)
-        self.device.axes[code] = Axis(None, *(number(word, LEAST, GREATEST, "the number") for word in found[2].split()))
+        numbers = [number(word, LEAST, GREATEST, "the number") for word in found[2].split()]
+        self.device.axes[int(found[1], 16)] = Axis(None, *numbers)
 
     def take_state(self, rest, letter):
         found = STATE.match(rest)

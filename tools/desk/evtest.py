@@ -1,8 +1,8 @@
 """Reads what `evtest` prints: the description of a device, and its events.
 
-The time is the realtime clock's. MSC_SCAN and MSC_RAW are printed in hexadecimal without `0x`, every other value in
-decimal, and that of a SYN_REPORT not at all. Other lines, such as a list of devices before the description, or what a
-terminal shows when the program is stopped, mean nothing.
+The time is the realtime clock's. MSC_SCAN and MSC_RAW are printed in hexadecimal without `0x`, every other
+value in decimal, and that of a SYN_REPORT not at all. Other lines, such as a list of devices before the
+description, or what a terminal shows when the program is stopped, mean nothing.
 """
 
 import re
@@ -10,18 +10,23 @@ import re
 from desk.command import at_line, number
 from desk.listing import Listing, forget_values_of_slots
 from desk.names import MSC, SYN
-from desk.recording import GREATEST, LEAST, SYN_CONFIG, SYN_DROPPED, SYN_MT_REPORT, SYN_REPORT, Event, Recording
+from desk.recording import (
+    GREATEST, LEAST, SYN_CONFIG, SYN_DROPPED, SYN_MT_REPORT, SYN_REPORT, Event, Recording,
+)
 
 START = "Input driver version is"
 NAME = re.compile(r'Input device name: "(.*)"')
 EVENT = re.compile(r"Event: time (\d+)\.(\d{6}), (.*)")
 PLAIN = re.compile(r"type (\d+) .*code (\d+) .*value (-?[0-9a-fA-F]+)\s*$")
 HEXADECIMAL = {(MSC, 3), (MSC, 4)}
+RECOGNISED = re.compile(
+    r"^(.*Input driver version is|Input device name: |Supported events:|.*Event: time \d)", re.MULTILINE
+)
 END_OF_LISTING = re.compile(r"\s*(Testing|Properties:)")
 
 
 def is_evtest(text):
-    return re.search(r"^(.*Input driver version is|Input device name: |Supported events:|.*Event: time \d)", text, re.M)
+    return RECOGNISED.search(text)
 
 
 def parse(text):
@@ -32,7 +37,7 @@ def parse(text):
         if START in line or not recordings:
             recordings.append((Listing("evtest"), Recording()))
         take_line(*recordings[-1], line, index, is_last=index == len(lines) - 1)
-    return [finished(listing.device, recording) for listing, recording in recordings if is_told(listing, recording)]
+    return [finished(listing.device, found) for listing, found in recordings if is_told(listing, found)]
 
 
 def is_told(listing, recording):
@@ -98,5 +103,6 @@ def syn_event(time, text):
     if re.match(r"\++ .* \++\s*$", text):
         return Event(time, SYN, SYN_MT_REPORT, 0)
     if re.match(r"-+ .* -+\s*$", text):
-        return Event(time, SYN, SYN_CONFIG, 0) if "config" in text.lower() else Event(time, SYN, SYN_REPORT, None)
+        is_config = "config" in text.lower()
+        return Event(time, SYN, SYN_CONFIG, 0) if is_config else Event(time, SYN, SYN_REPORT, None)
     return None

@@ -1,4 +1,4 @@
-"""Reads a file of a description or a capture, in whichever of the known forms it is, and chooses one of its devices."""
+"""Reads a description or a capture, in whichever of the known forms it is, and chooses one of its devices."""
 
 import re
 
@@ -13,7 +13,7 @@ FORMS = [
     (recordlines.is_record, recordlines.parse),
     (evtest.is_evtest, evtest.parse),
 ]
-KNOWN = "the output of evtest, an evemu file, a recording of libinput, /proc/bus/input/devices, a record's lines"
+KNOWN = "evtest's output, an evemu file, a recording of libinput, /proc/bus/input/devices, a record's lines"
 GREATEST_SIZE = 1 << 28
 
 

@@ -1,7 +1,8 @@
 """Reads the YAML that `libinput record` writes, as far as it tells of devices and their events.
 
-It is read line by line, as that program writes it. Values of axes and what is on stand in comments alone. Without
-`--show-keycodes` most keys are written as KEY_A and each MSC_SCAN as 30, and comments say that they were obfuscated.
+It is read line by line, as that program writes it. Values of axes and what is on stand in comments alone.
+Without `--show-keycodes` most keys are written as KEY_A and each MSC_SCAN as 30, and comments say that they
+were obfuscated.
 """
 
 import re
@@ -57,12 +58,14 @@ class Parser:
     def take_section(self, name, rest):
         self.section = name
         if name == "name":
-            self.device.name = re.sub(r"\\(.)", r"\1", rest.strip()[1:-1]) if rest.startswith('"') else rest.strip()
+            rest = rest.strip()
+            self.device.name = re.sub(r"\\(.)", r"\1", rest[1:-1]) if rest.startswith('"') else rest
         elif name == "properties" and rest.startswith("["):
             self.device.properties = [int(word) for word in re.findall(r"\d+", rest.partition("#")[0])]
 
     def take_list(self, key, text):
-        values = [number(word.strip(), LEAST, GREATEST, "the number") for word in text.split(",") if word.strip()]
+        words = [word.strip() for word in text.split(",") if word.strip()]
+        values = [number(word, LEAST, GREATEST, "the number") for word in words]
         if self.section == "absinfo":
             if len(values) not in (4, 5):
                 raise Wrong("an axis has five numbers")
@@ -110,7 +113,7 @@ class Parser:
         return self.recording
 
     def find_hidden(self):
-        """Comments may have been taken out of a file: each scan code is 30 then, beside other keys than KEY_A too."""
+        """A file without comments shows it too: each scan code is 30, also that of other keys than KEY_A."""
         events = self.recording.events
         scans = {event.value for event in events if (event.kind, event.code) == (MSC, MSC_SCAN)}
         keys = {after.code for event, after in zip(events, events[1:])

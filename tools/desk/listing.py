@@ -5,7 +5,7 @@
         Value   1231
         Min        0
 
-The numbers count and the names do not: those are the ones of the tool's time, and a code without one has `(?)`.
+The numbers count and the names do not: those are of the tool's time, and a code without one has `(?)`.
 """
 
 import re
@@ -18,7 +18,10 @@ TYPE = re.compile(r"\s*(Event|Repeat) type (\d+)")
 CODE = re.compile(r"\s*(Event|Repeat) code (\d+)(?:.*\sstate (\d+))?")
 FIELD = re.compile(r"\s*(Value|Min|Max|Fuzz|Flat|Resolution|State)\s+(-?\d+)\s*$")
 PROPERTY = re.compile(r"\s*Property\s+(?:type\s+)?(\d+)")
-NAMES = {"Value": "value", "Min": "minimum", "Max": "maximum", "Fuzz": "fuzz", "Flat": "flat", "Resolution": "resolution"}
+NAMES = {
+    "Value": "value", "Min": "minimum", "Max": "maximum",
+    "Fuzz": "fuzz", "Flat": "flat", "Resolution": "resolution",
+}
 
 
 class Listing:

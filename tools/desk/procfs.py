@@ -1,7 +1,7 @@
 """Reads /proc/bus/input/devices: stanzas of devices, with the types and codes of each as words of bits.
 
-The highest word stands first, and leading zeros are left out, so a word's size is that of the machine. Ranges and values
-of axes and the number of slots are not told.
+The highest word stands first, and leading zeros are left out; a word has the size that it has on the machine.
+Ranges and values of axes and the number of slots are not told.
 """
 
 import re
@@ -20,7 +20,7 @@ def is_procfs(text):
 
 
 def word_bits(text):
-    """The size of a word: 64 where a word is longer than 8 digits, 32 where keys take more words than 64 would."""
+    """The size of a word: 64 where one has more than 8 digits, 32 where keys take more words than with 64."""
     words = [found[2].split() for found in map(BITS.match, text.split("\n")) if found]
     if any(len(word) > 8 for line in words for word in line):
         return 64

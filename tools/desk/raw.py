@@ -35,12 +35,12 @@ def is_kind_and_code(kind, code):
 
 
 def parse(data, size=None):
-    """The events of a capture. Where no size of a record is given, it is the one at which they have a meaning."""
+    """The events of a capture. Where no size is given, it is the one at which the records have a meaning."""
     sizes = [size] if size else [24, 16]
     for each in sizes:
         if is_plausible(data, each):
             records = FORMS[each].iter_unpack(data)
-            return [Recording(events=[Event(s * 1000000 + m, kind, code, value) for s, m, kind, code, value in records])]
+            return [Recording(events=[Event(s * 1000000 + micros, *event) for s, micros, *event in records])]
     raise Wrong(what_is_wrong(data, sizes))
 
 
@@ -49,6 +49,6 @@ def what_is_wrong(data, sizes):
     for size in sizes:
         rest = len(data) % size
         if rest and is_plausible(data[: len(data) - rest], size):
-            return (f"a raw capture of {len(data)} bytes, which are {len(data) // size} records of {size} bytes "
-                    f"and {rest} bytes more: it was cut off")
+            return (f"a raw capture of {len(data)} bytes, which are {len(data) // size} records of {size} "
+                    f"bytes and {rest} bytes more: it was cut off")
     return f"no raw capture: its bytes are no records of {names} bytes"

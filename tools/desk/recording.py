@@ -1,4 +1,4 @@
-"""What a file tells: a device, the events that it sent, and what is to be said of them. Frames are cut here."""
+"""What a file tells: a device and the events that it sent. They are cut into frames here."""
 
 from collections import namedtuple
 from dataclasses import dataclass, field
@@ -8,8 +8,8 @@ from desk.names import KEY, LED, REP, SLOT, SW, SYN
 LEAST, GREATEST = -(2**31), 2**31 - 1
 SYN_REPORT, SYN_CONFIG, SYN_MT_REPORT, SYN_DROPPED = 0, 1, 2, 3
 
-# An event of a capture: its time in microseconds, type, code and value. The value of a SYN_REPORT is None in a form that
-# does not tell it.
+# An event of a capture: its time in microseconds, type, code and value. The value of a SYN_REPORT is None in a
+# form that does not tell it.
 Event = namedtuple("Event", "time kind code value")
 
 
@@ -51,7 +51,7 @@ class Device:
         return kind in self.codes and (code in self.codes[kind] or (kind == REP and code <= 1))
 
     def slot_count(self):
-        """The number of slots. A device that has the axis before ABS_MT_SLOT too numbers its axes, and has no slots."""
+        """The number of slots: none where the axis before ABS_MT_SLOT is there too, one of many without name."""
         if self.slots is not None:
             return self.slots
         if SLOT not in self.axes or SLOT - 1 in self.axes:
@@ -72,7 +72,7 @@ class Recording:
 
 @dataclass
 class Frame:
-    """The events of a frame, and the value of its SYN_REPORT. Behind a loss `lost` is the time of the SYN_DROPPED."""
+    """The events of a frame and the value of its report. Behind a loss `lost` is the time of SYN_DROPPED."""
 
     time: int
     events: list
@@ -81,10 +81,10 @@ class Frame:
 
 
 def frames_of(events):
-    """The frames of a capture, and how many events stand behind the last one.
+    """The frames of a capture, how many events stand behind the last one, and the time of a loss behind it.
 
-    A SYN_DROPPED is no event of a frame: it tells that events before it are missing. What came before it in the same
-    frame is a frame of its own.
+    A SYN_DROPPED is no event of a frame: it tells that events before it are missing. What came before it in
+    the same frame is a frame of its own.
     """
     frames, batch, lost = [], [], None
     for event in events:
@@ -94,7 +94,8 @@ def frames_of(events):
             batch.append(event)
             continue
         if batch:
-            frames.append(Frame(event.time if is_report else batch[-1].time, batch, event.value if is_report else 0, lost))
+            time, report = (event.time, event.value) if is_report else (batch[-1].time, 0)
+            frames.append(Frame(time, batch, report, lost))
             batch, lost = [], None
         if is_loss:
             lost = event.time

@@ -1,7 +1,7 @@
-"""Reads the description of a device from the lines of a record, as `tools/describe` writes them or somebody by hand.
+"""Reads the description of a device from the lines of a record, which `tools/describe` or somebody wrote.
 
-What a description has no place for stands in comments of the form `# state TYPE CODE VALUE`: what was on when the device
-was described, the slot that was announced, and settings of the autorepeat.
+What a description has no place for stands in comments of the form `# state TYPE CODE VALUE`: what was on
+when the device was described, the slot that was announced, and settings of the autorepeat.
 """
 
 import re

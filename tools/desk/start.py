@@ -1,8 +1,9 @@
 """What a device's state must have been when a capture began, so that the kernel passed each of its events.
 
-No form tells which keys were down or which contacts were there. It follows from the description, which tells what was
-on, the values of axes and the announced slot, and from the first event on each thing: a key that goes up first was down,
-and a contact that ends or moves first was there. Where an event would change nothing its thing had another value.
+No form tells which keys were down or which contacts were there. It follows from the description, which
+tells what was on, the values of axes and the announced slot, and from the first event on each thing: a key
+that goes up first was down, and a contact that ends or moves first was there. Where an event would change
+nothing its thing had another value.
 """
 
 import copy
@@ -38,7 +39,7 @@ class State:
         return self.cells.get((slot, code), -1 if code == TRACKING_ID else 0)
 
     def take(self, event):
-        """Takes an event over, and answers whether it is passed. ABS_MT_SLOT is where it names another slot."""
+        """Takes an event over; is it passed? ABS_MT_SLOT is where it names another slot."""
         kind, code, value = event.kind, event.code, event.value
         if kind in FLAGS:
             return (kind == KEY and value == 2) or self.turn(kind, code, value != 0)
@@ -83,7 +84,8 @@ def state_described(device, slots):
     for kind in FLAGS:
         state.on[kind] = {code for code in device.on[kind] if code in device.codes.get(kind, ())}
     if REP in device.codes:
-        state.repeat.update({code: value for code, value in device.repeat.items() if code <= 1 and value >= 0})
+        told = {code: value for code, value in device.repeat.items() if code <= 1 and value >= 0}
+        state.repeat.update(told)
     if slots and SLOT in device.axes:
         slot = device.axes[SLOT].value or 0
         state.slot = state.staged = slot if 0 <= slot < slots else 0
@@ -103,7 +105,8 @@ class Before:
     def find_slot(self):
         """The announced slot is not the one that the frames announce first."""
         state = self.state
-        named = next((e.value for frame in self.frames for e in frame.events if (e.kind, e.code) == (ABS, SLOT)), None)
+        events = (event for frame in self.frames for event in frame.events)
+        named = next((event.value for event in events if (event.kind, event.code) == (ABS, SLOT)), None)
         if state.slots > 1 and named == state.slot:
             state.slot = 0 if named else 1
         state.staged = state.slot
@@ -122,7 +125,7 @@ class Before:
         return self.state.slots and event.kind == ABS and is_slot_value(event.code)
 
     def find_contacts(self):
-        """A contact was there in each slot whose first frame ends it, or has values and no contact that comes."""
+        """A contact was there in each slot whose first frame ends it, or moves it and no contact comes."""
         first = {}
         for number, slot, event in self.events():
             if self.is_cell(event) and first.setdefault(slot, (number, []))[0] == number:
@@ -179,16 +182,16 @@ def events_between(old, new):
     events = []
     for kind in FLAGS:
         events += [(kind, code, int(code in new.on[kind])) for code in sorted(old.on[kind] ^ new.on[kind])]
-    events += [(REP, code, new.repeat[code]) for code in sorted(new.repeat) if old.repeat.get(code) != new.repeat[code]]
-    changed = sorted(code for code, value in new.values.items() if value is not None and old.values.get(code) != value)
-    events += [(ABS, code, new.values[code]) for code in changed]
+    for kind, before, after in ((REP, old.repeat, new.repeat), (ABS, old.values, new.values)):
+        changed = [item for item in sorted(after.items()) if item[1] not in (None, before.get(item[0]))]
+        events += [(kind, code, value) for code, value in changed]
     return events + (slot_events(old, new) if new.slots else [])
 
 
 def slot_events(old, new):
     """The values of slots that differ, those of the slot that is announced in the end last."""
-    changes = {}
-    for slot, code in sorted(set(old.cells) | set(new.cells), key=lambda cell: (cell[0], cell[1] != TRACKING_ID, cell[1])):
+    changes, cells = {}, set(old.cells) | set(new.cells)
+    for slot, code in sorted(cells, key=lambda cell: (cell[0], cell[1] != TRACKING_ID, cell[1])):
         if old.cell(slot, code) != new.cell(slot, code):
             changes.setdefault(slot, []).append((ABS, code, new.cell(slot, code)))
     events, announced = [], old.slot
@@ -202,6 +205,7 @@ def slot_events(old, new):
 
 def there_and_back(state):
     """Changes a value of the announced slot for a moment: a slot is announced by a value alone."""
-    codes = [code for code in sorted(state.axes) if is_slot_value(code) and code != TRACKING_ID] or [TRACKING_ID]
-    value = state.cell(state.slot, codes[0])
-    return [(ABS, codes[0], state.other_value(codes[0], value)), (ABS, codes[0], value)]
+    codes = [code for code in sorted(state.axes) if is_slot_value(code) and code != TRACKING_ID]
+    code = (codes or [TRACKING_ID])[0]
+    value = state.cell(state.slot, code)
+    return [(ABS, code, state.other_value(code, value)), (ABS, code, value)]

@@ -1,17 +1,19 @@
-"""Writes a whole record: a device, its driver, what was on when the capture began, readers, and the capture."""
+"""Writes a whole record: a device and its driver, what was on at the start, readers, and the capture."""
 
 import copy
 import struct
 
-from desk.capture import Capture
+from desk.capture import Capture, seconds
 from desk.command import Wrong
 from desk.description import comments, description_lines, hint_of, slots_of
-from desk.names import ABS, SLOT, SYN, TRACKING_ID, event_text
+from desk.names import ABS, SYN, TRACKING_ID, event_text
 from desk.readers import DRIVER
 from desk.recording import Event
 from desk.start import State, events_between, state_before, state_described
 
 GREATEST_TEXT = 16 * 1024 * 1024
+DEFAULT_LOG, GREATEST_LOG = 1048576, 8388608
+LOSS_COMMENT = "# Events were lost here. This frame was not captured; it has what they must have changed."
 STREAM_RECORD = struct.Struct("<QQHHi")
 
 
@@ -33,13 +35,14 @@ class Record:
         self.notes = list(capture.notes)
         self.raise_hint(capture)
         self.find_start(capture)
+        self.raise_log()
         self.note_small_rings()
 
     def raise_hint(self, capture):
         needed, reckoned = capture.needed_hint(), hint_of(self.device)
         self.hint_comment = []
         if needed > reckoned:
-            self.hint_comment = [f"# hint {reckoned} is too small for a frame of {needed - 1} events; it is {needed} here"]
+            self.hint_comment = [f"# hint {reckoned} is too small for frames of {needed - 1} events: it is {needed}"]
             self.device.hint = needed
 
     def find_start(self, capture):
@@ -72,8 +75,9 @@ class Record:
 
     def note_unpassed(self, unpassed):
         if unpassed:
-            self.notes.append(f"{len(unpassed)} events of the capture change nothing and are not passed; the first is "
-                              f"{event_text(unpassed[0][1:])} at {unpassed[0].time} us: events before it are missing")
+            first = f"{event_text(unpassed[0][1:])} at {seconds(unpassed[0].time)}"
+            self.notes.append(f"{len(unpassed)} events change nothing and are not passed, the first being "
+                              f"{first}: the capture lacks events before it, or hides keys")
 
     def note_small_rings(self):
         places = 64
@@ -81,7 +85,15 @@ class Record:
             places *= 2
         count = sum(len(frame.all_events()) for frame in self.frames)
         if self.stream and count >= places:
-            self.notes.append(f"the stream has {count} events and a reader's ring holds {places - 1}: readers lose events")
+            self.notes.append(f"the stream has {count} events, and a ring holds {places - 1}: readers lose some")
+
+    def raise_log(self):
+        """A history has more steps than the default limit only where very many readers follow."""
+        events = sum(len(frame.all_events()) for frame in self.frames)
+        steps = len(self.start) + events + len(self.readers) * (len(self.frames) + events // 64 + 100)
+        is_given = any(line.startswith("log ") for line in self.device.other_lines)
+        if steps > DEFAULT_LOG and not is_given:
+            self.device.other_lines.append(f"log {GREATEST_LOG}")
 
     def lines(self):
         yield "inputrecord 1"
@@ -102,7 +114,7 @@ class Record:
     def frame_lines(self):
         for frame in self.frames:
             if not frame.was_captured:
-                yield "# Events were lost here. This frame was not captured: it has what they must have changed."
+                yield LOSS_COMMENT
             yield from event_lines(frame.all_events())
             for reader in self.readers:
                 yield from reader.lines_behind_a_frame()
@@ -118,7 +130,7 @@ class Record:
             line = line.encode("ascii", "backslashreplace").decode() + "\n"
             size += len(line)
             if size > GREATEST_TEXT:
-                raise Wrong(f"the record would have more than {GREATEST_TEXT} bytes; --stream writes the events apart")
+                raise Wrong(f"the record would have more than {GREATEST_TEXT} bytes; try --stream")
             parts.append(line)
         return "".join(parts)
 
@@ -126,9 +138,7 @@ class Record:
         events = [event for frame in self.frames for event in frame.all_events()]
         if len(events) * STREAM_RECORD.size > GREATEST_TEXT:
             raise Wrong(f"the stream would have more than {GREATEST_TEXT} bytes")
-        return b"".join(
-            STREAM_RECORD.pack(*divmod(event.time, 1000000), event.kind, event.code, event.value) for event in events
-        )
+        return b"".join(STREAM_RECORD.pack(*divmod(event.time, 1000000), *event[1:]) for event in events)
 
 
 def event_lines(events):
@@ -136,7 +146,8 @@ def event_lines(events):
 
 
 def ids_of(frames):
-    return {event.value for frame in frames for event in frame.events if (event.kind, event.code) == (ABS, TRACKING_ID)}
+    events = (event for frame in frames for event in frame.events)
+    return {event.value for event in events if (event.kind, event.code) == (ABS, TRACKING_ID)}
 
 
 def parts_between_losses(frames):
