@@ -1,4 +1,4 @@
-"""A capture made ready for a record: its frames, timed from the first event on, and what is to be said of it."""
+"""A capture made ready for a record: its frames, timed from the first event on, and what to say of it."""
 
 from desk.command import Wrong
 from desk.description import GREATEST_HINT, GREATEST_SLOTS, estimate, hint_of
@@ -45,7 +45,7 @@ class Capture:
         base = min(event.time for event in events)
         if base != events[0].time:
             back = seconds(events[0].time - base)
-            self.notes.append(f"times go back by {back} behind the first event; they are told from the earliest one on")
+            self.notes.append(f"times go back by {back} behind the first event; they are told from the earliest on")
         if max(event.time for event in events) - base > LATEST:
             raise Wrong(f"it lasts longer than a record can: {LATEST} us")
         return [Event(time - base, kind, code, value) for time, kind, code, value in events]
@@ -100,8 +100,8 @@ class Capture:
         times += [lost_at_end] if lost_at_end is not None else []
         if times:
             more = f" and at {len(times) - 1} places more" if len(times) > 1 else ""
-            self.notes.append(f"the capture lost events at {seconds(times[0])}{more} (SYN_DROPPED); what they "
-                              f"changed, as far as the events behind them tell, is set there")
+            self.notes.append(f"the capture lost events at {seconds(times[0])}{more} (SYN_DROPPED); what "
+                              f"they changed, as far as the events behind them tell, is set there")
 
 
 def is_repeat_of_the_kernel(events):

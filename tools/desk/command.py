@@ -1,4 +1,4 @@
-"""How a command reads its words, and how it ends: one line for wrong input and status 2, or its whole text."""
+"""How a command reads its words, and how it ends: one line for wrong input and status 2, or its text."""
 
 import argparse
 import os

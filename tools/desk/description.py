@@ -31,7 +31,7 @@ def name_of(device, given=None):
 
 
 def contacts_of(device):
-    """How many contacts the kernel reckons with: the slots, or without slots as the range of the ids tells."""
+    """How many contacts the kernel reckons with: the slots, or without any as the range of ids tells."""
     slots = device.slot_count()
     if slots:
         return slots

@@ -65,7 +65,7 @@ NOT_IN_A_RECORD = {0x15: "EV_FF", 0x16: "EV_PWR", 0x17: "EV_FF_STATUS"}
 
 PROPERTIES = "POINTER DIRECT BUTTONPAD SEMI_MT TOPBUTTONPAD POINTING_STICK ACCELEROMETER".split()
 
-# The axes that rules name: the slot, the id of a contact, the first and the last whose values belong to slots.
+# The axes that rules name: the slot, a contact's id, the first and the last whose values belong to slots.
 SLOT, TRACKING_ID, FIRST_OF_SLOT, LAST_OF_SLOT = 0x2F, 0x39, 0x30, 0x3D
 
 _TYPE_NAMES = {number: name for name, number in TYPES.items()}

@@ -12,7 +12,7 @@ FORM = "NAME[:every=N][:slow][:grab][:mask=TYPE,CODE,..]"
 
 
 class Reader:
-    """A client that opens at the start and follows behind each frame, each N-th frame, or at the end alone."""
+    """A client that opens at the start and follows behind each frame, each N-th, or at the end alone."""
 
     def __init__(self, text):
         self.name, *options = text.split(":")

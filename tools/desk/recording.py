@@ -8,8 +8,8 @@ from desk.names import KEY, LED, REP, SLOT, SW, SYN
 LEAST, GREATEST = -(2**31), 2**31 - 1
 SYN_REPORT, SYN_CONFIG, SYN_MT_REPORT, SYN_DROPPED = 0, 1, 2, 3
 
-# An event of a capture: its time in microseconds, type, code and value. The value of a SYN_REPORT is None in a
-# form that does not tell it.
+# An event of a capture: its time in microseconds, type, code and value. The value of a SYN_REPORT is None in
+# forms that do not tell it.
 Event = namedtuple("Event", "time kind code value")
 
 
@@ -51,7 +51,7 @@ class Device:
         return kind in self.codes and (code in self.codes[kind] or (kind == REP and code <= 1))
 
     def slot_count(self):
-        """The number of slots: none where the axis before ABS_MT_SLOT is there too, one of many without name."""
+        """The number of slots: none where the axis before ABS_MT_SLOT is there too, as one of many."""
         if self.slots is not None:
             return self.slots
         if SLOT not in self.axes or SLOT - 1 in self.axes:

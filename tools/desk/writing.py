@@ -42,7 +42,7 @@ class Record:
         needed, reckoned = capture.needed_hint(), hint_of(self.device)
         self.hint_comment = []
         if needed > reckoned:
-            self.hint_comment = [f"# hint {reckoned} is too small for frames of {needed - 1} events: it is {needed}"]
+            self.hint_comment = [f"# hint {reckoned} is less than the {needed - 1} events of a frame need"]
             self.device.hint = needed
 
     def find_start(self, capture):
@@ -77,7 +77,7 @@ class Record:
         if unpassed:
             first = f"{event_text(unpassed[0][1:])} at {seconds(unpassed[0].time)}"
             self.notes.append(f"{len(unpassed)} events change nothing and are not passed, the first being "
-                              f"{first}: the capture lacks events before it, or hides keys")
+                              f"{first}: the capture lost events before it, or hides keys")
 
     def note_small_rings(self):
         places = 64
@@ -85,7 +85,7 @@ class Record:
             places *= 2
         count = sum(len(frame.all_events()) for frame in self.frames)
         if self.stream and count >= places:
-            self.notes.append(f"the stream has {count} events, and a ring holds {places - 1}: readers lose some")
+            self.notes.append(f"the stream has {count} events, and a ring holds {places - 1}: some are lost")
 
     def raise_log(self):
         """A history has more steps than the default limit only where very many readers follow."""
