@@ -45,7 +45,7 @@ class Capture:
         base = min(event.time for event in events)
         if base != events[0].time:
             back = seconds(events[0].time - base)
-            self.notes.append(f"times go back by {back} behind the first event; they are told from the earliest on")
+            self.notes.append(f"times go back by {back} behind the first event; they are told from the least")
         if max(event.time for event in events) - base > LATEST:
             raise Wrong(f"it lasts longer than a record can: {LATEST} us")
         return [Event(time - base, kind, code, value) for time, kind, code, value in events]

@@ -1,0 +1,120 @@
+"""What the tests of tools/ share: they run a tool, read a capture, play a record, and make small files."""
+
+import contextlib
+import importlib.util
+import io
+import os
+import struct
+import subprocess
+import sys
+import tempfile
+import unittest
+from importlib.machinery import SourceFileLoader
+from pathlib import Path
+
+TOP = Path(__file__).resolve().parent.parent
+TOOLS, DATA = TOP / "tools", TOP / "tests" / "data"
+PROGRAM = os.environ.get("INPUTPLAY") or str(TOP / "crates" / "inp_main" / "out" / "inp_main")
+
+sys.path.insert(0, str(TOOLS))
+
+from desk import command, names  # noqa: E402  (the tools' folder has to be on the path first)
+
+
+def load(tool):
+    loader = SourceFileLoader(f"tool_{tool}", str(TOOLS / tool))
+    module = importlib.util.module_from_spec(importlib.util.spec_from_loader(loader.name, loader))
+    loader.exec_module(module)
+    return module
+
+
+def raw_events(data, size=24):
+    """The events of a raw capture: (time from the first one on, type, code, value)."""
+    form = struct.Struct("<QQHHi" if size == 24 else "<IIHHi")
+    events = [(s * 1000000 + micros, *event) for s, micros, *event in form.iter_unpack(data)]
+    return [(time - events[0][0], *event) for time, *event in events]
+
+
+def raw_capture(events, size=24, base=1764252210496169):
+    form = struct.Struct("<QQHHi" if size == 24 else "<IIHHi")
+    return b"".join(form.pack(*divmod(base + time, 1000000), *event) for time, *event in events)
+
+
+class DeskCase(unittest.TestCase):
+    """A test that runs tools and plays what they write."""
+
+    def setUp(self):
+        folder = tempfile.TemporaryDirectory()
+        self.addCleanup(folder.cleanup)
+        self.folder = Path(folder.name)
+
+    def file(self, name, content):
+        path = self.folder / name
+        path.write_bytes(content if isinstance(content, bytes) else content.encode())
+        return path
+
+    def tool(self, name, *words):
+        """Runs a tool: its status, what it wrote, and the lines on standard error."""
+        out, err, status, before = io.StringIO(), io.StringIO(), 0, sys.argv
+        sys.argv = [name, *map(str, words)]
+        try:
+            with contextlib.redirect_stdout(out), contextlib.redirect_stderr(err):
+                command.run(name, load(name).command)
+        except SystemExit as ended:
+            status = ended.code or 0
+        finally:
+            sys.argv = before
+        return status, out.getvalue(), err.getvalue().splitlines()
+
+    def written(self, name, *words, notes=()):
+        """What a tool wrote. It said what is in `notes` on standard error, a line each, and no more."""
+        status, text, lines = self.tool(name, *words)
+        self.assertEqual((0, len(notes)), (status, len(lines)), lines)
+        for note, line in zip(notes, lines):
+            self.assertIn(note, line)
+        return text
+
+    def refused(self, name, *words, because):
+        """A tool refused its input by one line, and wrote nothing else."""
+        status, text, lines = self.tool(name, *words)
+        self.assertEqual((2, ""), (status, text), lines)
+        self.assertEqual(1, len(lines), lines)
+        self.assertTrue(lines[0].startswith(f"{name}: "), lines[0])
+        self.assertIn(because, lines[0])
+
+    def play(self, text, folder=None):
+        """The lines of the report that the program prints of a record."""
+        if not os.access(PROGRAM, os.X_OK):
+            self.fail(f"no program at {PROGRAM}: build it, or name one in INPUTPLAY")
+        path = self.file("played.rec", text)
+        done = subprocess.run([PROGRAM, path], cwd=folder or self.folder, capture_output=True, text=True)
+        self.assertEqual((0, ""), (done.returncode, done.stderr), done.stdout[:200])
+        return done.stdout.splitlines()
+
+
+def part_of(report, name):
+    """The lines of a client's part."""
+    start = report.index(f"client {name}")
+    return report[start : report.index("stop finished", start)]
+
+
+def taken(report, name="reader"):
+    """The events that a client took, as raw_events has them."""
+    events = []
+    for line in part_of(report, name):
+        words = line.split()
+        if words[0] == "took":
+            kind = names.number_of_kind(words[3])
+            events.append((int(words[2]), kind, names.number_of_code(kind, words[4]), int(words[5])))
+    return events
+
+
+def belief(report, name="reader"):
+    """What a client believes at the end: the lines behind its last calls."""
+    lines = part_of(report, name)
+    first = next(i for i, line in enumerate(lines) if line.split()[0] in ("keys", "switches", "leds", "axes"))
+    return lines[first:]
+
+
+def without_comments(text):
+    return [line for line in text.splitlines() if not line.startswith("#")]

@@ -1,0 +1,446 @@
+"""tools/record: a record from a description and a capture, played, has the capture's events and no others."""
+
+import re
+import struct
+import subprocess
+
+from desk_cases import DATA, TOOLS, DeskCase, belief, part_of, raw_capture, raw_events, taken, without_comments
+
+DEVICES = ("keyboard", "mouse", "touchpad", "lid")
+HEADER = 'Input driver version is 1.0.1\nInput device name: "Test"\nSupported events:\n'
+KEYS = HEADER + ("  Event type 1 (EV_KEY)\n    Event code 30 (KEY_A)\n    Event code 48 (KEY_B)\n"
+                 "  Event type 4 (EV_MSC)\n    Event code 3 (MSC_RAW)\n    Event code 4 (MSC_SCAN)\n"
+                 "  Event type 17 (EV_LED)\n    Event code 1 (LED_CAPSL) state 1\n"
+                 "  Event type 20 (EV_REP)\nTesting ... (interrupt to exit)\n")
+
+
+def axis(code, value, minimum, maximum):
+    return f"    Event code {code} (?)\n      Value {value}\n      Min {minimum}\n      Max {maximum}\n"
+
+
+SLOTS = HEADER + ("  Event type 3 (EV_ABS)\n" + axis(0, 7, 0, 100) + axis(47, 1, 0, 3) + axis(53, 0, 0, 100)
+                  + axis(54, 0, 0, 100) + axis(57, 0, 0, 65535))
+NO_SLOTS = HEADER + ("  Event type 1 (EV_KEY)\n    Event code 330 (BTN_TOUCH)\n  Event type 3 (EV_ABS)\n"
+                     + axis(53, 0, 0, 100) + axis(57, 0, 0, 15))
+REPORT, MT_REPORT = (0, 0, 0), (0, 2, 0)
+X, Y, ID, SLOT = 53, 54, 57, 47
+
+
+def frames(*batches, report=0):
+    """Events of frames a millisecond apart, each with its SYN_REPORT."""
+    events = []
+    for number, batch in enumerate(batches):
+        events += [(1000 * number, *event) for event in [*batch, (0, 0, report)]]
+    return events
+
+
+def evtest_text(events, base=1764252210496169):
+    """Events as evtest prints them."""
+    lines = []
+    for time, kind, code, value in events:
+        text = f"type {kind} (?), code {code} (?), value {value}"
+        if kind == 4 and code in (3, 4):
+            text = f"type {kind} (EV_MSC), code {code} (?), value {value & 0xffffffff:02x}"
+        elif kind == 0:
+            text = {0: "-------------- SYN_REPORT ------------", 2: "++++++++++++++ SYN_MT_REPORT ++++++++++++",
+                    3: ">>>>>>>>>>>>>> SYN_DROPPED <<<<<<<<<<<<"}[code]
+        lines.append(f"Event: time {(base + time) // 1000000}.{(base + time) % 1000000:06d}, {text}\n")
+    return "".join(lines)
+
+
+class RoundTrip(DeskCase):
+    """Captures by the real tools: what a reader takes of the record is what was captured."""
+
+    def sources(self, name):
+        """Each way to give a device and its capture, and the files that it takes."""
+        data = {form: DATA / f"{name}.{form}" for form in ("evtest", "evemu", "libinput.yml", "proc", "bin")}
+        yield "evtest", [data["evtest"]]
+        yield "evemu", [data["evemu"]]
+        yield "libinput", [data["libinput.yml"]]
+        yield "evtest and raw", [data["evtest"], data["bin"]]
+        yield "evemu and evtest", [data["evemu"], data["evtest"]]
+        yield "libinput and raw", [data["libinput.yml"], data["bin"]]
+        yield "proc and raw", [data["proc"], data["bin"], "--device", "2"]
+        described = self.written("describe", data["evemu"])
+        yield "described and raw", [self.file("described", described), data["bin"]]
+
+    def wanted(self, name, source):
+        """The captured events. The libinput form of the mouse hides what its scan codes are."""
+        events = raw_events((DATA / f"{name}.bin").read_bytes())
+        if (name, source) != ("mouse", "libinput"):
+            return events
+        return [(time, kind, code, 30 if (kind, code) == (4, 4) else value) for time, kind, code, value in events]
+
+    def assert_same_events(self, wanted, came, slack):
+        self.assertEqual([event[1:] for event in wanted], [event[1:] for event in came])
+        late = max(abs(one[0] - other[0]) for one, other in zip(wanted, came))
+        self.assertLessEqual(late, slack)
+
+    def test_a_reader_takes_what_was_captured(self):
+        for name in DEVICES:
+            beliefs = {}
+            for source, files in self.sources(name):
+                with self.subTest(name=name, source=source):
+                    notes = ["hid the scan codes"] if (name, source) == ("mouse", "libinput") else []
+                    report = self.play(self.written("record", *files, notes=notes))
+                    # (the clocks of two forms are rounded apart from each other)
+                    slack = 1 if source in ("evemu", "libinput") else 0
+                    self.assert_same_events(self.wanted(name, source), taken(report), slack)
+                    beliefs[source] = belief(report)
+            told = beliefs.pop("proc and raw")
+            self.assertEqual(beliefs["evtest"][0], told[0])
+            for source, came in beliefs.items():
+                with self.subTest(name=name, source=source):
+                    self.assertEqual(beliefs["evtest"], came)
+
+    def test_the_forms_give_one_record(self):
+        for name in DEVICES:
+            first = without_comments(self.written("record", DATA / f"{name}.evtest", DATA / f"{name}.bin"))
+            for files in ([f"{name}.evtest"], [f"{name}.evemu", f"{name}.bin"], [f"{name}.libinput.yml", f"{name}.bin"]):
+                with self.subTest(files=files):
+                    self.assertEqual(first, without_comments(self.written("record", *(DATA / file for file in files))))
+
+    def test_the_last_belief_is_the_device_s(self):
+        """What is known at the end of the captures: the last value of each thing that an event told."""
+        report = self.play(self.written("record", DATA / "keyboard.evemu"))
+        self.assertEqual(["keys", "leds LED_NUML"], belief(report))
+        report = self.play(self.written("record", DATA / "lid.evtest"))
+        self.assertEqual(["switches SW_LID"], belief(report))
+
+    def test_records_of_16_bytes(self):
+        wanted = self.written("record", DATA / "keyboard.evemu", DATA / "keyboard.bin")
+        data = (DATA / "keyboard.bin").read_bytes()
+        short = struct.Struct("<IIHHi")
+        path = self.file("short.bin", b"".join(short.pack(*event) for event in struct.iter_unpack("<QQHHi", data)))
+        self.assertEqual(wanted, self.written("record", DATA / "keyboard.evemu", path, "--16"))
+        self.assertEqual(wanted, self.written("record", DATA / "keyboard.evemu", path))
+
+    def test_the_terminal_s_noise_means_nothing(self):
+        text = self.written("record", DATA / "keyboard-terminal.evtest")
+        came = taken(self.play(text))
+        self.assertEqual(32, len(came))
+        self.assertEqual(raw_events((DATA / "keyboard.bin").read_bytes())[:32], came)
+
+
+class Start(DeskCase):
+    """What was on, down or there when a capture began."""
+
+    def start_of(self, *words):
+        lines = without_comments(self.written("record", *words))
+        last = lines.index("do reader open")
+        return [line.removeprefix("do driver event 0 ") for line in lines[:last] if line.startswith("do driver")]
+
+    def record(self, header, events):
+        return self.written("record", self.file("header", header), self.file("capture", raw_capture(events)))
+
+    def assert_all_taken(self, header, events):
+        report = self.play(self.record(header, events))
+        self.assertEqual(events, taken(report))
+        return report
+
+    def test_keys_and_leds(self):
+        self.assertEqual(["EV_KEY KEY_ENTER 1", "EV_LED LED_NUML 1", "EV_SYN SYN_REPORT 0"],
+                         self.start_of(DATA / "keyboard.evtest"))
+
+    def test_a_switch_without_a_description_of_its_state(self):
+        self.assertEqual(["EV_SW SW_LID 1", "EV_SYN SYN_REPORT 0"],
+                         self.start_of(DATA / "lid.proc", DATA / "lid.bin", "--device", "2"))
+
+    def test_contacts(self):
+        start = self.start_of(DATA / "touchpad.evtest")
+        self.assertEqual(["EV_KEY BTN_LEFT 1", "EV_KEY BTN_TOUCH 1", "EV_KEY BTN_TOOL_DOUBLETAP 1"], start[:3])
+        for line in ("EV_ABS ABS_MT_SLOT 0", "EV_ABS ABS_MT_TRACKING_ID 0", "EV_ABS ABS_MT_SLOT 1",
+                     "EV_ABS ABS_MT_TRACKING_ID 1"):
+            self.assertIn(line, start)
+        # The slot that was announced comes last, so that the capture's first event is passed.
+        self.assertLess(start.index("EV_ABS ABS_MT_SLOT 0"), start.index("EV_ABS ABS_MT_SLOT 1"))
+
+    def test_a_repeat_alone_tells_that_its_key_was_down(self):
+        report = self.assert_all_taken(KEYS, frames([(1, 30, 2)], [(1, 48, 1)], report=1))
+        self.assertEqual("keys KEY_A KEY_B", belief(report)[0])
+
+    def test_an_led_whose_described_state_is_too_new(self):
+        self.assert_all_taken(KEYS, frames([(17, 1, 1)], [(17, 1, 0)]))
+
+    def test_an_axis_whose_described_value_is_too_new(self):
+        self.assert_all_taken(SLOTS, frames([(3, 0, 7)], [(3, 0, 8)]))
+        self.assert_all_taken(SLOTS, frames([(3, 0, 0)], [(3, 0, 7)]))
+
+    def test_values_for_the_announced_slot(self):
+        report = self.assert_all_taken(SLOTS, frames([(3, X, 5)], [(3, SLOT, 0), (3, X, 5)], [(3, ID, -1)]))
+        self.assertIn("current 0", belief(report))
+
+    def test_a_new_contact_in_the_announced_slot(self):
+        text = self.record(SLOTS, frames([(3, ID, 0), (3, X, 0), (3, Y, 1)]))
+        report = self.play(text)
+        self.assertEqual([(0, 3, ID, 0), (0, 3, X, 0), (0, 3, Y, 1), (0, 0, 0, 0)], taken(report))
+        self.assertIn("slot 1 ABS_MT_POSITION_X=0 ABS_MT_POSITION_Y=1 ABS_MT_TRACKING_ID=0", belief(report))
+
+    def test_nothing_but_the_announced_slot_is_known(self):
+        report = self.assert_all_taken(SLOTS, frames([(3, SLOT, 2), (3, ID, 4)]))
+        self.assertIn("current 2", belief(report))
+
+    def test_a_described_slot_that_the_capture_announces_first(self):
+        self.assert_all_taken(SLOTS, frames([(3, SLOT, 1), (3, ID, 4)], [(3, SLOT, 0), (3, ID, 5)]))
+
+    def test_ids_of_contacts_before_are_no_others(self):
+        self.assert_all_taken(SLOTS, frames([(3, ID, -1)], [(3, ID, 0)], [(3, SLOT, 2), (3, ID, -1)], [(3, ID, 1)]))
+
+    def test_settings_of_the_autorepeat(self):
+        header = KEYS.replace("Testing", "Key repeat handling:\n  Repeat type 20 (EV_REP)\n    Repeat code 0 (REP_DELAY)\n"
+                              "      Value 400\n    Repeat code 1 (REP_PERIOD)\n      Value 33\nTesting")
+        text = self.record(header, frames([(20, 0, 250)], [(20, 1, 33)]))
+        self.assertIn("event 0 EV_REP REP_DELAY 400\n", text)
+        self.assertEqual(frames([(20, 0, 250)], [(20, 1, 33)]), taken(self.play(text)))
+
+
+class Events(DeskCase):
+    """Events of all kinds, as text and raw."""
+
+    def both(self, header, events, notes=()):
+        """The record by evtest's text, after that by a raw capture was found to have the same events."""
+        text = self.written("record", self.file("text", header + evtest_text(events)), notes=notes)
+        raw = self.written("record", self.file("header", header), self.file("raw", raw_capture(events)), notes=notes)
+        self.assertEqual(without_comments(raw), without_comments(text))
+        return text
+
+    def test_scan_codes_are_hexadecimal_and_may_be_negative(self):
+        events = frames([(4, 4, 0x700e1), (1, 30, 1)], [(4, 3, -2), (4, 4, -2147483648), (1, 30, 0)])
+        self.assertEqual(events, taken(self.play(self.both(KEYS, events))))
+
+    def test_touch_without_slots(self):
+        events = frames([(1, 330, 1), (3, ID, 3), (3, X, 5), MT_REPORT, (3, ID, 4), (3, X, 5), MT_REPORT],
+                        [(3, ID, 3), (3, X, 5), MT_REPORT], [MT_REPORT, (1, 330, 0)])
+        self.assertEqual(events, taken(self.play(self.both(NO_SLOTS, events))))
+
+    def test_a_frame_longer_than_the_kernel_reckons_with(self):
+        keys = "".join(f"    Event code {code} (?)\n" for code in range(1, 41))
+        header = HEADER + "  Event type 1 (EV_KEY)\n" + keys
+        events = frames([(1, code, 1) for code in range(1, 41)])
+        text = self.both(header, events)
+        self.assertIn("\nhint 41\n", text)
+        self.assertIn("# hint 8 is less than", text)
+        self.assertEqual(events, taken(self.play(text)))
+
+    def test_a_frame_that_the_kernel_cut(self):
+        keys = "".join(f"    Event code {code} (?)\n" for code in range(1, 11))
+        header = HEADER + "  Event type 1 (EV_KEY)\n" + keys
+        events = frames([(1, code, 1) for code in range(1, 9)], report=1) + [(9, 1, 9, 1), (9, 0, 0, 0)]
+        text = self.both(header, events)
+        self.assertIn("\nhint 8\n", text)
+        self.assertEqual(events, taken(self.play(text)))
+
+    def test_repeats_by_the_kernel_and_by_the_keyboard(self):
+        """evtest does not print a report's value: a repeat behind its scan code is the keyboard's own."""
+        events = frames([(4, 4, 30), (1, 30, 1)]) + [(500, 1, 30, 2), (500, 0, 0, 1), (600, 17, 1, 0), (600, 1, 30, 2),
+                 (600, 0, 0, 1), (700, 4, 4, 30), (700, 1, 30, 2), (700, 0, 0, 0)]
+        text = self.both(KEYS, events)
+        self.assertEqual(events, taken(self.play(text)))
+        self.assertNotIn(" tick ", text)
+
+    def test_types_that_a_record_lacks_are_left_out(self):
+        header = KEYS.replace("  Event type 20", "  Event type 21 (EV_FF)\n    Event code 80 (FF_RUMBLE)\n  Event type 20")
+        events = frames([(21, 80, 1)], [(1, 30, 1), (21, 80, 0)])
+        text = self.both(header, events, notes=["2 events are left out, since a record has no EV_FF 80"])
+        self.assertEqual([(1000, 1, 30, 1), (1000, 0, 0, 0)], taken(self.play(text)))
+
+    def test_an_unfinished_frame_is_left_out(self):
+        events = frames([(1, 30, 1)]) + [(1500, 1, 30, 0)]
+        text = self.both(KEYS, events, notes=["ends within a frame; its last 1 events"])
+        self.assertEqual(events[:2], taken(self.play(text)))
+        cut = self.file("cut", KEYS + evtest_text(events)[:-9])
+        self.assertEqual(text, self.written("record", cut, notes=["ends within a frame"]))
+
+    def test_times_that_go_back(self):
+        events = [(5000, 1, 30, 1), (5000, 0, 0, 0), (0, 1, 30, 0), (0, 0, 0, 0)]
+        self.assertEqual(events, taken(self.play(self.both(KEYS, events, notes=["times go back by 0.005000 s"]))))
+
+    def test_the_first_versions_of_evemu(self):
+        text = ("N: Old Touchpad\nI: 0011 0002 0007 0000\nP: 00 00 00 00 00 00 00 00\n"
+                "B: 00 0b 00 00 00 00 00 00 00\nB: 01 00 00 00 00 00 00 00 00\nB: 01 00 00 00 40 00 00 00 00\n"
+                "B: 03 01 00 00 00 00 00 00 00\nA: 00 0 100 4 0\nE: 1332.000100 0001 005e 1\n"
+                "E: 1332.000100 0003 0000 50\nE: 1332.000100 0000 0000 0\n")
+        record = self.written("record", self.file("old.evemu", text))
+        # The value before the first event is not told: it is one beside that of the event.
+        self.assertIn("device old-touchpad\nhint 9\ncap EV_KEY 94\naxis ABS_X 49 0 100 0 0 0\n", record)
+        self.assertEqual([(0, 1, 94, 1), (0, 3, 0, 50), (0, 0, 0, 0)], taken(self.play(record)))
+
+    def test_old_words_of_evtest(self):
+        header = HEADER + "  Event type 1 (Key)\n    Event code 30 (A)\n"
+        events = ("Event: time 5.000001, type 1 (Key), code 30 (A), value 1\n"
+                  "Event: time 5.000001, -------------- Report Sync ------------\n")
+        self.assertEqual([(0, 1, 30, 1), (0, 0, 0, 0)], taken(self.play(self.written("record", self.file("old", header + events)))))
+
+
+class Losses(DeskCase):
+    """Captures that lack events, and say so."""
+
+    def test_a_loss_in_a_capture(self):
+        text = self.written("record", DATA / "touchpad.evemu", DATA / "touchpad-lost.bin",
+                            notes=["the capture lost events at 1.540498 s (SYN_DROPPED)"])
+        captured = raw_events((DATA / "touchpad-lost.bin").read_bytes())
+        place = next(i for i, event in enumerate(captured) if event[1:3] == (0, 3))
+        last = max(i for i, event in enumerate(captured) if event[1:3] == (0, 0))
+        came = taken(self.play(text))
+        self.assertEqual(captured[:place], came[:place])
+        # Each event behind the loss and its report is passed too; a frame before them sets what was lost.
+        behind = captured[place + 2 : last + 1]
+        self.assertEqual(behind, came[-len(behind):])
+        between = came[place:-len(behind)]
+        self.assertEqual({1540498}, {event[0] for event in between})
+        self.assertEqual(1, [event[1:3] for event in between].count((0, 0)))
+
+    def test_the_place_of_a_loss_is_marked(self):
+        events = frames([(1, 30, 1)]) + [(2000, 0, 3, 0), (2000, 0, 0, 0)] + [(3000, 1, 30, 1), (3000, 0, 0, 0)]
+        text = self.written("record", self.file("lost", KEYS + evtest_text(events)), notes=["lost events at 0.002000 s"])
+        self.assertIn("# Events were lost here.", text)
+        self.assertEqual(events[:2] + [(2000, 1, 30, 0), (2000, 0, 0, 0)] + events[-2:], taken(self.play(text)))
+
+    def test_a_loss_that_a_form_does_not_tell(self):
+        events = frames([(1, 30, 1)], [(1, 30, 1)])
+        self.written("record", self.file("h", KEYS), self.file("c", raw_capture(events)),
+                     notes=["1 events change nothing and are not passed, the first being EV_KEY KEY_A 1 at 0.001000 s"])
+
+    def test_hidden_keys(self):
+        path = DATA / "keyboard-hidden.libinput.yml"
+        self.refused("record", path, because="hid most keys as KEY_A: record with --show-keycodes")
+        self.written("record", path, "--hidden-keys", notes=["hid most keys as KEY_A", "events change nothing"])
+        bare = re.sub("#.*", "", path.read_text())
+        self.refused("record", DATA / "keyboard.evtest", self.file("bare.yml", "# libinput record\n" + bare),
+                     because="hid most keys as KEY_A")
+
+
+class Readers(DeskCase):
+    """Who reads, and when."""
+
+    def record(self, *words):
+        events = frames(*([(1, 30, 1 - number % 2)] for number in range(7)))
+        path = self.file("keys", KEYS + evtest_text(events))
+        return self.written("record", path, *words)
+
+    def lines_of(self, name, *words):
+        return [line.removeprefix(f"do {name} ") for line in self.record(*words).splitlines() if f"do {name} " in line]
+
+    def test_one_reader_follows_behind_each_frame(self):
+        self.assertEqual(["open"] + 7 * ["follow"], self.lines_of("reader"))
+
+    def test_readers_follow_now_and_then(self):
+        words = ["--reader", "fast", "--reader", "mid:every=3", "--reader", "last:slow"]
+        self.assertEqual(["open"] + 7 * ["follow"], self.lines_of("fast", *words))
+        self.assertEqual(["open"] + 3 * ["follow"], self.lines_of("mid", *words))
+        self.assertEqual(["open", "follow"], self.lines_of("last", *words))
+        report = self.play(self.record(*words))
+        self.assertEqual(taken(report, "fast"), taken(report, "mid"))
+        self.assertEqual(taken(report, "fast"), taken(report, "last"))
+
+    def test_a_reader_that_grabs(self):
+        report = self.play(self.record("--reader", "game:grab", "--reader", "other"))
+        self.assertEqual(14, len(taken(report, "game")))
+        self.assertEqual([], taken(report, "other"))
+
+    def test_a_reader_with_a_mask(self):
+        words = ["--reader", "leds:mask=EV_LED", "--reader", "keys:mask=KEY_B,EV_LED,EV_KEY/30", "--reader", "b:mask=KEY_B"]
+        self.assertEqual("mask EV_SYN 0 0x0000000000020000", self.lines_of("leds", *words)[1])
+        lines = self.lines_of("keys", *words)
+        self.assertEqual("mask EV_SYN 0 0x0000000000020002", lines[1])
+        self.assertEqual([f"mask EV_KEY {word} 0x{(1 << 30 | 1 << 48) if word == 0 else 0:016x}" for word in range(12)],
+                         lines[2:14])
+        report = self.play(self.record(*words))
+        self.assertEqual([], taken(report, "leds"))
+        self.assertEqual(14, len(taken(report, "keys")))
+        self.assertEqual([], taken(report, "b"))
+
+    def test_a_stream(self):
+        text = self.written("record", DATA / "keyboard.evtest", DATA / "keyboard.bin", "--stream",
+                            self.folder / "keys.bin", notes=["428 events, and a ring holds 63"])
+        self.assertEqual(1, text.count(" stream "))
+        self.assertEqual(raw_events((DATA / "keyboard.bin").read_bytes()), raw_events((self.folder / "keys.bin").read_bytes()))
+        report = self.play(text)
+        self.assertIn((0, 3, 0), [event[1:] for event in taken(report)])
+        self.assertEqual(["keys", "leds LED_NUML"], belief(report))
+
+    def test_wrong_readers(self):
+        path = DATA / "lid.evtest"
+        for words, because in (
+            (["Desk"], 'the reader "Desk" is not named'), (["driver"], "the name driver is"),
+            (["a:every=0"], "0 is not in 1 to"), (["a:every=x"], 'option "every=x"'), (["a:fast"], 'option "fast"'),
+            (["a:mask=KEY_NONE"], '"KEY_NONE" of a mask'), (["a:mask=EV_SYN"], '"EV_SYN" of a mask'),
+            (["a", "a"], "two readers are named a"), (["a:grab", "b:grab"], "two readers grab"),
+            ([f"r{number}" for number in range(65)], "65 readers"),
+        ):
+            with self.subTest(words=words[:2]):
+                self.refused("record", path, *(word for reader in words for word in ("--reader", reader)), because=because)
+
+
+class WrongInput(DeskCase):
+    """Each ends in one line, and nothing is written."""
+
+    def test_wrong_captures(self):
+        keyboard = (DATA / "keyboard.bin").read_bytes()
+        long_frame = frames([(1, 30 + 18 * (number % 2), 1 - number // 2 % 2) for number in range(600)])
+        for content, because in (
+            (b"", "the file is empty"),
+            (keyboard[:100], "100 bytes, which are 4 records of 24 bytes and 4 bytes more"),
+            (b"\x89PNG\r\n\x1a\n\0\0\0\rIHDR" + bytes(range(256)) * 3, "no raw capture"),
+            (b"hello\n", "not in a form that is known"),
+            ((DATA / "mouse.bin").read_bytes(), "EV_REL REL_X 1 at 0.000000 s, is of a code that the description lacks"),
+            ((DATA / "keyboard.proc").read_bytes(), "2 devices"),
+            ((DATA / "two.libinput.yml").read_bytes(), "2 devices"),
+            (KEYS, "it has no events"),
+            ("Event: time 1.000000, type 1 (EV_KEY), code 30 (KEY_A), value 1\n", "no whole frame"),
+            ("Event: time 1.000000, type 1 (EV_KEY), code 30\nEvent: rest\n", "line 1: no event as evtest prints it"),
+            ("Event: time 1.000000, type 1 (EV_KEY), code 30 (KEY_A), value 1e\n\n", "line 1: the value 1e"),
+            ("E: 0.000001 0001 001e 99999999999\nE: 0.000002 0000 0000 0000\n", "line 1: the value 99999999999"),
+            ("# EVEMU 1.3\nE: 0.1 0001 001e 0001\nE: 0.000002 0000 0000 0000\n", "line 2: no event as evemu writes it"),
+            ("devices:\n- node: x\n  events:\n  - evdev:\n    - [ 0, 0, 1, 30]\n  - evdev:\n", "line 5: no event"),
+            (raw_capture(long_frame), "a frame has 600 events, and a record's frames at most 511"),
+            (raw_capture(frames([(1, 30, 1)]) + [(2**54, 1, 30, 0), (2**54, 0, 0, 0)], base=0), "lasts longer"),
+        ):
+            with self.subTest(because=because):
+                path = self.file("wrong", content)
+                self.refused("record", DATA / "keyboard.evtest", path, because=because)
+
+    def test_slots(self):
+        for number, because in ((4, "its slots are 4 to 4, and the description has 4"), (64, "in slot 64")):
+            path = self.file("c", raw_capture(frames([(3, SLOT, number), (3, X, 1)])))
+            self.refused("record", self.file("h", SLOTS), path, because=because)
+
+    def test_a_record_that_would_be_too_long(self):
+        path = self.file("c", raw_capture(frames([(1, 30, 2)]) * 7000))
+        readers = [word for number in range(60) for word in ("--reader", f"{'r' * 29}{number:03}")]
+        self.refused("record", self.file("h", KEYS), path, *readers, because="more than 16777216 bytes; try --stream")
+
+    def test_wrong_words(self):
+        self.refused("record", because="required: DESCRIPTION")
+        self.refused("record", DATA / "lid.bin", because="no description of a device")
+        self.refused("record", DATA / "lid.evtest", self.folder / "none", because="No such file")
+        self.refused("record", DATA / "lid.evtest", DATA / "lid.evtest", "--16", because="no records of 16 bytes")
+        self.refused("record", DATA / "lid.evtest", "--stream", "two words", because="no single word")
+        self.refused("record", DATA / "lid.evtest", "--stream", self.folder / "no" / "such", because="No such file")
+
+    def test_a_stream_is_not_written_over_its_capture(self):
+        path = self.file("lid.bin", (DATA / "lid.bin").read_bytes())
+        self.refused("record", DATA / "lid.evtest", path, "--stream", path, because="written over")
+        self.assertEqual((DATA / "lid.bin").read_bytes(), path.read_bytes())
+
+    def test_nothing_is_written_behind_a_refusal(self):
+        path = self.folder / "stream.bin"
+        self.refused("record", DATA / "keyboard-hidden.libinput.yml", "--stream", path, because="hid most keys")
+        self.assertFalse(path.exists())
+
+    def test_several_devices(self):
+        path = DATA / "two.libinput.yml"
+        self.refused("record", path, because='2 devices: 1 "Logitech USB Keyboard", 2 "Logitech M705"')
+        report = self.play(self.written("record", path, "--device", "2", notes=["ends within a frame"]))
+        self.assertEqual(raw_events((DATA / "mouse.bin").read_bytes())[:2], taken(report)[:2])
+
+    def test_as_a_command(self):
+        done = subprocess.run([TOOLS / "record", DATA / "lid.evtest"], capture_output=True, text=True, cwd="/")
+        self.assertEqual((0, ""), (done.returncode, done.stderr))
+        self.assertEqual("inputrecord 1", done.stdout.splitlines()[0])
+        self.assertEqual("client reader", part_of(self.play(done.stdout), "reader")[0])
+        done = subprocess.run([TOOLS / "record", "--help"], capture_output=True, text=True)
+        self.assertEqual(0, done.returncode)
+        self.assertIn("usage: record", done.stdout)
+        done = subprocess.run([TOOLS / "record", DATA / "lid.bin"], capture_output=True, text=True)
+        self.assertEqual((2, "", 1), (done.returncode, done.stdout, len(done.stderr.splitlines())))
