@@ -102,7 +102,8 @@ def axes_listing(*axes):
     """A listing of axes: code, minimum, maximum."""
     lines = ["Input driver version is 1.0.1", 'Input device name: "Axes"', "  Event type 3 (EV_ABS)"]
     for code, minimum, maximum in axes:
-        lines += [f"    Event code {code} (?)", "      Value 0", f"      Min {minimum}", f"      Max {maximum}"]
+        lines += [f"    Event code {code} (?)", "      Value 0"]
+        lines += [f"      Min {minimum}", f"      Max {maximum}"]
     return "\n".join(lines) + "\n"
 
 
@@ -127,7 +128,8 @@ class Describe(DeskCase):
         self.assertEqual(MOUSE_LINES.splitlines(), self.lines(DATA / "mouse.evtest"))
         self.assertEqual(TOUCHPAD_AXES.splitlines(), [
             line for line in self.lines(DATA / "touchpad.evemu") if line.split()[0] in ("slots", "axis")])
-        self.assertEqual(["device lid-switch", "hint 8", "cap EV_SW SW_LID"], self.lines(DATA / "lid.libinput.yml"))
+        lid = self.lines(DATA / "lid.libinput.yml")
+        self.assertEqual(["device lid-switch", "hint 8", "cap EV_SW SW_LID"], lid)
 
     def test_what_is_left_out_is_told(self):
         text = self.written("describe", self.file("pad", GAMEPAD))
@@ -150,7 +152,7 @@ class Describe(DeskCase):
 
     def test_proc_says_what_it_lacks(self):
         text = self.written("describe", DATA / "touchpad.proc", "--device", "ETPS/2 Elantech Touchpad")
-        self.assertIn("# ranges and values of axes are not told here", text)
+        self.assertIn("# ranges of axes are not told here", text)
         self.assertIn("# the number of slots is not told here", text)
         self.assertIn("axis ABS_MT_POSITION_X 0 0 0 0 0 0", text)
         self.assertNotIn("ABS_MT_TRACKING_ID", text)
@@ -178,7 +180,8 @@ class Describe(DeskCase):
 
     def test_a_device_without_slots_keeps_the_ids_of_contacts(self):
         lines = self.lines(self.file("axes", axes_listing((53, 0, 9), (57, 0, 15))))
-        self.assertEqual(["axis ABS_MT_POSITION_X 0 0 9 0 0 0", "axis ABS_MT_TRACKING_ID 0 0 15 0 0 0"], lines[2:])
+        wanted = ["axis ABS_MT_POSITION_X 0 0 9 0 0 0", "axis ABS_MT_TRACKING_ID 0 0 15 0 0 0"]
+        self.assertEqual(wanted, lines[2:])
 
     def test_limits_of_a_record(self):
         axes = [(code, 0, 63) for code in range(47, 60)]
@@ -240,7 +243,7 @@ class Describe(DeskCase):
             (b"# EVEMU 1.3\nN: x\nrubbish\n", "line 3: no line of an evemu file"),
             (b"# libinput record\nversion: 2\n", "line 2: version 2"),
             (b"# libinput record\nversion: 1\n", "it has no device"),
-            (b"devices:\n- node: /dev/input/event1\n  evdev:\n    codes:\n      1: [a, b]\n", "line 5: no list"),
+            (b"devices:\n- node: x\n  evdev:\n    codes:\n      1: [a, b]\n", "line 5: no list"),
             (b'I: Bus=0003 Vendor=1 Product=1 Version=1\nN: Name="x"\nrubbish\n', "line 3: no line of /proc"),
             (b"Input driver version is 1.0.1\n  Event type 99999 (?)\n", "99999 is not in 0 to 65535"),
             (b"device x\ncap EV_KEY KEY_NONE\n", "line 2: EV_KEY KEY_NONE is no type and code"),
@@ -257,7 +260,8 @@ class Describe(DeskCase):
         self.refused("describe", DATA / "lid.evtest", "--name", "Lid", because='the name "Lid" is not')
 
     def test_as_a_command(self):
-        done = subprocess.run([TOOLS / "describe", DATA / "lid.evtest"], capture_output=True, text=True, cwd="/")
+        words = [TOOLS / "describe", DATA / "lid.evtest"]
+        done = subprocess.run(words, capture_output=True, text=True, cwd="/")
         self.assertEqual((0, ""), (done.returncode, done.stderr))
         self.assertIn("cap EV_SW SW_LID\n", done.stdout)
         done = subprocess.run([TOOLS / "describe", "--help"], capture_output=True, text=True)

@@ -4,7 +4,9 @@ import re
 import struct
 import subprocess
 
-from desk_cases import DATA, TOOLS, DeskCase, belief, part_of, raw_capture, raw_events, taken, without_comments
+from desk_cases import (
+    DATA, TOOLS, DeskCase, belief, part_of, raw_capture, raw_events, taken, without_comments,
+)
 
 DEVICES = ("keyboard", "mouse", "touchpad", "lid")
 HEADER = 'Input driver version is 1.0.1\nInput device name: "Test"\nSupported events:\n'
@@ -12,6 +14,13 @@ KEYS = HEADER + ("  Event type 1 (EV_KEY)\n    Event code 30 (KEY_A)\n    Event 
                  "  Event type 4 (EV_MSC)\n    Event code 3 (MSC_RAW)\n    Event code 4 (MSC_SCAN)\n"
                  "  Event type 17 (EV_LED)\n    Event code 1 (LED_CAPSL) state 1\n"
                  "  Event type 20 (EV_REP)\nTesting ... (interrupt to exit)\n")
+
+
+SYN_TEXTS = {
+    0: "-------------- SYN_REPORT ------------",
+    2: "++++++++++++++ SYN_MT_REPORT ++++++++++++",
+    3: ">>>>>>>>>>>>>> SYN_DROPPED <<<<<<<<<<<<",
+}
 
 
 def axis(code, value, minimum, maximum):
@@ -22,7 +31,7 @@ SLOTS = HEADER + ("  Event type 3 (EV_ABS)\n" + axis(0, 7, 0, 100) + axis(47, 1,
                   + axis(54, 0, 0, 100) + axis(57, 0, 0, 65535))
 NO_SLOTS = HEADER + ("  Event type 1 (EV_KEY)\n    Event code 330 (BTN_TOUCH)\n  Event type 3 (EV_ABS)\n"
                      + axis(53, 0, 0, 100) + axis(57, 0, 0, 15))
-REPORT, MT_REPORT = (0, 0, 0), (0, 2, 0)
+MT_REPORT = (0, 2, 0)
 X, Y, ID, SLOT = 53, 54, 57, 47
 
 
@@ -42,8 +51,7 @@ def evtest_text(events, base=1764252210496169):
         if kind == 4 and code in (3, 4):
             text = f"type {kind} (EV_MSC), code {code} (?), value {value & 0xffffffff:02x}"
         elif kind == 0:
-            text = {0: "-------------- SYN_REPORT ------------", 2: "++++++++++++++ SYN_MT_REPORT ++++++++++++",
-                    3: ">>>>>>>>>>>>>> SYN_DROPPED <<<<<<<<<<<<"}[code]
+            text = SYN_TEXTS[code]
         lines.append(f"Event: time {(base + time) // 1000000}.{(base + time) % 1000000:06d}, {text}\n")
     return "".join(lines)
 
@@ -69,7 +77,7 @@ class RoundTrip(DeskCase):
         events = raw_events((DATA / f"{name}.bin").read_bytes())
         if (name, source) != ("mouse", "libinput"):
             return events
-        return [(time, kind, code, 30 if (kind, code) == (4, 4) else value) for time, kind, code, value in events]
+        return [(*event[:3], 30) if event[1:3] == (4, 4) else event for event in events]
 
     def assert_same_events(self, wanted, came, slack):
         self.assertEqual([event[1:] for event in wanted], [event[1:] for event in came])
@@ -95,10 +103,12 @@ class RoundTrip(DeskCase):
 
     def test_the_forms_give_one_record(self):
         for name in DEVICES:
-            first = without_comments(self.written("record", DATA / f"{name}.evtest", DATA / f"{name}.bin"))
-            for files in ([f"{name}.evtest"], [f"{name}.evemu", f"{name}.bin"], [f"{name}.libinput.yml", f"{name}.bin"]):
-                with self.subTest(files=files):
-                    self.assertEqual(first, without_comments(self.written("record", *(DATA / file for file in files))))
+            raw = DATA / f"{name}.bin"
+            first = without_comments(self.written("record", DATA / f"{name}.evtest", raw))
+            for files in ([".evtest"], [".evemu", ".bin"], [".libinput.yml", ".bin"]):
+                with self.subTest(name=name, files=files):
+                    other = self.written("record", *(DATA / (name + form) for form in files))
+                    self.assertEqual(first, without_comments(other))
 
     def test_the_last_belief_is_the_device_s(self):
         """What is known at the end of the captures: the last value of each thing that an event told."""
@@ -110,8 +120,8 @@ class RoundTrip(DeskCase):
     def test_records_of_16_bytes(self):
         wanted = self.written("record", DATA / "keyboard.evemu", DATA / "keyboard.bin")
         data = (DATA / "keyboard.bin").read_bytes()
-        short = struct.Struct("<IIHHi")
-        path = self.file("short.bin", b"".join(short.pack(*event) for event in struct.iter_unpack("<QQHHi", data)))
+        short = [struct.pack("<IIHHi", *event) for event in struct.iter_unpack("<QQHHi", data)]
+        path = self.file("short.bin", b"".join(short))
         self.assertEqual(wanted, self.written("record", DATA / "keyboard.evemu", path, "--16"))
         self.assertEqual(wanted, self.written("record", DATA / "keyboard.evemu", path))
 
@@ -127,8 +137,8 @@ class Start(DeskCase):
 
     def start_of(self, *words):
         lines = without_comments(self.written("record", *words))
-        last = lines.index("do reader open")
-        return [line.removeprefix("do driver event 0 ") for line in lines[:last] if line.startswith("do driver")]
+        start = lines[lines.index("client reader") + 1 : lines.index("do reader open")]
+        return [line.removeprefix("do driver event 0 ") for line in start]
 
     def record(self, header, events):
         return self.written("record", self.file("header", header), self.file("capture", raw_capture(events)))
@@ -142,18 +152,43 @@ class Start(DeskCase):
         self.assertEqual(["EV_KEY KEY_ENTER 1", "EV_LED LED_NUML 1", "EV_SYN SYN_REPORT 0"],
                          self.start_of(DATA / "keyboard.evtest"))
 
+    def test_what_a_description_tells_by_its_lines(self):
+        described = self.written("describe", self.file("header", KEYS))
+        capture = self.file("c", raw_capture(frames([(1, 48, 1)])))
+        for path in (self.file("header", KEYS), self.file("described", described)):
+            self.assertEqual(["EV_LED LED_CAPSL 1", "EV_SYN SYN_REPORT 0"], self.start_of(path, capture))
+
     def test_a_switch_without_a_description_of_its_state(self):
         self.assertEqual(["EV_SW SW_LID 1", "EV_SYN SYN_REPORT 0"],
                          self.start_of(DATA / "lid.proc", DATA / "lid.bin", "--device", "2"))
 
     def test_contacts(self):
         start = self.start_of(DATA / "touchpad.evtest")
-        self.assertEqual(["EV_KEY BTN_LEFT 1", "EV_KEY BTN_TOUCH 1", "EV_KEY BTN_TOOL_DOUBLETAP 1"], start[:3])
+        buttons = ["EV_KEY BTN_LEFT 1", "EV_KEY BTN_TOUCH 1", "EV_KEY BTN_TOOL_DOUBLETAP 1"]
+        self.assertEqual(buttons, start[:3])
         for line in ("EV_ABS ABS_MT_SLOT 0", "EV_ABS ABS_MT_TRACKING_ID 0", "EV_ABS ABS_MT_SLOT 1",
                      "EV_ABS ABS_MT_TRACKING_ID 1"):
             self.assertIn(line, start)
         # The slot that was announced comes last, so that the capture's first event is passed.
         self.assertLess(start.index("EV_ABS ABS_MT_SLOT 0"), start.index("EV_ABS ABS_MT_SLOT 1"))
+
+    def test_a_contact_that_only_moves_was_there(self):
+        text = self.record(SLOTS, frames([(3, X, 50)], [(3, X, 51)], [(3, SLOT, 2), (3, Y, 0)]))
+        # Where it was before its first value nothing tells: beside it, within the range.
+        for line in ("ABS_MT_POSITION_X 49", "ABS_MT_POSITION_Y 1"):
+            self.assertIn(f"event 0 EV_ABS {line}\n", text)
+        told = belief(self.play(text))
+        self.assertIn("slot 0 ABS_MT_POSITION_X=0 ABS_MT_POSITION_Y=0 ABS_MT_TRACKING_ID=-1", told)
+        self.assertRegex(told[-2], "^slot 2 ABS_MT_POSITION_X=0 ABS_MT_POSITION_Y=0 ABS_MT_TRACKING_ID=[0-9]")
+
+    def test_slots_that_a_description_does_not_count(self):
+        touchpad = ('I: Bus=0011 Vendor=0002 Product=000e Version=0000\nN: Name="T"\nB: EV=9\n'
+                    "B: ABS=260800000000000\n")
+        for last in (0, 3):
+            events = frames([(3, SLOT, 0), (3, ID, 4)], [(3, SLOT, last), (3, X, 5)] if last else [(3, X, 5)])
+            text = self.written("record", self.file("p", touchpad), self.file("c", raw_capture(events)))
+            self.assertIn(f"\nslots {max(last + 1, 2)}\n", text)
+            self.assertEqual(events, taken(self.play(text)))
 
     def test_a_repeat_alone_tells_that_its_key_was_down(self):
         report = self.assert_all_taken(KEYS, frames([(1, 30, 2)], [(1, 48, 1)], report=1))
@@ -163,7 +198,10 @@ class Start(DeskCase):
         self.assert_all_taken(KEYS, frames([(17, 1, 1)], [(17, 1, 0)]))
 
     def test_an_axis_whose_described_value_is_too_new(self):
-        self.assert_all_taken(SLOTS, frames([(3, 0, 7)], [(3, 0, 8)]))
+        text = self.record(SLOTS, frames([(3, 0, 7)], [(3, 0, 8)]))
+        self.assertIn("\naxis ABS_X 6 0 100 0 0 0\n", text)
+        self.assertEqual(2, text.count(" ABS_X ") - 1)
+        self.assertEqual(frames([(3, 0, 7)], [(3, 0, 8)]), taken(self.play(text)))
         self.assert_all_taken(SLOTS, frames([(3, 0, 0)], [(3, 0, 7)]))
 
     def test_values_for_the_announced_slot(self):
@@ -184,11 +222,13 @@ class Start(DeskCase):
         self.assert_all_taken(SLOTS, frames([(3, SLOT, 1), (3, ID, 4)], [(3, SLOT, 0), (3, ID, 5)]))
 
     def test_ids_of_contacts_before_are_no_others(self):
-        self.assert_all_taken(SLOTS, frames([(3, ID, -1)], [(3, ID, 0)], [(3, SLOT, 2), (3, ID, -1)], [(3, ID, 1)]))
+        batches = [[(3, ID, -1)], [(3, ID, 0)], [(3, SLOT, 2), (3, ID, -1)], [(3, ID, 1)]]
+        self.assert_all_taken(SLOTS, frames(*batches))
 
     def test_settings_of_the_autorepeat(self):
-        header = KEYS.replace("Testing", "Key repeat handling:\n  Repeat type 20 (EV_REP)\n    Repeat code 0 (REP_DELAY)\n"
-                              "      Value 400\n    Repeat code 1 (REP_PERIOD)\n      Value 33\nTesting")
+        settings = ("Key repeat handling:\n  Repeat type 20 (EV_REP)\n    Repeat code 0 (REP_DELAY)\n"
+                    "      Value 400\n    Repeat code 1 (REP_PERIOD)\n      Value 33\n")
+        header = KEYS.replace("Testing", settings + "Testing")
         text = self.record(header, frames([(20, 0, 250)], [(20, 1, 33)]))
         self.assertIn("event 0 EV_REP REP_DELAY 400\n", text)
         self.assertEqual(frames([(20, 0, 250)], [(20, 1, 33)]), taken(self.play(text)))
@@ -200,7 +240,8 @@ class Events(DeskCase):
     def both(self, header, events, notes=()):
         """The record by evtest's text, after that by a raw capture was found to have the same events."""
         text = self.written("record", self.file("text", header + evtest_text(events)), notes=notes)
-        raw = self.written("record", self.file("header", header), self.file("raw", raw_capture(events)), notes=notes)
+        files = [self.file("header", header), self.file("raw", raw_capture(events))]
+        raw = self.written("record", *files, notes=notes)
         self.assertEqual(without_comments(raw), without_comments(text))
         return text
 
@@ -232,14 +273,16 @@ class Events(DeskCase):
 
     def test_repeats_by_the_kernel_and_by_the_keyboard(self):
         """evtest does not print a report's value: a repeat behind its scan code is the keyboard's own."""
-        events = frames([(4, 4, 30), (1, 30, 1)]) + [(500, 1, 30, 2), (500, 0, 0, 1), (600, 17, 1, 0), (600, 1, 30, 2),
-                 (600, 0, 0, 1), (700, 4, 4, 30), (700, 1, 30, 2), (700, 0, 0, 0)]
+        events = frames([(4, 4, 30), (1, 30, 1)])
+        events += [(500, 1, 30, 2), (500, 0, 0, 1), (600, 17, 1, 0), (600, 1, 30, 2), (600, 0, 0, 1)]
+        events += [(700, 4, 4, 30), (700, 1, 30, 2), (700, 0, 0, 0)]
         text = self.both(KEYS, events)
         self.assertEqual(events, taken(self.play(text)))
         self.assertNotIn(" tick ", text)
 
     def test_types_that_a_record_lacks_are_left_out(self):
-        header = KEYS.replace("  Event type 20", "  Event type 21 (EV_FF)\n    Event code 80 (FF_RUMBLE)\n  Event type 20")
+        force = "  Event type 21 (EV_FF)\n    Event code 80 (FF_RUMBLE)\n"
+        header = KEYS.replace("  Event type 20", force + "  Event type 20")
         events = frames([(21, 80, 1)], [(1, 30, 1), (21, 80, 0)])
         text = self.both(header, events, notes=["2 events are left out, since a record has no EV_FF 80"])
         self.assertEqual([(1000, 1, 30, 1), (1000, 0, 0, 0)], taken(self.play(text)))
@@ -253,11 +296,13 @@ class Events(DeskCase):
 
     def test_times_that_go_back(self):
         events = [(5000, 1, 30, 1), (5000, 0, 0, 0), (0, 1, 30, 0), (0, 0, 0, 0)]
-        self.assertEqual(events, taken(self.play(self.both(KEYS, events, notes=["times go back by 0.005000 s"]))))
+        text = self.both(KEYS, events, notes=["times go back by 0.005000 s"])
+        self.assertEqual(events, taken(self.play(text)))
 
     def test_the_first_versions_of_evemu(self):
         text = ("N: Old Touchpad\nI: 0011 0002 0007 0000\nP: 00 00 00 00 00 00 00 00\n"
-                "B: 00 0b 00 00 00 00 00 00 00\nB: 01 00 00 00 00 00 00 00 00\nB: 01 00 00 00 40 00 00 00 00\n"
+                "B: 00 0b 00 00 00 00 00 00 00\nB: 01 00 00 00 00 00 00 00 00\n"
+                "B: 01 00 00 00 40 00 00 00 00\n"
                 "B: 03 01 00 00 00 00 00 00 00\nA: 00 0 100 4 0\nE: 1332.000100 0001 005e 1\n"
                 "E: 1332.000100 0003 0000 50\nE: 1332.000100 0000 0000 0\n")
         record = self.written("record", self.file("old.evemu", text))
@@ -269,7 +314,8 @@ class Events(DeskCase):
         header = HEADER + "  Event type 1 (Key)\n    Event code 30 (A)\n"
         events = ("Event: time 5.000001, type 1 (Key), code 30 (A), value 1\n"
                   "Event: time 5.000001, -------------- Report Sync ------------\n")
-        self.assertEqual([(0, 1, 30, 1), (0, 0, 0, 0)], taken(self.play(self.written("record", self.file("old", header + events)))))
+        text = self.written("record", self.file("old", header + events))
+        self.assertEqual([(0, 1, 30, 1), (0, 0, 0, 0)], taken(self.play(text)))
 
 
 class Losses(DeskCase):
@@ -291,20 +337,40 @@ class Losses(DeskCase):
         self.assertEqual(1, [event[1:3] for event in between].count((0, 0)))
 
     def test_the_place_of_a_loss_is_marked(self):
-        events = frames([(1, 30, 1)]) + [(2000, 0, 3, 0), (2000, 0, 0, 0)] + [(3000, 1, 30, 1), (3000, 0, 0, 0)]
-        text = self.written("record", self.file("lost", KEYS + evtest_text(events)), notes=["lost events at 0.002000 s"])
+        first, behind = frames([(1, 30, 1)]), [(3000, 1, 30, 1), (3000, 0, 0, 0)]
+        capture = evtest_text(first + [(2000, 0, 3, 0), (2000, 0, 0, 0)] + behind)
+        text = self.written("record", self.file("lost", KEYS + capture), notes=["lost events at 0.002000 s"])
         self.assertIn("# Events were lost here.", text)
-        self.assertEqual(events[:2] + [(2000, 1, 30, 0), (2000, 0, 0, 0)] + events[-2:], taken(self.play(text)))
+        between = [(2000, 1, 30, 0), (2000, 0, 0, 0)]
+        self.assertEqual(first + between + behind, taken(self.play(text)))
+
+    def test_contacts_behind_a_loss(self):
+        first = frames([(3, SLOT, 0), (3, ID, 4), (3, X, 5)])
+        lost = [(2000, 0, 3, 0), (2000, 0, 0, 0)]
+        for batch in ([(3, ID, 4), (3, X, 5)], [(3, SLOT, 0), (3, ID, -1)], [(3, SLOT, 2), (3, ID, -1)],
+                      [(3, SLOT, 2), (3, X, 0)], [(3, 0, 7)]):
+            with self.subTest(batch=batch):
+                behind = [(3000, *event) for event in [*batch, (0, 0, 0)]]
+                files = [self.file("h", SLOTS), self.file("c", raw_capture(first + lost + behind))]
+                text = self.written("record", *files, notes=["lost events at 0.002000 s"])
+                came = taken(self.play(text))
+                self.assertEqual((first, behind), (came[: len(first)], came[-len(behind):]))
 
     def test_a_loss_that_a_form_does_not_tell(self):
         events = frames([(1, 30, 1)], [(1, 30, 1)])
-        self.written("record", self.file("h", KEYS), self.file("c", raw_capture(events)),
-                     notes=["1 events change nothing and are not passed, the first being EV_KEY KEY_A 1 at 0.001000 s"])
+        note = "1 events change nothing and are not passed, the first being EV_KEY KEY_A 1 at 0.001000 s"
+        self.written("record", self.file("h", KEYS), self.file("c", raw_capture(events)), notes=[note])
 
     def test_hidden_keys(self):
         path = DATA / "keyboard-hidden.libinput.yml"
         self.refused("record", path, because="hid most keys as KEY_A: record with --show-keycodes")
-        self.written("record", path, "--hidden-keys", notes=["hid most keys as KEY_A", "events change nothing"])
+        notes = ["hid most keys as KEY_A", "events change nothing"]
+        self.written("record", path, "--hidden-keys", notes=notes)
+        commented = ("# libinput record\ndevices:\n- node: x\n  evdev:\n    codes:\n      1: [30]\n"
+                     "  events:\n  - evdev:\n    - [0, 0, 1, 30, 1] # EV_KEY / KEY_A 1 (obfuscated)\n"
+                     "    - [0, 0, 0, 0, 0] # SYN_REPORT\n")
+        self.refused("record", self.file("commented.yml", commented), because="hid most keys as KEY_A")
+        self.written("record", self.file("open.yml", commented.replace("(obfuscated)", "")))
         bare = re.sub("#.*", "", path.read_text())
         self.refused("record", DATA / "keyboard.evtest", self.file("bare.yml", "# libinput record\n" + bare),
                      because="hid most keys as KEY_A")
@@ -319,7 +385,8 @@ class Readers(DeskCase):
         return self.written("record", path, *words)
 
     def lines_of(self, name, *words):
-        return [line.removeprefix(f"do {name} ") for line in self.record(*words).splitlines() if f"do {name} " in line]
+        lines = [line.split(" ", 2) for line in self.record(*words).splitlines()]
+        return [line[2] for line in lines if line[:2] == ["do", name]]
 
     def test_one_reader_follows_behind_each_frame(self):
         self.assertEqual(["open"] + 7 * ["follow"], self.lines_of("reader"))
@@ -339,12 +406,14 @@ class Readers(DeskCase):
         self.assertEqual([], taken(report, "other"))
 
     def test_a_reader_with_a_mask(self):
-        words = ["--reader", "leds:mask=EV_LED", "--reader", "keys:mask=KEY_B,EV_LED,EV_KEY/30", "--reader", "b:mask=KEY_B"]
+        words = ["--reader", "leds:mask=EV_LED", "--reader", "keys:mask=KEY_B,EV_LED,EV_KEY/30"]
+        words += ["--reader", "b:mask=KEY_B"]
         self.assertEqual("mask EV_SYN 0 0x0000000000020000", self.lines_of("leds", *words)[1])
         lines = self.lines_of("keys", *words)
         self.assertEqual("mask EV_SYN 0 0x0000000000020002", lines[1])
-        self.assertEqual([f"mask EV_KEY {word} 0x{(1 << 30 | 1 << 48) if word == 0 else 0:016x}" for word in range(12)],
-                         lines[2:14])
+        masks = ["mask EV_KEY 0 0x0001000040000000"]
+        masks += [f"mask EV_KEY {word} 0x0000000000000000" for word in range(1, 12)]
+        self.assertEqual(masks, lines[2:14])
         report = self.play(self.record(*words))
         self.assertEqual([], taken(report, "leds"))
         self.assertEqual(14, len(taken(report, "keys")))
@@ -354,7 +423,8 @@ class Readers(DeskCase):
         text = self.written("record", DATA / "keyboard.evtest", DATA / "keyboard.bin", "--stream",
                             self.folder / "keys.bin", notes=["428 events, and a ring holds 63"])
         self.assertEqual(1, text.count(" stream "))
-        self.assertEqual(raw_events((DATA / "keyboard.bin").read_bytes()), raw_events((self.folder / "keys.bin").read_bytes()))
+        captured = raw_events((DATA / "keyboard.bin").read_bytes())
+        self.assertEqual(captured, raw_events((self.folder / "keys.bin").read_bytes()))
         report = self.play(text)
         self.assertIn((0, 3, 0), [event[1:] for event in taken(report)])
         self.assertEqual(["keys", "leds LED_NUML"], belief(report))
@@ -363,13 +433,15 @@ class Readers(DeskCase):
         path = DATA / "lid.evtest"
         for words, because in (
             (["Desk"], 'the reader "Desk" is not named'), (["driver"], "the name driver is"),
-            (["a:every=0"], "0 is not in 1 to"), (["a:every=x"], 'option "every=x"'), (["a:fast"], 'option "fast"'),
+            (["a:every=0"], "0 is not in 1 to"), (["a:every=x"], 'option "every=x"'),
+            (["a:fast"], 'option "fast"'),
             (["a:mask=KEY_NONE"], '"KEY_NONE" of a mask'), (["a:mask=EV_SYN"], '"EV_SYN" of a mask'),
             (["a", "a"], "two readers are named a"), (["a:grab", "b:grab"], "two readers grab"),
             ([f"r{number}" for number in range(65)], "65 readers"),
         ):
             with self.subTest(words=words[:2]):
-                self.refused("record", path, *(word for reader in words for word in ("--reader", reader)), because=because)
+                options = [word for reader in words for word in ("--reader", reader)]
+                self.refused("record", path, *options, because=because)
 
 
 class WrongInput(DeskCase):
@@ -383,18 +455,18 @@ class WrongInput(DeskCase):
             (keyboard[:100], "100 bytes, which are 4 records of 24 bytes and 4 bytes more"),
             (b"\x89PNG\r\n\x1a\n\0\0\0\rIHDR" + bytes(range(256)) * 3, "no raw capture"),
             (b"hello\n", "not in a form that is known"),
-            ((DATA / "mouse.bin").read_bytes(), "EV_REL REL_X 1 at 0.000000 s, is of a code that the description lacks"),
+            ((DATA / "mouse.bin").read_bytes(), "EV_REL REL_X 1 at 0.000000 s, is of a code that the desc"),
             ((DATA / "keyboard.proc").read_bytes(), "2 devices"),
             ((DATA / "two.libinput.yml").read_bytes(), "2 devices"),
             (KEYS, "it has no events"),
             ("Event: time 1.000000, type 1 (EV_KEY), code 30 (KEY_A), value 1\n", "no whole frame"),
-            ("Event: time 1.000000, type 1 (EV_KEY), code 30\nEvent: rest\n", "line 1: no event as evtest prints it"),
+            ("Event: time 1.000000, type 1 (EV_KEY), code 30\nEvent: rest\n", "line 1: no event as evtest"),
             ("Event: time 1.000000, type 1 (EV_KEY), code 30 (KEY_A), value 1e\n\n", "line 1: the value 1e"),
-            ("E: 0.000001 0001 001e 99999999999\nE: 0.000002 0000 0000 0000\n", "line 1: the value 99999999999"),
-            ("# EVEMU 1.3\nE: 0.1 0001 001e 0001\nE: 0.000002 0000 0000 0000\n", "line 2: no event as evemu writes it"),
-            ("devices:\n- node: x\n  events:\n  - evdev:\n    - [ 0, 0, 1, 30]\n  - evdev:\n", "line 5: no event"),
+            ("E: 0.000001 0001 001e 99999999999\nE: 0.000002 0000 0000 0000\n", "line 1: the value 999999"),
+            ("# EVEMU 1.3\nE: 0.1 0001 001e 0001\nE: 0.000002 0000 0000 0000\n", "line 2: no event as evemu"),
+            ("devices:\n- node: x\n  events:\n  - evdev:\n    - [ 0, 0, 1, 30]\n  - evdev:\n", "line 5: no"),
             (raw_capture(long_frame), "a frame has 600 events, and a record's frames at most 511"),
-            (raw_capture(frames([(1, 30, 1)]) + [(2**54, 1, 30, 0), (2**54, 0, 0, 0)], base=0), "lasts longer"),
+            (raw_capture([(0, 1, 30, 1), (2**54, 0, 0, 0)], base=0), "lasts longer"),
         ):
             with self.subTest(because=because):
                 path = self.file("wrong", content)
@@ -408,15 +480,17 @@ class WrongInput(DeskCase):
     def test_a_record_that_would_be_too_long(self):
         path = self.file("c", raw_capture(frames([(1, 30, 2)]) * 7000))
         readers = [word for number in range(60) for word in ("--reader", f"{'r' * 29}{number:03}")]
-        self.refused("record", self.file("h", KEYS), path, *readers, because="more than 16777216 bytes; try --stream")
+        header = self.file("h", KEYS)
+        self.refused("record", header, path, *readers, because="more than 16777216 bytes; try --stream")
 
     def test_wrong_words(self):
         self.refused("record", because="required: DESCRIPTION")
         self.refused("record", DATA / "lid.bin", because="no description of a device")
         self.refused("record", DATA / "lid.evtest", self.folder / "none", because="No such file")
-        self.refused("record", DATA / "lid.evtest", DATA / "lid.evtest", "--16", because="no records of 16 bytes")
+        self.refused("record", DATA / "lid.evtest", DATA / "lid.evtest", "--16", because="no records of 16")
         self.refused("record", DATA / "lid.evtest", "--stream", "two words", because="no single word")
-        self.refused("record", DATA / "lid.evtest", "--stream", self.folder / "no" / "such", because="No such file")
+        missing = self.folder / "no" / "such"
+        self.refused("record", DATA / "lid.evtest", "--stream", missing, because="No such file")
 
     def test_a_stream_is_not_written_over_its_capture(self):
         path = self.file("lid.bin", (DATA / "lid.bin").read_bytes())
@@ -425,7 +499,8 @@ class WrongInput(DeskCase):
 
     def test_nothing_is_written_behind_a_refusal(self):
         path = self.folder / "stream.bin"
-        self.refused("record", DATA / "keyboard-hidden.libinput.yml", "--stream", path, because="hid most keys")
+        hidden = DATA / "keyboard-hidden.libinput.yml"
+        self.refused("record", hidden, "--stream", path, because="hid most keys")
         self.assertFalse(path.exists())
 
     def test_several_devices(self):
@@ -435,7 +510,8 @@ class WrongInput(DeskCase):
         self.assertEqual(raw_events((DATA / "mouse.bin").read_bytes())[:2], taken(report)[:2])
 
     def test_as_a_command(self):
-        done = subprocess.run([TOOLS / "record", DATA / "lid.evtest"], capture_output=True, text=True, cwd="/")
+        words = [TOOLS / "record", DATA / "lid.evtest"]
+        done = subprocess.run(words, capture_output=True, text=True, cwd="/")
         self.assertEqual((0, ""), (done.returncode, done.stderr))
         self.assertEqual("inputrecord 1", done.stdout.splitlines()[0])
         self.assertEqual("client reader", part_of(self.play(done.stdout), "reader")[0])

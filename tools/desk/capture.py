@@ -61,14 +61,14 @@ class Capture:
         return kept
 
     def find_slots(self, device, events):
-        """A capture that names slots is of a device with slots. It tells how many where nothing else does."""
+        """A capture that names slots is of a device with two or more; as many as it names where none are told."""
         named = [event.value for event in events if (event.kind, event.code) == (ABS, SLOT)]
         if not named or SLOT not in device.axes:
             return
         if max(named) >= GREATEST_SLOTS:
             raise Wrong(f"an event is in slot {max(named)}, and a record has at most {GREATEST_SLOTS} slots")
         if not device.has_ranges:
-            device.slots = max(named) + 1
+            device.slots = max(max(named) + 1, 2)
         elif not device.slot_count() and device.slots is None:
             device.slots = device.axes[SLOT].maximum + 1
         if not 0 <= min(named) <= max(named) < device.slot_count():

@@ -4,7 +4,7 @@ import re
 
 from desk.command import Wrong
 from desk.names import (
-    ABS, GREATEST, KEY, LED, NOT_IN_A_RECORD, REL, REP, SLOT, SW, SYN, TRACKING_ID, code_text, is_in_a_record,
+    ABS, GREATEST, KEY, LED, NOT_IN_A_RECORD, REL, REP, SLOT, SW, TRACKING_ID, code_text, is_in_a_record,
     is_slot_value, kernel_kind_text, kind_text, property_text,
 )
 from desk.recording import Axis
@@ -125,7 +125,7 @@ def comments(device, is_raw=False):
 def what_procfs_lacks(device):
     if not device.axes:
         return []
-    lacks = ["ranges and values of axes are not told here; each is written as 0 0 0 0 0 0"]
+    lacks = ["ranges of axes are not told here, and are written as 0"]
     if device.slot_count():
         lacks.append("the number of slots is not told here; put the right one into the line `slots`")
     return lacks

@@ -14,7 +14,6 @@ from desk.recording import GREATEST, LEAST, Axis, Device, Event, Recording
 
 VERSION = re.compile(r"# EVEMU (\d+)\.(\d+)")
 EVENT = re.compile(r"E:\s*(\d+)\.(\d{6})\s+([0-9a-fA-F]{1,4})\s+([0-9a-fA-F]{1,4})\s+(-?\d+)\s*(#.*)?$")
-BITS = re.compile(r"([0-9a-fA-F]{2})((?:\s+[0-9a-fA-F]{2})+)\s*$")
 AXIS = re.compile(r"([0-9a-fA-F]{1,2})((?:\s+-?\d+){4,5})\s*$")
 STATE = re.compile(r"([0-9a-fA-F]{1,2})\s+(\d+)\s*$")
 
@@ -36,6 +35,7 @@ class Parser:
             self.listing.take(line.lstrip("#"))
             return
         letter, _, rest = line.partition(":")
+        rest = rest if letter == "N" else rest.partition("#")[0]
         takes = {"N": self.take_name, "P": self.take_properties, "B": self.take_bits, "A": self.take_axis,
                  "L": self.take_state, "S": self.take_state, "I": self.take_nothing}.get(letter)
         try:
