@@ -248,6 +248,8 @@ class Describe(DeskCase):
             (b"Input driver version is 1.0.1\n  Event type 99999 (?)\n", "99999 is not in 0 to 65535"),
             (b"device x\ncap EV_KEY KEY_NONE\n", "line 2: EV_KEY KEY_NONE is no type and code"),
             (b"device x\naxis ABS_X 0 0 9 0 0\n", "line 2: axis wants 7 words"),
+            (b"device x\nlog 0\n", "line 2: the number 0 is not in 1 to 8388608"),
+            (b"device x\nclock monotonic 5\n", "line 2: monotonic is no clock that has an offset"),
         ):
             with self.subTest(content=content[:60]):
                 self.refused("describe", self.file("wrong", content), because=because)

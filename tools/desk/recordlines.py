@@ -11,6 +11,7 @@ from desk.names import ABS, KEY, LED, REP, SLOT, SW, is_in_a_record, number_of_c
 from desk.recording import GREATEST, LEAST, Axis, Device, Recording
 
 FIRST_WORDS = ("inputrecord", "device", "hint", "log", "clock", "slots", "type", "cap", "axis")
+GREATEST_LOG, GREATEST_OFFSET = 8388608, 9000000000000000
 ACTORS = ("source", "client", "tap", "do")
 
 
@@ -36,7 +37,7 @@ class Parser:
         if len(rest) != counts[first]:
             raise Wrong(f"{first} wants {counts[first]} words behind it")
         if first in ("log", "clock"):
-            self.device.other_lines.append(" ".join(words))
+            self.take_other(words)
         elif first == "hint":
             self.device.hint = self.number(rest[0], 2, 512)
         elif first == "slots":
@@ -45,6 +46,16 @@ class Parser:
             self.take_axis(rest)
         else:
             self.take_cap(rest)
+
+    def take_other(self, words):
+        """The history's limit and the clocks, which stand in the record as they are."""
+        if words[0] == "log":
+            self.number(words[1], 1, GREATEST_LOG)
+        elif words[1] not in ("realtime", "boottime"):
+            raise Wrong(f"{words[1]} is no clock that has an offset")
+        else:
+            self.number(words[2], 0, GREATEST_OFFSET)
+        self.device.other_lines.append(" ".join(words))
 
     def number(self, word, low, high):
         if re.fullmatch(r"-?0x[0-9a-fA-F]+", word):

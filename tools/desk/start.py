@@ -134,13 +134,13 @@ class Before:
             began = next((event.value for event in events if event.code == TRACKING_ID), -1)
             if began < 0 and self.state.cell(slot, TRACKING_ID) < 0:
                 self.new_contacts.add(slot)
-                self.state.cells[slot, TRACKING_ID] = self.spare_id()
+                self.state.cells[slot, TRACKING_ID] = self.unused_id()
 
-    def spare_id(self):
+    def unused_id(self):
         """An id that no contact of the capture has."""
-        spare = next(i for i in range(len(self.ids) + 1) if i not in self.ids)
-        self.ids.add(spare)
-        return spare
+        unused = next(i for i in range(len(self.ids) + 1) if i not in self.ids)
+        self.ids.add(unused)
+        return unused
 
     def find_values(self):
         for _, slot, event in self.events():
@@ -149,10 +149,10 @@ class Before:
                 self.repeated.add(event.code)
             elif thing not in self.begun:
                 self.begun.add(thing)
-                self.make_room(event, slot)
+                self.set_before(event, slot)
         self.state.on[KEY] |= {code for code in self.repeated if (KEY, code, None) not in self.begun}
 
-    def make_room(self, event, slot):
+    def set_before(self, event, slot):
         """The first event on a thing is passed."""
         state, kind, code, value = self.state, event.kind, event.code, event.value
         if kind in FLAGS:
@@ -160,15 +160,15 @@ class Before:
         elif kind == REP and state.repeat.get(code) == value:
             state.repeat[code] = value + 1
         elif self.is_cell(event):
-            self.make_room_in_slot(code, value, slot)
+            self.set_before_in_slot(code, value, slot)
         elif kind == ABS and not is_slot_value(code) and state.values.get(code) in (None, value):
             state.values[code] = state.other_value(code, value)
 
-    def make_room_in_slot(self, code, value, slot):
+    def set_before_in_slot(self, code, value, slot):
         state = self.state
         if code == TRACKING_ID:
             if state.cell(slot, code) == value:
-                state.cells[slot, code] = self.spare_id() if value < 0 else -1
+                state.cells[slot, code] = self.unused_id() if value < 0 else -1
         elif slot in self.new_contacts or state.cell(slot, code) == value:
             state.cells[slot, code] = state.other_value(code, value)
 
@@ -199,11 +199,11 @@ def slot_events(old, new):
         events += [(ABS, SLOT, slot)] + changes[slot]
         announced = slot
     if announced != new.slot:
-        events += [(ABS, SLOT, new.slot)] + there_and_back(new)
+        events += [(ABS, SLOT, new.slot)] + change_for_a_moment(new)
     return events
 
 
-def there_and_back(state):
+def change_for_a_moment(state):
     """Changes a value of the announced slot for a moment: a slot is announced by a value alone."""
     codes = [code for code in sorted(state.axes) if is_slot_value(code) and code != TRACKING_ID]
     code = (codes or [TRACKING_ID])[0]
