@@ -150,6 +150,14 @@ class Describe(DeskCase):
         self.assertIn("axis ABS_MT_POSITION_Y 0 0 1888 8 0 31", lines)
         self.assertNotIn("fuzz", self.written("describe", DATA / "touchpad.evtest", "--raw"))
 
+    def test_raw_keeps_no_fuzz_that_a_record_has_not(self):
+        for fuzz in (-1, 2**30 + 1):
+            pad = self.file("pad", GAMEPAD.replace("Fuzz      16", f"Fuzz {fuzz}"))
+            text = self.written("describe", pad, "--raw")
+            self.assertIn("\naxis ABS_X -129 -32768 32767 0 128 0\n", text)
+            self.assertIn("\naxis 62 3 0 255 4 0 12\n", text)
+            self.assertIn(f"# fuzz {fuzz} is written as 0 (no fuzz that a record has): ABS_X\n", text)
+
     def test_proc_says_what_it_lacks(self):
         text = self.written("describe", DATA / "touchpad.proc", "--device", "ETPS/2 Elantech Touchpad")
         self.assertIn("# ranges of axes are not told here", text)

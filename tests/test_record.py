@@ -344,6 +344,12 @@ class Losses(DeskCase):
         between = [(2000, 1, 30, 0), (2000, 0, 0, 0)]
         self.assertEqual(first + between + behind, taken(self.play(text)))
 
+    def test_a_loss_within_a_frame(self):
+        events = [(0, 1, 30, 1), (1000, 0, 3, 0), (1000, 1, 48, 1), (1000, 0, 0, 0)]
+        text = self.written("record", self.file("h", KEYS), self.file("c", raw_capture(events)),
+                            notes=["lost events at 0.001000 s"])
+        self.assertEqual([(0, 1, 30, 1), (0, 0, 0, 0), *events[2:]], taken(self.play(text)))
+
     def test_contacts_behind_a_loss(self):
         first = frames([(3, SLOT, 0), (3, ID, 4), (3, X, 5)])
         lost = [(2000, 0, 3, 0), (2000, 0, 0, 0)]
@@ -371,6 +377,9 @@ class Losses(DeskCase):
                      "    - [0, 0, 0, 0, 0] # SYN_REPORT\n")
         self.refused("record", self.file("commented.yml", commented), because="hid most keys as KEY_A")
         self.written("record", self.file("open.yml", commented.replace("(obfuscated)", "")))
+        other = self.file("other.yml", commented.replace("[30]", "[113]"))
+        text = self.written("record", other, "--hidden-keys", notes=["hid most keys as KEY_A"])
+        self.assertEqual([(0, 1, 30, 1), (0, 0, 0, 0)], taken(self.play(text)))
         bare = re.sub("#.*", "", path.read_text())
         self.refused("record", DATA / "keyboard.evtest", self.file("bare.yml", "# libinput record\n" + bare),
                      because="hid most keys as KEY_A")
