@@ -132,6 +132,18 @@ class RoundTrip(DeskCase):
         self.assertEqual(raw_events((DATA / "keyboard.bin").read_bytes())[:32], came)
 
 
+    def test_what_a_terminal_shows_besides(self):
+        """A list of devices before a tool's first line, `^C` behind its last one, and a fault that it tells."""
+        noise = "Available devices:\n/dev/input/event0:\tKeyboard\nSelect the device event number [0-1]: "
+        for form, before, behind in (("evemu", noise, "^C\n"), ("evtest", noise, "^C\n$ \n"),
+                                     ("libinput.yml", "", "^CError: Interrupted system call\n")):
+            with self.subTest(form=form):
+                wanted = self.written("record", DATA / f"lid.{form}")
+                text = before + (DATA / f"lid.{form}").read_text() + behind
+                shown = self.file("shown", text.replace("\n", "\r\n"))
+                self.assertEqual(wanted, self.written("record", shown))
+
+
 class Start(DeskCase):
     """What was on, down or there when a capture began."""
 

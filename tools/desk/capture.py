@@ -61,7 +61,7 @@ class Capture:
         return kept
 
     def find_slots(self, device, events):
-        """A capture that names slots is of a device with two or more; as many as it names where none are told."""
+        """A capture that names slots is of a device with two or more: where none are told, with those named."""
         named = [event.value for event in events if (event.kind, event.code) == (ABS, SLOT)]
         if not named or SLOT not in device.axes:
             return

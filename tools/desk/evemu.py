@@ -12,6 +12,12 @@ from desk.listing import Listing, forget_values_of_slots, take_values
 from desk.names import ABS, LED, SW
 from desk.recording import GREATEST, LEAST, Axis, Device, Event, Recording
 
+HEAD = re.compile(r"# EVEMU \d")
+# The first version has no such line.
+HEADLESS = re.compile(
+    r"^(I: [0-9a-fA-F]{4} [0-9a-fA-F]{4}|B: [0-9a-fA-F]{2} [0-9a-fA-F]{2}"
+    r"|E: ?\d+\.\d+ [0-9a-fA-F]{4} [0-9a-fA-F]{4} )", re.MULTILINE
+)
 VERSION = re.compile(r"# EVEMU (\d+)\.(\d+)")
 EVENT = re.compile(r"E:\s*(\d+)\.(\d{6})\s+([0-9a-fA-F]{1,4})\s+([0-9a-fA-F]{1,4})\s+(-?\d+)\s*(#.*)?$")
 AXIS = re.compile(r"([0-9a-fA-F]{1,2})((?:\s+-?\d+){4,5})\s*$")
@@ -19,8 +25,7 @@ STATE = re.compile(r"([0-9a-fA-F]{1,2})\s+(\d+)\s*$")
 
 
 def is_evemu(text):
-    return re.search(r"^(# EVEMU \d|I: [0-9a-fA-F]{4} [0-9a-fA-F]{4}|B: [0-9a-fA-F]{2} [0-9a-fA-F]{2}"
-                     r"|E: ?\d+\.\d+ [0-9a-fA-F]{4} [0-9a-fA-F]{4} )", text, re.M)
+    return HEAD.search(text) or HEADLESS.search(text)
 
 
 class Parser:
@@ -115,6 +120,10 @@ class Parser:
 
 def parse(text):
     """The recordings of a file: one for each description that it has, or one of events alone."""
+    head = HEAD.search(text)
+    if head and not re.search("^N:", text[: head.start()], re.MULTILINE):
+        # (a terminal shows a list of devices before it)
+        text = "\n" * text.count("\n", 0, head.start()) + text[head.start() :]
     parsers, lines = [Parser()], text.split("\n")
     for index, line in enumerate(lines):
         version = VERSION.match(line)

@@ -34,6 +34,7 @@ def recordings_of(data, raw_size=None):
     if raw_size or raw.is_raw(data):
         return raw.parse(data, raw_size)
     text = data.decode("utf-8", "replace").replace("\r\n", "\n").replace("\r", "\n")
+    text = re.sub(r"^\^C", "", text, flags=re.MULTILINE)  # what a terminal shows where a tool is stopped
     for recognises, parse in FORMS:
         if recognises(text):
             recordings = parse(text)

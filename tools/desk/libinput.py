@@ -78,7 +78,7 @@ class Parser:
         if kind:
             self.kind = kind[1]
             return
-        if self.kind != "evdev" or not line.strip():
+        if self.kind != "evdev" or not re.match(r"\s*[-\[]", line):
             return
         found = EVENT.match(line)
         if found and self.take_event(found[1], found[2] or "", index):
