@@ -133,7 +133,7 @@ class RoundTrip(DeskCase):
 
 
     def test_what_a_terminal_shows_besides(self):
-        """A list of devices before a tool's first line, `^C` behind its last one, and a fault that it tells."""
+        """A list of devices before a tool's first line, `^C` behind its last one, a fault that it met."""
         noise = "Available devices:\n/dev/input/event0:\tKeyboard\nSelect the device event number [0-1]: "
         for form, before, behind in (("evemu", noise, "^C\n"), ("evtest", noise, "^C\n$ \n"),
                                      ("libinput.yml", "", "^CError: Interrupted system call\n")):
@@ -291,6 +291,10 @@ class Events(DeskCase):
         text = self.both(KEYS, events)
         self.assertEqual(events, taken(self.play(text)))
         self.assertNotIn(" tick ", text)
+        # Without EV_REP the kernel repeats no key.
+        header = KEYS.replace("  Event type 20 (EV_REP)\n", "")
+        events = frames([(1, 30, 1)], [(1, 30, 2)])
+        self.assertEqual(events, taken(self.play(self.both(header, events))))
 
     def test_types_that_a_record_lacks_are_left_out(self):
         force = "  Event type 21 (EV_FF)\n    Event code 80 (FF_RUMBLE)\n"

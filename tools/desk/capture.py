@@ -2,7 +2,7 @@
 
 from desk.command import Wrong
 from desk.description import GREATEST_HINT, GREATEST_SLOTS, estimate, hint_of
-from desk.names import ABS, KEY, MSC, SLOT, SYN, code_text, event_text, is_in_a_record, kernel_kind_text
+from desk.names import ABS, KEY, MSC, REP, SLOT, SYN, code_text, event_text, is_in_a_record, kernel_kind_text
 from desk.recording import Event, frames_of
 
 MSC_SCAN, REPEAT = 4, 2
@@ -61,7 +61,7 @@ class Capture:
         return kept
 
     def find_slots(self, device, events):
-        """A capture that names slots is of a device with two or more: where none are told, with those named."""
+        """A capture that names slots is of a device with two or more: where none are told, the named ones."""
         named = [event.value for event in events if (event.kind, event.code) == (ABS, SLOT)]
         if not named or SLOT not in device.axes:
             return
@@ -79,14 +79,16 @@ class Capture:
         """Gives each SYN_REPORT whose value the form does not tell the one that it must have had.
 
         The kernel writes 1 where it repeats a key itself, and where it cuts a frame since as many events as
-        it reckons with are there. A repeat behind its scan code is the keyboard's own.
+        it reckons with are there. It repeats keys of a device with EV_REP alone, and a repeat behind its
+        scan code is the keyboard's own.
         """
         longest = max(len(frame.events) for frame in self.frames)
         hint = min(hint_of(device), estimate(device))
         cut = (hint, hint + 1) if longest in (hint, hint + 1) else ()
         for frame in self.frames:
             if frame.report is None:
-                frame.report = int(is_repeat_of_the_kernel(frame.events) or len(frame.events) in cut)
+                is_repeat = REP in device.codes and is_repeat_of_the_kernel(frame.events)
+                frame.report = int(is_repeat or len(frame.events) in cut)
 
     def needed_hint(self):
         """More events than the longest frame has that was not cut: a frame as long as the hint is cut."""
