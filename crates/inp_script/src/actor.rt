@@ -1,6 +1,7 @@
 //! An actor of a record at work.
 ghost use Rattle.inp_model.specs.declared.step.Step.{Step as AStep};
 ghost use Rattle.std.specs.Prelude.{◌≡◌, ◌<◌, ◌*◌, List, length, OnOk, IfOk, IfSome, Some};
+ghost use Rattle.inp_model.specs.Leaves.{IsLeft};
 ghost use Rattle.inp_actors.specs.declared.role.Role.TheVariants.{Source};
 ghost use Rattle.inp_script.specs.Doing.{DoesLine, Holds, HasActor, IsLineOf, IsOfRole, IsWaiting};
 ghost use Rattle.inp_script.specs.Legal.{CountsTurns, GainsPlaces, StaysLegal};
@@ -22,7 +23,7 @@ use std::marker::Model;
 ///
 /// A contract sees its number, its role, its device's description and its job: the reader or the client that it reads
 /// as, what it saw, and why it stopped, if it did. After a call answered `NoMemory` the actor is given up: no contract
-/// says what it saw in that call.
+/// says what it saw in that call. What the call left of the evdev is said then too.
 #[derive(Drop)]
 pub struct Actor {
     actor: u32,
@@ -77,6 +78,11 @@ impl Actor {
     /// or until so many reads in a row found nothing that the actor stops with `Stop::Idle`. No other line waits.
     ///
     /// `NoMemory` comes where there is none for what the actor saw, and where an `open` was refused for want of memory.
+    ///
+    /// Whatever the answer, all that was done with the evdev is calls, one after another (`left`). So its description and
+    /// its tie are as before, what was seen is still there, its own places are those from before and those of these calls,
+    /// the calls are a legal run of what is seen afterwards, and what is seen stays a history of accepted steps. After
+    /// `NoMemory` that is all that is said: not which of the line's calls were made.
     pub fn line<E: Evdev>(
         &mut self,
         dev: &mut E,
@@ -99,7 +105,7 @@ impl Actor {
         ensures turns { OnOk result (CountsTurns (E.told dev.old) (E.told dev.new)
             self.old.job self.new.job) }
         ensures actor { self.new ≡ record self.old { job = self.new.job } }
-        ensures device { (E.told dev.new).description ≡ (E.told dev.old).description }
+        ensures left { IsLeft (E.told dev.old) (E.told dev.new) }
     {
         self.do_line(dev, rec, line, wait)
     }
@@ -119,7 +125,7 @@ impl Actor {
             self.old rec.now wait line self.new.job) }
         ensures of_role { IsOfRole rec.now line self.old.role }
         ensures actor { self.new ≡ record self.old { job = self.new.job } }
-        ensures device { (E.told dev.new).description ≡ (E.told dev.old).description }
+        ensures left { IsLeft (E.told dev.old) (E.told dev.new) }
     {
         let command = &rec.lines().get(line as usize).command;
         if self.notes.stop.is_some() {
@@ -131,7 +137,8 @@ impl Actor {
 
     /// Makes the step `End`, by which a source says that it is done, or does nothing where the actor has stopped.
     ///
-    /// `NoMemory` comes where there is none for what the actor saw.
+    /// `NoMemory` comes where there is none for what the actor saw. What was done with the evdev is calls then too, as
+    /// after [`line`](Actor::line).
     pub fn end<E: Evdev>(&mut self, dev: &mut E) -> Result<(), NoMemory>
         requires source { self.old.role ≡ Source }
         requires device { (E.told dev.old).description ≡ self.old.description }
@@ -144,7 +151,7 @@ impl Actor {
         ensures view { OnOk result (StaysFolded self.old.role self.old.description
             (E.told dev.new) self.old.job self.new.job) }
         ensures actor { self.new ≡ record self.old { job = self.new.job } }
-        ensures device { (E.told dev.new).description ≡ (E.told dev.old).description }
+        ensures left { IsLeft (E.told dev.old) (E.told dev.new) }
     {
         self.do_end(dev)
     }
@@ -154,7 +161,7 @@ impl Actor {
         ensures done { OnOk result (Holds (E.told dev.old) (E.told dev.new)
             (end_talk self.old.job.stop self.old.job) (Some self.new.job)) }
         ensures actor { self.new ≡ record self.old { job = self.new.job } }
-        ensures device { (E.told dev.new).description ≡ (E.told dev.old).description }
+        ensures left { IsLeft (E.told dev.old) (E.told dev.new) }
     {
         if self.notes.stop.is_some() {
             return Ok(());

@@ -1,5 +1,6 @@
 //! What a client does, which reads by a reader.
 ghost use Rattle.std.specs.Prelude.{◌≡◌, ◌<◌, ◌*◌, ◌^◌, suc, true, [], length, OnOk, IfOk, Some};
+ghost use Rattle.inp_model.specs.Leaves.{IsLeft};
 ghost use Rattle.inp_reader.specs.Reading.{Reading, start_talk, next_talk};
 ghost use Rattle.inp_reader.specs.Says.{Says};
 ghost use Rattle.inp_script.specs.Client.{start_job, next_round, turn_after, after_again, patience, handed, is_done, one_less, mode_of};
@@ -44,7 +45,7 @@ fn start_reader<E: Evdev>(dev: &mut E, reader: &mut Reader) -> Started
         (start_talk reader.old.description reader.old.reading) (result, reader.new.reading) }
     ensures sized { length reader.new.reading.view.cells ≡ 14 * reader.new.description.slots }
     ensures reader { reader.new.description ≡ reader.old.description }
-    ensures device { (E.told dev.new).description ≡ (E.told dev.old).description }
+    ensures left { IsLeft (E.told dev.old) (E.told dev.new) }
 {
     reader.start(dev)
 }
@@ -60,7 +61,7 @@ fn next_of<E: Evdev>(dev: &mut E, reader: &mut Reader, skips: bool) -> Next
         (effort (E.told dev.old) reader.old.reading) }
     ensures sized { length reader.new.reading.view.cells ≡ 14 * reader.new.description.slots }
     ensures reader { reader.new.description ≡ reader.old.description }
-    ensures device { (E.told dev.new).description ≡ (E.told dev.old).description }
+    ensures left { IsLeft (E.told dev.old) (E.told dev.new) }
 {
     let mode = mode_of(skips, reader.phase());
     reader.next(dev, mode)
@@ -75,7 +76,7 @@ fn start<E: Evdev>(dev: &mut E, reader: &mut Reader, notes: &mut Notes) -> Resul
         (Some (job_of reader.new.reading notes.new))) }
     ensures sized { length reader.new.reading.view.cells ≡ 14 * reader.new.description.slots }
     ensures reader { reader.new.description ≡ reader.old.description }
-    ensures device { (E.told dev.new).description ≡ (E.told dev.old).description }
+    ensures left { IsLeft (E.told dev.old) (E.told dev.new) }
 {
     let started = start_reader(dev, reader);
     if start_lacks_memory(started) {
@@ -221,7 +222,7 @@ fn ask_reader<E: Evdev>(
         (effort (E.told dev.new) reader.new.reading)) }
     ensures sized { length reader.new.reading.view.cells ≡ 14 * reader.new.description.slots }
     ensures reader { reader.new.description ≡ reader.old.description }
-    ensures device { (E.told dev.new).description ≡ (E.told dev.old).description }
+    ensures left { IsLeft (E.told dev.old) (E.told dev.new) }
 {
     let next = next_of(dev, reader, skips);
     notes.push_made(reader.made())?;
@@ -244,7 +245,7 @@ fn hand_out<E: Evdev>(
         (job_of reader.old.reading notes.old) (job_of reader.new.reading notes.new)) }
     ensures sized { length reader.new.reading.view.cells ≡ 14 * reader.new.description.slots }
     ensures reader { reader.new.description ≡ reader.old.description }
-    ensures device { (E.told dev.new).description ≡ (E.told dev.old).description }
+    ensures left { IsLeft (E.told dev.old) (E.told dev.new) }
 {
     if is_done(count) {
         return Ok(());
@@ -278,7 +279,7 @@ pub(crate) fn do_client_command<E: Evdev>(
         (job_of reader.old.reading notes.old) (job_of reader.new.reading notes.new)) }
     ensures sized { length reader.new.reading.view.cells ≡ 14 * reader.new.description.slots }
     ensures reader { reader.new.description ≡ reader.old.description }
-    ensures device { (E.told dev.new).description ≡ (E.told dev.old).description }
+    ensures left { IsLeft (E.told dev.old) (E.told dev.new) }
 {
     match *command {
         Command::Open => start(dev, reader, notes),
@@ -306,7 +307,7 @@ fn call<E: Evdev>(
         (call_if (job_of reader.now.reading notes.old)
         (step_of reader.now.reading.client command.now))
         (Some (job_of reader.now.reading notes.new))) }
-    ensures device { (E.told dev.new).description ≡ (E.told dev.old).description }
+    ensures left { IsLeft (E.told dev.old) (E.told dev.new) }
 {
     let Some(step) = step_of(reader.client(), command) else {
         return Ok(());

@@ -1,5 +1,6 @@
 //! What a job saw, and why it stopped.
 ghost use Rattle.std.specs.Prelude.{◌≡◌, ◌≤◌, [], ◌∷◌, ◌++◌, map, OnOk, IfOk};
+ghost use Rattle.inp_model.specs.Leaves.{IsLeft};
 ghost use Rattle.inp_model.specs.declared.stamped.TheConstants.{MOMENT_MAX};
 ghost use Rattle.inp_model.specs.Step.{moment_of};
 ghost use Rattle.inp_model.specs.Reply.{HasRoom};
@@ -88,7 +89,7 @@ impl Notes {
         requires room { HasRoom (E.told dev.old).description step [] [] }
         ensures noted { IfOk result
             (λ reply. IsNoted (E.told dev.old) (E.told dev.new) step reply self.old self.new) }
-        ensures device { (E.told dev.new).description ≡ (E.told dev.old).description }
+        ensures left { IsLeft (E.told dev.old) (E.told dev.new) }
     {
         let mut nothing: [Taken; 0] = [];
         let reply = dev.call(step, &mut nothing, &mut []);

@@ -1,5 +1,6 @@
 //! What an actor keeps by its role.
 ghost use Rattle.std.specs.Prelude.{◌≡◌, OnOk, IfOk};
+ghost use Rattle.inp_model.specs.Leaves.{IsLeft};
 ghost use Rattle.inp_script.specs.Doing.{DoesCommand, IsCommandFor};
 ghost use Rattle.inp_script.specs.Job.{first_reading};
 ghost use Rattle.inp_script.specs.Noting.{job_of};
@@ -67,7 +68,7 @@ impl RoleState {
             (job_of (reading_of self.old) notes.old) (job_of (reading_of self.new) notes.new)) }
         ensures role { role_of self.new ≡ role_of self.old }
         ensures sized { IsSized caps.now self.new }
-        ensures device { (E.told dev.new).description ≡ (E.told dev.old).description }
+        ensures left { IsLeft (E.told dev.old) (E.told dev.new) }
     {
         match self {
             RoleState::Source { .. } => do_source_command(dev, notes, rec, command),

@@ -1,5 +1,6 @@
 //! What a source does.
 ghost use Rattle.std.specs.Prelude.{◌≡◌, OnOk, Some};
+ghost use Rattle.inp_model.specs.Leaves.{IsLeft};
 ghost use Rattle.inp_actors.specs.declared.role.Role.TheVariants.{Source};
 ghost use Rattle.inp_actors.specs.Record.{AreInTime};
 ghost use Rattle.inp_reader.specs.Reading.{Reading};
@@ -18,7 +19,7 @@ fn inject_stream<E: Evdev>(dev: &mut E, notes: &mut Notes, stream: &Stamps) -> R
     requires in_time { AreInTime stream.now }
     ensures done { OnOk result ((r : Reading) → Holds (E.told dev.old) (E.told dev.new)
         (stream_talk stream.now (job_of r notes.old)) (Some (job_of r notes.new))) }
-    ensures device { (E.told dev.new).description ≡ (E.told dev.old).description }
+    ensures left { IsLeft (E.told dev.old) (E.told dev.new) }
 {
     for stamped in stream.as_slice() {
         let reply = notes.call(
@@ -46,7 +47,7 @@ pub(crate) fn do_source_command<E: Evdev>(
     ensures done { OnOk result ((r : Reading) → Holds (E.told dev.old) (E.told dev.new)
         (source_talk rec.now.streams command.now (job_of r notes.old))
         (Some (job_of r notes.new))) }
-    ensures device { (E.told dev.new).description ≡ (E.told dev.old).description }
+    ensures left { IsLeft (E.told dev.old) (E.told dev.new) }
 {
     if let Command::Stream { index, .. } = command {
         return inject_stream(dev, notes, rec.stream(*index as usize));

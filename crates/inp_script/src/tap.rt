@@ -1,5 +1,6 @@
 //! What a tap does.
 ghost use Rattle.std.specs.Prelude.{◌≡◌, ◌≤◌, ◌*◌, true, [], length, map, OnOk, IfOk, Some};
+ghost use Rattle.inp_model.specs.Leaves.{IsLeft};
 ghost use Rattle.inp_actors.specs.declared.role.Role.TheVariants.{Tap as TapRole};
 ghost use Rattle.inp_actors.specs.Command.{is_command_of, is_in_range};
 ghost use Rattle.inp_model.specs.declared.stamped.TheConstants.{MOMENT_MAX};
@@ -75,8 +76,8 @@ impl Tap {
         ensures done { OnOk result (Holds (E.told dev.old) (E.told dev.new)
             (tap_call (job_of (tap_reading self.old) notes.old) step)
             (Some (job_of (tap_reading self.new) notes.new))) }
-        ensures sized { IsSizedTap (E.told dev.new).description self.new }
-        ensures device { (E.told dev.new).description ≡ (E.told dev.old).description }
+        ensures sized { IsSizedTap (E.told dev.old).description self.new }
+        ensures left { IsLeft (E.told dev.old) (E.told dev.new) }
     {
         let reply = make(dev, step, &mut self.view, &mut self.buffer, &mut self.cells);
         self.client = client_after(step, reply, self.client);
@@ -99,8 +100,8 @@ impl Tap {
         ensures done { OnOk result (Holds (E.told dev.old) (E.told dev.new)
             (tap_talk command.now (job_of (tap_reading self.old) notes.old))
             (Some (job_of (tap_reading self.new) notes.new))) }
-        ensures sized { IsSizedTap (E.told dev.new).description self.new }
-        ensures device { (E.told dev.new).description ≡ (E.told dev.old).description }
+        ensures sized { IsSizedTap (E.told dev.old).description self.new }
+        ensures left { IsLeft (E.told dev.old) (E.told dev.new) }
     {
         let Some(step) = step_of(self.client, command) else {
             return Ok(());
@@ -124,7 +125,7 @@ fn make<E: Evdev>(
     ensures made { IsTapCall (E.told dev.old) (E.told dev.new)
         step result view.old view.new out.new }
     ensures view { length view.new.cells ≡ length view.old.cells }
-    ensures device { (E.told dev.new).description ≡ (E.told dev.old).description }
+    ensures left { IsLeft (E.told dev.old) (E.told dev.new) }
 {
     let reply = dev.call(step, out, cells);
     view.answer(step, reply, cells);

@@ -1,6 +1,7 @@
 use Rattle.std.proofs.Common.{◌≡◌, ◌∙◌, sym, ap, ℕ}
 use Rattle.std.specs.Prelude.{Option, Some, None}
 use Rattle.inp_model.specs.declared.step.Step.{Step}
+use Rattle.inp_model.proofs.Leaves.{left-none}
 use Rattle.inp_script.specs.Line.{call_if, step_of}
 use Rattle.inp_script.specs.Noting.{job_of}
 use Rattle.inp_script.proofs.Holding.{holds-same, holds-nothing}
@@ -21,3 +22,6 @@ returns-clause-done g c =
     sym c.in-Some.is ∙ c.step_of.ensures ∙ ap (λ (n : ℕ). step_of n c.args.command.now) c.client.ensures.client in
     holds-same _ _ _ _ _ (ap (λ (x : Option Step). call_if j x) some)
     (holds-noted _ _ c.in-Some.step c.in_ok-call.field-0 c.args.notes.now c.call.new.self c.args.reader.now.reading c.in_ok-call.ensures.noted)
+
+pub returns-in_default-clause-left : goal.returns-in_default-clause-left
+returns-in_default-clause-left g c = left-none _

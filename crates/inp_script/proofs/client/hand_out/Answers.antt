@@ -1,5 +1,6 @@
 use Rattle.std.proofs.Common.{◌∙◌, sym, subst, refl, arith}
 use Rattle.inp_model.specs.Description.{Description}
+use Rattle.inp_model.proofs.Leaves.{left-none, left-then}
 use Rattle.inp_script.specs.declared.client.Turn.{Turn}
 use Rattle.inp_script.specs.Client.{next_round}
 use Rattle.inp_script.specs.Doing.{Holds}
@@ -18,7 +19,7 @@ loop-next-init g c = record {
   patient = omega arith;
   sized = c.requires.sized;
   reader = refl;
-  device = refl;
+  left = left-none _;
 }
 
 pub loop-next-preserved : goal.loop-next-preserved
@@ -35,7 +36,7 @@ loop-next-preserved g c =
       patient = subst (λ (t : Turn). IsPatient t) c.in-GoesOn.is c.in_ok-next.ensures.patient;
       sized = c.in_ok-next.ensures.sized;
       reader = c.in_ok-next.ensures.reader ∙ c.loop-next.invariant.reader;
-      device = c.in_ok-next.ensures.device ∙ c.loop-next.invariant.device;
+      left = left-then _ _ _ c.loop-next.invariant.left c.in_ok-next.ensures.left;
     }
 
 pub returns-in-Ends-clause-done : goal.returns-in-Ends-clause-done
@@ -48,3 +49,15 @@ returns-in-Ends-clause-done g c =
     let round = subst (λ (t : Turn). Holds a b (next_round d c.args.wait c.args.skips here) (turn_of t j)) c.in-Ends.is
     (subst (λ (e : Description). Holds a b (next_round e c.args.wait c.args.skips here) (turn_of c.in_ok-next.field-0 j)) c.loop-next.invariant.reader c.in_ok-next.ensures.turn) in
     hands_out-last _ a b d c.args.wait c.args.skips c.args.count (job_of c.args.reader.now.reading c.args.notes.now) j here (sym c.is_done.ensures ∙ c.if-is_done.false) c.loop-next.invariant.passed round
+
+pub returns-then-is_done-clause-left : goal.returns-then-is_done-clause-left
+returns-then-is_done-clause-left g c = left-none _
+
+pub ask_reader-requires-clause-description : goal.ask_reader-requires-clause-description
+ask_reader-requires-clause-description g c = c.loop-next.invariant.left.leaves.description ∙ c.requires.description ∙ sym c.loop-next.invariant.reader
+
+pub returns-in_err-next-clause-left : goal.returns-in_err-next-clause-left
+returns-in_err-next-clause-left g c = left-then _ _ _ c.loop-next.invariant.left c.in_err-next.ensures.left
+
+pub returns-in-Ends-clause-left : goal.returns-in-Ends-clause-left
+returns-in-Ends-clause-left g c = left-then _ _ _ c.loop-next.invariant.left c.in_ok-next.ensures.left

@@ -1,4 +1,5 @@
 use Rattle.std.proofs.Common.{◌≡◌, ◌<◌, ◌*◌, ◌^◌, length}
+use Rattle.inp_model.specs.Leaves.{IsLeft}
 use Rattle.inp_script.specs.Effort.{effort, total_effort}
 use Rattle.inp_script.specs.Going.{going}
 use Rattle.inp_script.specs.Noting.{job_of}
@@ -11,7 +12,7 @@ invariant-loop-next g l = record {
   patient : l.progress.agains < 2 ^ 32;
   sized : length l.reader.reading.view.cells ≡ 14 * l.reader.description.slots;
   reader : l.reader.description ≡ l.initial.reader.description;
-  device : (g.E.Evdev.told l.dev).description ≡ (g.E.Evdev.told l.initial.dev).description;
+  left : IsLeft (g.E.Evdev.told l.initial.dev) (g.E.Evdev.told l.dev);
 }
 
 abbrev pub decreases-loop-next : goal.decreases-loop-next

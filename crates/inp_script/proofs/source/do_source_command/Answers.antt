@@ -21,5 +21,5 @@ returns g c = record {
       holds-same _ _ _ _ _
       (sym (source_talk-single c.args.rec.now.streams c.args.command.now (job_of r c.args.notes.now) c.in_default.not-Stream ∙ ap (λ (x : Option Step). call_if (job_of r c.args.notes.now) x) (sym c.in-Some.ensures)))
       (holds-noted _ _ c.in-Some.step c.in_ok-call.field-0 c.args.notes.now c.call.new.self r c.in_ok-call.ensures.noted);
-  device = c.in_ok-call.ensures.device;
+  left = c.in_ok-call.ensures.left;
 }

@@ -1,9 +1,10 @@
-use Rattle.std.proofs.Common.{◌<◌, length, sym, ◌∙◌, ap, refl, arith, get_or}
+use Rattle.std.proofs.Common.{◌<◌, length, sym, ◌∙◌, ap, arith, get_or}
+use Rattle.inp_model.proofs.Leaves.{left-none, left-then}
 use Rattle.inp_script.proofs.Streams.{injected-none, injected-more, injected-refused, injected-all, walked, no_stamped}
 use Rattle.inp_script.proofs.source.inject_stream.Goals as goal
 
 pub loop-stamped-init : goal.loop-stamped-init
-loop-stamped-init g c = record { injected = injected-none (g.E.Evdev.told c.args.dev.now) c.args.stream.now c.args.notes.now; device = refl }
+loop-stamped-init g c = record { injected = injected-none (g.E.Evdev.told c.args.dev.now) c.args.stream.now c.args.notes.now; left = left-none _ }
 
 pub call-requires-clause-moment : goal.call-requires-clause-moment
 call-requires-clause-moment g c =
@@ -29,9 +30,15 @@ loop-stamped-preserved g c = record {
       injected-more _ _ _ c.args.stream.now i (get_or items i no_stamped) c.in_ok-reply.reply c.args.notes.now c.loop-stamped.notes c.call.new.self within
       (walked items c.args.stream.now i c.as_slice-stamped-items.ensures.items c.loop-stamped-test.true) c.loop-stamped.invariant.injected c.in_ok-reply.ensures.noted
       (sym c.is_accepted.ensures.accepted ∙ c.if-not-is_accepted.false);
-  device = c.in_ok-reply.ensures.device ∙ c.loop-stamped.invariant.device;
+  left = left-then _ _ _ c.loop-stamped.invariant.left c.in_ok-reply.ensures.left;
 }
 
 pub returns-clause-done : goal.returns-clause-done
 returns-clause-done g c r =
     injected-all _ _ c.args.stream.now c.loop-stamped.stamped-index c.args.notes.now c.loop-stamped.notes (omega (arith, ap length c.as_slice-stamped-items.ensures.items)) c.loop-stamped.invariant.injected r
+
+pub returns-in_err-reply-clause-left : goal.returns-in_err-reply-clause-left
+returns-in_err-reply-clause-left g c = left-then _ _ _ c.loop-stamped.invariant.left c.in_err-reply.ensures.left
+
+pub returns-then-not-is_accepted-clause-left : goal.returns-then-not-is_accepted-clause-left
+returns-then-not-is_accepted-clause-left g c = left-then _ _ _ c.loop-stamped.invariant.left c.in_ok-reply.ensures.left

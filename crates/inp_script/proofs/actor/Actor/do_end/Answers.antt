@@ -1,5 +1,6 @@
 use Rattle.std.proofs.Common.{◌∙◌, sym, ap, subst}
 use Rattle.std.specs.Prelude.{Some, is_some}
+use Rattle.inp_model.proofs.Leaves.{left-none}
 use Rattle.inp_script.specs.Doing.{Holds}
 use Rattle.inp_script.specs.Job.{Job, ActorView}
 use Rattle.inp_script.specs.Line.{end_talk}
@@ -19,3 +20,6 @@ returns-clause-done g c =
     let new : Job = job_of (reading_of c.self.inside.state) c.call.new.self in
     subst (λ (x : ActorView). Holds a b (end_talk x.job.stop x.job) (Some new)) c.self.view_is
     (ends-noted a b (reading_of c.self.inside.state) c.in_ok-call.field-0 c.self.inside.notes c.call.new.self (sym c.is_some.ensures ∙ c.if-is_some.false) c.in_ok-call.ensures.noted)
+
+pub returns-then-is_some-clause-left : goal.returns-then-is_some-clause-left
+returns-then-is_some-clause-left g c = left-none _

@@ -4,6 +4,7 @@ use Rattle.std.specs.List.{slice_get}
 use Rattle.std.proofs.lemmas.Option.{slice_get_within}
 use Rattle.std.proofs.lemmas.Result.{on_ok_weaker}
 use Rattle.inp_actors.specs.declared.line.Line.{Line}
+use Rattle.inp_model.proofs.Leaves.{left-none}
 use Rattle.inp_script.specs.Doing.{DoesLine}
 use Rattle.inp_script.specs.Job.{Job, ActorView}
 use Rattle.inp_script.specs.Noting.{job_of}
@@ -41,3 +42,6 @@ returns-clause-done g c =
     (λ does. subst (λ (x : ActorView). DoesLine a b x c.args.rec.now c.args.wait c.args.line new) c.self.view_is
     (does-line a b _ c.args.rec.now c.args.wait c.args.line got new is_line (sym c.is_some.ensures ∙ c.if-is_some.false) does))
     c.do_command.ensures.done
+
+pub returns-then-is_some-clause-left : goal.returns-then-is_some-clause-left
+returns-then-is_some-clause-left g c = left-none _
