@@ -6,8 +6,6 @@ pub mod Commands
 pub mod Replies
 pub mod Tapping
 pub mod Noted
-pub mod Bounds
-pub mod Efforts
 pub mod Turns
 pub mod Rounds
 pub mod Lines
@@ -20,3 +18,4 @@ pub mod Gains
 pub mod Folds
 pub mod ClientFolds
 pub mod LineFolds
+pub mod LinesDone

@@ -10,10 +10,22 @@ use Rattle.inp_script.specs.declared.client.Turn.TheVariants.{GoesOn, Ends}
 use Rattle.inp_script.specs.declared.sight.Sight.TheVariants.{Took, Made, Again as Nothing}
 use Rattle.inp_script.specs.declared.stop.Stop.TheVariants.{Idle}
 use Rattle.inp_script.specs.declared.waiting.Waiting.{Waiting}
-use Rattle.inp_script.specs.Client.{Going, goes_on, ends_with, handed, one_less, is_done, patience, after_again, turn_after, with_sight, with_stop}
-use Rattle.inp_script.specs.Effort.{IsLess, idle_of, total_effort, Shrinks}
+use Rattle.inp_script.specs.Client.{Going, goes_on, ends_with, handed, one_less, is_done, patience, after_again, turn_after, with_sight, with_stop, mode_of}
+use Rattle.inp_reader.specs.declared.phase.Phase.{Phase}
+use Rattle.inp_reader.specs.declared.phase.Phase.TheVariants.{Plain, Needed, Handing}
+use Rattle.inp_reader.specs.Effort.{IsLess, is_idle}
+use Rattle.inp_script.specs.Effort.{idle_of, total_effort, Shrinks}
 use Rattle.inp_script.specs.Going.{going, turn_of}
 use Rattle.inp_script.specs.Job.{Job}
+
+-- a line never asks its reader for nothing
+pub mode_of-busy : (skips : Bool) (phase : Phase) → is_idle (mode_of skips phase) phase ≡ false
+mode_of-busy true Plain = refl
+mode_of-busy true Needed = refl
+mode_of-busy true Handing = refl
+mode_of-busy false Plain = refl
+mode_of-busy false Needed = refl
+mode_of-busy false Handing = refl
 
 total-less : (wait : Option Waiting) (after before agains : ℕ) → after < before → total_effort wait after 0 < total_effort wait before agains
 total-less wait after before agains h =

@@ -82,10 +82,6 @@ pub record IsLineOf (r : RecordView) (number actor : ℕ) : Type 0 where
   pub is_line : slice_get r.lines number ≡ Some line
   pub is_actor : line.actor ≡ actor
 
--- the command of the line of this number is one that actors of the role have
-abbrev pub IsOfRole : RecordView → ℕ → Role → Type 0
-IsOfRole r number role = (line : Line) → slice_get r.lines number ≡ Some line → is_command_of role line.command ≡ true
-
 -- the record has this actor, with this role, on a device of this description
 pub record HasActor (r : RecordView) (a : ActorView) : Type 0 where
   pub text : ActorText

@@ -20,9 +20,8 @@ reading_of (Source view) = record { client = NO_CLIENT; queue = []; view = view;
 reading_of (Tap tap) = tap_reading tap
 reading_of (Client reader view) = reader.reading
 
--- views and buffers have as many cells as the device, and a reader is one for it
+-- views and buffers have as many cells as the device, and a reader is one for it, whose own view has as many by itself
 abbrev pub IsSized : Description → RoleState → Type 0
 IsSized d (Source view) = length view.cells ≡ 14 * d.slots
 IsSized d (Tap tap) = IsSizedTap d tap
-IsSized d (Client reader view) =
-    (reader.description ≡ d) × (length reader.reading.view.cells ≡ 14 * d.slots) × (length view.cells ≡ 14 * d.slots)
+IsSized d (Client reader view) = (reader.description ≡ d) × (length view.cells ≡ 14 * d.slots)

@@ -3,7 +3,7 @@ ghost use Rattle.inp_model.specs.declared.step.Step.{Step as AStep};
 ghost use Rattle.std.specs.Prelude.{◌≡◌, ◌<◌, ◌*◌, List, length, OnOk, IfOk, IfSome, Some};
 ghost use Rattle.inp_model.specs.Leaves.{IsLeft};
 ghost use Rattle.inp_actors.specs.declared.role.Role.TheVariants.{Source};
-ghost use Rattle.inp_script.specs.Doing.{DoesLine, Holds, HasActor, IsLineOf, IsOfRole, IsWaiting};
+ghost use Rattle.inp_script.specs.Doing.{DoesLine, Holds, HasActor, IsLineOf, IsWaiting};
 ghost use Rattle.inp_script.specs.Legal.{CountsTurns, GainsPlaces, StaysLegal};
 ghost use Rattle.inp_script.specs.Fold.{IsFolded, StaysFolded};
 ghost use Rattle.inp_script.specs.Job.{first_job, job_end};
@@ -107,26 +107,6 @@ impl Actor {
         ensures actor { self.new ≡ record self.old { job = self.new.job } }
         ensures left { IsLeft (E.told dev.old) (E.told dev.new) }
     {
-        self.do_line(dev, rec, line, wait)
-    }
-
-    // Does the line of this number.
-    fn do_line<E: Evdev>(
-        &mut self,
-        dev: &mut E,
-        rec: &Record,
-        line: u32,
-        wait: Option<Waiting>,
-    ) -> Result<(), NoMemory>
-        requires actor { HasActor rec.now self.old }
-        requires line { IsLineOf rec.now line self.old.actor }
-        requires device { (E.told dev.old).description ≡ self.old.description }
-        ensures done { OnOk result (DoesLine (E.told dev.old) (E.told dev.new)
-            self.old rec.now wait line self.new.job) }
-        ensures of_role { IsOfRole rec.now line self.old.role }
-        ensures actor { self.new ≡ record self.old { job = self.new.job } }
-        ensures left { IsLeft (E.told dev.old) (E.told dev.new) }
-    {
         let command = &rec.lines().get(line as usize).command;
         if self.notes.stop.is_some() {
             return Ok(());
@@ -150,16 +130,6 @@ impl Actor {
             (E.told dev.old) (E.told dev.new) self.old.job.sight self.new.job.sight) }
         ensures view { OnOk result (StaysFolded self.old.role self.old.description
             (E.told dev.new) self.old.job self.new.job) }
-        ensures actor { self.new ≡ record self.old { job = self.new.job } }
-        ensures left { IsLeft (E.told dev.old) (E.told dev.new) }
-    {
-        self.do_end(dev)
-    }
-
-    // Makes the step `End`.
-    fn do_end<E: Evdev>(&mut self, dev: &mut E) -> Result<(), NoMemory>
-        ensures done { OnOk result (Holds (E.told dev.old) (E.told dev.new)
-            (end_talk self.old.job.stop self.old.job) (Some self.new.job)) }
         ensures actor { self.new ≡ record self.old { job = self.new.job } }
         ensures left { IsLeft (E.told dev.old) (E.told dev.new) }
     {

@@ -1,15 +1,15 @@
 //! What a client does, which reads by a reader.
-ghost use Rattle.std.specs.Prelude.{◌≡◌, ◌<◌, ◌*◌, ◌^◌, suc, true, [], length, OnOk, IfOk, Some};
+ghost use Rattle.std.specs.Prelude.{◌≡◌, ◌<◌, ◌^◌, suc, true, OnOk, IfOk, Some};
 ghost use Rattle.inp_model.specs.Leaves.{IsLeft};
-ghost use Rattle.inp_reader.specs.Reading.{Reading, start_talk, next_talk};
-ghost use Rattle.inp_reader.specs.Says.{Says};
+ghost use Rattle.inp_reader.specs.Effort.{effort};
+ghost use Rattle.inp_reader.specs.Reading.{Reading};
 ghost use Rattle.inp_script.specs.Client.{start_job, next_round, turn_after, after_again, patience, handed, is_done, one_less, mode_of};
 ghost use Rattle.inp_actors.specs.declared.role.Role.TheVariants.{Client};
 ghost use Rattle.inp_actors.specs.Command.{is_command_of, is_in_range};
 ghost use Rattle.inp_script.specs.Doing.{Holds, HandsOut, DoesClientCommand};
 ghost use Rattle.inp_script.specs.Line.{call_if, step_of};
 ghost use Rattle.inp_script.specs.Job.{Job};
-ghost use Rattle.inp_script.specs.Effort.{IsLess, effort, total_effort, Shrinks};
+ghost use Rattle.inp_script.specs.Effort.{total_effort, Shrinks};
 ghost use Rattle.inp_script.specs.Going.{going, turn_of, IsPatient};
 ghost use Rattle.inp_script.specs.Noting.{job_of};
 
@@ -37,48 +37,16 @@ pub(crate) enum Turn {
     Ends,
 }
 
-// Starts a reader.
-fn start_reader<E: Evdev>(dev: &mut E, reader: &mut Reader) -> Started
-    requires description { (E.told dev.old).description ≡ reader.old.description }
-    requires sized { length reader.old.reading.view.cells ≡ 14 * reader.old.description.slots }
-    ensures says { Says (E.told dev.old) (E.told dev.new) [] reader.new.made
-        (start_talk reader.old.description reader.old.reading) (result, reader.new.reading) }
-    ensures sized { length reader.new.reading.view.cells ≡ 14 * reader.new.description.slots }
-    ensures reader { reader.new.description ≡ reader.old.description }
-    ensures left { IsLeft (E.told dev.old) (E.told dev.new) }
-{
-    reader.start(dev)
-}
-
-// Asks a reader for its next event.
-fn next_of<E: Evdev>(dev: &mut E, reader: &mut Reader, skips: bool) -> Next
-    requires description { (E.told dev.old).description ≡ reader.old.description }
-    requires sized { length reader.old.reading.view.cells ≡ 14 * reader.old.description.slots }
-    ensures says { Says (E.told dev.old) (E.told dev.new) [] reader.new.made
-        (next_talk reader.old.description (mode_of skips reader.old.reading.phase)
-        reader.old.reading) (result, reader.new.reading) }
-    ensures less { IsLess result (effort (E.told dev.new) reader.new.reading)
-        (effort (E.told dev.old) reader.old.reading) }
-    ensures sized { length reader.new.reading.view.cells ≡ 14 * reader.new.description.slots }
-    ensures reader { reader.new.description ≡ reader.old.description }
-    ensures left { IsLeft (E.told dev.old) (E.told dev.new) }
-{
-    let mode = mode_of(skips, reader.phase());
-    reader.next(dev, mode)
-}
-
 // Starts a reader, and notes its calls.
 fn start<E: Evdev>(dev: &mut E, reader: &mut Reader, notes: &mut Notes) -> Result<(), NoMemory>
     requires description { (E.told dev.old).description ≡ reader.old.description }
-    requires sized { length reader.old.reading.view.cells ≡ 14 * reader.old.description.slots }
     ensures done { OnOk result (Holds (E.told dev.old) (E.told dev.new)
         (start_job reader.old.description (job_of reader.old.reading notes.old))
         (Some (job_of reader.new.reading notes.new))) }
-    ensures sized { length reader.new.reading.view.cells ≡ 14 * reader.new.description.slots }
     ensures reader { reader.new.description ≡ reader.old.description }
     ensures left { IsLeft (E.told dev.old) (E.told dev.new) }
 {
-    let started = start_reader(dev, reader);
+    let started = reader.start(dev);
     if start_lacks_memory(started) {
         return Err(NoMemory);
     }
@@ -210,7 +178,6 @@ fn ask_reader<E: Evdev>(
     progress: Progress,
 ) -> Result<Turn, NoMemory>
     requires description { (E.told dev.old).description ≡ reader.old.description }
-    requires sized { length reader.old.reading.view.cells ≡ 14 * reader.old.description.slots }
     requires patient { progress.agains < 2 ^ 32 }
     ensures turn { IfOk result (λ turn. Holds (E.told dev.old) (E.told dev.new)
         (next_round reader.old.description wait skips
@@ -220,11 +187,11 @@ fn ask_reader<E: Evdev>(
     ensures shrinks { let before = effort (E.told dev.old) reader.old.reading in
         IfOk result (Shrinks wait (total_effort wait before progress.agains)
         (effort (E.told dev.new) reader.new.reading)) }
-    ensures sized { length reader.new.reading.view.cells ≡ 14 * reader.new.description.slots }
     ensures reader { reader.new.description ≡ reader.old.description }
     ensures left { IsLeft (E.told dev.old) (E.told dev.new) }
 {
-    let next = next_of(dev, reader, skips);
+    let mode = mode_of(skips, reader.phase());
+    let next = reader.next(dev, mode);
     notes.push_made(reader.made())?;
     notes.note_next(wait, progress, next)
 }
@@ -239,11 +206,9 @@ fn hand_out<E: Evdev>(
     count: Option<u32>,
 ) -> Result<(), NoMemory>
     requires description { (E.told dev.old).description ≡ reader.old.description }
-    requires sized { length reader.old.reading.view.cells ≡ 14 * reader.old.description.slots }
     ensures done { OnOk result (HandsOut (E.told dev.old) (E.told dev.new)
         reader.old.description wait skips count
         (job_of reader.old.reading notes.old) (job_of reader.new.reading notes.new)) }
-    ensures sized { length reader.new.reading.view.cells ≡ 14 * reader.new.description.slots }
     ensures reader { reader.new.description ≡ reader.old.description }
     ensures left { IsLeft (E.told dev.old) (E.told dev.new) }
 {
@@ -273,11 +238,9 @@ pub(crate) fn do_client_command<E: Evdev>(
     requires of_role { is_command_of Client command.now ≡ true }
     requires in_range { is_in_range command.now ≡ true }
     requires description { (E.told dev.old).description ≡ reader.old.description }
-    requires sized { length reader.old.reading.view.cells ≡ 14 * reader.old.description.slots }
     ensures done { OnOk result (DoesClientCommand (E.told dev.old) (E.told dev.new)
         reader.old.description wait command.now
         (job_of reader.old.reading notes.old) (job_of reader.new.reading notes.new)) }
-    ensures sized { length reader.new.reading.view.cells ≡ 14 * reader.new.description.slots }
     ensures reader { reader.new.description ≡ reader.old.description }
     ensures left { IsLeft (E.told dev.old) (E.told dev.new) }
 {

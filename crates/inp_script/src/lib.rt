@@ -14,7 +14,8 @@
 //!
 //! A line that hands out events ends whatever the evdev answers: each round makes a call that takes a place of the
 //! history, which is bounded, or hands out an event that was read or made before, or counts one answer Again of those
-//! that it may wait for (`specs/Effort.antt`). An actor takes memory when it is made, at an open, and for what it sees.
+//! that it may wait for (`specs/Effort.antt` here and in `inp_reader`). An actor takes memory when it is made, at an
+//! open, and for what it sees.
 #![tactic(auto)]
 
 mod actor;

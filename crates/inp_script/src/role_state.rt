@@ -1,5 +1,5 @@
 //! What an actor keeps by its role.
-ghost use Rattle.std.specs.Prelude.{◌≡◌, OnOk, IfOk};
+ghost use Rattle.std.specs.Prelude.{◌≡◌, ◌*◌, length, OnOk, IfOk};
 ghost use Rattle.inp_model.specs.Leaves.{IsLeft};
 ghost use Rattle.inp_script.specs.Doing.{DoesCommand, IsCommandFor};
 ghost use Rattle.inp_script.specs.Job.{first_reading};
@@ -83,6 +83,7 @@ impl RoleState {
     pub(crate) fn into_view(self, caps: &Caps) -> View
         requires sized { IsSized caps.now self }
         ensures view { result ≡ (reading_of self).view }
+        ensures cells { length result.cells ≡ 14 * caps.now.slots }
     {
         match self {
             RoleState::Source { view } => view,

@@ -1,37 +1,54 @@
-use Rattle.std.proofs.Common.{◌≡◌, ◌∙◌, ap, ℕ, List, map, ◌++◌}
+use Rattle.std.proofs.Common.{◌≡◌, ◌∙◌, ap, subst, ℕ, List, map, ◌++◌, false}
 use Rattle.std.proofs.lemmas.Result.{IfOk-weaker}
+use Rattle.inp_model.specs.Description.{Description}
 use Rattle.inp_model.specs.Evdev.{EvdevView}
 use Rattle.inp_reader.specs.declared.call_made.CallMade.{CallMade}
-use Rattle.inp_reader.specs.Reading.{Reading}
+use Rattle.inp_reader.specs.declared.mode.Mode.{Mode}
+use Rattle.inp_reader.specs.declared.phase.Phase.{Phase}
+use Rattle.inp_reader.specs.Effort.{effort, is_idle}
+use Rattle.inp_reader.specs.Reading.{Reading, next_talk}
+use Rattle.inp_reader.specs.Says.{Says}
 use Rattle.inp_script.specs.declared.client.Turn.{Turn}
+use Rattle.inp_script.specs.Client.{mode_of}
+use Rattle.inp_script.specs.Effort.{total_effort, Shrinks}
 use Rattle.inp_script.specs.Going.{turn_of}
 use Rattle.inp_script.specs.Noting.{job_of}
 use Rattle.inp_script.specs.Sight.{made_sight}
-use Rattle.inp_script.specs.Effort.{effort, total_effort, Shrinks}
-use Rattle.inp_script.proofs.Noted.{round-noted}
-use Rattle.inp_script.proofs.Turns.{turn-shrinks}
+use Rattle.inp_script.proofs.Noted.{left-made, round-noted}
+use Rattle.inp_script.proofs.Turns.{mode_of-busy, turn-shrinks}
 use Rattle.inp_script.proofs.client.ask_reader.Goals as goal
 
 pub returns-clause-turn : goal.returns-clause-turn
 returns-clause-turn g c =
     let a : EvdevView = g.E.Evdev.told c.args.dev.now in
-    let b : EvdevView = g.E.Evdev.told c.next_of-next.new.dev in
+    let b : EvdevView = g.E.Evdev.told c.next-next.new.dev in
     let r : Reading = c.args.reader.now.reading in
-    let s : Reading = c.next_of-next.new.reader.reading in
-    let d = c.args.reader.now.description in
-    let made : List CallMade = c.next_of-next.new.reader.made in
+    let s : Reading = c.next-next.new.self.reading in
+    let d : Description = c.args.reader.now.description in
+    let made : List CallMade = c.next-next.new.self.made in
+    let mode : c.mode_of-mode.result ≡ mode_of c.args.skips r.phase = c.mode_of-mode.ensures ∙ ap (λ (p : Phase). mode_of c.args.skips p) c.phase.ensures.phase in
+    let says : Says a b _ made (next_talk d (mode_of c.args.skips r.phase) r) (c.next-next.result, s) = subst (λ (m : Mode). Says a b _ made (next_talk d m r) (c.next-next.result, s)) mode c.next-next.ensures.says in
     let seen : c.push_made.new.self ≡ record c.args.notes.now { sight = c.args.notes.now.sight ++ map made_sight made } =
     c.in_ok-push_made.ensures ∙ ap (λ (ms : List CallMade). record c.args.notes.now { sight = c.args.notes.now.sight ++ map made_sight ms }) c.made.ensures.made in
     IfOk-weaker c.note_next.result _ _
-    (λ (turn : Turn) is. round-noted a b d c.args.wait c.args.skips r s c.args.notes.now c.push_made.new.self made c.args.progress.left c.args.progress.agains c.next_of-next.result
-    (turn_of turn (job_of s c.note_next.new.self)) c.next_of-next.ensures.says seen (is s))
+    (λ (turn : Turn) is. round-noted a b d c.args.wait c.args.skips r s c.args.notes.now c.push_made.new.self made c.args.progress.left c.args.progress.agains c.next-next.result
+    (turn_of turn (job_of s c.note_next.new.self)) says seen (is s))
     c.note_next.ensures.turn
 
 pub returns-clause-shrinks : goal.returns-clause-shrinks
 returns-clause-shrinks g c =
-    let s : Reading = c.next_of-next.new.reader.reading in
-    let before : ℕ = effort (g.E.Evdev.told c.args.dev.now) c.args.reader.now.reading in
-    let after : ℕ = effort (g.E.Evdev.told c.next_of-next.new.dev) s in
+    let r : Reading = c.args.reader.now.reading in
+    let s : Reading = c.next-next.new.self.reading in
+    let before : ℕ = effort (g.E.Evdev.told c.args.dev.now) r in
+    let after : ℕ = effort (g.E.Evdev.told c.next-next.new.dev) s in
+    let mode : c.mode_of-mode.result ≡ mode_of c.args.skips r.phase = c.mode_of-mode.ensures ∙ ap (λ (p : Phase). mode_of c.args.skips p) c.phase.ensures.phase in
+    let busy : is_idle c.mode_of-mode.result r.phase ≡ false = ap (λ (m : Mode). is_idle m r.phase) mode ∙ mode_of-busy c.args.skips r.phase in
     IfOk-weaker c.note_next.result _ (Shrinks c.args.wait (total_effort c.args.wait before c.args.progress.agains) after)
-    (λ (turn : Turn) is. turn-shrinks c.args.wait c.args.progress.left c.args.progress.agains c.next_of-next.result (job_of s c.push_made.new.self) (job_of s c.note_next.new.self) turn after before (is s) c.next_of-next.ensures.less)
+    (λ (turn : Turn) is. turn-shrinks c.args.wait c.args.progress.left c.args.progress.agains c.next-next.result (job_of s c.push_made.new.self) (job_of s c.note_next.new.self) turn after before (is s) (c.next-next.ensures.less busy))
     c.note_next.ensures.turn
+
+pub returns-in_err-push_made-clause-left : goal.returns-in_err-push_made-clause-left
+returns-in_err-push_made-clause-left g c = left-made _ _ _ c.next-next.ensures.left
+
+pub returns-clause-left : goal.returns-clause-left
+returns-clause-left g c = left-made _ _ _ c.next-next.ensures.left

@@ -17,7 +17,6 @@ pub loop-next-init : goal.loop-next-init
 loop-next-init g c = record {
   passed = passed-none (g.E.Evdev.told c.args.dev.now) c.args.reader.now.description c.args.wait c.args.skips (going (record { left = c.args.count; agains = 0 }) (job_of c.args.reader.now.reading c.args.notes.now));
   patient = omega arith;
-  sized = c.requires.sized;
   reader = refl;
   left = left-none _;
 }
@@ -34,7 +33,6 @@ loop-next-preserved g c =
     record {
       passed = passed-more _ a b d c.args.wait c.args.skips _ here (going c.in-GoesOn.next j) c.loop-next.invariant.passed round;
       patient = subst (λ (t : Turn). IsPatient t) c.in-GoesOn.is c.in_ok-next.ensures.patient;
-      sized = c.in_ok-next.ensures.sized;
       reader = c.in_ok-next.ensures.reader ∙ c.loop-next.invariant.reader;
       left = left-then _ _ _ c.loop-next.invariant.left c.in_ok-next.ensures.left;
     }

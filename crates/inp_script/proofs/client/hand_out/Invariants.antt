@@ -1,6 +1,7 @@
-use Rattle.std.proofs.Common.{◌≡◌, ◌<◌, ◌*◌, ◌^◌, length}
+use Rattle.std.proofs.Common.{◌≡◌, ◌<◌, ◌^◌}
 use Rattle.inp_model.specs.Leaves.{IsLeft}
-use Rattle.inp_script.specs.Effort.{effort, total_effort}
+use Rattle.inp_reader.specs.Effort.{effort}
+use Rattle.inp_script.specs.Effort.{total_effort}
 use Rattle.inp_script.specs.Going.{going}
 use Rattle.inp_script.specs.Noting.{job_of}
 use Rattle.inp_script.proofs.Rounds.{Passed}
@@ -10,7 +11,6 @@ abbrev pub invariant-loop-next : goal.invariant-loop-next
 invariant-loop-next g l = record {
   passed : Passed (g.E.Evdev.told l.initial.dev) (g.E.Evdev.told l.dev) l.initial.reader.description l.wait l.skips (going l.initial.progress (job_of l.initial.reader.reading l.initial.notes)) (going l.progress (job_of l.reader.reading l.notes));
   patient : l.progress.agains < 2 ^ 32;
-  sized : length l.reader.reading.view.cells ≡ 14 * l.reader.description.slots;
   reader : l.reader.description ≡ l.initial.reader.description;
   left : IsLeft (g.E.Evdev.told l.initial.dev) (g.E.Evdev.told l.dev);
 }

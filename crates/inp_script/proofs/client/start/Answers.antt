@@ -6,18 +6,27 @@ use Rattle.inp_script.specs.Client.{start_job}
 use Rattle.inp_script.specs.Doing.{Holds}
 use Rattle.inp_script.specs.Noting.{job_of}
 use Rattle.inp_script.specs.Sight.{made_sight}
-use Rattle.inp_script.proofs.Noted.{start-noted}
+use Rattle.inp_script.proofs.Noted.{left-made, start-noted}
 use Rattle.inp_script.proofs.client.start.Goals as goal
 
 pub returns-clause-done : goal.returns-clause-done
 returns-clause-done g c =
     let a = g.E.Evdev.told c.args.dev.now in
-    let b = g.E.Evdev.told c.start_reader-started.new.dev in
+    let b = g.E.Evdev.told c.start-started.new.dev in
     let old : Notes = c.args.notes.now in
-    let made : List CallMade = c.start_reader-started.new.reader.made in
+    let made : List CallMade = c.start-started.new.self.made in
     let seen : c.push_made.new.self.sight ≡ old.sight ++ map made_sight made =
     ap (λ (n : Notes). n.sight) c.in_ok-push_made.ensures ∙ ap (λ (ms : List CallMade). old.sight ++ map made_sight ms) c.made.ensures.made in
-    subst (λ (s : Option Stop). Holds a b (start_job c.args.reader.now.description (job_of c.args.reader.now.reading old)) (Some (job_of c.start_reader-started.new.reader.reading (record { sight = c.push_made.new.self.sight; stop = s }))))
+    subst (λ (s : Option Stop). Holds a b (start_job c.args.reader.now.description (job_of c.args.reader.now.reading old)) (Some (job_of c.start-started.new.self.reading (record { sight = c.push_made.new.self.sight; stop = s }))))
     (sym c.stop_after_start-notes.ensures)
-    (start-noted a b c.args.reader.now.description c.args.reader.now.reading c.start_reader-started.new.reader.reading old made c.push_made.new.self.sight c.start_reader-started.result c.start_reader-started.ensures.says
+    (start-noted a b c.args.reader.now.description c.args.reader.now.reading c.start-started.new.self.reading old made c.push_made.new.self.sight c.start-started.result c.start-started.ensures.says
     (sym c.start_lacks_memory.ensures ∙ c.if-start_lacks_memory.false) seen)
+
+pub returns-then-start_lacks_memory-clause-left : goal.returns-then-start_lacks_memory-clause-left
+returns-then-start_lacks_memory-clause-left g c = left-made _ _ _ c.start-started.ensures.left
+
+pub returns-in_err-push_made-clause-left : goal.returns-in_err-push_made-clause-left
+returns-in_err-push_made-clause-left g c = left-made _ _ _ c.start-started.ensures.left
+
+pub returns-clause-left : goal.returns-clause-left
+returns-clause-left g c = left-made _ _ _ c.start-started.ensures.left

@@ -1,31 +1,30 @@
-use Rattle.std.proofs.lemmas.Result.{on_ok_weaker}
-use Rattle.inp_script.proofs.Gains.{gains-places, stays-legal, end-tells}
-use Rattle.inp_script.proofs.LineFolds.{end-folds}
+use Rattle.std.proofs.Common.{◌≡◌, ◌∙◌, sym, ap, subst, rules, true}
+use Rattle.std.specs.Prelude.{Some, is_some}
+use Rattle.inp_model.proofs.Leaves.{left-none}
+use Rattle.inp_script.specs.Doing.{Holds}
+use Rattle.inp_script.specs.Job.{Job, ActorView}
+use Rattle.inp_script.specs.Line.{end_talk}
+use Rattle.inp_script.specs.Noting.{job_of}
+use Rattle.inp_script.specs.RoleState.{reading_of}
+use Rattle.inp_script.proofs.Lines.{ends-nothing, ends-noted}
+use Rattle.inp_script.proofs.LinesDone.{end-done}
 use Rattle.inp_script.proofs.actor.Actor.end.Goals as goal
 
-pub returns-clause-places : goal.returns-clause-places
-returns-clause-places g c =
-    let a = g.E.Evdev.told c.args.dev.now in
-    let b = g.E.Evdev.told c.do_end.new.dev in
-    let old = c.args.self.now.job in
-    let new = c.do_end.new.self.job in
-    on_ok_weaker c.do_end.result
-    (λ h. gains-places a b h.calls old.sight new.sight h.are_calls (end-tells a b old new h))
-    c.do_end.ensures.done
+pub returns-then-is_some : goal.returns-then-is_some
+returns-then-is_some g c =
+    let told = g.E.Evdev.told c.args.dev.now in
+    let actor : ActorView = c.args.self.now in
+    let all = end-done told told actor actor.job c.requires.device c.requires.source
+    (ends-nothing told actor.job (ap (λ (a : ActorView). is_some a.job.stop) (sym c.self.view_is) ∙ sym c.is_some.ensures ∙ c.if-is_some.true)) in
+    record { done = all.done; places = all.places; legal = all.legal; view = all.view; actor = search rules; left = left-none _ }
 
-pub returns-clause-legal : goal.returns-clause-legal
-returns-clause-legal g c =
+pub returns : goal.returns
+returns g c =
     let a = g.E.Evdev.told c.args.dev.now in
-    let b = g.E.Evdev.told c.do_end.new.dev in
-    let old = c.args.self.now.job in
-    let new = c.do_end.new.self.job in
-    on_ok_weaker c.do_end.result
-    (λ h. stays-legal c.args.self.now.description a b h.calls old.sight new.sight c.requires.device h.are_calls (end-tells a b old new h))
-    c.do_end.ensures.done
-
-pub returns-clause-view : goal.returns-clause-view
-returns-clause-view g c =
-    let b = g.E.Evdev.told c.do_end.new.dev in
-    on_ok_weaker c.do_end.result
-    (λ h. end-folds b c.args.self.now.role c.args.self.now.description c.args.self.now.job c.do_end.new.self.job h.calls c.requires.source h.talk_ends)
-    c.do_end.ensures.done
+    let b = g.E.Evdev.told c.call.new.dev in
+    let new : Job = job_of (reading_of c.self.inside.state) c.call.new.self in
+    let ends : Holds a b (end_talk c.args.self.now.job.stop c.args.self.now.job) (Some new) =
+    subst (λ (x : ActorView). Holds a b (end_talk x.job.stop x.job) (Some new)) c.self.view_is
+    (ends-noted a b (reading_of c.self.inside.state) c.in_ok-call.field-0 c.self.inside.notes c.call.new.self (sym c.is_some.ensures ∙ c.if-is_some.false) c.in_ok-call.ensures.noted) in
+    let all = end-done a b c.args.self.now new c.requires.device c.requires.source ends in
+    record { done = all.done; places = all.places; legal = all.legal; view = all.view; actor = search rules; left = c.in_ok-call.ensures.left }

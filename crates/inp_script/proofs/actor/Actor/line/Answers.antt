@@ -1,41 +1,59 @@
+use Rattle.std.proofs.Common.{◌≡◌, ◌∙◌, sym, ap, subst, rules, true, false, List}
+use Rattle.std.specs.Prelude.{Some, OnOk, is_some}
+use Rattle.std.specs.List.{slice_get}
+use Rattle.std.proofs.lemmas.Option.{slice_get_within}
 use Rattle.std.proofs.lemmas.Result.{on_ok_weaker}
-use Rattle.inp_script.proofs.Gains.{gains-places, stays-legal, line-tells}
-use Rattle.inp_script.proofs.IdleTurns.{counts-turns}
-use Rattle.inp_script.proofs.LineFolds.{line-folds}
+use Rattle.inp_model.proofs.Leaves.{left-none}
+use Rattle.inp_actors.specs.declared.line.Line.{Line}
+use Rattle.inp_script.specs.Doing.{DoesCommand, IsCommandFor}
+use Rattle.inp_script.specs.Job.{Job, ActorView}
+use Rattle.inp_script.specs.Noting.{job_of}
+use Rattle.inp_script.specs.RoleState.{reading_of}
+use Rattle.inp_script.proofs.LinesDone.{IsLineDone, command-of, line-stopped, line-went_on}
 use Rattle.inp_script.proofs.actor.Actor.line.Goals as goal
 
-pub returns-clause-places : goal.returns-clause-places
-returns-clause-places g c =
-    let a = g.E.Evdev.told c.args.dev.now in
-    let b = g.E.Evdev.told c.do_line.new.dev in
-    let old = c.args.self.now in
-    let new = c.do_line.new.self.job in
-    on_ok_weaker c.do_line.result
-    (λ does. gains-places a b does.holds.calls old.job.sight new.sight does.holds.are_calls (line-tells a b old c.args.rec.now c.args.wait c.args.line new does))
-    c.do_line.ensures.done
+pub returns-then-is_some : goal.returns-then-is_some
+returns-then-is_some g c =
+    let actor : ActorView = c.args.self.now in
+    let stopped : is_some actor.job.stop ≡ true = ap (λ (a : ActorView). is_some a.job.stop) (sym c.self.view_is) ∙ sym c.is_some.ensures ∙ c.if-is_some.true in
+    let all = line-stopped (g.E.Evdev.told c.args.dev.now) actor c.args.rec.now c.args.wait c.args.line c.requires.device c.lines.ensures.«record» c.requires.actor c.requires.line stopped in
+    record { done = all.done; places = all.places; legal = all.legal; view = all.view; turns = all.turns; actor = search rules; left = left-none _ }
 
-pub returns-clause-legal : goal.returns-clause-legal
-returns-clause-legal g c =
-    let a = g.E.Evdev.told c.args.dev.now in
-    let b = g.E.Evdev.told c.do_line.new.dev in
-    let old = c.args.self.now in
-    let new = c.do_line.new.self.job in
-    on_ok_weaker c.do_line.result
-    (λ does. stays-legal old.description a b does.holds.calls old.job.sight new.sight c.requires.device does.holds.are_calls (line-tells a b old c.args.rec.now c.args.wait c.args.line new does))
-    c.do_line.ensures.done
+pub get-requires : goal.get-requires
+get-requires g c =
+    record { within = slice_get_within c.lines.result.now c.args.line c.requires.line.line (ap (λ (lines : List Line). slice_get lines c.args.line) c.lines.ensures.lines ∙ c.requires.line.is_line) }
 
-pub returns-clause-view : goal.returns-clause-view
-returns-clause-view g c =
-    let a = g.E.Evdev.told c.args.dev.now in
-    let b = g.E.Evdev.told c.do_line.new.dev in
-    on_ok_weaker c.do_line.result
-    (λ does. line-folds a b c.args.self.now c.args.rec.now c.args.wait c.args.line c.do_line.new.self.job c.requires.device does (c.do_line.ensures.of_role does.line does.is_line))
-    c.do_line.ensures.done
+pub do_command-requires-clause-command : goal.do_command-requires-clause-command
+do_command-requires-clause-command g c =
+    let got : Line = c.get.result.now in
+    let is_line : slice_get c.args.rec.now.lines c.args.line ≡ Some got = ap (λ (lines : List Line). slice_get lines c.args.line) (sym c.lines.ensures.lines) ∙ c.get.ensures.item in
+    let same : c.requires.line.line ≡ got = cc (c.requires.line.is_line, is_line) in
+    subst (λ (a : ActorView). IsCommandFor a.role c.args.rec.now.streams got.command) (sym c.self.view_is)
+    (command-of c.args.rec.now c.args.self.now c.args.line got c.lines.ensures.«record» c.requires.actor is_line (ap (λ (l : Line). l.actor) (sym same) ∙ c.requires.line.is_actor))
 
-pub returns-clause-turns : goal.returns-clause-turns
-returns-clause-turns g c =
+pub returns : goal.returns
+returns g c =
     let a = g.E.Evdev.told c.args.dev.now in
-    let b = g.E.Evdev.told c.do_line.new.dev in
-    on_ok_weaker c.do_line.result
-    (λ does. counts-turns a b c.args.self.now c.args.rec.now c.args.wait c.args.line c.do_line.new.self.job does)
-    c.do_line.ensures.done
+    let b = g.E.Evdev.told c.do_command.new.dev in
+    let r = c.args.rec.now in
+    let actor : ActorView = c.args.self.now in
+    let new : Job = job_of (reading_of c.do_command.new.self) c.do_command.new.notes in
+    let got : Line = c.get.result.now in
+    let is_line : slice_get r.lines c.args.line ≡ Some got = ap (λ (lines : List Line). slice_get lines c.args.line) (sym c.lines.ensures.lines) ∙ c.get.ensures.item in
+    let same : c.requires.line.line ≡ got = cc (c.requires.line.is_line, is_line) in
+    let command : IsCommandFor actor.role r.streams got.command = command-of r actor c.args.line got c.lines.ensures.«record» c.requires.actor is_line (ap (λ (l : Line). l.actor) (sym same) ∙ c.requires.line.is_actor) in
+    let goes : is_some actor.job.stop ≡ false = ap (λ (x : ActorView). is_some x.job.stop) (sym c.self.view_is) ∙ sym c.is_some.ensures ∙ c.if-is_some.false in
+    let all : OnOk c.do_command.result (IsLineDone a b actor r c.args.wait c.args.line new) =
+    on_ok_weaker c.do_command.result
+    (λ does. line-went_on a b actor r c.args.wait c.args.line got new c.requires.device command is_line goes
+    (subst (λ (x : ActorView). DoesCommand a b x.role x.description r.streams c.args.wait got.command x.job new) c.self.view_is does))
+    c.do_command.ensures.done in
+    record {
+      done = on_ok_weaker c.do_command.result (λ h. h.done) all;
+      places = on_ok_weaker c.do_command.result (λ h. h.places) all;
+      legal = on_ok_weaker c.do_command.result (λ h. h.legal) all;
+      view = on_ok_weaker c.do_command.result (λ h. h.view) all;
+      turns = on_ok_weaker c.do_command.result (λ h. h.turns) all;
+      actor = search rules;
+      left = c.do_command.ensures.left;
+    }

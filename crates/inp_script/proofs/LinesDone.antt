@@ -1,0 +1,80 @@
+-- All that is promised of a line that was done, and of the end of a source.
+use Rattle.std.proofs.Common.{◌≡◌, ℕ, List, sym, ap, subst, ◌∙◌, true, false, Some}
+use Rattle.std.specs.Prelude.{Result, OnOk, is_some, Option}
+use Rattle.std.specs.List.{slice_get}
+use Rattle.std.proofs.lemmas.Result.{on_ok_weaker}
+use Rattle.inp_model.specs.Evdev.{EvdevView}
+use Rattle.inp_model.specs.Run.{Call}
+use Rattle.inp_actors.specs.declared.actor_text.ActorText.{ActorText}
+use Rattle.inp_actors.specs.declared.line.Line.{Line}
+use Rattle.inp_actors.specs.declared.role.Role.TheVariants.{Source}
+use Rattle.inp_actors.specs.Command.{is_command_of}
+use Rattle.inp_actors.specs.Record.{RecordView, IsRecord}
+use Rattle.inp_script.specs.declared.waiting.Waiting.{Waiting}
+use Rattle.inp_script.specs.Doing.{DoesCommand, DoesLine, HasActor, Holds, IsCommandFor, IsLineOf}
+use Rattle.inp_script.specs.Fold.{StaysFolded}
+use Rattle.inp_script.specs.Job.{ActorView, Job}
+use Rattle.inp_script.specs.Legal.{CountsTurns, GainsPlaces, StaysLegal}
+use Rattle.inp_script.specs.Line.{end_talk}
+use Rattle.inp_script.proofs.Gains.{gains-places, stays-legal, line-tells, end-tells}
+use Rattle.inp_script.proofs.IdleTurns.{counts-turns}
+use Rattle.inp_script.proofs.LineFolds.{line-folds, end-folds}
+use Rattle.inp_script.proofs.Lines.{is_command_for, does-nothing, does-line}
+use Rattle.inp_script.proofs.Told.{Tells}
+
+-- Lines
+
+pub record IsLineDone (a b : EvdevView) (actor : ActorView) (r : RecordView) (wait : Option Waiting) (number : ℕ) (new : Job) : Type 0 where
+  pub done : DoesLine a b actor r wait number new
+  pub places : GainsPlaces a b actor.job.sight new.sight
+  pub legal : StaysLegal actor.description a b actor.job.sight new.sight
+  pub view : StaysFolded actor.role actor.description b actor.job new
+  pub turns : CountsTurns a b actor.job new
+
+-- the command of one of an actor's lines is one for it
+pub command-of : (r : RecordView) (actor : ActorView) (number : ℕ) (line : Line) → IsRecord r → HasActor r actor → slice_get r.lines number ≡ Some line → line.actor ≡ actor.actor → IsCommandFor actor.role r.streams line.command
+command-of r actor number line is has is_line same =
+    is_command_for r number line has.text actor.role is is_line (ap (λ (n : ℕ). slice_get r.actors n) same ∙ has.is_text) has.role
+
+line-done : (a b : EvdevView) (actor : ActorView) (r : RecordView) (wait : Option Waiting) (number : ℕ) (line : Line) (new : Job) → a.description ≡ actor.description → slice_get r.lines number ≡ Some line → IsCommandFor actor.role r.streams line.command → DoesLine a b actor r wait number new → IsLineDone a b actor r wait number new
+line-done a b actor r wait number line new same is_line command does =
+    let one : line ≡ does.line = cc (is_line, does.is_line) in
+    let calls : List Call = does.holds.calls in
+    let tells : Tells calls actor.job.sight new.sight = line-tells a b actor r wait number new does in
+    record {
+      done = does;
+      places = gains-places a b calls actor.job.sight new.sight does.holds.are_calls tells;
+      legal = stays-legal actor.description a b calls actor.job.sight new.sight same does.holds.are_calls tells;
+      view = line-folds a b actor r wait number new same does (subst (λ (l : Line). is_command_of actor.role l.command ≡ true) one command.of_role);
+      turns = counts-turns a b actor r wait number new does;
+    }
+
+-- of an actor that stopped before
+pub line-stopped : (told : EvdevView) (actor : ActorView) (r : RecordView) (wait : Option Waiting) (number : ℕ) → told.description ≡ actor.description → IsRecord r → HasActor r actor → IsLineOf r number actor.actor → is_some actor.job.stop ≡ true → IsLineDone told told actor r wait number actor.job
+line-stopped told actor r wait number same is has line stopped =
+    line-done told told actor r wait number line.line actor.job same line.is_line (command-of r actor number line.line is has line.is_line line.is_actor)
+    (does-nothing told actor r wait number line.line line.is_line stopped)
+
+-- of one that did the command
+pub line-went_on : (a b : EvdevView) (actor : ActorView) (r : RecordView) (wait : Option Waiting) (number : ℕ) (got : Line) (new : Job) → a.description ≡ actor.description → IsCommandFor actor.role r.streams got.command → slice_get r.lines number ≡ Some got → is_some actor.job.stop ≡ false
+    → DoesCommand a b actor.role actor.description r.streams wait got.command actor.job new → IsLineDone a b actor r wait number new
+line-went_on a b actor r wait number got new same command is_line goes does =
+    line-done a b actor r wait number got new same is_line command (does-line a b actor r wait number got new is_line goes does)
+
+-- The end of a source
+
+pub record IsEndDone (a b : EvdevView) (actor : ActorView) (new : Job) : Type 0 where
+  pub done : Holds a b (end_talk actor.job.stop actor.job) (Some new)
+  pub places : GainsPlaces a b actor.job.sight new.sight
+  pub legal : StaysLegal actor.description a b actor.job.sight new.sight
+  pub view : StaysFolded actor.role actor.description b actor.job new
+
+pub end-done : (a b : EvdevView) (actor : ActorView) (new : Job) → a.description ≡ actor.description → actor.role ≡ Source → Holds a b (end_talk actor.job.stop actor.job) (Some new) → IsEndDone a b actor new
+end-done a b actor new same source h =
+    let tells : Tells h.calls actor.job.sight new.sight = end-tells a b actor.job new h in
+    record {
+      done = h;
+      places = gains-places a b h.calls actor.job.sight new.sight h.are_calls tells;
+      legal = stays-legal actor.description a b h.calls actor.job.sight new.sight same h.are_calls tells;
+      view = end-folds b actor.role actor.description actor.job new h.calls source h.talk_ends;
+    }
