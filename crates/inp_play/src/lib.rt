@@ -8,7 +8,6 @@
 //! (`specs/Job.antt`).
 #![tactic(auto)]
 
-mod descriptions;
 mod laws;
 mod player;
 mod playing;

@@ -1,5 +1,6 @@
 //! The devices and the actors of a record at work.
 ghost use Rattle.std.specs.Prelude.{◌≡◌, ◌<◌, length, map, OnOk, IfOk};
+ghost use Rattle.inp_play.specs.Job.{AreDescribed};
 ghost use Rattle.inp_play.specs.Play.{first_stage, runs_of};
 ghost use Rattle.inp_play.specs.Player.{stage_of, first_device, first_actors, HasActors, IsPlayer, DoesOn, first_run, HasJobMore};
 
@@ -21,6 +22,7 @@ impl Player {
     pub(crate) fn new(alloc: Global, rec: &Record) -> Result<Player, NoMemory>
         ensures player { IfOk result (IsPlayer rec.now) }
         ensures stage { IfOk result (λ player. stage_of player ≡ first_stage rec.now) }
+        ensures described { IfOk result (λ _. AreDescribed rec.now) }
     {
         Ok(Player {
             devices: first_devices(alloc, rec)?,
@@ -56,9 +58,10 @@ impl Player {
     }
 }
 
-// The devices of a record before its first line.
+// The devices of a record before its first line. Each was made for a description.
 fn first_devices(alloc: Global, rec: &Record) -> Result<Vec<Device>, NoMemory>
-    ensures { IfOk result (λ devices. devices.items ≡ map first_device rec.now.devices) }
+    ensures devices { IfOk result (λ devices. devices.items ≡ map first_device rec.now.devices) }
+    ensures described { IfOk result (λ _. AreDescribed rec.now) }
 {
     let mut devices = Vec::new(alloc);
     for device in rec.devices().as_slice() {

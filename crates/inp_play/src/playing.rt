@@ -3,7 +3,6 @@ ghost use Rattle.std.specs.Prelude.{IfOk};
 ghost use Rattle.inp_play.specs.Job.{ArePromised};
 ghost use Rattle.inp_play.specs.Play.{IsPlay};
 
-use crate::descriptions::look_at_descriptions;
 use crate::player::Player;
 use inp_actors::Record;
 use inp_model::NoMemory;
@@ -18,7 +17,6 @@ pub fn play(alloc: Global, rec: &Record) -> Result<Runs, NoMemory>
     ensures runs { IfOk result (IsPlay rec.now) }
     ensures promised { IfOk result (ArePromised rec.now) }
 {
-    look_at_descriptions(rec);
     let mut player = Player::new(alloc, rec)?;
     for line in 0..rec.lines().len() as u32 {
         player.line(rec, line)?;

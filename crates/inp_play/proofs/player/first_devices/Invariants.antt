@@ -1,6 +1,13 @@
-use Rattle.std.proofs.Common.{◌≡◌, map, take}
+use Rattle.std.proofs.Common.{◌≡◌, ◌<◌, ℕ, map, take, Some}
+use Rattle.std.specs.List.{slice_get}
+use Rattle.inp_model.specs.Description.{IsDescription}
+use Rattle.inp_actors.specs.declared.device_text.DeviceText.{DeviceText}
 use Rattle.inp_play.specs.Player.{first_device}
 use Rattle.inp_play.proofs.player.first_devices.Given as goal
 
+-- a device for each of those so far, of which each has a description
 abbrev pub invariant-loop-device : goal.invariant-loop-device
-invariant-loop-device l = l.devices.items ≡ map first_device (take l.device-index l.device-items)
+invariant-loop-device l = record {
+  made : l.devices.items ≡ map first_device (take l.device-index l.device-items);
+  described : (i : ℕ) (text : DeviceText) → i < l.device-index → slice_get l.device-items i ≡ Some text → IsDescription text.caps;
+}

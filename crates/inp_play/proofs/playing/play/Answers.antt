@@ -21,4 +21,4 @@ returns c =
     let few = ap length c.lines.ensures.lines in
     let all : length c.args.rec.now.lines ≤ c.loop-line.line = omega (arith, c.loop-line-test.false, c.len-line-end.ensures.length, few) in
     let in_order : IfOk c.finish.result (IsPlay c.args.rec.now) = by_result _ _ c.finish.result (λ runs h. done-all c.args.rec.now c.loop-line.line c.loop-line.player runs c.loop-line.invariant all h) c.finish.ensures.runs in
-    record { runs = in_order; promised = promised-if_ok c.args.rec.now c.finish.result c.lines.ensures.«record» c.look_at_descriptions.ensures.described in_order }
+    record { runs = in_order; promised = promised-if_ok c.args.rec.now c.finish.result c.lines.ensures.«record» c.in_ok-player.ensures.described in_order }
