@@ -13,7 +13,7 @@ use Rattle.inp_model.proofs.Telling.{called_by, given_place}
 use Rattle.inp_model.specs.Leaves.{AreCalls}
 use Rattle.inp_reader.specs.Talk.{Talk, finish, ask, LeadsTo, EndsWith}
 use Rattle.inp_model.specs.History.{IsHistory}
-use Rattle.inp_script.proofs.Efforts.{place-below}
+use Rattle.inp_reader.proofs.Efforts.{place-below}
 use Rattle.inp_script.proofs.Replies.{answer_has}
 use Rattle.inp_script.proofs.Runs.{runs-on}
 use Rattle.inp_model.proofs.Leaves.{seen-kept}

@@ -28,7 +28,7 @@ use Rattle.inp_script.specs.declared.sight.Sight.{Sight}
 use Rattle.inp_script.specs.declared.sight.Sight.TheVariants.{Again as AgainSight}
 use Rattle.inp_script.specs.Sight.{call_sight, again_sight}
 use Rattle.inp_script.proofs.ClientFolds.{AllNoRead, not_again, no_read-queries}
-use Rattle.inp_script.proofs.Efforts.{length-cells_answered}
+use Rattle.inp_reader.proofs.Agreeing.{sized-answer}
 use Rattle.inp_script.proofs.Told as told
 use Rattle.inp_play.proofs.Leaving.{Answers, answers-then, call_entries}
 
@@ -44,7 +44,7 @@ sized-answered d past x view h =
       switches = length-switches_after_answer x reply view.switches h.switches;
       leds = length-leds_after_answer x reply view.leds h.leds;
       axes = length-axes_after_answer x reply view.axes ∙ h.axes;
-      cells = length-cells_answered d past x (answer d past x) view (inl refl) h.cells;
+      cells = sized-answer d past x (answer d past x) view (inl refl) h.cells;
     }
 
 accepted_again : (reply : Reply) → is_accepted reply ≡ true → again_sight reply ≡ []

@@ -60,7 +60,7 @@ returns-clause-done c =
     (ap (λ (actors : List ActorText). slice_get actors line.actor) (sym c.actors.ensures.actors) ∙ c.get-2.ensures.item)
     c.index_mut.ensures.value
     c.index_mut-2.ensures.value in
-    done_by c.line.result c.args.rec.now c.args.line c.args.self.now _ line text c.index_mut.result.now c.line.new.self c.index_mut-2.result.now c.line.new.dev c.lines.ensures.record f refl refl c.line.ensures.actor c.line.ensures.device c.line.ensures.done
+    done_by c.line.result c.args.rec.now c.args.line c.args.self.now _ line text c.index_mut.result.now c.line.new.self c.index_mut-2.result.now c.line.new.dev c.lines.ensures.record f refl refl c.line.ensures.actor c.line.ensures.left.leaves.description c.line.ensures.done
 
 stays_by : (result : Result (Unit {0}) NoMemory) (r : RecordView) (number : ℕ) (old new : Player) (line : Line) (text : ActorText) (a b : ActorView) (device after : DeviceView) → IsFound r old.devices.items old.actors.items number line text a device
     → new.devices.items ≡ slice_set old.devices.items text.device after → new.actors.items ≡ slice_set old.actors.items line.actor b → b ≡ record a { job = b.job } → after.description ≡ device.description
@@ -82,4 +82,4 @@ returns-clause-player c =
     (ap (λ (actors : List ActorText). slice_get actors line.actor) (sym c.actors.ensures.actors) ∙ c.get-2.ensures.item)
     c.index_mut.ensures.value
     c.index_mut-2.ensures.value in
-    stays_by c.line.result c.args.rec.now c.args.line c.args.self.now _ line text c.index_mut.result.now c.line.new.self c.index_mut-2.result.now c.line.new.dev f refl refl c.line.ensures.actor c.line.ensures.device
+    stays_by c.line.result c.args.rec.now c.args.line c.args.self.now _ line text c.index_mut.result.now c.line.new.self c.index_mut-2.result.now c.line.new.dev f refl refl c.line.ensures.actor c.line.ensures.left.leaves.description
