@@ -1,9 +1,16 @@
-//! The program: it makes the real input, the real output and a gate that is open, calls `inputplay` and ends with its
-//! status.
+//! The program: it makes the real input, the real output and a gate that is open, and runs over them.
+//!
+//! [`program::run`] promises that the words are those behind the program's name, and that the status is that of the end
+//! of `inputplay` (`EndsWith`, `specs/Program.antt`). No contract of the runtime says which arguments a process was given
+//! or what its status is afterwards, so of `main` nothing more is said than that it is safe.
 #![tactic(auto)]
 
+mod program;
+#[cfg(test)]
+mod program_tests;
+
 use inp_edge::{FileInput, OpenGate, OutSink};
-use inp_tool::inputplay;
+use program::{collected, run};
 use std::alloc::Global;
 use std::process::ExitCode;
 use std::rt::Env;
@@ -11,19 +18,14 @@ use std::{env, io};
 
 fn main(rt: HostRuntime) -> ExitCode {
     let alloc = rt.alloc();
-    // Words that can't be read are no words, and those are not accepted.
-    let words = words(alloc, &rt).unwrap_or(Vec::new(alloc));
+    // Arguments that can't be read are none, so that there are no words, and those are not accepted.
+    let args = arguments(alloc, &rt).unwrap_or(Vec::new(alloc));
     let mut input = FileInput::new(&rt);
     let mut out = OutSink::new(&rt);
-    let end = inputplay(alloc, &words, &mut input, &mut out, &OpenGate);
-    ExitCode::from(end.status)
+    run(alloc, &args, &mut input, &mut out, &OpenGate)
 }
 
-/// The words behind the program's name.
-fn words(alloc: Global, rt: &(impl Env + AllocGlobal)) -> io::Result<Vec<String>> {
-    let mut words = Vec::new(alloc);
-    for word in env::args(rt)?.skip(1) {
-        words.push(word)?;
-    }
-    Ok(words)
+/// The arguments of the process, the program's name first.
+fn arguments(alloc: Global, rt: &(impl Env + AllocGlobal)) -> io::Result<Vec<String>> {
+    Ok(collected(alloc, env::args(rt)?)?)
 }
