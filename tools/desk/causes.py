@@ -1,0 +1,109 @@
+"""What kept an event from a client: the first cause that holds, in words.
+
+The causes are looked for in the order of an event's way: its frame must have been offered to the client (it was open and
+not revoked, nobody else held the grab), admitted by its masks, kept in its ring (no loss, no discard), and read.
+"""
+
+from desk.belief import CURRENT, SLOT
+
+
+def span_text(begin, end):
+    return f"from place {begin} to {end}" if end is not None else f"from place {begin} on"
+
+
+class Causes:
+    """The causes of one device: its state, what its history says of the clients, and whose the clients are."""
+
+    def __init__(self, state, handles, device, unread):
+        self.state, self.handles, self.unread = state, handles, unread
+        self.owners = {}
+        for part in device.parts:
+            for entry in part.sight:
+                if entry[0] == "call" and entry[2][0] == "opened":
+                    self.owners[int(entry[2][2])] = part.name
+
+    def cause_of(self, walk, thing, point):
+        """Since which place a belief is not the device's state, None for the start, and why."""
+        value, origin = walk.belief.value(thing), walk.belief.origin(thing)
+        if point.kind == "end" and self.state.value(thing, point.frame) == value:
+            return self.in_open_frame(thing, origin)
+        frame = self.state.other_since(thing, point.frame, value)
+        place = self.state.place_of(frame)
+        if origin is not None and (place is None or origin[2] > place):
+            later = self.of_later_belief(thing, origin, point)
+            if later:
+                return origin[2], later
+        return place, self.of_event(walk, thing, frame, point)
+
+    def in_open_frame(self, thing, origin):
+        """The device's value changed behind the last frame: the events wait for a report."""
+        ended = self.state.frame_places[-1] if self.state.frames else -1
+        if origin is not None and origin[2] > ended:
+            ended = origin[2]
+        place = next((p for p in self.state.places if p > ended and self.sets(self.state.history[p], thing)), None)
+        return place, "its frame has not ended: no report followed"
+
+    def sets(self, step, thing):
+        """Does a step inject or write an event for this thing?"""
+        words = step[-3:-1]
+        return words == ["EV_ABS", SLOT if thing == CURRENT else thing[-1]] or words == list(thing)
+
+    def of_later_belief(self, thing, origin, point):
+        """The cause where the belief was told later than the device took its value."""
+        if origin[1] == "answer" and point.kind == "report" and origin[2] > point.place:
+            return f"it asked at place {origin[2]}, behind this report's frame"
+        if origin[1] == "took" and thing[0] == "slot":
+            return f"it took the value of place {origin[2]} for this slot, which is not the device's current one there"
+        return None
+
+    def of_event(self, walk, thing, frame, point):
+        """What kept the event of a frame from the client."""
+        if frame < 0:
+            return "it did not ask for the state at its start"
+        place = self.state.place_of(frame)
+        kind, code = ("EV_ABS", SLOT if thing == CURRENT else thing[2]) if thing[0] in ("slot", "current") else thing
+        taken_for = walk.slot_of_taken.get((place, code))
+        if thing[0] == "slot" and taken_for not in (None, thing[1]):
+            return f"it took the value for slot {taken_for}, since that is the current one for it"
+        before = [client for opened, client in walk.clients if opened < place]
+        if not before:
+            return self.of_no_client(walk)
+        return self.of_offer(before[-1], place, kind, code) or self.of_queue(walk, before[-1], place, point)
+
+    def of_no_client(self, walk):
+        if not walk.clients:
+            return "it has not opened the device"
+        return f"it opened the device later, at place {walk.clients[0][0]}, and has not asked since"
+
+    def of_offer(self, client, place, kind, code):
+        """Why the client was not offered the event, or None."""
+        handles = self.handles
+        if handles.closes.get(client, place) < place:
+            return f"it closed the device at place {handles.closes[client]}"
+        if handles.revokes.get(client, place) < place:
+            return f"it was revoked at place {handles.revokes[client]}"
+        grab = handles.grab_of_another(client, place)
+        if grab is not None:
+            return f"grab of {self.owners.get(grab.client, grab.client)} {span_text(grab.begin, grab.end)}"
+        mask = handles.mask_at(client, place, kind, code)
+        return None if mask is None else f"its mask of {mask[0]} {span_text(*mask[1:])}"
+
+    def of_queue(self, walk, client, place, point):
+        """What became of an event that the client was offered."""
+        causes = [(lost, self.loss_text(client, lost)) for lost in walk.losses if lost >= place]
+        causes += [(gone, f"removed unread by its discard at place {gone}") for gone in walk.discards if gone > place]
+        changed = self.handles.clock_change_behind(client, place)
+        if changed is not None:
+            causes.append((changed, self.loss_text(client, changed)))
+        causes += [(new, f"it opened the device anew at place {new}, and left its events unread")
+                   for new, _ in walk.clients if new > place]
+        if causes:
+            return min(causes)[1]
+        if point.kind != "end":
+            return "nothing that is known here"
+        lost = [lost for lost in self.unread.losses(walk.part.name) if lost >= place]
+        return self.loss_text(client, lost[0]) + ", of which it has not read yet" if lost else "not read yet"
+
+    def loss_text(self, client, place):
+        why = "it changed its clock" if self.handles.is_clock_change(client, place) else "its ring was full"
+        return f"loss at place {place} (SYN_DROPPED: {why})"

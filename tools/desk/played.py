@@ -1,0 +1,80 @@
+"""A record that was played with its history, and all that is said of it: the state of each device, what each client
+believed of it, and where both part. `tools/stuck` prints this, and `tools/draw` draws it."""
+
+import os
+import tempfile
+
+from desk import devicestate
+from desk.causes import Causes
+from desk.command import Wrong
+from desk.handles import Handles
+from desk.partings import Walk
+from desk.program import PLAYED, folder_of
+from desk.recordfile import Record, read_text
+from desk.report import read_report
+from desk.slips import refusal_text
+
+
+class Unread:
+    """What clients would lose if they read on at the end: the record is played again with such lines behind it."""
+
+    def __init__(self, text, record, folder, player, report):
+        self.text, self.record, self.folder, self.player, self.report = text, record, folder, player, report
+        self.parts = None
+
+    def losses(self, name):
+        """The places of the losses that an actor would read of at the end."""
+        if self.parts is None:
+            self.parts = self.play()
+        before = next(part for device in self.report for part in device.parts if part.name == name)
+        behind = self.parts[name].sight[len(before.sight) :] if name in self.parts else []
+        return [entry[1] for entry in behind if entry[0] == "took" and entry[3][1] == "SYN_DROPPED"]
+
+    def play(self):
+        lines = ["", "# All that is queued is read."]
+        for actor in self.record.actors.values():
+            if actor.role != "source":
+                lines.append(f"do {actor.name} " + ("follow" if actor.role == "client" else "read 4096"))
+        with tempfile.TemporaryDirectory() as folder:
+            path = os.path.join(folder, "unread.rec")
+            with open(path, "w", encoding="latin-1", newline="") as file:
+                file.write(self.text + "\n".join(lines) + "\n")
+            status, written = self.player.play(path, self.folder)
+        report = read_report(written) if status in PLAYED else []
+        return {part.name: part for device in report for part in device.parts}
+
+
+class Client:
+    """A client or tap: what it saw, where it parted from its device and met it again, and where it differs at the end."""
+
+    def __init__(self, part, walk, at_end):
+        self.name, self.part = part.name, part
+        self.walk, self.partings, self.at_end = walk, walk.partings, at_end
+
+
+class PlayedDevice:
+    """A device: its description, what was reported of it, its state, its clients' handles, and its clients."""
+
+    def __init__(self, report, state, unread):
+        self.name, self.report, self.state = report.name, report, state
+        self.handles = Handles(report.history)
+        causes = Causes(state, self.handles, report, unread)
+        self.clients = []
+        for part in report.parts:
+            if part.role != "source":
+                walk = Walk(part, state, causes.cause_of)
+                self.clients.append(Client(part, walk, walk.run()))
+
+
+def play(path, player):
+    """Plays a record and asks for its devices' states; the played devices."""
+    text = read_text(path)
+    folder = folder_of(path)
+    status, written = player.play(path, folder, ["--history"])
+    if status not in PLAYED:
+        raise Wrong(f"{path}: {refusal_text(text, written, status)}")
+    record, report = Record(text), read_report(written)
+    states = [devicestate.DeviceState(*pair) for pair in zip(record.devices, (device.history for device in report))]
+    devicestate.ask(states, player)
+    unread = Unread(text, record, folder, player, report)
+    return [PlayedDevice(device, state, unread) for device, state in zip(report, states)]

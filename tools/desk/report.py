@@ -1,0 +1,76 @@
+"""Reads a report: for each device its history, where it has one, and the part of each actor.
+
+The lines of a report are described in docs/FORMATS.md, "The report". Events are kept as (type, code, value), types and
+codes as they are written and the value as a number; all other words stay words.
+"""
+
+VIEW_WORDS = ("keys", "switches", "leds", "axes", "current", "slot")
+
+
+class Device:
+    """A device's name, the length of its history, the words of each step, and its actors' parts."""
+
+    def __init__(self, name, steps):
+        self.name, self.steps = name, steps
+        self.history, self.parts = [], []
+
+    def part(self, name):
+        return next(part for part in self.parts if part.name == name)
+
+
+class Part:
+    """What an actor saw: `sight` has one tuple an entry, `view` the lines of its view, `stop` how it ended.
+
+    Entries are ("call", words of the step, words of the reply), ("took", place, time, event), ("made", event) and
+    ("again", place).
+    """
+
+    def __init__(self, role, name):
+        self.role, self.name = role, name
+        self.sight, self.view, self.stop = [], [], ""
+
+
+def event_of(words):
+    return words[0], words[1], int(words[2])
+
+
+def entry_of(words):
+    """An entry of a sight, or None for another line."""
+    if words[0] == "took":
+        return "took", int(words[1]), int(words[2]), event_of(words[3:])
+    if words[0] == "call":
+        middle = words.index("reply")
+        return "call", words[1:middle], words[middle + 1 :]
+    if words[0] == "made":
+        return "made", event_of(words[1:])
+    if words[0] == "again":
+        return "again", int(words[1])
+    return None
+
+
+def add_line(devices, words):
+    """Adds a line of the report to what was read."""
+    if words[0] == "device":
+        devices.append(Device(words[1], int(words[3])))
+    elif words[0] == "step":
+        devices[-1].history.append(words[2:])
+    elif words[0] == "source":
+        part = Part("source", words[1])
+        part.stop = " ".join(words[5:])
+        devices[-1].parts.append(part)
+    elif words[0] in ("client", "tap"):
+        devices[-1].parts.append(Part(words[0], words[1]))
+    elif words[0] in VIEW_WORDS:
+        devices[-1].parts[-1].view.append(words)
+    elif words[0] == "stop":
+        devices[-1].parts[-1].stop = " ".join(words[1:])
+    else:
+        devices[-1].parts[-1].sight.append(entry_of(words))
+
+
+def read_report(text):
+    """The devices of a report."""
+    devices = []
+    for line in text.splitlines():
+        add_line(devices, line.split(" "))
+    return devices
