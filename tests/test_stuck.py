@@ -1,0 +1,351 @@
+"""tools/stuck: where a client's belief and its device part, since which place, and why."""
+
+import os
+import stat
+import subprocess
+
+from desk_cases import PROGRAM, TOOLS, TOP, DeskCase
+
+EXAMPLES = TOP / "examples"
+KEYBOARD = """inputrecord 1
+device kbd
+hint 8
+cap EV_KEY KEY_A
+cap EV_KEY KEY_B
+cap EV_REL REL_X
+source s
+"""
+TOUCHPAD = """inputrecord 1
+device pad
+hint 8
+slots 2
+axis ABS_MT_POSITION_X 0 0 100 0 0 0
+source s
+"""
+
+
+def frame(moment, *events):
+    """The lines of a frame: events of the source, and a report."""
+    lines = [f"do s event {moment} {event}" for event in (*events, "EV_SYN SYN_REPORT 0")]
+    return "\n".join(lines) + "\n"
+
+
+def press(key):
+    return f"EV_KEY {key} 1"
+
+
+def release(key):
+    return f"EV_KEY {key} 0"
+
+
+def flood(count):
+    """So many frames of motion, of two events each."""
+    return "".join(frame(5000 + number, "EV_REL REL_X 1") for number in range(count))
+
+
+class StuckCase(DeskCase):
+    def said(self, text):
+        """What the tool says of a record, without the device's state at the end."""
+        return self.written("stuck", self.file("case.rec", text)).split("the device at the end\n")[0]
+
+    def part(self, text, name):
+        """What it says of one client."""
+        lines = self.said(text).splitlines()
+        begin = next(i for i, line in enumerate(lines) if line.split() in (["client", name], ["tap", name]))
+        end = next(i for i, line in enumerate(lines) if i > begin and line.startswith("  at the end"))
+        return "\n".join(lines[begin + 1 : end + 1])
+
+    def says(self, text, name, *lines):
+        self.assertEqual("\n".join(f"  {line}" for line in lines), self.part(text, name))
+
+
+class Grabs(StuckCase):
+    def test_example(self):
+        wanted = """device kbd steps 13
+client desktop
+  KEY_LEFTCTRL: down for it, up on the device
+    since place 9: grab of remapper from place 7 to 10
+    seen at: nothing left to read at place 11
+    until it asked at place 12
+  at the end: as the device
+client remapper
+  at the end: as the device
+the device at the end
+  keys
+"""
+        self.assertEqual(wanted, self.written("stuck", EXAMPLES / "stuck_key.rec"))
+
+    def test_a_grab_that_goes_on(self):
+        text = KEYBOARD + "client c\ntap g\ndo c open\ndo g open\n" + frame(1, press("KEY_A")) + "do c follow\n"
+        text += "do g grab\n" + frame(2, release("KEY_A")) + "do c follow\n"
+        self.says(
+            text,
+            "c",
+            "KEY_A: down for it, up on the device",
+            "  since place 8: grab of g from place 6 on",
+            "  seen at: nothing left to read at place 9; the end",
+            "at the end: not as the device in KEY_A",
+        )
+
+    def test_the_holder_is_offered_all(self):
+        text = KEYBOARD + "client c\ndo c open\ndo c grab\n" + frame(1, press("KEY_A")) + "do c follow\n"
+        self.says(text, "c", "at the end: as the device")
+
+
+class Losses(StuckCase):
+    lost = KEYBOARD + "client c\ntap t\ndo c open\ndo t open\n" + frame(1, press("KEY_A")) + "do c follow\ndo t read 64\n"
+    lost += frame(2, release("KEY_A")) + flood(31)
+
+    def test_without_a_synchronisation(self):
+        # The 62 events of the motion and the 2 of the release are one more than the ring of 64 places holds.
+        text = self.lost + "do t read 64\n"
+        self.says(
+            text,
+            "t",
+            "it lost events: SYN_DROPPED of place 70",
+            "KEY_A: down for it, up on the device",
+            "  since place 8: loss at place 70 (SYN_DROPPED: its ring was full)",
+            "  seen at: the report of place 70; the end",
+            "at the end: not as the device in KEY_A",
+        )
+
+    def test_with_a_synchronisation(self):
+        text = self.lost + "do c follow\n"
+        self.says(text, "c", "it lost events: SYN_DROPPED of place 70", "at the end: as the device")
+
+    def test_that_was_not_read_yet(self):
+        self.says(
+            self.lost,
+            "c",
+            "KEY_A: down for it, up on the device",
+            "  since place 8: loss at place 70 (SYN_DROPPED: its ring was full), of which it has not read yet",
+            "  seen at: the end",
+            "at the end: not as the device in KEY_A",
+        )
+
+    def test_by_a_change_of_clock(self):
+        text = KEYBOARD + "tap t\ndo t open\n" + frame(1, press("KEY_A")) + "do t clock monotonic 2\ndo t read 64\n"
+        text += frame(3, press("KEY_B")) + "do t read 64\n"
+        self.says(
+            text,
+            "t",
+            "it lost events: SYN_DROPPED of place 3",
+            "KEY_A: up for it, down on the device",
+            "  since place 2: loss at place 3 (SYN_DROPPED: it changed its clock)",
+            "  seen at: the report of place 5; nothing left to read at place 4; the end",
+            "at the end: not as the device in KEY_A",
+        )
+
+    def test_a_discard(self):
+        text = KEYBOARD + "tap t\ndo t open\n" + frame(1, press("KEY_A")) + "do t discard\n"
+        self.assertIn("since place 2: removed unread by its discard at place 3\n", self.said(text))
+
+
+class Masks(StuckCase):
+    masked = KEYBOARD + "client c\ndo c open\ndo c mask EV_KEY 0 0xffffffffbfffffff\n" + frame(1, press("KEY_A"))
+
+    def test_of_a_code(self):
+        text = self.masked + "do c follow\ndo c mask EV_KEY 0 0xffffffffffffffff\n"
+        self.says(
+            text,
+            "c",
+            "KEY_A: up for it, down on the device",
+            "  since place 4: its mask of EV_KEY from place 2 to 5",
+            "  seen at: nothing left to read at place 5; the end",
+            "at the end: not as the device in KEY_A",
+        )
+
+    def test_of_a_type(self):
+        text = self.masked.replace("mask EV_KEY 0 0xffffffffbfffffff", "mask EV_SYN 0 0xfffffffffffffffd")
+        self.assertIn("since place 4: its mask of types from place 2 on\n", self.said(text))
+
+    def test_of_another_code(self):
+        text = self.masked.replace("0xffffffffbfffffff", "0xfffffffeffffffff")
+        self.assertIn("since place 4: not read yet\n", self.said(text))
+
+
+class Handles(StuckCase):
+    def test_not_read(self):
+        text = KEYBOARD + "client c\ndo c open\n" + frame(1, press("KEY_A"))
+        self.says(
+            text,
+            "c",
+            "KEY_A: up for it, down on the device",
+            "  since place 3: not read yet",
+            "  seen at: the end",
+            "at the end: not as the device in KEY_A",
+        )
+
+    def test_revoked(self):
+        text = KEYBOARD + "client c\ndo c open\ndo c revoke\n" + frame(1, press("KEY_A")) + "do c follow\n"
+        self.assertIn("since place 4: it was revoked at place 2\n", self.said(text))
+
+    def test_closed(self):
+        text = KEYBOARD + "client c\ndo c open\ndo c close\n" + frame(1, press("KEY_A"))
+        self.assertIn("since place 4: it closed the device at place 2\n", self.said(text))
+
+    def test_opened_late_and_never_asked(self):
+        text = KEYBOARD + "tap t\n" + frame(1, press("KEY_A")) + "do t open\n" + frame(2, press("KEY_B")) + "do t read 9\n"
+        self.says(
+            text,
+            "t",
+            "KEY_A: up for it, down on the device",
+            "  since place 1: it opened the device later, at place 2, and has not asked since",
+            "  seen at: the report of place 4; the end",
+            "at the end: not as the device in KEY_A",
+        )
+
+    def test_opened_late_and_asked(self):
+        text = KEYBOARD + "tap t\n" + frame(1, press("KEY_A")) + "do t open\ndo t keys\n"
+        self.says(text, "t", "at the end: as the device")
+
+    def test_never_opened(self):
+        text = KEYBOARD + "tap t\n" + frame(1, press("KEY_A"))
+        self.assertIn("tap t\n  it never opened the device\n", self.said(text))
+
+    def test_opened_anew(self):
+        text = KEYBOARD + "tap t\ndo t open\n" + frame(1, press("KEY_A")) + "do t open\ndo t read 9\n"
+        self.assertIn("since place 2: it opened the device anew at place 3, and left its events unread\n", self.said(text))
+
+    def test_an_answer_behind_the_frame(self):
+        text = KEYBOARD + "tap t\ndo t open\n" + frame(1, "EV_REL REL_X 1") + frame(2, press("KEY_A"))
+        text += "do t keys\ndo t read 2\n"
+        self.says(
+            text,
+            "t",
+            "KEY_A: down for it, up on the device",
+            "  since place 5: it asked at place 5, behind this report's frame",
+            "  seen at: the report of place 2",
+            "  until the device came back to it at place 4",
+            "at the end: as the device",
+        )
+
+    def test_an_initial_value(self):
+        text = "inputrecord 1\ndevice d\naxis ABS_X 7 0 9 0 0 0\ntap t\ndo t open\n"
+        self.says(
+            text,
+            "t",
+            "ABS_X: 0 for it, 7 on the device",
+            "  from the start: it did not ask for the state at its start",
+            "  seen at: the end",
+            "at the end: not as the device in ABS_X",
+        )
+
+
+class Frames(StuckCase):
+    def test_a_frame_that_has_not_ended(self):
+        text = KEYBOARD + "client c\ndo c open\n" + frame(1, "EV_REL REL_X 1") + "do c follow\ndo s event 2 EV_KEY KEY_A 1\n"
+        self.assertIn("since place 5: its frame has not ended: no report followed\n", self.said(text))
+
+    def test_an_answer_in_the_midst_of_a_frame(self):
+        text = KEYBOARD + "client c\ndo s event 2 EV_KEY KEY_A 1\ndo c open\ndo c follow\n"
+        self.says(text, "c", "at the end: as the device")
+
+    def test_several_frames_of_one_step(self):
+        keys = [f"cap EV_KEY {code}\n" for code in range(2, 7)]
+        text = KEYBOARD.replace("hint 8\n", "hint 2\n" + "".join(keys)) + "client c\ndo c open\n"
+        text += "".join(frame(code, f"EV_KEY {code} 1") for code in range(2, 7)) + "do c follow\n"
+        self.says(text + "do s inhibit 99\ndo c follow\n", "c", "at the end: as the device")
+
+    def test_a_full_history(self):
+        text = KEYBOARD.replace("hint 8", "hint 8\nlog 4") + "client c\ndo c open\n" + frame(1, press("KEY_A"))
+        self.assertIn("since place 3: not read yet\n", self.said(text + frame(2, release("KEY_A"))))
+
+    def test_written_events(self):
+        text = "inputrecord 1\ndevice d\ncap EV_LED LED_CAPSL\nclient c\ntap t\ndo c open\ndo t open\n"
+        text += "do t write 5 EV_LED LED_CAPSL 1\ndo t write 5 EV_SYN SYN_REPORT 0\ndo c follow\n"
+        self.says(text, "c", "at the end: as the device")
+        self.assertIn("LED_CAPSL: off for it, on on the device\n    since place 4: not read yet\n", self.said(text))
+
+    def test_more_releases_than_a_ring_holds(self):
+        codes = range(2, 90)
+        text = KEYBOARD.replace("hint 8\n", "hint 2\n" + "".join(f"cap EV_KEY {code}\n" for code in codes))
+        text += "client c\ndo c open\n" + "".join(f"do s event 1 EV_KEY {code} 1\n" for code in codes) + "do c force\n"
+        text += "do c follow\ndo s inhibit 9\ndo c follow\n"
+        self.assertIn("it lost events: SYN_DROPPED of place", self.part(text, "c"))
+        self.assertIn("at the end: as the device", self.part(text, "c"))
+
+
+class Slots(StuckCase):
+    contact = frame(1, "EV_ABS ABS_MT_SLOT 1", "EV_ABS ABS_MT_TRACKING_ID 5")
+
+    def test_a_current_slot_that_is_not_known(self):
+        text = TOUCHPAD + "tap t\n" + self.contact + "do t open\n"
+        text += frame(2, "EV_ABS ABS_MT_POSITION_X 20") + "do t read 9\n"
+        part = self.part(text, "t")
+        self.assertIn("the current slot: 0 for it, 1 on the device\n", part)
+        self.assertIn("slot 0 ABS_MT_POSITION_X: 20 for it, 0 on the device\n    since place 5: it took the value", part)
+        self.assertIn("slot 1 ABS_MT_POSITION_X: 0 for it, 20 on the device\n", part)
+        self.assertIn("since place 5: it took the value for slot 0, since that is the current one for it\n", part)
+        self.assertTrue(part.endswith("at the end: not as the device in 4 things"), part)
+
+    def test_a_synchronisation_of_slots(self):
+        text = TOUCHPAD + "tap t\nclient c\n" + self.contact + "do t open\ndo t syncslots\ndo c open\n"
+        text += frame(2, "EV_ABS ABS_MT_POSITION_X 20") + "do t read 9\ndo c follow\n"
+        self.says(text, "t", "at the end: as the device")
+        self.says(text, "c", "at the end: as the device")
+
+    def test_a_reader_that_hands_out_nothing_of_a_synchronisation(self):
+        moves = "".join(frame(9 + x, f"EV_ABS ABS_MT_POSITION_X {x}") for x in range(40))
+        text = TOUCHPAD + "client c\ndo c open\n" + self.contact + moves + "do c skip 2\ndo c skip 1\n"
+        self.assertIn("at the end: as the device", self.part(text, "c"))
+
+
+class Records(StuckCase):
+    def test_two_devices(self):
+        text = KEYBOARD + "client c\n" + TOUCHPAD.split("\n", 1)[1].replace("source s", "source p") + "client d\n"
+        text += "do c open\ndo d open\n" + frame(1, press("KEY_A"))
+        text += "do p event 1 EV_ABS ABS_MT_POSITION_X 5\ndo p event 1 EV_SYN SYN_REPORT 0\ndo d follow\n"
+        said = self.written("stuck", self.file("two.rec", text))
+        self.assertIn("  keys KEY_A\ndevice pad steps 5\nclient d\n  at the end: as the device\n", said)
+        self.assertIn("client c\n  KEY_A: up for it, down on the device\n", said)
+
+    def test_sixty_four_clients(self):
+        names = [f"c{number}" for number in range(64)]
+        text = KEYBOARD + "".join(f"tap {name}\n" for name in names) + "".join(f"do {name} open\n" for name in names)
+        self.assertIn("since place 65: not read yet\n", self.said(text + frame(1, press("KEY_A"))))
+
+    def test_examples(self):
+        """A client differs at the end just where its lines in the report are not those of the device's state."""
+        for record in sorted(EXAMPLES.glob("*.rec")):
+            with self.subTest(record.name):
+                said = self.written("stuck", record).splitlines()
+                state = [line[2:] for line in said[said.index("the device at the end") + 1 :]]
+                report = subprocess.run([PROGRAM, record], cwd=EXAMPLES, capture_output=True, text=True).stdout
+                parts = report.split("\nclient ")[1:]
+                parts = [part for behind in parts for part in behind.split("\ntap ")]
+                for part in parts or report.split("\ntap ")[1:]:
+                    name, *lines = part.splitlines()
+                    begin = next(i for i, line in enumerate(said) if line.split()[1:] == [name])
+                    end = next(line for line in said[begin:] if line.startswith("  at the end"))
+                    same = lines[-1 - len(state) : -1] == state
+                    self.assertEqual(same, end == "  at the end: as the device", f"{name}: {end}")
+
+
+class Refusals(StuckCase):
+    def test_wrong_input(self):
+        whole = KEYBOARD + "client c\ndo c open\n"
+        self.refused("stuck", self.folder / "missing.rec", because="No such file")
+        self.refused("stuck", self.folder, because="Is a directory")
+        self.refused("stuck", self.file("text.rec", "a letter\n"), because="line 1: bad-header")
+        self.refused("stuck", self.file("raw.rec", bytes(range(256))), because="line 1: not-text")
+        self.refused("stuck", self.file("empty.rec", ""), because="line 1: bad-header")
+        self.refused("stuck", self.file("line.rec", whole + "follow\n"), because="line 10: bad-line: 'follow'")
+        self.refused("stuck", self.file("stream.rec", whole + "do s stream none.bin\n"), because="read failed")
+
+    def test_wrong_words(self):
+        self.refused("stuck", because="required: FILE")
+        self.refused("stuck", "a", "b", because="unrecognized arguments: b")
+        self.refused("stuck", "--all", "a", because="unrecognized arguments: --all")
+
+    def test_a_report_that_disagrees(self):
+        """A program whose last lines are not what its events make is not believed."""
+        liar = self.file("liar", f"#!/bin/sh\n'{PROGRAM}' \"$@\" | sed 's/^keys$/keys KEY_B/'\n")
+        liar.chmod(liar.stat().st_mode | stat.S_IXUSR)
+        record = self.file("case.rec", KEYBOARD + "client c\ndo c open\n")
+        done = subprocess.run(
+            [TOOLS / "stuck", record], env={**os.environ, "INPUTPLAY": str(liar)}, capture_output=True, text=True
+        )
+        self.assertEqual((2, ""), (done.returncode, done.stdout), done.stderr)
+        self.assertEqual(1, len(done.stderr.splitlines()), done.stderr)
+        self.assertIn("is not as the report has it at the end", done.stderr)
