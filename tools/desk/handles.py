@@ -2,6 +2,8 @@
 
 from desk.names import TYPES, number_of_code
 
+ALL_BITS = 2**64 - 1
+
 
 class Grab:
     """A grab: its client, the place from which it held, and the place where it ended, or None."""
@@ -59,6 +61,13 @@ class Handles:
             if span:
                 return "types" if mask == "EV_SYN" else mask, *span
         return None
+
+    def spans_of_masks(self, client):
+        """The client's masks that leave anything out: the type, from which place, and to which or None."""
+        kinds = {}
+        for place, kind, word, bits in self.masks.get(client, []):
+            kinds.setdefault((kind, word), []).append((place, kind, word, int(bits == ALL_BITS)))
+        return [("types" if kind == "EV_SYN" else kind, *span) for (kind, _), steps in kinds.items() for span in masked_spans(steps, 0)]
 
     def is_clock_change(self, client, place):
         return any(changed == place for changed, _ in self.clocks.get(client, [])[1:])

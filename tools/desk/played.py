@@ -5,6 +5,7 @@ import os
 import tempfile
 
 from desk import devicestate
+from desk.devicestate import SOURCE_STEPS
 from desk.causes import Causes
 from desk.command import Wrong
 from desk.handles import Handles
@@ -52,11 +53,31 @@ class Client:
         self.walk, self.partings, self.at_end = walk, walk.partings, at_end
 
 
-class PlayedDevice:
-    """A device: its description, what was reported of it, its state, its clients' handles, and its clients."""
+def steps_of_action(words, folder):
+    """How many steps a source's action makes: one for each event of a stream, else one."""
+    return os.path.getsize(os.path.join(folder, words[1])) // 24 if words[0] == "stream" else 1
 
-    def __init__(self, report, state, unread):
-        self.name, self.report, self.state = report.name, report, state
+
+def source_steps(record, number, history, folder):
+    """The steps that the sources of a device made: of each its place and its source's name."""
+    names = [
+        name
+        for _, name, words in record.actions
+        if record.actors[name].role == "source" and record.actors[name].device == number
+        for _ in range(steps_of_action(words, folder))
+    ]
+    places = [place for place, step in enumerate(history) if step[0] in SOURCE_STEPS and step[0] != "write"]
+    return list(zip(places, names))
+
+
+class PlayedDevice:
+    """A device: its description, what was reported of it, its state, its clients' handles, and its clients.
+
+    `source_steps` has the place and the source's name of each step that a source made.
+    """
+
+    def __init__(self, report, state, unread, steps):
+        self.name, self.report, self.state, self.source_steps = report.name, report, state, steps
         self.handles = Handles(report.history)
         causes = Causes(state, self.handles, report, unread)
         self.clients = []
@@ -77,4 +98,5 @@ def play(path, player):
     states = [devicestate.DeviceState(*pair) for pair in zip(record.devices, (device.history for device in report))]
     devicestate.ask(states, player)
     unread = Unread(text, record, folder, player, report)
-    return [PlayedDevice(device, state, unread) for device, state in zip(report, states)]
+    steps = [source_steps(record, number, device.history, folder) for number, device in enumerate(report)]
+    return [PlayedDevice(*each, unread, made) for *each, made in zip(report, states, steps)]
