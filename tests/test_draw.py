@@ -49,6 +49,7 @@ class DrawCase(DeskCase):
     def found(self, picture, kind, tag="rect"):
         """The shapes of a kind: for each the left end, the right end and the text."""
         shapes = [shape for shape in picture.iter(SVG + tag) if shape.get("class") == kind]
+        shapes = [shape for shape in shapes if shape.find(SVG + "title") is not None]  # (none in the legend)
         ends = [(float(shape.get("x", 0)), float(shape.get("width", 0))) for shape in shapes]
         texts = [shape.find(SVG + "title").text for shape in shapes]
         return [(left, left + width, text) for (left, width), text in zip(ends, texts)]
@@ -79,6 +80,11 @@ class Pictures(DrawCase):
         self.assertAlmostEqual(on[1], frames[1][0] + 1, delta=0.2)
         self.assertAlmostEqual(parted[0], on[1], delta=0.2)
         self.assertTrue(grab[0] < parted[0] < grab[1])
+
+    def test_the_picture_of_the_readme(self):
+        """It is what the tool writes now."""
+        shown = (TOP / "docs" / "stuck_key.svg").read_text()
+        self.assertEqual(shown, self.written("draw", "--svg", EXAMPLES / "stuck_key.rec"))
 
     def test_calls_of_a_client(self):
         picture = self.picture(EXAMPLES / "views.rec")
@@ -114,7 +120,7 @@ class Pictures(DrawCase):
         self.assertEqual({"event": "place 2: inject 1 EV_KEY KEY_A 1", "report": "place 3: inject 1 EV_SYN SYN_REPORT 0"}, places)
         labels = [shape for shape in picture.iter(SVG + "text") if shape.text in ("one", "two")]
         rows = {shape.text: float(shape.get("y")) for shape in labels}
-        (mark,) = [shape for shape in picture.iter(SVG + "rect") if shape.get("class") == "event"]
+        mark = next(shape for shape in picture.iter(SVG + "rect") if shape.get("class") == "event")
         self.assertAlmostEqual(rows["two"], float(mark.get("y")), delta=9)
 
 

@@ -1,9 +1,10 @@
 """The page of a played record: for each device a picture of all places, and pictures of ranges of them."""
 
+import re
 from html import escape
 
 from desk.lanes import sections
-from desk.picture import AXIS, Scale, mark_shape, moments_of, picture, style
+from desk.picture import AXIS, WIDTH, Scale, height_of, mark_shape, moments_of, picture, style
 from desk.told import device_lines
 
 LEAST_RANGE = 200
@@ -32,16 +33,16 @@ BARS = (
 LINES = (("first", "axis, or X"), ("second", "Y"))
 
 
-def icon(shape):
-    return f'<svg width="16" height="16" viewBox="0 0 16 16">{shape}/></svg>'
+def legend_parts():
+    """What the marks, bars and lines stand for: of each a shape without its end, 16 by 16, and its text."""
+    parts = [(mark_shape(kind, 8, 1, 14), text) for kind, text in MARKS]
+    parts += [(f'<rect class="{kind}" x="1" y="4" width="14" height="8"', text) for kind, text in BARS]
+    return parts + [(f'<path class="{kind}" d="M1 12H6V5H15"', text) for kind, text in LINES]
 
 
 def legend():
-    """What the marks, bars and lines stand for."""
-    parts = [(icon(mark_shape(kind, 8, 1, 14)), text) for kind, text in MARKS]
-    parts += [(icon(f'<rect class="{kind}" x="1" y="4" width="14" height="8"'), text) for kind, text in BARS]
-    parts += [(icon(f'<path class="{kind}" d="M1 12H6V5H15"'), text) for kind, text in LINES]
-    return '<p class="legend">' + " ".join(f"<span>{shape}{text}</span>" for shape, text in parts) + "</p>"
+    icons = ((f'<svg width="16" height="16" viewBox="0 0 16 16">{shape}/></svg>', text) for shape, text in legend_parts())
+    return '<p class="legend">' + " ".join(f"<span>{icon}{text}</span>" for icon, text in icons) + "</p>"
 
 
 def both_ways(played, begin, end, picks=""):
@@ -105,8 +106,26 @@ def page(name, devices, first=None, last=None):
     return "\n".join(parts) + f"\n<script>{SCRIPT}</script></body></html>\n"
 
 
+def svg_legend(drawn, y):
+    """What a picture's shapes stand for, as rows of the picture from y on; and where they end."""
+    shapes, x, y = [], 10, y + 8
+    for shape, text in legend_parts():
+        kind = re.search('class="([a-z]+)"', shape)[1]
+        if f'class="{kind}"' not in drawn:
+            continue
+        width = 30 + 6 * len(text)
+        if x + width > WIDTH:
+            x, y = 10, y + 20
+        shapes.append(f'<g transform="translate({x} {y})">{shape}/><text x="20" y="12" class="faint">{text}</text></g>')
+        x += width
+    return "\n".join(shapes), y + 24
+
+
 def svg(played, first=None, last=None):
-    """The picture of one device alone, with its own style."""
+    """The picture of one device alone, with its own style and a legend."""
     steps = len(played.report.history)
     begin, end = first or 0, min(steps if last is None else last + 1, steps)
-    return picture(sections(played, begin, end), Scale(begin, end), has_style=True) + "\n"
+    rows, scale = sections(played, begin, end), Scale(begin, end)
+    drawn = picture(rows, scale)
+    shapes, height = svg_legend(drawn, height_of(rows))
+    return picture(rows, scale, shapes, height) + "\n"

@@ -199,20 +199,32 @@ def axis(scale, height):
     return shapes
 
 
-def picture(sections, scale, has_style=False):
-    """The SVG of sections: each a heading and its rows."""
-    shapes, y = [], AXIS
+def height_of(sections):
+    """How high the picture of sections is."""
+    return AXIS + FOOT + sum(HEADING + sum(HEIGHTS[row.kind] for row in rows) for _, rows in sections)
+
+
+def section(heading, rows, scale, y):
+    """The shapes of a section that begins at y."""
+    shapes = [f'<line class="rule" x1="8" y1="{y + 2}" x2="{WIDTH - 8}" y2="{y + 2}"/>']
+    shapes.append(f'<text x="10" y="{y + 16}" class="heading">{escape(heading)}</text>')
+    y += HEADING
+    for row in rows:
+        height = HEIGHTS[row.kind]
+        shapes += [label(row, y, height), *bars(row, scale, y, height), *lines(row, scale, y, height)]
+        shapes += marks(row, scale, y, height)
+        y += height
+    return shapes
+
+
+def picture(sections, scale, legend="", height=None):
+    """The SVG of sections, each a heading and its rows. One with a legend, which makes it higher, has its own style."""
+    shapes, y = axis(scale, height_of(sections)), AXIS
     for heading, rows in sections:
-        shapes.append(f'<line class="rule" x1="8" y1="{y + 2}" x2="{WIDTH - 8}" y2="{y + 2}"/>')
-        shapes.append(f'<text x="10" y="{y + 16}" class="heading">{escape(heading)}</text>')
-        y += HEADING
-        for row in rows:
-            height = HEIGHTS[row.kind]
-            shapes += [label(row, y, height)]
-            shapes += bars(row, scale, y, height) + lines(row, scale, y, height) + marks(row, scale, y, height)
-            y += height
-    y += FOOT
-    head = f'<svg xmlns="http://www.w3.org/2000/svg" viewBox="0 0 {WIDTH} {y}" width="{WIDTH}" height="{y}" role="img">'
-    sheet = f"<style>{style()}</style>" if has_style else ""
-    paper = f'<rect class="paper" width="{WIDTH}" height="{y}"/>'
-    return "\n".join([head + sheet + paper, *axis(scale, y), *shapes, "</svg>"])
+        shapes += section(heading, rows, scale, y)
+        y += HEADING + sum(HEIGHTS[row.kind] for row in rows)
+    height = height or height_of(sections)
+    head = f'<svg xmlns="http://www.w3.org/2000/svg" viewBox="0 0 {WIDTH} {height}" width="{WIDTH}" height="{height}" role="img">'
+    sheet = f"<style>{style()}</style>" if legend else ""
+    paper = f'<rect class="paper" width="{WIDTH}" height="{height}"/>'
+    return "\n".join([head + sheet + paper, *shapes, legend + "</svg>"])

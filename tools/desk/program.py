@@ -31,6 +31,7 @@ class Player:
     def __init__(self):
         self.by_toolchain = False
         named = os.environ.get("INPUTPLAY")
+        self.name = named or os.path.relpath(BUILT, REPOSITORY)
         self.program = os.path.abspath(named) if named else BUILT
         if os.access(self.program, os.X_OK) and os.path.isfile(self.program):
             return
@@ -44,7 +45,7 @@ class Player:
         """What is said of the way in which a record is played."""
         if self.by_toolchain:
             return "played by the toolchain without proof (rt try); this takes about a minute"
-        return f"played by {self.program}"
+        return f"played by {self.name}"
 
     def command(self, path, folder, flags):
         """The words of the command, and the folder in which it runs."""
