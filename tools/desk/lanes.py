@@ -4,17 +4,38 @@ A row says what is to be seen and not where it stands on the paper: `desk.pictur
 text, which is shown where the pointer rests on it.
 """
 
+import bisect
+
 from desk.belief import BIT_KINDS, TRACKING_ID, thing_text, value_text
 
 MOST_ROWS = 20
 
 
-class Row:
-    """A row: its label, its marks (place, kind, text), bars (from, to, kind, text) and lines (points, kind)."""
+class Ordered:
+    """Things in the order of their places, so that those between two places are found at once."""
 
-    def __init__(self, label, kind="row"):
+    def __init__(self, things):
+        self.things = sorted(things, key=lambda thing: thing[0])
+        self.places = [thing[0] for thing in self.things]
+
+    def between(self, begin, end):
+        return self.things[bisect.bisect_left(self.places, begin) : bisect.bisect_left(self.places, end)]
+
+    def before(self, begin):
+        """The last one before a place, or none, as a list."""
+        index = bisect.bisect_left(self.places, begin)
+        return self.things[max(index - 1, 0) : index]
+
+
+class Row:
+    """A row: its label, its marks (place, kind, text), bars (from, to, kind, text) and lines (points, kind).
+
+    Marks and points are Ordered.
+    """
+
+    def __init__(self, label, kind="row", marks=(), bars=(), lines=()):
         self.label, self.kind = label, kind
-        self.marks, self.bars, self.lines = [], [], []
+        self.marks, self.bars, self.lines = Ordered(marks), list(bars), list(lines)
 
 
 def span_bars(changes, state, end, kind, text_of):
@@ -36,69 +57,67 @@ def span_bars(changes, state, end, kind, text_of):
 
 def source_rows(played):
     """For each source a row of the steps that it made."""
-    rows = {part.name: Row(part.name) for part in played.report.parts if part.role == "source"}
+    marks = {part.name: [] for part in played.report.parts if part.role == "source"}
     for place, name in played.source_steps:
         step = played.report.history[place]
         is_report = step[-3:-1] == ["EV_SYN", "SYN_REPORT"]
         kind = "report" if is_report else "event" if step[0] == "inject" else "timer"
-        rows[name].marks.append((place, kind, f"place {place}: {' '.join(step)}"))
-    return list(rows.values())
+        marks[name].append((place, kind, f"place {place}: {' '.join(step)}"))
+    return [Row(name, marks=found) for name, found in marks.items()]
 
 
 # The device
 
 
 def frame_row(state):
-    row = Row("frames")
+    marks = []
     for frame in state.frames:
         events = ", ".join(" ".join(map(str, event)) for event in frame.events[:6])
         more = f" and {len(frame.events) - 6} more" if len(frame.events) > 6 else ""
-        row.marks.append((frame.place, "frame", f"frame of place {frame.place}, time {frame.time}: {events}{more}"))
-    return row
+        marks.append((frame.place, "frame", f"frame of place {frame.place}, time {frame.time}: {events}{more}"))
+    return Row("frames", marks=marks)
+
+
+def on_text(thing):
+    """Says of a value of a key, switch or LED what is shown of it, or None where it is off."""
+    return lambda value: f"{thing[1]} {value_text(thing, value)}" if value else None
+
+
+def contact_text(value):
+    return f"contact {value}" if value >= 0 else None
 
 
 def bit_rows(state, end):
     """A row for each key, switch and LED that was on at any time."""
-    rows = []
-    for thing in sorted((thing for thing in state.changes if thing[0] in BIT_KINDS), key=str):
-        name = thing[1]
-        bars = span_bars(
-            state.changes[thing], state, end, "on",
-            lambda value: f"{name} {value_text(thing, value)}" if value else None,
-        )
-        if bars:
-            rows.append(Row(name))
-            rows[-1].bars = bars
-    return rows
+    things = sorted((thing for thing in state.changes if thing[0] in BIT_KINDS), key=str)
+    rows = [Row(thing[1], bars=span_bars(state.changes[thing], state, end, "on", on_text(thing))) for thing in things]
+    return [row for row in rows if row.bars]
 
 
 def points_of(changes, state):
-    return [(state.place_of(frame) or 0, value) for frame, value in zip(changes.frames, changes.values)]
+    return Ordered((state.place_of(frame) or 0, value) for frame, value in zip(changes.frames, changes.values))
 
 
 def axis_rows(state):
     """A row with a line for each axis that moved."""
-    rows = []
-    for thing in sorted((thing for thing in state.changes if thing[0] == "EV_ABS"), key=str):
-        if len(state.changes[thing].frames) > 1:
-            rows.append(Row(thing[1], "line"))
-            rows[-1].lines = [(points_of(state.changes[thing], state), "first")]
-    return rows
+    things = sorted((thing for thing in state.changes if thing[0] == "EV_ABS"), key=str)
+    moved = [thing for thing in things if len(state.changes[thing].frames) > 1]
+    return [Row(thing[1], "line", lines=[(points_of(state.changes[thing], state), "first")]) for thing in moved]
 
 
 def slot_rows(state, end):
     """A row for each slot that had a contact: its contacts as bars, and where they were as lines."""
     rows = []
     for slot in range(state.description.slots):
-        changes = state.changes.get(("slot", slot, TRACKING_ID))
-        if changes is None:
+        contacts = state.changes.get(("slot", slot, TRACKING_ID))
+        if contacts is None:
             continue
-        row = Row(f"slot {slot}", "line")
-        row.bars = span_bars(changes, state, end, "contact", lambda value: f"contact {value}" if value >= 0 else None)
+        lines = []
         for code, kind in (("ABS_MT_POSITION_X", "first"), ("ABS_MT_POSITION_Y", "second")):
             moves = state.changes.get(("slot", slot, code))
-            row.lines += [(points_of(moves, state), kind)] if moves else []
-        rows.append(row)
+            lines += [(points_of(moves, state), kind)] if moves else []
+        bars = span_bars(contacts, state, end, "contact", contact_text)
+        rows.append(Row(f"slot {slot}", "line", bars=bars, lines=lines))
     return rows
 
 
@@ -151,18 +170,18 @@ def parting_rows(played, client):
     rows, end = {}, len(played.report.history)
     for parting in client.partings:
         name = thing_text(parting.thing)
-        row = rows.setdefault(parting.thing, Row(name.replace("ABS_MT_", "MT_"), "parted"))
+        if parting.thing not in rows:
+            rows[parting.thing] = Row(name.replace("ABS_MT_", "MT_"), "parted")
         since = 0 if parting.since is None else parting.since
         met = end if parting.met[1] is None else parting.met[1]
         values = " for it, ".join(value_text(parting.thing, value) for value in (parting.believed, parting.present))
         text = f"{name} differs from place {since} to {met}: {values} on the device: {parting.cause}"
-        row.bars.append((min(since, met), max(since, met), "parted", text))
+        rows[parting.thing].bars.append((min(since, met), max(since, met), "parted", text))
     return list(rows.values())
 
 
 def client_rows(played, client):
-    row = Row(client.name, "client")
-    row.marks, row.bars = call_marks(client.part), handle_bars(played, client)
+    row = Row(client.name, "client", call_marks(client.part), handle_bars(played, client))
     return [row] + parting_rows(played, client)
 
 
@@ -171,22 +190,28 @@ def client_rows(played, client):
 
 def is_seen(row, begin, end):
     """Does a row have anything between two places?"""
-    if any(begin <= mark[0] < end for mark in row.marks) or any(bar[0] < end and bar[1] >= begin for bar in row.bars):
+    if row.kind == "client" or row.marks.between(begin, end):
         return True
-    return any(begin <= point[0] < end for points, _ in row.lines for point in points)
+    if any(bar[0] < end and bar[1] >= begin for bar in row.bars):
+        return True
+    return any(points.between(begin, end) for points, _ in row.lines)
 
 
 def fewer(rows, begin, end):
     """The rows that have anything to show, and no more than a picture can hold."""
-    rows = [row for row in rows if row.kind == "client" or is_seen(row, begin, end)]
+    rows = [row for row in rows if is_seen(row, begin, end)]
     if len(rows) <= MOST_ROWS:
         return rows
     return rows[:MOST_ROWS] + [Row(f"and {len(rows) - MOST_ROWS} rows more", "note")]
 
 
-def sections(played, begin, end):
+def sections(played):
     """The headings and their rows: the sources, the device, each client."""
-    found = [("sources", fewer(source_rows(played), begin, end)), (f"device {played.name}", fewer(device_rows(played), begin, end))]
-    for client in played.clients:
-        found.append((f"{client.part.role} {client.name}", fewer(client_rows(played, client), begin, end)))
-    return [(heading, rows) for heading, rows in found if rows]
+    found = [("sources", source_rows(played)), (f"device {played.name}", device_rows(played))]
+    return found + [(f"{client.part.role} {client.name}", client_rows(played, client)) for client in played.clients]
+
+
+def sections_between(found, begin, end):
+    """Of sections the rows that have anything between two places."""
+    kept = [(heading, fewer(rows, begin, end)) for heading, rows in found]
+    return [(heading, rows) for heading, rows in kept if rows]

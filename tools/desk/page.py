@@ -3,7 +3,7 @@
 import re
 from html import escape
 
-from desk.lanes import sections
+from desk.lanes import sections, sections_between
 from desk.picture import AXIS, WIDTH, Scale, height_of, mark_shape, moments_of, picture, style
 from desk.told import device_lines
 
@@ -45,10 +45,9 @@ def legend():
     return '<p class="legend">' + " ".join(f"<span>{icon}{text}</span>" for icon, text in icons) + "</p>"
 
 
-def both_ways(played, begin, end, picks=""):
-    """A picture over places and one over moments; the page shows one of them."""
-    rows = sections(played, begin, end)
-    moments = moments_of(played.report.history)
+def both_ways(found, moments, begin, end, picks=""):
+    """A picture of sections over places and one over moments; the page shows one of them."""
+    rows = sections_between(found, begin, end)
     by_place = picture(rows, Scale(begin, end)).replace("</svg>", picks + "</svg>")
     by_time = picture(rows, Scale(begin, end, moments))
     return f'<div class="place">{by_place}</div>\n<div class="time">{by_time}</div>'
@@ -80,13 +79,14 @@ def device_part(played, number, first, last):
     if begin >= end:
         return parts[0] + "<p>No step is between these places.</p>"
     ranges = ranges_of(begin, end)
-    parts.append(both_ways(played, begin, end, picks_of(f"d{number}", ranges, Scale(begin, end))))
+    found, moments = sections(played), moments_of(played.report.history)
+    parts.append(both_ways(found, moments, begin, end, picks_of(f"d{number}", ranges, Scale(begin, end))))
     if ranges:
         parts.append("<p>The same in ranges of places; the boxes below the axis lead there. "
                      "<code>tools/draw --from PLACE --to PLACE FILE</code> draws any other range.</p>")
     for begin, end in ranges:
         parts.append(f'<details id="d{number}-{begin}"><summary>places {begin} to {end - 1}</summary>')
-        parts.append(both_ways(played, begin, end) + "</details>")
+        parts.append(both_ways(found, moments, begin, end) + "</details>")
     said = "\n".join(device_lines(played))
     return "\n".join(parts) + f"\n<details open><summary>where beliefs and device part</summary><pre>{escape(said)}</pre></details>"
 
@@ -125,7 +125,7 @@ def svg(played, first=None, last=None):
     """The picture of one device alone, with its own style and a legend."""
     steps = len(played.report.history)
     begin, end = first or 0, min(steps if last is None else last + 1, steps)
-    rows, scale = sections(played, begin, end), Scale(begin, end)
+    rows, scale = sections_between(sections(played), begin, end), Scale(begin, end)
     drawn = picture(rows, scale)
     shapes, height = svg_legend(drawn, height_of(rows))
     return picture(rows, scale, shapes, height) + "\n"

@@ -108,9 +108,9 @@ def mark_shape(kind, x, y, height):
 def marks(row, scale, y, height):
     """The marks of a row, each point of the paper once for each kind."""
     kinds = {kind: {} for kind in MARK_KINDS}
-    for place, kind, text in row.marks:
-        if scale.begin <= place < scale.end:
-            kinds[kind].setdefault(round(scale.x(place)), []).append((scale.x(place), text))
+    for place, kind, text in row.marks.between(scale.begin, scale.end):
+        x = scale.x(place)
+        kinds[kind].setdefault(round(x), []).append((x, text))
     shapes = []
     for kind, points in kinds.items():
         if len(points) > DENSE:
@@ -147,10 +147,9 @@ def bars(row, scale, y, height):
 
 def columns(points, scale):
     """The points of a line between the scale's ends; of those on one point of the paper the first, least, greatest, last."""
-    before = [point for point in points if point[0] < scale.begin][-1:]
-    inside = [(scale.x(place), value) for place, value in points if scale.begin <= place < scale.end]
+    inside = [(scale.x(place), value) for place, value in points.between(scale.begin, scale.end)]
     found = {}
-    for x, value in [(GUTTER, value) for _, value in before] + inside:
+    for x, value in [(GUTTER, value) for _, value in points.before(scale.begin)] + inside:
         found.setdefault(round(x), []).append(value)
     kept = []
     for x, values in found.items():
@@ -173,7 +172,7 @@ def lines(row, scale, y, height):
     """The lines of a row, each between the least and the greatest value that it has at all."""
     shapes = []
     for points, kind in row.lines:
-        values = [value for _, value in points]
+        values = [value for _, value in points.things]
         least, span = min(values), max(max(values) - min(values), 1)
         kept = columns(points, scale)
         if not kept:
