@@ -65,7 +65,8 @@ class Pictures(DrawCase):
         self.assertEqual("KEY_LEFTCTRL down", on[2])
         self.assertEqual("grab of remapper from place 7", grab[2])
         self.assertEqual(
-            "KEY_LEFTCTRL differs from place 9 to 12: down for it, up on the device: grab of remapper from place 7 to 10",
+            "KEY_LEFTCTRL differs from place 9 to 12: down for it, up on the device: "
+            "grab of remapper from place 7 to 10",
             parted[2],
         )
         self.assertEqual(
@@ -89,10 +90,11 @@ class Pictures(DrawCase):
     def test_calls_of_a_client(self):
         picture = self.picture(EXAMPLES / "views.rec")
         self.assertEqual(
-            ["loss at place 11: SYN_DROPPED", "loss at place 82: SYN_DROPPED", "loss at place 82: SYN_DROPPED"],
+            [f"loss at place {place}: SYN_DROPPED" for place in (11, 82, 82)],
             [text for *_, text in self.found(picture, "loss", "path")],
         )
-        self.assertEqual(["mask of EV_KEY, from place 98"], [text for *_, text in self.found(picture, "mask")])
+        masks = [text for *_, text in self.found(picture, "mask")]
+        self.assertEqual(["mask of EV_KEY, from place 98"], masks)
         self.assertEqual(["revoked at place 108"], [text for *_, text in self.found(picture, "revoked")])
         self.assertEqual(9, len(self.found(picture, "read", "path")))
 
@@ -117,7 +119,9 @@ class Pictures(DrawCase):
         places = {}
         for kind in ("event", "report"):
             ((_, _, places[kind]),) = self.found(picture, kind)
-        self.assertEqual({"event": "place 2: inject 1 EV_KEY KEY_A 1", "report": "place 3: inject 1 EV_SYN SYN_REPORT 0"}, places)
+        wanted = {"event": "place 2: inject 1 EV_KEY KEY_A 1"}
+        wanted["report"] = "place 3: inject 1 EV_SYN SYN_REPORT 0"
+        self.assertEqual(wanted, places)
         labels = [shape for shape in picture.iter(SVG + "text") if shape.text in ("one", "two")]
         rows = {shape.text: float(shape.get("y")) for shape in labels}
         mark = next(shape for shape in picture.iter(SVG + "rect") if shape.get("class") == "event")
@@ -138,7 +142,7 @@ class Pages(DrawCase):
         shown = text.split('<p class="legend">')[1].split("</p>")[0]
         used = set(re.findall(r'class="([a-z ]+)"', text))
         used = {kind.removeprefix("dense ") for kind in used} - set(re.findall(r'class="([a-z ]+)"', shown))
-        others = {"legend", "place", "time", "paper", "faint", "ink", "differs", "heading", "grid", "rule", "pick"}
+        others = set("legend place time paper faint ink differs heading grid rule pick".split())
         self.assertEqual(others, used)
 
     def test_names_are_text(self):
@@ -146,13 +150,16 @@ class Pages(DrawCase):
         self.assertIn("<h1>a&lt;b&gt;&amp;.rec</h1>", self.page(record))
 
     def test_a_record_without_steps(self):
-        self.assertIn("No step is between these places", self.page(self.file("none.rec", "inputrecord 1\ndevice d\ntap t\n")))
+        record = self.file("none.rec", "inputrecord 1\ndevice d\ntap t\n")
+        self.assertIn("No step is between these places", self.page(record))
 
     def test_many_events(self):
-        """4,500 events: all ranges are there, and no picture has a mark for each event."""
-        moves = [f"do s event {number} EV_REL REL_X 1\ndo s event {number} EV_SYN SYN_REPORT 0\ndo c follow\n" for number in range(3000)]
-        text = "inputrecord 1\ndevice d\ncap EV_REL REL_X\nsource s\nclient c\ndo c open\n" + "".join(moves)
-        page = self.page(self.file("many.rec", text))
+        """6,000 events: all ranges are there, and no picture has a mark for each event."""
+        lines = ["inputrecord 1", "device d", "cap EV_REL REL_X", "source s", "client c", "do c open"]
+        for moment in range(3000):
+            lines += [f"do s event {moment} {event}" for event in ("EV_REL REL_X 1", "EV_SYN SYN_REPORT 0")]
+            lines.append("do c follow")
+        page = self.page(self.file("many.rec", "\n".join(lines) + "\n"))
         self.assertEqual(23, page.count("<details id="))
         self.assertLess(len(page), 5_000_000)
         self.assertLess(page.split("<details")[0].count("<title>"), 300)

@@ -17,7 +17,8 @@ class PlayCase(DeskCase):
         if not os.access(PROGRAM, os.X_OK):
             self.fail(f"no program at {PROGRAM}: build it, or name one in INPUTPLAY")
         env = {**os.environ, "INPUTPLAY": PROGRAM, **environment}
-        done = subprocess.run([TOOLS / "play", *words], env=env, capture_output=True, text=True, cwd=self.folder)
+        words = [TOOLS / "play", *words]
+        done = subprocess.run(words, env=env, capture_output=True, text=True, cwd=self.folder)
         return done.returncode, done.stdout, done.stderr.splitlines()
 
     def stand_in(self, status, text):
@@ -49,7 +50,8 @@ class Played(PlayCase):
         self.assertEqual(0, self.play_tool("--", "-x.rec")[0])
 
     def test_a_full_history(self):
-        record = self.file("full.rec", "inputrecord 1\ndevice d\nlog 1\ncap EV_KEY KEY_A\nclient c\ndo c open\n")
+        text = "inputrecord 1\ndevice d\nlog 1\ncap EV_KEY KEY_A\nclient c\ndo c open\n"
+        record = self.file("full.rec", text)
         status, text, _ = self.play_tool(record)
         self.assertEqual(6, status)
         self.assertTrue(text.startswith("device d steps 1\n"), text)
@@ -61,7 +63,8 @@ class Refused(PlayCase):
         for cause, slips in SLIPS.items():
             with self.subTest(cause):
                 program = self.stand_in(1, f"inputplay: line 3: {cause}")
-                wanted = [f"inputplay: line 3: {cause}", f"  {record}:3: axis ABS_X 0 x", f"  usual slips: {slips}"]
+                wanted = [f"inputplay: line 3: {cause}", f"  {record}:3: axis ABS_X 0 x"]
+                wanted.append(f"  usual slips: {slips}")
                 status, text, lines = self.play_tool(record, INPUTPLAY=program)
                 self.assertEqual((1, "", wanted), (status, text, lines[1:]))
 
@@ -102,7 +105,8 @@ class Refused(PlayCase):
 
     def test_messages_and_statuses_are_handed_on(self):
         record = self.file("case.rec", "inputrecord 1\n")
-        for status, message in ((3, "inputplay: read failed"), (5, "inputplay: out of memory"), (7, "inputplay: input too long")):
+        for status, text in {3: "read failed", 5: "out of memory", 7: "input too long"}.items():
+            message = f"inputplay: {text}"
             with self.subTest(message):
                 came, text, lines = self.play_tool(record, INPUTPLAY=self.stand_in(status, message))
                 self.assertEqual((status, "", [message, f"  in {record}"]), (came, text, lines[1:]))
@@ -132,7 +136,8 @@ class Words(PlayCase):
 
     def test_no_program(self):
         missing = str(self.folder / "no_such_program")
-        self.refuses(EXAMPLES / "one_key.rec", because=f"INPUTPLAY names {missing}, which is no program", INPUTPLAY=missing)
+        because = f"INPUTPLAY names {missing}, which is no program"
+        self.refuses(EXAMPLES / "one_key.rec", because=because, INPUTPLAY=missing)
 
     def test_neither_program_nor_toolchain(self):
         """In a copy of the tools alone, with no toolchain on the path."""

@@ -76,7 +76,8 @@ the device at the end
         self.assertEqual(wanted, self.written("stuck", EXAMPLES / "stuck_key.rec"))
 
     def test_a_grab_that_goes_on(self):
-        text = KEYBOARD + "client c\ntap g\ndo c open\ndo g open\n" + frame(1, press("KEY_A")) + "do c follow\n"
+        text = KEYBOARD + "client c\ntap g\ndo c open\ndo g open\n" + frame(1, press("KEY_A"))
+        text += "do c follow\n"
         text += "do g grab\n" + frame(2, release("KEY_A")) + "do c follow\n"
         self.says(
             text,
@@ -93,7 +94,8 @@ the device at the end
 
 
 class Losses(StuckCase):
-    lost = KEYBOARD + "client c\ntap t\ndo c open\ndo t open\n" + frame(1, press("KEY_A")) + "do c follow\ndo t read 64\n"
+    lost = KEYBOARD + "client c\ntap t\ndo c open\ndo t open\n" + frame(1, press("KEY_A"))
+    lost += "do c follow\ndo t read 64\n"
     lost += frame(2, release("KEY_A")) + flood(31)
 
     def test_without_a_synchronisation(self):
@@ -118,13 +120,15 @@ class Losses(StuckCase):
             self.lost,
             "c",
             "KEY_A: down for it, up on the device",
-            "  since place 8: loss at place 70 (SYN_DROPPED: its ring was full), of which it has not read yet",
+            "  since place 8: loss at place 70 (SYN_DROPPED: its ring was full), "
+            "of which it has not read yet",
             "  seen at: the end",
             "at the end: not as the device in KEY_A",
         )
 
     def test_by_a_change_of_clock(self):
-        text = KEYBOARD + "tap t\ndo t open\n" + frame(1, press("KEY_A")) + "do t clock monotonic 2\ndo t read 64\n"
+        text = KEYBOARD + "tap t\ndo t open\n" + frame(1, press("KEY_A"))
+        text += "do t clock monotonic 2\ndo t read 64\n"
         text += frame(3, press("KEY_B")) + "do t read 64\n"
         self.says(
             text,
@@ -142,7 +146,8 @@ class Losses(StuckCase):
 
 
 class Masks(StuckCase):
-    masked = KEYBOARD + "client c\ndo c open\ndo c mask EV_KEY 0 0xffffffffbfffffff\n" + frame(1, press("KEY_A"))
+    masked = KEYBOARD + "client c\ndo c open\ndo c mask EV_KEY 0 0xffffffffbfffffff\n"
+    masked += frame(1, press("KEY_A"))
 
     def test_of_a_code(self):
         text = self.masked + "do c follow\ndo c mask EV_KEY 0 0xffffffffffffffff\n"
@@ -185,7 +190,8 @@ class Handles(StuckCase):
         self.assertIn("since place 4: it closed the device at place 2\n", self.said(text))
 
     def test_opened_late_and_never_asked(self):
-        text = KEYBOARD + "tap t\n" + frame(1, press("KEY_A")) + "do t open\n" + frame(2, press("KEY_B")) + "do t read 9\n"
+        text = KEYBOARD + "tap t\n" + frame(1, press("KEY_A")) + "do t open\n" + frame(2, press("KEY_B"))
+        text += "do t read 9\n"
         self.says(
             text,
             "t",
@@ -205,7 +211,8 @@ class Handles(StuckCase):
 
     def test_opened_anew(self):
         text = KEYBOARD + "tap t\ndo t open\n" + frame(1, press("KEY_A")) + "do t open\ndo t read 9\n"
-        self.assertIn("since place 2: it opened the device anew at place 3, and left its events unread\n", self.said(text))
+        cause = "it opened the device anew at place 3, and left its events unread"
+        self.assertIn(f"since place 2: {cause}\n", self.said(text))
 
     def test_an_answer_behind_the_frame(self):
         text = KEYBOARD + "tap t\ndo t open\n" + frame(1, "EV_REL REL_X 1") + frame(2, press("KEY_A"))
@@ -234,7 +241,8 @@ class Handles(StuckCase):
 
 class Frames(StuckCase):
     def test_a_frame_that_has_not_ended(self):
-        text = KEYBOARD + "client c\ndo c open\n" + frame(1, "EV_REL REL_X 1") + "do c follow\ndo s event 2 EV_KEY KEY_A 1\n"
+        text = KEYBOARD + "client c\ndo c open\n" + frame(1, "EV_REL REL_X 1")
+        text += "do c follow\ndo s event 2 EV_KEY KEY_A 1\n"
         self.assertIn("since place 5: its frame has not ended: no report followed\n", self.said(text))
 
     def test_an_answer_in_the_midst_of_a_frame(self):
@@ -248,19 +256,22 @@ class Frames(StuckCase):
         self.says(text + "do s inhibit 99\ndo c follow\n", "c", "at the end: as the device")
 
     def test_a_full_history(self):
-        text = KEYBOARD.replace("hint 8", "hint 8\nlog 4") + "client c\ndo c open\n" + frame(1, press("KEY_A"))
+        text = KEYBOARD.replace("hint 8", "hint 8\nlog 4") + "client c\ndo c open\n"
+        text += frame(1, press("KEY_A"))
         self.assertIn("since place 3: not read yet\n", self.said(text + frame(2, release("KEY_A"))))
 
     def test_written_events(self):
         text = "inputrecord 1\ndevice d\ncap EV_LED LED_CAPSL\nclient c\ntap t\ndo c open\ndo t open\n"
         text += "do t write 5 EV_LED LED_CAPSL 1\ndo t write 5 EV_SYN SYN_REPORT 0\ndo c follow\n"
         self.says(text, "c", "at the end: as the device")
-        self.assertIn("LED_CAPSL: off for it, on on the device\n    since place 4: not read yet\n", self.said(text))
+        wanted = "LED_CAPSL: off for it, on on the device\n    since place 4: not read yet\n"
+        self.assertIn(wanted, self.said(text))
 
     def test_more_releases_than_a_ring_holds(self):
         codes = range(2, 90)
         text = KEYBOARD.replace("hint 8\n", "hint 2\n" + "".join(f"cap EV_KEY {code}\n" for code in codes))
-        text += "client c\ndo c open\n" + "".join(f"do s event 1 EV_KEY {code} 1\n" for code in codes) + "do c force\n"
+        text += "client c\ndo c open\n" + "".join(f"do s event 1 EV_KEY {code} 1\n" for code in codes)
+        text += "do c force\n"
         text += "do c follow\ndo s inhibit 9\ndo c follow\n"
         self.assertIn("it lost events: SYN_DROPPED of place", self.part(text, "c"))
         self.assertIn("at the end: as the device", self.part(text, "c"))
@@ -274,9 +285,11 @@ class Slots(StuckCase):
         text += frame(2, "EV_ABS ABS_MT_POSITION_X 20") + "do t read 9\n"
         part = self.part(text, "t")
         self.assertIn("the current slot: 0 for it, 1 on the device\n", part)
-        self.assertIn("slot 0 ABS_MT_POSITION_X: 20 for it, 0 on the device\n    since place 5: it took the value", part)
+        wrong = "slot 0 ABS_MT_POSITION_X: 20 for it, 0 on the device\n    since place 5: it took the value"
+        self.assertIn(wrong, part)
         self.assertIn("slot 1 ABS_MT_POSITION_X: 0 for it, 20 on the device\n", part)
-        self.assertIn("since place 5: it took the value for slot 0, since that is the current one for it\n", part)
+        cause = "it took the value for slot 0, since that is the current one for it"
+        self.assertIn(f"since place 5: {cause}\n", part)
         self.assertTrue(part.endswith("at the end: not as the device in 4 things"), part)
 
     def test_a_synchronisation_of_slots(self):
@@ -293,7 +306,8 @@ class Slots(StuckCase):
 
 class Records(StuckCase):
     def test_two_devices(self):
-        text = KEYBOARD + "client c\n" + TOUCHPAD.split("\n", 1)[1].replace("source s", "source p") + "client d\n"
+        text = KEYBOARD + "client c\n" + TOUCHPAD.split("\n", 1)[1].replace("source s", "source p")
+        text += "client d\n"
         text += "do c open\ndo d open\n" + frame(1, press("KEY_A"))
         text += "do p event 1 EV_ABS ABS_MT_POSITION_X 5\ndo p event 1 EV_SYN SYN_REPORT 0\ndo d follow\n"
         said = self.written("stuck", self.file("two.rec", text))
@@ -302,16 +316,18 @@ class Records(StuckCase):
 
     def test_sixty_four_clients(self):
         names = [f"c{number}" for number in range(64)]
-        text = KEYBOARD + "".join(f"tap {name}\n" for name in names) + "".join(f"do {name} open\n" for name in names)
+        text = KEYBOARD + "".join(f"tap {name}\n" for name in names)
+        text += "".join(f"do {name} open\n" for name in names)
         self.assertIn("since place 65: not read yet\n", self.said(text + frame(1, press("KEY_A"))))
 
     def test_examples(self):
-        """A client differs at the end just where its lines in the report are not those of the device's state."""
+        """A client differs at the end just where its lines in the report are not the device's state."""
         for record in sorted(EXAMPLES.glob("*.rec")):
             with self.subTest(record.name):
                 said = self.written("stuck", record).splitlines()
                 state = [line[2:] for line in said[said.index("the device at the end") + 1 :]]
-                report = subprocess.run([PROGRAM, record], cwd=EXAMPLES, capture_output=True, text=True).stdout
+                played = subprocess.run([PROGRAM, record], cwd=EXAMPLES, capture_output=True, text=True)
+                report = played.stdout
                 parts = report.split("\nclient ")[1:]
                 parts = [part for behind in parts for part in behind.split("\ntap ")]
                 for part in parts or report.split("\ntap ")[1:]:
@@ -330,8 +346,9 @@ class Refusals(StuckCase):
         self.refused("stuck", self.file("text.rec", "a letter\n"), because="line 1: bad-header")
         self.refused("stuck", self.file("raw.rec", bytes(range(256))), because="line 1: not-text")
         self.refused("stuck", self.file("empty.rec", ""), because="line 1: bad-header")
-        self.refused("stuck", self.file("line.rec", whole + "follow\n"), because="line 10: bad-line: 'follow'")
-        self.refused("stuck", self.file("stream.rec", whole + "do s stream none.bin\n"), because="read failed")
+        bad_line, no_stream = whole + "follow\n", whole + "do s stream none.bin\n"
+        self.refused("stuck", self.file("line.rec", bad_line), because="line 10: bad-line: 'follow'")
+        self.refused("stuck", self.file("stream.rec", no_stream), because="read failed")
 
     def test_wrong_words(self):
         self.refused("stuck", because="required: FILE")
@@ -344,7 +361,10 @@ class Refusals(StuckCase):
         liar.chmod(liar.stat().st_mode | stat.S_IXUSR)
         record = self.file("case.rec", KEYBOARD + "client c\ndo c open\n")
         done = subprocess.run(
-            [TOOLS / "stuck", record], env={**os.environ, "INPUTPLAY": str(liar)}, capture_output=True, text=True
+            [TOOLS / "stuck", record],
+            env={**os.environ, "INPUTPLAY": str(liar)},
+            capture_output=True,
+            text=True,
         )
         self.assertEqual((2, ""), (done.returncode, done.stdout), done.stderr)
         self.assertEqual(1, len(done.stderr.splitlines()), done.stderr)

@@ -31,5 +31,6 @@ class Page(DeskCase):
         self.assertGreater(len(shown), 8)
         for command, lines in shown:
             with self.subTest(command):
-                done = subprocess.run(["bash", "-c", command], cwd=self.folder, env=env, capture_output=True, text=True)
+                words = ["bash", "-c", command]
+                done = subprocess.run(words, cwd=self.folder, env=env, capture_output=True, text=True)
                 self.assertEqual((0, lines), (done.returncode, done.stdout.splitlines()), done.stderr)

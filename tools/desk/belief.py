@@ -1,8 +1,8 @@
 """What a client believes of its device: the fold of what it read and of the answers to its queries.
 
-A thing is what a belief has a value of: a key, a switch, an LED or an axis as (type, code), a value of a slot as
-("slot", number, code), and the current slot as CURRENT. At first nothing is down or on, axes and the current slot are
-0, and no slot has a contact.
+A thing is what a belief has a value of: a key, a switch, an LED or an axis as (type, code), a value of a
+slot as ("slot", number, code), and the current slot as CURRENT. At first nothing is down or on, axes and
+the current slot are 0, and no slot has a contact.
 """
 
 CURRENT = ("current",)
@@ -86,9 +86,9 @@ class Belief:
         """An answer that tells all values of all slots; the things that changed."""
         told = {**cells, CURRENT: current}
         before = {thing for thing in self.values if thing[0] in ("slot", "current")}
-        changed = {thing for thing in before | set(told) if self.value(thing) != told.get(thing, first_value(thing))}
-        for thing in changed:
-            self.values[thing] = told.get(thing, first_value(thing))
+        values = {thing: told.get(thing, first_value(thing)) for thing in before | set(told)}
+        changed = {thing for thing, value in values.items() if self.value(thing) != value}
+        self.values.update(values)
         self.whole["slot"] = origin
         return changed
 
@@ -112,7 +112,8 @@ def thing_text(thing):
 
 
 def view_of_lines(lines):
-    """The things of a report's view lines (`keys`, `axes`, `slot` ..) that are not as at first, and their values."""
+    """The things of a report's view lines (`keys`, `axes`, `slot` ..) that are not as at first, and their
+    values."""
     values = {}
     for words in lines:
         if words[0] in VIEW_KIND:

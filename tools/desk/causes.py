@@ -1,7 +1,8 @@
 """What kept an event from a client: the first cause that holds, in words.
 
-The causes are looked for in the order of an event's way: its frame must have been offered to the client (it was open and
-not revoked, nobody else held the grab), admitted by its masks, kept in its ring (no loss, no discard), and read.
+The causes are looked for in the order of an event's way: its frame must have been offered to the client (it
+was open and not revoked, nobody else held the grab), admitted by its masks, kept in its ring (no loss, no
+discard), and read.
 """
 
 from desk.belief import CURRENT, SLOT
@@ -11,8 +12,16 @@ def span_text(begin, end):
     return f"from place {begin} to {end}" if end is not None else f"from place {begin} on"
 
 
+def event_of_thing(thing):
+    """The type and the code of the events that set a thing."""
+    if thing == CURRENT:
+        return "EV_ABS", SLOT
+    return ("EV_ABS", thing[2]) if thing[0] == "slot" else thing
+
+
 class Causes:
-    """The causes of one device: its state, what its history says of the clients, and whose the clients are."""
+    """The causes of one device: its state, what its history says of the clients, and whose the clients
+    are."""
 
     def __init__(self, state, handles, device, unread):
         self.state, self.handles, self.unread = state, handles, unread
@@ -40,20 +49,21 @@ class Causes:
         ended = self.state.frame_places[-1] if self.state.frames else -1
         if origin is not None and origin[2] > ended:
             ended = origin[2]
-        place = next((p for p in self.state.places if p > ended and self.sets(self.state.history[p], thing)), None)
+        behind = (place for place in self.state.places if place > ended)
+        place = next((place for place in behind if self.sets(self.state.history[place], thing)), None)
         return place, "its frame has not ended: no report followed"
 
     def sets(self, step, thing):
         """Does a step inject or write an event for this thing?"""
-        words = step[-3:-1]
-        return words == ["EV_ABS", SLOT if thing == CURRENT else thing[-1]] or words == list(thing)
+        return step[-3:-1] == list(event_of_thing(thing))
 
     def of_later_belief(self, thing, origin, point):
         """The cause where the belief was told later than the device took its value."""
         if origin[1] == "answer" and point.kind == "report" and origin[2] > point.place:
             return f"it asked at place {origin[2]}, behind this report's frame"
         if origin[1] == "took" and thing[0] == "slot":
-            return f"it took the value of place {origin[2]} for this slot, which is not the device's current one there"
+            where = f"it took the value of place {origin[2]} for this slot"
+            return f"{where}, which is not the device's current one there"
         return None
 
     def of_event(self, walk, thing, frame, point):
@@ -61,7 +71,7 @@ class Causes:
         if frame < 0:
             return "it did not ask for the state at its start"
         place = self.state.place_of(frame)
-        kind, code = ("EV_ABS", SLOT if thing == CURRENT else thing[2]) if thing[0] in ("slot", "current") else thing
+        kind, code = event_of_thing(thing)
         taken_for = walk.slot_of_taken.get((place, code))
         if thing[0] == "slot" and taken_for not in (None, thing[1]):
             return f"it took the value for slot {taken_for}, since that is the current one for it"
@@ -91,7 +101,8 @@ class Causes:
     def of_queue(self, walk, client, place, point):
         """What became of an event that the client was offered."""
         causes = [(lost, self.loss_text(client, lost)) for lost in walk.losses if lost >= place]
-        causes += [(gone, f"removed unread by its discard at place {gone}") for gone in walk.discards if gone > place]
+        gone = [discard for discard in walk.discards if discard > place]
+        causes += [(discard, f"removed unread by its discard at place {discard}") for discard in gone]
         changed = self.handles.clock_change_behind(client, place)
         if changed is not None:
             causes.append((changed, self.loss_text(client, changed)))

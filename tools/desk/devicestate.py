@@ -1,15 +1,17 @@
 """The device's own state, as the program itself tells it.
 
-A second record is made of the history of the first one, and played by the same program. It has the same device and all
-steps that a device's state comes of: what was injected and written, ticks and inhibitions, in order. Nobody else is
-there, so there is no grab and no mask, and the log limit is the greatest one. Two clients watch:
+A second record is made of the history of the first one, and played by the same program. It has the same
+device and all steps that a device's state comes of: what was injected and written, ticks and inhibitions,
+in order. Nobody else is there, so there is no grab and no mask, and the log limit is the greatest one. Two
+clients watch:
 
-- `frames` reads whatever each step ended. So its events are the frames that were passed, and its belief at each report
-  is the device's state at that frame's end.
+- `frames` reads whatever each step ended. So its events are the frames that were passed, and its belief at
+each report is the device's state at that frame's end.
 - `state` synchronises where the state is wanted as it is at a place, in the midst of a frame too: at each
   synchronisation of slots, whose answer no report writes, and at the end.
 
-Their own steps are taken out again: the steps of the source stand for those of the first history, one for one.
+Their own steps are taken out again: the steps of the source stand for those of the first history, one for
+one.
 """
 
 import bisect
@@ -34,7 +36,8 @@ class Frame:
 
 
 class Changes:
-    """How a thing changed: the numbers of the frames, and the values behind them. Number -1 stands for the start."""
+    """How a thing changed: the numbers of the frames, and the values behind them. Number -1 stands for the
+    start."""
 
     def __init__(self, value):
         self.frames, self.values = [-1], [value]
@@ -62,8 +65,9 @@ class Changes:
 class DeviceState:
     """What is told of a device.
 
-    `frames` are its frames, `changes` how each thing changed, and `changed` which things each frame set; `sync_states` is
-    its state at each synchronisation of slots, `end` that at the end, and `view` the lines in which a report has it.
+    `frames` are its frames, `changes` how each thing changed, and `changed` which things each frame set;
+    `sync_states` is its state at each synchronisation of slots, `end` that at the end, and `view` the lines
+    in which a report has it.
     """
 
     def __init__(self, description, history):
@@ -100,7 +104,8 @@ class DeviceState:
 
     def frames_at(self, place):
         """The numbers of the frames that the step at a place ended."""
-        return range(bisect.bisect_left(self.frame_places, place), bisect.bisect_right(self.frame_places, place))
+        first = bisect.bisect_left(self.frame_places, place)
+        return range(first, bisect.bisect_right(self.frame_places, place))
 
     def cells_at(self, place):
         """The values of the slots that a synchronisation at a place was told."""
@@ -124,7 +129,8 @@ def action_of(step):
 
 
 def is_read_behind(step, waiting, hint):
-    """Is to be read behind this step? Where frames may have ended, and before more events wait than a ring holds."""
+    """Is to be read behind this step? Where frames may have ended, and before more events wait than a ring
+    holds."""
     is_event = step[0] in ("inject", "write")
     return not is_event or step[-3:-1] == ["EV_SYN", "SYN_REPORT"] or waiting >= hint
 
@@ -208,7 +214,8 @@ def last_before(places, place):
 
 
 def frames_of(part, places):
-    """The frames that the client read. Events that it made itself, since its ring ran over, stand for those lost."""
+    """The frames that the client read. Events that it made itself, since its ring ran over, stand for those
+    lost."""
     frames, events, place, time, called = [], [], None, 0, 0
     for entry in part.sight:
         if entry[0] == "call":

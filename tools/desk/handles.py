@@ -1,4 +1,5 @@
-"""What a history says of a device's clients: when each was opened, closed and revoked, its grabs, masks and clocks."""
+"""What a history says of a device's clients: when each was opened, closed and revoked, its grabs, masks and
+clocks."""
 
 from desk.names import TYPES, number_of_code
 
@@ -53,11 +54,12 @@ class Handles:
         return next((grab for grab in self.grabs if grab.holds_at(place) and grab.client != client), None)
 
     def mask_at(self, client, place, kind, code):
-        """The client's mask that leaves an event out at a place: its type, from which place to which; or None."""
+        """The client's mask that leaves an event out at a place: its type, from which place to which; or
+        None."""
         for mask, number in (("EV_SYN", TYPES[kind]), (kind, number_of_code(TYPES[kind], code))):
             steps = [step for step in self.masks.get(client, []) if step[1:3] == (mask, number // 64)]
-            spans = masked_spans(steps, number % 64)
-            span = next((span for span in spans if span[0] < place and (span[1] is None or place < span[1])), None)
+            begun = (span for span in masked_spans(steps, number % 64) if span[0] < place)
+            span = next((span for span in begun if span[1] is None or place < span[1]), None)
             if span:
                 return "types" if mask == "EV_SYN" else mask, *span
         return None
@@ -67,7 +69,8 @@ class Handles:
         kinds = {}
         for place, kind, word, bits in self.masks.get(client, []):
             kinds.setdefault((kind, word), []).append((place, kind, word, int(bits == ALL_BITS)))
-        return [("types" if kind == "EV_SYN" else kind, *span) for (kind, _), steps in kinds.items() for span in masked_spans(steps, 0)]
+        spans = [(kind, *span) for (kind, _), steps in kinds.items() for span in masked_spans(steps, 0)]
+        return [("types" if kind == "EV_SYN" else kind, begin, end) for kind, begin, end in spans]
 
     def is_clock_change(self, client, place):
         return any(changed == place for changed, _ in self.clocks.get(client, [])[1:])

@@ -1,7 +1,7 @@
 """What is drawn of a played device: rows of marks, bars and lines over the places of its history.
 
-A row says what is to be seen and not where it stands on the paper: `desk.picture` lays the rows out. Each mark and bar has a
-text, which is shown where the pointer rests on it.
+A row says what is to be seen and not where it stands on the paper: `desk.picture` lays the rows out. Each
+mark and bar has a text, which is shown where the pointer rests on it.
 """
 
 import bisect
@@ -74,7 +74,8 @@ def frame_row(state):
     for frame in state.frames:
         events = ", ".join(" ".join(map(str, event)) for event in frame.events[:6])
         more = f" and {len(frame.events) - 6} more" if len(frame.events) > 6 else ""
-        marks.append((frame.place, "frame", f"frame of place {frame.place}, time {frame.time}: {events}{more}"))
+        text = f"frame of place {frame.place}, time {frame.time}: {events}{more}"
+        marks.append((frame.place, "frame", text))
     return Row("frames", marks=marks)
 
 
@@ -90,19 +91,24 @@ def contact_text(value):
 def bit_rows(state, end):
     """A row for each key, switch and LED that was on at any time."""
     things = sorted((thing for thing in state.changes if thing[0] in BIT_KINDS), key=str)
-    rows = [Row(thing[1], bars=span_bars(state.changes[thing], state, end, "on", on_text(thing))) for thing in things]
-    return [row for row in rows if row.bars]
+    rows = []
+    for thing in things:
+        bars = span_bars(state.changes[thing], state, end, "on", on_text(thing))
+        rows += [Row(thing[1], bars=bars)] if bars else []
+    return rows
 
 
 def points_of(changes, state):
-    return Ordered((state.place_of(frame) or 0, value) for frame, value in zip(changes.frames, changes.values))
+    places = (state.place_of(frame) or 0 for frame in changes.frames)
+    return Ordered(zip(places, changes.values))
 
 
 def axis_rows(state):
     """A row with a line for each axis that moved."""
     things = sorted((thing for thing in state.changes if thing[0] == "EV_ABS"), key=str)
     moved = [thing for thing in things if len(state.changes[thing].frames) > 1]
-    return [Row(thing[1], "line", lines=[(points_of(state.changes[thing], state), "first")]) for thing in moved]
+    lines = {thing[1]: points_of(state.changes[thing], state) for thing in moved}
+    return [Row(name, "line", lines=[(points, "first")]) for name, points in lines.items()]
 
 
 def slot_rows(state, end):
@@ -157,7 +163,8 @@ def handle_bars(played, client):
         if revoked is not None:
             bars.append((revoked, closed, "revoked", f"revoked at place {revoked}"))
         for kind, begin, ended in handles.spans_of_masks(number):
-            bars.append((begin, end if ended is None else ended, "mask", f"mask of {kind}, from place {begin}"))
+            text = f"mask of {kind}, from place {begin}"
+            bars.append((begin, end if ended is None else ended, "mask", text))
         for grab in handles.grabs:
             if grab.client == number:
                 text = f"grab of {client.name} from place {grab.begin}"
@@ -174,8 +181,9 @@ def parting_rows(played, client):
             rows[parting.thing] = Row(name.replace("ABS_MT_", "MT_"), "parted")
         since = 0 if parting.since is None else parting.since
         met = end if parting.met[1] is None else parting.met[1]
-        values = " for it, ".join(value_text(parting.thing, value) for value in (parting.believed, parting.present))
-        text = f"{name} differs from place {since} to {met}: {values} on the device: {parting.cause}"
+        believed, present = parting.value_texts()
+        values = f"{believed} for it, {present} on the device"
+        text = f"{name} differs from place {since} to {met}: {values}: {parting.cause}"
         rows[parting.thing].bars.append((min(since, met), max(since, met), "parted", text))
     return list(rows.values())
 
@@ -208,7 +216,9 @@ def fewer(rows, begin, end):
 def sections(played):
     """The headings and their rows: the sources, the device, each client."""
     found = [("sources", source_rows(played)), (f"device {played.name}", device_rows(played))]
-    return found + [(f"{client.part.role} {client.name}", client_rows(played, client)) for client in played.clients]
+    for client in played.clients:
+        found.append((f"{client.part.role} {client.name}", client_rows(played, client)))
+    return found
 
 
 def sections_between(found, begin, end):

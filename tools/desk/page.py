@@ -10,12 +10,12 @@ from desk.told import device_lines
 LEAST_RANGE = 200
 MOST_RANGES = 40
 
-PAGE_RULES = """body { background: var(--paper); color: var(--ink); font: 14px sans-serif; margin: 1.5em; max-width: 1240px }
-h1 { font-size: 1.4em } h2 { font-size: 1.15em; margin-top: 1.6em } svg { display: block; max-width: 100%; height: auto }
-pre { white-space: pre-wrap; font-size: 12px } summary { cursor: pointer; padding: 3px 0 } a { color: var(--device) }
-.by-place .time, .by-time .place { display: none } .legend span { margin-right: 1.2em; white-space: nowrap }
-.legend svg { display: inline; vertical-align: -4px; margin-right: .3em } .pick { fill: var(--contact) }
-.pick:hover { fill: var(--device) }"""
+PAGE_RULES = """body { background: var(--paper); color: var(--ink); font: 14px sans-serif; margin: 1.5em;
+max-width: 1240px } h1 { font-size: 1.4em } h2 { font-size: 1.15em; margin-top: 1.6em } svg { display:
+block; max-width: 100%; height: auto } pre { white-space: pre-wrap; font-size: 12px } summary { cursor:
+pointer; padding: 3px 0 } a { color: var(--device) } .by-place .time, .by-time .place { display: none }
+.legend span { margin-right: 1.2em; white-space: nowrap } .legend svg { display: inline; vertical-align:
+-4px; margin-right: .3em } .pick { fill: var(--contact) } .pick:hover { fill: var(--device) }"""
 
 SCRIPT = """for (const choice of document.querySelectorAll('input[name=by]'))
   choice.onchange = () => { document.body.className = choice.value };
@@ -23,7 +23,8 @@ function show() { const part = document.getElementById(location.hash.slice(1)); 
 window.onhashchange = show; show();"""
 
 MARKS = (
-    ("event", "event"), ("report", "report"), ("timer", "tick or inhibition"), ("frame", "frame"), ("read", "read"),
+    ("event", "event"), ("report", "report"), ("timer", "tick or inhibition"),
+    ("frame", "frame"), ("read", "read"),
     ("again", "nothing left to read"), ("ask", "opened, or asked anew"), ("loss", "loss (SYN_DROPPED)"),
 )
 BARS = (
@@ -41,8 +42,9 @@ def legend_parts():
 
 
 def legend():
-    icons = ((f'<svg width="16" height="16" viewBox="0 0 16 16">{shape}/></svg>', text) for shape, text in legend_parts())
-    return '<p class="legend">' + " ".join(f"<span>{icon}{text}</span>" for icon, text in icons) + "</p>"
+    icon = '<svg width="16" height="16" viewBox="0 0 16 16">{}/></svg>'
+    parts = (f"<span>{icon.format(shape)}{text}</span>" for shape, text in legend_parts())
+    return '<p class="legend">' + " ".join(parts) + "</p>"
 
 
 def both_ways(found, moments, begin, end, picks=""):
@@ -66,7 +68,8 @@ def picks_of(name, ranges, scale):
     shapes = []
     for begin, end in ranges:
         left, right = scale.x(begin), scale.x(end)
-        box = f'<rect class="pick" x="{left:.1f}" y="{AXIS - 8}" width="{max(right - left - 1, 2):.1f}" height="8">'
+        size = f'width="{max(right - left - 1, 2):.1f}" height="8"'
+        box = f'<rect class="pick" x="{left:.1f}" y="{AXIS - 8}" {size}>'
         shapes.append(f'<a href="#{name}-{begin}">{box}<title>places {begin} to {end - 1}</title></rect></a>')
     return "".join(shapes)
 
@@ -75,7 +78,8 @@ def device_part(played, number, first, last):
     """The part of a device between two places."""
     steps = len(played.report.history)
     begin, end = min(first or 0, max(steps - 1, 0)), min(steps if last is None else last + 1, steps)
-    parts = [f"<h2>device {escape(played.name)}: {steps} steps" + (f", places {begin} to {end - 1}</h2>" if steps else "</h2>")]
+    shown = f", places {begin} to {end - 1}" if begin < end else ""
+    parts = [f"<h2>device {escape(played.name)}: {steps} steps{shown}</h2>"]
     if begin >= end:
         return parts[0] + "<p>No step is between these places.</p>"
     ranges = ranges_of(begin, end)
@@ -87,8 +91,9 @@ def device_part(played, number, first, last):
     for begin, end in ranges:
         parts.append(f'<details id="d{number}-{begin}"><summary>places {begin} to {end - 1}</summary>')
         parts.append(both_ways(found, moments, begin, end) + "</details>")
-    said = "\n".join(device_lines(played))
-    return "\n".join(parts) + f"\n<details open><summary>where beliefs and device part</summary><pre>{escape(said)}</pre></details>"
+    said = escape("\n".join(device_lines(played)))
+    parts.append(f"<details open><summary>where beliefs and device part</summary><pre>{said}</pre></details>")
+    return "\n".join(parts)
 
 
 def page(name, devices, first=None, last=None):
@@ -116,7 +121,8 @@ def svg_legend(drawn, y):
         width = 30 + 6 * len(text)
         if x + width > WIDTH:
             x, y = 10, y + 20
-        shapes.append(f'<g transform="translate({x} {y})">{shape}/><text x="20" y="12" class="faint">{text}</text></g>')
+        told = f'<text x="20" y="12" class="faint">{text}</text>'
+        shapes.append(f'<g transform="translate({x} {y})">{shape}/>{told}</g>')
         x += width
     return "\n".join(shapes), y + 24
 

@@ -1,31 +1,40 @@
-"""Where a client's belief and the device's state part and meet again, and what kept the event from the client.
+"""Where a client's belief and the device's state part and meet again, and what kept the event from the
+client.
 
-The belief is compared at each report that the client was handed, with the device's state at the end of that report's
-frame; where it found nothing more to read, with the state at the end of the last frame; and at the end of the record,
-with the state then.
+The belief is compared at each report that the client was handed, with the device's state at the end of that
+report's frame; where it found nothing more to read, with the state at the end of the last frame; and at the
+end of the record, with the state then.
 """
 
-from desk.belief import CURRENT, QUERIED_KIND, SLOT, Belief, first_difference, is_slot_code, view_of_lines
+from desk.belief import CURRENT, QUERIED_KIND, SLOT, Belief, first_difference, is_slot_code
+from desk.belief import value_text, view_of_lines
 from desk.command import Wrong
 
 
 class Point:
-    """A place at which a belief is compared: "report", "again" or "end", with the number of the device's frame."""
+    """A place at which a belief is compared: "report", "again" or "end", with the number of the device's
+    frame."""
 
     def __init__(self, kind, place, entry, frame):
         self.kind, self.place, self.entry, self.frame = kind, place, entry, frame
 
 
 class Parting:
-    """A thing in which belief and device differ: both values at first, since which place, why, and at which points.
+    """A thing in which belief and device differ: both values at first, since which place, why, and at which
+    points.
 
-    `since` is None where they differed from the start. `met` tells how they met again, ("asked", "event", "device" or
-    None) and the place.
+    `since` is None where they differed from the start. `met` tells how they met again, ("asked", "event",
+    "device" or None) and the place.
     """
 
     def __init__(self, thing, believed, present, since, cause):
-        self.thing, self.believed, self.present, self.since, self.cause = thing, believed, present, since, cause
+        self.thing, self.believed, self.present = thing, believed, present
+        self.since, self.cause = since, cause
         self.points, self.met = [], (None, None)
+
+    def value_texts(self):
+        """What the client believed and what the device had, in words."""
+        return value_text(self.thing, self.believed), value_text(self.thing, self.present)
 
 
 def is_part_of(events, frame):
@@ -47,7 +56,8 @@ class Walk:
         self.answers, self.missing = None, 0
 
     def run(self):
-        """Goes through the whole sight; the partings are in `partings` then, and those at the end in `at_end`."""
+        """Goes through the whole sight; the partings are in `partings` then, and those at the end in
+        `at_end`."""
         for number, entry in enumerate(self.part.sight):
             getattr(self, "see_" + entry[0])(number, *entry[1:])
         self.check()
@@ -97,14 +107,16 @@ class Walk:
         return point.frame < 0 or origin[2] > self.state.frame_places[point.frame]
 
     def part_at(self, thing, point):
-        """A parting begins, since the frame that made the device's value another one, or since the belief changed."""
+        """A parting begins, since the frame that made the device's value another one, or since the belief
+        changed."""
         since, cause = self.cause_of(self, thing, point)
         parting = Parting(thing, self.belief.value(thing), self.state.value(thing, point.frame), since, cause)
         self.open[thing] = parting
         self.partings.append(parting)
 
     def meet(self, thing):
-        """A parting ends: by an answer, by an event, or since the device's value is the believed one again."""
+        """A parting ends: by an answer, by an event, or since the device's value is the believed one
+        again."""
         parting = self.open.pop(thing)
         origin = self.belief.origin(thing)
         if origin is not None and origin[0] > parting.points[-1].entry:
@@ -146,7 +158,8 @@ class Walk:
             self.taken = []
 
     def frame_of_report(self, place):
-        """The number of the frame whose report was taken. One step may end several: the next that has the events."""
+        """The number of the frame whose report was taken. One step may end several: the next that has the
+        events."""
         frames = [frame for frame in self.state.frames_at(place) if frame > self.reported]
         frames = frames or self.state.frames_at(place)
         taken = [event for event in self.taken if event[1] != "SYN_DROPPED"]

@@ -1,6 +1,7 @@
 """Draws rows as SVG: over the places of a history, or over its moments.
 
-Marks that fall on one point of the paper are drawn once, so a picture stays small however many events it stands for.
+Marks that fall on one point of the paper are drawn once, so a picture stays small however many events it
+stands for.
 """
 
 from html import escape
@@ -14,6 +15,9 @@ HEIGHTS = {"row": 16, "client": 24, "line": 34, "parted": 16, "note": 14}
 MARK_KINDS = ("event", "timer", "report", "frame", "again", "read", "ask", "loss")
 DENSE = 250
 
+# How far from a row's top a bar begins, and how much lower than the row it is.
+BAR_HEIGHTS = {"open": (2, 5), "contact": (2, 5), "mask": (2, 5), "grab": (2, 19)}
+
 # The colours, for light and for dark paper. Marks differ in shape too, and not in colour alone.
 COLOURS = {
     "paper": ("#ffffff", "#16181d"), "ink": ("#1c1e22", "#e8e8ea"), "faint": ("#676c75", "#a2a8b3"),
@@ -23,22 +27,24 @@ COLOURS = {
     "mask": ("#8a6d3b", "#cbb07a"), "revoked": ("#8b9099", "#7b818c"), "parted": ("#d6336c", "#f06595"),
 }
 
-RULES = """text { font: 11px sans-serif; fill: var(--ink) } text.faint { fill: var(--faint) }
-.heading { font-weight: bold } .paper { fill: var(--paper) } .grid { stroke: var(--grid) } .rule { stroke: var(--faint) }
-.event { fill: var(--faint) } .report { fill: var(--ink) } .timer { fill: var(--second) } .frame { fill: var(--device) }
-.on { fill: var(--device) } .contact { fill: var(--contact); stroke: var(--device) }
-.first { stroke: var(--device); fill: none } .second { stroke: var(--second); fill: none; stroke-dasharray: 4 2 }
-.open { fill: var(--open) } .grab { fill: var(--grab) } .revoked { fill: none; stroke: var(--revoked); stroke-dasharray: 2 3 }
-.mask { fill: none; stroke: var(--mask); stroke-width: 2; stroke-dasharray: 6 3 } .read { fill: var(--read) }
-.again { fill: var(--paper); stroke: var(--read) } .ask { fill: var(--ask) } .loss { stroke: var(--loss); stroke-width: 2.5 }
-.parted, text.differs { fill: var(--parted) } .dense { stroke-width: 1; fill: none } .dense.event { stroke: var(--faint) }
-.dense.report { stroke: var(--ink) } .dense.timer { stroke: var(--second) } .dense.frame { stroke: var(--device) }
-.dense.read, .dense.again { stroke: var(--read) } .dense.ask { stroke: var(--ask) }"""
+RULES = """text { font: 11px sans-serif; fill: var(--ink) } text.faint { fill: var(--faint) } .heading {
+font-weight: bold } .paper { fill: var(--paper) } .grid { stroke: var(--grid) } .rule { stroke: var(--faint)
+} .event { fill: var(--faint) } .report { fill: var(--ink) } .timer { fill: var(--second) } .frame { fill:
+var(--device) } .on { fill: var(--device) } .contact { fill: var(--contact); stroke: var(--device) } .first
+{ stroke: var(--device); fill: none } .second { stroke: var(--second); fill: none; stroke-dasharray: 4 2 }
+.open { fill: var(--open) } .grab { fill: var(--grab) } .revoked { fill: none; stroke: var(--revoked);
+stroke-dasharray: 2 3 } .mask { fill: none; stroke: var(--mask); stroke-width: 2; stroke-dasharray: 6 3 }
+.read { fill: var(--read) } .again { fill: var(--paper); stroke: var(--read) } .ask { fill: var(--ask) }
+.loss { stroke: var(--loss); stroke-width: 2.5 } .parted, text.differs { fill: var(--parted) } .dense {
+stroke-width: 1; fill: none } .dense.event { stroke: var(--faint) } .dense.report { stroke: var(--ink) }
+.dense.timer { stroke: var(--second) } .dense.frame { stroke: var(--device) } .dense.read, .dense.again {
+stroke: var(--read) } .dense.ask { stroke: var(--ask) }"""
 
 
 def style():
     """The rules of all pictures, for light and dark paper."""
-    light, dark = (" ".join(f"--{name}: {pair[index]};" for name, pair in COLOURS.items()) for index in (0, 1))
+    light = " ".join(f"--{name}: {colour};" for name, (colour, _) in COLOURS.items())
+    dark = " ".join(f"--{name}: {colour};" for name, (_, colour) in COLOURS.items())
     return f":root {{ {light} }}\n@media (prefers-color-scheme: dark) {{ :root {{ {dark} }} }}\n{RULES}"
 
 
@@ -54,7 +60,8 @@ class Scale:
     def x(self, place):
         place = max(self.begin, min(place, self.end))
         if not self.moments:
-            return GUTTER + PLOT * (place - self.begin + 0.5 * (place < self.end)) / max(self.end - self.begin, 1)
+            middle = 0.5 if place < self.end else 0
+            return GUTTER + PLOT * (place - self.begin + middle) / max(self.end - self.begin, 1)
         if place >= self.end:
             return GUTTER + PLOT
         return GUTTER + PLOT * 0.99 * (self.moments[int(place)] - self.first) / self.length
@@ -62,7 +69,9 @@ class Scale:
     def ticks(self):
         """The texts of the axis, and where they stand."""
         if self.moments:
-            return [(GUTTER + PLOT * 0.99 * part / 5, f"{(self.first + self.length * part // 5) / 1e6:.6g} s") for part in range(6)]
+            moments = [self.first + self.length * part // 5 for part in range(6)]
+            places = [GUTTER + PLOT * 0.99 * part / 5 for part in range(6)]
+            return [(x, f"{moment / 1e6:.6g} s") for x, moment in zip(places, moments)]
         steps = (digit * 10**zeros for zeros in range(9) for digit in (1, 2, 5))
         step = next(step for step in steps if (self.end - self.begin) / step <= 12)
         first = -(-self.begin // step) * step
@@ -130,7 +139,8 @@ def dense_marks(kind, points, y, height):
 
 
 def bars(row, scale, y, height):
-    """The bars of a row. Those that end where the next begins, on one point of the paper, are drawn as one."""
+    """The bars of a row. Those that end where the next begins, on one point of the paper, are drawn as
+    one."""
     shapes, drawn = [], {}
     for begin, end, kind, text in row.bars:
         if begin >= scale.end or end < scale.begin:
@@ -139,14 +149,16 @@ def bars(row, scale, y, height):
         if right - left < 1 and drawn.get(kind, -9) >= left - 1:
             continue
         drawn[kind] = right
-        top, size = (2, height - 5) if kind in ("open", "contact", "mask") else (5, height - 10) if kind != "grab" else (2, 5)
-        shape = f'<rect class="{kind}" x="{left:.1f}" y="{y + top:.1f}" width="{max(right - left, 2):.1f}" height="{max(size, 4):.1f}"'
+        top, size = BAR_HEIGHTS.get(kind, (5, 10))
+        box = f'y="{y + top}" width="{max(right - left, 2):.1f}" height="{height - size}"'
+        shape = f'<rect class="{kind}" x="{left:.1f}" {box}'
         shapes.append(titled(shape, text))
     return shapes
 
 
 def columns(points, scale):
-    """The points of a line between the scale's ends; of those on one point of the paper the first, least, greatest, last."""
+    """The points of a line between the scale's ends; of those on one point of the paper the first, least,
+    greatest, last."""
     inside = [(scale.x(place), value) for place, value in points.between(scale.begin, scale.end)]
     found = {}
     for x, value in [(GUTTER, value) for _, value in points.before(scale.begin)] + inside:
@@ -177,7 +189,8 @@ def lines(row, scale, y, height):
         kept = columns(points, scale)
         if not kept:
             continue
-        path = stepped([(x, round(y + height - 5 - (height - 10) * (value - least) / span)) for x, value in kept])
+        room = (height - 10) / span
+        path = stepped([(x, round(y + height - 5 - room * (value - least))) for x, value in kept])
         text = f"{row.label} from {least} to {max(values)}"
         shapes.append(titled(f'<path class="{kind}" d="{path}"', text))
     return shapes
@@ -187,7 +200,8 @@ def label(row, y, height):
     """A row's label, cut to the room that it has."""
     shown = row.label if len(row.label) <= 30 else row.label[:28] + ".."
     kind = {"note": "faint", "parted": "differs"}.get(row.kind, "ink")
-    return f'<text x="{GUTTER - 8}" y="{y + height / 2 + 4:.1f}" text-anchor="end" class="{kind}">{escape(shown)}</text>'
+    place = f'x="{GUTTER - 8}" y="{y + height / 2 + 4:.1f}" text-anchor="end"'
+    return f'<text {place} class="{kind}">{escape(shown)}</text>'
 
 
 def axis(scale, height):
@@ -217,13 +231,15 @@ def section(heading, rows, scale, y):
 
 
 def picture(sections, scale, legend="", height=None):
-    """The SVG of sections, each a heading and its rows. One with a legend, which makes it higher, has its own style."""
+    """The SVG of sections, each a heading and its rows. One with a legend, which makes it higher, has its
+    own style."""
     shapes, y = axis(scale, height_of(sections)), AXIS
     for heading, rows in sections:
         shapes += section(heading, rows, scale, y)
         y += HEADING + sum(HEIGHTS[row.kind] for row in rows)
     height = height or height_of(sections)
-    head = f'<svg xmlns="http://www.w3.org/2000/svg" viewBox="0 0 {WIDTH} {height}" width="{WIDTH}" height="{height}" role="img">'
+    size = f'viewBox="0 0 {WIDTH} {height}" width="{WIDTH}" height="{height}"'
+    head = f'<svg xmlns="http://www.w3.org/2000/svg" {size} role="img">'
     sheet = f"<style>{style()}</style>" if legend else ""
     paper = f'<rect class="paper" width="{WIDTH}" height="{height}"/>'
     return "\n".join([head + sheet + paper, *shapes, legend + "</svg>"])

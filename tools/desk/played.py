@@ -1,5 +1,5 @@
-"""A record that was played with its history, and all that is said of it: the state of each device, what each client
-believed of it, and where both part. `tools/stuck` prints this, and `tools/draw` draws it."""
+"""A record that was played with its history, and all that is said of it: the state of each device, what
+each client believed of it, and where both part. `tools/stuck` prints this, and `tools/draw` draws it."""
 
 import os
 import tempfile
@@ -17,7 +17,8 @@ from desk.slips import refusal_text
 
 
 class Unread:
-    """What clients would lose if they read on at the end: the record is played again with such lines behind it."""
+    """What clients would lose if they read on at the end: the record is played again with such lines behind
+    it."""
 
     def __init__(self, text, record, folder, player, report):
         self.text, self.record, self.folder, self.player, self.report = text, record, folder, player, report
@@ -46,7 +47,8 @@ class Unread:
 
 
 class Client:
-    """A client or tap: what it saw, where it parted from its device and met it again, and where it differs at the end."""
+    """A client or tap: what it saw, where it parted from its device and met it again, and where it differs
+    at the end."""
 
     def __init__(self, part, walk, at_end):
         self.name, self.part = part.name, part
@@ -95,7 +97,8 @@ def play(path, player):
     if status not in PLAYED:
         raise Wrong(f"{path}: {refusal_text(text, written, status)}")
     record, report = Record(text), read_report(written)
-    states = [devicestate.DeviceState(*pair) for pair in zip(record.devices, (device.history for device in report))]
+    histories = [device.history for device in report]
+    states = [devicestate.DeviceState(*pair) for pair in zip(record.devices, histories)]
     devicestate.ask(states, player)
     unread = Unread(text, record, folder, player, report)
     steps = [source_steps(record, number, device.history, folder) for number, device in enumerate(report)]

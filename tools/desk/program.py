@@ -1,10 +1,12 @@
 """Finds the program that plays records, and runs it.
 
 The built program is used where there is one: the one that the environment variable INPUTPLAY names, or
-crates/inp_main/out/inp_main of this repository. Else the toolchain's `rt try` plays the record without proof. It runs
-the program in a folder of its own, so it is handed the record and the file of each `stream` line by name.
+crates/inp_main/out/inp_main of this repository. Else the toolchain's `rt try` plays the record without
+proof. It runs the program in a folder of its own, so it is handed the record and the file of each `stream`
+line by name.
 
-The program writes its report and its one-line messages to the same output. `play` tells them apart by the status.
+The program writes its report and its one-line messages to the same output. `play` tells them apart by the
+status.
 """
 
 import os
@@ -62,10 +64,12 @@ class Player:
         return [*words, "--", *flags, f"./{name}"], SOURCE
 
     def start(self, path, folder, flags):
-        """The running program. What it says beside its output goes to a file, so that it never waits for a reader."""
+        """The running program. What it says beside its output goes to a file, so that it never waits for a
+        reader."""
         words, where = self.command(path, folder, flags)
         self.beside = tempfile.TemporaryFile()
-        return subprocess.Popen(words, cwd=where, stdin=subprocess.DEVNULL, stdout=subprocess.PIPE, stderr=self.beside)
+        given = {"stdin": subprocess.DEVNULL, "stdout": subprocess.PIPE, "stderr": self.beside}
+        return subprocess.Popen(words, cwd=where, **given)
 
     def said(self):
         """The lines that were said beside the output of the last run, but the toolchain's own."""

@@ -1,7 +1,7 @@
 """Reads a record's text into its devices, actors and actions.
 
-It takes the text for a record that the program has accepted: what is wrong in a text is for the program to say. The
-forms of the lines are in docs/FORMATS.md.
+It takes the text for a record that the program has accepted: what is wrong in a text is for the program to
+say. The forms of the lines are in docs/FORMATS.md.
 """
 
 from desk.command import Wrong
@@ -49,7 +49,8 @@ class Actor:
 
 
 class Record:
-    """The devices, the actors by name, and the action lines: of each its line number, its actor and its words."""
+    """The devices, the actors by name, and the action lines: of each its line number, its actor and its
+    words."""
 
     def __init__(self, text):
         self.devices, self.actors, self.actions = [], {}, []

@@ -1,7 +1,7 @@
 """Reads a report: for each device its history, where it has one, and the part of each actor.
 
-The lines of a report are described in docs/FORMATS.md, "The report". Events are kept as (type, code, value), types and
-codes as they are written and the value as a number; all other words stay words.
+The lines of a report are described in docs/FORMATS.md, "The report". Events are kept as (type, code,
+value), types and codes as they are written and the value as a number; all other words stay words.
 """
 
 VIEW_WORDS = ("keys", "switches", "leds", "axes", "current", "slot")
@@ -21,8 +21,8 @@ class Device:
 class Part:
     """What an actor saw: `sight` has one tuple an entry, `view` the lines of its view, `stop` how it ended.
 
-    Entries are ("call", words of the step, words of the reply), ("took", place, time, event), ("made", event) and
-    ("again", place).
+    Entries are ("call", words of the step, words of the reply), ("took", place, time, event), ("made",
+    event) and ("again", place).
     """
 
     def __init__(self, role, name):

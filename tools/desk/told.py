@@ -2,7 +2,7 @@
 
 from itertools import groupby
 
-from desk.belief import thing_text, value_text
+from desk.belief import thing_text
 
 
 def place_text(place):
@@ -44,7 +44,8 @@ def met_text(partings):
 def group_of(parting):
     """What partings that are written together have in common."""
     since = -1 if parting.since is None else parting.since
-    return parting.points[0].entry, since, parting.cause, [point.entry for point in parting.points], str(parting.met[0])
+    points = [point.entry for point in parting.points]
+    return points[0], since, parting.cause, points, str(parting.met[0])
 
 
 def parting_lines(partings):
@@ -52,7 +53,7 @@ def parting_lines(partings):
     first = partings[0]
     lines = []
     for parting in partings:
-        believed, present = (value_text(parting.thing, value) for value in (parting.believed, parting.present))
+        believed, present = parting.value_texts()
         lines.append(f"  {thing_text(parting.thing)}: {believed} for it, {present} on the device")
     lines += [f"    {place_text(first.since)}: {first.cause}", f"    seen at: {points_text(first.points)}"]
     return lines + ([f"    until {met_text(partings)}"] if first.met[0] else [])
@@ -61,7 +62,17 @@ def parting_lines(partings):
 def loss_lines(client):
     """The losses that a client read, which part no belief where it asked at once."""
     places = client.walk.losses
-    return ["  it lost events: " + places_text("SYN_DROPPED of place", "SYN_DROPPED of places", places)] if places else []
+    if not places:
+        return []
+    return ["  it lost events: " + places_text("SYN_DROPPED of place", "SYN_DROPPED of places", places)]
+
+
+def end_text(partings):
+    """Whether a belief is the device's state at the end."""
+    if not partings:
+        return "as the device"
+    things = thing_text(partings[0].thing) if len(partings) == 1 else f"{len(partings)} things"
+    return f"not as the device in {things}"
 
 
 def client_lines(client):
@@ -72,9 +83,7 @@ def client_lines(client):
     lines += loss_lines(client)
     for _, partings in groupby(sorted(client.partings, key=group_of), group_of):
         lines += parting_lines(list(partings))
-    count = len(client.at_end)
-    told = {0: "as the device", 1: f"not as the device in {thing_text(client.at_end[0].thing) if count else ''}"}
-    return lines + [f"  at the end: {told.get(count, f'not as the device in {count} things')}"]
+    return lines + [f"  at the end: {end_text(client.at_end)}"]
 
 
 def device_lines(device):
