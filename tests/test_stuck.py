@@ -88,6 +88,14 @@ the device at the end
             "at the end: not as the device in KEY_A",
         )
 
+    def test_a_grab_behind_the_event(self):
+        text = KEYBOARD + "client c\ntap g\ndo c open\ndo g open\n" + frame(1, press("KEY_A")) + "do g grab\n"
+        self.assertIn("since place 4: not read yet\n", self.said(text))
+
+    def test_a_grab_before_the_event(self):
+        text = KEYBOARD + "client c\ntap g\ndo c open\ndo g open\ndo g grab\ndo g ungrab\n"
+        self.assertIn("since place 6: not read yet\n", self.said(text + frame(1, press("KEY_A"))))
+
     def test_the_holder_is_offered_all(self):
         text = KEYBOARD + "client c\ndo c open\ndo c grab\n" + frame(1, press("KEY_A")) + "do c follow\n"
         self.says(text, "c", "at the end: as the device")
@@ -240,6 +248,31 @@ class Handles(StuckCase):
 
 
 class Frames(StuckCase):
+    def test_an_autorepeat_is_no_press(self):
+        text = KEYBOARD + "client c\ndo c open\n" + frame(1, "EV_KEY KEY_A 2") + "do c follow\n"
+        self.says(text, "c", "at the end: as the device")
+
+    def test_since_the_first_of_several_values(self):
+        text = "inputrecord 1\ndevice d\naxis ABS_X 0 0 9 0 0 0\nsource s\nclient c\ntap g\ndo c open\n"
+        text += "do g open\ndo g grab\n" + "".join(frame(x, f"EV_ABS ABS_X {x}") for x in (5, 6, 7))
+        self.says(
+            text + "do c follow\n",
+            "c",
+            "ABS_X: 0 for it, 7 on the device",
+            "  since place 5: grab of g from place 3 on",
+            "  seen at: nothing left to read at place 10; the end",
+            "at the end: not as the device in ABS_X",
+        )
+
+    def test_a_start_that_is_refused_in_part(self):
+        """The reader asked for keys and was refused the LEDs, so it believes neither answer."""
+        text = KEYBOARD.replace("hint 8", "log 4\ncap EV_LED LED_CAPSL") + "client c\n"
+        text += frame(1, press("KEY_A"))
+        self.assertIn(
+            "KEY_A: up for it, down on the device\n    since place 1: it opened the device later, at place 2",
+            self.said(text + "do c open\n"),
+        )
+
     def test_a_frame_that_has_not_ended(self):
         text = KEYBOARD + "client c\ndo c open\n" + frame(1, "EV_REL REL_X 1")
         text += "do c follow\ndo s event 2 EV_KEY KEY_A 1\n"
@@ -356,16 +389,21 @@ class Refusals(StuckCase):
         self.refused("stuck", "--all", "a", because="unrecognized arguments: --all")
 
     def test_a_report_that_disagrees(self):
-        """A program whose last lines are not what its events make is not believed."""
-        liar = self.file("liar", f"#!/bin/sh\n'{PROGRAM}' \"$@\" | sed 's/^keys$/keys KEY_B/'\n")
-        liar.chmod(liar.stat().st_mode | stat.S_IXUSR)
+        """A program whose last lines are not what its events make is not believed, in either of its runs."""
         record = self.file("case.rec", KEYBOARD + "client c\ndo c open\n")
-        done = subprocess.run(
-            [TOOLS / "stuck", record],
-            env={**os.environ, "INPUTPLAY": str(liar)},
-            capture_output=True,
-            text=True,
-        )
-        self.assertEqual((2, ""), (done.returncode, done.stdout), done.stderr)
-        self.assertEqual(1, len(done.stderr.splitlines()), done.stderr)
-        self.assertIn("is not as the report has it at the end", done.stderr)
+        for case, lies, tells in (("the record", "sed", "cat"), ("its device", "cat", "sed")):
+            with self.subTest(case):
+                lie = "sed 's/^keys$/keys KEY_B/'"
+                first, second = (word.replace("sed", lie) for word in (lies, tells))
+                choice = f'case "$*" in *--history*) {first};; *) {second};; esac'
+                liar = self.file("liar", f"#!/bin/sh\n'{PROGRAM}' \"$@\" | {choice}\n")
+                liar.chmod(liar.stat().st_mode | stat.S_IXUSR)
+                done = subprocess.run(
+                    [TOOLS / "stuck", record],
+                    env={**os.environ, "INPUTPLAY": str(liar)},
+                    capture_output=True,
+                    text=True,
+                )
+                self.assertEqual((2, ""), (done.returncode, done.stdout), done.stderr)
+                self.assertEqual(1, len(done.stderr.splitlines()), done.stderr)
+                self.assertIn("is not as the report has it at the end", done.stderr)
