@@ -90,11 +90,11 @@ the device at the end
 
     def test_a_grab_behind_the_event(self):
         text = KEYBOARD + "client c\ntap g\ndo c open\ndo g open\n" + frame(1, press("KEY_A")) + "do g grab\n"
-        self.assertIn("since place 4: not read yet\n", self.said(text))
+        self.assertIn("since place 4: not read yet\n", self.part(text, "c"))
 
     def test_a_grab_before_the_event(self):
         text = KEYBOARD + "client c\ntap g\ndo c open\ndo g open\ndo g grab\ndo g ungrab\n"
-        self.assertIn("since place 6: not read yet\n", self.said(text + frame(1, press("KEY_A"))))
+        self.assertIn("since place 6: not read yet\n", self.part(text + frame(1, press("KEY_A")), "c"))
 
     def test_the_holder_is_offered_all(self):
         text = KEYBOARD + "client c\ndo c open\ndo c grab\n" + frame(1, press("KEY_A")) + "do c follow\n"
