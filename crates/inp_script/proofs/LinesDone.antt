@@ -1,11 +1,9 @@
 -- All that is promised of a line that was done, and of the end of a source.
-use Rattle.std.proofs.Common.{◌≡◌, ℕ, List, sym, ap, subst, ◌∙◌, true, false, Some}
-use Rattle.std.specs.Prelude.{Result, OnOk, is_some, Option}
+use Rattle.std.proofs.Common.{◌≡◌, ℕ, List, ap, subst, ◌∙◌, true, false, Some}
+use Rattle.std.specs.Prelude.{is_some, Option}
 use Rattle.std.specs.List.{slice_get}
-use Rattle.std.proofs.lemmas.Result.{on_ok_weaker}
 use Rattle.inp_model.specs.Evdev.{EvdevView}
 use Rattle.inp_model.specs.Run.{Call}
-use Rattle.inp_actors.specs.declared.actor_text.ActorText.{ActorText}
 use Rattle.inp_actors.specs.declared.line.Line.{Line}
 use Rattle.inp_actors.specs.declared.role.Role.TheVariants.{Source}
 use Rattle.inp_actors.specs.Command.{is_command_of}

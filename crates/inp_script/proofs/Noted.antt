@@ -5,12 +5,10 @@ use Rattle.inp_model.specs.declared.step.Step.{Step}
 use Rattle.inp_model.specs.declared.reply.Reply.{Reply}
 use Rattle.inp_model.specs.Description.{Description}
 use Rattle.inp_model.specs.Evdev.{EvdevView, is_again}
-use Rattle.inp_model.specs.Leaves.{IsLeft}
 use Rattle.inp_model.specs.Run.{Call}
 use Rattle.inp_reader.specs.declared.call_made.CallMade.{CallMade}
 use Rattle.inp_reader.specs.declared.next.Next.{Next}
 use Rattle.inp_reader.specs.declared.started.Started.{Started}
-use Rattle.inp_reader.specs.Leaving.{LeavesMade}
 use Rattle.inp_reader.specs.Reading.{Reading, start_talk, next_talk}
 use Rattle.inp_reader.specs.Says.{Says, kept_of, made_of}
 use Rattle.inp_reader.specs.Talk.{Talk, finish, ask, LeadsTo, EndsWith}
@@ -52,10 +50,6 @@ noted-ends {A = A} (ask x rest) sight (call ∷ calls) a h =
     let same : (sight ++ call_sight x reply) ++ map made_sight (made_of calls) ≡ sight ++ map made_sight (kept_of call.step reply ++ made_of calls) =
     sight-more sight x reply calls ∙ ap (λ (s : Step). sight ++ map made_sight (kept_of s reply ++ made_of calls)) (sym h.0) in
     (h.0, subst (λ (entries : List Sight). EndsWith talk calls (a, entries)) same more)
-
--- what a reader's calls leave
-pub left-made : (before after : EvdevView) (made : List CallMade) → LeavesMade before after made → IsLeft before after
-left-made before after made h = record { calls = h.calls; are_calls = h.are_calls; leaves = h.leaves }
 
 -- a reader's calls, noted
 pub holds-reader : {A : Type 0} (before after : EvdevView) (made : List CallMade) (talk : Talk A) (sight : List Sight) (a : A) → Says before after [] made talk a → Holds before after (noted talk sight) (a, sight ++ map made_sight made)

@@ -1,11 +1,11 @@
 //! What a source does.
-ghost use Rattle.std.specs.Prelude.{◌≡◌, OnOk, Some};
+ghost use Rattle.std.specs.Prelude.{OnOk, Some};
 ghost use Rattle.inp_model.specs.Leaves.{IsLeft};
 ghost use Rattle.inp_actors.specs.declared.role.Role.TheVariants.{Source};
 ghost use Rattle.inp_actors.specs.Record.{AreInTime};
 ghost use Rattle.inp_reader.specs.Reading.{Reading};
 ghost use Rattle.inp_script.specs.Doing.{Holds, IsCommandFor};
-ghost use Rattle.inp_script.specs.Line.{stream_talk, source_talk, call_talk};
+ghost use Rattle.inp_script.specs.Line.{stream_talk, source_talk};
 ghost use Rattle.inp_script.specs.Noting.{job_of};
 
 use crate::notes::Notes;

@@ -1,12 +1,12 @@
 //! What a tap does.
-ghost use Rattle.std.specs.Prelude.{◌≡◌, ◌≤◌, ◌*◌, true, [], length, map, OnOk, IfOk, Some};
+ghost use Rattle.std.specs.Prelude.{◌≡◌, ◌≤◌, ◌*◌, true, length, map, OnOk, IfOk, Some};
 ghost use Rattle.inp_model.specs.Leaves.{IsLeft};
 ghost use Rattle.inp_actors.specs.declared.role.Role.TheVariants.{Tap as TapRole};
 ghost use Rattle.inp_actors.specs.Command.{is_command_of, is_in_range};
 ghost use Rattle.inp_model.specs.declared.stamped.TheConstants.{MOMENT_MAX};
 ghost use Rattle.inp_model.specs.Step.{moment_of};
 ghost use Rattle.inp_model.specs.Reply.{HasRoom};
-ghost use Rattle.inp_recon.specs.View.{first_view, view_after_events};
+ghost use Rattle.inp_recon.specs.View.{view_after_events};
 ghost use Rattle.inp_script.specs.Doing.{Holds};
 ghost use Rattle.inp_script.specs.Job.{first_reading};
 ghost use Rattle.inp_script.specs.Line.{client_after, event_of_taken, tap_call, tap_talk};

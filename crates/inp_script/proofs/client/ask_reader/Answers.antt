@@ -8,13 +8,14 @@ use Rattle.inp_reader.specs.declared.phase.Phase.{Phase}
 use Rattle.inp_reader.specs.Effort.{effort, is_idle}
 use Rattle.inp_reader.specs.Reading.{Reading, next_talk}
 use Rattle.inp_reader.specs.Says.{Says}
+use Rattle.inp_reader.proofs.Leavings.{leaves_made-left}
 use Rattle.inp_script.specs.declared.client.Turn.{Turn}
 use Rattle.inp_script.specs.Client.{mode_of}
 use Rattle.inp_script.specs.Effort.{total_effort, Shrinks}
 use Rattle.inp_script.specs.Going.{turn_of}
 use Rattle.inp_script.specs.Noting.{job_of}
 use Rattle.inp_script.specs.Sight.{made_sight}
-use Rattle.inp_script.proofs.Noted.{left-made, round-noted}
+use Rattle.inp_script.proofs.Noted.{round-noted}
 use Rattle.inp_script.proofs.Turns.{mode_of-busy, turn-shrinks}
 use Rattle.inp_script.proofs.client.ask_reader.Goals as goal
 
@@ -48,7 +49,7 @@ returns-clause-shrinks g c =
     c.note_next.ensures.turn
 
 pub returns-in_err-push_made-clause-left : goal.returns-in_err-push_made-clause-left
-returns-in_err-push_made-clause-left g c = left-made _ _ _ c.next-next.ensures.left
+returns-in_err-push_made-clause-left g c = leaves_made-left _ _ _ c.next-next.ensures.left
 
 pub returns-clause-left : goal.returns-clause-left
-returns-clause-left g c = left-made _ _ _ c.next-next.ensures.left
+returns-clause-left g c = leaves_made-left _ _ _ c.next-next.ensures.left

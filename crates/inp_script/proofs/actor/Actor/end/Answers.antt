@@ -1,4 +1,4 @@
-use Rattle.std.proofs.Common.{◌≡◌, ◌∙◌, sym, ap, subst, rules, true}
+use Rattle.std.proofs.Common.{◌∙◌, sym, ap, subst, rules}
 use Rattle.std.specs.Prelude.{Some, is_some}
 use Rattle.inp_model.proofs.Leaves.{left-none}
 use Rattle.inp_script.specs.Doing.{Holds}
