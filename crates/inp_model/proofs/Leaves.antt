@@ -94,7 +94,8 @@ slice_get-longer history more at x h =
     slice_get-get_or (history ++ more) at x (omega (arith, length-append history more))
     ∙ ap (λ (y : Step). Some y) (get_or_append_left history more x at within ∙ get_or_from_slice_get history at x x h)
 
-HasPlace-longer : (d : Description) (history longer : List Step) (call : Call) → BeginsWith history longer → HasPlace d history call → HasPlace d longer call
+-- a call keeps its place in a longer history
+pub HasPlace-longer : (d : Description) (history longer : List Step) (call : Call) → BeginsWith history longer → HasPlace d history call → HasPlace d longer call
 HasPlace-longer d history longer call h p =
     let at : ℕ = place_of call.answer.reply in
     let P : List Step → Type 0 = λ xs. HasPlace d xs call in

@@ -18,7 +18,7 @@ use Rattle.inp_script.specs.Doing.{line_talk}
 use Rattle.inp_script.specs.Job.{Job, ActorView, first_job}
 use Rattle.inp_script.specs.Legal.{entries_of, is_call_entry}
 use Rattle.inp_script.specs.Runs.{is_on_device}
-use Rattle.inp_script.proofs.Runs.{has_place-on}
+use Rattle.inp_model.proofs.Leaves.{HasPlace-longer}
 use Rattle.inp_script.proofs.Told.{entries_of-append}
 use Rattle.inp_play.specs.Job.{lines_by, lines_talk, lacks_memory}
 use Rattle.inp_play.specs.Play.{Stage, description_at, after_line, after_lines}
@@ -65,7 +65,7 @@ number_is r rounds lines stage i a s h =
 
 legal-longer : (d : Description) (h k : List Step) (least : ℕ) (calls : List Call) → BeginsWith h k → IsLegalFrom d h least calls → IsLegalFrom d k least calls
 legal-longer d h k least [] begins l = tt
-legal-longer d h k least (call ∷ calls) begins l = (l.0, has_place-on d h k call begins l.1, legal-longer d h k (next_place call.answer.reply) calls begins l.2)
+legal-longer d h k least (call ∷ calls) begins l = (l.0, HasPlace-longer d h k call begins l.1, legal-longer d h k (next_place call.answer.reply) calls begins l.2)
 
 -- of an actor that did another line
 memory-append : (calls more : List Call) → list_any lacks_memory calls ≡ false → list_any lacks_memory more ≡ false → list_any lacks_memory (calls ++ more) ≡ false

@@ -43,8 +43,7 @@ use Rattle.inp_script.proofs.Folds.{ArePlaced, tap-folds}
 use Rattle.inp_script.proofs.LastAgain.{finish-only, and_then-parts}
 use Rattle.inp_script.proofs.LineTold.{memory_there}
 use Rattle.inp_script.proofs.Replies.{is_answer_has}
-use Rattle.inp_script.proofs.Runs.{has_place-on}
-use Rattle.inp_model.proofs.Leaves.{BeginsWith-trans, seen-kept}
+use Rattle.inp_model.proofs.Leaves.{BeginsWith-trans, HasPlace-longer, seen-kept}
 use Rattle.inp_script.proofs.Told.{noted-back, noted_sight}
 
 -- calls on an evdev have their places in each history that begins with what was seen
@@ -54,7 +53,7 @@ are_placed d a b h [] same begins are = tt
 are_placed d a b h (call ∷ calls) same begins are =
     let same_mid : are.0.description ≡ d = are.1.description ∙ same in
     let placed : HasPlace d are.0.seen call = subst (λ (e : Description). HasPlace e are.0.seen call) same_mid are.1.placed in
-    (has_place-on d are.0.seen h call (BeginsWith-trans are.0.seen b.seen h (seen-kept are.0 b calls are.2) begins) placed, are_placed d are.0 b h calls same_mid begins are.2)
+    (HasPlace-longer d are.0.seen h call (BeginsWith-trans are.0.seen b.seen h (seen-kept are.0 b calls are.2) begins) placed, are_placed d are.0 b h calls same_mid begins are.2)
 
 -- Sources
 

@@ -1,5 +1,5 @@
 -- Legal runs: of a longer history, of more calls, and of fewer answers Again.
-use Rattle.std.proofs.Common.{◌≡◌, ℕ, suc, ◌≤◌, inl, inr, Bool, true, false, if◌then◌else◌, List, [], ◌∷◌, ◌++◌, length, refl, sym, ap, subst, ◌∙◌, arith, length-append, Some, IsTrue}
+use Rattle.std.proofs.Common.{◌≡◌, ℕ, suc, ◌≤◌, inl, inr, Bool, true, false, if◌then◌else◌, List, [], ◌∷◌, ◌++◌, length, refl, sym, ap, subst, ◌∙◌, arith, Some, IsTrue}
 use Rattle.std.specs.List.{slice_get}
 use Rattle.std.proofs.lemmas.Option.{slice_get_within}
 use Rattle.inp_model.specs.declared.step.Step.{Step}
@@ -7,20 +7,10 @@ use Rattle.inp_model.specs.declared.reply.Reply.{Reply}
 use Rattle.inp_model.specs.Description.{Description}
 use Rattle.inp_model.specs.Evdev.{EvdevView, BeginsWith, is_again}
 use Rattle.inp_model.specs.Leaves.{AreCalls}
-use Rattle.inp_model.specs.Reply.{IsAnswer, is_accepted}
+use Rattle.inp_model.specs.Reply.{is_accepted}
 use Rattle.inp_model.specs.Run.{Call, HasPlace, IsLegalFrom, IsLegalRun, place_of, next_place}
-use Rattle.inp_model.proofs.Leaves.{calls-legal, description-kept, past_at-longer, seen-kept, slice_get-longer}
+use Rattle.inp_model.proofs.Leaves.{HasPlace-longer, calls-legal, description-kept, seen-kept}
 use Rattle.inp_script.specs.Legal.{LeavesOut}
-
--- a call keeps its place in a longer history
-pub has_place-on : (d : Description) (h k : List Step) (call : Call) → BeginsWith h k → HasPlace d h call → HasPlace d k call
-has_place-on d h k call b p =
-    let at : ℕ = place_of call.answer.reply in
-    subst (λ (xs : List Step). HasPlace d xs call) (sym b.1) (record {
-      within = omega (arith, p.within, length-append h b.0);
-      exact = subst (λ (past : List Step). IsAnswer d past call.step call.answer) (sym (past_at-longer h b.0 at p.within)) p.exact;
-      entered = λ e. slice_get-longer h b.0 at call.step (p.entered e);
-    })
 
 legal-weaker : (d : Description) (h : List Step) (least lower : ℕ) (calls : List Call) → lower ≤ least → IsLegalFrom d h least calls → IsLegalFrom d h lower calls
 legal-weaker d h least lower [] less l = tt
@@ -36,7 +26,7 @@ next_place-within d h call p = by_flag (is_accepted call.answer.reply) p.entered
 legal-append : (d : Description) (h k : List Step) (least : ℕ) (before calls : List Call) → BeginsWith h k → least ≤ length h → IsLegalFrom d h least before → IsLegalFrom d k (length h) calls → IsLegalFrom d k least (before ++ calls)
 legal-append d h k least [] calls begins less l m = legal-weaker d k (length h) least calls less m
 legal-append d h k least (call ∷ before) calls begins less l m =
-    (l.0, has_place-on d h k call begins l.1, legal-append d h k (next_place call.answer.reply) before calls begins (next_place-within d h call l.1) l.2 m)
+    (l.0, HasPlace-longer d h k call begins l.1, legal-append d h k (next_place call.answer.reply) before calls begins (next_place-within d h call l.1) l.2 m)
 
 -- a legal run goes on with the calls that are made
 pub runs-on : (d : Description) (a b : EvdevView) (before calls : List Call) → a.description ≡ d → IsLegalRun d a.seen before → AreCalls a b calls → IsLegalRun d b.seen (before ++ calls)
