@@ -34,11 +34,10 @@ use Rattle.inp_script.specs.Doing.{command_talk, unless_stopped, line_talk}
 use Rattle.inp_script.specs.Job.{Job, JobView, first_job}
 use Rattle.inp_script.specs.Legal.{entries_of, is_call_entry}
 use Rattle.inp_script.specs.Line.{step_of, after_call, call_if, stream_talk, stream_at, source_talk}
-use Rattle.inp_script.specs.declared.sight.Sight.TheVariants.{Took}
 use Rattle.inp_script.specs.Sight.{call_sight, again_sight, taken_sight}
 use Rattle.inp_script.proofs.LastAgain.{finish-only, and_then-parts}
 use Rattle.inp_play.specs.Job.{lines_by, on_job, lines_talk}
-use Rattle.inp_play.specs.JobViews.{IsOwnEvent, AreEventsOwn, AreReportsSeen, sight_view}
+use Rattle.inp_play.specs.JobViews.{AreEventsOwn, AreReportsSeen, sight_view}
 use Rattle.inp_play.specs.Losses.{AreLossesCaused}
 use Rattle.inp_play.proofs.AtHand.{own-caused, shown-own}
 use Rattle.inp_play.proofs.ClientReports.{IsClientJob, ClientSaw, client-line, client-first}
