@@ -28,6 +28,22 @@ fn input_of(alloc: Global, len: usize, fails: Vec<u64>) -> Result<MemInput, Fail
     Ok(MemInput::new(files, Fails::of(fails)))
 }
 
+// How a whole read of a file ends, with the number of its bytes where they are the file's, and how many faults there were.
+fn whole_read(
+    alloc: Global,
+    len: usize,
+    fail: u64,
+    name: &str,
+) -> Result<(Result<usize, ReadFault>, u64), Fail> {
+    let mut input = input_of(alloc, len, vec![in alloc; fail]?)?;
+    let bytes = sample(alloc, len)?;
+    let read = read_all(alloc, &mut input, name);
+    Ok((
+        read.map(|read| if read == bytes { len } else { usize::MAX }),
+        input.faults(),
+    ))
+}
+
 #[test]
 fn reads_files_in_memory(rt: HostRuntime) -> Result<(), Fail> {
     // The calls are: 0 begin, and then a read of up to 4,096 bytes each.
@@ -44,16 +60,24 @@ fn reads_files_in_memory(rt: HostRuntime) -> Result<(), Fail> {
         (INPUT_LIMIT + 1, 9999, "a", Err(ReadFault::TooLong), 0),
     ];
     for (len, fail, name, want, faults) in table {
-        let fails = vec![in rt.alloc(); fail]?;
-        let mut input = input_of(rt.alloc(), len, fails)?;
-        let bytes = read_all(rt.alloc(), &mut input, name);
-        if let Ok(bytes) = &bytes {
-            assert!(rt; *bytes == sample(rt.alloc(), len)?, "{len}");
-        }
-        assert_eq!(rt; bytes.map(|bytes| bytes.len()), want, "{len} {fail}");
-        assert_eq!(rt; input.faults(), faults, "{len} {fail}");
+        let (read, counted) = whole_read(rt.alloc(), len, fail, name)?;
+        assert_eq!(rt; read, want, "{len} {fail}");
+        assert_eq!(rt; counted, faults, "{len} {fail}");
     }
     Ok(())
+}
+
+// How a whole write to a sink with so much room ends, whether the sink has these bytes then, and how many faults there were.
+fn whole_write(
+    alloc: Global,
+    text: &str,
+    room: usize,
+    fail: u64,
+    written: &str,
+) -> Result<(Result<(), Failed>, bool, u64), Fail> {
+    let mut sink = MemSink::new(alloc, room, Fails::of(vec![in alloc; fail]?))?;
+    let ended = write_all(&mut sink, text.as_bytes());
+    Ok((ended, sink.bytes() == written.as_bytes(), sink.faults()))
 }
 
 #[test]
@@ -67,15 +91,10 @@ fn writes_to_memory(rt: HostRuntime) -> Result<(), Fail> {
         ("", 0, 0, Ok(()), "", 0),
     ];
     for (text, room, fail, want, written, faults) in table {
-        let fails = Fails::of(vec![in rt.alloc(); fail]?);
-        let mut sink = MemSink::new(rt.alloc(), room, fails)?;
-        assert_eq!(rt;
-            write_all(&mut sink, text.as_bytes()),
-            want,
-            "{text} {room} {fail}"
-        );
-        assert_eq!(rt; sink.bytes(), written.as_bytes(), "{text} {room} {fail}");
-        assert_eq!(rt; sink.faults(), faults, "{text} {room} {fail}");
+        let (ended, is_written, counted) = whole_write(rt.alloc(), text, room, fail, written)?;
+        assert_eq!(rt; ended, want, "{text} {room} {fail}");
+        assert!(rt; is_written, "{text} {room} {fail}");
+        assert_eq!(rt; counted, faults, "{text} {room} {fail}");
     }
     Ok(())
 }
@@ -169,6 +188,38 @@ impl Print for Tape {
     }
 }
 
+// How a whole write to a tape ends, whether the tape has these bytes then, how many faults there were, and how many calls of
+// the runtime.
+fn whole_print(
+    alloc: Global,
+    room: usize,
+    fails: u64,
+    written: &str,
+) -> Result<(Result<(), Failed>, bool, u64, u64), Fail> {
+    let tape = Tape {
+        bytes: RefCell::new(Vec::new(alloc)),
+        room,
+        calls: Cell::new(0),
+        fails,
+    };
+    let mut out = OutSink::new(&tape);
+    let ended = write_all(&mut out, b"hello, tape");
+    let faults = out.faults();
+    let calls = tape.calls.get();
+    let Tape {
+        bytes,
+        room: _,
+        calls: _,
+        fails: _,
+    } = tape;
+    Ok((
+        ended,
+        bytes.into_inner().as_slice() == written.as_bytes(),
+        faults,
+        calls,
+    ))
+}
+
 #[test]
 fn writes_to_the_standard_output(rt: HostRuntime) -> Result<(), Fail> {
     // The room, the call that answers an error, the answer, what was written, and how many calls of the
@@ -182,28 +233,11 @@ fn writes_to_the_standard_output(rt: HostRuntime) -> Result<(), Fail> {
         (20, 3, failed, "hello, ta", 4),
     ];
     for (room, fails, want, written, calls) in table {
-        let bytes = RefCell::new(Vec::new(rt.alloc()));
-        let tape = Tape {
-            bytes,
-            room,
-            calls: Cell::new(0),
-            fails,
-        };
-        let mut out = OutSink::new(&tape);
-        assert_eq!(rt; write_all(&mut out, b"hello, tape"), want, "{room} {fails}");
-        assert_eq!(rt; out.faults(), u64::from(want.is_err()), "{room} {fails}");
-        assert_eq!(rt; tape.calls.get(), calls, "{room} {fails}");
-        let Tape {
-            bytes,
-            room: _,
-            calls: _,
-            fails: _,
-        } = tape;
-        assert_eq!(rt;
-            bytes.into_inner().as_slice(),
-            written.as_bytes(),
-            "{room} {fails}"
-        );
+        let (ended, is_written, faults, counted) = whole_print(rt.alloc(), room, fails, written)?;
+        assert_eq!(rt; ended, want, "{room} {fails}");
+        assert!(rt; is_written, "{room} {fails}");
+        assert_eq!(rt; faults, u64::from(want.is_err()), "{room} {fails}");
+        assert_eq!(rt; counted, calls, "{room} {fails}");
     }
     Ok(())
 }

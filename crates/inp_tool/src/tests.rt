@@ -1,23 +1,20 @@
-//! The program's one call over inputs and sinks in memory and over real files: whole runs, and each status.
+//! The program's one call over inputs and sinks in memory: whole runs, and each status. Longer records are played through
+//! the program itself (tests/run).
 
 mod texts;
 
 use crate::{End, inputplay};
 use inp_edge::{
-    Failed, Fails, FileInput, Gate, INPUT_LIMIT, Input, MemFile, MemFiles, MemInput, MemSink,
-    OpenGate,
+    Failed, Fails, Gate, INPUT_LIMIT, Input, MemFile, MemFiles, MemInput, MemSink, OpenGate,
 };
 use inp_record::{ParseFault, Record, parse, print};
 use std::alloc::{AllocError, Global};
-use std::fs;
-use std::rt::Files;
 use std::sync::atomic::{AtomicU64, Ordering};
 use std::test::Fail;
 use texts::{
-    AXIS_HEAD, AXIS_NEXT, AXIS_SKIP, CLIENT, CLIENT_REPORT, FULL, FULL_REPORT, HISTORY_REPORT,
-    MADE, ONE_KEY, ONE_KEY_PRINTED, ONE_KEY_REPORT, REFUSED, REVOKED, REVOKED_REPORT, STREAM,
-    STREAM_AND_BAD_LINE, STREAM_TWICE, STREAMS, STREAMS_REPORT, USAGE, VIEWS, VIEWS_JOBS,
-    VIEWS_STEPS,
+    CLIENT, CLIENT_REPORT, FULL, FULL_REPORT, HISTORY_REPORT, MADE, ONE_KEY, ONE_KEY_PRINTED,
+    ONE_KEY_REPORT, REVOKED, REVOKED_REPORT, STREAM, STREAM_AND_BAD_LINE, STREAM_TWICE, STREAMS,
+    STREAMS_REPORT,
 };
 
 /// Room for every text of these tests.
@@ -105,112 +102,6 @@ fn plays_whole_records(rt: HostRuntime) -> Result<(), Fail> {
 }
 
 #[test]
-fn tells_what_a_client_lost(rt: HostRuntime) -> Result<(), Fail> {
-    for (command, want) in [("do c next 10", AXIS_NEXT), ("do c skip 10", AXIS_SKIP)] {
-        let mut text = String::from_str(rt.alloc(), AXIS_HEAD)?;
-        for frame in 0..33 {
-            let value = if frame % 2 == 0 { "6" } else { "5" };
-            text.push_str("do s event 0 EV_ABS ABS_X ")?;
-            text.push_str(value)?;
-            text.push_str("\ndo s event 0 EV_SYN SYN_REPORT 0\n")?;
-        }
-        text.push_str(command)?;
-        let files = [("f", text.as_bytes())];
-        let (end, sink) = run(rt.alloc(), &["f"], &files, NONE)?;
-        assert_eq!(rt; end.status, 0);
-        assert!(rt; sink.bytes().ends_with(want.as_bytes()), "{command}");
-    }
-    Ok(())
-}
-
-/// How many frames of motion flood a ring of 64 places.
-const FLOOD: usize = 33;
-
-/// Frames of motion that flood a ring, as the records of a stream.
-fn flood(alloc: Global) -> Result<Vec<u8>, AllocError> {
-    let mut bytes = Vec::new(alloc);
-    for frame in 0..FLOOD {
-        let low = (160 + frame) as u8;
-        for head in [[2, 0, 0, 0, 1], [0, 0, 0, 0, 0]] {
-            bytes.extend_from_slice(&[0; 8])?;
-            bytes.extend_from_slice(&[low, 15, 0, 0, 0, 0, 0, 0])?;
-            bytes.extend_from_slice(&head)?;
-            bytes.extend_from_slice(&[0; 3])?;
-        }
-    }
-    Ok(bytes)
-}
-
-/// The same as steps of a history, from the place 19 on.
-fn flood_steps(alloc: Global) -> Result<String, AllocError> {
-    let mut steps = String::new(alloc);
-    for frame in 0..FLOOD {
-        let now = 4000 + frame;
-        let at = 19 + 2 * frame;
-        let next = at + 1;
-        steps.push_str(&format!(in alloc; "step {at} inject {now} EV_REL REL_X 1\n")?)?;
-        steps.push_str(&format!(in alloc; "step {next} inject {now} EV_SYN SYN_REPORT 0\n")?)?;
-    }
-    Ok(steps)
-}
-
-// A full ring, a change of clock, a grab, a mask, an inhibition and a revoked client. Its history is that of
-// `specs/Views.antt`, and docs/PROMISES.md, "An example", is about its report.
-#[test]
-fn plays_what_a_view_can_be_trusted_in(rt: HostRuntime) -> Result<(), Fail> {
-    let flood = flood(rt.alloc())?;
-    let files = [("f", VIEWS.as_bytes()), ("flood", flood.as_slice())];
-    let [before, after] = VIEWS_STEPS;
-    let mut want = String::from_str(rt.alloc(), before)?;
-    want.push_str(&flood_steps(rt.alloc())?)?;
-    want.push_str(after)?;
-    want.push_str(VIEWS_JOBS)?;
-    let (end, sink) = run(rt.alloc(), &["--history", "f"], &files, NONE)?;
-    assert_eq!(rt; end.status, 0);
-    assert_eq!(rt; sink.bytes(), want.as_bytes());
-    Ok(())
-}
-
-#[test]
-fn refuses_words(rt: HostRuntime) -> Result<(), Fail> {
-    // The words, and what is wrong with them.
-    let table = [
-        ([].as_slice(), "there are none"),
-        (["f", "f"].as_slice(), "two files"),
-        (["--threads", "f"].as_slice(), "no option"),
-        (["--make", "4294967296"].as_slice(), "no number"),
-        (
-            ["--make", "7", "--count", "10001"].as_slice(),
-            "too many frames",
-        ),
-        (["--make", "7", "f"].as_slice(), "a number and a file"),
-        (
-            ["--history", "--make", "7"].as_slice(),
-            "a summary has no history",
-        ),
-    ];
-    let files = [("f", ONE_KEY.as_bytes())];
-    for (texts, why) in table {
-        let (end, sink) = run(rt.alloc(), texts, &files, NONE)?;
-        assert_eq!(rt; end.status, 2, "{why}");
-        assert_eq!(rt; sink.bytes(), USAGE.as_bytes(), "{why}");
-    }
-    Ok(())
-}
-
-#[test]
-fn refuses_lines(rt: HostRuntime) -> Result<(), Fail> {
-    for (text, line, want) in REFUSED {
-        let files = [("f", text.as_bytes())];
-        let (end, sink) = run(rt.alloc(), &["f"], &files, NONE)?;
-        assert_eq!(rt; end.status, 1);
-        assert_eq!(rt; end.refused.map(|refused| refused.line), Some(line));
-        assert_eq!(rt; sink.bytes(), want.as_bytes());
-    }
-    Ok(())
-}
-
-#[test]
 fn tells_failed_reads(rt: HostRuntime) -> Result<(), Fail> {
     // The file, the call of the input that fails, the status and the text.
     let table = [
@@ -285,31 +176,6 @@ fn writes_what_fits(rt: HostRuntime) -> Result<(), Fail> {
     assert_eq!(rt; end.status, 4);
     assert_eq!(rt; sink.bytes(), b"inp".as_slice());
     assert!(rt; end.runs.is_empty());
-    Ok(())
-}
-
-#[test]
-fn tells_the_faults_of_real_files(rt: HostRuntime) -> Result<(), Fail> {
-    let path = "inp_tool_tells_the_faults_of_real_files";
-    fs::write(&rt, path, ONE_KEY.as_bytes())?;
-    // The file, the status, the text, the input's count of faults, and what a read after the call answers.
-    let table = [
-        (path, 0, ONE_KEY_REPORT, 0, Ok(0)),
-        // A folder opens, and its read fails.
-        (".", 3, FAILED, 1, Err(Failed)),
-        ("no such file", 3, FAILED, 3, Ok(0)),
-    ];
-    let mut input = FileInput::new(&rt);
-    for (name, status, want, faults, after) in table {
-        let words = words_of(rt.alloc(), &[name])?;
-        let mut sink = sink_of(rt.alloc(), AMPLE, NONE)?;
-        let end = call(rt.alloc(), &words, &mut input, &mut sink);
-        assert_eq!(rt; end.status, status, "{name}");
-        assert_eq!(rt; sink.bytes(), want.as_bytes(), "{name}");
-        assert_eq!(rt; input.faults(), faults, "{name}");
-        assert_eq!(rt; input.read(&mut [0]), after, "{name}");
-    }
-    rt.remove_file(path)?;
     Ok(())
 }
 
