@@ -1,0 +1,76 @@
+"""What bench/gate_cost tells of processes that a test makes up, and of commands that fail or are not there."""
+
+import subprocess
+import sys
+import tempfile
+import unittest
+from importlib.machinery import SourceFileLoader
+from importlib.util import module_from_spec, spec_from_loader
+from pathlib import Path
+
+SCRIPT = Path(__file__).resolve().parent.parent / "bench" / "gate_cost"
+
+
+def loaded():
+    """The script as a module."""
+    loader = SourceFileLoader("gate_cost", str(SCRIPT))
+    module = module_from_spec(spec_from_loader("gate_cost", loader))
+    loader.exec_module(module)
+    return module
+
+
+def run(*words):
+    return subprocess.run([str(SCRIPT), *words], capture_output=True, text=True, check=False)
+
+
+class GateCost(unittest.TestCase):
+    def test_sums_by_crate_and_kind(self):
+        seen = {
+            "1": ("low", "proofs", 10.0),
+            "2": ("low", "tests", 5.0),
+            "3": ("high", "edits", 20.0),
+            "4": ("high", "edits", 2.0),
+        }
+        want = [
+            "crate            proofs    tests    edits      all",
+            "high                  0        0       22       22",
+            "low                  10        5        0       15",
+            "all                  10        5       22       37",
+        ]
+        self.assertEqual(loaded().table(seen), want)
+
+    def test_tells_what_a_process_works_at(self):
+        tool = loaded()
+        words = ["/bin/rattle", "build", "--crate-name", "low", "src/lib.rt"]
+        self.assertEqual(tool.crate_of(words), "low")
+        self.assertIsNone(tool.crate_of(["/bin/rattle", "fmt"]))
+        self.assertEqual(tool.kind_of(words, "/work/crates/low"), "proofs")
+        self.assertEqual(tool.kind_of([*words, "--test"], "/work/crates/low"), "tests")
+        self.assertEqual(tool.kind_of(words, "/tmp/rt-edit-1-ab"), "edits")
+
+    def test_reads_a_name_with_blanks(self):
+        stat = "7 (a (b) c) S 3 0 0 0 0 0 0 0 0 0 150 50 0 0"
+        self.assertEqual(loaded().parent_of(stat), 3)
+        self.assertEqual(loaded().seconds_of(stat, 100), 2.0)
+
+    def test_sees_a_process_of_the_prover_below_the_command(self):
+        with tempfile.TemporaryDirectory() as folder:
+            rattle = Path(folder) / "rattle"
+            rattle.symlink_to(sys.executable)
+            busy = "import time; end = time.process_time() + 3\nwhile time.process_time() < end: pass"
+            ended = run(str(rattle), "-c", busy, "--crate-name", "low")
+        self.assertEqual(ended.returncode, 0, ended.stderr)
+        self.assertRegex(ended.stdout, r"(?m)^low +[123] +0 +0 +[123]$")
+
+    def test_hands_on_the_status(self):
+        self.assertEqual(run("false").returncode, 1)
+
+    def test_a_command_that_is_not_there(self):
+        ended = run("no-such-command")
+        self.assertEqual(ended.returncode, 2)
+        self.assertEqual(ended.stderr, "gate_cost: no-such-command cannot be started: No such file or directory\n")
+        self.assertEqual(ended.stdout, "")
+
+
+if __name__ == "__main__":
+    unittest.main()
