@@ -1,14 +1,14 @@
--- Calls on an evdev that are those of a talk: one call, and one part of a talk after another.
-use Rattle.std.proofs.Common.{◌≡◌, List, [], ◌∷◌, ◌++◌, refl, subst}
+-- Calls on an evdev that are those of a talk, or its first ones: one call, and one part of a talk after another.
+use Rattle.std.proofs.Common.{◌≡◌, [], ◌∷◌, ◌++◌, refl, subst}
 use Rattle.inp_model.specs.declared.step.Step.{Step}
 use Rattle.inp_model.specs.Evdev.{EvdevView, IsCall}
 use Rattle.inp_model.specs.Reply.{Answer}
-use Rattle.inp_model.specs.Run.{Call}
-use Rattle.inp_model.specs.Leaves.{AreCalls}
+use Rattle.inp_model.specs.Leaves.{AreCalls, IsLeft}
 use Rattle.inp_reader.specs.Talk.{Talk, finish, ask, and_then, LeadsTo}
-use Rattle.inp_model.proofs.Leaves.{AreCalls-append}
+use Rattle.inp_model.proofs.Leaves.{AreCalls-append, calls-left}
 use Rattle.inp_reader.proofs.Talks.{LeadsTo-append, LeadsTo-and_then}
-use Rattle.inp_script.specs.Doing.{Holds}
+use Rattle.inp_script.specs.Doing.{Holds, Begins}
+use Rattle.inp_script.specs.Noting.{IsMade}
 
 -- no call
 pub holds-nothing : {A : Type 0} (told : EvdevView) (talk : Talk A) (result : A) → talk ≡ finish result → Holds told told talk result
@@ -32,38 +32,38 @@ holds-then before between after talk next a b s t = record {
   are_calls = AreCalls-append before between after s.calls t.calls s.are_calls t.are_calls;
 }
 
--- Calls that are the first ones of a talk, of which this is left.
-pub record Leads {A : Type 0} (before after : EvdevView) (talk left : Talk A) : Type 0 where
-  pub calls : List Call
-  pub leads : LeadsTo talk calls left
-  pub are_calls : AreCalls before after calls
+pub holds-same : {A : Type 0} (before after : EvdevView) (talk same : Talk A) (result : A) → talk ≡ same → Holds before after talk result → Holds before after same result
+holds-same {A = A} before after talk same result h s = subst (λ (t : Talk A). Holds before after t result) h s
 
-pub leads-none : {A : Type 0} (told : EvdevView) (talk left : Talk A) → talk ≡ left → Leads told told talk left
-unfolding LeadsTo AreCalls
-leads-none told talk left h = record { calls = []; leads = h; are_calls = refl }
+-- The first calls of a talk
 
-pub leads-one : {A : Type 0} (before after : EvdevView) (x : Step) (answer : Answer) (rest : Answer → Talk A) (left : Talk A) → IsCall before after (record { step = x; answer = answer }) → rest answer ≡ left → Leads before after (ask x rest) left
+-- none of them
+pub begins-none : {A : Type 0} (told : EvdevView) (talk : Talk A) → Begins told told talk
 unfolding LeadsTo AreCalls
-leads-one before after x answer rest left call h = record {
-  calls = record { step = x; answer = answer } ∷ [];
-  leads = (refl, h);
-  are_calls = (after, call, refl);
+begins-none told talk = record { calls = []; rest = talk; leads = refl; are_calls = refl }
+
+-- the first one
+pub begins-one : {A : Type 0} (before after : EvdevView) (x : Step) (rest : Answer → Talk A) → IsMade before after x → Begins before after (ask x rest)
+unfolding LeadsTo AreCalls
+begins-one before after x rest made = record {
+  calls = record { step = x; answer = made.answer } ∷ [];
+  rest = rest made.answer;
+  leads = (refl, refl);
+  are_calls = (after, made.is_call, refl);
 }
 
-pub leads-then : {A : Type 0} (before between after : EvdevView) (talk middle left : Talk A) → Leads before between talk middle → Leads between after middle left → Leads before after talk left
-leads-then before between after talk middle left s t = record {
-  calls = s.calls ++ t.calls;
-  leads = LeadsTo-append talk middle left s.calls t.calls s.leads t.leads;
-  are_calls = AreCalls-append before between after s.calls t.calls s.are_calls t.are_calls;
-}
-
--- nothing is left
-pub holds-led : {A : Type 0} (before after : EvdevView) (talk left : Talk A) (result : A) → Leads before after talk left → left ≡ finish result → Holds before after talk result
-holds-led {A = A} before after talk left result s h = record {
+-- all those of a talk, which another one follows
+pub begins-then : {A B : Type 0} (before after : EvdevView) (talk : Talk A) (next : A → Talk B) (a : A) → Holds before after talk a → Begins before after (and_then talk next)
+begins-then before after talk next a s = record {
   calls = s.calls;
-  talk_ends = subst (λ (t : Talk A). LeadsTo talk s.calls t) h s.leads;
+  rest = next a;
+  leads = LeadsTo-and_then talk (finish a) next s.calls s.talk_ends;
   are_calls = s.are_calls;
 }
 
-pub holds-same : {A : Type 0} (before after : EvdevView) (talk same : Talk A) (result : A) → talk ≡ same → Holds before after talk result → Holds before after same result
-holds-same {A = A} before after talk same result h s = subst (λ (t : Talk A). Holds before after t result) h s
+pub begins-same : {A : Type 0} (before after : EvdevView) (talk same : Talk A) → talk ≡ same → Begins before after talk → Begins before after same
+begins-same {A = A} before after talk same h s = subst (λ (t : Talk A). Begins before after t) h s
+
+-- what such calls leave
+pub begins-left : {A : Type 0} (before after : EvdevView) (talk : Talk A) → Begins before after talk → IsLeft before after
+begins-left before after talk s = calls-left before after s.calls s.are_calls

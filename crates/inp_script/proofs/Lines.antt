@@ -18,12 +18,12 @@ use Rattle.inp_reader.specs.Talk.{Talk, finish}
 use Rattle.inp_script.specs.declared.notes.Notes.{Notes}
 use Rattle.inp_script.specs.declared.stop.Stop.{Stop}
 use Rattle.inp_script.specs.declared.waiting.Waiting.{Waiting}
-use Rattle.inp_script.specs.Doing.{Holds, DoesCommand, DoesLine, IsCommandFor, HasStream, command_talk, unless_stopped, line_talk}
+use Rattle.inp_script.specs.Doing.{Holds, Begins, DoesCommand, DoesLine, BeginsLine, IsCommandFor, HasStream, command_talk, unless_stopped, line_talk}
 use Rattle.inp_script.specs.Job.{Job, ActorView}
 use Rattle.inp_script.specs.Line.{stream_at, end_talk, call_talk}
-use Rattle.inp_script.specs.Noting.{job_of, IsNoted}
-use Rattle.inp_script.proofs.Holding.{holds-nothing, holds-same}
-use Rattle.inp_script.proofs.Streams.{holds-noted}
+use Rattle.inp_script.specs.Noting.{job_of, IsMade, IsNoted}
+use Rattle.inp_script.proofs.Holding.{holds-nothing, holds-same, begins-same}
+use Rattle.inp_script.proofs.Streams.{holds-noted, begins-call_if}
 
 -- Each stream that a line names is there
 
@@ -97,6 +97,16 @@ does-line before after a r wait number line new is h does = record {
       (sym (going_talk a.job.stop a.job (command_talk a.role a.description r.streams wait does.rounds line.command a.job) h)) does.holds;
 }
 
+pub begins-line : (before after : EvdevView) (a : ActorView) (r : RecordView) (wait : Option Waiting) (number : ℕ) (line : Line) (n : ℕ) → slice_get r.lines number ≡ Some line → is_some a.job.stop ≡ false → Begins before after (command_talk a.role a.description r.streams wait n line.command a.job) → BeginsLine before after a r wait number
+unfolding line_talk
+begins-line before after a r wait number line n is h begun = record {
+  line = line;
+  is_line = is;
+  rounds = n;
+  begins = begins-same before after (command_talk a.role a.description r.streams wait n line.command a.job) (line_talk a.role a.description r.streams wait n line.command a.job)
+      (sym (going_talk a.job.stop a.job (command_talk a.role a.description r.streams wait n line.command a.job) h)) begun;
+}
+
 -- The end of a source
 
 end_stopped : (stop : Option Stop) (j : Job) → is_some stop ≡ true → end_talk stop j ≡ finish (Some j)
@@ -112,3 +122,7 @@ ends-nothing told j h = holds-nothing told (end_talk j.stop j) (Some j) (end_sto
 
 pub ends-noted : (before after : EvdevView) (r : Reading) (reply : Reply) (old new : Notes) → is_some old.stop ≡ false → IsNoted before after End reply old new → Holds before after (end_talk old.stop (job_of r old)) (Some (job_of r new))
 ends-noted before after r reply old new h n = holds-same before after (call_talk (job_of r old) End) (end_talk old.stop (job_of r old)) (Some (job_of r new)) (sym (end_going old.stop (job_of r old) h)) (holds-noted before after End reply old new r n)
+
+pub ends-begun : (before after : EvdevView) (r : Reading) (old : Notes) → is_some old.stop ≡ false → IsMade before after End → Begins before after (end_talk old.stop (job_of r old))
+ends-begun before after r old h made =
+    begins-same before after (call_talk (job_of r old) End) (end_talk old.stop (job_of r old)) (sym (end_going old.stop (job_of r old) h)) (begins-call_if before after End (Some End) (job_of r old) refl made)

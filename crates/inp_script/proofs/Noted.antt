@@ -7,6 +7,7 @@ use Rattle.inp_model.specs.Description.{Description}
 use Rattle.inp_model.specs.Evdev.{EvdevView, is_again}
 use Rattle.inp_model.specs.Run.{Call}
 use Rattle.inp_reader.specs.declared.call_made.CallMade.{CallMade}
+use Rattle.inp_reader.specs.declared.mode.Mode.{Mode}
 use Rattle.inp_reader.specs.declared.next.Next.{Next}
 use Rattle.inp_reader.specs.declared.started.Started.{Started}
 use Rattle.inp_reader.specs.Reading.{Reading, start_talk, next_talk}
@@ -17,11 +18,11 @@ use Rattle.inp_script.specs.declared.sight.Sight.{Sight}
 use Rattle.inp_script.specs.declared.sight.Sight.TheVariants.{Call as Called}
 use Rattle.inp_script.specs.declared.waiting.Waiting.{Waiting}
 use Rattle.inp_script.specs.Client.{Going, Turn, start_job, start_ends, after_start, unless_start_lacks, next_round, after_next, mode_of}
-use Rattle.inp_script.specs.Doing.{Holds}
+use Rattle.inp_script.specs.Doing.{Holds, Begins}
 use Rattle.inp_script.specs.Job.{Job}
 use Rattle.inp_script.specs.Noting.{job_of}
 use Rattle.inp_script.specs.Sight.{call_sight, made_sight, noted, stop_after_start, start_lacks_memory}
-use Rattle.inp_script.proofs.Holding.{holds-nothing, holds-then}
+use Rattle.inp_script.proofs.Holding.{holds-nothing, holds-then, begins-then}
 
 -- the entries of a call that is kept, and of one that is not
 map-kept : (x : Step) (reply : Reply) → map made_sight (kept_of x reply) ≡ call_sight x reply
@@ -75,6 +76,13 @@ start-noted before after d r s old made sight started says memory noted_is =
     (ap (λ (j : Option Job). finish j) (memory_was_there started (after_start started s entries) memory)
     ∙ ap (λ (es : List Sight). finish (Some (after_start started s es))) (sym noted_is)))
 
+-- one of which nothing was noted
+pub start-begun : (before after : EvdevView) (d : Description) (r s : Reading) (old : Notes) (made : List CallMade) (started : Started) → Says before after [] made (start_talk d r) (started, s) → Begins before after (start_job d (job_of r old))
+unfolding start_job
+start-begun before after d r s old made started says =
+    begins-then before after (noted (start_talk d r) old.sight) (λ (p : (Started × Reading) × List Sight). finish (start_ends p)) ((started, s), old.sight ++ map made_sight made)
+    (holds-reader before after made (start_talk d r) old.sight (started, s) says)
+
 -- one round
 pub round-noted : (before after : EvdevView) (d : Description) (wait : Option Waiting) (skips : Bool) (r s : Reading) (old mid : Notes) (made : List CallMade) (left : Option ℕ) (agains : ℕ) (next : Next) (turn : Turn)
     → Says before after [] made (next_talk d (mode_of skips r.phase) r) (next, s) → mid ≡ record old { sight = old.sight ++ map made_sight made }
@@ -93,3 +101,12 @@ round-noted before after d wait skips r s old mid made left agains next turn say
     holds-then before after after (noted (next_talk d (mode_of skips r.phase) r) old.sight) (λ (p : (Next × Reading) × List Sight). finish (after_next wait g p)) o turn
     (holds-reader before after made (next_talk d (mode_of skips r.phase) r) old.sight (next, s) says)
     (holds-nothing after (finish (after_next wait g o)) turn (ap (λ (t : Turn). finish t) same))
+
+-- one of which nothing was noted
+pub round-begun : (before after : EvdevView) (d : Description) (wait : Option Waiting) (skips : Bool) (r s : Reading) (old : Notes) (made : List CallMade) (left : Option ℕ) (agains : ℕ) (next : Next) (mode : Mode)
+    → mode ≡ mode_of skips r.phase → Says before after [] made (next_talk d mode r) (next, s) → Begins before after (next_round d wait skips (record { job = job_of r old; left = left; agains = agains }))
+unfolding next_round
+round-begun before after d wait skips r s old made left agains next mode same says =
+    let g : Going = record { job = job_of r old; left = left; agains = agains } in
+    begins-then before after (noted (next_talk d (mode_of skips r.phase) r) old.sight) (λ (p : (Next × Reading) × List Sight). finish (after_next wait g p)) ((next, s), old.sight ++ map made_sight made)
+    (holds-reader before after made (next_talk d (mode_of skips r.phase) r) old.sight (next, s) (subst (λ (m : Mode). Says before after [] made (next_talk d m r) (next, s)) same says))

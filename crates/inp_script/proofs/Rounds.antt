@@ -4,14 +4,14 @@ use Rattle.inp_model.specs.Description.{Description}
 use Rattle.inp_model.specs.Evdev.{EvdevView}
 use Rattle.inp_model.specs.Run.{Call}
 use Rattle.inp_model.specs.Leaves.{AreCalls}
-use Rattle.inp_reader.specs.Talk.{Talk, finish, LeadsTo, EndsWith}
+use Rattle.inp_reader.specs.Talk.{Talk, finish, and_then, LeadsTo, EndsWith}
 use Rattle.inp_model.proofs.Leaves.{AreCalls-append}
 use Rattle.inp_reader.proofs.Talks.{LeadsTo-append, LeadsTo-and_then}
 use Rattle.inp_script.specs.declared.waiting.Waiting.{Waiting}
 use Rattle.inp_script.specs.Client.{Going, Turn, goes_on, ends_with, is_done, next_round, on_turn, rounds, hand_talk}
-use Rattle.inp_script.specs.Doing.{Holds, HandsOut}
+use Rattle.inp_script.specs.Doing.{Holds, Begins, HandsOut}
 use Rattle.inp_script.specs.Job.{Job}
-use Rattle.inp_script.proofs.Holding.{holds-nothing}
+use Rattle.inp_script.proofs.Holding.{holds-nothing, begins-same}
 
 -- so many rounds were made, and the line goes on from here
 pub record Passed (before now : EvdevView) (d : Description) (wait : Option Waiting) (skips : Bool) (start here : Going) : Type 0 where
@@ -67,3 +67,27 @@ hands_out-none told d wait skips left j h = record {
   rounds = 0;
   holds = holds-nothing told (hand_talk d wait skips left 0 j) (Some j) (ap (λ (b : Bool). if b then finish (Some j) else rounds d wait skips 0 (record { job = j; left = left; agains = 0 })) h);
 }
+
+-- so many rounds were made, and of the next one the first calls
+passed-begun : (before between after : EvdevView) (d : Description) (wait : Option Waiting) (skips : Bool) (start here : Going) → (s : Passed before between d wait skips start here) → Begins between after (next_round d wait skips here) → Begins before after (rounds d wait skips (s.count + 1) start)
+unfolding rounds
+passed-begun before between after d wait skips start here s h =
+    let ending : Turn → Talk (Option Job) = on_turn (rounds d wait skips 0) in
+    record {
+      calls = s.calls ++ h.calls;
+      rest = and_then h.rest ending;
+      leads =
+          LeadsTo-append (rounds d wait skips (s.count + 1) start) (rounds d wait skips (suc 0) here) (and_then h.rest ending) s.calls h.calls (s.leads (suc 0) (s.count + 1) (omega arith))
+          (LeadsTo-and_then (next_round d wait skips here) h.rest ending h.calls h.leads);
+      are_calls = AreCalls-append before between after s.calls h.calls s.are_calls h.are_calls;
+    }
+
+pub hands_out-begun : (before between after : EvdevView) (d kept : Description) (wait : Option Waiting) (skips : Bool) (left : Option ℕ) (old : Job) (here : Going) → kept ≡ d → is_done left ≡ false → Passed before between d wait skips (record { job = old; left = left; agains = 0 }) here → Begins between after (next_round kept wait skips here)
+    → (n : ℕ) × Begins before after (hand_talk d wait skips left n old)
+hands_out-begun before between after d kept wait skips left old here same some s h =
+    let start : Going = record { job = old; left = left; agains = 0 } in
+    let round : Begins between after (next_round d wait skips here) = subst (λ (e : Description). Begins between after (next_round e wait skips here)) same h in (
+      s.count + 1,
+      begins-same before after (rounds d wait skips (s.count + 1) start) (hand_talk d wait skips left (s.count + 1) old) (sym (by_rounds d wait skips left (s.count + 1) old some))
+          (passed-begun before between after d wait skips start here s round),
+    )

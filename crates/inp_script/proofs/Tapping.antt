@@ -16,13 +16,13 @@ use Rattle.inp_reader.specs.Reading.{Reading}
 use Rattle.inp_reader.specs.Talk.{finish}
 use Rattle.inp_reader.proofs.Answering.{view-answered}
 use Rattle.inp_script.specs.declared.notes.Notes.{Notes}
-use Rattle.inp_script.specs.Doing.{Holds}
+use Rattle.inp_script.specs.Doing.{Holds, Begins}
 use Rattle.inp_script.specs.Job.{Job}
 use Rattle.inp_script.specs.Line.{event_of_taken, view_after_call, client_after, after_tap_call, tap_call, unless_lacking}
 use Rattle.inp_script.specs.Noting.{job_of, count_taken}
 use Rattle.inp_script.specs.Sight.{lacks_memory, sight_of_call, stop_after}
 use Rattle.inp_script.specs.Tap.{IsTapCall}
-use Rattle.inp_script.proofs.Holding.{holds-one}
+use Rattle.inp_script.proofs.Holding.{holds-one, begins-one}
 use Rattle.inp_script.proofs.Replies.{events-counted}
 
 pub call_by_step : (before after : EvdevView) (x : Step) (reply : Reply) (out new_out : List Taken) (cells new_cells : List ℤ) → (m : IsEvdevCall before after x reply out new_out cells new_cells) → IsCall before after (record { step = x; answer = m.call.answer })
@@ -80,6 +80,11 @@ tap-noted before after x reply old new r s view out events m memory read same no
     ∙ ap (λ (n : Notes). job_of s n) (sym noted) in
     holds-one before after x a (λ (answer : Answer). finish (unless_lacking answer.reply (after_tap_call (job_of r old) x answer))) (Some (job_of s new)) m.is_call
     (ap (λ (o : Option Job). finish o) (memory_was_there a.reply (after_tap_call (job_of r old) x a) there ∙ ap (λ (j : Job). Some j) kept))
+
+-- one that was not noted
+pub tap-begun : (before after : EvdevView) (x : Step) (reply : Reply) (view new : View) (out : List Taken) (j : Job) → IsTapCall before after x reply view new out → Begins before after (tap_call j x)
+tap-begun before after x reply view new out j m =
+    begins-one before after x (λ (answer : Answer). finish (unless_lacking answer.reply (after_tap_call j x answer))) (record { answer = m.answer; is_call = m.is_call })
 
 -- one more event of a buffer is taken
 pub taken-more : (start view new : View) (events : List Taken) (index : ℕ) (default : Taken) → index < length events → view ≡ view_after_events start (map event_of_taken (take index events)) → new ≡ view_after_event view (get_or events index default).event

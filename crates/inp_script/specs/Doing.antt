@@ -15,7 +15,7 @@ use Rattle.inp_actors.specs.declared.role.Role.TheVariants.{Source, Client, Tap}
 use Rattle.inp_actors.specs.Command.{is_command_of, is_in_range, is_source}
 use Rattle.inp_actors.specs.Record.{RecordView, AreInTime}
 use Rattle.inp_model.specs.Leaves.{AreCalls}
-use Rattle.inp_reader.specs.Talk.{Talk, finish, EndsWith}
+use Rattle.inp_reader.specs.Talk.{Talk, finish, LeadsTo, EndsWith}
 use Rattle.inp_script.specs.declared.stop.Stop.{Stop}
 use Rattle.inp_script.specs.declared.waiting.Waiting.{Waiting}
 use Rattle.inp_script.specs.Client.{client_talk, hand_talk}
@@ -43,6 +43,13 @@ pub record Holds {A : Type 0} (before after : EvdevView) (talk : Talk A) (result
   pub talk_ends : EndsWith talk calls result
   pub are_calls : AreCalls before after calls
 
+-- The calls that were made on an evdev are the first ones of a talk, and this is what is left of it.
+pub record Begins {A : Type 0} (before after : EvdevView) (talk : Talk A) : Type 0 where
+  pub calls : List Call
+  pub rest : Talk A
+  pub leads : LeadsTo talk calls rest
+  pub are_calls : AreCalls before after calls
+
 -- A client was handed events, in some number of rounds.
 pub record HandsOut (before after : EvdevView) (d : Description) (wait : Option Waiting) (skips : Bool) (count : Option ℕ) (old new : Job) : Type 0 where
   pub rounds : ℕ
@@ -64,6 +71,14 @@ pub record DoesLine (before after : EvdevView) (a : ActorView) (r : RecordView) 
   pub is_line : slice_get r.lines number ≡ Some line
   pub rounds : ℕ
   pub holds : Holds before after (line_talk a.role a.description r.streams wait rounds line.command a.job) (Some new)
+
+-- An actor made the first calls of the line of this number, in some number of rounds: all of them, or those until memory
+-- ran out.
+pub record BeginsLine (before after : EvdevView) (a : ActorView) (r : RecordView) (wait : Option Waiting) (number : ℕ) : Type 0 where
+  pub line : Line
+  pub is_line : slice_get r.lines number ≡ Some line
+  pub rounds : ℕ
+  pub begins : Begins before after (line_talk a.role a.description r.streams wait rounds line.command a.job)
 
 -- the stream that a command takes is there, and its moments are within their limit
 abbrev pub HasStream : List (List Stamped) → Command → Type 0

@@ -19,6 +19,11 @@ abbrev pub count_taken : Reply → ℕ
 count_taken (Taking at count) = count
 count_taken _ = 0
 
+-- A step was made, and answered.
+pub record IsMade (before after : EvdevView) (x : Step) : Type 0 where
+  pub answer : Answer
+  pub is_call : IsCall before after (record { step = x; answer = answer })
+
 -- A call was made and noted.
 pub record IsNoted (before after : EvdevView) (x : Step) (reply : Reply) (old new : Notes) : Type 0 where
   pub answer : Answer

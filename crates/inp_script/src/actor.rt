@@ -3,7 +3,7 @@ ghost use Rattle.inp_model.specs.declared.step.Step.{Step as AStep};
 ghost use Rattle.std.specs.Prelude.{◌≡◌, ◌<◌, ◌*◌, List, length, OnOk, IfOk, IfSome, Some};
 ghost use Rattle.inp_model.specs.Leaves.{IsLeft};
 ghost use Rattle.inp_actors.specs.declared.role.Role.TheVariants.{Source};
-ghost use Rattle.inp_script.specs.Doing.{DoesLine, Holds, HasActor, IsLineOf, IsWaiting};
+ghost use Rattle.inp_script.specs.Doing.{Begins, BeginsLine, DoesLine, Holds, HasActor, IsLineOf, IsWaiting};
 ghost use Rattle.inp_script.specs.Legal.{CountsTurns, GainsPlaces, StaysLegal};
 ghost use Rattle.inp_script.specs.Fold.{IsFolded, StaysFolded};
 ghost use Rattle.inp_script.specs.Job.{first_job, job_end};
@@ -23,7 +23,7 @@ use std::marker::Model;
 ///
 /// A contract sees its number, its role, its device's description and its job: the reader or the client that it reads
 /// as, what it saw, and why it stopped, if it did. After a call answered `NoMemory` the actor is given up: no contract
-/// says what it saw in that call. What the call left of the evdev is said then too.
+/// says what it saw in that call. Which calls were made, and what they left of the evdev, is said then too.
 #[derive(Drop)]
 pub struct Actor {
     actor: u32,
@@ -79,10 +79,11 @@ impl Actor {
     ///
     /// `NoMemory` comes where there is none for what the actor saw, and where an `open` was refused for want of memory.
     ///
-    /// Whatever the answer, all that was done with the evdev is calls, one after another (`left`). So its description and
-    /// its tie are as before, what was seen is still there, its own places are those from before and those of these calls,
-    /// the calls are a legal run of what is seen afterwards, and what is seen stays a history of accepted steps. After
-    /// `NoMemory` that is all that is said: not which of the line's calls were made.
+    /// Whatever the answer, the calls that were made are the first ones of what the line asks for, each by the answers
+    /// before it (`begun`). After `Ok` they are all of it (`done`). After `NoMemory` no further call was made: how many
+    /// were, is not said. The calls are all that was done with the evdev (`left`). So its description and its tie are as
+    /// before, what was seen is still there, its own places are those from before and those of these calls, the calls are
+    /// a legal run of what is seen afterwards, and what is seen stays a history of accepted steps.
     pub fn line<E: Evdev>(
         &mut self,
         dev: &mut E,
@@ -96,6 +97,7 @@ impl Actor {
         requires wait { IfSome wait (IsWaiting rec.now self.old) }
         ensures done { OnOk result (DoesLine (E.told dev.old) (E.told dev.new)
             self.old rec.now wait line self.new.job) }
+        ensures begun { BeginsLine (E.told dev.old) (E.told dev.new) self.old rec.now wait line }
         ensures places { OnOk result (GainsPlaces (E.told dev.old) (E.told dev.new)
             self.old.job.sight self.new.job.sight) }
         ensures legal { OnOk result (StaysLegal self.old.description
@@ -117,13 +119,15 @@ impl Actor {
 
     /// Makes the step `End`, by which a source says that it is done, or does nothing where the actor has stopped.
     ///
-    /// `NoMemory` comes where there is none for what the actor saw. What was done with the evdev is calls then too, as
-    /// after [`line`](Actor::line).
+    /// `NoMemory` comes where there is none for what the actor saw. No other call was made then either (`begun`), and what
+    /// was done with the evdev is calls, as after [`line`](Actor::line).
     pub fn end<E: Evdev>(&mut self, dev: &mut E) -> Result<(), NoMemory>
         requires source { self.old.role ≡ Source }
         requires device { (E.told dev.old).description ≡ self.old.description }
         ensures done { OnOk result (Holds (E.told dev.old) (E.told dev.new)
             (end_talk self.old.job.stop self.old.job) (Some self.new.job)) }
+        ensures begun { Begins (E.told dev.old) (E.told dev.new)
+            (end_talk self.old.job.stop self.old.job) }
         ensures places { OnOk result (GainsPlaces (E.told dev.old) (E.told dev.new)
             self.old.job.sight self.new.job.sight) }
         ensures legal { OnOk result (StaysLegal self.old.description

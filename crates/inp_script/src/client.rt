@@ -1,12 +1,11 @@
 //! What a client does, which reads by a reader.
-ghost use Rattle.std.specs.Prelude.{◌≡◌, ◌<◌, ◌^◌, suc, true, OnOk, IfOk, Some};
-ghost use Rattle.inp_model.specs.Leaves.{IsLeft};
+ghost use Rattle.std.specs.Prelude.{◌≡◌, ◌<◌, ◌^◌, ℕ, suc, true, OnOk, IfOk, Some};
 ghost use Rattle.inp_reader.specs.Effort.{effort};
 ghost use Rattle.inp_reader.specs.Reading.{Reading};
-ghost use Rattle.inp_script.specs.Client.{start_job, next_round, turn_after, after_again, patience, handed, is_done, one_less, mode_of};
+ghost use Rattle.inp_script.specs.Client.{start_job, client_talk, hand_talk, next_round, turn_after, after_again, patience, handed, is_done, one_less, mode_of};
 ghost use Rattle.inp_actors.specs.declared.role.Role.TheVariants.{Client};
 ghost use Rattle.inp_actors.specs.Command.{is_command_of, is_in_range};
-ghost use Rattle.inp_script.specs.Doing.{Holds, HandsOut, DoesClientCommand};
+ghost use Rattle.inp_script.specs.Doing.{Begins, Holds, HandsOut, DoesClientCommand};
 ghost use Rattle.inp_script.specs.Line.{call_if, step_of};
 ghost use Rattle.inp_script.specs.Job.{Job};
 ghost use Rattle.inp_script.specs.Effort.{total_effort, Shrinks};
@@ -43,8 +42,9 @@ fn start<E: Evdev>(dev: &mut E, reader: &mut Reader, notes: &mut Notes) -> Resul
     ensures done { OnOk result (Holds (E.told dev.old) (E.told dev.new)
         (start_job reader.old.description (job_of reader.old.reading notes.old))
         (Some (job_of reader.new.reading notes.new))) }
+    ensures begun { Begins (E.told dev.old) (E.told dev.new)
+        (start_job reader.old.description (job_of reader.old.reading notes.old)) }
     ensures reader { reader.new.description ≡ reader.old.description }
-    ensures left { IsLeft (E.told dev.old) (E.told dev.new) }
 {
     let started = reader.start(dev);
     if start_lacks_memory(started) {
@@ -183,12 +183,14 @@ fn ask_reader<E: Evdev>(
         (next_round reader.old.description wait skips
         (going progress (job_of reader.old.reading notes.old)))
         (turn_of turn (job_of reader.new.reading notes.new))) }
+    ensures begun { Begins (E.told dev.old) (E.told dev.new)
+        (next_round reader.old.description wait skips
+        (going progress (job_of reader.old.reading notes.old))) }
     ensures patient { IfOk result IsPatient }
     ensures shrinks { let before = effort (E.told dev.old) reader.old.reading in
         IfOk result (Shrinks wait (total_effort wait before progress.agains)
         (effort (E.told dev.new) reader.new.reading)) }
     ensures reader { reader.new.description ≡ reader.old.description }
-    ensures left { IsLeft (E.told dev.old) (E.told dev.new) }
 {
     let mode = mode_of(skips, reader.phase());
     let next = reader.next(dev, mode);
@@ -209,8 +211,10 @@ fn hand_out<E: Evdev>(
     ensures done { OnOk result (HandsOut (E.told dev.old) (E.told dev.new)
         reader.old.description wait skips count
         (job_of reader.old.reading notes.old) (job_of reader.new.reading notes.new)) }
+    ensures begun { (rounds : ℕ) × Begins (E.told dev.old) (E.told dev.new)
+        (hand_talk reader.old.description wait skips count rounds
+        (job_of reader.old.reading notes.old)) }
     ensures reader { reader.new.description ≡ reader.old.description }
-    ensures left { IsLeft (E.told dev.old) (E.told dev.new) }
 {
     if is_done(count) {
         return Ok(());
@@ -241,8 +245,10 @@ pub(crate) fn do_client_command<E: Evdev>(
     ensures done { OnOk result (DoesClientCommand (E.told dev.old) (E.told dev.new)
         reader.old.description wait command.now
         (job_of reader.old.reading notes.old) (job_of reader.new.reading notes.new)) }
+    ensures begun { (rounds : ℕ) × Begins (E.told dev.old) (E.told dev.new)
+        (client_talk reader.old.description wait rounds command.now
+        (job_of reader.old.reading notes.old)) }
     ensures reader { reader.new.description ≡ reader.old.description }
-    ensures left { IsLeft (E.told dev.old) (E.told dev.new) }
 {
     match *command {
         Command::Open => start(dev, reader, notes),
@@ -270,7 +276,9 @@ fn call<E: Evdev>(
         (call_if (job_of reader.now.reading notes.old)
         (step_of reader.now.reading.client command.now))
         (Some (job_of reader.now.reading notes.new))) }
-    ensures left { IsLeft (E.told dev.old) (E.told dev.new) }
+    ensures begun { Begins (E.told dev.old) (E.told dev.new)
+        (call_if (job_of reader.now.reading notes.old)
+        (step_of reader.now.reading.client command.now)) }
 {
     let Some(step) = step_of(reader.client(), command) else {
         return Ok(());

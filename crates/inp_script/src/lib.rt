@@ -8,9 +8,9 @@
 //! Its contract: `specs/Line.antt` and `specs/Client.antt` say what each command asks of an evdev, one step by the
 //! answers before it, and what the job is afterwards (a `Talk` of `inp_reader`); `specs/Sight.antt` says what enters the
 //! sight. [`Actor::line`] promises that the calls it made are those of that talk, in some number of rounds, and that the
-//! actor's job is its result (`DoesLine`, `specs/Doing.antt`). Where memory ran out it promises that calls are all that it
-//! did with the evdev (`IsLeft` of `inp_model`), which so can be handed on. [`examples_of_jobs`] shows what these
-//! definitions compute on short records.
+//! actor's job is its result (`DoesLine`, `specs/Doing.antt`). Where memory ran out it promises that the calls it made are
+//! the first ones of that talk (`BeginsLine`), and that they are all that it did with the evdev (`IsLeft` of `inp_model`),
+//! which so can be handed on. [`examples_of_jobs`] shows what these definitions compute on short records.
 //!
 //! A line that hands out events ends whatever the evdev answers: each round makes a call that takes a place of the
 //! history, which is bounded, or hands out an event that was read or made before, or counts one answer Again of those

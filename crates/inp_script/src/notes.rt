@@ -1,10 +1,9 @@
 //! What a job saw, and why it stopped.
 ghost use Rattle.std.specs.Prelude.{◌≡◌, ◌≤◌, [], ◌∷◌, ◌++◌, map, OnOk, IfOk};
-ghost use Rattle.inp_model.specs.Leaves.{IsLeft};
 ghost use Rattle.inp_model.specs.declared.stamped.TheConstants.{MOMENT_MAX};
 ghost use Rattle.inp_model.specs.Step.{moment_of};
 ghost use Rattle.inp_model.specs.Reply.{HasRoom};
-ghost use Rattle.inp_script.specs.Noting.{IsNoted};
+ghost use Rattle.inp_script.specs.Noting.{IsMade, IsNoted};
 ghost use Rattle.inp_script.specs.Sight.{taken_sight, made_sight, sight_of_call, stop_after};
 
 use crate::stops::stop_after;
@@ -83,13 +82,13 @@ impl Notes {
         Ok(())
     }
 
-    // Makes a step that writes to no buffer, and notes it.
+    // Makes a step that writes to no buffer, and notes it. After `NoMemory` that one call was made.
     pub(crate) fn call<E: Evdev>(&mut self, dev: &mut E, step: Step) -> Result<Reply, NoMemory>
         requires moment { moment_of step ≤ MOMENT_MAX }
         requires room { HasRoom (E.told dev.old).description step [] [] }
         ensures noted { IfOk result
             (λ reply. IsNoted (E.told dev.old) (E.told dev.new) step reply self.old self.new) }
-        ensures left { IsLeft (E.told dev.old) (E.told dev.new) }
+        ensures made { IsMade (E.told dev.old) (E.told dev.new) step }
     {
         let mut nothing: [Taken; 0] = [];
         let reply = dev.call(step, &mut nothing, &mut []);

@@ -1,7 +1,6 @@
 //! What an actor keeps by its role.
-ghost use Rattle.std.specs.Prelude.{◌≡◌, ◌*◌, length, OnOk, IfOk};
-ghost use Rattle.inp_model.specs.Leaves.{IsLeft};
-ghost use Rattle.inp_script.specs.Doing.{DoesCommand, IsCommandFor};
+ghost use Rattle.std.specs.Prelude.{◌≡◌, ◌*◌, ℕ, length, OnOk, IfOk};
+ghost use Rattle.inp_script.specs.Doing.{Begins, DoesCommand, IsCommandFor, command_talk};
 ghost use Rattle.inp_script.specs.Job.{first_reading};
 ghost use Rattle.inp_script.specs.Noting.{job_of};
 ghost use Rattle.inp_script.specs.RoleState.{role_of, reading_of, IsSized};
@@ -66,9 +65,11 @@ impl RoleState {
         ensures done { OnOk result (DoesCommand (E.told dev.old) (E.told dev.new)
             (role_of self.old) caps.now rec.now.streams wait command.now
             (job_of (reading_of self.old) notes.old) (job_of (reading_of self.new) notes.new)) }
+        ensures begun { (rounds : ℕ) × Begins (E.told dev.old) (E.told dev.new)
+            (command_talk (role_of self.old) caps.now rec.now.streams wait rounds command.now
+            (job_of (reading_of self.old) notes.old)) }
         ensures role { role_of self.new ≡ role_of self.old }
         ensures sized { IsSized caps.now self.new }
-        ensures left { IsLeft (E.told dev.old) (E.told dev.new) }
     {
         match self {
             RoleState::Source { .. } => do_source_command(dev, notes, rec, command),

@@ -1,10 +1,9 @@
 //! What a source does.
 ghost use Rattle.std.specs.Prelude.{OnOk, Some};
-ghost use Rattle.inp_model.specs.Leaves.{IsLeft};
 ghost use Rattle.inp_actors.specs.declared.role.Role.TheVariants.{Source};
 ghost use Rattle.inp_actors.specs.Record.{AreInTime};
 ghost use Rattle.inp_reader.specs.Reading.{Reading};
-ghost use Rattle.inp_script.specs.Doing.{Holds, IsCommandFor};
+ghost use Rattle.inp_script.specs.Doing.{Begins, Holds, IsCommandFor};
 ghost use Rattle.inp_script.specs.Line.{stream_talk, source_talk};
 ghost use Rattle.inp_script.specs.Noting.{job_of};
 
@@ -19,7 +18,8 @@ fn inject_stream<E: Evdev>(dev: &mut E, notes: &mut Notes, stream: &Stamps) -> R
     requires in_time { AreInTime stream.now }
     ensures done { OnOk result ((r : Reading) → Holds (E.told dev.old) (E.told dev.new)
         (stream_talk stream.now (job_of r notes.old)) (Some (job_of r notes.new))) }
-    ensures left { IsLeft (E.told dev.old) (E.told dev.new) }
+    ensures begun { (r : Reading) → Begins (E.told dev.old) (E.told dev.new)
+        (stream_talk stream.now (job_of r notes.old)) }
 {
     for stamped in stream.as_slice() {
         let reply = notes.call(
@@ -47,7 +47,8 @@ pub(crate) fn do_source_command<E: Evdev>(
     ensures done { OnOk result ((r : Reading) → Holds (E.told dev.old) (E.told dev.new)
         (source_talk rec.now.streams command.now (job_of r notes.old))
         (Some (job_of r notes.new))) }
-    ensures left { IsLeft (E.told dev.old) (E.told dev.new) }
+    ensures begun { (r : Reading) → Begins (E.told dev.old) (E.told dev.new)
+        (source_talk rec.now.streams command.now (job_of r notes.old)) }
 {
     if let Command::Stream { index, .. } = command {
         return inject_stream(dev, notes, rec.stream(*index as usize));

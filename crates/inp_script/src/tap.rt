@@ -1,13 +1,12 @@
 //! What a tap does.
 ghost use Rattle.std.specs.Prelude.{◌≡◌, ◌≤◌, ◌*◌, true, length, map, OnOk, IfOk, Some};
-ghost use Rattle.inp_model.specs.Leaves.{IsLeft};
 ghost use Rattle.inp_actors.specs.declared.role.Role.TheVariants.{Tap as TapRole};
 ghost use Rattle.inp_actors.specs.Command.{is_command_of, is_in_range};
 ghost use Rattle.inp_model.specs.declared.stamped.TheConstants.{MOMENT_MAX};
 ghost use Rattle.inp_model.specs.Step.{moment_of};
 ghost use Rattle.inp_model.specs.Reply.{HasRoom};
 ghost use Rattle.inp_recon.specs.View.{view_after_events};
-ghost use Rattle.inp_script.specs.Doing.{Holds};
+ghost use Rattle.inp_script.specs.Doing.{Begins, Holds};
 ghost use Rattle.inp_script.specs.Job.{first_reading};
 ghost use Rattle.inp_script.specs.Line.{client_after, event_of_taken, tap_call, tap_talk};
 ghost use Rattle.inp_script.specs.Noting.{job_of, count_taken};
@@ -76,8 +75,9 @@ impl Tap {
         ensures done { OnOk result (Holds (E.told dev.old) (E.told dev.new)
             (tap_call (job_of (tap_reading self.old) notes.old) step)
             (Some (job_of (tap_reading self.new) notes.new))) }
+        ensures begun { Begins (E.told dev.old) (E.told dev.new)
+            (tap_call (job_of (tap_reading self.old) notes.old) step) }
         ensures sized { IsSizedTap (E.told dev.old).description self.new }
-        ensures left { IsLeft (E.told dev.old) (E.told dev.new) }
     {
         let reply = make(dev, step, &mut self.view, &mut self.buffer, &mut self.cells);
         self.client = client_after(step, reply, self.client);
@@ -100,8 +100,9 @@ impl Tap {
         ensures done { OnOk result (Holds (E.told dev.old) (E.told dev.new)
             (tap_talk command.now (job_of (tap_reading self.old) notes.old))
             (Some (job_of (tap_reading self.new) notes.new))) }
+        ensures begun { Begins (E.told dev.old) (E.told dev.new)
+            (tap_talk command.now (job_of (tap_reading self.old) notes.old)) }
         ensures sized { IsSizedTap (E.told dev.old).description self.new }
-        ensures left { IsLeft (E.told dev.old) (E.told dev.new) }
     {
         let Some(step) = step_of(self.client, command) else {
             return Ok(());
@@ -125,7 +126,6 @@ fn make<E: Evdev>(
     ensures made { IsTapCall (E.told dev.old) (E.told dev.new)
         step result view.old view.new out.new }
     ensures view { length view.new.cells ≡ length view.old.cells }
-    ensures left { IsLeft (E.told dev.old) (E.told dev.new) }
 {
     let reply = dev.call(step, out, cells);
     view.answer(step, reply, cells);

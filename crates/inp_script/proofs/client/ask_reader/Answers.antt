@@ -8,14 +8,13 @@ use Rattle.inp_reader.specs.declared.phase.Phase.{Phase}
 use Rattle.inp_reader.specs.Effort.{effort, is_idle}
 use Rattle.inp_reader.specs.Reading.{Reading, next_talk}
 use Rattle.inp_reader.specs.Says.{Says}
-use Rattle.inp_reader.proofs.Leavings.{leaves_made-left}
 use Rattle.inp_script.specs.declared.client.Turn.{Turn}
 use Rattle.inp_script.specs.Client.{mode_of}
 use Rattle.inp_script.specs.Effort.{total_effort, Shrinks}
 use Rattle.inp_script.specs.Going.{turn_of}
 use Rattle.inp_script.specs.Noting.{job_of}
 use Rattle.inp_script.specs.Sight.{made_sight}
-use Rattle.inp_script.proofs.Noted.{round-noted}
+use Rattle.inp_script.proofs.Noted.{round-noted, round-begun}
 use Rattle.inp_script.proofs.Turns.{mode_of-busy, turn-shrinks}
 use Rattle.inp_script.proofs.client.ask_reader.Goals as goal
 
@@ -48,8 +47,12 @@ returns-clause-shrinks g c =
     (λ (turn : Turn) is. turn-shrinks c.args.wait c.args.progress.left c.args.progress.agains c.next-next.result (job_of s c.push_made.new.self) (job_of s c.note_next.new.self) turn after before (is s) (c.next-next.ensures.less busy))
     c.note_next.ensures.turn
 
-pub returns-in_err-push_made-clause-left : goal.returns-in_err-push_made-clause-left
-returns-in_err-push_made-clause-left g c = leaves_made-left _ _ _ c.next-next.ensures.left
+pub returns-in_err-push_made-clause-begun : goal.returns-in_err-push_made-clause-begun
+returns-in_err-push_made-clause-begun g c =
+    round-begun _ _ c.args.reader.now.description c.args.wait c.args.skips c.args.reader.now.reading _ c.args.notes.now _ c.args.progress.left c.args.progress.agains _ c.mode_of-mode.result
+    (c.mode_of-mode.ensures ∙ ap (λ (p : Phase). mode_of c.args.skips p) c.phase.ensures.phase) c.next-next.ensures.says
 
-pub returns-clause-left : goal.returns-clause-left
-returns-clause-left g c = leaves_made-left _ _ _ c.next-next.ensures.left
+pub returns-clause-begun : goal.returns-clause-begun
+returns-clause-begun g c =
+    round-begun _ _ c.args.reader.now.description c.args.wait c.args.skips c.args.reader.now.reading _ c.args.notes.now _ c.args.progress.left c.args.progress.agains _ c.mode_of-mode.result
+    (c.mode_of-mode.ensures ∙ ap (λ (p : Phase). mode_of c.args.skips p) c.phase.ensures.phase) c.next-next.ensures.says

@@ -3,10 +3,9 @@ use Rattle.std.specs.Prelude.{Some}
 use Rattle.inp_actors.specs.declared.command.Command.{Command}
 use Rattle.inp_reader.specs.Reading.{Reading, ReaderView, with_sync_needed}
 use Rattle.inp_reader.specs.Talk.{finish}
-use Rattle.inp_model.proofs.Leaves.{left-none}
 use Rattle.inp_script.specs.Client.{client_talk}
 use Rattle.inp_script.specs.Noting.{job_of}
-use Rattle.inp_script.proofs.Holding.{holds-nothing}
+use Rattle.inp_script.proofs.Holding.{holds-nothing, begins-none}
 use Rattle.inp_script.proofs.client.do_client_command.Goals as goal
 
 pub returns-in-Force-clause-done : goal.returns-in-Force-clause-done
@@ -21,5 +20,5 @@ returns-in-Force-clause-done g c =
           (ap (λ (x : Command). client_talk d c.args.wait 0 x old) c.in-Force.is ∙ ap (λ (r : Reading). finish (Some (job_of r c.args.notes.now))) (sym forced));
     }
 
-pub returns-in-Force-clause-left : goal.returns-in-Force-clause-left
-returns-in-Force-clause-left g c = left-none _
+pub returns-in-Force-clause-begun : goal.returns-in-Force-clause-begun
+returns-in-Force-clause-begun g c = (0, begins-none _ _)

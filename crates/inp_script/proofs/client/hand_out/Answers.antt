@@ -1,12 +1,13 @@
 use Rattle.std.proofs.Common.{◌∙◌, sym, subst, refl, arith}
 use Rattle.inp_model.specs.Description.{Description}
-use Rattle.inp_model.proofs.Leaves.{left-none, left-then}
+use Rattle.inp_model.proofs.Leaves.{description-kept}
 use Rattle.inp_script.specs.declared.client.Turn.{Turn}
 use Rattle.inp_script.specs.Client.{next_round}
 use Rattle.inp_script.specs.Doing.{Holds}
 use Rattle.inp_script.specs.Going.{going, turn_of, IsPatient}
 use Rattle.inp_script.specs.Noting.{job_of}
-use Rattle.inp_script.proofs.Rounds.{passed-none, passed-more, hands_out-last, hands_out-none}
+use Rattle.inp_script.proofs.Holding.{begins-none}
+use Rattle.inp_script.proofs.Rounds.{passed-none, passed-more, hands_out-last, hands_out-none, hands_out-begun}
 use Rattle.inp_script.proofs.client.hand_out.Goals as goal
 
 pub returns-then-is_done-clause-done : goal.returns-then-is_done-clause-done
@@ -18,7 +19,6 @@ loop-next-init g c = record {
   passed = passed-none (g.E.Evdev.told c.args.dev.now) c.args.reader.now.description c.args.wait c.args.skips (going (record { left = c.args.count; agains = 0 }) (job_of c.args.reader.now.reading c.args.notes.now));
   patient = omega arith;
   reader = refl;
-  left = left-none _;
 }
 
 pub loop-next-preserved : goal.loop-next-preserved
@@ -34,7 +34,6 @@ loop-next-preserved g c =
       passed = passed-more _ a b d c.args.wait c.args.skips _ here (going c.in-GoesOn.next j) c.loop-next.invariant.passed round;
       patient = subst (λ (t : Turn). IsPatient t) c.in-GoesOn.is c.in_ok-next.ensures.patient;
       reader = c.in_ok-next.ensures.reader ∙ c.loop-next.invariant.reader;
-      left = left-then _ _ _ c.loop-next.invariant.left c.in_ok-next.ensures.left;
     }
 
 pub returns-in-Ends-clause-done : goal.returns-in-Ends-clause-done
@@ -48,14 +47,19 @@ returns-in-Ends-clause-done g c =
     (subst (λ (e : Description). Holds a b (next_round e c.args.wait c.args.skips here) (turn_of c.in_ok-next.field-0 j)) c.loop-next.invariant.reader c.in_ok-next.ensures.turn) in
     hands_out-last _ a b d c.args.wait c.args.skips c.args.count (job_of c.args.reader.now.reading c.args.notes.now) j here (sym c.is_done.ensures ∙ c.if-is_done.false) c.loop-next.invariant.passed round
 
-pub returns-then-is_done-clause-left : goal.returns-then-is_done-clause-left
-returns-then-is_done-clause-left g c = left-none _
+pub returns-then-is_done-clause-begun : goal.returns-then-is_done-clause-begun
+returns-then-is_done-clause-begun g c = (0, begins-none _ _)
 
 pub ask_reader-requires-clause-description : goal.ask_reader-requires-clause-description
-ask_reader-requires-clause-description g c = c.loop-next.invariant.left.leaves.description ∙ c.requires.description ∙ sym c.loop-next.invariant.reader
+ask_reader-requires-clause-description g c =
+    description-kept _ _ c.loop-next.invariant.passed.calls c.loop-next.invariant.passed.are_calls ∙ c.requires.description ∙ sym c.loop-next.invariant.reader
 
-pub returns-in_err-next-clause-left : goal.returns-in_err-next-clause-left
-returns-in_err-next-clause-left g c = left-then _ _ _ c.loop-next.invariant.left c.in_err-next.ensures.left
+pub returns-in_err-next-clause-begun : goal.returns-in_err-next-clause-begun
+returns-in_err-next-clause-begun g c =
+    hands_out-begun _ _ _ c.args.reader.now.description c.loop-next.reader.description c.args.wait c.args.skips c.args.count (job_of c.args.reader.now.reading c.args.notes.now) (going c.loop-next.progress (job_of c.loop-next.reader.reading c.loop-next.notes))
+    c.loop-next.invariant.reader (sym c.is_done.ensures ∙ c.if-is_done.false) c.loop-next.invariant.passed c.in_err-next.ensures.begun
 
-pub returns-in-Ends-clause-left : goal.returns-in-Ends-clause-left
-returns-in-Ends-clause-left g c = left-then _ _ _ c.loop-next.invariant.left c.in_ok-next.ensures.left
+pub returns-in-Ends-clause-begun : goal.returns-in-Ends-clause-begun
+returns-in-Ends-clause-begun g c =
+    hands_out-begun _ _ _ c.args.reader.now.description c.loop-next.reader.description c.args.wait c.args.skips c.args.count (job_of c.args.reader.now.reading c.args.notes.now) (going c.loop-next.progress (job_of c.loop-next.reader.reading c.loop-next.notes))
+    c.loop-next.invariant.reader (sym c.is_done.ensures ∙ c.if-is_done.false) c.loop-next.invariant.passed c.in_ok-next.ensures.begun

@@ -1,5 +1,4 @@
 use Rattle.std.proofs.Common.{◌≡◌, ◌<◌, ◌^◌}
-use Rattle.inp_model.specs.Leaves.{IsLeft}
 use Rattle.inp_reader.specs.Effort.{effort}
 use Rattle.inp_script.specs.Effort.{total_effort}
 use Rattle.inp_script.specs.Going.{going}
@@ -12,7 +11,6 @@ invariant-loop-next g l = record {
   passed : Passed (g.E.Evdev.told l.initial.dev) (g.E.Evdev.told l.dev) l.initial.reader.description l.wait l.skips (going l.initial.progress (job_of l.initial.reader.reading l.initial.notes)) (going l.progress (job_of l.reader.reading l.notes));
   patient : l.progress.agains < 2 ^ 32;
   reader : l.reader.description ≡ l.initial.reader.description;
-  left : IsLeft (g.E.Evdev.told l.initial.dev) (g.E.Evdev.told l.dev);
 }
 
 abbrev pub decreases-loop-next : goal.decreases-loop-next

@@ -1,13 +1,12 @@
 use Rattle.std.proofs.Common.{◌≡◌, ◌∙◌, sym, ap, subst, List, map, ◌++◌, Option, Some}
 use Rattle.inp_reader.specs.declared.call_made.CallMade.{CallMade}
-use Rattle.inp_reader.proofs.Leavings.{leaves_made-left}
 use Rattle.inp_script.specs.declared.notes.Notes.{Notes}
 use Rattle.inp_script.specs.declared.stop.Stop.{Stop}
 use Rattle.inp_script.specs.Client.{start_job}
 use Rattle.inp_script.specs.Doing.{Holds}
 use Rattle.inp_script.specs.Noting.{job_of}
 use Rattle.inp_script.specs.Sight.{made_sight}
-use Rattle.inp_script.proofs.Noted.{start-noted}
+use Rattle.inp_script.proofs.Noted.{start-noted, start-begun}
 use Rattle.inp_script.proofs.client.start.Goals as goal
 
 pub returns-clause-done : goal.returns-clause-done
@@ -23,11 +22,11 @@ returns-clause-done g c =
     (start-noted a b c.args.reader.now.description c.args.reader.now.reading c.start-started.new.self.reading old made c.push_made.new.self.sight c.start-started.result c.start-started.ensures.says
     (sym c.start_lacks_memory.ensures ∙ c.if-start_lacks_memory.false) seen)
 
-pub returns-then-start_lacks_memory-clause-left : goal.returns-then-start_lacks_memory-clause-left
-returns-then-start_lacks_memory-clause-left g c = leaves_made-left _ _ _ c.start-started.ensures.left
+pub returns-then-start_lacks_memory-clause-begun : goal.returns-then-start_lacks_memory-clause-begun
+returns-then-start_lacks_memory-clause-begun g c = start-begun _ _ c.args.reader.now.description c.args.reader.now.reading _ c.args.notes.now _ _ c.start-started.ensures.says
 
-pub returns-in_err-push_made-clause-left : goal.returns-in_err-push_made-clause-left
-returns-in_err-push_made-clause-left g c = leaves_made-left _ _ _ c.start-started.ensures.left
+pub returns-in_err-push_made-clause-begun : goal.returns-in_err-push_made-clause-begun
+returns-in_err-push_made-clause-begun g c = start-begun _ _ c.args.reader.now.description c.args.reader.now.reading _ c.args.notes.now _ _ c.start-started.ensures.says
 
-pub returns-clause-left : goal.returns-clause-left
-returns-clause-left g c = leaves_made-left _ _ _ c.start-started.ensures.left
+pub returns-clause-begun : goal.returns-clause-begun
+returns-clause-begun g c = start-begun _ _ c.args.reader.now.description c.args.reader.now.reading _ c.args.notes.now _ _ c.start-started.ensures.says

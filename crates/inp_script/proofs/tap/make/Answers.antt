@@ -1,5 +1,4 @@
 use Rattle.std.proofs.Common.{arith, length-take}
-use Rattle.inp_model.proofs.Leaves.{left-one}
 use Rattle.inp_script.proofs.Tapping.{tap-made, few_events}
 use Rattle.inp_script.proofs.tap.make.Goals as goal
 
@@ -15,6 +14,3 @@ pub returns-clause-made : goal.returns-clause-made
 returns-clause-made g c =
     tap-made _ _ c.args.step c.call-reply.result c.args.out.now c.call-reply.new.out c.args.cells.now c.call-reply.new.cells c.args.view.now c.answer.new.self c.take_events.new.view c.count_taken.result
     c.call-reply.ensures.called c.requires.view c.answer.ensures.view c.count_taken.ensures c.take_events.ensures.view
-
-pub returns-clause-left : goal.returns-clause-left
-returns-clause-left g c = left-one _ _ c.call-reply.ensures.called.call c.call-reply.ensures.called.is_call

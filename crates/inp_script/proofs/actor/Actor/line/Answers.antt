@@ -1,14 +1,16 @@
-use Rattle.std.proofs.Common.{◌≡◌, ◌∙◌, sym, ap, subst, rules, true, false, List}
+use Rattle.std.proofs.Common.{◌≡◌, ◌∙◌, sym, ap, subst, rules, true, false, List, ℕ}
 use Rattle.std.specs.Prelude.{Some, OnOk, is_some}
 use Rattle.std.specs.List.{slice_get}
 use Rattle.std.proofs.lemmas.Option.{slice_get_within}
 use Rattle.std.proofs.lemmas.Result.{on_ok_weaker}
 use Rattle.inp_model.proofs.Leaves.{left-none}
 use Rattle.inp_actors.specs.declared.line.Line.{Line}
-use Rattle.inp_script.specs.Doing.{DoesCommand, IsCommandFor}
+use Rattle.inp_script.specs.Doing.{Begins, BeginsLine, DoesCommand, IsCommandFor, command_talk}
 use Rattle.inp_script.specs.Job.{Job, ActorView}
 use Rattle.inp_script.specs.Noting.{job_of}
 use Rattle.inp_script.specs.RoleState.{reading_of}
+use Rattle.inp_script.proofs.Holding.{begins-none, begins-left}
+use Rattle.inp_script.proofs.Lines.{begins-line}
 use Rattle.inp_script.proofs.LinesDone.{IsLineDone, command-of, line-stopped, line-went_on}
 use Rattle.inp_script.proofs.actor.Actor.line.Goals as goal
 
@@ -17,7 +19,16 @@ returns-then-is_some g c =
     let actor : ActorView = c.args.self.now in
     let stopped : is_some actor.job.stop ≡ true = ap (λ (a : ActorView). is_some a.job.stop) (sym c.self.view_is) ∙ sym c.is_some.ensures ∙ c.if-is_some.true in
     let all = line-stopped (g.E.Evdev.told c.args.dev.now) actor c.args.rec.now c.args.wait c.args.line c.requires.device c.lines.ensures.«record» c.requires.actor c.requires.line stopped in
-    record { done = all.done; places = all.places; legal = all.legal; view = all.view; turns = all.turns; actor = search rules; left = left-none _ }
+    record {
+      done = all.done;
+      begun = record { line = c.requires.line.line; is_line = c.requires.line.is_line; rounds = 0; begins = begins-none _ _ };
+      places = all.places;
+      legal = all.legal;
+      view = all.view;
+      turns = all.turns;
+      actor = search rules;
+      left = left-none _;
+    }
 
 pub get-requires : goal.get-requires
 get-requires g c =
@@ -48,12 +59,15 @@ returns g c =
     (λ does. line-went_on a b actor r c.args.wait c.args.line got new c.requires.device command is_line goes
     (subst (λ (x : ActorView). DoesCommand a b x.role x.description r.streams c.args.wait got.command x.job new) c.self.view_is does))
     c.do_command.ensures.done in
+    let some_rounds = subst (λ (x : ActorView). (n : ℕ) × Begins a b (command_talk x.role x.description r.streams c.args.wait n got.command x.job)) c.self.view_is c.do_command.ensures.begun in
+    let begun : BeginsLine a b actor r c.args.wait c.args.line = begins-line a b actor r c.args.wait c.args.line got some_rounds.0 is_line goes some_rounds.1 in
     record {
       done = on_ok_weaker c.do_command.result (λ h. h.done) all;
+      begun = begun;
       places = on_ok_weaker c.do_command.result (λ h. h.places) all;
       legal = on_ok_weaker c.do_command.result (λ h. h.legal) all;
       view = on_ok_weaker c.do_command.result (λ h. h.view) all;
       turns = on_ok_weaker c.do_command.result (λ h. h.turns) all;
       actor = search rules;
-      left = c.do_command.ensures.left;
+      left = begins-left _ _ _ begun.begins;
     }

@@ -2,7 +2,7 @@ use Rattle.std.proofs.Common.{sym, subst}
 use Rattle.std.specs.Prelude.{Some}
 use Rattle.std.proofs.lemmas.Result.{on_ok_weaker}
 use Rattle.inp_script.specs.declared.role_state.RoleState.{RoleState}
-use Rattle.inp_script.specs.Doing.{Holds, command_talk}
+use Rattle.inp_script.specs.Doing.{Begins, Holds, command_talk}
 use Rattle.inp_script.specs.Noting.{job_of}
 use Rattle.inp_script.specs.RoleState.{role_of, reading_of}
 use Rattle.inp_script.proofs.role_state.RoleState.do_command.Goals as goal
@@ -18,3 +18,10 @@ returns-in-Source-clause-done g c =
       holds = subst (λ (x : RoleState). Holds a b (command_talk (role_of x) c.args.caps.now c.args.rec.now.streams c.args.wait 0 c.args.command.now (job_of r c.args.notes.now)) (Some (job_of r c.do_source_command.new.notes))) (sym c.in-Source.is) (h r);
     })
     c.do_source_command.ensures.done
+
+pub returns-in-Source-clause-begun : goal.returns-in-Source-clause-begun
+returns-in-Source-clause-begun g c =
+    let a = g.E.Evdev.told c.args.dev.now in
+    let b = g.E.Evdev.told c.do_source_command.new.dev in
+    let r = reading_of c.args.self.now in
+    (0, subst (λ (x : RoleState). Begins a b (command_talk (role_of x) c.args.caps.now c.args.rec.now.streams c.args.wait 0 c.args.command.now (job_of r c.args.notes.now))) (sym c.in-Source.is) (c.do_source_command.ensures.begun r))

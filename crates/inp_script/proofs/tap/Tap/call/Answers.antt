@@ -3,9 +3,9 @@ use Rattle.std.proofs.lemmas.List.{take_at}
 use Rattle.std.proofs.lemmas.Result.{on_ok_weaker}
 use Rattle.inp_model.specs.declared.taken.Taken.{Taken}
 use Rattle.inp_reader.specs.Reading.{Reading}
-use Rattle.inp_script.specs.Noting.{count_taken}
+use Rattle.inp_script.specs.Noting.{job_of, count_taken}
 use Rattle.inp_script.specs.Tap.{tap_reading}
-use Rattle.inp_script.proofs.Tapping.{tap-noted}
+use Rattle.inp_script.proofs.Tapping.{tap-noted, tap-begun}
 use Rattle.inp_script.proofs.tap.Tap.call.Goals as goal
 
 pub returns-clause-done : goal.returns-clause-done
@@ -21,3 +21,9 @@ returns-clause-done g c =
     (λ noted. tap-noted _ _ c.args.step reply c.args.notes.now c.note.new.self r s c.make-reply.new.view out (take c.count_taken.result c.deref.result.now) c.make-reply.ensures.made
     (sym c.lacks_memory.ensures ∙ c.if-lacks_memory.false) read (ap (λ (n : ℕ). record r { client = n; view = c.make-reply.new.view }) c.client_after-self.ensures) noted)
     c.note.ensures
+
+pub returns-then-lacks_memory-clause-begun : goal.returns-then-lacks_memory-clause-begun
+returns-then-lacks_memory-clause-begun g c = tap-begun _ _ c.args.step _ _ _ _ (job_of (tap_reading c.args.self.now) c.args.notes.now) c.make-reply.ensures.made
+
+pub returns-clause-begun : goal.returns-clause-begun
+returns-clause-begun g c = tap-begun _ _ c.args.step _ _ _ _ (job_of (tap_reading c.args.self.now) c.args.notes.now) c.make-reply.ensures.made

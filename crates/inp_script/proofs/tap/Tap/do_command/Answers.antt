@@ -1,5 +1,5 @@
-use Rattle.inp_model.proofs.Leaves.{left-none}
+use Rattle.inp_script.proofs.Holding.{begins-none}
 use Rattle.inp_script.proofs.tap.Tap.do_command.Goals as goal
 
-pub returns-in_default-clause-left : goal.returns-in_default-clause-left
-returns-in_default-clause-left g c = left-none _
+pub returns-in_default-clause-begun : goal.returns-in_default-clause-begun
+returns-in_default-clause-begun g c = begins-none _ _
