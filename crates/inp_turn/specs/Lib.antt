@@ -1,0 +1,5 @@
+pub mod PassView
+pub mod Turn
+pub mod Steps
+pub mod Pass
+pub mod Shared
