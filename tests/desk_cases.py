@@ -7,14 +7,11 @@ import os
 import struct
 import subprocess
 import sys
-import tempfile
-import unittest
 from importlib.machinery import SourceFileLoader
-from pathlib import Path
 
-TOP = Path(__file__).resolve().parent.parent
+from playing import PROGRAM, TOP, FolderCase
+
 TOOLS, DATA = TOP / "tools", TOP / "tests" / "data"
-PROGRAM = os.environ.get("INPUTPLAY") or str(TOP / "crates" / "inp_main" / "out" / "inp_main")
 
 sys.path.insert(0, str(TOOLS))
 
@@ -40,13 +37,8 @@ def raw_capture(events, size=24, base=1764252210496169):
     return b"".join(form.pack(*divmod(base + time, 1000000), *event) for time, *event in events)
 
 
-class DeskCase(unittest.TestCase):
+class DeskCase(FolderCase):
     """A test that runs tools and plays what they write."""
-
-    def setUp(self):
-        folder = tempfile.TemporaryDirectory()
-        self.addCleanup(folder.cleanup)
-        self.folder = Path(folder.name)
 
     def file(self, name, content):
         path = self.folder / name

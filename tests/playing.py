@@ -3,6 +3,8 @@
 import difflib
 import os
 import subprocess
+import tempfile
+import unittest
 from pathlib import Path
 from typing import NamedTuple
 
@@ -17,6 +19,15 @@ USAGE = (
 
 # No run takes longer than a part of a second; one that hangs is a failure.
 SECONDS = 30
+
+
+class FolderCase(unittest.TestCase):
+    """A test that has a folder of its own, `self.folder`, which goes with it."""
+
+    def setUp(self):
+        folder = tempfile.TemporaryDirectory()
+        self.addCleanup(folder.cleanup)
+        self.folder = Path(folder.name)
 
 
 class Run(NamedTuple):

@@ -5,11 +5,8 @@ shares no code with the first. Both must write the same report, byte for byte. E
 """
 
 import sys
-import tempfile
-import unittest
-from pathlib import Path
 
-from playing import TOP, assert_run, run
+from playing import TOP, FolderCase, assert_run, run
 
 sys.path.insert(0, str(TOP / "bench" / "model"))
 
@@ -33,12 +30,7 @@ def report_of(text, history=False):
     return "".join(line + "\n" for line in lines).encode(), 6 if is_full else 0
 
 
-class SecondProgram(unittest.TestCase):
-    def setUp(self):
-        folder = tempfile.TemporaryDirectory()
-        self.addCleanup(folder.cleanup)
-        self.folder = Path(folder.name)
-
+class SecondProgram(FolderCase):
     def plays_as_the_second_one(self, text, history):
         (self.folder / "f").write_bytes(text.encode("latin1"))
         report, status = report_of(text, history)

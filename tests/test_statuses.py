@@ -6,11 +6,8 @@ It was worked out by docs/FORMATS.md ("Statuses", "Causes", "The words on the co
 import os
 import resource
 import struct
-import tempfile
-import unittest
-from pathlib import Path
 
-from playing import EXAMPLES, TOP, USAGE, assert_run, run
+from playing import EXAMPLES, TOP, USAGE, FolderCase, assert_run, run
 
 INPUT_LIMIT = 16777216
 READ_FAILED = b"inputplay: read failed\n"
@@ -102,12 +99,7 @@ def with_file_size(limit_in_bytes):
     return lambda: resource.setrlimit(resource.RLIMIT_FSIZE, (limit_in_bytes, limit_in_bytes))
 
 
-class Statuses(unittest.TestCase):
-    def setUp(self):
-        folder = tempfile.TemporaryDirectory()
-        self.addCleanup(folder.cleanup)
-        self.folder = Path(folder.name)
-
+class Statuses(FolderCase):
     def file(self, name, bytes_of_it):
         (self.folder / name).write_bytes(bytes_of_it)
 

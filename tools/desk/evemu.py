@@ -8,8 +8,8 @@ same and means nothing. Values of axes stand in comments alone.
 import re
 
 from desk.command import Wrong, at_line, number
-from desk.listing import Listing, forget_values_of_slots, take_values
-from desk.names import ABS, LED, SW
+from desk.listing import Listing, complete
+from desk.names import LED, SW
 from desk.recording import GREATEST, LEAST, Axis, Device, Event, Recording
 
 HEAD = re.compile(r"# EVEMU \d")
@@ -107,12 +107,7 @@ class Parser:
                 device.properties = codes
             elif kind and codes:
                 device.add(kind, codes)
-        for code in device.codes.get(ABS, ()):
-            device.axes.setdefault(code, Axis())
-        if device.axes:
-            device.add(ABS, device.axes)
-        take_values(device, self.listing.device)
-        forget_values_of_slots(device)
+        complete(device, self.listing.device)
         if self.is_described:
             self.recording.device = device
         return self.recording

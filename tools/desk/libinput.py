@@ -8,8 +8,8 @@ were obfuscated.
 import re
 
 from desk.command import Wrong, at_line, number
-from desk.listing import Listing, forget_values_of_slots, take_values
-from desk.names import ABS, KEY, MSC
+from desk.listing import Listing, complete
+from desk.names import KEY, MSC
 from desk.recording import GREATEST, LEAST, Axis, Device, Event, Recording
 
 MSC_SCAN, HIDDEN = 4, 30
@@ -102,12 +102,7 @@ class Parser:
 
     def finished(self):
         device = self.device
-        for code in device.codes.get(ABS, ()):
-            device.axes.setdefault(code, Axis())
-        if device.axes:
-            device.add(ABS, device.axes)
-        take_values(device, self.listing.device)
-        forget_values_of_slots(device)
+        complete(device, self.listing.device)
         self.find_hidden()
         self.recording.device = device
         return self.recording

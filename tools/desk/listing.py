@@ -79,6 +79,16 @@ def take_values(device, listing):
     device.repeat.update(listing.repeat)
 
 
+def complete(device, listing):
+    """Has each axis of a description, also one without ranges, and takes over what a listing beside it tells."""
+    for code in device.codes.get(ABS, ()):
+        device.axes.setdefault(code, Axis())
+    if device.axes:
+        device.add(ABS, device.axes)
+    take_values(device, listing)
+    forget_values_of_slots(device)
+
+
 def forget_values_of_slots(device):
     """An axis whose values belong to slots has none of its own: what a tool prints there is always 0."""
     for code, axis in device.axes.items():

@@ -79,12 +79,16 @@ fn add_by_two<R: Threads + Wait + Sync>(
     let (one, other) = thread::join(
         rt,
         move || -> Pass<Tally>
-            requires { IsPassOf lent.now one × (has_turn one ≡ false) × ((view_of one).share ≡ 65535) }
-            ensures { IsPassOf lent.entry.now result × (has_turn result ≡ false) × ((view_of result).share ≡ 65535) }
+            requires { IsPassOf lent.now one × (has_turn one ≡ false)
+                × ((view_of one).share ≡ 65535) }
+            ensures { IsPassOf lent.entry.now result × (has_turn result ≡ false)
+                × ((view_of result).share ≡ 65535) }
         { add_all(rt, lent, one, 0) },
         move || -> Pass<Tally>
-            requires { IsPassOf lent.now other × (has_turn other ≡ false) × ((view_of other).share ≡ 1) }
-            ensures { IsPassOf lent.entry.now result × (has_turn result ≡ false) × ((view_of result).share ≡ 1) }
+            requires { IsPassOf lent.now other × (has_turn other ≡ false)
+                × ((view_of other).share ≡ 1) }
+            ensures { IsPassOf lent.entry.now result × (has_turn result ≡ false)
+                × ((view_of result).share ≡ 1) }
         { add_all(rt, lent, other, 1000) },
     );
     let pass = shared.join(one, other);
