@@ -17,7 +17,7 @@ use Rattle.inp_model.specs.History.{IsHistory}
 use Rattle.inp_model.proofs.Refused.{refused-not_accepted}
 use Rattle.inp_device.specs.declared.present.Present.{Present}
 use Rattle.inp_device.specs.Present.{StandsFor, IsReadyFor, IsMade, IsMadeOrLacks, IsKeptWith}
-use Rattle.inp_device.proofs.Allowed.{allowed}
+use Rattle.inp_model.proofs.Allowed.{allowed}
 
 -- Refused
 

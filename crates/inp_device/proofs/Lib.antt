@@ -8,7 +8,6 @@ pub mod MaskWords
 pub mod Named
 pub mod Offers
 pub mod Calls
-pub mod Allowed
 pub mod Standing
 pub mod Making
 pub mod Entering

@@ -34,7 +34,7 @@ use Rattle.inp_client.proofs.ClientLists.{AllBelow, unused_above, with_client_ab
 use Rattle.inp_device.specs.Present.{client_after, clients_after, HasBits, AsksBits, StandsFor, IsReadyFor, IsMade}
 use Rattle.inp_model.proofs.Opens.{opens-le}
 use Rattle.inp_device.proofs.Queues.{visible-map}
-use Rattle.inp_device.proofs.Allowed.{allowed, named_open}
+use Rattle.inp_model.proofs.Allowed.{allowed, named_open}
 use Rattle.inp_device.proofs.Calls.{makes_events, leaves_clients, has_client-after, has_revoked_client-after, events_of-after, clients_after-read, clients_after-discard, clients_after-query, clients_after-open, clients_after-left}
 use Rattle.inp_device.proofs.Standing.{takes, leaves_grab, stands_called, stands_framed, holder-keeps, opens-keeps, opens-open, ends-keeps, ends-end, ends-le, handler_stands, no_holder, own_grab, holder-grab, holder-ungrab}
 

@@ -12,6 +12,8 @@ use Rattle.inp_model.specs.Past.{opens, is_revoked, holder, holder_kept, clock_o
 use Rattle.inp_model.specs.Reply.{is_busy, is_not_grabber}
 use Rattle.inp_model.specs.Cut.{Cut}
 use Rattle.inp_model.specs.Frame.{cuts_of_step}
+use Rattle.inp_model.proofs.Allowed.{IsAllowed, named_open, mask_kind, mask_word}
+use Rattle.inp_model.proofs.Opens.{is_open-lt}
 use Rattle.inp_frames.specs.Core.{CoreStandsFor, IsFor, IsEntered}
 use Rattle.inp_frames.specs.Frames.{TakesAll}
 use Rattle.inp_frames.proofs.Keeping.{makes_no_events, CoreStandsFor-keeps}
@@ -20,11 +22,9 @@ use Rattle.inp_device.specs.declared.handler.Handler.{Handler}
 use Rattle.inp_device.specs.declared.present.Present.{Present}
 use Rattle.inp_device.specs.Handler.{after_frame}
 use Rattle.inp_device.specs.Present.{clients_after, MasksEnd, IsFresh, AreFresh, HandlerStandsFor, StandsFor}
-use Rattle.inp_model.proofs.Opens.{is_open-lt}
 use Rattle.inp_device.proofs.MaskWords.{MasksEnd-mask}
 use Rattle.inp_device.proofs.Offers.{after_offers}
 use Rattle.inp_device.proofs.Calls.{clients_after-frames, makes_events}
-use Rattle.inp_device.proofs.Allowed.{IsAllowed, named_open}
 
 -- Clients that no step named
 
@@ -53,16 +53,9 @@ AreFresh-step d past (Revoke client) ok was n h =
     record { bits = (was n h).bits; clock = (was n h).clock; revoked = ap (λ b. if b then true else is_revoked past n) (other_number client n (opens past) low h) ∙ (was n h).revoked }
 AreFresh-step d past x ok was n h = record { bits = (was n h).bits; clock = (was n h).clock; revoked = (was n h).revoked }
 
-not_false : (b : Bool) → not b ≡ false → b ≡ true
-not_false true h = refl
-not_false false h = absurd (cc h)
-
-le_false : (m n : ℕ) → nat_le m n ≡ false → n < m
-le_false m n h = grind (arith, nat_tests, h)
-
 pub MasksEnd-step : (d : Description) (past : List Step) (x : Step) → IsAllowed d past x → MasksEnd past → MasksEnd (x ∷ past)
 unfolding mask_bit
-MasksEnd-step d past (Mask client kind word bits) ok was = MasksEnd-mask past client kind word bits (not_false (has_mask kind) ok.kind) (le_false (mask_words kind) word ok.code) was
+MasksEnd-step d past (Mask client kind word bits) ok was = MasksEnd-mask past client kind word bits (mask_kind d past client kind word bits ok) (mask_word d past client kind word bits ok) was
 MasksEnd-step d past x ok was = was
 
 -- the handler stands for the past with the step

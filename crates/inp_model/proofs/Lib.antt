@@ -1,3 +1,4 @@
+pub mod Allowed
 pub mod Computing
 pub mod Descriptions
 pub mod Leaves

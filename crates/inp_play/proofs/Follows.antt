@@ -11,7 +11,8 @@ use Rattle.inp_model.specs.declared.reply.Refusal.{Refusal}
 use Rattle.inp_model.specs.declared.reply.Refusal.TheVariants.{NoDevice as Revoked, LogFull}
 use Rattle.inp_model.specs.Description.{Description, ring}
 use Rattle.inp_model.specs.Queue.{event_of, visible, queue}
-use Rattle.inp_model.specs.Reply.{Answer, Case, answer, refused, refusals, first_reply, past_after, is_accepted}
+use Rattle.inp_model.specs.Reply.{Answer, answer, refused, past_after, is_accepted}
+use Rattle.inp_model.proofs.Allowed.{allowed}
 use Rattle.inp_losses.proofs.Causes.{queue-room}
 use Rattle.inp_recon.specs.declared.view.View.{View}
 use Rattle.inp_recon.specs.View.{view_after_event, view_after_answer}
@@ -46,21 +47,6 @@ unfolding talk_with
 noted-result d past (finish a) sight = refl
 noted-result d past (ask x rest) sight =
     noted-result d (past_after (answer d past x).reply x past) (rest (answer d past x)) (sight ++ call_sight x (answer d past x).reply)
-
--- A step that is not refused has no cause of a refusal
-
--- no case holds
-abbrev NoneHold : List Case → Type 0
-NoneHold [] = Unit {0}
-NoneHold (case ∷ cases) = (case.holds ≡ false) × NoneHold cases
-
-none_hold : (cases : List Case) → first_reply cases ≡ None → NoneHold cases
-none_hold [] h = tt
-none_hold (case ∷ cases) h = by_flag (λ k. none_hold cases k) case.holds h
-  where
-    by_flag : (first_reply cases ≡ None → NoneHold cases) → (b : Bool) → (if b then Some case.reply else first_reply cases) ≡ None → (b ≡ false) × NoneHold cases
-    by_flag more true k = absurd cc
-    by_flag more false k = (refl, more k)
 
 -- Asking for steps in order
 
@@ -134,7 +120,7 @@ read-found d past client count h none =
   where
     found : refused d past (Read client count) ≡ None → ⊥
     found unrefused =
-        let some : nat_eq (visible event_of (queue d past client)) 0 ≡ false = (none_hold (refusals d past (Read client count)) unrefused).1.1.1.1.0 in
+        let some : nat_eq (visible event_of (queue d past client)) 0 ≡ false = (allowed d past (Read client count) unrefused).found in
         let e : false ≡ true = sym some ∙ ap (λ (n : ℕ). nat_eq n 0) none in
         cc
 

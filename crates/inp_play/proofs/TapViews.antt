@@ -19,7 +19,7 @@ use Rattle.inp_model.specs.Queue.{Entry, taken_by, took}
 use Rattle.inp_model.specs.Reply.{Answer, IsAnswer, answer, answer_by, accepted, refused, is_accepted, is_bad_client, past_after, taken_of}
 use Rattle.inp_model.specs.Run.{Call, HasPlace, place_of, next_place}
 use Rattle.inp_model.specs.Step.{client_of, is_open_step, is_same}
-use Rattle.inp_device.proofs.Allowed.{named_open}
+use Rattle.inp_model.proofs.Allowed.{named_open}
 use Rattle.inp_model.proofs.Opens.{is_open-lt, opens-le}
 use Rattle.inp_actors.specs.declared.command.Command.{Command}
 use Rattle.inp_actors.specs.declared.command.Command.TheVariants.{Event as ToEvent, Tick, Inhibit, Uninhibit, Stream, Open, Next, Skip, Follow, Force}

@@ -19,8 +19,9 @@ use Rattle.inp_model.specs.Evdev.{EvdevView, IsCall}
 use Rattle.inp_model.specs.Leaves.{AreCalls}
 use Rattle.inp_model.specs.Past.{past_at}
 use Rattle.inp_model.specs.Queue.{Entry, event_of, queue, visible, taken_by}
-use Rattle.inp_model.specs.Reply.{Answer, Case, IsAnswer, accepted, refused, refusals, first_reply, is_accepted, is_full, taken_of}
+use Rattle.inp_model.specs.Reply.{Answer, IsAnswer, accepted, refused, is_accepted, is_full, taken_of}
 use Rattle.inp_model.specs.Run.{Call, place_of, next_place}
+use Rattle.inp_model.proofs.Allowed.{allowed}
 use Rattle.inp_model.proofs.Leaves.{description-kept, seen-kept}
 use Rattle.inp_model.proofs.Refused.{accepted-unrefused}
 use Rattle.inp_model.proofs.Telling.{given_place}
@@ -44,22 +45,9 @@ use Rattle.inp_reader.proofs.Counts.{length-synth_sized}
 
 -- No accepted step is past the limit
 
--- no case holds
-abbrev NoneHold : List Case → Type 0
-NoneHold [] = Unit {0}
-NoneHold (case ∷ cases) = (case.holds ≡ false) × NoneHold cases
-
-none_hold : (cases : List Case) → first_reply cases ≡ None → NoneHold cases
-none_hold [] h = tt
-none_hold (case ∷ cases) h = by_flag (λ k. none_hold cases k) case.holds h
-  where
-    by_flag : (first_reply cases ≡ None → NoneHold cases) → (b : Bool) → (if b then Some case.reply else first_reply cases) ≡ None → (b ≡ false) × NoneHold cases
-    by_flag more true k = absurd cc
-    by_flag more false k = (refl, more k)
-
 not_full : (d : Description) (past : List Step) (x : Step) → refused d past x ≡ None → length past < d.log_limit
 not_full d past x h =
-    let full : is_full d past ≡ false = (none_hold (refusals d past x) h).1.1.1.1.1.1.1.1.0 in
+    let full : is_full d past ≡ false = (allowed d past x h).room in
     grind (arith, nat_tests, full)
 
 -- an accepted step's place is below the limit

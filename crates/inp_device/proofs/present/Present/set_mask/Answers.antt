@@ -4,7 +4,7 @@ use Rattle.std.proofs.Common.{◌<◌}
 use Rattle.inp_model.specs.Past.{mask_words}
 use Rattle.inp_client.specs.Client.{after_mask}
 use Rattle.inp_client.specs.Clients.{map_client}
-use Rattle.inp_device.proofs.Allowed.{allowed, mask_kind, mask_word}
+use Rattle.inp_model.proofs.Allowed.{allowed, mask_kind, mask_word}
 use Rattle.inp_device.proofs.Calls.{clients_after-mask}
 use Rattle.inp_device.proofs.Making.{made_call, called, named_there, holder_same}
 use Rattle.inp_device.proofs.present.Present.set_mask.Goals as goal
