@@ -10,6 +10,7 @@ usage: model.py [--history] FILE
 import os
 import struct
 import sys
+from typing import NamedTuple
 
 from device import Caps, Device, FIRST, LAST, SLOT
 from names import ABS, CODES, KEY, LED, SW, TYPES, code_text, event_text, kind_text
@@ -54,6 +55,16 @@ def reply_text(reply):
     return " ".join(str(word) for word in reply)
 
 
+def source_steps(words, streams):
+    """The steps of a source's command."""
+    command, *words = words
+    if command == "event":
+        return [("inject", number(words[0]), event_of(words[1:]))]
+    if command == "stream":
+        return [("inject", moment, event) for moment, event in streams(words[0])]
+    return [(command,) + tuple(number(word) for word in words)]
+
+
 class Actor:
     def __init__(self, name, role, device):
         self.name, self.role, self.device = name, role, device
@@ -79,14 +90,7 @@ class Actor:
             {"source": self.do_source, "tap": self.do_tap, "client": self.do_client}[self.role](words, streams)
 
     def do_source(self, words, streams):
-        command, *words = words
-        if command == "event":
-            steps = [("inject", number(words[0]), event_of(words[1:]))]
-        elif command == "stream":
-            steps = [("inject", moment, event) for moment, event in streams(words[0])]
-        else:
-            steps = [(command,) + tuple(number(word) for word in words)]
-        for step in steps:
+        for step in source_steps(words, streams):
             reply, _ = self.device.step(step)
             self.see(step, reply)
             if reply[0] == "refused":
@@ -153,6 +157,8 @@ class Actor:
         while bound is None or handed < bound:
             in_sync_mode = command != "skip" and self.reader.phase != "plain"
             what, *values = self.reader.next(self.device, in_sync_mode)
+            if command == "follow" and what == "end" and self.waits_on(self.reader.calls[-1][1]):
+                continue
             self.see_calls()
             if what == "end":
                 return
@@ -161,6 +167,10 @@ class Actor:
             elif what == "made":
                 self.sight.append(f"made {event_text(values[0])}")
             handed += what != "synced"
+
+    def waits_on(self, reply):
+        """Whether a follow goes on behind its last call's reply. On one thread it never does."""
+        return False
 
     def part(self):
         if self.role == "source":
@@ -207,9 +217,16 @@ def read_stream(path):
     return [(seconds * 1000000 + micros, (kind, code, value)) for seconds, micros, kind, code, value in records]
 
 
-def play(text, folder=".", history=False):
-    """The lines of the report."""
-    descriptions, roles, actions = [], [], []
+class Record(NamedTuple):
+    """What a record has: its devices' names and descriptions; its actors' names, roles and devices; its actions' words."""
+
+    descriptions: list
+    actors: list
+    actions: list
+
+
+def read_record(text):
+    descriptions, actors, actions = [], [], []
     for line in text.split("\n"):
         words = line.split()
         if not words or words[0].startswith("#") or words[0] == "inputrecord":
@@ -217,26 +234,41 @@ def play(text, folder=".", history=False):
         if words[0] == "device":
             descriptions.append((words[1], Caps()))
         elif words[0] in ("source", "client", "tap"):
-            roles.append((words[1], words[0], len(descriptions) - 1))
+            actors.append((words[1], words[0], len(descriptions) - 1))
         elif words[0] == "do":
             actions.append(words[1:])
         else:
             describe(descriptions[-1][1], words)
     for _, caps in descriptions:
         caps.build()
-    devices = [Device(name, caps) for name, caps in descriptions]
-    actors = {name: Actor(name, role, devices[device]) for name, role, device in roles}
-    for name, *words in actions:
-        actors[name].do(words, lambda file: read_stream(os.path.join(folder, file)))
+    return Record(descriptions, actors, actions)
+
+
+def streams_of(folder):
+    return lambda file: read_stream(os.path.join(folder, file))
+
+
+def report(devices, actors, history):
+    """The lines of the report on devices and, in record order, their actors."""
     lines = []
     for device in devices:
         lines.append(f"device {device.name} steps {len(device.history)}")
         if history:
             lines += [f"step {place} {step_text(step)}" for place, step in enumerate(device.history)]
-        for actor in actors.values():
+        for actor in actors:
             if actor.device is device:
                 lines += actor.part()
     return lines
+
+
+def play(text, folder=".", history=False):
+    """The lines of the report."""
+    record = read_record(text)
+    devices = [Device(name, caps) for name, caps in record.descriptions]
+    actors = {name: Actor(name, role, devices[device]) for name, role, device in record.actors}
+    for name, *words in record.actions:
+        actors[name].do(words, streams_of(folder))
+    return report(devices, list(actors.values()), history)
 
 
 if __name__ == "__main__":
