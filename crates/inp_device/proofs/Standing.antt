@@ -2,6 +2,7 @@
 use Rattle.std.proofs.Common.{◌≡◌, ℕ, suc, ◌<◌, ◌≤◌, ◌/◌, ◌%◌, ◌==◌, Bool, true, false, ◌&&◌, not, if◌then◌else◌, nat_eq, nat_le, List, [], ◌∷◌, length, map, refl, sym, ap, subst, ◌∙◌, arith, Option, Some, None, is_some}
 use Rattle.std.specs.Prelude.{unwrap_or}
 use Rattle.std.specs.Int.{bit_at}
+use Rattle.std.proofs.lemmas.Bool.{not-false}
 use Rattle.std.proofs.lemmas.Bool.Decides.{nat_tests}
 use Rattle.inp_model.specs.declared.event.Event.{Event}
 use Rattle.inp_model.specs.declared.step.Step.{Step}
@@ -120,7 +121,7 @@ given_up None client h = refl
 given_up (Some c) client h = sym (ap (λ b. if b then None else Some c) (swap client c ∙ h))
 
 pub own_grab : (past : List Step) (client : ℕ) → is_not_grabber past (Ungrab client) ≡ false → is_same (holder past) client ≡ true
-own_grab past client h = not_false (is_same (holder past) client) h
+own_grab past client h = not-false (is_same (holder past) client) h
 
 pub holder-ungrab : (past : List Step) (client : ℕ) → is_same (holder past) client ≡ true → None ≡ holder (Ungrab client ∷ past)
 unfolding holder
