@@ -1,5 +1,6 @@
 -- What holds of a step that nothing refuses.
 use Rattle.std.proofs.Common.{◌≡◌, ℕ, ◌<◌, Bool, true, false, not, if◌then◌else◌, nat_le, nat_lt, ◌≤◌, arith, List, [], ◌∷◌, length, refl, sym, ap, ◌∙◌, Option, Some, None}
+use Rattle.std.proofs.lemmas.Bool.{not-false}
 use Rattle.std.proofs.lemmas.Bool.Decides.{nat_tests}
 use Rattle.inp_model.specs.declared.step.Step.{Step}
 use Rattle.inp_model.specs.declared.step.Step.TheVariants.{Mask, GetAxis, GetSlots}
@@ -58,17 +59,13 @@ allowed d past x h =
     let h8 : (c8.holds ≡ false) × (first_reply ([]) ≡ None) = none_first c8 ([]) h7.1 in
     record { client = h0.0; device = h1.0; kind = h2.0; code = h3.0; found = h4.0; free = h5.0; held = h6.0; few = h7.0; room = h8.0 }
 
-not_false : (b : Bool) → not b ≡ false → b ≡ true
-not_false true h = refl
-not_false false h = absurd (cc h)
-
 -- the client that a step names is open
 pub named_open : (past : List Step) (x : Step) (client : ℕ) → client_of x ≡ Some client → is_bad_client past (client_of x) ≡ false → is_open past client ≡ true
-named_open past x client named good = not_false (is_open past client) (ap (is_bad_client past) (sym named) ∙ good)
+named_open past x client named good = not-false (is_open past client) (ap (is_bad_client past) (sym named) ∙ good)
 
 -- the mask that is set, and its word
 pub mask_kind : (d : Description) (past : List Step) (client kind word bits : ℕ) → IsAllowed d past (Mask client kind word bits) → has_mask kind ≡ true
-mask_kind d past client kind word bits ok = not_false (has_mask kind) ok.kind
+mask_kind d past client kind word bits ok = not-false (has_mask kind) ok.kind
 
 le_false : (m n : ℕ) → nat_le m n ≡ false → n < m
 le_false m n h = grind (arith, nat_tests, h)
@@ -85,4 +82,4 @@ axis_code d past client code ok = not_above ABS_MAX code ok.code
 
 -- the axis of slots that is asked for
 pub slot_code : (d : Description) (past : List Step) (client code : ℕ) → IsAllowed d past (GetSlots client code) → is_slot_code code ≡ true
-slot_code d past client code ok = not_false (is_slot_code code) ok.code
+slot_code d past client code ok = not-false (is_slot_code code) ok.code
