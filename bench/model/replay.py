@@ -170,13 +170,15 @@ def share_out(played, sources):
 
 def parts_of(lines):
     """For each device its steps' texts, and its parts by their actors' names."""
-    devices = []
+    devices, part = [], []
     for line in lines:
         word, *words = line.split(" ", 2)
         if word == "device":
             devices.append(([], {}))
+        elif not devices:
+            raise Differs(f"it begins with no device, but with {line!r}")
         elif word == "step":
-            devices[-1][0].append(line.split(" ", 2)[2])
+            devices[-1][0].append(words[1])
         elif word in ("source", "client", "tap"):
             part = devices[-1][1].setdefault(words[0], [])
             part += words[1:]
@@ -225,7 +227,10 @@ def replay(text, printed, folder=".", idle=IDLE):
 
 def check(text, printed, folder=".", idle=IDLE):
     """Raises `Differs` where a printed report is not what comes of its histories."""
-    wanted = replay(text, printed, folder, idle)
+    try:
+        wanted = replay(text, printed, folder, idle)
+    except (IndexError, KeyError, ValueError) as error:
+        raise Differs(f"it has a line that is none of a report ({error})") from error
     for number, (line, other) in enumerate(zip(wanted, printed), start=1):
         if line != other:
             raise Differs(f"line {number} is {other!r}, and {line!r} comes of the history")

@@ -1,0 +1,104 @@
+"""What `bench/model/replay.py` says of runs side by side: those of the second program, and the same ones spoiled.
+
+The runs are of `bench/model/side_by_side.py`, which draws the order of the calls by a seed.
+"""
+
+import subprocess
+import sys
+
+from playing import TOP, FolderCase
+
+MODEL = TOP / "bench" / "model"
+sys.path.insert(0, str(MODEL))
+
+from random_records import Generator
+from replay import Differs, check
+from side_by_side import play_side_by_side
+
+# Two clients of a keyboard with two sources. The record has an order in which each line has its say.
+RECORD = """inputrecord 1
+device kbd
+cap EV_KEY KEY_A
+cap EV_KEY KEY_B
+source s
+source t
+client c
+tap p
+do c open
+do p open
+do s event 1 EV_KEY KEY_A 1
+do s event 1 EV_SYN SYN_REPORT 0
+do t event 2 EV_KEY KEY_B 1
+do t event 2 EV_SYN SYN_REPORT 0
+do p read 8
+do p keys
+do c follow
+"""
+
+IDLE = 20
+SEED = 3
+
+# Each part of the report that is spoiled, what it is spoiled to, and a word of what is said then.
+SPOILED = {
+    "an event with another value": ("took 5 2 EV_KEY KEY_A 1\n", "took 5 2 EV_KEY KEY_A 0\n", "line"),
+    "an event at another place": ("took 5 2 EV_KEY KEY_A 1\n", "took 4 2 EV_KEY KEY_A 1\n", "line"),
+    "a key that is not down": ("\nkeys KEY_A KEY_B\n", "\nkeys KEY_A\n", "line"),
+    "a step that nobody made": ("step 1 inject 1 EV_KEY KEY_A 1", "step 1 inject 1 EV_KEY KEY_A 2", "nobody's"),
+    "a step that is refused": ("step 1 inject 1 EV_KEY KEY_A 1", "step 1 read 0 64", "is answered"),
+    "a step that is none": ("step 1 inject 1 EV_KEY KEY_A 1", "step 1 inject 1", "none of a report"),
+    "a call at a place of another step": ("reply opened 3 ", "reply opened 5 ", "is not step"),
+    "two calls at one place": ("reply opened 0 0 128", "reply opened 3 1 128", "is also a call of c"),
+    "a source that made more calls": ("source s calls 2", "source s calls 3", "line"),
+    "a source that stopped": ("source s calls 2 stop finished", "source s calls 2 stop full 11", "has room"),
+    "a job that is left out": ("\ntap p\n", "\ntap q\n", "is not in the report"),
+    "an answer Again at another place": ("\nagain 1\n", "\nagain 7\n", "is not refused"),
+    "a follow that ends too early": ("\nagain 11\n", "\nagain 10\n", "line"),
+    "a stop that is not": ("stop finished\ntap", "stop idle 20 11\ntap", "line"),
+    "a line too many": ("\ntap p\n", "\nagain 11\ntap p\n", "line"),
+    "no device": ("device kbd steps 11\n", "", "begins with no device"),
+}
+
+
+class Replay(FolderCase):
+    def report(self):
+        return "".join(line + "\n" for line in play_side_by_side(RECORD, SEED, idle=IDLE))
+
+    def complaint(self, text):
+        try:
+            check(RECORD, text.split("\n")[:-1], idle=IDLE)
+        except Differs as error:
+            return str(error)
+        return None
+
+    def test_a_run_side_by_side_is_the_one_of_its_history(self):
+        self.assertIsNone(self.complaint(self.report()))
+
+    def test_a_spoiled_report_is_not(self):
+        for name, (before, after, word) in SPOILED.items():
+            with self.subTest(name):
+                report = self.report()
+                self.assertIn(before, report)
+                self.assertIn(word, self.complaint(report.replace(before, after, 1)) or "nothing")
+
+    def test_random_records(self):
+        for number in range(20):
+            with self.subTest(number=number):
+                text = Generator(43 * 100000 + number).record()
+                for idle in (IDLE, 2):
+                    check(text, play_side_by_side(text, number, idle=idle), idle=idle)
+
+    def test_the_script(self):
+        record, report = self.folder / "f", self.folder / "report"
+        record.write_text(RECORD)
+        report.write_text(self.report())
+        for words, status, said in (
+            (["--idle", IDLE, record, report], 0, ""),
+            ([record, record], 1, "replay.py: "),
+            ([record], 2, "required: report"),
+            ([record, self.folder / "none"], 2, "No such file"),
+        ):
+            with self.subTest(words=words[-1]):
+                script = [sys.executable, MODEL / "replay.py", *map(str, words)]
+                done = subprocess.run(script, capture_output=True, text=True, timeout=30)
+                self.assertEqual(status, done.returncode)
+                self.assertIn(said, done.stderr)
