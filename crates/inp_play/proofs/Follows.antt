@@ -30,8 +30,8 @@ use Rattle.inp_script.specs.Job.{Job}
 use Rattle.inp_script.specs.Line.{call_if, tap_call_if}
 use Rattle.inp_script.specs.Sight.{call_sight, noted}
 use Rattle.inp_script.proofs.Replies.{answer_has}
-use Rattle.inp_play.specs.Play.{talk_with}
-use Rattle.inp_play.proofs.Rounds.{talk_with-then}
+use Rattle.inp_order.specs.Play.{talk_with}
+use Rattle.inp_order.proofs.Rounds.{talk_with-then}
 use Rattle.inp_play.proofs.OwnQueues.{IsQuiet, visible-le, read-leaves, discard-leaves}
 
 -- A note of the calls changes no call and no result

@@ -19,11 +19,11 @@ use Rattle.inp_script.specs.declared.stop.Stop.{Stop}
 use Rattle.inp_script.specs.Doing.{command_talk, unless_stopped, line_talk}
 use Rattle.inp_script.specs.Job.{Job, ActorView}
 use Rattle.inp_script.specs.Line.{step_of}
-use Rattle.inp_play.specs.Play.{Stage, talk_with, after_line, after_lines}
-use Rattle.inp_play.proofs.Calls.{AreExact}
+use Rattle.inp_order.specs.Play.{Stage, talk_with, after_line, after_lines}
+use Rattle.inp_order.proofs.Calls.{AreExact}
 use Rattle.inp_play.proofs.Follows.{HasQueries, follow-length, start-length, call-length, tap_call-length}
 use Rattle.inp_play.proofs.Limits.{Stays, NoStop, stays-with, stays-start, stays-follow, stays-call, stays-tap_call}
-use Rattle.inp_play.proofs.LineDone.{IsLineDone, line-done}
+use Rattle.inp_order.proofs.LineDone.{IsLineDone, line-done}
 
 -- the calls that a device answered say what a talk with it leaves
 exact-talk : {A : Type 0} (d : Description) (past after : List Step) (talk : Talk A) (calls : List Call) (result : A) → EndsWith talk calls result → AreExact d past after calls → talk_with d past talk ≡ (result, after)

@@ -29,7 +29,7 @@ use Rattle.inp_script.specs.Client.{Going, Turn, goes_on, ends_with, start_job, 
 use Rattle.inp_script.specs.Job.{Job}
 use Rattle.inp_script.specs.Line.{call_if, tap_call_if, after_tap_call}
 use Rattle.inp_script.specs.Sight.{call_sight, noted, stop_after, stop_after_start, lacks_memory, start_lacks_memory}
-use Rattle.inp_play.specs.Play.{talk_with}
+use Rattle.inp_order.specs.Play.{talk_with}
 
 -- refused since the history is as long as it may be
 abbrev pub is_log_full : Reply → Bool

@@ -14,10 +14,10 @@ use Rattle.inp_actors.specs.Record.{RecordView, IsRecord}
 use Rattle.inp_reader.specs.Talk.{Talk}
 use Rattle.inp_script.specs.Doing.{DoesLine, HasActor, IsLineOf, line_talk}
 use Rattle.inp_script.specs.Job.{Job, ActorView}
-use Rattle.inp_play.specs.Play.{Stage, talk_with, after_talk, after_line, after_line_of}
+use Rattle.inp_order.specs.Play.{Stage, talk_with, after_talk, after_line, after_line_of}
 use Rattle.inp_play.specs.Player.{stage_with, pasts_of, HasDevices, HasActors}
-use Rattle.inp_play.proofs.Alone.{device-alone}
-use Rattle.inp_play.proofs.PlayerMemory.{gives_up-line}
+use Rattle.inp_order.proofs.Alone.{device-alone}
+use Rattle.inp_runs.proofs.Memory.{gives_up-line}
 
 -- Lists
 

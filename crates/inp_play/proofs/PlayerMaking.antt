@@ -14,7 +14,7 @@ use Rattle.inp_actors.specs.declared.device_text.DeviceText.{DeviceText}
 use Rattle.inp_actors.specs.Record.{RecordView, IsRecord}
 use Rattle.inp_script.specs.Doing.{HasActor}
 use Rattle.inp_script.specs.Job.{ActorView, first_job}
-use Rattle.inp_play.specs.Play.{description_at, first_actor, first_stage}
+use Rattle.inp_order.specs.Play.{description_at, first_actor, first_stage}
 use Rattle.inp_play.specs.Player.{pasts_of, stage_with, first_device, first_actors, HasDevices, HasActors}
 use Rattle.inp_play.proofs.PlayerLines.{same_item, some_item}
 

@@ -15,7 +15,7 @@ use Rattle.inp_script.specs.declared.run.Run.{Run}
 use Rattle.inp_script.specs.Doing.{HasActor}
 use Rattle.inp_script.specs.Job.{ActorView, JobView, job_end}
 use Rattle.inp_script.specs.Runs.{is_on_device}
-use Rattle.inp_play.specs.Play.{Stage, jobs_on, run_of, runs_of}
+use Rattle.inp_order.specs.Play.{Stage, jobs_on, run_of, runs_of}
 use Rattle.inp_play.specs.Player.{pasts_of, stage_with, with_job, first_run, HasJobMore, HasDevices, HasActors}
 use Rattle.inp_play.proofs.PlayerMaking.{slice_get-numbered}
 use Rattle.inp_play.proofs.PlayerLines.{same_item, some_item, length-devices}

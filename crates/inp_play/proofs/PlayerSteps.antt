@@ -6,10 +6,10 @@ use Rattle.inp_actors.specs.declared.line.Line.{Line}
 use Rattle.inp_actors.specs.Record.{RecordView}
 use Rattle.inp_script.specs.declared.run.Run.{Run}
 use Rattle.inp_play.specs.declared.player.Player.{Player}
-use Rattle.inp_play.specs.Play.{Stage, first_stage, after_line, after_lines, runs_of, play, IsPlay}
+use Rattle.inp_order.specs.Play.{Stage, first_stage, after_line, after_lines, runs_of, play, IsPlay}
 use Rattle.inp_play.specs.Player.{stage_of, IsPlayer, DoesOn, HasDone}
 use Rattle.inp_play.proofs.PlayerMaking.{take-next}
-use Rattle.inp_play.proofs.Rounds.{after_line-more, after_lines-more}
+use Rattle.inp_order.proofs.Rounds.{after_line-more, after_lines-more}
 
 after_lines-append : (r : RecordView) (n : ℕ) (s : Stage) (lines more : List Line) → after_lines r n s (lines ++ more) ≡ option_and_then (λ now. after_lines r n now more) (after_lines r n s lines)
 unfolding after_lines

@@ -1,6 +1,1 @@
-pub mod Play
 pub mod Player
-pub mod JobViews
-pub mod IndexExamples
-pub mod Losses
-pub mod Job

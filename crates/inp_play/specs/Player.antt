@@ -10,7 +10,7 @@ use Rattle.inp_script.specs.declared.run.Run.{Run}
 use Rattle.inp_script.specs.Doing.{HasActor}
 use Rattle.inp_script.specs.Job.{ActorView, JobView}
 use Rattle.inp_play.specs.declared.player.Player.{Player}
-use Rattle.inp_play.specs.Play.{Stage, first_actor, first_stage, after_line, after_lines}
+use Rattle.inp_order.specs.Play.{Stage, first_actor, first_stage, after_line, after_lines}
 
 abbrev pub pasts_of : List DeviceView → List (List Step)
 pasts_of devices = map (λ (device : DeviceView). device.past) devices

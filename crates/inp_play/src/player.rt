@@ -1,7 +1,7 @@
 //! The devices and the actors of a record at work.
 ghost use Rattle.std.specs.Prelude.{◌≡◌, ◌<◌, length, map, OnOk, IfOk};
-ghost use Rattle.inp_play.specs.Job.{AreDescribed};
-ghost use Rattle.inp_play.specs.Play.{first_stage, runs_of};
+ghost use Rattle.inp_runs.specs.Job.{AreDescribed};
+ghost use Rattle.inp_order.specs.Play.{first_stage, runs_of};
 ghost use Rattle.inp_play.specs.Player.{stage_of, first_device, first_actors, HasActors, IsPlayer, DoesOn, first_run, HasJobMore};
 
 use inp_actors::Record;

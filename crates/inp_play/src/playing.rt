@@ -1,7 +1,7 @@
 //! Playing a record on one thread.
 ghost use Rattle.std.specs.Prelude.{IfOk};
-ghost use Rattle.inp_play.specs.Job.{ArePromised};
-ghost use Rattle.inp_play.specs.Play.{IsPlay};
+ghost use Rattle.inp_runs.specs.Job.{ArePromised};
+ghost use Rattle.inp_order.specs.Play.{IsPlay};
 
 use crate::player::Player;
 use inp_actors::Record;

@@ -20,10 +20,10 @@ use Rattle.inp_reader.specs.Reading.{queries, axes_among}
 use Rattle.inp_script.specs.declared.run.Run.{Run}
 use Rattle.inp_script.specs.declared.stop.Stop.{Stop}
 use Rattle.inp_script.specs.Job.{ActorView, JobView, job_end, last_stop}
-use Rattle.inp_play.specs.Play.{Stage, first_stage, after_lines, jobs_on, run_of, runs_of, play, IsPlay}
+use Rattle.inp_order.specs.Play.{Stage, first_stage, after_lines, jobs_on, run_of, runs_of, play, IsPlay}
 use Rattle.inp_play.proofs.Follows.{HasQueries}
 use Rattle.inp_play.proofs.Growth.{IsBound, IsShort, Adds, event-bound, open-bound, follow-bound, adds-none, adds-line, adds-more, adds-append}
-use Rattle.inp_play.proofs.Listing.{IsImage, option_map-some}
+use Rattle.inp_runs.proofs.Listing.{IsImage, option_map-some}
 use Rattle.inp_play.proofs.OwnQueues.{quiet-keys, quiet-slots}
 use Rattle.inp_tool.specs.Outcome.{is_full, has_full_job, has_full}
 

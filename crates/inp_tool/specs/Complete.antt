@@ -12,7 +12,7 @@ use Rattle.inp_actors.specs.Record.{RecordView}
 use Rattle.inp_record.specs.Meaning.{meaning}
 use Rattle.inp_record.specs.Stream.{stamps_of}
 use Rattle.inp_script.specs.declared.run.Run.{Run}
-use Rattle.inp_play.specs.Play.{IsPlay}
+use Rattle.inp_order.specs.Play.{IsPlay}
 use Rattle.inp_report.specs.Report.{report}
 use Rattle.inp_report.specs.Summary.{summary}
 use Rattle.inp_tool.specs.declared.end.End.{End}

@@ -10,8 +10,8 @@ use Rattle.inp_make.specs.Generated.{generated}
 use Rattle.inp_actors.specs.Record.{RecordView}
 use Rattle.inp_record.specs.declared.refused.Refused.{Refused}
 use Rattle.inp_script.specs.declared.run.Run.{Run}
-use Rattle.inp_play.specs.Play.{IsPlay}
-use Rattle.inp_play.specs.Job.{ArePromised}
+use Rattle.inp_order.specs.Play.{IsPlay}
+use Rattle.inp_runs.specs.Job.{ArePromised}
 use Rattle.inp_report.specs.Report.{report}
 use Rattle.inp_report.specs.Summary.{summary}
 use Rattle.inp_tool.specs.declared.end.End.{End}
@@ -62,7 +62,7 @@ abbrev pub IsOutOfMemory : Reads → Type 0
 IsOutOfMemory r = (r.after ≡ r.before) ⊎ RanOut r
 
 -- What came of a record: each job's replies are the one-thread device's at their places in one history, its sight follows
--- its lines, and each place of the history is in one sight (`inp_play`). The lines were done in file order.
+-- its lines, and each place of the history is in one sight (`inp_runs`). The lines were done in file order.
 pub record CameOf (recorded : RecordView) (runs : List Run) : Type 0 where
   pub promised : ArePromised recorded runs
   pub in_order : IsPlay recorded runs

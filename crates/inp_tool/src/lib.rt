@@ -14,7 +14,7 @@
 //!   of it with status 4. With status 0 or 6 the words ask for a file that was read with its streams, each whole where the
 //!   input tells its bytes, and is this record (`HasRecord` of `specs/Reading.antt`), or for a record that is made; of each
 //!   device there is one history, on which each job's replies are the one-thread device's, and each sight follows its
-//!   lines (`ArePromised` of `inp_play`); the runs are those of the lines done in file order (`IsPlay`); and the text is
+//!   lines (`ArePromised` of `inp_runs`); the runs are those of the lines done in file order (`IsPlay`); and the text is
 //!   their report or summary. With status 1 the line and the cause are the first that the text alone decides, else those
 //!   of the first stream that is at fault.
 //! - `HidesNoFault`: a call of the input or of the sink that was at fault, a file that is not there, and one that is too

@@ -1,9 +1,9 @@
 use Rattle.std.proofs.Common.{◌≤◌, length, arith, ap, IfOk}
 use Rattle.std.specs.Prelude.{Result, Ok, Err}
 use Rattle.inp_model.specs.declared.no_memory.NoMemory.{NoMemory}
-use Rattle.inp_play.specs.Play.{IsPlay}
+use Rattle.inp_order.specs.Play.{IsPlay}
 use Rattle.inp_play.proofs.PlayerSteps.{done-none, done-more, done-all}
-use Rattle.inp_play.proofs.Promised.{promised-if_ok}
+use Rattle.inp_order.proofs.Promised.{promised-if_ok}
 use Rattle.inp_play.proofs.playing.play.Goals as goal
 
 pub loop-line-init : goal.loop-line-init

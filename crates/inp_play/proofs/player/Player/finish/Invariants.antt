@@ -1,5 +1,5 @@
 use Rattle.std.proofs.Common.{◌≡◌}
-use Rattle.inp_play.specs.Play.{runs_of}
+use Rattle.inp_order.specs.Play.{runs_of}
 use Rattle.inp_play.specs.Player.{stage_with}
 use Rattle.inp_play.proofs.player.Player.finish.Given as goal
 

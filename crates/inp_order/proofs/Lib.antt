@@ -1,0 +1,10 @@
+pub mod Calls
+pub mod Leaving
+pub mod ReaderTalks
+pub mod LineTalks
+pub mod Places
+pub mod LineDone
+pub mod Stages
+pub mod Rounds
+pub mod Promised
+pub mod Alone

@@ -1,0 +1,464 @@
+-- Which clients the calls of a job name: each names none, or the one that the job opened last.
+use Rattle.std.proofs.Common.{◌≡◌, ◌⊎◌, ℕ, zero, suc, Bool, true, false, if◌then◌else◌, nat_le, nat_lt, List, [], ◌∷◌, ◌++◌, refl, sym, ap, subst, ◌∙◌, inl, inr, Option, Some, None}
+use Rattle.std.specs.Prelude.{Result, Ok, Err}
+use Rattle.std.proofs.lemmas.Bool.{true≢false}
+use Rattle.std.proofs.lemmas.Option.{same_Some}
+use Rattle.inp_model.specs.declared.event.Event.{Event}
+use Rattle.inp_model.specs.declared.event.TheConstants.{EV_KEY, EV_LED, EV_SW}
+use Rattle.inp_model.specs.declared.stamped.Stamped.{Stamped}
+use Rattle.inp_model.specs.declared.taken.Taken.{Taken}
+use Rattle.inp_model.specs.declared.step.Step.{Step}
+use Rattle.inp_model.specs.declared.step.Step.TheVariants.{Inject, Open as ToOpen, Read as ToRead, Discard as ToDiscard, GetKeys, GetSwitches, GetLeds, GetAxis, SyncSlots as ToSyncSlots}
+use Rattle.inp_model.specs.declared.reply.Reply.{Reply}
+use Rattle.inp_model.specs.declared.reply.Reply.TheVariants.{Opened, Again as NothingVisible, Refused as StepRefused}
+use Rattle.inp_model.specs.declared.reply.Refusal.{Refusal}
+use Rattle.inp_model.specs.declared.reply.Refusal.TheVariants.{NoDevice as Revoked, LogFull}
+use Rattle.inp_model.specs.Description.{Description, has_kind}
+use Rattle.inp_model.specs.Reply.{Answer, is_accepted}
+use Rattle.inp_model.specs.Run.{Call}
+use Rattle.inp_model.specs.Step.{client_of, is_open_step}
+use Rattle.inp_actors.specs.declared.command.Command.{Command}
+use Rattle.inp_actors.specs.declared.command.Command.TheVariants.{Event as ToEvent, Tick, Inhibit, Uninhibit, Stream, Open, Next as ToNext, Skip, Follow, Force}
+use Rattle.inp_actors.specs.declared.line.Line.{Line}
+use Rattle.inp_actors.specs.declared.role.Role.{Role}
+use Rattle.inp_actors.specs.declared.role.Role.TheVariants.{Source, Client, Tap}
+use Rattle.inp_recon.specs.declared.view.View.{View}
+use Rattle.inp_recon.specs.View.{view_after_answer, view_after_event}
+use Rattle.inp_recon.proofs.Each.{Each, Each-append}
+use Rattle.inp_reader.specs.declared.mode.Mode.{Mode}
+use Rattle.inp_reader.specs.declared.mode.Mode.TheVariants.{Normal, Sync as Synchronising}
+use Rattle.inp_reader.specs.declared.phase.Phase.{Phase}
+use Rattle.inp_reader.specs.declared.phase.Phase.TheVariants.{Plain, Needed, Handing}
+use Rattle.inp_reader.specs.declared.next.Next.{Next}
+use Rattle.inp_reader.specs.declared.next.Next.TheVariants.{Success, Dropped, Sync, Again, Synced, NoDevice, Closed, Full}
+use Rattle.inp_reader.specs.declared.started.Started.{Started}
+use Rattle.inp_reader.specs.declared.reader.TheConstants.{NO_CLIENT}
+use Rattle.inp_reader.specs.Reading.{Reading, ask_each, queries, bit_queries, axis_queries, plain_axes, slot_queries, only_if, after_queries, after_open, start_talk, stop_of, is_dropped, hand_out_event, hand_out, after_read, read_or_hand_out, read_talk, hand_synthesised, as_plain, after_full_sync, go_on, go_on_after, sync_talk, talk_in, next_talk}
+use Rattle.inp_reader.specs.Talk.{Talk, finish, ask, and_then, LeadsTo, EndsWith}
+use Rattle.inp_script.specs.declared.sight.Sight.{Sight}
+use Rattle.inp_script.specs.declared.sight.Sight.TheVariants.{Took, Made, Again as AgainSight}
+use Rattle.inp_script.specs.declared.stop.Stop.{Stop}
+use Rattle.inp_script.specs.declared.stop.Stop.TheVariants.{Idle}
+use Rattle.inp_script.specs.declared.waiting.Waiting.{Waiting}
+use Rattle.inp_script.specs.Client.{Going, Turn, goes_on, ends_with, start_job, start_ends, after_start, handed, one_less, is_done, patience, after_again, turn_after, after_next, mode_of, with_sight, with_stop, next_round, on_turn, rounds, hand_talk, client_talk}
+use Rattle.inp_script.specs.Doing.{command_talk, unless_stopped, line_talk}
+use Rattle.inp_script.specs.Job.{Job, first_job}
+use Rattle.inp_script.specs.Line.{step_of, after_call, call_if, stream_talk, stream_at, source_talk, client_after, after_tap_call, tap_call_if, tap_talk}
+use Rattle.inp_script.specs.Sight.{noted, call_sight, lacks_memory, start_lacks_memory}
+use Rattle.inp_runs.specs.Job.{on_job, lines_talk}
+
+-- A step names no client, the one that was opened last, or the number that no client has.
+abbrev pub NamesOr : ℕ → Step → Type 0
+NamesOr last x = (client : ℕ) → client_of x ≡ Some client → (client ≡ last) ⊎ (client ≡ NO_CLIENT)
+
+-- it is so of each of these calls, where this client was opened last before them
+unfoldable pub NameLast : ℕ → List Call → Type 0
+NameLast last [] = Unit {0}
+NameLast last (call ∷ calls) = NamesOr last call.step × NameLast (client_after call.step call.answer.reply last) calls
+
+-- the client that was opened last behind these calls
+unfoldable pub last_opened : ℕ → List Call → ℕ
+last_opened last [] = last
+last_opened last (call ∷ calls) = last_opened (client_after call.step call.answer.reply last) calls
+
+-- the job reads as the client that was opened last; a source reads as none
+abbrev pub ReadsAs : Role → ℕ → Job → Type 0
+ReadsAs Source last j = Unit {0}
+ReadsAs Client last j = last ≡ j.reading.client
+ReadsAs Tap last j = last ≡ j.reading.client
+
+-- Talks
+
+-- Each call of a talk names so, whatever is answered, and this is so of its result and of the client opened last.
+abbrev Names : {A : Type 0} → ℕ → Talk A → (ℕ → A → Type 0) → Type 0
+Names last (finish a) P = P last a
+Names last (ask x rest) P = NamesOr last x × ((answer : Answer) → Names (client_after x answer.reply last) (rest answer) P)
+
+names-then : {A B : Type 0} (last : ℕ) (talk : Talk A) (next : A → Talk B) (Q : ℕ → A → Type 0) (P : ℕ → B → Type 0) → Names last talk Q → ((now : ℕ) (a : A) → Q now a → Names now (next a) P) → Names last (and_then talk next) P
+names-then last (finish a) next Q P h more = more last a h
+names-then last (ask x rest) next Q P h more = (h.0, λ answer. names-then (client_after x answer.reply last) (rest answer) next Q P (h.1 answer) more)
+
+names-noted : {A : Type 0} (last : ℕ) (talk : Talk A) (sight : List Sight) (P : ℕ → A → Type 0) → Names last talk P → Names last (noted talk sight) (λ (now : ℕ) (o : A × List Sight). P now o.0)
+names-noted last (finish a) sight P h = h
+names-noted last (ask x rest) sight P h = (h.0, λ answer. names-noted (client_after x answer.reply last) (rest answer) (sight ++ call_sight x answer.reply) P (h.1 answer))
+
+names-ends : {A : Type 0} (last : ℕ) (talk : Talk A) (P : ℕ → A → Type 0) (calls : List Call) (result : A) → Names last talk P → EndsWith talk calls result → NameLast last calls × P (last_opened last calls) result
+unfolding LeadsTo NameLast last_opened
+names-ends last (finish a) P [] result h e = (tt, (let same : a ≡ result = cc in subst (P last) same h))
+names-ends last (finish a) P (call ∷ calls) result h e = elim e [ ]
+names-ends last (ask x rest) P [] result h e = absurd cc
+names-ends last (ask x rest) P (call ∷ calls) result h e =
+    let now : ℕ = client_after x call.answer.reply last in
+    let more : NameLast now calls × P (last_opened now calls) result = names-ends now (rest call.answer) P calls result (h.1 call.answer) e.1 in
+    subst (λ (y : Step). (NamesOr last y × NameLast (client_after y call.answer.reply last) calls) × P (last_opened (client_after y call.answer.reply last) calls) result) (sym e.0) ((h.0, more.0), more.1)
+
+-- Steps
+
+names-none : (last : ℕ) (x : Step) → client_of x ≡ None → NamesOr last x
+names-none last x none = λ client e. absurd (let k : None ≡ Some client = sym none ∙ e in cc)
+
+names-it : (last : ℕ) (x : Step) → client_of x ≡ Some last → NamesOr last x
+names-it last x is = λ client e. inl (same_Some client last (sym e ∙ is))
+
+-- the step names the client and opens none
+abbrev IsNamed : ℕ → Step → Type 0
+IsNamed last x = NamesOr last x × (is_open_step x ≡ false)
+
+-- a step that opens no client leaves the one that was opened last
+stays-last : (x : Step) (reply : Reply) (last : ℕ) → is_open_step x ≡ false → client_after x reply last ≡ last
+stays-last ToOpen reply last h = absurd (true≢false h)
+stays-last _ reply last h = refl
+
+-- Queries
+
+named-only_if : (client : ℕ) (wanted : Bool) (x : Step) → IsNamed client x → Each (IsNamed client) (only_if wanted x)
+named-only_if client true x h = (h, tt)
+named-only_if client false x h = tt
+
+named-axes : (client : ℕ) (codes : List ℕ) → Each (IsNamed client) (axis_queries client codes)
+named-axes client [] = tt
+named-axes client (code ∷ codes) = ((names-it client (GetAxis client code) refl, refl), named-axes client codes)
+
+named-queries : (d : Description) (client : ℕ) → Each (IsNamed client) (queries d client)
+unfolding queries
+named-queries d client =
+    let P : Step → Type 0 = IsNamed client in
+    let keys : List Step = only_if (has_kind d EV_KEY) (GetKeys client) in
+    let leds : List Step = only_if (has_kind d EV_LED) (GetLeds client) in
+    let switches : List Step = only_if (has_kind d EV_SW) (GetSwitches client) in
+    let bits : Each P ((keys ++ leds) ++ switches) =
+    Each-append P (keys ++ leds) switches
+    (Each-append P keys leds (named-only_if client (has_kind d EV_KEY) (GetKeys client) (names-it client (GetKeys client) refl, refl)) (named-only_if client (has_kind d EV_LED) (GetLeds client) (names-it client (GetLeds client) refl, refl)))
+    (named-only_if client (has_kind d EV_SW) (GetSwitches client) (names-it client (GetSwitches client) refl, refl)) in
+    let axes : List Step = axis_queries client (plain_axes d) in
+    Each-append P (bit_queries d client ++ axes) (slot_queries d client)
+    (Each-append P (bit_queries d client) axes bits (named-axes client (plain_axes d)))
+    (named-only_if client (nat_lt 0 d.slots) (ToSyncSlots client) (names-it client (ToSyncSlots client) refl, refl))
+
+-- the client stays
+abbrev StaysLast : {A : Type 0} → ℕ → ℕ → A → Type 0
+StaysLast last now a = now ≡ last
+
+names-asked : (xs : List Step) (view : View) (last : ℕ) → Each (IsNamed last) xs → Names last (ask_each xs view) (StaysLast last)
+unfolding ask_each
+names-asked [] view last h = refl
+names-asked (x ∷ xs) view last h = (
+  h.0.0,
+  λ answer.
+      let next : Talk (Result View Reply) = ask_each xs (view_after_answer view x answer.reply answer.cells) in
+      subst (λ (now : ℕ). Names now (if is_accepted answer.reply then next else finish (Err answer.reply)) (StaysLast last)) (sym (stays-last x answer.reply last h.0.1))
+      (by (is_accepted answer.reply) answer.reply next (names-asked xs (view_after_answer view x answer.reply answer.cells) last h.1)),
+)
+  where
+    by : (b : Bool) (reply : Reply) (next : Talk (Result View Reply)) → Names last next (StaysLast last) → Names last (if b then next else finish (Err reply)) (StaysLast last)
+    by true reply next more = more
+    by false reply next more = refl
+
+-- Readers
+
+abbrev OfStart : ℕ → Started × Reading → Type 0
+OfStart now o = now ≡ o.1.client
+
+names-start : (d : Description) (r : Reading) (last : ℕ) → last ≡ r.client → Names last (start_talk d r) OfStart
+unfolding start_talk
+names-start d r last h = (names-none last ToOpen refl, λ answer. by answer.reply)
+  where
+    asked : (client ring now : ℕ) (o : Result View Reply) → now ≡ client → now ≡ (after_queries client ring r o).1.client
+    asked client ring now (Ok view) e = e
+    asked client ring now (Err reply) e = e
+
+    by : (reply : Reply) → Names (client_after ToOpen reply last) (after_open d r reply) OfStart
+    by (Opened at client ring) =
+        names-then client (ask_each (queries d client) r.view) (λ o. finish (after_queries client ring r o)) (StaysLast client) OfStart (names-asked (queries d client) r.view client (named-queries d client))
+        (λ now o e. asked client ring now o e)
+    by _ = h
+
+-- an answer that tells of a loss has it in its event
+abbrev pub Drops : Next → Type 0
+Drops (Dropped taken) = is_dropped taken.event ≡ true
+Drops _ = Unit {0}
+
+abbrev OfAnswer : ℕ → Next × Reading → Type 0
+OfAnswer now o = (now ≡ o.1.client) × Drops o.0
+
+of-event : (r : Reading) (taken : Taken) (rest : List Taken) (last : ℕ) → last ≡ r.client → OfAnswer last (hand_out_event r taken rest)
+of-event r taken rest last h = by (is_dropped taken.event) refl
+  where
+    by : (b : Bool) → is_dropped taken.event ≡ b → OfAnswer last (let view = view_after_event r.view taken.event in if b then (Dropped taken, record r { queue = rest; view = view; phase = Needed }) else (Success taken, record r { queue = rest; view = view }))
+    by true e = (h, e)
+    by false e = (h, tt)
+
+of-hand_out : (r : Reading) (queue : List Taken) (last : ℕ) → last ≡ r.client → OfAnswer last (hand_out r queue)
+of-hand_out r [] last h = (h, tt)
+of-hand_out r (taken ∷ rest) last h = of-event r taken rest last h
+
+drops-refused : (at : ℕ) (why : Refusal) → Drops (stop_of (StepRefused at why))
+drops-refused at Revoked = tt
+drops-refused at LogFull = tt
+drops-refused at _ = tt
+
+drops-stop : (reply : Reply) → Drops (stop_of reply)
+drops-stop (NothingVisible at ends) = tt
+drops-stop (StepRefused at why) = drops-refused at why
+drops-stop _ = tt
+
+of-read : (r : Reading) (answer : Answer) (last : ℕ) → last ≡ r.client → OfAnswer last (after_read r answer)
+of-read r answer last h = by (is_accepted answer.reply)
+  where
+    by : (b : Bool) → OfAnswer last (if b then hand_out r answer.events else (stop_of answer.reply, r))
+    by true = of-hand_out r answer.events last h
+    by false = (h, drops-stop answer.reply)
+
+names-queued : (r : Reading) (queue : List Taken) (last : ℕ) → last ≡ r.client → Names last (read_or_hand_out r queue) OfAnswer
+names-queued r [] last h = (names-it last (ToRead r.client 64) (ap (λ (n : ℕ). Some n) (sym h)), λ answer. of-read r answer last h)
+names-queued r (taken ∷ rest) last h = of-event r taken rest last h
+
+names-read : (r : Reading) (last : ℕ) → last ≡ r.client → Names last (read_talk r) OfAnswer
+unfolding read_talk
+names-read r last h = names-queued r r.queue last h
+
+of-handing : (r : Reading) (left : List Event) (last : ℕ) → last ≡ r.client → OfAnswer last (hand_synthesised r left)
+of-handing r [] last h = (h, tt)
+of-handing r (event ∷ left) last h = (h, tt)
+
+names-go_on : (mode : Mode) (r : Reading) (last : ℕ) → last ≡ r.client → Names last (go_on mode r) OfAnswer
+names-go_on Normal r last h = names-read (as_plain r) last h
+names-go_on Synchronising r last h = of-handing r r.left last h
+
+names-go_on_after : (mode : Mode) (r : Reading) (asked : Result View Reply) (last : ℕ) → last ≡ r.client → Names last (go_on_after mode r asked) OfAnswer
+names-go_on_after mode r (Ok view) last h = names-go_on mode (after_full_sync r view) last h
+names-go_on_after mode r (Err reply) last h = (h, drops-stop reply)
+
+names-sync : (d : Description) (r : Reading) (last : ℕ) → last ≡ r.client → Names last (sync_talk d r) (StaysLast last)
+unfolding sync_talk
+names-sync d r last h =
+    let xs : List Step = ToDiscard r.client ∷ queries d r.client in
+    let named : Each (IsNamed r.client) xs = ((names-it r.client (ToDiscard r.client) refl, refl), named-queries d r.client) in
+    names-asked xs r.view last (subst (λ (n : ℕ). Each (IsNamed n) xs) (sym h) named)
+
+names-in : (d : Description) (mode : Mode) (phase : Phase) (r : Reading) (last : ℕ) → last ≡ r.client → Names last (talk_in d mode phase r) OfAnswer
+names-in d Normal Plain r last h = names-read r last h
+names-in d Synchronising Plain r last h = (h, tt)
+names-in d mode Needed r last h =
+    names-then last (sync_talk d r) (go_on_after mode r) (StaysLast last) OfAnswer (names-sync d r last h) (λ now asked e. names-go_on_after mode r asked now (e ∙ h))
+names-in d mode Handing r last h = names-go_on mode r last h
+
+names-next : (d : Description) (mode : Mode) (r : Reading) (last : ℕ) → last ≡ r.client → Names last (next_talk d mode r) OfAnswer
+names-next d mode r last h = names-in d mode r.phase r last h
+
+-- the client that a reader's calls opened last
+pub start-names : (d : Description) (r s : Reading) (started : Started) (calls : List Call) → EndsWith (start_talk d r) calls (started, s) → last_opened r.client calls ≡ s.client
+start-names d r s started calls h = (names-ends r.client (start_talk d r) OfStart calls (started, s) (names-start d r r.client refl) h).1
+
+pub next-names : (d : Description) (mode : Mode) (r s : Reading) (next : Next) (calls : List Call) → EndsWith (next_talk d mode r) calls (next, s) → (last_opened r.client calls ≡ s.client) × Drops next
+next-names d mode r s next calls h = (names-ends r.client (next_talk d mode r) OfAnswer calls (next, s) (names-next d mode r r.client refl) h).1
+
+-- Commands
+
+abbrev OfStep : (Step → Type 0) → Option Step → Type 0
+OfStep P None = Unit {0}
+OfStep P (Some x) = P x
+
+-- a command's step names the client, or none
+names-command : (client : ℕ) (command : Command) → OfStep (NamesOr client) (step_of client command)
+names-command client (ToEvent moment kind code value) = λ named e. absurd (let k : None ≡ Some named = e in cc)
+names-command client (Tick moment) = λ named e. absurd (let k : None ≡ Some named = e in cc)
+names-command client (Inhibit moment) = λ named e. absurd (let k : None ≡ Some named = e in cc)
+names-command client Uninhibit = λ named e. absurd (let k : None ≡ Some named = e in cc)
+names-command client (Stream file index) = tt
+names-command client Open = λ named e. absurd (let k : None ≡ Some named = e in cc)
+names-command client (ToNext count) = tt
+names-command client (Skip count) = tt
+names-command client Follow = tt
+names-command client Force = tt
+names-command client _ = λ named e. inl (same_Some named client (sym e))
+
+abbrev is_opening_command : Command → Bool
+is_opening_command Open = true
+is_opening_command _ = false
+
+shut-command : (client : ℕ) (command : Command) → is_opening_command command ≡ false → OfStep (λ x. is_open_step x ≡ false) (step_of client command)
+shut-command client Open h = absurd (true≢false h)
+shut-command client (Stream file index) h = tt
+shut-command client (ToNext count) h = tt
+shut-command client (Skip count) h = tt
+shut-command client Follow h = tt
+shut-command client Force h = tt
+shut-command client _ h = refl
+
+-- it is so of the job that a talk leaves, if there is one
+abbrev OfLeft : Role → ℕ → Option Job → Type 0
+OfLeft role now None = Unit {0}
+OfLeft role now (Some j) = ReadsAs role now j
+
+left-unless : (role : Role) (now : ℕ) (lacks : Bool) (j : Job) → ReadsAs role now j → OfLeft role now (if lacks then None else Some j)
+left-unless role now true j h = tt
+left-unless role now false j h = h
+
+-- Sources
+
+no-client : (last : ℕ) (x : Step) → NamesOr NO_CLIENT x → NamesOr last x
+no-client last x h = λ client e. by client (h client e)
+  where
+    by : (client : ℕ) → (client ≡ NO_CLIENT) ⊎ (client ≡ NO_CLIENT) → (client ≡ last) ⊎ (client ≡ NO_CLIENT)
+    by client (inl is) = inr is
+    by client (inr is) = inr is
+
+names-stream : (stream : List Stamped) (j : Job) (last : ℕ) → Names last (stream_talk stream j) (OfLeft Source)
+unfolding stream_talk
+names-stream [] j last = tt
+names-stream (stamped ∷ stream) j last = (
+  names-none last (Inject stamped.event stamped.now) refl,
+  λ answer.
+      let next : Job = after_call j (Inject stamped.event stamped.now) answer in
+      by (is_accepted answer.reply) next (names-stream stream next last),
+)
+  where
+    by : (b : Bool) (next : Job) → Names last (stream_talk stream next) (OfLeft Source) → Names last (if b then stream_talk stream next else finish (Some next)) (OfLeft Source)
+    by true next more = more
+    by false next more = tt
+
+names-source_call : (o : Option Step) (j : Job) (last : ℕ) → OfStep (NamesOr NO_CLIENT) o → Names last (call_if j o) (OfLeft Source)
+names-source_call None j last h = tt
+names-source_call (Some x) j last h = (no-client last x h, λ answer. tt)
+
+names-source : (streams : List (List Stamped)) (command : Command) (j : Job) (last : ℕ) → Names last (source_talk streams command j) (OfLeft Source)
+names-source streams (Stream file index) j last = names-stream (stream_at streams index) j last
+names-source streams command j last = names-source_call (step_of NO_CLIENT command) j last (names-command NO_CLIENT command)
+
+-- Taps
+
+names-tap_call : (o : Option Step) (j : Job) (last : ℕ) → OfStep (NamesOr last) o → last ≡ j.reading.client → Names last (tap_call_if j o) (OfLeft Tap)
+names-tap_call None j last h is = is
+names-tap_call (Some x) j last h is = (h, λ answer. left-unless Tap (client_after x answer.reply last) (lacks_memory answer.reply) (after_tap_call j x answer) (ap (λ (n : ℕ). client_after x answer.reply n) is))
+
+names-tap : (command : Command) (j : Job) (last : ℕ) → last ≡ j.reading.client → Names last (tap_talk command j) (OfLeft Tap)
+names-tap command j last is =
+    names-tap_call (step_of j.reading.client command) j last (subst (λ (n : ℕ). OfStep (NamesOr n) (step_of j.reading.client command)) (sym is) (names-command j.reading.client command)) is
+
+-- Clients
+
+names-client_call : (o : Option Step) (j : Job) (last : ℕ) → OfStep (NamesOr last) o → OfStep (λ x. is_open_step x ≡ false) o → last ≡ j.reading.client → Names last (call_if j o) (OfLeft Client)
+names-client_call None j last h shut is = is
+names-client_call (Some x) j last h shut is = (h, λ answer. stays-last x answer.reply last shut ∙ is)
+
+names-start_job : (d : Description) (j : Job) (last : ℕ) → last ≡ j.reading.client → Names last (start_job d j) (OfLeft Client)
+unfolding start_job
+names-start_job d j last is =
+    names-then last (noted (start_talk d j.reading) j.sight) (λ o. finish (start_ends o)) (λ (now : ℕ) (o : (Started × Reading) × List Sight). OfStart now o.0) (OfLeft Client)
+    (names-noted last (start_talk d j.reading) j.sight OfStart (names-start d j.reading last is))
+    (λ now o e. left-unless Client now (start_lacks_memory o.0.0) (after_start o.0.0 o.0.1 o.1) e)
+
+abbrev OfTurn : ℕ → Turn → Type 0
+OfTurn now (goes_on g) = now ≡ g.job.reading.client
+OfTurn now (ends_with j) = now ≡ j.reading.client
+
+turn-handed : (left : Option ℕ) (j : Job) (now : ℕ) → now ≡ j.reading.client → OfTurn now (handed left j)
+turn-handed left j now h = by (is_done left)
+  where
+    by : (b : Bool) → OfTurn now (if b then ends_with j else goes_on (record { job = j; left = left; agains = 0 }))
+    by true = h
+    by false = h
+
+turn-again : (patient left : Option ℕ) (agains at ends : ℕ) (j : Job) (now : ℕ) → now ≡ j.reading.client → OfTurn now (after_again patient left agains at ends j)
+turn-again None left agains at ends j now h = h
+turn-again (Some idle) left agains at ends j now h = by (nat_le idle agains)
+  where
+    by : (b : Bool) → OfTurn now (if b then ends_with (with_stop (with_sight j (AgainSight at ends)) (Idle idle at)) else goes_on (record { job = j; left = left; agains = agains }))
+    by true = h
+    by false = h
+
+turn-names : (wait : Option Waiting) (left : Option ℕ) (agains : ℕ) (next : Next) (j : Job) (now : ℕ) → now ≡ j.reading.client → OfTurn now (turn_after wait left agains next j)
+turn-names wait left agains (Success taken) j now h = turn-handed (one_less left) (with_sight j (Took taken)) now h
+turn-names wait left agains (Dropped taken) j now h = turn-handed (one_less left) (with_sight j (Took taken)) now h
+turn-names wait left agains (Sync event) j now h = turn-handed (one_less left) (with_sight j (Made event)) now h
+turn-names wait left agains Synced j now h = h
+turn-names wait left agains (Again at ends) j now h = turn-again (patience wait ends) left (suc agains) at ends j now h
+turn-names wait left agains NoDevice j now h = h
+turn-names wait left agains Closed j now h = h
+turn-names wait left agains (Full at) j now h = h
+
+names-round : (d : Description) (wait : Option Waiting) (skips : Bool) (g : Going) (last : ℕ) → last ≡ g.job.reading.client → Names last (next_round d wait skips g) OfTurn
+unfolding next_round
+names-round d wait skips g last is =
+    let mode : Mode = mode_of skips g.job.reading.phase in
+    names-then last (noted (next_talk d mode g.job.reading) g.job.sight) (λ o. finish (after_next wait g o)) (λ (now : ℕ) (o : (Next × Reading) × List Sight). OfAnswer now o.0) OfTurn
+    (names-noted last (next_talk d mode g.job.reading) g.job.sight OfAnswer (names-next d mode g.job.reading last is))
+    (λ now o e. turn-names wait g.left g.agains o.0.0 (record g.job { reading = o.0.1; sight = o.1 }) now e.0)
+
+names-rounds : (d : Description) (wait : Option Waiting) (skips : Bool) (n : ℕ) (g : Going) (last : ℕ) → last ≡ g.job.reading.client → Names last (rounds d wait skips n g) (OfLeft Client)
+unfolding rounds
+names-rounds d wait skips zero g last is = tt
+names-rounds d wait skips (suc n) g last is =
+    names-then last (next_round d wait skips g) (on_turn (rounds d wait skips n)) OfTurn (OfLeft Client) (names-round d wait skips g last is)
+    (λ now turn e. by turn now e (λ (here : Going) there. names-rounds d wait skips n here now there))
+  where
+    by : (turn : Turn) (now : ℕ) → OfTurn now turn → ((here : Going) → now ≡ here.job.reading.client → Names now (rounds d wait skips n here) (OfLeft Client)) → Names now (on_turn (rounds d wait skips n) turn) (OfLeft Client)
+    by (goes_on here) now e more = more here e
+    by (ends_with j) now e more = e
+
+names-hand : (d : Description) (wait : Option Waiting) (skips : Bool) (left : Option ℕ) (n : ℕ) (j : Job) (last : ℕ) → last ≡ j.reading.client → Names last (hand_talk d wait skips left n j) (OfLeft Client)
+names-hand d wait skips left n j last is = by (is_done left)
+  where
+    by : (b : Bool) → Names last (if b then finish (Some j) else rounds d wait skips n (record { job = j; left = left; agains = 0 })) (OfLeft Client)
+    by true = is
+    by false = names-rounds d wait skips n (record { job = j; left = left; agains = 0 }) last is
+
+names-client : (d : Description) (wait : Option Waiting) (n : ℕ) (command : Command) (j : Job) (last : ℕ) → last ≡ j.reading.client → Names last (client_talk d wait n command j) (OfLeft Client)
+names-client d wait n Open j last is = names-start_job d j last is
+names-client d wait n (ToNext count) j last is = names-hand d None false (Some count) n j last is
+names-client d wait n (Skip count) j last is = names-hand d None true (Some count) n j last is
+names-client d wait n Follow j last is = names-hand d wait false None n j last is
+names-client d wait n Force j last is = is
+names-client d wait n command j last is =
+    names-client_call (step_of j.reading.client command) j last (subst (λ (m : ℕ). OfStep (NamesOr m) (step_of j.reading.client command)) (sym is) (names-command j.reading.client command))
+    (shut-command j.reading.client command refl) is
+
+-- Lines
+
+names-role : (role : Role) (d : Description) (streams : List (List Stamped)) (wait : Option Waiting) (n : ℕ) (command : Command) (j : Job) (last : ℕ) → ReadsAs role last j → Names last (command_talk role d streams wait n command j) (OfLeft role)
+names-role Source d streams wait n command j last is = names-source streams command j last
+names-role Client d streams wait n command j last is = names-client d wait n command j last is
+names-role Tap d streams wait n command j last is = names-tap command j last is
+
+names-unless : (role : Role) (stop : Option Stop) (j : Job) (talk : Talk (Option Job)) (last : ℕ) → ReadsAs role last j → Names last talk (OfLeft role) → Names last (unless_stopped stop j talk) (OfLeft role)
+names-unless role None j talk last is h = h
+names-unless role (Some stop) j talk last is h = is
+
+names-line : (role : Role) (d : Description) (streams : List (List Stamped)) (wait : Option Waiting) (n : ℕ) (command : Command) (j : Job) (last : ℕ) → ReadsAs role last j → Names last (line_talk role d streams wait n command j) (OfLeft role)
+unfolding line_talk
+names-line role d streams wait n command j last is =
+    names-unless role j.stop j (command_talk role d streams wait n command j) last is (names-role role d streams wait n command j last is)
+
+names-lines : (role : Role) (d : Description) (streams : List (List Stamped)) (n : ℕ) (lines : List Line) (j : Job) (last : ℕ) → ReadsAs role last j → Names last (lines_talk role d streams n lines j) (OfLeft role)
+unfolding lines_talk
+names-lines role d streams n [] j last is = is
+names-lines role d streams n (line ∷ lines) j last is =
+    names-then last (line_talk role d streams None n line.command j) (on_job (lines_talk role d streams n lines)) (OfLeft role) (OfLeft role) (names-line role d streams None n line.command j last is)
+    (λ now o e. by o now e (λ (mid : Job) there. names-lines role d streams n lines mid now there))
+  where
+    by : (o : Option Job) (now : ℕ) → OfLeft role now o → ((mid : Job) → ReadsAs role now mid → Names now (lines_talk role d streams n lines mid) (OfLeft role)) → Names now (on_job (lines_talk role d streams n lines) o) (OfLeft role)
+    by None now e more = tt
+    by (Some mid) now e more = more mid e
+
+-- the calls of a line name the client that was opened last
+pub line-name : (role : Role) (d : Description) (streams : List (List Stamped)) (wait : Option Waiting) (n : ℕ) (command : Command) (j k : Job) (calls : List Call) (last : ℕ) → EndsWith (line_talk role d streams wait n command j) calls (Some k)
+    → ReadsAs role last j → NameLast last calls × ReadsAs role (last_opened last calls) k
+line-name role d streams wait n command j k calls last h is =
+    names-ends last (line_talk role d streams wait n command j) (OfLeft role) calls (Some k) (names-line role d streams wait n command j last is) h
+
+-- the calls of lines do
+pub lines-name : (role : Role) (d : Description) (streams : List (List Stamped)) (n : ℕ) (lines : List Line) (j k : Job) (calls : List Call) (last : ℕ) → EndsWith (lines_talk role d streams n lines j) calls (Some k)
+    → ReadsAs role last j → NameLast last calls × ReadsAs role (last_opened last calls) k
+lines-name role d streams n lines j k calls last h is =
+    names-ends last (lines_talk role d streams n lines j) (OfLeft role) calls (Some k) (names-lines role d streams n lines j last is) h
+
+first-reads : (role : Role) (d : Description) → ReadsAs role NO_CLIENT (first_job d)
+first-reads Source d = tt
+first-reads Client d = refl
+first-reads Tap d = refl
+
+-- before the first line a job has opened no client
+pub job-names : (role : Role) (d : Description) (streams : List (List Stamped)) (n : ℕ) (lines : List Line) (k : Job) (calls : List Call) → EndsWith (lines_talk role d streams n lines (first_job d)) calls (Some k)
+    → NameLast NO_CLIENT calls × ReadsAs role (last_opened NO_CLIENT calls) k
+job-names role d streams n lines k calls h = lines-name role d streams n lines (first_job d) k calls NO_CLIENT h (first-reads role d)

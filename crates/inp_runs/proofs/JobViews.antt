@@ -1,0 +1,218 @@
+-- At each report that a job took, its view is its client's in the history, and each loss that it took has its cause.
+use Rattle.std.proofs.Common.{◌≡◌, ◌<◌, inl, inr, ℕ, Bool, true, false, ◌||◌, List, [], ◌∷◌, ◌++◌, length, map, take, reverse, suc, refl, sym, ap, subst, ◌∙◌, arith, if◌then◌else◌, Option, Some, None}
+use Rattle.std.specs.Prelude.{filter, slice_get}
+use Rattle.std.specs.List.{list_any}
+use Rattle.std.proofs.lemmas.Bool.{eq-eqb}
+use Rattle.inp_model.specs.declared.stamped.Stamped.{Stamped}
+use Rattle.inp_model.specs.declared.taken.Taken.{Taken}
+use Rattle.inp_model.specs.declared.step.Step.{Step}
+use Rattle.inp_model.specs.declared.step.Step.TheVariants.{Inject}
+use Rattle.inp_model.specs.declared.reply.Reply.{Reply}
+use Rattle.inp_model.specs.declared.reply.Reply.TheVariants.{Opened}
+use Rattle.inp_model.specs.Description.{Description}
+use Rattle.inp_model.specs.Past.{past_at}
+use Rattle.inp_model.specs.Reply.{Answer, IsAnswer, is_accepted}
+use Rattle.inp_model.specs.Run.{Call, IsLegalRun, place_of}
+use Rattle.inp_actors.specs.declared.actor_text.ActorText.{ActorText}
+use Rattle.inp_actors.specs.declared.command.Command.{Command}
+use Rattle.inp_actors.specs.declared.command.Command.TheVariants.{Event as ToEvent, Tick, Inhibit, Uninhibit, Stream}
+use Rattle.inp_actors.specs.declared.line.Line.{Line}
+use Rattle.inp_actors.specs.declared.role.Role.{Role}
+use Rattle.inp_actors.specs.declared.role.Role.TheVariants.{Source, Client, Tap}
+use Rattle.inp_actors.specs.Command.{is_command_of}
+use Rattle.inp_actors.specs.Record.{RecordView, IsRecord}
+use Rattle.inp_model.specs.History.{IsHistory}
+use Rattle.inp_recon.proofs.Each.{Each}
+use Rattle.inp_reader.specs.declared.reader.TheConstants.{NO_CLIENT}
+use Rattle.inp_reader.specs.Standing.{is_read}
+use Rattle.inp_reader.specs.Talk.{Talk, finish, LeadsTo, EndsWith}
+use Rattle.inp_reader.proofs.ClientViews.{no_read-takes}
+use Rattle.inp_reader.proofs.Meeting.{AreAllOwn}
+use Rattle.inp_script.specs.declared.sight.Sight.{Sight}
+use Rattle.inp_script.specs.declared.stop.Stop.{Stop}
+use Rattle.inp_script.specs.Doing.{command_talk, unless_stopped, line_talk}
+use Rattle.inp_script.specs.Job.{Job, JobView, first_job}
+use Rattle.inp_script.specs.Legal.{entries_of, is_call_entry}
+use Rattle.inp_script.specs.Line.{step_of, after_call, call_if, stream_talk, stream_at, source_talk}
+use Rattle.inp_script.specs.Sight.{call_sight, again_sight, taken_sight}
+use Rattle.inp_script.proofs.LastAgain.{finish-only, and_then-parts}
+use Rattle.inp_runs.specs.Job.{lines_by, on_job, lines_talk}
+use Rattle.inp_runs.specs.JobViews.{AreEventsOwn, AreReportsSeen, sight_view}
+use Rattle.inp_runs.specs.Losses.{AreLossesCaused}
+use Rattle.inp_runs.proofs.AtHand.{own-caused, shown-own}
+use Rattle.inp_runs.proofs.ClientReports.{IsClientJob, ClientSaw, client-line, client-first}
+use Rattle.inp_runs.proofs.Folded.{AreOfRole, its_lines}
+use Rattle.inp_runs.proofs.Owners.{HasOwners, is_opened_as, is_opening_of, history-of-jobs}
+use Rattle.inp_runs.proofs.OwnUses.{own-uses}
+use Rattle.inp_runs.proofs.Reports.{AtEach, at_each-append, at_each-at, at_each-call, at_each-again, AreToCome, to-come-next, to-come-behind, place_behind, place_behind-append}
+use Rattle.inp_runs.proofs.TapViews.{TapStands, TapSaw, tap-line, tap-first}
+
+-- ---- sources, which read nothing
+
+-- a step that is no read gives no event
+unread : (d : Description) (past : List Step) (x : Step) (given : Answer) → is_read x ≡ false → IsAnswer d past x given → given.events ≡ []
+unread d past x given h (inl e) = ap (λ (a : Answer). a.events) e ∙ no_read-takes d past x h
+unread d past x given h (inr l) = ap (λ (a : Answer). a.events) l.2
+
+abbrev IsUnread : Option Step → Type 0
+IsUnread None = Unit {0}
+IsUnread (Some x) = is_read x ≡ false
+
+source-step : (client : ℕ) (command : Command) → is_command_of Source command ≡ true → IsUnread (step_of client command)
+source-step client (ToEvent moment kind code value) h = refl
+source-step client (Tick moment) h = refl
+source-step client (Inhibit moment) h = refl
+source-step client Uninhibit h = refl
+source-step client (Stream file index) h = tt
+source-step client _ h = absurd cc
+
+module _ (P : List Sight → Taken → Type 0) (d : Description) (h : List Step) (Q : ℕ → Type 0) where
+  source-call : (least : ℕ) (j : Job) (call : Call) (calls : List Call) → is_read call.step ≡ false → AreToCome d h Q least (call ∷ calls) → AtEach P [] j.sight → AtEach P [] (after_call j call.step call.answer).sight
+  source-call least j call calls unread_step c s =
+      let x : Step = call.step in
+      let reply : Reply = call.answer.reply in
+      let told : List Sight = call_sight x reply ++ again_sight reply in
+      let none : call.answer.events ≡ [] = unread d (past_at h (place_of reply)) x call.answer unread_step c.legal.1.exact in
+      at_each-append P [] j.sight (told ++ map taken_sight call.answer.events) s
+      (at_each-append P j.sight told (map taken_sight call.answer.events)
+      (at_each-append P j.sight (call_sight x reply) (again_sight reply) (at_each-call P j.sight x reply) (at_each-again P (j.sight ++ call_sight x reply) reply))
+      (subst (λ (ts : List Taken). AtEach P (j.sight ++ told) (map taken_sight ts)) (sym none) tt))
+
+  source-same : (j k : Job) (calls : List Call) → EndsWith (finish (Some j)) calls (Some k) → AtEach P [] j.sight → AtEach P [] k.sight
+  source-same j k calls ends s =
+      let f = finish-only (Some j) (Some k) calls ends in
+      let same : j ≡ k = (let e = f.1 in cc) in
+      subst (λ (y : Job). AtEach P [] y.sight) same s
+
+  source-if : (least : ℕ) (j k : Job) (o : Option Step) (calls more : List Call) → IsUnread o → AreToCome d h Q least (calls ++ more) → EndsWith (call_if j o) calls (Some k) → AtEach P [] j.sight → AtEach P [] k.sight
+  unfolding LeadsTo
+  source-if least j k None calls more un c ends s = source-same j k calls ends s
+  source-if least j k (Some x) [] more un c ends s = absurd cc
+  source-if least j k (Some x) (call ∷ calls) more un c ends s =
+      let one : AtEach P [] (after_call j call.step call.answer).sight = source-call least j call (calls ++ more) (ap is_read ends.0 ∙ un) c s in
+      source-same (after_call j x call.answer) k calls ends.1 (subst (λ (y : Step). AtEach P [] (after_call j y call.answer).sight) ends.0 one)
+
+  source-stream : (least : ℕ) (stream : List Stamped) (j k : Job) (calls more : List Call) → AreToCome d h Q least (calls ++ more) → EndsWith (stream_talk stream j) calls (Some k) → AtEach P [] j.sight → AtEach P [] k.sight
+  unfolding LeadsTo stream_talk
+  source-stream least [] j k calls more c ends s = source-same j k calls ends s
+  source-stream least (stamped ∷ stream) j k [] more c ends s = absurd cc
+  source-stream least (stamped ∷ stream) j k (call ∷ calls) more c ends s =
+      let x : Step = Inject stamped.event stamped.now in
+      let one : AtEach P [] (after_call j call.step call.answer).sight = source-call least j call (calls ++ more) (ap is_read ends.0) c s in
+      by (is_accepted call.answer.reply) (after_call j x call.answer) (subst (λ (y : Step). AtEach P [] (after_call j y call.answer).sight) ends.0 one)
+      (λ (mid : Job) had e. source-stream _ stream mid k calls more (to-come-next d h Q least call (calls ++ more) c) e had) ends.1
+    where
+      by : (b : Bool) (mid : Job) → AtEach P [] mid.sight → ((mid : Job) → AtEach P [] mid.sight → EndsWith (stream_talk stream mid) calls (Some k) → AtEach P [] k.sight) → EndsWith (if b then stream_talk stream mid else finish (Some mid)) calls (Some k) → AtEach P [] k.sight
+      by true mid had more_of e = more_of mid had e
+      by false mid had more_of e = source-same mid k calls e had
+
+  source-line : (least : ℕ) (streams : List (List Stamped)) (command : Command) (j k : Job) (calls more : List Call) → is_command_of Source command ≡ true → AreToCome d h Q least (calls ++ more) → EndsWith (source_talk streams command j) calls (Some k) → AtEach P [] j.sight → AtEach P [] k.sight
+  source-line least streams (Stream file index) j k calls more of_role c ends s = source-stream least (stream_at streams index) j k calls more c ends s
+  source-line least streams command j k calls more of_role c ends s = source-if least j k (step_of NO_CLIENT command) calls more (source-step NO_CLIENT command of_role) c ends s
+
+-- ---- the lines of a job
+
+-- what is promised of each event that a source took: it took none
+abbrev TookNothing : List Sight → Taken → Type 0
+TookNothing sight taken = ⊥
+
+-- how a job of a role stands behind so many steps of the history
+abbrev JobStands : Role → Description → List Step → (ℕ → Type 0) → ℕ → Job → Type 0
+JobStands Source d h Q least j = AtEach TookNothing [] j.sight
+JobStands Client d h Q least j = IsClientJob d h Q least j
+JobStands Tap d h Q least j = TapStands d h Q least j
+
+module _ (d : Description) (h : List Step) (Q : ℕ → Type 0) (history : IsHistory d (reverse h)) (short : length h < NO_CLIENT) where
+  command-stands : (role : Role) (streams : List (List Stamped)) (n : ℕ) (command : Command) (least : ℕ) (j k : Job) (calls more : List Call) → is_command_of role command ≡ true → AreToCome d h Q least (calls ++ more)
+      → EndsWith (command_talk role d streams None n command j) calls (Some k) → JobStands role d h Q least j → JobStands role d h Q (place_behind least calls) k
+  command-stands Source streams n command least j k calls more of_role c ends s = source-line TookNothing d h Q least streams command j k calls more of_role c ends s
+  command-stands Client streams n command least j k calls more of_role c ends s = client-line d h Q history short least None n j k command calls more of_role c ends s
+  command-stands Tap streams n command least j k calls more of_role c ends s = tap-line d h Q history short least j k command calls more of_role c ends s
+
+  same-stands : (role : Role) (least : ℕ) (j k : Job) (calls : List Call) → EndsWith (finish (Some j)) calls (Some k) → JobStands role d h Q least j → JobStands role d h Q (place_behind least calls) k
+  same-stands role least j k calls ends s =
+      let f = finish-only (Some j) (Some k) calls ends in
+      let same : j ≡ k = (let e = f.1 in cc) in
+      subst (λ (cs : List Call). JobStands role d h Q (place_behind least cs) k) (sym f.0) (subst (JobStands role d h Q least) same s)
+
+  line-stands : (role : Role) (streams : List (List Stamped)) (n : ℕ) (command : Command) (least : ℕ) (j k : Job) (calls more : List Call) → is_command_of role command ≡ true → AreToCome d h Q least (calls ++ more)
+      → EndsWith (line_talk role d streams None n command j) calls (Some k) → JobStands role d h Q least j → JobStands role d h Q (place_behind least calls) k
+  unfolding line_talk
+  line-stands role streams n command least j k calls more of_role c ends s = by j.stop ends
+    where
+      by : (stop : Option Stop) → EndsWith (unless_stopped stop j (command_talk role d streams None n command j)) calls (Some k) → JobStands role d h Q (place_behind least calls) k
+      by None e = command-stands role streams n command least j k calls more of_role c e s
+      by (Some stop) e = same-stands role least j k calls e s
+
+  lines-stand : (role : Role) (streams : List (List Stamped)) (n : ℕ) (lines : List Line) (least : ℕ) (j k : Job) (calls : List Call) → AreOfRole role lines → AreToCome d h Q least calls → EndsWith (lines_talk role d streams n lines j) calls (Some k)
+      → JobStands role d h Q least j → JobStands role d h Q (place_behind least calls) k
+  unfolding lines_talk
+  lines-stand role streams n [] least j k calls of_role c ends s = same-stands role least j k calls ends s
+  lines-stand role streams n (line ∷ lines) least j k calls of_role c ends s =
+      let talk : Talk (Option Job) = line_talk role d streams None n line.command j in
+      let p = and_then-parts talk (on_job (lines_talk role d streams n lines)) calls (Some k) ends in
+      let here : AreToCome d h Q least (p.first ++ p.second) = subst (AreToCome d h Q least) p.whole c in
+      subst (λ (m : ℕ). JobStands role d h Q m k) (sym (ap (λ (cs : List Call). place_behind least cs) p.whole ∙ place_behind-append least p.first p.second))
+      (by p.mid p.second
+      (λ (mid : Job) is e. lines-stand role streams n lines (place_behind least p.first) mid k p.second of_role.1 (to-come-behind d h Q least p.first p.second here) e
+      (line-stands role streams n line.command least j mid p.first p.second of_role.0 here (subst (λ (o : Option Job). EndsWith talk p.first o) is p.first_ends) s))
+      p.second_ends)
+    where
+      by : {R : Type 0} (o : Option Job) (second : List Call) → ((mid : Job) → o ≡ Some mid → EndsWith (lines_talk role d streams n lines mid) second (Some k) → R) → EndsWith (on_job (lines_talk role d streams n lines) o) second (Some k) → R
+      by None second more e = let f = finish-only None (Some k) second e in absurd cc
+      by (Some mid) second more e = more mid refl e
+
+  first-stands : (role : Role) → JobStands role d h Q 0 (first_job d)
+  first-stands Source = tt
+  first-stands Client = client-first d h Q history short
+  first-stands Tap = tap-first d h Q history short
+
+  stands-seen : (role : Role) (least : ℕ) (j : Job) → JobStands role d h Q least j → AreReportsSeen d h role j.sight
+  stands-seen Source least j s = λ k taken at report. absurd (at_each-at TookNothing [] j.sight k taken s at)
+  stands-seen Client least j s = λ k taken at report. (let saw : ClientSaw d h (take (suc k) j.sight) taken = at_each-at (ClientSaw d h) [] j.sight k taken s.seen at in saw.seen report)
+  stands-seen Tap least j s = λ k taken at report. at_each-at (TapSaw d h) [] j.sight k taken s.seen at
+
+  -- each event that it took is the one of its own index
+  stands-own : (role : Role) (least : ℕ) (j : Job) → JobStands role d h Q least j → AreEventsOwn d h j.sight
+  stands-own Source least j s = λ k taken at. absurd (at_each-at TookNothing [] j.sight k taken s at)
+  stands-own Client least j s = λ k taken at. (let saw : ClientSaw d h (take (suc k) j.sight) taken = at_each-at (ClientSaw d h) [] j.sight k taken s.seen at in saw.own)
+  stands-own Tap least j s = λ k taken at. shown-own d h (take (suc k) j.sight) taken (sight_view Tap d h (take (suc k) j.sight)) (at_each-at (TapSaw d h) [] j.sight k taken s.seen at)
+
+-- ---- all of it
+
+-- each client that these calls open is one that they do
+opened-among : (all : List Call) (calls : List Call) → ((client : ℕ) → list_any (is_opened_as client) calls ≡ true → list_any (is_opened_as client) all ≡ true)
+    → Each (λ (call : Call). (at client ring : ℕ) → call.answer.reply ≡ Opened at client ring → list_any (is_opened_as client) all ≡ true) calls
+opened-among all [] f = tt
+opened-among all (call ∷ calls) f = (
+  λ at client ring is. f client (ap (λ (b : Bool). b || list_any (is_opened_as client) calls) (ap (is_opening_of client) is ∙ eq-eqb client client refl)),
+  opened-among all calls (λ client k. f client (or-true (is_opened_as client call) (list_any (is_opened_as client) calls) k)),
+)
+  where
+    or-true : (a b : Bool) → b ≡ true → (a || b) ≡ true
+    or-true true b k = refl
+    or-true false b k = k
+
+-- What the sight of a job shows: which events it took, its view at each report, and why it lost events.
+pub record IsShown (d : Description) (h : List Step) (role : Role) (sight : List Sight) : Type 0 where
+  pub own : AreEventsOwn d h sight
+  pub seen : AreReportsSeen d h role sight
+  pub losses : AreLossesCaused d h sight
+
+pub job-shown : (r : RecordView) (d : Description) (h : List Step) (jobs : List JobView) (i : ℕ) (job : JobView) (text : ActorText) (rounds : ℕ) (last : Job) (calls : List Call) → IsRecord r → HasOwners d h jobs → slice_get jobs i ≡ Some job → slice_get r.actors job.actor ≡ Some text
+    → IsLegalRun d h calls → entries_of calls ≡ filter is_call_entry job.sight → EndsWith (lines_talk text.role d r.streams rounds (lines_by job.actor r.lines) (first_job d)) calls (Some last) → job.sight ≡ last.sight → IsShown d h text.role job.sight
+job-shown r d h jobs i job text rounds last calls is_record owners is_job is_text legal told follows same =
+    let lines : List Line = lines_by job.actor r.lines in
+    let Q : ℕ → Type 0 = λ client. list_any (is_opened_as client) calls ≡ true in
+    let own : (client : ℕ) → Q client → AreAllOwn client 0 h calls = λ client q place x from at used. own-uses text.role d h r.streams rounds lines jobs i job last calls owners is_job legal told follows client place x q at used in
+    let history : IsHistory d (reverse h) = history-of-jobs d h jobs owners in
+    let c : AreToCome d h Q 0 calls = record { within = omega arith; legal = legal; own = own; opened = opened-among calls calls (λ client k. k) } in
+    let stands : JobStands text.role d h Q (place_behind 0 calls) last =
+    lines-stand d h Q history owners.short text.role r.streams rounds lines 0 (first_job d) last calls (its_lines r job.actor text is_text r.lines is_record.commands) c follows (first-stands d h Q history owners.short text.role) in
+    let own_events : AreEventsOwn d h last.sight = stands-own d h Q history owners.short text.role (place_behind 0 calls) last stands in
+    subst (IsShown d h text.role) (sym same)
+    (record {
+      own = own_events;
+      seen = stands-seen d h Q history owners.short text.role (place_behind 0 calls) last stands;
+      losses = λ k taken at lost. own-caused d h (take (suc k) last.sight) taken (own_events k taken at) lost;
+    })

@@ -1,0 +1,16 @@
+pub mod Listing
+pub mod LineRuns
+pub mod Memory
+pub mod Entries
+pub mod Folded
+pub mod JobClients
+pub mod Owners
+pub mod OwnUses
+pub mod Reports
+pub mod LastReads
+pub mod QueueSources
+pub mod AtHand
+pub mod TapViews
+pub mod ClientReadings
+pub mod ClientReports
+pub mod JobViews

@@ -1,0 +1,35 @@
+-- A job's view at a report is its client's there, and so the device's.
+use Rattle.std.proofs.Common.{ℕ, Bool, false, List, reverse, ap, ◌∙◌, Option}
+use Rattle.std.specs.Prelude.{slice_index_or}
+use Rattle.inp_model.specs.declared.event.Event.{Event}
+use Rattle.inp_model.specs.declared.taken.Taken.{Taken}
+use Rattle.inp_model.specs.declared.step.Step.{Step}
+use Rattle.inp_model.specs.Description.{Description}
+use Rattle.inp_recon.specs.declared.view.View.{View}
+use Rattle.inp_recon.specs.Faithful.{IsFaithful, IsDeviceState}
+use Rattle.inp_runs.specs.JobViews.{AgreesIn, ShowsAt, ShowsTheState}
+use Rattle.inp_runs.proofs.laws.jobs_show_the_device.Goals as goal
+
+state-agrees : (d : Description) (r : List Event) (v w : View) → AgreesIn d v w → IsDeviceState d r w → IsDeviceState d r v
+state-agrees d r v w a s = record {
+  keys = λ code. ap (λ (xs : List Bool). slice_index_or xs code false) a.keys ∙ s.keys code;
+  switches = λ code. ap (λ (xs : List Bool). slice_index_or xs code false) a.switches ∙ s.switches code;
+  leds = λ code. ap (λ (xs : List Bool). slice_index_or xs code false) a.leds ∙ s.leds code;
+  axes = λ code has. a.axes code has ∙ s.axes code has;
+  cells = a.cells ∙ s.cells;
+  slot = λ some. a.slot some ∙ s.slot some;
+}
+
+shown : (d : Description) (past : List Step) (client : ℕ) (own : Option ℕ) (taken : Taken) (view : View) → IsFaithful d past client → ShowsAt d past client own taken view → ShowsTheState d past client own taken view
+shown d past client own taken view faithful s = record {
+  index = s.index;
+  is_own = s.is_own;
+  is_taken = s.is_taken;
+  shows = λ f report followed. state-agrees d f.cut.until view _ (s.agrees followed.synchronised) (faithful s.index f report followed);
+}
+
+pub returns : goal.returns
+returns c = record {
+  shown = λ r d run i k job text taken is_run is_job is_text at report.
+      shown d (reverse run.history) _ _ taken _ (is_run.faithful _) (is_run.seen i job text is_job is_text k taken at report);
+}

@@ -1,0 +1,116 @@
+-- What is promised of what came of a record, whatever the order of its jobs' steps (docs/PROMISES.md).
+use Rattle.std.specs.Prelude.{ℕ, suc, ◌≡◌, ◌≤◌, Bool, true, false, ◌&&◌, if◌then◌else◌, nat_eq, nat_lt, List, [], ◌∷◌, length, filter, take, reverse, slice_get, Option, Some, None}
+use Rattle.std.specs.List.{count_by, list_any, sum_by}
+use Rattle.inp_model.specs.declared.stamped.Stamped.{Stamped}
+use Rattle.inp_model.specs.declared.taken.Taken.{Taken}
+use Rattle.inp_model.specs.declared.step.Step.{Step}
+use Rattle.inp_model.specs.declared.reply.Reply.{Reply}
+use Rattle.inp_model.specs.declared.reply.Reply.TheVariants.{Refused}
+use Rattle.inp_model.specs.declared.reply.Refusal.TheVariants.{NoMemory}
+use Rattle.inp_model.specs.Description.{Description, IsDescription}
+use Rattle.inp_model.specs.Event.{is_report}
+use Rattle.inp_model.specs.Reply.{is_accepted}
+use Rattle.inp_model.specs.Run.{IsLegalRun, place_of}
+use Rattle.inp_model.specs.Run as model
+use Rattle.inp_actors.specs.declared.role.Role.{Role}
+use Rattle.inp_actors.specs.declared.actor_text.ActorText.{ActorText}
+use Rattle.inp_actors.specs.declared.device_text.DeviceText.{DeviceText}
+use Rattle.inp_actors.specs.declared.line.Line.{Line}
+use Rattle.inp_actors.specs.Record.{RecordView}
+use Rattle.inp_model.specs.History.{IsHistory}
+use Rattle.inp_recon.specs.Faithful.{IsFaithful}
+use Rattle.inp_reader.specs.Talk.{Talk, finish, and_then, EndsWith}
+use Rattle.inp_script.specs.declared.run.Run.{Run}
+use Rattle.inp_script.specs.declared.sight.Sight.{Sight}
+use Rattle.inp_script.specs.declared.sight.Sight.TheVariants.{Call, Took}
+use Rattle.inp_script.specs.Doing.{line_talk}
+use Rattle.inp_script.specs.Fold.{IsFolded}
+use Rattle.inp_script.specs.Job.{Job, JobView, first_job, job_end}
+use Rattle.inp_script.specs.Legal.{entries_of, is_call_entry}
+use Rattle.inp_script.specs.Runs.{AreRunsOf}
+use Rattle.inp_runs.specs.JobViews.{AreEventsOwn, AreReportsSeen, ShowsTheState, reads_as, index_in_history, sight_view}
+use Rattle.inp_runs.specs.Losses.{AreLossesCaused}
+
+-- the action lines of an actor, in file order
+abbrev pub lines_by : ℕ → List Line → List Line
+lines_by actor lines = filter (λ line. nat_eq line.actor actor) lines
+
+abbrev pub on_job : (Job → Talk (Option Job)) → Option Job → Talk (Option Job)
+on_job next None = finish None
+on_job next (Some j) = next j
+
+-- what an actor does at its lines, one after another, each in at most so many rounds; nobody waits
+unfoldable pub lines_talk : Role → Description → List (List Stamped) → ℕ → List Line → Job → Talk (Option Job)
+lines_talk role d streams rounds [] j = finish (Some j)
+lines_talk role d streams rounds (line ∷ lines) j =
+    and_then (line_talk role d streams None rounds line.command j) (on_job (lines_talk role d streams rounds lines))
+
+-- the step was refused for want of memory
+abbrev pub is_no_memory : Reply → Bool
+is_no_memory (Refused at NoMemory) = true
+is_no_memory _ = false
+
+-- a call that was refused for want of memory
+abbrev pub lacks_memory : model.Call → Bool
+lacks_memory call = is_no_memory call.answer.reply
+
+-- What came of a job: its calls are a legal run of the device's history, none of them lacked memory, and its sight and its
+-- view are what its lines and the answers to these calls make.
+pub record IsJob (r : RecordView) (d : Description) (history : List Step) (role : Role) (job : JobView) : Type 0 where
+  pub calls : List model.Call
+  pub legal : IsLegalRun d history calls
+  pub memory : list_any lacks_memory calls ≡ false
+  -- the calls are those that its sight tells of
+  pub told : entries_of calls ≡ filter is_call_entry job.sight
+  pub rounds : ℕ
+  pub last : Job
+  -- it follows its lines
+  pub follows : EndsWith (lines_talk role d r.streams rounds (lines_by job.actor r.lines) (first_job d)) calls (Some last)
+  -- each event that it took is the one of its own index among those that its client took
+  pub own : AreEventsOwn d history job.sight
+  -- each loss that it took has its cause
+  pub losses : AreLossesCaused d history job.sight
+  -- its view is the fold of its whole sight
+  pub folded : IsFolded role d history last
+  pub ended : job ≡ job_end (record { actor = job.actor; role = role; description = d; job = last })
+
+-- an accepted call at this place of the history
+abbrev pub is_entry_at : ℕ → Sight → Bool
+is_entry_at place (Call x reply) = is_accepted reply && nat_eq (place_of reply) place
+is_entry_at place _ = false
+
+-- how many accepted calls of all jobs have this place
+abbrev pub entries_at : ℕ → List JobView → ℕ
+entries_at place jobs = sum_by (λ (job : JobView). count_by (is_entry_at place) job.sight) jobs
+
+-- What came of a device: one history within the limit; each of its jobs follows its lines on that history; and each place
+-- of the history is the place of exactly one accepted call of exactly one job.
+pub record IsRun (r : RecordView) (d : Description) (run : Run) : Type 0 where
+  pub within : length run.history ≤ d.log_limit
+  pub jobs : (i : ℕ) (job : JobView) (text : ActorText) → slice_get run.jobs i ≡ Some job → slice_get r.actors job.actor ≡ Some text → IsJob r d run.history text.role job
+  -- each step of the history was accepted after those before it
+  pub accepted : IsHistory d (reverse run.history)
+  -- the history is faithful to each client
+  pub faithful : (client : ℕ) → IsFaithful d (reverse run.history) client
+  -- at each report that a job took, its view is the one that its client has in the history
+  pub seen : (i : ℕ) (job : JobView) (text : ActorText) → slice_get run.jobs i ≡ Some job → slice_get r.actors job.actor ≡ Some text → AreReportsSeen d run.history text.role job.sight
+  pub once : (place : ℕ) → entries_at place run.jobs ≡ (if nat_lt place (length run.history) then 1 else 0)
+
+-- each device has a description
+abbrev pub AreDescribed : RecordView → Type 0
+AreDescribed r = (i : ℕ) (device : DeviceText) → slice_get r.devices i ≡ Some device → IsDescription device.caps
+
+-- What came of a record: one run for each device, with one job for each of its actors, and each run is as above.
+pub record ArePromised (r : RecordView) (runs : List Run) : Type 0 where
+  pub runs_of : AreRunsOf r runs
+  pub each : (i : ℕ) (device : DeviceText) (run : Run) → slice_get r.devices i ≡ Some device → slice_get runs i ≡ Some run → IsRun r device.caps run
+
+-- at each report that a job took, its view up to then is the device's state at the end of that report's frame, where its
+-- client could follow the device up to there
+abbrev pub JobsShowTheDevice : Type 0
+JobsShowTheDevice =
+    (r : RecordView) (d : Description) (run : Run) (i k : ℕ) (job : JobView) (text : ActorText) (taken : Taken)
+    → IsRun r d run → slice_get run.jobs i ≡ Some job → slice_get r.actors job.actor ≡ Some text
+    → slice_get job.sight k ≡ Some (Took taken) → is_report taken.event ≡ true
+    → (let sight = take (suc k) job.sight in
+    ShowsTheState d (reverse run.history) (reads_as sight) (index_in_history d run.history sight) taken (sight_view text.role d run.history sight))

@@ -1,0 +1,4 @@
+pub mod JobViews
+pub mod IndexExamples
+pub mod Losses
+pub mod Job
