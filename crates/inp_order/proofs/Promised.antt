@@ -146,9 +146,9 @@ so_far_on r rounds stage i device past a text s is_device is_past is_actor is_te
 shows : (r : RecordView) (rounds : ℕ) (d : Description) (past : List Step) (jobs : List JobView) (k : ℕ) (a : ActorView) (text : ActorText) → IsRecord r → HasOwners d (reverse past) jobs → slice_get jobs k ≡ Some (job_end a) → slice_get r.actors a.actor ≡ Some text → IsSoFar r rounds r.lines d text.role past a
     → IsShown d (reverse past) text.role a.job.sight
 shows r rounds d past jobs k a text is_record owners is_job is_text s =
-    job-shown r d (reverse past) jobs k (job_end a) text rounds a.job s.calls is_record owners is_job is_text s.legal s.told s.follows refl
+    job-shown r d (reverse past) jobs k (job_end a) text None rounds a.job s.calls is_record owners is_job is_text s.legal s.told s.follows refl
 
-is_job : (r : RecordView) (rounds : ℕ) (d : Description) (past : List Step) (a : ActorView) (text : ActorText) → IsRecord r → slice_get r.actors a.actor ≡ Some text → IsSoFar r rounds r.lines d text.role past a → IsShown d (reverse past) text.role a.job.sight → IsJob r d (reverse past) text.role (job_end a)
+is_job : (r : RecordView) (rounds : ℕ) (d : Description) (past : List Step) (a : ActorView) (text : ActorText) → IsRecord r → slice_get r.actors a.actor ≡ Some text → IsSoFar r rounds r.lines d text.role past a → IsShown d (reverse past) text.role a.job.sight → IsJob r d None (reverse past) text.role (job_end a)
 is_job r rounds d past a text is_record is_text s shown = record {
   calls = s.calls;
   legal = s.legal;
@@ -159,7 +159,7 @@ is_job r rounds d past a text is_record is_text s shown = record {
   follows = s.follows;
   own = shown.own;
   losses = shown.losses;
-  folded = view-folded r d (reverse past) rounds a.actor text a.job s.calls is_record is_text s.legal s.follows;
+  folded = view-folded r d (reverse past) None rounds a.actor text a.job s.calls is_record is_text s.legal s.follows;
   ended = refl;
 }
 
@@ -199,7 +199,7 @@ same_text r rounds stage i device past job text w is_text =
     let actor_is : job.actor ≡ w.end.actor.actor = ap (λ (j : JobView). j.actor) (sym w.end.same) in
     same_Some w.text text (sym w.is_text ∙ ap (λ (n : ℕ). slice_get r.actors n) (sym actor_is) ∙ is_text)
 
-is_run : (r : RecordView) (rounds : ℕ) (stage : Stage) (i : ℕ) (device : DeviceText) (past : List Step) → IsRecord r → AreDescribed r → IsStage r rounds r.lines stage → slice_get r.devices i ≡ Some device → slice_get stage.pasts i ≡ Some past → IsRun r device.caps (run_of r stage (i, past))
+is_run : (r : RecordView) (rounds : ℕ) (stage : Stage) (i : ℕ) (device : DeviceText) (past : List Step) → IsRecord r → AreDescribed r → IsStage r rounds r.lines stage → slice_get r.devices i ≡ Some device → slice_get stage.pasts i ≡ Some past → IsRun r device.caps None (run_of r stage (i, past))
 is_run r rounds stage i device past is_record described s is_device is_past =
     let d : Description = device.caps in
     let all : List JobView = (run_of r stage (i, past)).jobs in
@@ -213,7 +213,7 @@ is_run r rounds stage i device past is_record described s is_device is_past =
       each = λ k job h.
           let w : IsWorkOf r rounds stage i device past job = work k job h in
           subst (AreCallsOf d (reverse past)) w.end.same
-          (calls-of w.text.role d (reverse past) r.streams rounds (lines_by w.end.actor.actor r.lines) (job_end w.end.actor) w.end.actor.job w.so_far.calls w.so_far.legal w.so_far.told w.so_far.follows);
+          (calls-of w.text.role d (reverse past) r.streams None rounds (lines_by w.end.actor.actor r.lines) (job_end w.end.actor) w.end.actor.job w.so_far.calls w.so_far.legal w.so_far.told w.so_far.follows);
       once = once;
       short = short-history d (reverse past) (described i device is_device) within;
     } in
@@ -225,8 +225,8 @@ is_run r rounds stage i device past is_record described s is_device is_past =
       jobs = λ k job text h is_text.
           let w : IsWorkOf r rounds stage i device past job = work k job h in
           let here : IsShown d (reverse past) w.text.role w.end.actor.job.sight = shown k job h in
-          subst (λ (x : ActorText). IsJob r d (reverse past) x.role job) (same_text r rounds stage i device past job text w is_text)
-          (subst (λ (j : JobView). IsJob r d (reverse past) w.text.role j) w.end.same (is_job r rounds d past w.end.actor w.text is_record w.is_text w.so_far here));
+          subst (λ (x : ActorText). IsJob r d None (reverse past) x.role job) (same_text r rounds stage i device past job text w is_text)
+          (subst (λ (j : JobView). IsJob r d None (reverse past) w.text.role j) w.end.same (is_job r rounds d past w.end.actor w.text is_record w.is_text w.so_far here));
       accepted = history-of-jobs d (reverse past) all owners;
       faithful = λ client.
           faithful_by_reads reads-faithful d (reverse (reverse past)) client (described i device is_device) (history-of-jobs d (reverse past) all owners);
@@ -238,7 +238,7 @@ is_run r rounds stage i device past is_record described s is_device is_past =
       once = once;
     }
 
-stage_promised : (r : RecordView) (rounds : ℕ) (stage : Stage) → IsRecord r → AreDescribed r → IsStage r rounds r.lines stage → ArePromised r (runs_of r stage)
+stage_promised : (r : RecordView) (rounds : ℕ) (stage : Stage) → IsRecord r → AreDescribed r → IsStage r rounds r.lines stage → ArePromised None r (runs_of r stage)
 stage_promised r rounds stage is_record described s = record {
   runs_of = record {
     devices = length-map (enumerate_from 0 stage.pasts) (run_of r stage) ∙ length-enumerate_from 0 stage.pasts ∙ s.devices;
@@ -248,18 +248,18 @@ stage_promised r rounds stage is_record described s = record {
   };
   each = λ i device run is_device is_run_.
       let at = run_at r stage i run is_run_ in
-      subst (λ (x : Run). IsRun r device.caps x) at.same (is_run r rounds stage i device at.past is_record described s is_device at.is_past);
+      subst (λ (x : Run). IsRun r device.caps None x) at.same (is_run r rounds stage i device at.past is_record described s is_device at.is_past);
 }
 
 -- what comes of a record whose lines are done in file order is promised
-pub play-promised : (r : RecordView) (runs : List Run) → IsRecord r → AreDescribed r → IsPlay r runs → ArePromised r runs
+pub play-promised : (r : RecordView) (runs : List Run) → IsRecord r → AreDescribed r → IsPlay r runs → ArePromised None r runs
 unfolding play
 play-promised r runs is_record described p =
     let image = option_map-some (runs_of r) (after_lines r p.rounds (first_stage r) r.lines) runs p.plays in
     let last : IsStage r p.rounds r.lines image.from = stages r p.rounds [] r.lines (first_stage r) image.from (first-stage r p.rounds) image.is in
-    subst (λ (rs : List Run). ArePromised r rs) image.same (stage_promised r p.rounds image.from is_record described last)
+    subst (λ (rs : List Run). ArePromised None r rs) image.same (stage_promised r p.rounds image.from is_record described last)
 
 -- the same where memory may have run out
-pub promised-if_ok : {E : Type 0} (r : RecordView) (result : Result (List Run) E) → IsRecord r → AreDescribed r → IfOk result (IsPlay r) → IfOk result (ArePromised r)
+pub promised-if_ok : {E : Type 0} (r : RecordView) (result : Result (List Run) E) → IsRecord r → AreDescribed r → IfOk result (IsPlay r) → IfOk result (ArePromised None r)
 promised-if_ok r (Ok runs) is_record described p = play-promised r runs is_record described p
 promised-if_ok r (Err e) is_record described p = p

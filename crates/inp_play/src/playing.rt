@@ -1,5 +1,5 @@
 //! Playing a record on one thread.
-ghost use Rattle.std.specs.Prelude.{IfOk};
+ghost use Rattle.std.specs.Prelude.{IfOk, None};
 ghost use Rattle.inp_runs.specs.Job.{ArePromised};
 ghost use Rattle.inp_order.specs.Play.{IsPlay};
 
@@ -15,7 +15,7 @@ use std::alloc::Global;
 /// none, and no run is given then.
 pub fn play(alloc: Global, rec: &Record) -> Result<Runs, NoMemory>
     ensures runs { IfOk result (IsPlay rec.now) }
-    ensures promised { IfOk result (ArePromised rec.now) }
+    ensures promised { IfOk result (ArePromised None rec.now) }
 {
     let mut player = Player::new(alloc, rec)?;
     for line in 0..rec.lines().len() as u32 {

@@ -8,7 +8,7 @@ use Rattle.inp_model.specs.declared.event.TheConstants.{EV_KEY, EV_LED, EV_SW}
 use Rattle.inp_model.specs.declared.stamped.Stamped.{Stamped}
 use Rattle.inp_model.specs.declared.taken.Taken.{Taken}
 use Rattle.inp_model.specs.declared.step.Step.{Step}
-use Rattle.inp_model.specs.declared.step.Step.TheVariants.{Inject, Open as ToOpen, Read as ToRead, Discard as ToDiscard, GetKeys, GetSwitches, GetLeds, GetAxis, SyncSlots as ToSyncSlots}
+use Rattle.inp_model.specs.declared.step.Step.TheVariants.{Inject, Open as ToOpen, Read as ToRead, Discard as ToDiscard, GetKeys, GetSwitches, GetLeds, GetAxis, SyncSlots as ToSyncSlots, End}
 use Rattle.inp_model.specs.declared.reply.Reply.{Reply}
 use Rattle.inp_model.specs.declared.reply.Reply.TheVariants.{Opened, Again as NothingVisible, Refused as StepRefused}
 use Rattle.inp_model.specs.declared.reply.Refusal.{Refusal}
@@ -43,9 +43,9 @@ use Rattle.inp_script.specs.declared.waiting.Waiting.{Waiting}
 use Rattle.inp_script.specs.Client.{Going, Turn, goes_on, ends_with, start_job, start_ends, after_start, handed, one_less, is_done, patience, after_again, turn_after, after_next, mode_of, with_sight, with_stop, next_round, on_turn, rounds, hand_talk, client_talk}
 use Rattle.inp_script.specs.Doing.{command_talk, unless_stopped, line_talk}
 use Rattle.inp_script.specs.Job.{Job, first_job}
-use Rattle.inp_script.specs.Line.{step_of, after_call, call_if, stream_talk, stream_at, source_talk, client_after, after_tap_call, tap_call_if, tap_talk}
+use Rattle.inp_script.specs.Line.{step_of, after_call, call_if, stream_talk, stream_at, source_talk, end_talk, client_after, after_tap_call, tap_call_if, tap_talk}
 use Rattle.inp_script.specs.Sight.{noted, call_sight, lacks_memory, start_lacks_memory}
-use Rattle.inp_runs.specs.Job.{on_job, lines_talk}
+use Rattle.inp_runs.specs.Job.{on_job, last_talk, lines_talk}
 
 -- A step names no client, the one that was opened last, or the number that no client has.
 abbrev pub NamesOr : ℕ → Step → Type 0
@@ -430,14 +430,25 @@ unfolding line_talk
 names-line role d streams wait n command j last is =
     names-unless role j.stop j (command_talk role d streams wait n command j) last is (names-role role d streams wait n command j last is)
 
-names-lines : (role : Role) (d : Description) (streams : List (List Stamped)) (n : ℕ) (lines : List Line) (j : Job) (last : ℕ) → ReadsAs role last j → Names last (lines_talk role d streams n lines j) (OfLeft role)
+-- a source's end names no client
+names-end : (stop : Option Stop) (j : Job) (last : ℕ) → Names last (end_talk stop j) (OfLeft Source)
+names-end None j last = (names-none last End refl, λ answer. tt)
+names-end (Some stop) j last = tt
+
+names-last : (wait : Option Waiting) (role : Role) (j : Job) (last : ℕ) → ReadsAs role last j → Names last (last_talk wait role j) (OfLeft role)
+names-last None role j last is = is
+names-last (Some waiting) Source j last is = names-end j.stop j last
+names-last (Some waiting) Client j last is = is
+names-last (Some waiting) Tap j last is = is
+
+names-lines : (role : Role) (d : Description) (streams : List (List Stamped)) (wait : Option Waiting) (n : ℕ) (lines : List Line) (j : Job) (last : ℕ) → ReadsAs role last j → Names last (lines_talk role d streams wait n lines j) (OfLeft role)
 unfolding lines_talk
-names-lines role d streams n [] j last is = is
-names-lines role d streams n (line ∷ lines) j last is =
-    names-then last (line_talk role d streams None n line.command j) (on_job (lines_talk role d streams n lines)) (OfLeft role) (OfLeft role) (names-line role d streams None n line.command j last is)
-    (λ now o e. by o now e (λ (mid : Job) there. names-lines role d streams n lines mid now there))
+names-lines role d streams wait n [] j last is = names-last wait role j last is
+names-lines role d streams wait n (line ∷ lines) j last is =
+    names-then last (line_talk role d streams wait n line.command j) (on_job (lines_talk role d streams wait n lines)) (OfLeft role) (OfLeft role) (names-line role d streams wait n line.command j last is)
+    (λ now o e. by o now e (λ (mid : Job) there. names-lines role d streams wait n lines mid now there))
   where
-    by : (o : Option Job) (now : ℕ) → OfLeft role now o → ((mid : Job) → ReadsAs role now mid → Names now (lines_talk role d streams n lines mid) (OfLeft role)) → Names now (on_job (lines_talk role d streams n lines) o) (OfLeft role)
+    by : (o : Option Job) (now : ℕ) → OfLeft role now o → ((mid : Job) → ReadsAs role now mid → Names now (lines_talk role d streams wait n lines mid) (OfLeft role)) → Names now (on_job (lines_talk role d streams wait n lines) o) (OfLeft role)
     by None now e more = tt
     by (Some mid) now e more = more mid e
 
@@ -448,10 +459,10 @@ line-name role d streams wait n command j k calls last h is =
     names-ends last (line_talk role d streams wait n command j) (OfLeft role) calls (Some k) (names-line role d streams wait n command j last is) h
 
 -- the calls of lines do
-pub lines-name : (role : Role) (d : Description) (streams : List (List Stamped)) (n : ℕ) (lines : List Line) (j k : Job) (calls : List Call) (last : ℕ) → EndsWith (lines_talk role d streams n lines j) calls (Some k)
+pub lines-name : (role : Role) (d : Description) (streams : List (List Stamped)) (wait : Option Waiting) (n : ℕ) (lines : List Line) (j k : Job) (calls : List Call) (last : ℕ) → EndsWith (lines_talk role d streams wait n lines j) calls (Some k)
     → ReadsAs role last j → NameLast last calls × ReadsAs role (last_opened last calls) k
-lines-name role d streams n lines j k calls last h is =
-    names-ends last (lines_talk role d streams n lines j) (OfLeft role) calls (Some k) (names-lines role d streams n lines j last is) h
+lines-name role d streams wait n lines j k calls last h is =
+    names-ends last (lines_talk role d streams wait n lines j) (OfLeft role) calls (Some k) (names-lines role d streams wait n lines j last is) h
 
 first-reads : (role : Role) (d : Description) → ReadsAs role NO_CLIENT (first_job d)
 first-reads Source d = tt
@@ -459,6 +470,6 @@ first-reads Client d = refl
 first-reads Tap d = refl
 
 -- before the first line a job has opened no client
-pub job-names : (role : Role) (d : Description) (streams : List (List Stamped)) (n : ℕ) (lines : List Line) (k : Job) (calls : List Call) → EndsWith (lines_talk role d streams n lines (first_job d)) calls (Some k)
+pub job-names : (role : Role) (d : Description) (streams : List (List Stamped)) (wait : Option Waiting) (n : ℕ) (lines : List Line) (k : Job) (calls : List Call) → EndsWith (lines_talk role d streams wait n lines (first_job d)) calls (Some k)
     → NameLast NO_CLIENT calls × ReadsAs role (last_opened NO_CLIENT calls) k
-job-names role d streams n lines k calls h = lines-name role d streams n lines (first_job d) k calls NO_CLIENT h (first-reads role d)
+job-names role d streams wait n lines k calls h = lines-name role d streams wait n lines (first_job d) k calls NO_CLIENT h (first-reads role d)

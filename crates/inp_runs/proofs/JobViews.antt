@@ -1,12 +1,12 @@
 -- At each report that a job took, its view is its client's in the history, and each loss that it took has its cause.
-use Rattle.std.proofs.Common.{◌≡◌, ◌<◌, inl, inr, ℕ, Bool, true, false, ◌||◌, List, [], ◌∷◌, ◌++◌, length, map, take, reverse, suc, refl, sym, ap, subst, ◌∙◌, arith, if◌then◌else◌, Option, Some, None}
+use Rattle.std.proofs.Common.{◌≡◌, ◌<◌, inl, inr, ℕ, Bool, true, false, ◌||◌, List, [], ◌∷◌, ◌++◌, length, map, take, reverse, suc, refl, sym, ap, subst, ◌∙◌, arith, append-nil, if◌then◌else◌, Option, Some, None}
 use Rattle.std.specs.Prelude.{filter, slice_get}
 use Rattle.std.specs.List.{list_any}
 use Rattle.std.proofs.lemmas.Bool.{eq-eqb}
 use Rattle.inp_model.specs.declared.stamped.Stamped.{Stamped}
 use Rattle.inp_model.specs.declared.taken.Taken.{Taken}
 use Rattle.inp_model.specs.declared.step.Step.{Step}
-use Rattle.inp_model.specs.declared.step.Step.TheVariants.{Inject}
+use Rattle.inp_model.specs.declared.step.Step.TheVariants.{Inject, End}
 use Rattle.inp_model.specs.declared.reply.Reply.{Reply}
 use Rattle.inp_model.specs.declared.reply.Reply.TheVariants.{Opened}
 use Rattle.inp_model.specs.Description.{Description}
@@ -30,13 +30,13 @@ use Rattle.inp_reader.proofs.ClientViews.{no_read-takes}
 use Rattle.inp_reader.proofs.Meeting.{AreAllOwn}
 use Rattle.inp_script.specs.declared.sight.Sight.{Sight}
 use Rattle.inp_script.specs.declared.stop.Stop.{Stop}
+use Rattle.inp_script.specs.declared.waiting.Waiting.{Waiting}
 use Rattle.inp_script.specs.Doing.{command_talk, unless_stopped, line_talk}
 use Rattle.inp_script.specs.Job.{Job, JobView, first_job}
-use Rattle.inp_script.specs.Legal.{entries_of, is_call_entry}
-use Rattle.inp_script.specs.Line.{step_of, after_call, call_if, stream_talk, stream_at, source_talk}
+use Rattle.inp_script.specs.Line.{step_of, after_call, call_if, stream_talk, stream_at, source_talk, end_talk}
 use Rattle.inp_script.specs.Sight.{call_sight, again_sight, taken_sight}
 use Rattle.inp_script.proofs.LastAgain.{finish-only, and_then-parts}
-use Rattle.inp_runs.specs.Job.{lines_by, on_job, lines_talk}
+use Rattle.inp_runs.specs.Job.{lines_by, on_job, last_talk, lines_talk, AreTold}
 use Rattle.inp_runs.specs.JobViews.{AreEventsOwn, AreReportsSeen, sight_view}
 use Rattle.inp_runs.specs.Losses.{AreLossesCaused}
 use Rattle.inp_runs.proofs.AtHand.{own-caused, shown-own}
@@ -123,11 +123,11 @@ JobStands Client d h Q least j = IsClientJob d h Q least j
 JobStands Tap d h Q least j = TapStands d h Q least j
 
 module _ (d : Description) (h : List Step) (Q : ℕ → Type 0) (history : IsHistory d (reverse h)) (short : length h < NO_CLIENT) where
-  command-stands : (role : Role) (streams : List (List Stamped)) (n : ℕ) (command : Command) (least : ℕ) (j k : Job) (calls more : List Call) → is_command_of role command ≡ true → AreToCome d h Q least (calls ++ more)
-      → EndsWith (command_talk role d streams None n command j) calls (Some k) → JobStands role d h Q least j → JobStands role d h Q (place_behind least calls) k
-  command-stands Source streams n command least j k calls more of_role c ends s = source-line TookNothing d h Q least streams command j k calls more of_role c ends s
-  command-stands Client streams n command least j k calls more of_role c ends s = client-line d h Q history short least None n j k command calls more of_role c ends s
-  command-stands Tap streams n command least j k calls more of_role c ends s = tap-line d h Q history short least j k command calls more of_role c ends s
+  command-stands : (role : Role) (streams : List (List Stamped)) (wait : Option Waiting) (n : ℕ) (command : Command) (least : ℕ) (j k : Job) (calls more : List Call) → is_command_of role command ≡ true → AreToCome d h Q least (calls ++ more)
+      → EndsWith (command_talk role d streams wait n command j) calls (Some k) → JobStands role d h Q least j → JobStands role d h Q (place_behind least calls) k
+  command-stands Source streams wait n command least j k calls more of_role c ends s = source-line TookNothing d h Q least streams command j k calls more of_role c ends s
+  command-stands Client streams wait n command least j k calls more of_role c ends s = client-line d h Q history short least wait n j k command calls more of_role c ends s
+  command-stands Tap streams wait n command least j k calls more of_role c ends s = tap-line d h Q history short least j k command calls more of_role c ends s
 
   same-stands : (role : Role) (least : ℕ) (j k : Job) (calls : List Call) → EndsWith (finish (Some j)) calls (Some k) → JobStands role d h Q least j → JobStands role d h Q (place_behind least calls) k
   same-stands role least j k calls ends s =
@@ -135,30 +135,41 @@ module _ (d : Description) (h : List Step) (Q : ℕ → Type 0) (history : IsHis
       let same : j ≡ k = (let e = f.1 in cc) in
       subst (λ (cs : List Call). JobStands role d h Q (place_behind least cs) k) (sym f.0) (subst (JobStands role d h Q least) same s)
 
-  line-stands : (role : Role) (streams : List (List Stamped)) (n : ℕ) (command : Command) (least : ℕ) (j k : Job) (calls more : List Call) → is_command_of role command ≡ true → AreToCome d h Q least (calls ++ more)
-      → EndsWith (line_talk role d streams None n command j) calls (Some k) → JobStands role d h Q least j → JobStands role d h Q (place_behind least calls) k
+  line-stands : (role : Role) (streams : List (List Stamped)) (wait : Option Waiting) (n : ℕ) (command : Command) (least : ℕ) (j k : Job) (calls more : List Call) → is_command_of role command ≡ true → AreToCome d h Q least (calls ++ more)
+      → EndsWith (line_talk role d streams wait n command j) calls (Some k) → JobStands role d h Q least j → JobStands role d h Q (place_behind least calls) k
   unfolding line_talk
-  line-stands role streams n command least j k calls more of_role c ends s = by j.stop ends
+  line-stands role streams wait n command least j k calls more of_role c ends s = by j.stop ends
     where
-      by : (stop : Option Stop) → EndsWith (unless_stopped stop j (command_talk role d streams None n command j)) calls (Some k) → JobStands role d h Q (place_behind least calls) k
-      by None e = command-stands role streams n command least j k calls more of_role c e s
+      by : (stop : Option Stop) → EndsWith (unless_stopped stop j (command_talk role d streams wait n command j)) calls (Some k) → JobStands role d h Q (place_behind least calls) k
+      by None e = command-stands role streams wait n command least j k calls more of_role c e s
       by (Some stop) e = same-stands role least j k calls e s
 
-  lines-stand : (role : Role) (streams : List (List Stamped)) (n : ℕ) (lines : List Line) (least : ℕ) (j k : Job) (calls : List Call) → AreOfRole role lines → AreToCome d h Q least calls → EndsWith (lines_talk role d streams n lines j) calls (Some k)
+  -- a source's end is no read
+  end-stands : (stop : Option Stop) (least : ℕ) (j k : Job) (calls : List Call) → AreToCome d h Q least calls → EndsWith (end_talk stop j) calls (Some k) → JobStands Source d h Q least j → JobStands Source d h Q (place_behind least calls) k
+  end-stands None least j k calls c ends s = source-if TookNothing d h Q least j k (Some End) calls [] refl (subst (AreToCome d h Q least) (sym (append-nil calls)) c) ends s
+  end-stands (Some stop) least j k calls c ends s = same-stands Source least j k calls ends s
+
+  last-stands : (wait : Option Waiting) (role : Role) (least : ℕ) (j k : Job) (calls : List Call) → AreToCome d h Q least calls → EndsWith (last_talk wait role j) calls (Some k) → JobStands role d h Q least j → JobStands role d h Q (place_behind least calls) k
+  last-stands None role least j k calls c ends s = same-stands role least j k calls ends s
+  last-stands (Some waiting) Source least j k calls c ends s = end-stands j.stop least j k calls c ends s
+  last-stands (Some waiting) Client least j k calls c ends s = same-stands Client least j k calls ends s
+  last-stands (Some waiting) Tap least j k calls c ends s = same-stands Tap least j k calls ends s
+
+  lines-stand : (role : Role) (streams : List (List Stamped)) (wait : Option Waiting) (n : ℕ) (lines : List Line) (least : ℕ) (j k : Job) (calls : List Call) → AreOfRole role lines → AreToCome d h Q least calls → EndsWith (lines_talk role d streams wait n lines j) calls (Some k)
       → JobStands role d h Q least j → JobStands role d h Q (place_behind least calls) k
   unfolding lines_talk
-  lines-stand role streams n [] least j k calls of_role c ends s = same-stands role least j k calls ends s
-  lines-stand role streams n (line ∷ lines) least j k calls of_role c ends s =
-      let talk : Talk (Option Job) = line_talk role d streams None n line.command j in
-      let p = and_then-parts talk (on_job (lines_talk role d streams n lines)) calls (Some k) ends in
+  lines-stand role streams wait n [] least j k calls of_role c ends s = last-stands wait role least j k calls c ends s
+  lines-stand role streams wait n (line ∷ lines) least j k calls of_role c ends s =
+      let talk : Talk (Option Job) = line_talk role d streams wait n line.command j in
+      let p = and_then-parts talk (on_job (lines_talk role d streams wait n lines)) calls (Some k) ends in
       let here : AreToCome d h Q least (p.first ++ p.second) = subst (AreToCome d h Q least) p.whole c in
       subst (λ (m : ℕ). JobStands role d h Q m k) (sym (ap (λ (cs : List Call). place_behind least cs) p.whole ∙ place_behind-append least p.first p.second))
       (by p.mid p.second
-      (λ (mid : Job) is e. lines-stand role streams n lines (place_behind least p.first) mid k p.second of_role.1 (to-come-behind d h Q least p.first p.second here) e
-      (line-stands role streams n line.command least j mid p.first p.second of_role.0 here (subst (λ (o : Option Job). EndsWith talk p.first o) is p.first_ends) s))
+      (λ (mid : Job) is e. lines-stand role streams wait n lines (place_behind least p.first) mid k p.second of_role.1 (to-come-behind d h Q least p.first p.second here) e
+      (line-stands role streams wait n line.command least j mid p.first p.second of_role.0 here (subst (λ (o : Option Job). EndsWith talk p.first o) is p.first_ends) s))
       p.second_ends)
     where
-      by : {R : Type 0} (o : Option Job) (second : List Call) → ((mid : Job) → o ≡ Some mid → EndsWith (lines_talk role d streams n lines mid) second (Some k) → R) → EndsWith (on_job (lines_talk role d streams n lines) o) second (Some k) → R
+      by : {R : Type 0} (o : Option Job) (second : List Call) → ((mid : Job) → o ≡ Some mid → EndsWith (lines_talk role d streams wait n lines mid) second (Some k) → R) → EndsWith (on_job (lines_talk role d streams wait n lines) o) second (Some k) → R
       by None second more e = let f = finish-only None (Some k) second e in absurd cc
       by (Some mid) second more e = more mid refl e
 
@@ -199,16 +210,16 @@ pub record IsShown (d : Description) (h : List Step) (role : Role) (sight : List
   pub seen : AreReportsSeen d h role sight
   pub losses : AreLossesCaused d h sight
 
-pub job-shown : (r : RecordView) (d : Description) (h : List Step) (jobs : List JobView) (i : ℕ) (job : JobView) (text : ActorText) (rounds : ℕ) (last : Job) (calls : List Call) → IsRecord r → HasOwners d h jobs → slice_get jobs i ≡ Some job → slice_get r.actors job.actor ≡ Some text
-    → IsLegalRun d h calls → entries_of calls ≡ filter is_call_entry job.sight → EndsWith (lines_talk text.role d r.streams rounds (lines_by job.actor r.lines) (first_job d)) calls (Some last) → job.sight ≡ last.sight → IsShown d h text.role job.sight
-job-shown r d h jobs i job text rounds last calls is_record owners is_job is_text legal told follows same =
+pub job-shown : (r : RecordView) (d : Description) (h : List Step) (jobs : List JobView) (i : ℕ) (job : JobView) (text : ActorText) (wait : Option Waiting) (rounds : ℕ) (last : Job) (calls : List Call) → IsRecord r → HasOwners d h jobs → slice_get jobs i ≡ Some job → slice_get r.actors job.actor ≡ Some text
+    → IsLegalRun d h calls → AreTold wait calls job.sight → EndsWith (lines_talk text.role d r.streams wait rounds (lines_by job.actor r.lines) (first_job d)) calls (Some last) → job.sight ≡ last.sight → IsShown d h text.role job.sight
+job-shown r d h jobs i job text wait rounds last calls is_record owners is_job is_text legal told follows same =
     let lines : List Line = lines_by job.actor r.lines in
     let Q : ℕ → Type 0 = λ client. list_any (is_opened_as client) calls ≡ true in
-    let own : (client : ℕ) → Q client → AreAllOwn client 0 h calls = λ client q place x from at used. own-uses text.role d h r.streams rounds lines jobs i job last calls owners is_job legal told follows client place x q at used in
+    let own : (client : ℕ) → Q client → AreAllOwn client 0 h calls = λ client q place x from at used. own-uses text.role d h r.streams wait rounds lines jobs i job last calls owners is_job legal told follows client place x q at used in
     let history : IsHistory d (reverse h) = history-of-jobs d h jobs owners in
     let c : AreToCome d h Q 0 calls = record { within = omega arith; legal = legal; own = own; opened = opened-among calls calls (λ client k. k) } in
     let stands : JobStands text.role d h Q (place_behind 0 calls) last =
-    lines-stand d h Q history owners.short text.role r.streams rounds lines 0 (first_job d) last calls (its_lines r job.actor text is_text r.lines is_record.commands) c follows (first-stands d h Q history owners.short text.role) in
+    lines-stand d h Q history owners.short text.role r.streams wait rounds lines 0 (first_job d) last calls (its_lines r job.actor text is_text r.lines is_record.commands) c follows (first-stands d h Q history owners.short text.role) in
     let own_events : AreEventsOwn d h last.sight = stands-own d h Q history owners.short text.role (place_behind 0 calls) last stands in
     subst (IsShown d h text.role) (sym same)
     (record {

@@ -17,9 +17,10 @@ use Rattle.inp_reader.specs.declared.reader.TheConstants.{NO_CLIENT}
 use Rattle.inp_reader.specs.Standing.{is_use, is_use_of}
 use Rattle.inp_reader.specs.Talk.{EndsWith}
 use Rattle.inp_reader.proofs.Calls.{IsPlaceOf}
+use Rattle.inp_script.specs.declared.waiting.Waiting.{Waiting}
 use Rattle.inp_script.specs.Job.{Job, JobView, first_job}
-use Rattle.inp_script.specs.Legal.{entries_of, is_call_entry}
-use Rattle.inp_runs.specs.Job.{lines_talk}
+use Rattle.inp_runs.specs.Job.{lines_talk, AreTold}
+use Rattle.inp_runs.proofs.Entries.{told-counts}
 use Rattle.inp_runs.proofs.JobClients.{job-names}
 use Rattle.inp_runs.proofs.Listing.{eq_same}
 use Rattle.inp_runs.proofs.Owners.{HasOwners, is_opened_as, own-steps}
@@ -39,10 +40,10 @@ use-names client x h =
     let both : (is_use x ≡ true) × (is_same (client_of x) client ≡ true) = and_parts (is_use x) (is_same (client_of x) client) h in
     same-client (client_of x) client both.1
 
-pub own-uses : (role : Role) (d : Description) (history : List Step) (streams : List (List Stamped)) (rounds : ℕ) (lines : List Line) (jobs : List JobView) (i : ℕ) (job : JobView) (last : Job) (calls : List Call) → HasOwners d history jobs → slice_get jobs i ≡ Some job
-    → IsLegalRun d history calls → entries_of calls ≡ filter is_call_entry job.sight → EndsWith (lines_talk role d streams rounds lines (first_job d)) calls (Some last) → OwnsItsUses history calls
-own-uses role d history streams rounds lines jobs i job last calls owners is_job legal told follows = λ client place x opened at used.
-    own-steps d history jobs i job (record { calls = calls; legal = legal; told = told; names = (job-names role d streams rounds lines last calls follows).0 }) client place x owners is_job opened at (use-names client x used)
+pub own-uses : (role : Role) (d : Description) (history : List Step) (streams : List (List Stamped)) (wait : Option Waiting) (rounds : ℕ) (lines : List Line) (jobs : List JobView) (i : ℕ) (job : JobView) (last : Job) (calls : List Call) → HasOwners d history jobs → slice_get jobs i ≡ Some job
+    → IsLegalRun d history calls → AreTold wait calls job.sight → EndsWith (lines_talk role d streams wait rounds lines (first_job d)) calls (Some last) → OwnsItsUses history calls
+own-uses role d history streams wait rounds lines jobs i job last calls owners is_job legal told follows = λ client place x opened at used.
+    own-steps d history jobs i job (record { calls = calls; legal = legal; told = told-counts wait calls job.sight told; names = (job-names role d streams wait rounds lines last calls follows).0 }) client place x owners is_job opened at (use-names client x used)
 
 abbrev first_holds : List Case → Bool
 first_holds [] = false

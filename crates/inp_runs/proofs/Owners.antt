@@ -27,20 +27,21 @@ use Rattle.inp_reader.specs.Talk.{EndsWith}
 use Rattle.inp_model.proofs.Refused.{refused-not_accepted}
 use Rattle.inp_reader.proofs.Calls.{IsPlaceOf}
 use Rattle.inp_script.specs.declared.sight.Sight.{Sight}
+use Rattle.inp_script.specs.declared.waiting.Waiting.{Waiting}
 use Rattle.inp_script.specs.Job.{Job, JobView, first_job}
-use Rattle.inp_script.specs.Legal.{entries_of, is_call_entry}
+use Rattle.inp_script.specs.Legal.{entries_of}
 use Rattle.inp_script.specs.Line.{client_after}
-use Rattle.inp_runs.specs.Job.{lines_talk, entries_at}
-use Rattle.inp_runs.proofs.Entries.{call_entries, entries, entries-append, entries-calls, entries-call}
+use Rattle.inp_runs.specs.Job.{lines_talk, entries_at, AreTold}
+use Rattle.inp_runs.proofs.Entries.{entries, entries-cons_call, told-counts}
 use Rattle.inp_runs.proofs.JobClients.{NameLast, job-names}
 use Rattle.inp_runs.proofs.Listing.{eq_same, eq_true}
 
--- The calls of a job: a legal run of the history, those that its sight tells of, and each names no client but the one that
--- the job opened last.
+-- The calls of a job: a legal run of the history, with the places of those that its sight tells of, and each names no client
+-- but the one that the job opened last.
 pub record AreCallsOf (d : Description) (history : List Step) (job : JobView) : Type 0 where
   pub calls : List Call
   pub legal : IsLegalRun d history calls
-  pub told : entries_of calls ≡ filter is_call_entry job.sight
+  pub told : (place : ℕ) → entries place (entries_of calls) ≡ entries place job.sight
   pub names : NameLast NO_CLIENT calls
 
 -- Each job of a device has its calls, and each place of the history is the place of one accepted call of one job.
@@ -49,10 +50,10 @@ pub record HasOwners (d : Description) (history : List Step) (jobs : List JobVie
   pub once : (place : ℕ) → entries_at place jobs ≡ (if nat_lt place (length history) then 1 else 0)
   pub short : length history < NO_CLIENT
 
-pub calls-of : (role : Role) (d : Description) (history : List Step) (streams : List (List Stamped)) (rounds : ℕ) (lines : List Line) (job : JobView) (last : Job) (calls : List Call)
-    → IsLegalRun d history calls → entries_of calls ≡ filter is_call_entry job.sight → EndsWith (lines_talk role d streams rounds lines (first_job d)) calls (Some last) → AreCallsOf d history job
-calls-of role d history streams rounds lines job last calls legal told follows =
-    record { calls = calls; legal = legal; told = told; names = (job-names role d streams rounds lines last calls follows).0 }
+pub calls-of : (role : Role) (d : Description) (history : List Step) (streams : List (List Stamped)) (wait : Option Waiting) (rounds : ℕ) (lines : List Line) (job : JobView) (last : Job) (calls : List Call)
+    → IsLegalRun d history calls → AreTold wait calls job.sight → EndsWith (lines_talk role d streams wait rounds lines (first_job d)) calls (Some last) → AreCallsOf d history job
+calls-of role d history streams wait rounds lines job last calls legal told follows =
+    record { calls = calls; legal = legal; told = told-counts wait calls job.sight told; names = (job-names role d streams wait rounds lines last calls follows).0 }
 
 -- no client has the last number
 pub short-history : (d : Description) (history : List Step) → IsDescription d → length history ≤ d.log_limit → length history < NO_CLIENT
@@ -104,11 +105,6 @@ has-one f (z ∷ xs) h = elim (cases_lt 0 (f z)) [
 
 -- Places
 
-entries-cons_call : (place : ℕ) (call : Call) (calls : List Call) → entries place (entries_of (call ∷ calls)) ≡ (if is_accepted call.answer.reply && nat_eq (place_of call.answer.reply) place then 1 else 0) + entries place (entries_of calls)
-entries-cons_call place call calls =
-    entries-append place (call_entries call.step call.answer.reply) (entries_of calls)
-    ∙ ap (λ (n : ℕ). n + entries place (entries_of calls)) (entries-call place call.step call.answer.reply)
-
 one-if : (a b : Bool) → a ≡ true → b ≡ true → ◌≡◌ {A = ℕ} (if a && b then 1 else 0) 1
 one-if true true h k = refl
 one-if true false h k = absurd (true≢false (sym k))
@@ -134,10 +130,6 @@ counts-place place (call ∷ calls) h =
     by true true e f n more k = inl (e, eq_same (place_of call.answer.reply) place f)
     by true false e f n more k = inr (more (omega (arith, k)))
     by false b e f n more k = inr (more (omega (arith, k)))
-
--- a place of a job's calls, by what its sight tells
-sight-counts : (place : ℕ) (job : JobView) (calls : List Call) → entries_of calls ≡ filter is_call_entry job.sight → entries place (entries_of calls) ≡ entries place job.sight
-sight-counts place job calls told = ap (λ (es : List Sight). entries place es) told ∙ entries-calls place job.sight
 
 -- Openings
 
@@ -311,7 +303,7 @@ one-there d history jobs place x owners at =
 
 -- a job whose calls have this place
 counts-at : (d : Description) (history : List Step) (place : ℕ) (job : JobView) (a : AreCallsOf d history job) → IsPlaceOf place a.calls → 1 ≤ entries place job.sight
-counts-at d history place job a h = omega (arith, place-counts place a.calls h, sight-counts place job a.calls a.told)
+counts-at d history place job a h = omega (arith, place-counts place a.calls h, a.told place)
 
 -- two jobs never open the same client
 pub opened-by-one : (d : Description) (history : List Step) (jobs : List JobView) (i k client : ℕ) (one other : JobView) (a : AreCallsOf d history one) (b : AreCallsOf d history other) → HasOwners d history jobs → slice_get jobs i ≡ Some one → slice_get jobs k ≡ Some other
@@ -345,7 +337,7 @@ maker-of d history jobs place x owners at =
       job = maker.item;
       is_job = maker.is;
       of_it = a;
-      made = counts-place place a.calls (omega (arith, maker.some, sight-counts place maker.item a.calls a.told));
+      made = counts-place place a.calls (omega (arith, maker.some, a.told place));
     }
 
 -- what made a step that names an opened client opened it
@@ -357,10 +349,10 @@ maker-opens d history client place x job a made at names other =
     by (inl is) = absurd (other (sym is))
     by (inr h) = h
 
-place-moves : (place : ℕ) (one other : JobView) (calls more : List Call) → entries_of calls ≡ filter is_call_entry one.sight → entries_of more ≡ filter is_call_entry other.sight → one ≡ other → IsPlaceOf place calls → IsPlaceOf place more
+place-moves : (place : ℕ) (one other : JobView) (calls more : List Call) → entries place (entries_of calls) ≡ entries place one.sight → entries place (entries_of more) ≡ entries place other.sight → one ≡ other → IsPlaceOf place calls → IsPlaceOf place more
 place-moves place one other calls more told also same h =
     counts-place place more
-    (omega (arith, place-counts place calls h, sight-counts place one calls told, ap (λ (j : JobView). entries place j.sight) same, sight-counts place other more also))
+    (omega (arith, place-counts place calls h, told, ap (λ (j : JobView). entries place j.sight) same, also))
 
 -- A step that names a client which a job opened is one of its calls.
 pub own-steps : (d : Description) (history : List Step) (jobs : List JobView) (i : ℕ) (job : JobView) (a : AreCallsOf d history job) (client place : ℕ) (x : Step) → HasOwners d history jobs → slice_get jobs i ≡ Some job
@@ -369,7 +361,7 @@ own-steps d history jobs i job a client place x owners is_job opened at names =
     let m : IsMaker d history jobs place = maker-of d history jobs place x owners at in
     let other : client ≡ NO_CLIENT → ⊥ = no-client history client a.calls owners.short (opened-at d history 0 client a.calls a.legal opened) in
     let its : list_any (is_opened_as client) m.of_it.calls ≡ true = maker-opens d history client place x m.job m.of_it m.made at names other in
-    place-moves place m.job job m.of_it.calls a.calls m.of_it.told a.told (opened-by-one d history jobs m.index i client m.job job m.of_it a owners m.is_job is_job its opened) m.made
+    place-moves place m.job job m.of_it.calls a.calls (m.of_it.told place) (a.told place) (opened-by-one d history jobs m.index i client m.job job m.of_it a owners m.is_job is_job its opened) m.made
 
 -- Steps that nothing refused
 

@@ -13,6 +13,7 @@ use Rattle.inp_model.specs.Reply.{is_accepted}
 use Rattle.inp_model.specs.Run.{IsLegalRun, place_of}
 use Rattle.inp_model.specs.Run as model
 use Rattle.inp_actors.specs.declared.role.Role.{Role}
+use Rattle.inp_actors.specs.declared.role.Role.TheVariants.{Source}
 use Rattle.inp_actors.specs.declared.actor_text.ActorText.{ActorText}
 use Rattle.inp_actors.specs.declared.device_text.DeviceText.{DeviceText}
 use Rattle.inp_actors.specs.declared.line.Line.{Line}
@@ -23,10 +24,12 @@ use Rattle.inp_reader.specs.Talk.{Talk, finish, and_then, EndsWith}
 use Rattle.inp_script.specs.declared.run.Run.{Run}
 use Rattle.inp_script.specs.declared.sight.Sight.{Sight}
 use Rattle.inp_script.specs.declared.sight.Sight.TheVariants.{Call, Took}
-use Rattle.inp_script.specs.Doing.{line_talk}
+use Rattle.inp_script.specs.declared.waiting.Waiting.{Waiting}
+use Rattle.inp_script.specs.Doing.{line_talk, source_count}
 use Rattle.inp_script.specs.Fold.{IsFolded}
 use Rattle.inp_script.specs.Job.{Job, JobView, first_job, job_end}
-use Rattle.inp_script.specs.Legal.{entries_of, is_call_entry}
+use Rattle.inp_script.specs.Legal.{entries_of, is_call_entry, LeavesOut}
+use Rattle.inp_script.specs.Line.{end_talk}
 use Rattle.inp_script.specs.Runs.{AreRunsOf}
 use Rattle.inp_runs.specs.JobViews.{AreEventsOwn, AreReportsSeen, ShowsTheState, reads_as, index_in_history, sight_view}
 use Rattle.inp_runs.specs.Losses.{AreLossesCaused}
@@ -39,11 +42,19 @@ abbrev pub on_job : (Job → Talk (Option Job)) → Option Job → Talk (Option 
 on_job next None = finish None
 on_job next (Some j) = next j
 
--- what an actor does at its lines, one after another, each in at most so many rounds; nobody waits
-unfoldable pub lines_talk : Role → Description → List (List Stamped) → ℕ → List Line → Job → Talk (Option Job)
-lines_talk role d streams rounds [] j = finish (Some j)
-lines_talk role d streams rounds (line ∷ lines) j =
-    and_then (line_talk role d streams None rounds line.command j) (on_job (lines_talk role d streams rounds lines))
+-- What an actor does when its lines are done: where lines wait, a source that did not stop says that it is done, and
+-- nobody else does anything.
+abbrev pub last_talk : Option Waiting → Role → Job → Talk (Option Job)
+last_talk None role j = finish (Some j)
+last_talk (Some waiting) Source j = end_talk j.stop j
+last_talk (Some waiting) role j = finish (Some j)
+
+-- What an actor does at its lines, one after another, each in at most so many rounds, and when they are done. Where nobody
+-- waits a line ends at the first answer Again.
+unfoldable pub lines_talk : Role → Description → List (List Stamped) → Option Waiting → ℕ → List Line → Job → Talk (Option Job)
+lines_talk role d streams wait rounds [] j = last_talk wait role j
+lines_talk role d streams wait rounds (line ∷ lines) j =
+    and_then (line_talk role d streams wait rounds line.command j) (on_job (lines_talk role d streams wait rounds lines))
 
 -- the step was refused for want of memory
 abbrev pub is_no_memory : Reply → Bool
@@ -54,18 +65,29 @@ is_no_memory _ = false
 abbrev pub lacks_memory : model.Call → Bool
 lacks_memory call = is_no_memory call.answer.reply
 
+-- The sight tells of these calls, but for some that were answered Again.
+pub record TellsAllBut (calls : List model.Call) (sight : List Sight) : Type 0 where
+  pub kept : List model.Call
+  pub part : LeavesOut kept calls
+  pub entries : entries_of kept ≡ filter is_call_entry sight
+
+-- The calls are those that the sight tells of. Where lines wait it leaves out the answers Again that they waited through.
+abbrev pub AreTold : Option Waiting → List model.Call → List Sight → Type 0
+AreTold None calls sight = entries_of calls ≡ filter is_call_entry sight
+AreTold (Some waiting) calls sight = TellsAllBut calls sight
+
 -- What came of a job: its calls are a legal run of the device's history, none of them lacked memory, and its sight and its
 -- view are what its lines and the answers to these calls make.
-pub record IsJob (r : RecordView) (d : Description) (history : List Step) (role : Role) (job : JobView) : Type 0 where
+pub record IsJob (r : RecordView) (d : Description) (wait : Option Waiting) (history : List Step) (role : Role) (job : JobView) : Type 0 where
   pub calls : List model.Call
   pub legal : IsLegalRun d history calls
   pub memory : list_any lacks_memory calls ≡ false
-  -- the calls are those that its sight tells of
-  pub told : entries_of calls ≡ filter is_call_entry job.sight
+  -- they are those that its sight tells of
+  pub told : AreTold wait calls job.sight
   pub rounds : ℕ
   pub last : Job
   -- it follows its lines
-  pub follows : EndsWith (lines_talk role d r.streams rounds (lines_by job.actor r.lines) (first_job d)) calls (Some last)
+  pub follows : EndsWith (lines_talk role d r.streams wait rounds (lines_by job.actor r.lines) (first_job d)) calls (Some last)
   -- each event that it took is the one of its own index among those that its client took
   pub own : AreEventsOwn d history job.sight
   -- each loss that it took has its cause
@@ -85,9 +107,9 @@ entries_at place jobs = sum_by (λ (job : JobView). count_by (is_entry_at place)
 
 -- What came of a device: one history within the limit; each of its jobs follows its lines on that history; and each place
 -- of the history is the place of exactly one accepted call of exactly one job.
-pub record IsRun (r : RecordView) (d : Description) (run : Run) : Type 0 where
+pub record IsRun (r : RecordView) (d : Description) (wait : Option Waiting) (run : Run) : Type 0 where
   pub within : length run.history ≤ d.log_limit
-  pub jobs : (i : ℕ) (job : JobView) (text : ActorText) → slice_get run.jobs i ≡ Some job → slice_get r.actors job.actor ≡ Some text → IsJob r d run.history text.role job
+  pub jobs : (i : ℕ) (job : JobView) (text : ActorText) → slice_get run.jobs i ≡ Some job → slice_get r.actors job.actor ≡ Some text → IsJob r d wait run.history text.role job
   -- each step of the history was accepted after those before it
   pub accepted : IsHistory d (reverse run.history)
   -- the history is faithful to each client
@@ -100,17 +122,24 @@ pub record IsRun (r : RecordView) (d : Description) (run : Run) : Type 0 where
 abbrev pub AreDescribed : RecordView → Type 0
 AreDescribed r = (i : ℕ) (device : DeviceText) → slice_get r.devices i ≡ Some device → IsDescription device.caps
 
--- What came of a record: one run for each device, with one job for each of its actors, and each run is as above.
-pub record ArePromised (r : RecordView) (runs : List Run) : Type 0 where
+-- How the lines of the device of this number wait: through so many answers Again in a row at most, and not once all sources
+-- of the device are done. Without a number nobody waits.
+abbrev pub wait_of : Option ℕ → RecordView → ℕ → Option Waiting
+wait_of None r device = None
+wait_of (Some idle) r device = Some (record { idle = idle; sources = source_count r device })
+
+-- What came of a record: one run for each device, with one job for each of its actors, and each run is as above. With a
+-- number, lines waited so.
+pub record ArePromised (idle : Option ℕ) (r : RecordView) (runs : List Run) : Type 0 where
   pub runs_of : AreRunsOf r runs
-  pub each : (i : ℕ) (device : DeviceText) (run : Run) → slice_get r.devices i ≡ Some device → slice_get runs i ≡ Some run → IsRun r device.caps run
+  pub each : (i : ℕ) (device : DeviceText) (run : Run) → slice_get r.devices i ≡ Some device → slice_get runs i ≡ Some run → IsRun r device.caps (wait_of idle r i) run
 
 -- at each report that a job took, its view up to then is the device's state at the end of that report's frame, where its
 -- client could follow the device up to there
 abbrev pub JobsShowTheDevice : Type 0
 JobsShowTheDevice =
-    (r : RecordView) (d : Description) (run : Run) (i k : ℕ) (job : JobView) (text : ActorText) (taken : Taken)
-    → IsRun r d run → slice_get run.jobs i ≡ Some job → slice_get r.actors job.actor ≡ Some text
+    (r : RecordView) (d : Description) (wait : Option Waiting) (run : Run) (i k : ℕ) (job : JobView) (text : ActorText) (taken : Taken)
+    → IsRun r d wait run → slice_get run.jobs i ≡ Some job → slice_get r.actors job.actor ≡ Some text
     → slice_get job.sight k ≡ Some (Took taken) → is_report taken.event ≡ true
     → (let sight = take (suc k) job.sight in
     ShowsTheState d (reverse run.history) (reads_as sight) (index_in_history d run.history sight) taken (sight_view text.role d run.history sight))

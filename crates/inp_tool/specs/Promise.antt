@@ -64,7 +64,7 @@ IsOutOfMemory r = (r.after ≡ r.before) ⊎ RanOut r
 -- What came of a record: each job's replies are the one-thread device's at their places in one history, its sight follows
 -- its lines, and each place of the history is in one sight (`inp_runs`). The lines were done in file order.
 pub record CameOf (recorded : RecordView) (runs : List Run) : Type 0 where
-  pub promised : ArePromised recorded runs
+  pub promised : ArePromised None recorded runs
   pub in_order : IsPlay recorded runs
 
 -- the record in FILE was read with its streams and played, and the text is its report
