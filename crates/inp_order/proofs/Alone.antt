@@ -15,7 +15,7 @@ use Rattle.inp_model.specs.Leaves.{AreCalls}
 use Rattle.inp_reader.specs.Talk.{Talk, finish, ask, LeadsTo, EndsWith}
 use Rattle.inp_script.specs.Job.{Job}
 use Rattle.inp_order.specs.Play.{talk_with}
-use Rattle.inp_runs.proofs.Memory.{GivesUp}
+use Rattle.inp_runs.proofs.Memory.{GivesUp, never_both}
 
 -- A call leaves no fewer places of others than there were
 
@@ -97,11 +97,6 @@ next_call d a m call same full few h = by_flag (is_accepted call.answer.reply) h
         }
 
 -- All calls of a talk
-
-never_both : (calls : List Call) (j : Job) → EndsWith (finish None) calls (Some j) → ⊥
-unfolding LeadsTo
-never_both [] j h = cc
-never_both (call ∷ calls) j h = h
 
 calls-alone : (d : Description) (a b : EvdevView) (talk : Talk (Option Job)) (calls : List Call) (j : Job) → a.description ≡ d → length a.own ≡ length a.seen → length b.own ≡ length b.seen → GivesUp talk → EndsWith talk calls (Some j) → AreCalls a b calls
     → talk_with d (reverse a.seen) talk ≡ (Some j, reverse b.seen)

@@ -2,12 +2,11 @@
 use Rattle.std.proofs.Common.{◌≡◌, ℕ, ◌<◌, ◌≤◌, Bool, true, false, if◌then◌else◌, List, [], ◌∷◌, ◌++◌, length, reverse, refl, sym, ap, subst, ◌∙◌, arith, inl, None}
 use Rattle.std.specs.List.{list_any}
 use Rattle.inp_model.specs.declared.step.Step.{Step}
-use Rattle.inp_model.specs.declared.step.Step.TheVariants.{Open}
 use Rattle.inp_model.specs.declared.reply.Reply.{Reply}
 use Rattle.inp_model.specs.Description.{Description}
 use Rattle.inp_model.specs.DeviceView.{evdev_view}
 use Rattle.inp_model.specs.Evdev.{EvdevView, BeginsWith, agains_after}
-use Rattle.inp_model.specs.Reply.{Answer, answer, refused, accepted, past_after, is_accepted}
+use Rattle.inp_model.specs.Reply.{Answer, answer, refused, past_after, is_accepted}
 use Rattle.inp_model.specs.Run.{Call, IsLegalRun, place_of}
 use Rattle.inp_model.proofs.Telling.{called_by, given_place}
 use Rattle.inp_model.specs.Leaves.{AreCalls}
@@ -17,7 +16,9 @@ use Rattle.inp_reader.proofs.Efforts.{place-below}
 use Rattle.inp_script.proofs.Replies.{answer_has}
 use Rattle.inp_script.proofs.Runs.{runs-on}
 use Rattle.inp_model.proofs.Leaves.{seen-kept}
-use Rattle.inp_runs.specs.Job.{is_no_memory, lacks_memory}
+use Rattle.inp_runs.specs.Job.{lacks_memory}
+use Rattle.inp_runs.proofs.Leaving.{AreAnswered}
+use Rattle.inp_runs.proofs.Memory.{answered-memory}
 use Rattle.inp_order.specs.Play.{talk_with}
 
 -- the calls of a talk, after this past
@@ -93,18 +94,13 @@ exact-legal d past after before calls e h l =
 
 -- Memory does not run out
 
-memory_when_accepted : (d : Description) (past : List Step) (x : Step) → is_no_memory (accepted d past x).reply ≡ false
-memory_when_accepted d past Open = refl
-memory_when_accepted d past _ = refl
-
-answer-memory : (d : Description) (past : List Step) (x : Step) → is_no_memory (answer d past x).reply ≡ false
-answer-memory d past x = answer_has (λ given. is_no_memory given.reply ≡ false) d past x (λ refusal is. is.memory) (λ none. memory_when_accepted d past x)
+-- each of these calls was answered after some past
+pub exact-answered : (d : Description) (past after : List Step) (calls : List Call) → AreExact d past after calls → AreAnswered d calls
+exact-answered d past after [] e = tt
+exact-answered d past after (call ∷ calls) e = (past, e.0, exact-answered d (past_after call.answer.reply call.step past) after calls e.1)
 
 pub exact-memory : (d : Description) (past after : List Step) (calls : List Call) → AreExact d past after calls → list_any lacks_memory calls ≡ false
-exact-memory d past after [] e = refl
-exact-memory d past after (call ∷ calls) e =
-    let first : lacks_memory call ≡ false = ap (λ (a : Answer). is_no_memory a.reply) e.0 ∙ answer-memory d past call.step in
-    rw first (exact-memory d (past_after call.answer.reply call.step past) after calls e.1)
+exact-memory d past after calls e = answered-memory d calls (exact-answered d past after calls e)
 
 -- The history stays within its limit
 

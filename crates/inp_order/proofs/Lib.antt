@@ -1,7 +1,4 @@
 pub mod Calls
-pub mod Leaving
-pub mod ReaderTalks
-pub mod LineTalks
 pub mod Places
 pub mod LineDone
 pub mod Stages

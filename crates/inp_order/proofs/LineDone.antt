@@ -14,9 +14,9 @@ use Rattle.inp_script.specs.Doing.{line_talk}
 use Rattle.inp_script.specs.Job.{Job, ActorView}
 use Rattle.inp_script.specs.Legal.{entries_of}
 use Rattle.inp_order.specs.Play.{Stage, talk_with, after_line_of, after_line}
-use Rattle.inp_order.proofs.Calls.{AreExact, calls_with, talk_with-ends, talk_with-exact}
-use Rattle.inp_order.proofs.Leaving.{leaves-with}
-use Rattle.inp_order.proofs.LineTalks.{IsKept, IsKeptIfSome, leaves-line}
+use Rattle.inp_order.proofs.Calls.{AreExact, calls_with, talk_with-ends, talk_with-exact, exact-answered}
+use Rattle.inp_runs.proofs.Leaving.{leaves-ends}
+use Rattle.inp_runs.proofs.LineTalks.{IsKept, IsKeptIfSome, leaves-line}
 use Rattle.inp_runs.proofs.Listing.{IsImage, option_map-some}
 
 -- An actor did a line on its device, after this past and up to the other one.
@@ -57,7 +57,7 @@ line_was_done r rounds stage now line text a past is_text is_actor is_past h =
       ends = subst (λ (o : Option Job). EndsWith talk (calls_with d past talk) o) image.is (talk_with-ends d past talk);
       exact = talk_with-exact d past talk;
       kept = λ entries k. subst (λ (o : Option Job). IsKeptIfSome d o (entries ++ entries_of (calls_with d past talk))) image.is
-          (leaves-with d (IsKeptIfSome d) entries past talk (leaves-line a.role d r.streams rounds line.command a.job entries k));
+          (leaves-ends d (IsKeptIfSome d) entries talk (calls_with d past talk) done.0 (exact-answered d past done.1 (calls_with d past talk) (talk_with-exact d past talk)) (talk_with-ends d past talk) (leaves-line a.role d r.streams rounds line.command a.job entries k));
       pasts = ap (λ (s : Stage). s.pasts) (sym image.same);
       actors = ap (λ (s : Stage). s.actors) (sym image.same);
     }

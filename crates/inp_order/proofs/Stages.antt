@@ -25,7 +25,7 @@ use Rattle.inp_order.specs.Play.{Stage, description_at, after_line, after_lines}
 use Rattle.inp_order.proofs.Calls.{AreExact, exact-grows, exact-legal, exact-memory, exact-within, exact-history}
 use Rattle.inp_order.proofs.LineDone.{IsLineDone, line-done}
 use Rattle.inp_runs.proofs.LineRuns.{lines_talk-more, lines_by-more, lines_by-other}
-use Rattle.inp_order.proofs.LineTalks.{IsKept}
+use Rattle.inp_runs.proofs.LineTalks.{IsKept}
 use Rattle.inp_runs.proofs.Listing.{eq_true, eq_false, slice_get-set, map-set_same, slice_get-range, sum_by-replaced}
 use Rattle.inp_runs.proofs.Entries.{entries, below}
 use Rattle.inp_order.proofs.Places.{entries-gained}

@@ -1,6 +1,6 @@
 -- At each report that a job took, its view is its client's in the history, and each loss that it took has its cause.
 use Rattle.std.proofs.Common.{◌≡◌, ◌<◌, inl, inr, ℕ, Bool, true, false, ◌||◌, List, [], ◌∷◌, ◌++◌, length, map, take, reverse, suc, refl, sym, ap, subst, ◌∙◌, arith, append-nil, if◌then◌else◌, Option, Some, None}
-use Rattle.std.specs.Prelude.{filter, slice_get}
+use Rattle.std.specs.Prelude.{slice_get}
 use Rattle.std.specs.List.{list_any}
 use Rattle.std.proofs.lemmas.Bool.{eq-eqb}
 use Rattle.inp_model.specs.declared.stamped.Stamped.{Stamped}

@@ -1,8 +1,11 @@
 pub mod Listing
 pub mod LineRuns
-pub mod Memory
 pub mod Entries
 pub mod Folded
+pub mod Leaving
+pub mod ReaderTalks
+pub mod LineTalks
+pub mod Memory
 pub mod JobClients
 pub mod Owners
 pub mod OwnUses
@@ -14,3 +17,6 @@ pub mod TapViews
 pub mod ClientReadings
 pub mod ClientReports
 pub mod JobViews
+pub mod JobTold
+pub mod JobSizes
+pub mod Done

@@ -1,19 +1,23 @@
 -- A line whose Open was refused for want of memory leaves no job.
-use Rattle.std.proofs.Common.{◌≡◌, ℕ, zero, suc, Bool, true, false, if◌then◌else◌, List, [], ◌∷◌, ◌++◌, Option, Some, None, refl, ap}
+use Rattle.std.proofs.Common.{◌≡◌, ℕ, zero, suc, Bool, true, false, if◌then◌else◌, List, [], ◌∷◌, ◌++◌, length, Option, Some, None, refl, sym, ap, subst, ◌∙◌, inl, inr}
 use Rattle.std.specs.Prelude.{Result, Ok, Err}
+use Rattle.std.specs.List.{list_any}
 use Rattle.inp_model.specs.declared.event.TheConstants.{EV_KEY, EV_LED, EV_SW}
 use Rattle.inp_model.specs.declared.stamped.Stamped.{Stamped}
 use Rattle.inp_model.specs.declared.taken.Taken.{Taken}
 use Rattle.inp_model.specs.declared.step.Step.{Step}
-use Rattle.inp_model.specs.declared.step.Step.TheVariants.{Open as ToOpen, Discard, GetKeys, GetSwitches, GetLeds, SyncSlots, Inject}
+use Rattle.inp_model.specs.declared.step.Step.TheVariants.{Open as ToOpen, Discard, GetKeys, GetSwitches, GetLeds, SyncSlots, Inject, End}
 use Rattle.inp_model.specs.declared.reply.Reply.{Reply}
 use Rattle.inp_model.specs.declared.reply.Reply.TheVariants.{Opened, Refused}
 use Rattle.inp_model.specs.declared.reply.Refusal.TheVariants.{NoMemory}
 use Rattle.inp_model.specs.Description.{Description, has_kind}
 use Rattle.inp_model.specs.Step.{is_open_step}
-use Rattle.inp_model.specs.Reply.{Answer, alone, is_accepted}
+use Rattle.inp_model.specs.Past.{past_at}
+use Rattle.inp_model.specs.Reply.{Answer, answer, accepted, alone, is_accepted}
+use Rattle.inp_model.specs.Run.{Call, HasPlace, IsLegalFrom, place_of, next_place}
 use Rattle.inp_actors.specs.declared.command.Command.{Command}
 use Rattle.inp_actors.specs.declared.command.Command.TheVariants.{Stream, Open, Next, Skip, Follow, Force}
+use Rattle.inp_actors.specs.declared.line.Line.{Line}
 use Rattle.inp_actors.specs.declared.role.Role.{Role}
 use Rattle.inp_actors.specs.declared.role.Role.TheVariants.{Source, Client, Tap}
 use Rattle.inp_actors.specs.Command.{is_command_of}
@@ -27,15 +31,19 @@ use Rattle.inp_reader.specs.declared.phase.Phase.TheVariants.{Plain, Needed, Han
 use Rattle.inp_reader.specs.declared.reader.TheConstants.{NO_CLIENT}
 use Rattle.inp_reader.specs.declared.started.Started.{Started}
 use Rattle.inp_reader.specs.Reading.{Reading, ask_each, only_if, bit_queries, axis_queries, slot_queries, plain_axes, queries, start_talk, after_open, after_queries, read_or_hand_out, read_talk, plain_talk, as_plain, go_on, go_on_after, after_full_sync, sync_talk, talk_in, next_talk}
-use Rattle.inp_reader.specs.Talk.{Talk, finish, ask, and_then}
+use Rattle.inp_reader.specs.Talk.{Talk, finish, ask, and_then, LeadsTo, EndsWith}
 use Rattle.inp_script.specs.declared.sight.Sight.{Sight}
 use Rattle.inp_script.specs.declared.stop.Stop.{Stop}
 use Rattle.inp_script.specs.declared.waiting.Waiting.{Waiting}
 use Rattle.inp_script.specs.Client.{Going, Turn, goes_on, ends_with, is_done, mode_of, start_ends, start_job, after_next, next_round, on_turn, rounds, hand_talk, client_talk}
 use Rattle.inp_script.specs.Doing.{command_talk, unless_stopped, line_talk}
 use Rattle.inp_script.specs.Job.{Job}
-use Rattle.inp_script.specs.Line.{step_of, call_if, after_call, stream_talk, stream_at, source_talk, tap_call_if}
+use Rattle.inp_script.specs.Line.{step_of, call_if, after_call, stream_talk, stream_at, source_talk, end_talk, tap_call_if}
 use Rattle.inp_script.specs.Sight.{noted, call_sight}
+use Rattle.inp_script.proofs.Replies.{answer_has}
+use Rattle.inp_runs.specs.Job.{on_job, last_talk, lines_talk, is_no_memory, lacks_memory}
+use Rattle.inp_runs.proofs.Folded.{AreOfRole}
+use Rattle.inp_runs.proofs.Leaving.{AreAnswered}
 
 -- where an Open is refused for want of memory nothing more is asked, and there is no job
 abbrev pub GivesUp : Talk (Option Job) → Type 0
@@ -226,3 +234,67 @@ gives_up-line role d streams wait n command j h = by_stop j.stop
     by_stop : (stop : Option Stop) → GivesUp (unless_stopped stop j (command_talk role d streams wait n command j))
     by_stop None = gives_up-command role d streams wait n command j h
     by_stop (Some stop) = tt
+
+-- Lines, one after another
+
+gives_up-then : (talk : Talk (Option Job)) (next : Option Job → Talk (Option Job)) → GivesUp talk → next None ≡ finish None → ((o : Option Job) → GivesUp (next o)) → GivesUp (and_then talk next)
+gives_up-then (finish o) next h none more = more o
+gives_up-then (ask x rest) next h none more = (
+  λ e n. ap (λ (t : Talk (Option Job)). and_then t next) (h.0 e n) ∙ none,
+  λ answer. gives_up-then (rest answer) next (h.1 answer) none more,
+)
+
+gives_up-end : (stop : Option Stop) (j : Job) → GivesUp (end_talk stop j)
+gives_up-end None j = ((λ e n. absurd (other_step End refl e)), λ answer. tt)
+gives_up-end (Some stop) j = tt
+
+gives_up-last : (wait : Option Waiting) (role : Role) (j : Job) → GivesUp (last_talk wait role j)
+gives_up-last None role j = tt
+gives_up-last (Some waiting) Source j = gives_up-end j.stop j
+gives_up-last (Some waiting) Client j = tt
+gives_up-last (Some waiting) Tap j = tt
+
+pub gives_up-lines : (role : Role) (d : Description) (streams : List (List Stamped)) (wait : Option Waiting) (n : ℕ) (lines : List Line) (j : Job) → AreOfRole role lines → GivesUp (lines_talk role d streams wait n lines j)
+unfolding lines_talk
+gives_up-lines role d streams wait n [] j of_role = gives_up-last wait role j
+gives_up-lines role d streams wait n (line ∷ lines) j of_role =
+    gives_up-then (line_talk role d streams wait n line.command j) (on_job (lines_talk role d streams wait n lines)) (gives_up-line role d streams wait n line.command j of_role.0) refl
+    (by (λ (mid : Job). gives_up-lines role d streams wait n lines mid of_role.1))
+  where
+    by : ((mid : Job) → GivesUp (lines_talk role d streams wait n lines mid)) → (o : Option Job) → GivesUp (on_job (lines_talk role d streams wait n lines) o)
+    by more None = tt
+    by more (Some mid) = more mid
+
+-- Calls of a talk that left a job
+
+memory_when_accepted : (d : Description) (past : List Step) (x : Step) → is_no_memory (accepted d past x).reply ≡ false
+memory_when_accepted d past ToOpen = refl
+memory_when_accepted d past _ = refl
+
+answer-memory : (d : Description) (past : List Step) (x : Step) → is_no_memory (answer d past x).reply ≡ false
+answer-memory d past x = answer_has (λ given. is_no_memory given.reply ≡ false) d past x (λ refusal is. is.memory) (λ none. memory_when_accepted d past x)
+
+pub answered-memory : (d : Description) (calls : List Call) → AreAnswered d calls → list_any lacks_memory calls ≡ false
+answered-memory d [] answered = refl
+answered-memory d (call ∷ calls) answered =
+    let first : lacks_memory call ≡ false = ap (λ (a : Answer). is_no_memory a.reply) answered.1 ∙ answer-memory d answered.0 call.step in
+    rw first (answered-memory d calls answered.2)
+
+pub never_both : (calls : List Call) (j : Job) → EndsWith (finish None) calls (Some j) → ⊥
+unfolding LeadsTo
+never_both [] j h = cc
+never_both (call ∷ calls) j h = h
+
+-- memory ran out in none of them
+pub talk-answered : (d : Description) (history : List Step) (least : ℕ) (talk : Talk (Option Job)) (calls : List Call) (j : Job) → GivesUp talk → IsLegalFrom d history least calls → EndsWith talk calls (Some j) → AreAnswered d calls
+unfolding LeadsTo
+talk-answered d history least talk [] j g legal ends = tt
+talk-answered d history least (finish o) (call ∷ calls) j g legal ends = elim ends [ ]
+talk-answered d history least (ask x rest) (call ∷ calls) j g legal ends =
+    let past : List Step = past_at history (place_of call.answer.reply) in
+    elim (let p : HasPlace d history call = legal.1 in p.exact) [
+      | inl e ↦ (past, e, talk-answered d history (next_place call.answer.reply) (rest call.answer) calls j (g.1 call.answer) legal.2 ends.1)
+      | inr lacks ↦
+          let none : rest call.answer ≡ finish None = ap rest lacks.2 ∙ g.0 (sym ends.0 ∙ lacks.0) (length past) in
+          absurd (never_both calls j (subst (λ (t : Talk (Option Job)). EndsWith t calls (Some j)) none ends.1))
+    ]

@@ -1,6 +1,6 @@
 -- Each step of a device's history that names a client is a call of the job that opened it.
 use Rattle.std.proofs.Common.{◌≡◌, ◌⊎◌, ℕ, zero, suc, ◌+◌, ◌<◌, ◌≤◌, Bool, true, false, ◌&&◌, ◌||◌, if◌then◌else◌, nat_eq, nat_lt, List, [], ◌∷◌, ◌++◌, length, take, reverse, refl, sym, ap, subst, ◌∙◌, arith, inl, inr, Option, Some, None}
-use Rattle.std.specs.Prelude.{filter, slice_get}
+use Rattle.std.specs.Prelude.{slice_get}
 use Rattle.std.specs.List.{list_any, sum_by}
 use Rattle.std.proofs.lemmas.Bool.{true≢false, cases_lt, cond-true, lt-ltb}
 use Rattle.std.proofs.lemmas.List.{reverse-append, length-reverse, length-take, take_all}
@@ -26,7 +26,6 @@ use Rattle.inp_reader.specs.declared.reader.TheConstants.{NO_CLIENT}
 use Rattle.inp_reader.specs.Talk.{EndsWith}
 use Rattle.inp_model.proofs.Refused.{refused-not_accepted}
 use Rattle.inp_reader.proofs.Calls.{IsPlaceOf}
-use Rattle.inp_script.specs.declared.sight.Sight.{Sight}
 use Rattle.inp_script.specs.declared.waiting.Waiting.{Waiting}
 use Rattle.inp_script.specs.Job.{Job, JobView, first_job}
 use Rattle.inp_script.specs.Legal.{entries_of}
@@ -88,13 +87,13 @@ only-one f (z ∷ xs) (suc i) (suc k) x y h j most m n =
     only-one f xs i k x y h j (omega (arith, most, sum_by-cons f z xs)) m n
 
 -- an item that counts
-record Counts {X : Type 0} (f : X → ℕ) (xs : List X) : Type 0 where
-  index : ℕ
-  item : X
-  is : slice_get xs index ≡ Some item
-  some : 1 ≤ f item
+pub record Counts {X : Type 0} (f : X → ℕ) (xs : List X) : Type 0 where
+  pub index : ℕ
+  pub item : X
+  pub is : slice_get xs index ≡ Some item
+  pub some : 1 ≤ f item
 
-has-one : {X : Type 0} (f : X → ℕ) (xs : List X) → 1 ≤ sum_by f xs → Counts f xs
+pub has-one : {X : Type 0} (f : X → ℕ) (xs : List X) → 1 ≤ sum_by f xs → Counts f xs
 has-one f [] h = absurd (omega (arith, h))
 has-one f (z ∷ xs) h = elim (cases_lt 0 (f z)) [
   | inl some ↦ record { index = 0; item = z; is = refl; some = omega (arith, some) }
@@ -119,7 +118,7 @@ place-counts place (call ∷ calls) (inr h) =
     let more : 1 ≤ entries place (entries_of calls) = place-counts place calls h in
     omega (arith, more, entries-cons_call place call calls)
 
-counts-place : (place : ℕ) (calls : List Call) → 1 ≤ entries place (entries_of calls) → IsPlaceOf place calls
+pub counts-place : (place : ℕ) (calls : List Call) → 1 ≤ entries place (entries_of calls) → IsPlaceOf place calls
 unfolding IsPlaceOf
 counts-place place [] h = absurd (omega (arith, h))
 counts-place place (call ∷ calls) h =

@@ -2,3 +2,4 @@ pub mod JobViews
 pub mod IndexExamples
 pub mod Losses
 pub mod Job
+pub mod Done

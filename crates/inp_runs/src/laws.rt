@@ -1,6 +1,24 @@
 //! What is true of all that is promised of runs, by the definitions alone.
 ghost use Rattle.inp_runs.specs.IndexExamples.{CountsBehindTheLastRead, TellsEqualEventsApart, CountsAcceptedReadsOfItsClient};
+ghost use Rattle.inp_runs.specs.Done.{AllAsPromised, DevicesDoneArePromised};
 ghost use Rattle.inp_runs.specs.Job.{JobsShowTheDevice};
+
+/// What comes of a device whose actors did all their lines is promised, in whatever order their steps were made. It does
+/// nothing: its contract is the point.
+///
+/// Let each actor's calls be a legal run of the device's history and its job be what its lines and the answers to these
+/// calls make, let its view have the device's slots, and let each place of the history be one accepted call of one actor
+/// (`IsDeviceDone`). Then all that is promised of a run holds of the history and of what came of the actors
+/// (`IsRunAsPromised`).
+pub fn devices_done_are_promised()
+    ensures promised { DevicesDoneArePromised }
+{}
+
+/// Where all is promised of what came of each device, all is promised of what came of the record. It does nothing: its
+/// contract is the point.
+pub fn all_as_promised()
+    ensures promised { AllAsPromised }
+{}
 
 /// At each report that a job took, its view up to then is the device's state at the end of that report's frame, where its
 /// client could follow the device up to there. It does nothing: its contract is the point.

@@ -9,8 +9,13 @@
 //! place is one accepted call of one job; `specs/Losses.antt` and `specs/JobViews.antt` say why a job lost events, and what
 //! its view is at each report. So a job's view is the device's state where its client could follow
 //! ([`jobs_show_the_device`]).
+//!
+//! What a player must show for it stands in `specs/Done.antt`: that each actor followed its lines on one history, of which
+//! each place is one accepted call of one actor ([`devices_done_are_promised`], [`all_as_promised`]).
 #![tactic(auto)]
 
 mod laws;
 
-pub use laws::{indices_on_a_short_sight, jobs_show_the_device};
+pub use laws::{
+    all_as_promised, devices_done_are_promised, indices_on_a_short_sight, jobs_show_the_device,
+};

@@ -10,6 +10,7 @@ use Rattle.inp_model.specs.Description.{Description}
 use Rattle.inp_model.specs.Reply.{Answer, answer, is_accepted}
 use Rattle.inp_actors.specs.declared.command.Command.{Command}
 use Rattle.inp_actors.specs.declared.command.Command.TheVariants.{Stream, Open, Next as ToNext, Skip, Follow, Force}
+use Rattle.inp_actors.specs.declared.line.Line.{Line}
 use Rattle.inp_actors.specs.declared.role.Role.{Role}
 use Rattle.inp_actors.specs.declared.role.Role.TheVariants.{Source, Client, Tap}
 use Rattle.inp_recon.specs.View.{IsSizedFor, view_after_answer}
@@ -31,9 +32,10 @@ use Rattle.inp_script.specs.Legal.{is_call_entry}
 use Rattle.inp_script.specs.Line.{step_of, after_call, call_if, stream_talk, stream_at, source_talk, event_of_taken, after_tap_call, tap_call_if}
 use Rattle.inp_script.specs.Sight.{call_sight, again_sight, taken_sight, sight_of_call, noted, lacks_memory, start_lacks_memory}
 use Rattle.inp_script.proofs.Told.{no_calls_taken, call_kept, again_kept}
+use Rattle.inp_runs.specs.Job.{on_job, lines_talk}
 use Rattle.inp_runs.proofs.Entries.{call_entries}
-use Rattle.inp_order.proofs.Leaving.{Leaves, leaves-then, leaves-noted}
-use Rattle.inp_order.proofs.ReaderTalks.{IsStarted, IsNext, again_of, sized-answered, answers-start, answers-next}
+use Rattle.inp_runs.proofs.Leaving.{Leaves, leaves-then, leaves-noted}
+use Rattle.inp_runs.proofs.ReaderTalks.{IsStarted, IsNext, again_of, sized-answered, answers-start, answers-next}
 
 -- the job's view has the device's slots, and its sight tells of these calls
 abbrev pub IsKept : Description → Job → List Sight → Type 0
@@ -186,3 +188,15 @@ leaves_unless d (Some stop) j talk entries h more = h
 pub leaves-line : (role : Role) (d : Description) (streams : List (List Stamped)) (n : ℕ) (command : Command) (j : Job) (entries : List Sight) → IsKept d j entries → Leaves d (IsKeptIfSome d) entries (line_talk role d streams None n command j)
 unfolding line_talk
 leaves-line role d streams n command j entries h = leaves_unless d j.stop j (command_talk role d streams None n command j) entries h (leaves-command role d streams n command j entries h)
+
+-- Lines, one after another
+pub leaves-lines : (role : Role) (d : Description) (streams : List (List Stamped)) (n : ℕ) (lines : List Line) (j : Job) (entries : List Sight) → IsKept d j entries → Leaves d (IsKeptIfSome d) entries (lines_talk role d streams None n lines j)
+unfolding lines_talk
+leaves-lines role d streams n [] j entries h = h
+leaves-lines role d streams n (line ∷ lines) j entries h =
+    leaves-then d (IsKeptIfSome d) (IsKeptIfSome d) entries (line_talk role d streams None n line.command j) (on_job (lines_talk role d streams None n lines)) (leaves-line role d streams n line.command j entries h)
+    (λ o es k. by o es (λ (mid : Job) m. leaves-lines role d streams n lines mid es m) k)
+  where
+    by : (o : Option Job) (es : List Sight) → ((mid : Job) → IsKept d mid es → Leaves d (IsKeptIfSome d) es (lines_talk role d streams None n lines mid)) → IsKeptIfSome d o es → Leaves d (IsKeptIfSome d) es (on_job (lines_talk role d streams None n lines) o)
+    by None es more k = tt
+    by (Some mid) es more k = more mid k

@@ -1,0 +1,253 @@
+-- What comes of a device whose actors did all their lines is promised.
+use Rattle.std.proofs.Common.{◌≡◌, ℕ, ◌+◌, ◌<◌, ◌≤◌, Bool, true, if◌then◌else◌, nat_lt, List, [], ◌∷◌, length, map, reverse, refl, sym, ap, subst, ◌∙◌, arith, inl, inr, Option, Some, None}
+use Rattle.std.specs.Prelude.{slice_get, option_map}
+use Rattle.std.specs.List.{range_with_len, sum_by}
+use Rattle.std.proofs.lemmas.Bool.{cases_lt}
+use Rattle.std.proofs.lemmas.Bool.Decides.{nat_tests}
+use Rattle.std.proofs.lemmas.List.Sums.{sum_by-cons}
+use Rattle.std.proofs.lemmas.Option.{same_Some, slice_get-map, slice_get_within}
+use Rattle.inp_model.specs.declared.step.Step.{Step}
+use Rattle.inp_model.specs.Description.{Description, IsDescription}
+use Rattle.inp_model.specs.History.{IsHistory}
+use Rattle.inp_model.specs.Past.{past_at}
+use Rattle.inp_model.specs.Run.{Call, HasPlace, IsLegalFrom, place_of, next_place}
+use Rattle.inp_actors.specs.declared.actor_text.ActorText.{ActorText}
+use Rattle.inp_actors.specs.declared.device_text.DeviceText.{DeviceText}
+use Rattle.inp_actors.specs.declared.line.Line.{Line}
+use Rattle.inp_actors.specs.Record.{RecordView, IsRecord}
+use Rattle.inp_recon.specs.View.{IsSizedFor}
+use Rattle.inp_recon.proofs.FaithfulHistories.{faithful_by_reads}
+use Rattle.inp_recon.proofs.FaithfulReads.{reads-faithful}
+use Rattle.inp_reader.specs.Talk.{Talk}
+use Rattle.inp_reader.proofs.Calls.{IsPlaceOf}
+use Rattle.inp_reader.proofs.Efforts.{place-below}
+use Rattle.inp_script.specs.declared.run.Run.{Run}
+use Rattle.inp_script.specs.declared.waiting.Waiting.{Waiting}
+use Rattle.inp_script.specs.Fold.{IsFolded}
+use Rattle.inp_script.specs.Job.{ActorView, Job, JobView, first_job, job_end}
+use Rattle.inp_script.specs.Legal.{entries_of}
+use Rattle.inp_script.specs.Runs.{is_on_device, actors_of, IsRunOf}
+use Rattle.inp_runs.specs.Done.{HasFollowed, IsDeviceDone, IsRunAsPromised, calls_at}
+use Rattle.inp_runs.specs.Job.{lines_by, lines_talk, entries_at, AreTold, IsJob, IsRun, ArePromised, wait_of}
+use Rattle.inp_runs.specs.JobViews.{AreReportsSeen}
+use Rattle.inp_runs.proofs.Entries.{entries, told-counts}
+use Rattle.inp_runs.proofs.Folded.{its_lines, view-folded}
+use Rattle.inp_runs.proofs.JobSizes.{job-sized}
+use Rattle.inp_runs.proofs.JobTold.{job-told}
+use Rattle.inp_runs.proofs.JobViews.{IsShown, job-shown}
+use Rattle.inp_runs.proofs.Leaving.{AreAnswered}
+use Rattle.inp_runs.proofs.Listing.{IsAt, IsImage, option_map-some, slice_get-filter}
+use Rattle.inp_runs.proofs.Memory.{answered-memory, gives_up-lines, talk-answered}
+use Rattle.inp_runs.proofs.Owners.{AreCallsOf, Counts, HasOwners, calls-of, counts-place, has-one, history-of-jobs, short-history}
+
+-- One actor
+
+-- the calls of one that did its lines were answered
+followed-answered : (r : RecordView) (d : Description) (wait : Option Waiting) (history : List Step) (text : ActorText) (a : ActorView) → IsRecord r → slice_get r.actors a.actor ≡ Some text → (f : HasFollowed r d wait history text.role a) → AreAnswered d f.calls
+followed-answered r d wait history text a is_record is_text f =
+    let lines : List Line = lines_by a.actor r.lines in
+    let talk : Talk (Option Job) = lines_talk text.role d r.streams wait f.rounds lines (first_job d) in
+    talk-answered d history 0 talk f.calls a.job (gives_up-lines text.role d r.streams wait f.rounds lines (first_job d) (its_lines r a.actor text is_text r.lines is_record.commands)) f.legal f.follows
+
+followed-told : (r : RecordView) (d : Description) (wait : Option Waiting) (history : List Step) (text : ActorText) (a : ActorView) → IsRecord r → slice_get r.actors a.actor ≡ Some text → (f : HasFollowed r d wait history text.role a) → AreTold wait f.calls a.job.sight
+followed-told r d wait history text a is_record is_text f =
+    job-told text.role d r.streams wait f.rounds (lines_by a.actor r.lines) a.job f.calls (followed-answered r d wait history text a is_record is_text f) f.follows
+
+-- the place of an accepted call is one of the history, and below its limit
+place-within : (d : Description) (history : List Step) (least place : ℕ) (calls : List Call) → IsLegalFrom d history least calls → IsPlaceOf place calls → (place < length history) × (place < d.log_limit)
+unfolding IsPlaceOf
+place-within d history least place [] legal h = absurd h
+place-within d history least place (call ∷ calls) legal (inl same) =
+    let p : HasPlace d history call = legal.1 in
+    let at : ℕ = place_of call.answer.reply in
+    let here : at < length history = slice_get_within history at call.step (p.entered same.0) in
+    let below : at < d.log_limit = place-below d (past_at history at) call.step call.answer p.exact same.0 in
+    (omega (arith, same.1, here), omega (arith, same.1, below))
+place-within d history least place (call ∷ calls) legal (inr h) = place-within d history (next_place call.answer.reply) place calls legal.2 h
+
+is_job : (r : RecordView) (d : Description) (wait : Option Waiting) (history : List Step) (a : ActorView) (text : ActorText) → IsRecord r → slice_get r.actors a.actor ≡ Some text → HasFollowed r d wait history text.role a → IsShown d history text.role a.job.sight → IsJob r d wait history text.role (job_end a)
+is_job r d wait history a text is_record is_text f shown = record {
+  calls = f.calls;
+  legal = f.legal;
+  memory = answered-memory d f.calls (followed-answered r d wait history text a is_record is_text f);
+  told = followed-told r d wait history text a is_record is_text f;
+  rounds = f.rounds;
+  last = a.job;
+  follows = f.follows;
+  own = shown.own;
+  losses = shown.losses;
+  folded = view-folded r d history wait f.rounds a.actor text a.job f.calls is_record is_text f.legal f.follows;
+  ended = refl;
+}
+
+-- The actors of a device
+
+-- an actor of the device, with what it did
+record IsActorOf (r : RecordView) (i : ℕ) (d : Description) (wait : Option Waiting) (history : List Step) (a : ActorView) : Type 0 where
+  text : ActorText
+  is_text : slice_get r.actors a.actor ≡ Some text
+  followed : HasFollowed r d wait history text.role a
+
+its_text : (i : ℕ) (o : Option ActorText) → is_on_device i o ≡ true → (text : ActorText) × (o ≡ Some text)
+its_text i None h = absurd cc
+its_text i (Some text) h = (text, refl)
+
+actor_of : (idle : Option ℕ) (r : RecordView) (i : ℕ) (d : Description) (history : List Step) (actors : List ActorView) (k : ℕ) (a : ActorView) → IsDeviceDone idle r i d history actors → slice_get actors k ≡ Some a → IsActorOf r i d (wait_of idle r i) history a
+actor_of idle r i d history actors k a s h =
+    let number : ActorView → ℕ = λ (b : ActorView). b.actor in
+    let on : ℕ → Bool = λ (n : ℕ). is_on_device i (slice_get r.actors n) in
+    let there : slice_get (actors_of r.actors i) k ≡ Some a.actor =
+    ap (λ (ns : List ℕ). slice_get ns k) (sym s.numbers) ∙ slice_get-map number actors k ∙ ap (λ (o : Option ActorView). option_map number o) h in
+    let at : IsAt on (range_with_len 0 (length r.actors)) a.actor = slice_get-filter on (range_with_len 0 (length r.actors)) k a.actor there in
+    let text = its_text i (slice_get r.actors a.actor) at.passes in
+    record { text = text.0; is_text = text.1; followed = s.each k a text.0 h text.1 }
+
+-- an actor that counts at a place has a call there
+called-within : (idle : Option ℕ) (r : RecordView) (i : ℕ) (d : Description) (history : List Step) (actors : List ActorView) (k place : ℕ) (a : ActorView) → IsRecord r → IsDeviceDone idle r i d history actors → slice_get actors k ≡ Some a → 1 ≤ calls_at place a → (place < length history) × (place < d.log_limit)
+called-within idle r i d history actors k place a is_record s h some =
+    let wait : Option Waiting = wait_of idle r i in
+    let its : IsActorOf r i d wait history a = actor_of idle r i d history actors k a s h in
+    let f : HasFollowed r d wait history its.text.role a = its.followed in
+    let counted : entries place (entries_of f.calls) ≡ entries place a.job.sight = told-counts wait f.calls a.job.sight (followed-told r d wait history its.text a is_record its.is_text f) place in
+    place-within d history 0 place f.calls f.legal (counts-place place f.calls (omega (arith, some, counted)))
+
+counts-within : (idle : Option ℕ) (r : RecordView) (i : ℕ) (d : Description) (history : List Step) (actors : List ActorView) (place : ℕ) → IsRecord r → IsDeviceDone idle r i d history actors → 1 ≤ sum_by (calls_at place) actors → (place < length history) × (place < d.log_limit)
+counts-within idle r i d history actors place is_record s some =
+    let one : Counts (calls_at place) actors = has-one (calls_at place) actors some in
+    called-within idle r i d history actors one.index place one.item is_record s one.is one.some
+
+-- so the history is within its limit
+within-limit : (idle : Option ℕ) (r : RecordView) (i : ℕ) (d : Description) (history : List Step) (actors : List ActorView) → IsRecord r → IsDeviceDone idle r i d history actors → length history ≤ d.log_limit
+within-limit idle r i d history actors is_record s = elim (cases_lt d.log_limit (length history)) [
+  | inl over ↦
+      (let sum : sum_by (calls_at d.log_limit) actors ≡ 1 = s.once d.log_limit over in
+      let below = counts-within idle r i d history actors d.log_limit is_record s (omega (arith, sum)) in
+      absurd (omega (arith, below.1)))
+  | inr within ↦ within
+]
+
+-- and each place counts once, and no other number does
+pub sum-ends : (place : ℕ) (actors : List ActorView) → entries_at place (map job_end actors) ≡ sum_by (calls_at place) actors
+sum-ends place [] = refl
+sum-ends place (a ∷ actors) =
+    sum_by-cons (λ (job : JobView). entries place job.sight) (job_end a) (map job_end actors)
+    ∙ ap (λ (n : ℕ). calls_at place a + n) (sum-ends place actors)
+    ∙ sym (sum_by-cons (calls_at place) a actors)
+
+one_or_none : (sum place long : ℕ) → (place < long → sum ≡ 1) → (1 ≤ sum → place < long) → sum ≡ (if nat_lt place long then 1 else 0)
+one_or_none sum place long below above = elim (cases_lt place long) [
+  | inl less ↦ (let one : sum ≡ 1 = below less in grind (arith, nat_tests, one, less))
+  | inr more ↦
+      (let none : sum ≡ 0 = (elim (cases_lt 0 sum) [
+        | inl some ↦ absurd (omega (arith, above (omega (arith, some)), more))
+        | inr zero_sum ↦ omega (arith, zero_sum)
+      ]) in
+      grind (arith, nat_tests, none, more))
+]
+
+once-each : (idle : Option ℕ) (r : RecordView) (i : ℕ) (d : Description) (history : List Step) (actors : List ActorView) → IsRecord r → IsDeviceDone idle r i d history actors → (place : ℕ) → entries_at place (map job_end actors) ≡ (if nat_lt place (length history) then 1 else 0)
+once-each idle r i d history actors is_record s = λ place.
+    sum-ends place actors
+    ∙ one_or_none (sum_by (calls_at place) actors) place (length history) (s.once place)
+    (λ some. (let w = counts-within idle r i d history actors place is_record s some in w.0))
+
+-- The jobs of a device
+
+record IsEndOf (r : RecordView) (i : ℕ) (d : Description) (wait : Option Waiting) (history : List Step) (job : JobView) : Type 0 where
+  actor : ActorView
+  same : job_end actor ≡ job
+  of_device : IsActorOf r i d wait history actor
+
+end_of : (idle : Option ℕ) (r : RecordView) (i : ℕ) (d : Description) (history : List Step) (actors : List ActorView) (k : ℕ) (job : JobView) → IsDeviceDone idle r i d history actors → slice_get (map job_end actors) k ≡ Some job → IsEndOf r i d (wait_of idle r i) history job
+end_of idle r i d history actors k job s h =
+    let image : IsImage job_end (slice_get actors k) job = option_map-some job_end (slice_get actors k) job (sym (slice_get-map job_end actors k) ∙ h) in
+    record { actor = image.from; same = image.same; of_device = actor_of idle r i d history actors k image.from s image.is }
+
+-- its role is that of the actor that it names
+same_text : (r : RecordView) (i : ℕ) (d : Description) (wait : Option Waiting) (history : List Step) (job : JobView) (text : ActorText) (e : IsEndOf r i d wait history job) → slice_get r.actors job.actor ≡ Some text → (let its : IsActorOf r i d wait history e.actor = e.of_device in its.text) ≡ text
+same_text r i d wait history job text e is_text =
+    let its : IsActorOf r i d wait history e.actor = e.of_device in
+    let actor_is : job.actor ≡ e.actor.actor = ap (λ (j : JobView). j.actor) (sym e.same) in
+    same_Some its.text text (sym its.is_text ∙ ap (λ (n : ℕ). slice_get r.actors n) (sym actor_is) ∙ is_text)
+
+owners-of : (idle : Option ℕ) (r : RecordView) (i : ℕ) (d : Description) (history : List Step) (actors : List ActorView) → IsRecord r → IsDescription d → IsDeviceDone idle r i d history actors → HasOwners d history (map job_end actors)
+owners-of idle r i d history actors is_record described s = record {
+  each = λ k job h.
+      let wait : Option Waiting = wait_of idle r i in
+      let e : IsEndOf r i d wait history job = end_of idle r i d history actors k job s h in
+      let its : IsActorOf r i d wait history e.actor = e.of_device in
+      let f : HasFollowed r d wait history its.text.role e.actor = its.followed in
+      subst (AreCallsOf d history) e.same
+      (calls-of its.text.role d history r.streams wait f.rounds (lines_by e.actor.actor r.lines) (job_end e.actor) e.actor.job f.calls f.legal (followed-told r d wait history its.text e.actor is_record its.is_text f) f.follows);
+  once = once-each idle r i d history actors is_record s;
+  short = short-history d history described (within-limit idle r i d history actors is_record s);
+}
+
+-- what the sight of a job shows
+shown-of : (r : RecordView) (i : ℕ) (d : Description) (wait : Option Waiting) (history : List Step) (jobs : List JobView) (k : ℕ) (job : JobView) → IsRecord r → HasOwners d history jobs → slice_get jobs k ≡ Some job → (e : IsEndOf r i d wait history job) → (let its : IsActorOf r i d wait history e.actor = e.of_device in IsShown d history its.text.role e.actor.job.sight)
+shown-of r i d wait history jobs k job is_record owners h e =
+    let its : IsActorOf r i d wait history e.actor = e.of_device in
+    let f : HasFollowed r d wait history its.text.role e.actor = its.followed in
+    job-shown r d history jobs k (job_end e.actor) its.text wait f.rounds e.actor.job f.calls is_record owners (h ∙ ap (λ (j : JobView). Some j) (sym e.same)) its.is_text f.legal
+    (followed-told r d wait history its.text e.actor is_record its.is_text f) f.follows refl
+
+is_run : (idle : Option ℕ) (r : RecordView) (i : ℕ) (d : Description) (history : List Step) (actors : List ActorView) → IsRecord r → IsDescription d → IsDeviceDone idle r i d history actors → IsRun r d (wait_of idle r i) (record { history = history; jobs = map job_end actors })
+is_run idle r i d history actors is_record described s =
+    let wait : Option Waiting = wait_of idle r i in
+    let jobs : List JobView = map job_end actors in
+    let owners : HasOwners d history jobs = owners-of idle r i d history actors is_record described s in
+    let past : IsHistory d (reverse history) = history-of-jobs d history jobs owners in
+    record {
+      within = within-limit idle r i d history actors is_record s;
+      jobs = λ k job text h is_text.
+          let e : IsEndOf r i d wait history job = end_of idle r i d history actors k job s h in
+          let its : IsActorOf r i d wait history e.actor = e.of_device in
+          subst (λ (x : ActorText). IsJob r d wait history x.role job) (same_text r i d wait history job text e is_text)
+          (subst (λ (j : JobView). IsJob r d wait history its.text.role j) e.same
+          (is_job r d wait history e.actor its.text is_record its.is_text its.followed (shown-of r i d wait history jobs k job is_record owners h e)));
+      accepted = past;
+      faithful = λ client. faithful_by_reads reads-faithful d (reverse history) client described past;
+      seen = λ k job text h is_text.
+          let e : IsEndOf r i d wait history job = end_of idle r i d history actors k job s h in
+          let its : IsActorOf r i d wait history e.actor = e.of_device in
+          let shown : IsShown d history its.text.role e.actor.job.sight = shown-of r i d wait history jobs k job is_record owners h e in
+          subst (λ (x : ActorText). AreReportsSeen d history x.role job.sight) (same_text r i d wait history job text e is_text)
+          (subst (λ (j : JobView). AreReportsSeen d history its.text.role j.sight) e.same shown.seen);
+      once = once-each idle r i d history actors is_record s;
+    }
+
+ends_numbers : (actors : List ActorView) → map (λ (job : JobView). job.actor) (map job_end actors) ≡ map (λ (a : ActorView). a.actor) actors
+ends_numbers [] = refl
+ends_numbers (a ∷ actors) = ap (λ (ns : List ℕ). a.actor ∷ ns) (ends_numbers actors)
+
+is_run_of : (idle : Option ℕ) (r : RecordView) (i : ℕ) (device : DeviceText) (history : List Step) (actors : List ActorView) → IsRecord r → IsDeviceDone idle r i device.caps history actors → IsRunOf r.actors i device (record { history = history; jobs = map job_end actors })
+is_run_of idle r i device history actors is_record s = record {
+  jobs = ends_numbers actors ∙ s.numbers;
+  views = λ k job h.
+      let d : Description = device.caps in
+      let wait : Option Waiting = wait_of idle r i in
+      let e : IsEndOf r i d wait history job = end_of idle r i d history actors k job s h in
+      let its : IsActorOf r i d wait history e.actor = e.of_device in
+      let f : HasFollowed r d wait history its.text.role e.actor = its.followed in
+      let folded : IsFolded its.text.role d history e.actor.job = view-folded r d history wait f.rounds e.actor.actor its.text e.actor.job f.calls is_record its.is_text f.legal f.follows in
+      subst (λ (j : JobView). IsSizedFor d.slots j.view) e.same (job-sized its.text.role d history e.actor.job folded f.cells);
+}
+
+pub device-promised : (idle : Option ℕ) (r : RecordView) (i : ℕ) (device : DeviceText) (history : List Step) (actors : List ActorView) → IsRecord r → IsDescription device.caps → IsDeviceDone idle r i device.caps history actors
+    → IsRunAsPromised idle r i device (record { history = history; jobs = map job_end actors })
+device-promised idle r i device history actors is_record described s = record {
+  run_of = is_run_of idle r i device history actors is_record s;
+  is_run = is_run idle r i device.caps history actors is_record described s;
+}
+
+-- All devices
+
+pub all-promised : (idle : Option ℕ) (r : RecordView) (runs : List Run) → length runs ≡ length r.devices
+    → ((i : ℕ) (device : DeviceText) (run : Run) → slice_get r.devices i ≡ Some device → slice_get runs i ≡ Some run → IsRunAsPromised idle r i device run) → ArePromised idle r runs
+all-promised idle r runs long each = record {
+  runs_of = record {
+    devices = long;
+    each = λ i device run is_device is_run_. (let p : IsRunAsPromised idle r i device run = each i device run is_device is_run_ in p.run_of);
+  };
+  each = λ i device run is_device is_run_. (let p : IsRunAsPromised idle r i device run = each i device run is_device is_run_ in p.is_run);
+}

@@ -1,0 +1,5 @@
+use Rattle.inp_runs.proofs.Done.{device-promised}
+use Rattle.inp_runs.proofs.laws.devices_done_are_promised.Goals as goal
+
+pub returns : goal.returns
+returns c = record { promised = device-promised }
