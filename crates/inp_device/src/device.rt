@@ -1,5 +1,6 @@
 //! The device.
-ghost use Rattle.std.specs.Prelude.{◌≡◌, ◌≤◌, [], reverse, IfOk};
+ghost use Rattle.std.specs.Prelude.{◌≡◌, ◌≤◌, [], length, reverse, IfOk};
+ghost use Rattle.inp_model.specs.declared.limits.TheConstants.{LOG_MAX};
 ghost use Rattle.inp_model.specs.declared.stamped.TheConstants.{MOMENT_MAX};
 ghost use Rattle.inp_model.specs.History.{IsHistory};
 ghost use Rattle.inp_model.specs.Step.{moment_of};
@@ -118,6 +119,7 @@ impl Device {
     /// The history: the accepted steps, oldest first.
     pub fn history(&self) -> &[Step]
         ensures history { result.now ≡ reverse self.now.past }
+        ensures within { length result.now ≤ LOG_MAX }
     {
         &self.steps
     }

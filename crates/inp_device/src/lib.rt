@@ -12,6 +12,8 @@
 //! A step goes three ways. `Present::refusal` says whether something refuses it, in one order for all steps. Where nothing
 //! does, `Present::accept` makes it; no kind of step tries a refusal of its own. Then `Device::step` enters it in the
 //! history.
+//!
+//! A device is also a kept value of `inp_turn` (`src/kept.rt`), so that threads can use it in turns.
 #![tactic(auto)]
 
 mod cells;
@@ -19,6 +21,7 @@ mod client_steps;
 mod device;
 mod frame_steps;
 mod handler;
+mod kept;
 mod present;
 mod queries;
 mod query_steps;
@@ -27,3 +30,4 @@ mod replies;
 mod words;
 
 pub use device::Device;
+pub use replies::count_again;
