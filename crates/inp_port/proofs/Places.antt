@@ -1,0 +1,102 @@
+-- Places of entries, and of the steps among them, in a longer list.
+use Rattle.std.proofs.Common.{◌≡◌, ℕ, zero, suc, ◌+◌, ◌-◌, ◌<◌, ◌≤◌, Bool, true, false, not, cond, List, [], ◌∷◌, ◌++◌, length, take, refl, sym, ap, ◌∙◌, subst, arith, Option, Some}
+use Rattle.std.specs.Prelude.{All, map, filter, slice_get, is_some}
+use Rattle.std.specs.List.{cons_option, range_with_len}
+use Rattle.std.specs.Option.{option_and_then}
+use Rattle.std.proofs.lemmas.List.{take-append-le, map-append, append-nil}
+use Rattle.std.proofs.lemmas.List.Elements.{All-head, All-tail, All-filter, filter-append, filter_map-append}
+use Rattle.std.proofs.Math.Seq.{take-append_seam}
+use mathlib.Core.List.{IsPrefix}
+use Rattle.inp_model.specs.declared.step.Step.{Step}
+use Rattle.inp_turn.specs.PassView.{added_places}
+use Rattle.inp_port.specs.Entries.{steps_of, is_step_at, steps_before, step_places, other_places}
+
+module _ {X : Type 0} where
+  slice_get-front : (xs ys : List X) (n : ℕ) → n < length xs → slice_get (xs ++ ys) n ≡ slice_get xs n
+  slice_get-front [] ys n l = absurd (omega arith)
+  slice_get-front (x ∷ xs) ys zero l = refl
+  slice_get-front (x ∷ xs) ys (suc n) l = slice_get-front xs ys n (omega arith)
+
+  pub slice_get-seam : (xs ys : List X) (x : X) → slice_get (xs ++ x ∷ ys) (length xs) ≡ Some x
+  slice_get-seam [] ys x = refl
+  slice_get-seam (y ∷ xs) ys x = slice_get-seam xs ys x
+
+  -- tests and functions that agree where something holds do the same with a list of which it holds
+  filter-same : (p q : X → Bool) (P : X → Type 0) → ((x : X) → P x → p x ≡ q x) → (xs : List X) → All P xs → filter p xs ≡ filter q xs
+  filter-same p q P same [] all = refl
+  filter-same p q P same (x ∷ xs) all =
+      let e = same x (All-head P x xs all) in let r = filter-same p q P same xs (All-tail P x xs all) in λ i. cond (e i) (x ∷ r i) (r i)
+
+  map-same : {Y : Type 0} (f g : X → Y) (P : X → Type 0) → ((x : X) → P x → f x ≡ g x) → (xs : List X) → All P xs → map f xs ≡ map g xs
+  map-same f g P same [] all = refl
+  map-same f g P same (x ∷ xs) all = let e = same x (All-head P x xs all) in let r = map-same f g P same xs (All-tail P x xs all) in λ i. e i ∷ r i
+
+  -- a place of a list, and none more than the list has
+  pub added-one : (xs : List X) (x : X) → added_places xs (xs ++ x ∷ []) ≡ length xs ∷ []
+  added-one xs x = let one : length (xs ++ x ∷ []) - length xs ≡ 1 = omega (arith, length-push xs x) in ap (range_with_len (length xs)) one
+    where
+      length-push : (xs : List X) (x : X) → length (xs ++ x ∷ []) ≡ length xs + 1
+      length-push [] x = refl
+      length-push (y ∷ xs) x = omega (arith, length-push xs x)
+
+  pub added-none : (xs : List X) → added_places xs xs ≡ []
+  added-none xs = let none : length xs - length xs ≡ 0 = omega arith in ap (range_with_len (length xs)) none
+
+module _ {E : Type 0} (made : E → Option Step) where
+  -- what was entered later changes nothing before it
+  is_step_at-front : (xs ys : List E) (place : ℕ) → place < length xs → is_step_at made (xs ++ ys) place ≡ is_step_at made xs place
+  is_step_at-front xs ys place l = ap (λ o. is_some (option_and_then made o)) (slice_get-front xs ys place l)
+
+  steps_before-front : (xs ys : List E) (place : ℕ) → place < length xs → steps_before made (xs ++ ys) place ≡ steps_before made xs place
+  steps_before-front xs ys place l = ap (λ es. length (steps_of made es)) (take-append-le place xs ys (omega arith))
+
+  step_places-front : (xs ys : List E) (own : List ℕ) → All (λ place. place < length xs) own → step_places made (xs ++ ys) own ≡ step_places made xs own
+  step_places-front xs ys own all =
+      ap (map (steps_before made (xs ++ ys))) (filter-same (is_step_at made (xs ++ ys)) (is_step_at made xs) (λ place. place < length xs) (is_step_at-front xs ys) own all)
+      ∙ map-same (steps_before made (xs ++ ys)) (steps_before made xs) (λ place. place < length xs) (steps_before-front xs ys) (filter (is_step_at made xs) own) (All-filter (is_step_at made xs) (λ place. place < length xs) own all)
+
+  other_places-front : (xs ys : List E) (own : List ℕ) → All (λ place. place < length xs) own → other_places made (xs ++ ys) own ≡ other_places made xs own
+  other_places-front xs ys own all =
+      filter-same (λ place. not (is_step_at made (xs ++ ys) place)) (λ place. not (is_step_at made xs place)) (λ place. place < length xs) (λ place l. ap not (is_step_at-front xs ys place l)) own all
+
+  -- the same, where a list begins with another one
+  pub step_places-begins : (xs ys : List E) (own : List ℕ) → IsPrefix xs ys → All (λ place. place < length xs) own → step_places made ys own ≡ step_places made xs own
+  step_places-begins xs ys own pre all = ap (λ es. step_places made es own) (sym pre.1) ∙ step_places-front xs pre.0 own all
+
+  pub other_places-begins : (xs ys : List E) (own : List ℕ) → IsPrefix xs ys → All (λ place. place < length xs) own → other_places made ys own ≡ other_places made xs own
+  other_places-begins xs ys own pre all = ap (λ es. other_places made es own) (sym pre.1) ∙ other_places-front xs pre.0 own all
+
+  pub steps-begins : (xs ys : List E) → IsPrefix xs ys → IsPrefix (steps_of made xs) (steps_of made ys)
+  steps-begins xs ys pre = (steps_of made pre.0, sym (filter_map-append made xs pre.0) ∙ ap (steps_of made) pre.1)
+
+  -- one step more
+  pub steps-push : (es : List E) (e : E) (x : Step) → made e ≡ Some x → steps_of made (es ++ e ∷ []) ≡ steps_of made es ++ x ∷ []
+  steps-push es e x is = filter_map-append made es (e ∷ []) ∙ ap (λ (o : Option Step). steps_of made es ++ cons_option o []) is
+
+  is_step_at-end : (es : List E) (e : E) (x : Step) → made e ≡ Some x → is_step_at made (es ++ e ∷ []) (length es) ≡ true
+  is_step_at-end es e x is = ap (λ (o : Option E). is_some (option_and_then made o)) (slice_get-seam es [] e) ∙ ap (λ (o : Option Step). is_some o) is
+
+  step_places-end : (es : List E) (e : E) (x : Step) → made e ≡ Some x → step_places made (es ++ e ∷ []) (length es ∷ []) ≡ length (steps_of made es) ∷ []
+  step_places-end es e x is =
+      ap (λ b. map (steps_before made (es ++ e ∷ [])) (cond b (length es ∷ []) [])) (is_step_at-end es e x is)
+      ∙ ap (λ (l : List E). length (steps_of made l) ∷ []) (take-append_seam es (e ∷ []))
+
+  other_places-end : (es : List E) (e : E) (x : Step) → made e ≡ Some x → other_places made (es ++ e ∷ []) (length es ∷ []) ≡ []
+  other_places-end es e x is = ap (λ b. cond (not b) (length es ∷ []) []) (is_step_at-end es e x is)
+
+  step_places-append : (es : List E) (own more : List ℕ) → step_places made es (own ++ more) ≡ step_places made es own ++ step_places made es more
+  step_places-append es own more =
+      ap (map (steps_before made es)) (filter-append (is_step_at made es) own more)
+      ∙ map-append (steps_before made es) (filter (is_step_at made es) own) (filter (is_step_at made es) more)
+
+  pub step_places-push : (es : List E) (e : E) (x : Step) (own : List ℕ) → made e ≡ Some x
+      → step_places made (es ++ e ∷ []) (own ++ length es ∷ []) ≡ step_places made (es ++ e ∷ []) own ++ length (steps_of made es) ∷ []
+  step_places-push es e x own is =
+      step_places-append (es ++ e ∷ []) own (length es ∷ []) ∙ ap (λ l. step_places made (es ++ e ∷ []) own ++ l) (step_places-end es e x is)
+
+  pub other_places-push : (es : List E) (e : E) (x : Step) (own : List ℕ) → made e ≡ Some x
+      → other_places made (es ++ e ∷ []) (own ++ length es ∷ []) ≡ other_places made (es ++ e ∷ []) own
+  other_places-push es e x own is =
+      filter-append (λ place. not (is_step_at made (es ++ e ∷ []) place)) own (length es ∷ [])
+      ∙ ap (λ l. other_places made (es ++ e ∷ []) own ++ l) (other_places-end es e x is)
+      ∙ append-nil (other_places made (es ++ e ∷ []) own)

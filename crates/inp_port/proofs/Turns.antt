@@ -1,0 +1,108 @@
+-- A call under the turn is an evdev's call for the caller with the pass.
+use Rattle.std.proofs.Common.{◌≡◌, ℕ, ◌+◌, ◌<◌, Bool, true, false, if◌then◌else◌, List, [], ◌∷◌, ◌++◌, length, reverse, refl, sym, ap, ◌∙◌, subst, ℤ, arith, Option, Some}
+use Rattle.std.specs.Prelude.{All}
+use Rattle.std.proofs.lemmas.List.{length-reverse, reverse-reverse, reverse-append, append-nil}
+use mathlib.Core.List.{IsPrefix}
+use Rattle.inp_model.specs.declared.taken.Taken.{Taken}
+use Rattle.inp_model.specs.declared.step.Step.{Step}
+use Rattle.inp_model.specs.declared.reply.Reply.{Reply}
+use Rattle.inp_model.specs.Description.{Description}
+use Rattle.inp_model.specs.History.{IsHistory}
+use Rattle.inp_model.specs.Reply.{Answer, IsAnswer, is_accepted}
+use Rattle.inp_model.specs.Run.{Call, place_of, HasPlace, next_place}
+use Rattle.inp_model.specs.Evdev.{agains_after, own_after, IsCall, IsEvdevCall}
+use Rattle.inp_model.proofs.Telling.{given_place, called_by}
+use Rattle.inp_turn.specs.declared.pass_view.PassView.{PassView}
+use Rattle.inp_turn.specs.PassView.{added_places, OwnsSeen}
+use Rattle.inp_turn.proofs.Prefixes.{prefix-refl, prefix-trans, prefix-length}
+use Rattle.inp_port.specs.Entries.{steps_of, past_of, step_places, other_places, Grown}
+use Rattle.inp_port.specs.Served.{IsServed}
+use Rattle.inp_port.specs.Turn.{IsServedTurn, told_of}
+use Rattle.inp_port.proofs.Places.{added-one, added-none, steps-begins, steps-push, step_places-begins, other_places-begins, step_places-push, other_places-push}
+
+-- one step more, oldest first
+pub turned : (past : List Step) (x : Step) → reverse (x ∷ past) ≡ reverse past ++ x ∷ []
+turned past x =
+    ap reverse (sym (reverse-append (reverse past) (x ∷ []) ∙ ap (λ (ss : List Step). x ∷ ss) (reverse-reverse past)))
+    ∙ reverse-reverse (reverse past ++ x ∷ [])
+
+module _ {E : Type 0} (made : E → Option Step) where
+  pub grown-begins : (found : List E) (x : Step) (b : Bool) (now : List E) → Grown made found x b now → IsPrefix found now
+  grown-begins found x true now g = (g.0 ∷ [], sym g.2)
+  grown-begins found x false now g = subst (IsPrefix found) (sym g) (prefix-refl found)
+
+  -- the steps that are seen after the call
+  seen-now : (found : List E) (x : Step) (b : Bool) (now : List E) → Grown made found x b now → steps_of made now ≡ reverse (if b then x ∷ past_of made found else past_of made found)
+  seen-now found x true now g =
+      ap (steps_of made) g.2 ∙ steps-push made found g.0 x g.1 ∙ ap (λ (ss : List Step). ss ++ x ∷ []) (sym (reverse-reverse (steps_of made found))) ∙ sym (turned (past_of made found) x)
+  seen-now found x false now g = ap (steps_of made) g ∙ sym (reverse-reverse (steps_of made found))
+
+  -- the places that are own after it
+  own-now : (found : List E) (own : List ℕ) (x : Step) (b : Bool) (now : List E) (place : ℕ) → Grown made found x b now → place ≡ length (steps_of made found)
+      → step_places made now (own ++ added_places found now) ≡ (if b then step_places made now own ++ place ∷ [] else step_places made now own)
+  own-now found own x true now place g is =
+      ap (λ (es : List E). step_places made es (own ++ added_places found es)) g.2
+      ∙ ap (λ (l : List ℕ). step_places made (found ++ g.0 ∷ []) (own ++ l)) (added-one found g.0)
+      ∙ step_places-push made found g.0 x own g.1
+      ∙ ap (λ (es : List E). step_places made es own ++ length (steps_of made found) ∷ []) (sym g.2)
+      ∙ ap (λ (n : ℕ). step_places made now own ++ n ∷ []) (sym is)
+  own-now found own x false now place g is =
+      ap (λ (es : List E). step_places made now (own ++ added_places found es)) g ∙ ap (λ (l : List ℕ). step_places made now (own ++ l)) (added-none found) ∙ ap (step_places made now) (append-nil own)
+
+  others-now : (found : List E) (own : List ℕ) (x : Step) (b : Bool) (now : List E) → Grown made found x b now → other_places made now (own ++ added_places found now) ≡ other_places made now own
+  others-now found own x true now g =
+      ap (λ (es : List E). other_places made es (own ++ added_places found es)) g.2
+      ∙ ap (λ (l : List ℕ). other_places made (found ++ g.0 ∷ []) (own ++ l)) (added-one found g.0)
+      ∙ other_places-push made found g.0 x own g.1
+      ∙ ap (λ (es : List E). other_places made es own) (sym g.2)
+  others-now found own x false now g =
+      ap (λ (es : List E). other_places made now (own ++ added_places found es)) g ∙ ap (λ (l : List ℕ). other_places made now (own ++ l)) (added-none found) ∙ ap (other_places made now) (append-nil own)
+
+  -- the call by what was found
+  called_at : (d : Description) (name : List ℕ) (v w : PassView Description E) (found : List E) (x : Step) (given : Answer) (b : Bool) (agains : ℕ) → is_accepted given.reply ≡ b
+      → IsAnswer d (past_of made found) x given → IsHistory d (past_of made found) → OwnsSeen v → IsPrefix v.seen found → Grown made found x b w.seen
+      → w.own ≡ v.own ++ added_places found w.seen → w.turns ≡ v.turns + 1 → w.share ≡ v.share
+      → IsCall (told_of made d name v agains) (told_of made d name w (agains_after given.reply agains)) (record { step = x; answer = given })
+  called_at d name v w found x given b agains enters exact history owns begins grown own turns share =
+      let call : Call = record { step = x; answer = given } in
+      let at : place_of given.reply ≡ length (past_of made found) = given_place d (past_of made found) x given exact in
+      let there : place_of given.reply ≡ length (steps_of made found) = at ∙ length-reverse (steps_of made found) in
+      let c = called_by d (past_of made found) agains x given b enters at exact history in
+      let now = sym (seen-now found x b w.seen grown) in
+      let whole : IsPrefix v.seen w.seen = prefix-trans v.seen found w.seen begins (grown-begins found x b w.seen grown) in
+      let steps = steps-begins made v.seen w.seen whole in
+      record {
+        description = refl;
+        tie = λ i. Some (share i ∷ name ++ (ap (other_places made w.seen) own ∙ others-now found v.own x b w.seen grown ∙ other_places-begins made v.seen w.seen v.own whole owns) i);
+        seen = (steps.0, sym steps.1);
+        fresh = omega (arith, there, prefix-length (steps_of made v.seen) (steps_of made found) (steps-begins made v.seen found begins));
+        long = subst (λ (ss : List Step). length ss ≡ next_place given.reply) now c.long;
+        placed = subst (λ (ss : List Step). HasPlace d ss call) now c.placed;
+        own = ap (step_places made w.seen) own ∙ own-now found v.own x b w.seen (place_of given.reply) grown there
+            ∙ ap (λ (l : List ℕ). if b then l ++ place_of given.reply ∷ [] else l) (step_places-begins made v.seen w.seen v.own whole owns)
+            ∙ ap (λ t. if t then step_places made v.seen v.own ++ place_of given.reply ∷ [] else step_places made v.seen v.own) (sym enters);
+        agains = refl;
+        turns = omega (arith, turns);
+        history = subst (λ (ss : List Step). IsHistory d (reverse ss)) now c.history;
+      }
+
+  pub told_call : (d : Description) (name : List ℕ) (v w : PassView Description E) (x : Step) (reply : Reply) (out new_out : List Taken) (cells new_cells : List ℤ) → OwnsSeen v
+      → IsServedTurn made d v x reply out new_out cells new_cells w
+      → (agains : ℕ) → IsEvdevCall (told_of made d name v agains) (told_of made d name w (agains_after reply agains)) x reply out new_out cells new_cells
+  told_call d name v w x reply out new_out cells new_cells owns t agains =
+      let s = t.served.step in let same : is_accepted reply ≡ is_accepted s.given.reply = ap is_accepted s.replied in
+      record {
+        call = record { step = x; answer = s.given };
+        step = refl;
+        replied = s.replied;
+        out_written = s.out_written;
+        cells_written = s.cells_written;
+        is_call = subst (λ (r : Reply). IsCall (told_of made d name v agains) (told_of made d name w (agains_after r agains)) (record { step = x; answer = s.given })) (sym s.replied)
+            (called_at d name v w t.found x s.given (is_accepted reply) agains (sym same) s.exact t.served.accepted owns t.begins t.served.grown t.own t.turns t.share);
+      }
+
+  -- what the pass has seen is still there
+  pub turn-begins : (d : Description) (v w : PassView Description E) (x : Step) (reply : Reply) (out new_out : List Taken) (cells new_cells : List ℤ)
+      → IsServedTurn made d v x reply out new_out cells new_cells w → IsPrefix v.seen w.seen
+  turn-begins d v w x reply out new_out cells new_cells t =
+      prefix-trans v.seen t.found w.seen t.begins (grown-begins t.found x (is_accepted reply) w.seen t.served.grown)

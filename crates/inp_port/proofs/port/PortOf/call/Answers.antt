@@ -1,0 +1,21 @@
+use Rattle.std.proofs.Common.{sym, ap, subst, rules}
+use mathlib.Core.List.{IsPrefix}
+use Rattle.inp_turn.specs.Shared.{name_of}
+use Rattle.inp_turn.specs.Pass.{view_of}
+use Rattle.inp_model.specs.Reply.{is_accepted}
+use Rattle.inp_port.proofs.Turns.{grown-begins, told_call, turn-begins}
+use Rattle.inp_port.proofs.port.PortOf.call.Goals as goal
+
+pub give-requires-clause-grown : goal.give-requires-clause-grown
+give-requires-clause-grown g c = let entries = g.S.Kept.entries in let now = entries c.serve-reply.new.self in
+    subst (λ s. IsPrefix s now) (sym (ap (λ v. v.seen) c.take-held.ensures.view))
+    (grown-begins g.S.Served.made (entries c.take-held.result.state) c.args.step (is_accepted c.serve-reply.result) now c.serve-reply.ensures.served.grown)
+
+pub returns-clause-seen : goal.returns-clause-seen
+returns-clause-seen g c =
+    turn-begins g.S.Served.made c.args.self.now.caps (view_of c.args.pass.now) (view_of c.give.new.pass) c.args.step c.serve-reply.result c.args.out.now c.serve-reply.new.out c.args.cells.now c.serve-reply.new.cells (search rules)
+
+pub returns-clause-called : goal.returns-clause-called
+returns-clause-called g c =
+    told_call g.S.Served.made c.args.self.now.caps (name_of c.args.self.now.shared) (view_of c.args.pass.now) (view_of c.give.new.pass) c.args.step c.serve-reply.result c.args.out.now c.serve-reply.new.out c.args.cells.now
+    c.serve-reply.new.cells c.args.pass.now.owns_seen (search rules)

@@ -1,0 +1,4 @@
+pub mod Entries
+pub mod Served
+pub mod Turn
+pub mod Port

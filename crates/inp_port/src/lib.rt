@@ -1,0 +1,31 @@
+//! A device that several threads use.
+//!
+//! This crate is for whoever lets threads make steps on one device. [`Port`] shares a `Device` of `inp_device`: a thread
+//! makes steps by a pass, through [`Port::call`](PortOf::call), or by a [`PortClient`], which is an `Evdev` as the device
+//! itself is. [`Port::split`](PortOf::split) makes a pass for another thread, [`Port::join`](PortOf::join) makes one pass
+//! of two, and [`Port::close`](PortOf::close) gives the device back once all passes were joined into one. The crate stands
+//! on `inp_turn`, whose turn each call takes, on `inp_device`, and on `inp_model` for the definitions.
+//!
+//! Its contract: all threads see one history, and each reply is the one-thread device's after the history before its
+//! place. [`Port::call`](PortOf::call) says so twice. Of the entries, by `IsServedTurn` in `specs/Turn.antt`: one turn was
+//! taken, the step was answered from the entries that were found then, these begin with all that the pass had seen, and an
+//! accepted step is the last entry and its place the pass's own. And in the words of `Evdev`, by `IsCallBy` in
+//! `specs/Port.antt`: whatever the count of answers `Again`, the call is an evdev's for the caller with this pass. A
+//! [`PortClient`] is an `Evdev` by that, whose turns rise with each call and whose tie is its pass's share and its port.
+//!
+//! What is shared need not be a `Device`. [`Served`] says what a kept value needs to be served so: it makes the steps of a
+//! device, and may keep entries that are no steps. [`PortOf`] and [`PortClientOf`] are for any such value, and
+//! [`PortOf::shared`] is for calls of it that are no steps.
+//!
+//! Only [`PortOf::new`] takes memory, and a step what the device takes for it. Nothing says that a call gets its turn, or who
+//! is served first.
+#![tactic(auto)]
+
+mod client;
+mod device;
+mod port;
+mod served;
+
+pub use client::{PortClient, PortClientOf};
+pub use port::{Port, PortOf};
+pub use served::Served;
