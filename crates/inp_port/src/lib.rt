@@ -25,6 +25,8 @@ mod client;
 mod device;
 mod port;
 mod served;
+#[cfg(test)]
+mod tests;
 
 pub use client::{PortClient, PortClientOf};
 pub use port::{Port, PortOf};
