@@ -1,6 +1,5 @@
 -- A call under the turn is an evdev's call for the caller with the pass.
-use Rattle.std.proofs.Common.{◌≡◌, ℕ, ◌+◌, ◌<◌, Bool, true, false, if◌then◌else◌, List, [], ◌∷◌, ◌++◌, length, reverse, refl, sym, ap, ◌∙◌, subst, ℤ, arith, Option, Some}
-use Rattle.std.specs.Prelude.{All}
+use Rattle.std.proofs.Common.{◌≡◌, ℕ, ◌+◌, Bool, true, false, if◌then◌else◌, List, [], ◌∷◌, ◌++◌, length, reverse, refl, sym, ap, ◌∙◌, subst, ℤ, arith, Option, Some}
 use Rattle.std.proofs.lemmas.List.{length-reverse, reverse-reverse, reverse-append, append-nil}
 use mathlib.Core.List.{IsPrefix}
 use Rattle.inp_model.specs.declared.taken.Taken.{Taken}
@@ -10,13 +9,12 @@ use Rattle.inp_model.specs.Description.{Description}
 use Rattle.inp_model.specs.History.{IsHistory}
 use Rattle.inp_model.specs.Reply.{Answer, IsAnswer, is_accepted}
 use Rattle.inp_model.specs.Run.{Call, place_of, HasPlace, next_place}
-use Rattle.inp_model.specs.Evdev.{agains_after, own_after, IsCall, IsEvdevCall}
+use Rattle.inp_model.specs.Evdev.{agains_after, IsCall, IsEvdevCall}
 use Rattle.inp_model.proofs.Telling.{given_place, called_by}
 use Rattle.inp_turn.specs.declared.pass_view.PassView.{PassView}
 use Rattle.inp_turn.specs.PassView.{added_places, OwnsSeen}
 use Rattle.inp_turn.proofs.Prefixes.{prefix-refl, prefix-trans, prefix-length}
 use Rattle.inp_port.specs.Entries.{steps_of, past_of, step_places, other_places, Grown}
-use Rattle.inp_port.specs.Served.{IsServed}
 use Rattle.inp_port.specs.Turn.{IsServedTurn, told_of}
 use Rattle.inp_port.proofs.Places.{added-one, added-none, steps-begins, steps-push, step_places-begins, other_places-begins, step_places-push, other_places-push}
 

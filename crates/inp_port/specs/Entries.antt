@@ -1,5 +1,5 @@
 -- The steps among the entries of a kept value.
-use Rattle.std.specs.Prelude.{◌≡◌, ℕ, ◌+◌, Bool, true, false, not, List, [], ◌∷◌, ◌++◌, length, take, map, reverse, filter, slice_get, Option, Some, is_some}
+use Rattle.std.specs.Prelude.{◌≡◌, ℕ, Bool, true, false, not, List, [], ◌∷◌, ◌++◌, length, take, map, reverse, filter, slice_get, Option, Some, is_some}
 use Rattle.std.specs.List.{filter_map}
 use Rattle.std.specs.Option.{option_and_then}
 use Rattle.inp_model.specs.declared.step.Step.{Step}
