@@ -1,0 +1,94 @@
+-- What a filter eats of the events that it is given. No filter is given an event of EV_SYN, which is never eaten.
+use Rattle.std.specs.Prelude.{ℕ, ◌+◌, Bool, false, ◌&&◌, not, if◌then◌else◌, nat_eq, nat_lt, nat_le, List, [], ◌∷◌, Option, Some, None}
+use Rattle.inp_model.specs.declared.event.TheConstants.{EV_KEY}
+use Rattle.inp_model.specs.declared.event.Event.{Event}
+use Rattle.inp_model.specs.Event.{is_set, is_repeat}
+use Rattle.inp_filter.specs.declared.filter.Filter.{Filter}
+use Rattle.inp_filter.specs.declared.filter.Filter.TheVariants.{Eat, Norepeat, Chord, Bounce}
+
+-- an event of a frame, at the frame's moment
+pub record Timed : Type 0 where
+  pub event : Event
+  pub moment : ℕ
+
+-- an event that a filter was given, at the moment of its frame, and whether the filter ate it
+pub record Given : Type 0 where
+  pub event : Event
+  pub moment : ℕ
+  pub eaten : Bool
+
+-- it is about this key
+abbrev pub is_on_key : ℕ → Event → Bool
+is_on_key code e = nat_eq e.kind EV_KEY && nat_eq e.code code
+
+-- of a key: it goes down, and this is no autorepeat
+abbrev pub is_press : Event → Bool
+is_press e = is_set e && not (is_repeat e)
+
+-- of a key: it goes up
+abbrev pub is_release : Event → Bool
+is_release e = not (is_set e)
+
+-- Below, the events that a filter was given are written newest first.
+
+-- a press of a key, by its moment and what the filter was given before it
+pub record Press : Type 0 where
+  pub moment : ℕ
+  pub before : List Given
+
+-- the last press of a key, if no release of the key stands behind it
+unfoldable pub last_press : ℕ → List Given → Option Press
+last_press code [] = None
+last_press code (g ∷ before) =
+    let earlier = last_press code before in
+    if is_on_key code g.event && is_press g.event then Some (record { moment = g.moment; before = before })
+    else if is_on_key code g.event && is_release g.event then None
+    else earlier
+
+-- The press of an event on a key, behind what the filter was given before: the event itself where it is one, else the
+-- last press, if no release stands between.
+abbrev pub press_of : ℕ → Timed → List Given → Option Press
+press_of code x before =
+    if is_press x.event then Some (record { moment = x.moment; before = before }) else last_press code before
+
+-- a press is there, and this holds of it
+abbrev pub is_there_and : (Press → Bool) → Option Press → Bool
+is_there_and test None = false
+is_there_and test (Some press) = test press
+
+-- An event on this key whose press is there and passes the test: so the holds of the key whose press passes it are eaten
+-- whole, from the press over its autorepeats to the release.
+abbrev pub is_in_hold : ℕ → (Press → Bool) → Timed → List Given → Bool
+is_in_hold code test x before = is_on_key code x.event && is_there_and test (press_of code x before)
+
+-- a key is down: the last event on it, autorepeats left out, is there and is no release
+unfoldable pub is_down : ℕ → List Given → Bool
+is_down code [] = false
+is_down code (g ∷ before) =
+    let earlier = is_down code before in
+    if is_on_key code g.event && not (is_repeat g.event) then is_set g.event else earlier
+
+-- the moment of the last release of a key that the filter did not eat
+unfoldable pub last_release : ℕ → List Given → Option ℕ
+last_release code [] = None
+last_release code (g ∷ before) =
+    let earlier = last_release code before in
+    if is_on_key code g.event && (is_release g.event && not g.eaten) then Some g.moment else earlier
+
+-- A moment is that of a release or less than so many microseconds behind it. Where moments fall it may be before the
+-- release, and is not soon then.
+abbrev pub is_soon : ℕ → Option ℕ → ℕ → Bool
+is_soon micros None moment = false
+is_soon micros (Some release) moment = nat_le release moment && nat_lt moment (release + micros)
+
+-- whether a filter eats an event, behind what it was given before
+abbrev pub eats : Filter → Timed → List Given → Bool
+eats (Eat kind code) x before = nat_eq x.event.kind kind && nat_eq x.event.code code
+eats Norepeat x before = nat_eq x.event.kind EV_KEY && is_repeat x.event
+eats (Chord first second) x before = is_in_hold second (λ press. is_down first press.before) x before
+eats (Bounce code micros) x before =
+    is_in_hold code (λ press. is_soon micros (last_release code press.before) press.moment) x before
+
+-- one more event that a filter is given
+abbrev pub given_more : Filter → Timed → List Given → List Given
+given_more f x before = record { event = x.event; moment = x.moment; eaten = eats f x before } ∷ before
