@@ -81,13 +81,20 @@ abbrev pub is_soon : ℕ → Option ℕ → ℕ → Bool
 is_soon micros None moment = false
 is_soon micros (Some release) moment = nat_le release moment && nat_lt moment (release + micros)
 
+-- a press of the second key of a chord, while the first one is down
+abbrev pub is_chorded : ℕ → Press → Bool
+is_chorded first press = is_down first press.before
+
+-- a press of a key too soon after a release that was not eaten
+abbrev pub is_bounced : ℕ → ℕ → Press → Bool
+is_bounced code micros press = is_soon micros (last_release code press.before) press.moment
+
 -- whether a filter eats an event, behind what it was given before
 abbrev pub eats : Filter → Timed → List Given → Bool
 eats (Eat kind code) x before = nat_eq x.event.kind kind && nat_eq x.event.code code
 eats Norepeat x before = nat_eq x.event.kind EV_KEY && is_repeat x.event
-eats (Chord first second) x before = is_in_hold second (λ press. is_down first press.before) x before
-eats (Bounce code micros) x before =
-    is_in_hold code (λ press. is_soon micros (last_release code press.before) press.moment) x before
+eats (Chord first second) x before = is_in_hold second (is_chorded first) x before
+eats (Bounce code micros) x before = is_in_hold code (is_bounced code micros) x before
 
 -- one more event that a filter is given
 abbrev pub given_more : Filter → Timed → List Given → List Given

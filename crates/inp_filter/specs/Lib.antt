@@ -1,3 +1,4 @@
 pub mod Filter
 pub mod Row
+pub mod FilterState
 pub mod Examples

@@ -1,7 +1,14 @@
 //! Filters.
 #![tactic(auto)]
 
+mod bounce;
+mod chord;
+mod eat;
 mod filter;
+mod filter_state;
+mod hold;
+mod keys;
+mod norepeat;
 mod short_frames;
 
 pub use filter::Filter;

@@ -1,0 +1,44 @@
+-- What is kept of the events that filters were given, which are written newest first.
+use Rattle.std.specs.Prelude.{◌≡◌, ℕ, Bool, List, [], ◌∷◌, Option}
+use Rattle.inp_filter.specs.declared.filter.Filter.{Filter}
+use Rattle.inp_filter.specs.declared.filter.Filter.TheVariants.{Eat, Norepeat, Chord, Bounce}
+use Rattle.inp_filter.specs.declared.hold.Hold.{Hold}
+use Rattle.inp_filter.specs.declared.chord.Chord.{Chord as KeptChord}
+use Rattle.inp_filter.specs.declared.bounce.Bounce.{Bounce as KeptBounce}
+use Rattle.inp_filter.specs.declared.filter_state.FilterState.{FilterState}
+use Rattle.inp_filter.specs.declared.filter_state.FilterState.TheVariants.{Eat as EatState, Norepeat as NorepeatState, Chord as ChordState, Bounce as BounceState}
+use Rattle.inp_filter.specs.Filter.{Timed, Given, Press, last_press, is_there_and, is_down, last_release, is_chorded, is_bounced}
+use Rattle.inp_filter.specs.Row.{given_all, left_by}
+
+-- of a key, whether a press is there behind the last event, and passes the test
+pub record IsHold (code : ℕ) (test : Press → Bool) (given : List Given) (hold : Hold) : Type 0 where
+  pub code_is : hold.code ≡ code
+  pub eaten : hold.is_eaten ≡ is_there_and test (last_press code given)
+
+-- of a chord, whether the first key is down, and whether the present hold of the second one is eaten
+pub record IsChord (first second : ℕ) (given : List Given) (chord : KeptChord) : Type 0 where
+  pub first_is : chord.first ≡ first
+  pub down : chord.is_first_down ≡ is_down first given
+  pub hold : IsHold second (is_chorded first) given chord.hold
+
+-- of a bounce, the moment of the last release that was not eaten, and whether the present hold is eaten
+pub record IsBounce (code micros : ℕ) (given : List Given) (bounce : KeptBounce) : Type 0 where
+  pub micros_is : bounce.micros ≡ micros
+  pub released : bounce.released ≡ last_release code given
+  pub hold : IsHold code (is_bounced code micros) given bounce.hold
+
+-- this is kept of a filter that was given these events
+unfoldable pub StandsFor : Filter → List Given → FilterState → Type 0
+StandsFor (Eat kind code) given (EatState eat) = (eat.kind ≡ kind) × (eat.code ≡ code)
+StandsFor Norepeat given (NorepeatState norepeat) = Unit {0}
+StandsFor (Chord first second) given (ChordState chord) = IsChord first second given chord
+StandsFor (Bounce code micros) given (BounceState bounce) = IsBounce code micros given bounce
+StandsFor f given state = ⊥
+
+-- This is kept of filters in a row, the first of which was given these events, and each other one what the one before
+-- it did not eat of those that it was given itself.
+unfoldable pub StandFor : List Filter → List Timed → List FilterState → Type 0
+StandFor [] given [] = Unit {0}
+StandFor [] given (state ∷ states) = ⊥
+StandFor (f ∷ fs) given [] = ⊥
+StandFor (f ∷ fs) given (state ∷ states) = StandsFor f (given_all f given) state × StandFor fs (left_by f given) states

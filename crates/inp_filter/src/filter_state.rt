@@ -1,0 +1,50 @@
+//! What is kept of a filter.
+ghost use Rattle.std.specs.Prelude.{◌≡◌, List, []};
+ghost use Rattle.inp_filter.specs.declared.filter.Filter.{Filter};
+ghost use Rattle.inp_filter.specs.Filter.{Given, eats, given_more};
+ghost use Rattle.inp_filter.specs.FilterState.{StandsFor};
+
+use crate::Filter;
+use crate::bounce::Bounce;
+use crate::chord::Chord;
+use crate::eat::Eat;
+use crate::norepeat::Norepeat;
+use inp_model::Event;
+
+/// A filter with what it keeps of the events that it was given: a few bits, and a moment at most.
+#[derive(Debug, Drop)]
+pub enum FilterState {
+    Eat(Eat),
+    Norepeat(Norepeat),
+    Chord(Chord),
+    Bounce(Bounce),
+}
+
+impl FilterState {
+    /// The filter before any event.
+    pub fn new(filter: Filter) -> FilterState
+        ensures fresh { StandsFor filter [] result }
+    {
+        match filter {
+            Filter::Eat { kind, code } => FilterState::Eat(Eat { kind, code }),
+            Filter::Norepeat => FilterState::Norepeat(Norepeat),
+            Filter::Chord { first, second } => FilterState::Chord(Chord::new(first, second)),
+            Filter::Bounce { code, micros } => FilterState::Bounce(Bounce::new(code, micros)),
+        }
+    }
+
+    /// Takes one more event, of a frame that ends at a moment, and says whether the filter eats it.
+    pub fn eats(&mut self, event: Event, now: u64) -> bool
+        ensures eats { (f : Filter) (given : List Given) → StandsFor f given self.old
+            → result ≡ eats f (record { event = event; moment = now }) given }
+        ensures stands { (f : Filter) (given : List Given) → StandsFor f given self.old
+            → StandsFor f (given_more f (record { event = event; moment = now }) given) self.new }
+    {
+        match self {
+            FilterState::Eat(eat) => eat.eats(event),
+            FilterState::Norepeat(norepeat) => norepeat.eats(event),
+            FilterState::Chord(chord) => chord.eats(event),
+            FilterState::Bounce(bounce) => bounce.eats(event, now),
+        }
+    }
+}
