@@ -1,2 +1,4 @@
 pub mod Computing
 pub mod Standing
+pub mod Rows
+pub mod Left
