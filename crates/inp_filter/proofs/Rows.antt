@@ -1,6 +1,6 @@
 -- What is kept of filters in a row stands for the events that the first one was given.
 use Rattle.std.proofs.Common.{◌≡◌, ℕ, suc, ◌+◌, ◌<◌, ◌≤◌, Bool, true, false, ◌||◌, List, [], ◌∷◌, ◌++◌, length, get_or, set, take, drop, refl, sym, ap, ◌∙◌, subst, arith, append_assoc, add-one}
-use Rattle.std.proofs.lemmas.List.{append-nil, drop_all, drop_more, drop-set-lt, set_split, take_all, take_more_set}
+use Rattle.std.proofs.lemmas.List.{append-nil, drop_all, drop_more, drop-set-lt, set-get_or, set_split, take_all, take_more_set}
 use Rattle.std.specs.Prelude.{if◌then◌else◌}
 use Rattle.inp_filter.specs.declared.filter.Filter.{Filter}
 use Rattle.inp_filter.specs.declared.filter_state.FilterState.{FilterState}
@@ -76,31 +76,54 @@ StandFor-push (g ∷ fs) (s ∷ states) f state h one = (h.0, StandFor-push fs s
 set-at : (states : List FilterState) (i : ℕ) (new : FilterState) → i < length states → set states i new ≡ take i states ++ new ∷ drop (i + 1) states
 set-at states i new lt = rw add-one (set_split states i new lt)
 
--- A loop over the filters: what comes of those from a place on comes of all of them.
+-- A loop over the filters has come so far, and none of them ate the event yet: what comes of the others comes of all.
 abbrev pub GoesOn : Timed → List FilterState → List FilterState → ℕ → Type 0
 GoesOn x before states i =
     (later : List FilterState) (eaten : Bool) → RowTakes x (drop i states) later eaten → RowTakes x before (take i states ++ later) eaten
 
-module _ (x : Timed) (before states : List FilterState) (i : ℕ) (default new : FilterState) (lt : i < length states) (inv : GoesOn x before states i) where
+-- the same, also where one of them ate it
+abbrev pub ComesSoFar : Timed → List FilterState → List FilterState → ℕ → Bool → Type 0
+ComesSoFar x before states i true = RowTakes x before states true
+ComesSoFar x before states i false = GoesOn x before states i
+
+-- what the next filter makes of it: the flag before it, the filter, the filter after it, the flag after it
+pub record NextTakes (x : Timed) (is_eaten : Bool) (old new : FilterState) (eaten : Bool) : Type 0 where
+  pub eaten_is : is_eaten ≡ true → eaten ≡ true
+  pub kept : is_eaten ≡ true → new ≡ old
+  pub eats : is_eaten ≡ false → (f : Filter) (given : List Given) → StandsFor f given old → eaten ≡ eats f x given
+  pub stands : is_eaten ≡ false → (f : Filter) (given : List Given) → StandsFor f given old → StandsFor f (given_more f x given) new
+
+module _ (x : Timed) (before states : List FilterState) (i : ℕ) (default new : FilterState) (lt : i < length states) where
   -- the filter at this place is the first of those from it on
   from_here : drop i states ≡ get_or states i default ∷ drop (i + 1) states
   from_here = drop_more states i default lt
 
-  pub goes_on-eaten : OneTakes x (get_or states i default) new true → RowTakes x before (set states i new) true
-  goes_on-eaten one =
+  goes_on-eaten : GoesOn x before states i → OneTakes x (get_or states i default) new true → RowTakes x before (set states i new) true
+  goes_on-eaten inv one =
       let row = row-eaten x (get_or states i default) new (drop (i + 1) states) one in
       let all = inv _ _ (subst (λ (l : List FilterState). RowTakes x l (new ∷ drop (i + 1) states) true) (sym from_here) row) in
       subst (λ (l : List FilterState). RowTakes x before l true) (sym (set-at states i new lt)) all
 
-  pub goes_on-left : OneTakes x (get_or states i default) new false → GoesOn x before (set states i new) (i + 1)
-  goes_on-left one later eaten others =
+  goes_on-left : GoesOn x before states i → OneTakes x (get_or states i default) new false → GoesOn x before (set states i new) (i + 1)
+  goes_on-left inv one later eaten others =
       let rest = subst (λ (l : List FilterState). RowTakes x l later eaten) (drop-set-lt (i + 1) states i new (omega arith)) others in
       let row = row-left x (get_or states i default) new (drop (i + 1) states) later eaten one rest in
       let all = inv _ _ (subst (λ (l : List FilterState). RowTakes x l (new ∷ later) eaten) (sym from_here) row) in
       subst (λ (l : List FilterState). RowTakes x before l eaten) (sym (ap (λ (l : List FilterState). l ++ later) (take_more_set states i new lt) ∙ append_assoc (take i states) (new ∷ []) later)) all
 
--- behind the last one none ate it
-pub goes_on-all : (x : Timed) (before states : List FilterState) (i : ℕ) → length states ≤ i → GoesOn x before states i → RowTakes x before states false
-goes_on-all x before states i le inv =
+  pub comes_so_far-more : (is_eaten eaten : Bool) → ComesSoFar x before states i is_eaten → NextTakes x is_eaten (get_or states i default) new eaten → ComesSoFar x before (set states i new) (i + 1) eaten
+  comes_so_far-more true true row next =
+      let same = ap (λ (s : FilterState). set states i s) (next.kept refl) ∙ set-get_or states i default in
+      subst (λ (l : List FilterState). RowTakes x before l true) (sym same) row
+  comes_so_far-more true false row next = absurd (cc (next.eaten_is refl))
+  comes_so_far-more false true inv next =
+      goes_on-eaten inv (record { eats = next.eats refl; stands = next.stands refl })
+  comes_so_far-more false false inv next =
+      goes_on-left inv (record { eats = next.eats refl; stands = next.stands refl })
+
+-- behind the last filter
+pub comes_so_far-all : (x : Timed) (before states : List FilterState) (i : ℕ) (is_eaten : Bool) → length states ≤ i → ComesSoFar x before states i is_eaten → RowTakes x before states is_eaten
+comes_so_far-all x before states i true le row = row
+comes_so_far-all x before states i false le inv =
     let none = subst (λ (l : List FilterState). RowTakes x l [] false) (sym (drop_all i states le)) (row-none x) in
     subst (λ (l : List FilterState). RowTakes x before l false) (append-nil (take i states) ∙ take_all i states le) (inv [] false none)

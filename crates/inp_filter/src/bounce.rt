@@ -1,7 +1,7 @@
 //! A filter that eats the holds of a key that start too soon after a release.
-ghost use Rattle.std.specs.Prelude.{◌≡◌, ℕ, List, []};
+ghost use Rattle.std.specs.Prelude.{◌≡◌, ◌&&◌, not, ℕ, List, []};
 ghost use Rattle.inp_filter.specs.declared.filter.Filter.TheVariants.{Bounce as BounceFilter};
-ghost use Rattle.inp_filter.specs.Filter.{Given, is_soon, eats, given_more};
+ghost use Rattle.inp_filter.specs.Filter.{Given, is_on_key, is_release, is_soon, eats, given_more};
 ghost use Rattle.inp_filter.specs.FilterState.{IsBounce};
 
 use crate::hold::Hold;
@@ -42,10 +42,17 @@ impl Bounce {
     {
         let starts_eaten = self.is_soon(now);
         let is_eaten = self.hold.eats(event, starts_eaten);
-        if is_on_key(event, self.hold.code) && is_release(event) && !is_eaten {
+        if self.counts(event, is_eaten) {
             self.released = Some(now);
         }
         is_eaten
+    }
+
+    // Whether it is a release of the key that was not eaten.
+    fn counts(&self, event: Event, is_eaten: bool) -> bool
+        ensures { result ≡ (is_on_key self.now.hold.code event && (is_release event && not is_eaten)) }
+    {
+        is_on_key(event, self.hold.code) && is_release(event) && !is_eaten
     }
 
     // Whether a moment is too soon after the last release that was not eaten.

@@ -1,5 +1,5 @@
 //! What is kept of a filter.
-ghost use Rattle.std.specs.Prelude.{◌≡◌, List, []};
+ghost use Rattle.std.specs.Prelude.{◌≡◌, true, false, List, []};
 ghost use Rattle.inp_filter.specs.declared.filter.Filter.{Filter};
 ghost use Rattle.inp_filter.specs.Filter.{Given, eats, given_more};
 ghost use Rattle.inp_filter.specs.FilterState.{StandsFor};
@@ -33,8 +33,8 @@ impl FilterState {
         }
     }
 
-    /// Takes one more event, of a frame that ends at a moment, and says whether the filter eats it.
-    pub fn eats(&mut self, event: Event, now: u64) -> bool
+    // Takes one more event, of a frame that ends at a moment, and says whether the filter eats it.
+    fn eats(&mut self, event: Event, now: u64) -> bool
         ensures eats { (f : Filter) (given : List Given) → StandsFor f given self.old
             → result ≡ eats f (record { event = event; moment = now }) given }
         ensures stands { (f : Filter) (given : List Given) → StandsFor f given self.old
@@ -46,5 +46,17 @@ impl FilterState {
             FilterState::Chord(chord) => chord.eats(event),
             FilterState::Bounce(bounce) => bounce.eats(event, now),
         }
+    }
+
+    /// Gives it an event, where none of the filters before it ate that, and says whether one of them did or it does.
+    pub fn takes(&mut self, event: Event, now: u64, is_eaten: bool) -> bool
+        ensures eaten { is_eaten ≡ true → result ≡ true }
+        ensures kept { is_eaten ≡ true → self.new ≡ self.old }
+        ensures eats { is_eaten ≡ false → (f : Filter) (given : List Given) → StandsFor f given self.old
+            → result ≡ eats f (record { event = event; moment = now }) given }
+        ensures stands { is_eaten ≡ false → (f : Filter) (given : List Given) → StandsFor f given self.old
+            → StandsFor f (given_more f (record { event = event; moment = now }) given) self.new }
+    {
+        is_eaten || self.eats(event, now)
     }
 }

@@ -83,10 +83,9 @@ fn is_eaten_by(filters: &mut [FilterState], event: Event, now: u64) -> bool
     ensures stands { (fs : List Filter) (given : List Timed) → StandFor fs given filters.old
         → StandFor fs (timed now event ∷ given) filters.new }
 {
+    let mut is_eaten = false;
     for filter in filters.iter_mut() {
-        if filter.eats(event, now) {
-            return true;
-        }
+        is_eaten = filter.takes(event, now, is_eaten);
     }
-    false
+    is_eaten
 }

@@ -1,12 +1,12 @@
 -- Each filter takes the event, until one eats it.
-use Rattle.std.proofs.Common.{true, false, sym, ◌∙◌, arith, get_or}
+use Rattle.std.proofs.Common.{arith}
 use Rattle.inp_filter.specs.declared.filter_state.FilterState.{FilterState}
 use Rattle.inp_filter.specs.declared.filter_state.FilterState.TheVariants.{Eat as EatState}
 use Rattle.inp_filter.specs.Row.{timed}
-use Rattle.inp_filter.proofs.Rows.{OneTakes, goes_on-eaten, goes_on-left, goes_on-all}
+use Rattle.inp_filter.proofs.Rows.{comes_so_far-more, comes_so_far-all}
 use Rattle.inp_filter.proofs.filters.is_eaten_by.Goals as goal
 
--- what a read of a place gives where there is no item
+-- what a read of a place gives where there is no filter
 abbrev none : FilterState
 none = EatState (record { kind = 0; code = 0 })
 
@@ -15,22 +15,13 @@ loop-filter-init c = λ later eaten h. h
 
 pub loop-filter-preserved : goal.loop-filter-preserved
 loop-filter-preserved c =
-    let one : OneTakes (timed c.args.now c.args.event) (get_or c.loop-filter.filters c.loop-filter.filter-index none) c.eats.new.self false = record {
-      eats = λ f given h. sym c.if-eats.false ∙ c.eats.ensures.eats f given h;
-      stands = c.eats.ensures.stands;
-    } in
-    goes_on-left (timed c.args.now c.args.event) c.args.filters.now c.loop-filter.filters c.loop-filter.filter-index none c.eats.new.self (omega arith) c.loop-filter.invariant one
+    let here = c.loop-filter in
+    let next = c.takes-is_eaten.ensures in
+    comes_so_far-more (timed c.args.now c.args.event) c.args.filters.now here.filters here.filter-index none c.takes-is_eaten.new.self (omega arith) here.is_eaten c.takes-is_eaten.result here.invariant
+    (record { eaten_is = next.eaten; kept = next.kept; eats = next.eats; stands = next.stands })
 
 pub returns : goal.returns
 returns c =
-    let all = goes_on-all (timed c.args.now c.args.event) c.args.filters.now c.loop-filter.filters c.loop-filter.filter-index (omega arith) c.loop-filter.invariant in
-    record { eaten = all.eaten_is; stands = all.stands }
-
-pub returns-then-eats : goal.returns-then-eats
-returns-then-eats c =
-    let one : OneTakes (timed c.args.now c.args.event) (get_or c.loop-filter.filters c.loop-filter.filter-index none) c.eats.new.self true = record {
-      eats = λ f given h. sym c.if-eats.true ∙ c.eats.ensures.eats f given h;
-      stands = c.eats.ensures.stands;
-    } in
-    let all = goes_on-eaten (timed c.args.now c.args.event) c.args.filters.now c.loop-filter.filters c.loop-filter.filter-index none c.eats.new.self (omega arith) c.loop-filter.invariant one in
+    let here = c.loop-filter in
+    let all = comes_so_far-all (timed c.args.now c.args.event) c.args.filters.now here.filters here.filter-index here.is_eaten (omega arith) here.invariant in
     record { eaten = all.eaten_is; stands = all.stands }

@@ -1,7 +1,7 @@
--- What comes of the filters from this one on comes of all of them.
+-- What comes of the filters from this one on comes of all of them, or one of those before ate the event.
 use Rattle.inp_filter.specs.Row.{timed}
-use Rattle.inp_filter.proofs.Rows.{GoesOn}
+use Rattle.inp_filter.proofs.Rows.{ComesSoFar}
 use Rattle.inp_filter.proofs.filters.is_eaten_by.Given as goal
 
 abbrev pub invariant-loop-filter : goal.invariant-loop-filter
-invariant-loop-filter l = GoesOn (timed l.now l.event) l.initial.filters l.filters l.filter-index
+invariant-loop-filter l = ComesSoFar (timed l.now l.event) l.initial.filters l.filters l.filter-index l.is_eaten
