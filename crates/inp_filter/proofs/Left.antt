@@ -1,7 +1,7 @@
 -- What is left of a frame so far, and what is left of the rest of it.
 use Rattle.std.proofs.Common.{◌≡◌, ℕ, ◌+◌, ◌<◌, ◌≤◌, true, false, List, [], ◌∷◌, ◌++◌, length, get_or, set, take, drop, refl, sym, ap, ◌∙◌, subst, arith, append_assoc}
 use Rattle.std.proofs.lemmas.Bool.{cond-true, cond-false}
-use Rattle.std.proofs.lemmas.List.{append-nil, drop_all, drop_more, drop-drop, drop-set-lt, take_more_set}
+use Rattle.std.proofs.lemmas.List.{drop_more, drop-drop, drop-set-lt, take_more_set}
 use Rattle.inp_model.specs.declared.event.Event.{Event}
 use Rattle.inp_filter.specs.declared.filter.Filter.{Filter}
 use Rattle.inp_filter.specs.declared.filter_state.FilterState.{FilterState}

@@ -1,5 +1,5 @@
 -- What is kept of a filter stands for the events that it was given.
-use Rattle.std.proofs.Common.{◌≡◌, ℕ, Bool, true, false, ◌&&◌, not, List, [], ◌∷◌, Option, Some, None, refl, subst}
+use Rattle.std.proofs.Common.{◌≡◌, ℕ, Bool, true, false, ◌&&◌, not, List, ◌∷◌, Option, Some, None, refl, subst}
 use Rattle.std.specs.Prelude.{if◌then◌else◌}
 use Rattle.inp_model.specs.Event.{is_set, is_repeat}
 use Rattle.std.proofs.lemmas.Bool.{cond-true, cond-false}

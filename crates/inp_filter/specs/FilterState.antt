@@ -1,5 +1,5 @@
 -- What is kept of the events that filters were given, which are written newest first.
-use Rattle.std.specs.Prelude.{◌≡◌, ℕ, Bool, List, [], ◌∷◌, Option}
+use Rattle.std.specs.Prelude.{◌≡◌, ℕ, Bool, List, [], ◌∷◌}
 use Rattle.inp_filter.specs.declared.filter.Filter.{Filter}
 use Rattle.inp_filter.specs.declared.filter.Filter.TheVariants.{Eat, Norepeat, Chord, Bounce}
 use Rattle.inp_filter.specs.declared.hold.Hold.{Hold}

@@ -37,8 +37,8 @@ impl Bounce {
         ensures stands { (code micros : ℕ) (given : List Given)
             → IsBounce code micros given self.old
             → IsBounce code micros
-                (given_more (BounceFilter code micros) (record { event = event; moment = now }) given)
-                self.new }
+            (given_more (BounceFilter code micros) (record { event = event; moment = now }) given)
+            self.new }
     {
         let starts_eaten = self.is_soon(now);
         let is_eaten = self.hold.eats(event, starts_eaten);

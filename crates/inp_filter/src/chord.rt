@@ -36,8 +36,8 @@ impl Chord {
         ensures stands { (first second moment : ℕ) (given : List Given)
             → IsChord first second given self.old
             → IsChord first second
-                (given_more (ChordFilter first second) (record { event = event; moment = moment }) given)
-                self.new }
+            (given_more (ChordFilter first second) (record { event = event; moment = moment }) given)
+            self.new }
     {
         let is_eaten = self.hold.eats(event, self.is_first_down);
         if is_on_key(event, self.first) && !event.is_repeat() {

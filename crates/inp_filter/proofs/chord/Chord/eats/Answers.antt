@@ -21,10 +21,10 @@ pub returns-else-is_on_key-clause-stands : goal.returns-else-is_on_key-clause-st
 returns-else-is_on_key-clause-stands c = λ first second moment given h.
     let on : is_on_key first c.args.event ≡ c.is_on_key.result = ap (λ (k : ℕ). is_on_key k c.args.event) (sym h.first_is) ∙ sym c.is_on_key.ensures in
     let other : (is_on_key first c.args.event && not (is_repeat c.args.event)) ≡ false =
-        elim c.else-is_on_key.branch [
-            else-is_on_key-via-then-is_on_key+else-not-is_repeat w ↦ and_right _ _ (not_from_true _ (sym w.is_repeat.ensures.repeat ∙ w.if-not-is_repeat.false))
-          | else-is_on_key-via-else-is_on_key w ↦ and_left _ _ (on ∙ w.if-is_on_key.false)
-        ] in
+    elim c.else-is_on_key.branch [
+      | else-is_on_key-via-then-is_on_key+else-not-is_repeat w ↦ and_right _ _ (not_from_true _ (sym w.is_repeat.ensures.repeat ∙ w.if-not-is_repeat.false))
+      | else-is_on_key-via-else-is_on_key w ↦ and_left _ _ (on ∙ w.if-is_on_key.false)
+    ] in
     record {
       first_is = h.first_is;
       down = h.down ∙ sym (is_down-other first _ given other);

@@ -1,6 +1,5 @@
 -- Each kind stands for no events.
-use Rattle.std.proofs.Common.{refl, []}
-use Rattle.inp_filter.specs.declared.filter_state.FilterState.TheVariants.{Eat as EatState, Norepeat as NorepeatState, Chord as ChordState, Bounce as BounceState}
+use Rattle.std.proofs.Common.{refl}
 use Rattle.inp_filter.specs.FilterState.{StandsFor}
 use Rattle.inp_filter.proofs.filter_state.FilterState.new.Goals as goal
 

@@ -1,5 +1,5 @@
 -- One more filter behind the others.
-use Rattle.std.proofs.Common.{[], refl, take, sym, subst, arith, ◌++◌, ◌∷◌, List}
+use Rattle.std.proofs.Common.{[], subst, List}
 use Rattle.std.proofs.lemmas.List.{take_more, take_all}
 use Rattle.inp_filter.specs.declared.filter.Filter.{Filter}
 use Rattle.inp_filter.specs.declared.filter.Filter.TheVariants.{Eat}

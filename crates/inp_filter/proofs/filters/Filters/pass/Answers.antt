@@ -25,7 +25,7 @@ loop-event-preserved c =
     let here = c.loop-event in
     let events = c.args.events.now in
     elim c.if-lets_through.branch [
-        then-lets_through w ↦
+      | then-lets_through w ↦
           let next = writes-left c.args.now events c.args.self.now c.args.out.now here.event-index here.count here.self c.lets_through.new.self here.out none (omega arith) here.invariant c.lets_through.ensures.stands (λ fs given h. sym w.if-lets_through.true ∙ c.lets_through.ensures.left fs given h) (omega (arith, here.invariant.few, c.requires.room)) in
           subst (λ (n : ℕ). Writes c.args.now events c.args.self.now c.args.out.now (here.event-index + 1) n c.lets_through.new.self c.if-lets_through.out) (sym w.count-is)
           (subst (λ (o : List Event). Writes c.args.now events c.args.self.now c.args.out.now (here.event-index + 1) (here.count + 1) c.lets_through.new.self o) (sym w.out-is) next)

@@ -1,5 +1,5 @@
 -- An event about another key leaves the hold; one about the key starts it, goes on in it or ends it.
-use Rattle.std.proofs.Common.{◌∙◌, sym, ap, ◌≡◌, arith}
+use Rattle.std.proofs.Common.{◌∙◌, sym, ap, arith}
 use Rattle.std.proofs.lemmas.Bool.Decides.{nat_tests}
 use Rattle.inp_filter.specs.declared.hold.Hold.{Hold}
 use Rattle.inp_filter.specs.Filter.{Given, is_on_key}
@@ -20,7 +20,7 @@ returns-clause-stands c = λ code test moment eaten given h starts.
     let after = last_press-on code test g given on in
     record {
       code_is = elim c.if-is_press.branch [
-          then-is_press w ↦ ap (λ (k : Hold). k.code) w.self-is ∙ h.code_is
+        | then-is_press w ↦ ap (λ (k : Hold). k.code) w.self-is ∙ h.code_is
         | else-is_press w ↦ ap (λ (k : Hold). k.code) w.self-is ∙ h.code_is
       ];
       eaten = grind (arith, nat_tests);
