@@ -1,4 +1,5 @@
 pub mod Filter
 pub mod Row
 pub mod FilterState
+pub mod Laws
 pub mod Examples

@@ -14,7 +14,8 @@
 //! came before, and no memory is taken once the filters are made.
 //!
 //! Which frames the filters are given is the caller's to choose: those of a device while a client holds its grab are not
-//! meant for them. [`examples`] shows what the definitions compute on short frames.
+//! meant for them. [`laws`] has what holds of all filters, and [`examples`] shows what the definitions compute on short
+//! frames.
 #![tactic(auto)]
 
 mod bounce;
@@ -25,8 +26,11 @@ mod filter_state;
 mod filters;
 mod hold;
 mod keys;
+pub mod laws;
 mod norepeat;
 mod short_frames;
+#[cfg(test)]
+mod tests;
 
 pub use filter::Filter;
 pub use filters::Filters;
