@@ -4,8 +4,8 @@ use Rattle.std.specs.Prelude.{if◌then◌else◌, filter}
 use Rattle.std.proofs.lemmas.Bool.{cases_Bool, cond-true, cond-false, or_left, or_right}
 use Rattle.inp_model.specs.declared.event.Event.{Event}
 use Rattle.inp_filter.specs.declared.filter.Filter.{Filter}
-use Rattle.inp_filter.specs.Filter.{Timed, eats}
-use Rattle.inp_filter.specs.Row.{given_all, left_by, is_eaten, is_syn, is_left, timed, with_event, left}
+use Rattle.inp_filter.specs.Filter.{Timed, eats, timed}
+use Rattle.inp_filter.specs.Row.{given_all, left_by, is_eaten, is_syn, is_left, with_event, left}
 
 left-kept : (fs : List Filter) (moment : ℕ) (given : List Timed) (e : Event) (es : List Event) → is_left fs moment given e ≡ true → left fs moment given (e ∷ es) ≡ e ∷ left fs moment (with_event moment e given) es
 unfolding left

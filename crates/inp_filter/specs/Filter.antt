@@ -11,11 +11,17 @@ pub record Timed : Type 0 where
   pub event : Event
   pub moment : ℕ
 
+abbrev pub timed : ℕ → Event → Timed
+timed moment e = record { event = e; moment = moment }
+
 -- an event that a filter was given, at the moment of its frame, and whether the filter ate it
 pub record Given : Type 0 where
   pub event : Event
   pub moment : ℕ
   pub eaten : Bool
+
+abbrev pub with_verdict : Timed → Bool → Given
+with_verdict x eaten = record { event = x.event; moment = x.moment; eaten = eaten }
 
 -- it is about this key
 abbrev pub is_on_key : ℕ → Event → Bool
@@ -98,4 +104,4 @@ eats (Bounce code micros) x before = is_in_hold code (is_bounced code micros) x 
 
 -- one more event that a filter is given
 abbrev pub given_more : Filter → Timed → List Given → List Given
-given_more f x before = record { event = x.event; moment = x.moment; eaten = eats f x before } ∷ before
+given_more f x before = with_verdict x (eats f x before) ∷ before

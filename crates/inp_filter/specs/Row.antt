@@ -3,7 +3,7 @@ use Rattle.std.specs.Prelude.{ℕ, Bool, false, ◌||◌, not, if◌then◌else�
 use Rattle.inp_model.specs.declared.event.TheConstants.{EV_SYN}
 use Rattle.inp_model.specs.declared.event.Event.{Event}
 use Rattle.inp_filter.specs.declared.filter.Filter.{Filter}
-use Rattle.inp_filter.specs.Filter.{Timed, Given, eats, given_more}
+use Rattle.inp_filter.specs.Filter.{Timed, timed, Given, eats, given_more}
 
 -- Below, events that came to filters are written newest first.
 
@@ -28,9 +28,6 @@ is_eaten (f ∷ fs) x before = eats f x (given_all f before) || is_eaten fs x (l
 -- it separates frames, or tells of them: no filter sees it
 abbrev pub is_syn : Event → Bool
 is_syn e = nat_eq e.kind EV_SYN
-
-abbrev pub timed : ℕ → Event → Timed
-timed moment e = record { event = e; moment = moment }
 
 -- what the first filter was given after one more event of a frame that ends at this moment
 abbrev pub with_event : ℕ → Event → List Timed → List Timed

@@ -1,7 +1,7 @@
 //! A filter that eats the holds of a key that start too soon after a release.
 ghost use Rattle.std.specs.Prelude.{◌≡◌, ◌&&◌, not, ℕ, List, []};
 ghost use Rattle.inp_filter.specs.declared.filter.Filter.TheVariants.{Bounce as BounceFilter};
-ghost use Rattle.inp_filter.specs.Filter.{Given, is_on_key, is_release, is_soon, eats, given_more};
+ghost use Rattle.inp_filter.specs.Filter.{Given, is_on_key, is_release, is_soon, eats, given_more, timed};
 ghost use Rattle.inp_filter.specs.FilterState.{IsBounce};
 
 use crate::hold::Hold;
@@ -33,11 +33,11 @@ impl Bounce {
     pub fn eats(&mut self, event: Event, now: u64) -> bool
         ensures eats { (code micros : ℕ) (given : List Given)
             → IsBounce code micros given self.old
-            → result ≡ eats (BounceFilter code micros) (record { event = event; moment = now }) given }
+            → result ≡ eats (BounceFilter code micros) (timed now event) given }
         ensures stands { (code micros : ℕ) (given : List Given)
             → IsBounce code micros given self.old
             → IsBounce code micros
-            (given_more (BounceFilter code micros) (record { event = event; moment = now }) given)
+            (given_more (BounceFilter code micros) (timed now event) given)
             self.new }
     {
         let starts_eaten = self.is_soon(now);
@@ -50,7 +50,8 @@ impl Bounce {
 
     // Whether it is a release of the key that was not eaten.
     fn counts(&self, event: Event, is_eaten: bool) -> bool
-        ensures { result ≡ (is_on_key self.now.hold.code event && (is_release event && not is_eaten)) }
+        ensures { let is_here = is_on_key self.now.hold.code event in
+            result ≡ (is_here && (is_release event && not is_eaten)) }
     {
         is_on_key(event, self.hold.code) && is_release(event) && !is_eaten
     }

@@ -1,7 +1,7 @@
 //! A filter that eats the holds of one key that start while another one is down.
 ghost use Rattle.std.specs.Prelude.{◌≡◌, ℕ, List, []};
 ghost use Rattle.inp_filter.specs.declared.filter.Filter.TheVariants.{Chord as ChordFilter};
-ghost use Rattle.inp_filter.specs.Filter.{Given, eats, given_more};
+ghost use Rattle.inp_filter.specs.Filter.{Given, eats, given_more, timed};
 ghost use Rattle.inp_filter.specs.FilterState.{IsChord};
 
 use crate::hold::Hold;
@@ -32,11 +32,11 @@ impl Chord {
     pub fn eats(&mut self, event: Event) -> bool
         ensures eats { (first second moment : ℕ) (given : List Given)
             → IsChord first second given self.old
-            → result ≡ eats (ChordFilter first second) (record { event = event; moment = moment }) given }
+            → result ≡ eats (ChordFilter first second) (timed moment event) given }
         ensures stands { (first second moment : ℕ) (given : List Given)
             → IsChord first second given self.old
             → IsChord first second
-            (given_more (ChordFilter first second) (record { event = event; moment = moment }) given)
+            (given_more (ChordFilter first second) (timed moment event) given)
             self.new }
     {
         let is_eaten = self.hold.eats(event, self.is_first_down);

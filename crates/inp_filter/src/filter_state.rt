@@ -1,7 +1,7 @@
 //! What is kept of a filter.
 ghost use Rattle.std.specs.Prelude.{◌≡◌, true, false, List, []};
 ghost use Rattle.inp_filter.specs.declared.filter.Filter.{Filter};
-ghost use Rattle.inp_filter.specs.Filter.{Given, eats, given_more};
+ghost use Rattle.inp_filter.specs.Filter.{Given, eats, given_more, timed};
 ghost use Rattle.inp_filter.specs.FilterState.{StandsFor};
 
 use crate::Filter;
@@ -36,9 +36,9 @@ impl FilterState {
     // Takes one more event, of a frame that ends at a moment, and says whether the filter eats it.
     fn eats(&mut self, event: Event, now: u64) -> bool
         ensures eats { (f : Filter) (given : List Given) → StandsFor f given self.old
-            → result ≡ eats f (record { event = event; moment = now }) given }
+            → result ≡ eats f (timed now event) given }
         ensures stands { (f : Filter) (given : List Given) → StandsFor f given self.old
-            → StandsFor f (given_more f (record { event = event; moment = now }) given) self.new }
+            → StandsFor f (given_more f (timed now event) given) self.new }
     {
         match self {
             FilterState::Eat(eat) => eat.eats(event),
@@ -52,10 +52,11 @@ impl FilterState {
     pub fn takes(&mut self, event: Event, now: u64, is_eaten: bool) -> bool
         ensures eaten { is_eaten ≡ true → result ≡ true }
         ensures kept { is_eaten ≡ true → self.new ≡ self.old }
-        ensures eats { is_eaten ≡ false → (f : Filter) (given : List Given) → StandsFor f given self.old
-            → result ≡ eats f (record { event = event; moment = now }) given }
-        ensures stands { is_eaten ≡ false → (f : Filter) (given : List Given) → StandsFor f given self.old
-            → StandsFor f (given_more f (record { event = event; moment = now }) given) self.new }
+        ensures eats { is_eaten ≡ false → (f : Filter) (given : List Given)
+            → StandsFor f given self.old → result ≡ eats f (timed now event) given }
+        ensures stands { is_eaten ≡ false → (f : Filter) (given : List Given)
+            → StandsFor f given self.old
+            → StandsFor f (given_more f (timed now event) given) self.new }
     {
         is_eaten || self.eats(event, now)
     }

@@ -1,8 +1,8 @@
 //! The filters of a device, in a row.
 ghost use Rattle.std.specs.Prelude.{◌≡◌, ◌≤◌, ◌<◌, ◌^◌, ℕ, List, [], ◌∷◌, length, take, drop, IfOk};
 ghost use Rattle.inp_filter.specs.declared.filter.Filter.{Filter};
-ghost use Rattle.inp_filter.specs.Filter.{Timed};
-ghost use Rattle.inp_filter.specs.Row.{is_eaten, is_left, timed, with_event, left, given_after};
+ghost use Rattle.inp_filter.specs.Filter.{Timed, timed};
+ghost use Rattle.inp_filter.specs.Row.{is_eaten, is_left, with_event, left, given_after};
 ghost use Rattle.inp_filter.specs.FilterState.{StandFor};
 
 use crate::Filter;

@@ -1,6 +1,6 @@
 //! The holds of a key, some of which are eaten.
 ghost use Rattle.std.specs.Prelude.{◌≡◌, ℕ, Bool, List, [], ◌∷◌};
-ghost use Rattle.inp_filter.specs.Filter.{Given, Press, is_in_hold};
+ghost use Rattle.inp_filter.specs.Filter.{Given, Press, timed, with_verdict, is_in_hold};
 ghost use Rattle.inp_filter.specs.FilterState.{IsHold};
 
 use crate::keys::{is_on_key, is_press};
@@ -30,11 +30,11 @@ impl Hold {
         ensures eats { (code : ℕ) (test : Press → Bool) (moment : ℕ) (given : List Given)
             → IsHold code test given self.old
             → starts_eaten ≡ test (record { moment = moment; before = given })
-            → result ≡ is_in_hold code test (record { event = event; moment = moment }) given }
-        ensures stands { (code : ℕ) (test : Press → Bool) (moment : ℕ) (eaten : Bool) (given : List Given)
-            → IsHold code test given self.old
+            → result ≡ is_in_hold code test (timed moment event) given }
+        ensures stands { (code : ℕ) (test : Press → Bool) (moment : ℕ) (eaten : Bool)
+            → (given : List Given) → IsHold code test given self.old
             → starts_eaten ≡ test (record { moment = moment; before = given })
-            → IsHold code test (record { event = event; moment = moment; eaten = eaten } ∷ given) self.new }
+            → IsHold code test (with_verdict (timed moment event) eaten ∷ given) self.new }
     {
         if !is_on_key(event, self.code) {
             return false;
