@@ -14,8 +14,6 @@
 
 mod bits;
 mod ones;
-#[cfg(test)]
-mod tests;
 mod words;
 
 pub use bits::Bits;

@@ -16,8 +16,6 @@ mod caps_refused;
 mod disposition;
 mod fuzz;
 mod ranges;
-#[cfg(test)]
-mod tests;
 
 pub use caps::Caps;
 pub use caps_builder::CapsBuilder;

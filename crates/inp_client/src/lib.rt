@@ -17,8 +17,6 @@ mod clients;
 mod location;
 mod masks;
 mod open_refused;
-#[cfg(test)]
-mod tests;
 
 pub use clients::Clients;
 pub use open_refused::OpenRefused;

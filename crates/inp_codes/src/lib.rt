@@ -26,8 +26,6 @@ mod by_number;
 mod codes;
 mod kinds;
 mod laws;
-#[cfg(test)]
-mod tests;
 
 pub use codes::{code_of, name_of};
 pub use kinds::{kind_name, kind_of};

@@ -142,6 +142,3 @@ impl Evdev for Device {
         self.step(step, out, cells)
     }
 }
-
-#[cfg(test)]
-mod tests;

@@ -56,8 +56,6 @@ mod frames;
 mod input_core;
 mod passed;
 mod raw_events;
-#[cfg(test)]
-mod tests;
 
 pub use frames::{FRAME_MAX, Frames};
 pub use input_core::Core;

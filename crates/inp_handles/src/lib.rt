@@ -10,8 +10,6 @@
 
 mod handles;
 mod refusal;
-#[cfg(test)]
-mod tests;
 
 pub use handles::Handles;
 pub use refusal::{Busy, NotGrabber};

@@ -14,7 +14,5 @@
 mod class;
 mod removal;
 mod ring;
-#[cfg(test)]
-mod tests;
 
 pub use ring::Ring;

@@ -18,7 +18,5 @@
 
 mod slot;
 mod slots;
-#[cfg(test)]
-mod tests;
 
 pub use slots::Slots;

@@ -14,8 +14,6 @@
 
 mod changes;
 mod state;
-#[cfg(test)]
-mod tests;
 
 pub use inp_caps::{Disposition, defuzz};
 pub use state::State;

@@ -34,8 +34,6 @@ mod plays;
 mod rule;
 mod seat_view;
 mod shared;
-#[cfg(test)]
-mod tests;
 
 pub use held::Held;
 pub use kept::Kept;

@@ -1,12 +1,13 @@
 //! Multi-touch events on devices with two slots and with none, worked by hand.
 
-use super::*;
+use crate::common::axis_info;
 use bitflags::Flags;
 use inp_caps::{Caps, CapsBuilder, CapsRefused};
 use inp_model::{
-    ABS_MT_POSITION_X, ABS_MT_POSITION_Y, ABS_MT_PRESSURE, ABS_MT_SLOT, ABS_MT_TRACKING_ID,
-    AxisInfo, EV_ABS, Event,
+    ABS_MT_POSITION_X, ABS_MT_POSITION_Y, ABS_MT_PRESSURE, ABS_MT_SLOT, ABS_MT_TRACKING_ID, EV_ABS,
+    Event,
 };
+use inp_slots::Slots;
 use std::test::Fail;
 
 // A slot's axes, of which that from the top has a fuzz of 8.
@@ -16,15 +17,7 @@ fn with_axes(mut builder: CapsBuilder) -> Result<Caps, CapsRefused> {
         (ABS_MT_POSITION_X, 0),
         (ABS_MT_POSITION_Y, 8),
     ] {
-        let info = AxisInfo {
-            value: 0,
-            minimum: 0,
-            maximum: 4095,
-            fuzz,
-            flat: 0,
-            resolution: 0,
-        };
-        builder.axis(code, info)?;
+        builder.axis(code, axis_info(0, 4095, fuzz))?;
     }
     Ok(builder.build())
 }

@@ -2,44 +2,18 @@
 ghost use Rattle.std.specs.Prelude.{◌≡◌, ◌<◌, true};
 ghost use Rattle.inp_model.specs.Past.{has_mask, mask_words};
 
-use super::*;
+use crate::common::{A, B, LOSS, REPORT, axis, key};
 use inp_caps::{Caps, CapsBuilder};
-use inp_model::{
-    ABS_MT_SLOT, CLIENTS_MAX, Clock, EV_ABS, EV_KEY, EV_MSC, EV_REP, EV_SYN, Event, SYN_DROPPED,
-    SYN_REPORT, Taken,
-};
+use inp_client::{Clients, OpenRefused};
+use inp_model::{ABS_MT_SLOT, CLIENTS_MAX, Clock, EV_KEY, EV_MSC, EV_REP, EV_SYN, Event, Taken};
 use std::process::Abort;
 use std::test::Fail;
-
-const A: u16 = 30;
-
-const B: u16 = 48;
 
 /// How far the realtime clock is ahead in the tests, in microseconds.
 const REALTIME: u64 = 1_000_000;
 
 /// How far the clock that counts the time asleep is ahead in the tests, in microseconds.
 const BOOTTIME: u64 = 50;
-
-const REPORT: Event = Event {
-    kind: EV_SYN,
-    code: SYN_REPORT,
-    value: 0,
-};
-
-const LOSS: Event = Event {
-    kind: EV_SYN,
-    code: SYN_DROPPED,
-    value: 0,
-};
-
-fn event(kind: u16, code: u16, value: i32) -> Event {
-    Event { kind, code, value }
-}
-
-fn key(code: u16, value: i32) -> Event {
-    event(EV_KEY, code, value)
-}
 
 fn caps() -> Result<Caps, Fail> {
     let mut builder = CapsBuilder::new();
@@ -145,8 +119,16 @@ fn masks_say_what_is_admitted(rt: HostRuntime) -> Result<(), Fail> {
     );
     expect(&rt, &mut clients, 0, &[at(key(B, 1), 2), at(REPORT, 2)]);
 
-    let delay = event(EV_REP, 0, 300);
-    let scan = event(EV_MSC, 4, 9);
+    let delay = Event {
+        kind: EV_REP,
+        code: 0,
+        value: 300,
+    };
+    let scan = Event {
+        kind: EV_MSC,
+        code: 4,
+        value: 9,
+    };
     offer(&mut clients, &caps, &[delay, scan, REPORT], 3, None);
     expect(
         &rt,
@@ -263,7 +245,7 @@ fn another_clock_empties_a_queue(rt: HostRuntime) -> Result<(), Fail> {
 fn one_clients_queue_is_flushed_and_discarded(rt: HostRuntime) -> Result<(), Fail> {
     let caps = caps()?;
     let mut clients = three(&rt)?;
-    let slot = event(EV_ABS, ABS_MT_SLOT, 1);
+    let slot = axis(ABS_MT_SLOT, 1);
     offer(&mut clients, &caps, &[key(A, 1), REPORT], 1, None);
     offer(&mut clients, &caps, &[slot, key(B, 1), REPORT], 2, None);
     assert!(rt; clients.is_open(0));

@@ -1,28 +1,17 @@
 //! A device with ample memory. What it answers after longer histories is told by its contract, and by the records of
 //! `tests/records`.
 
-use super::*;
-use inp_caps::{CapsBuilder, CapsRefused};
-use inp_model::{EV_KEY, EV_SYN, Event, KEY_A, MOMENT_MAX, SYN_REPORT};
+use crate::common::{A, A_DOWN, REPORT};
+use inp_caps::{Caps, CapsBuilder, CapsRefused};
+use inp_device::Device;
+use inp_model::{EV_KEY, Event, MOMENT_MAX, Refusal, Reply, Step, Taken};
 use std::process::Abort;
 use std::test::Fail;
-
-const A_DOWN: Event = Event {
-    kind: EV_KEY,
-    code: KEY_A,
-    value: 1,
-};
-
-const REPORT: Event = Event {
-    kind: EV_SYN,
-    code: SYN_REPORT,
-    value: 0,
-};
 
 /// A keyboard with the key A, whose history has at most so many steps.
 fn keyboard(log: u32) -> Result<Caps, CapsRefused> {
     let mut builder = CapsBuilder::new();
-    builder.code(EV_KEY, KEY_A)?;
+    builder.code(EV_KEY, A)?;
     builder.log(log)?;
     Ok(builder.build())
 }

@@ -1,5 +1,5 @@
 //! The whole table, and what is not in it.
-use crate::{code_of, kind_name, kind_of, name_of};
+use inp_codes::{code_of, kind_name, kind_of, name_of};
 
 static KINDS: [(u16, &str); 9] = [
     (0, "EV_SYN"),

@@ -1,46 +1,13 @@
 //! Rings of 64 places, against queues worked out by hand.
 
-use super::*;
-use inp_model::{
-    ABS_MT_POSITION_X, ABS_MT_SLOT, EV_ABS, EV_KEY, EV_SYN, Event, SYN_DROPPED, SYN_REPORT, Taken,
-};
+use crate::common::{A, B, LOSS, REPORT, axis, key};
+use inp_model::{ABS_MT_POSITION_X, ABS_MT_SLOT, EV_KEY, Event, Taken};
+use inp_ring::Ring;
 use std::process::Abort;
 use std::test::Fail;
 
-const A: u16 = 30;
-
-const B: u16 = 48;
-
 /// The axis X of a device without slots.
 const X: u16 = 0;
-
-const REPORT: Event = Event {
-    kind: EV_SYN,
-    code: SYN_REPORT,
-    value: 0,
-};
-
-const LOSS: Event = Event {
-    kind: EV_SYN,
-    code: SYN_DROPPED,
-    value: 0,
-};
-
-fn key(code: u16, value: i32) -> Event {
-    Event {
-        kind: EV_KEY,
-        code,
-        value,
-    }
-}
-
-fn axis(code: u16, value: i32) -> Event {
-    Event {
-        kind: EV_ABS,
-        code,
-        value,
-    }
-}
 
 /// An event with its place, and ten microseconds a place.
 fn at(event: Event, place: u8) -> Taken {

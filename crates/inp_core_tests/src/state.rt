@@ -1,18 +1,17 @@
 //! Events on a device with a code of each type, worked by hand.
 
-use super::*;
+use crate::common::{A, axis_info};
 use bitflags::Flags;
 use inp_caps::{Caps, CapsBuilder, CapsRefused};
-use inp_model::{
-    AxisInfo, EV_ABS, EV_KEY, EV_LED, EV_MSC, EV_REL, EV_REP, EV_SND, EV_SW, EV_SYN, Event, KEY_A,
-};
+use inp_model::{EV_ABS, EV_KEY, EV_LED, EV_MSC, EV_REL, EV_REP, EV_SND, EV_SW, EV_SYN, Event};
+use inp_state::{Disposition, State, defuzz};
 use std::test::Fail;
 
 // A key, an LED, a switch and the like; the axis begins at 100 and has a fuzz of 8.
 fn panel() -> Result<Caps, CapsRefused> {
     let mut builder = CapsBuilder::new();
     for (kind, code) in [
-        (EV_KEY, KEY_A),
+        (EV_KEY, A),
         (EV_REL, 0),
         (EV_MSC, 4),
         (EV_SW, 0),
@@ -22,15 +21,7 @@ fn panel() -> Result<Caps, CapsRefused> {
     ] {
         builder.code(kind, code)?;
     }
-    let info = AxisInfo {
-        value: 100,
-        minimum: 0,
-        maximum: 255,
-        fuzz: 8,
-        flat: 0,
-        resolution: 0,
-    };
-    builder.axis(0, info)?;
+    builder.axis(0, axis_info(100, 255, 8))?;
     Ok(builder.build())
 }
 
@@ -45,9 +36,9 @@ const FLUSH: u8 = 8;
 
 // A type, a code and a value; the flags of what becomes of it; and the value to pass.
 static ROWS: [(u16, u16, i32, u8, i32); 21] = [
-    (EV_KEY, KEY_A, 1, HANDLERS, 1),
-    (EV_KEY, KEY_A, 1, IGNORED, 1),
-    (EV_KEY, KEY_A, 2, HANDLERS, 2),
+    (EV_KEY, A, 1, HANDLERS, 1),
+    (EV_KEY, A, 1, IGNORED, 1),
+    (EV_KEY, A, 2, HANDLERS, 2),
     (EV_KEY, 48, 1, IGNORED, 1),
     (EV_REL, 0, 0, IGNORED, 0),
     (EV_REL, 0, -3, HANDLERS, -3),

@@ -4,11 +4,12 @@ ghost use Rattle.std.specs.Prelude.{◌≡◌, ◌≤◌, ◌++◌, ◌∷◌, [
 ghost use Rattle.inp_model.specs.declared.stamped.TheConstants.{MOMENT_MAX};
 ghost use Rattle.inp_frames.specs.Core.{IsFor};
 
-use super::*;
+use crate::common::{A, A_DOWN, REPORT, axis_info};
 use inp_caps::{Caps, CapsBuilder, CapsRefused};
+use inp_frames::{Core, Frames};
 use inp_model::{
-    ABS_MT_POSITION_X, ABS_MT_SLOT, AxisInfo, EV_ABS, EV_KEY, EV_REP, EV_SYN, Event, KEY_A,
-    MOMENT_MAX, REP_DELAY, SYN_REPORT,
+    ABS_MT_POSITION_X, ABS_MT_SLOT, EV_ABS, EV_KEY, EV_REP, EV_SYN, Event, MOMENT_MAX, REP_DELAY,
+    SYN_REPORT,
 };
 use std::alloc::{AllocError, Global};
 use std::test::Fail;
@@ -46,17 +47,9 @@ fn no_frames(alloc: Global) -> FrameList {
 // A key, the autorepeat, two slots and the horizontal position of a contact.
 fn device() -> Result<Caps, CapsRefused> {
     let mut builder = CapsBuilder::new();
-    builder.code(EV_KEY, KEY_A)?;
+    builder.code(EV_KEY, A)?;
     builder.code(EV_REP, REP_DELAY)?;
-    let info = AxisInfo {
-        value: 0,
-        minimum: 0,
-        maximum: 255,
-        fuzz: 0,
-        flat: 0,
-        resolution: 0,
-    };
-    builder.axis(ABS_MT_POSITION_X, info)?;
+    builder.axis(ABS_MT_POSITION_X, axis_info(0, 255, 0))?;
     builder.slots(2)?;
     builder.hint(8)?;
     Ok(builder.build())
@@ -106,19 +99,13 @@ fn inject_all(core: &mut Core, caps: &Caps, events: &[Event], now: u64, to: &mut
 
 const A_UP: Event = Event {
     kind: EV_KEY,
-    code: KEY_A,
+    code: A,
     value: 0,
-};
-
-const A_DOWN: Event = Event {
-    kind: EV_KEY,
-    code: KEY_A,
-    value: 1,
 };
 
 const A_REPEAT: Event = Event {
     kind: EV_KEY,
-    code: KEY_A,
+    code: A,
     value: 2,
 };
 
@@ -132,13 +119,6 @@ const X_5: Event = Event {
     kind: EV_ABS,
     code: ABS_MT_POSITION_X,
     value: 5,
-};
-
-// The report of a source.
-const REPORT: Event = Event {
-    kind: EV_SYN,
-    code: SYN_REPORT,
-    value: 0,
 };
 
 // The report of the core itself.
@@ -182,7 +162,7 @@ fn keeps_the_state(rt: HostRuntime) -> Result<(), Fail> {
         &[Action::Inject(7, &[A_DOWN, SLOT_1, X_5])],
         &mut to,
     );
-    assert!(rt; core.state().keys().get(u32::from(KEY_A)));
+    assert!(rt; core.state().keys().get(u32::from(A)));
     assert_eq!(rt; core.slots().announced(), 1);
     assert!(rt; to.events.is_empty());
     Ok(())

@@ -1,7 +1,7 @@
 //! The calls at lists of two words.
 ghost use Rattle.std.specs.Iterator.{IsFinite};
 
-use super::*;
+use inp_bits::Bits;
 use std::alloc::{AllocError, Global};
 use std::test::Fail;
 

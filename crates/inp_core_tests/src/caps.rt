@@ -1,9 +1,9 @@
 //! Values worked out elsewhere, and what the builder refuses.
 
-use super::*;
+use crate::common::axis_info;
+use inp_caps::{CapsBuilder, CapsRefused, defuzz};
 use inp_model::{
-    ABS_MT_SLOT, ABS_MT_TRACKING_ID, AxisInfo, Clock, EV_ABS, EV_KEY, EV_REP, EV_SW, EV_SYN,
-    MOMENT_MAX,
+    ABS_MT_SLOT, ABS_MT_TRACKING_ID, Clock, EV_ABS, EV_KEY, EV_REP, EV_SW, EV_SYN, MOMENT_MAX,
 };
 
 // A value, the old value, a fuzz and the value that is taken, from the rule in exact arithmetic. The first five are
@@ -98,15 +98,7 @@ static AXES: [(u16, i32, i32, Result<(), CapsRefused>); 8] = [
 fn describes_the_axes_that_there_can_be(rt: HostRuntime) {
     let mut builder = CapsBuilder::new();
     for (code, value, fuzz, expected) in AXES {
-        let info = AxisInfo {
-            value,
-            minimum: 0,
-            maximum: 9,
-            fuzz,
-            flat: 0,
-            resolution: 0,
-        };
-        let answer = builder.axis(code, info);
+        let answer = builder.axis(code, axis_info(value, 9, fuzz));
         assert_eq!(rt; answer, expected, "at {code}");
     }
 }

@@ -1,6 +1,6 @@
 //! A grab among two clients, and the flag.
 
-use super::*;
+use inp_handles::{Busy, Handles, NotGrabber};
 use std::test::Fail;
 
 #[test]

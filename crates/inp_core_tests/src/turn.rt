@@ -5,7 +5,7 @@ ghost use Rattle.inp_turn.specs.Pass.{view_of, has_turn};
 ghost use Rattle.inp_turn.specs.PassView.{whole_share};
 ghost use Rattle.inp_turn.specs.Shared.{IsPassOf};
 
-use super::*;
+use inp_turn::{Kept, NoMemory, Pass, Shared};
 use std::alloc::Global;
 use std::sync::Wait;
 use std::test::Fail;
