@@ -6,6 +6,7 @@ use Rattle.inp_model.specs.declared.stamped.Stamped.{Stamped}
 use Rattle.inp_actors.specs.declared.command.Command.{Command}
 use Rattle.inp_actors.specs.declared.command.Command.TheVariants.{Stream}
 use Rattle.inp_actors.specs.declared.device_text.DeviceText.{DeviceText}
+use Rattle.inp_actors.specs.declared.actor_text.TheConstants.{ACTORS_MAX}
 use Rattle.inp_actors.specs.declared.actor_text.ActorText.{ActorText}
 use Rattle.inp_actors.specs.declared.line.Line.{Line}
 use Rattle.inp_actors.specs.Command.{is_command_of, is_in_range}
@@ -42,8 +43,9 @@ pub record IsRecord (r : RecordView) : Type 0 where
   -- the stream commands have the streams, in line order
   pub numbered : streams_of r.lines ≡ range_with_len 0 (length r.streams)
   pub in_time : (i : ℕ) (stamps : List Stamped) → slice_get r.streams i ≡ Some stamps → AreInTime stamps
-  -- the lists can be numbered by 32 bits
+  -- there are no more actors than a record may have
+  pub few_actors : length r.actors ≤ ACTORS_MAX
+  -- the other lists can be numbered by 32 bits
   pub few_devices : length r.devices < 2 ^ 32
-  pub few_actors : length r.actors < 2 ^ 32
   pub few_lines : length r.lines < 2 ^ 32
   pub few_streams : length r.streams < 2 ^ 32

@@ -21,7 +21,7 @@ mod role;
 #[cfg(test)]
 mod tests;
 
-pub use actor_text::{ActorText, Actors};
+pub use actor_text::{ACTORS_MAX, ActorText, Actors};
 pub use command::{Command, READ_MAX};
 pub use device_text::{DeviceText, Devices};
 pub use file_name::FileName;

@@ -15,7 +15,8 @@ pub type Stamps = Items<Stamped>;
 pub type Streams = Items<Stamps>;
 
 /// A recorded device file. It keeps that its indices are in range, that each line's command is one that its actor's role
-/// has, that each number is one that a line may have, and that there is one stream for each stream command.
+/// has, that each number is one that a line may have, that there is one stream for each stream command, and that it has at
+/// most [`ACTORS_MAX`](crate::ACTORS_MAX) actors.
 ///
 /// Contracts see it as its four lists.
 #[derive(Drop)]

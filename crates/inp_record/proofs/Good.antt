@@ -1,31 +1,34 @@
 -- What all pasts keep that lines can have.
-use Rattle.std.proofs.Common.{◌≡◌, ℕ, zero, suc, ◌+◌, ◌<◌, ◌≤◌, ◌^◌, Bool, true, false, ◌||◌, not, is_some, if◌then◌else◌, List, [], ◌∷◌, ◌++◌, length, replicate, Option, Some, None, Result, Ok, Err, refl, sym, ap, ◌∙◌, subst, arith, length-append, ◌⊎◌, inl, inr}
+use Rattle.std.proofs.Common.{◌≡◌, ℕ, zero, suc, ◌+◌, ◌<◌, ◌≤◌, ◌^◌, Bool, true, false, ◌||◌, not, is_some, if◌then◌else◌, ◌*◌, nat_le, List, [], ◌∷◌, ◌++◌, length, replicate, Option, Some, None, Result, Ok, Err, refl, sym, ap, ◌∙◌, subst, arith, length-append, ◌⊎◌, inl, inr}
 use Rattle.std.specs.Prelude.{slice_get}
 use Rattle.std.specs.List.{range_with_len}
+use Rattle.std.proofs.lemmas.Bool.Decides.{nat_tests}
 use Rattle.std.proofs.lemmas.Grind.{flat_map-append}
 use Rattle.std.proofs.lemmas.List.{append-nil}
 use Rattle.std.proofs.lemmas.Option.{slice_get_within}
 use Rattle.inp_model.specs.declared.stamped.Stamped.{Stamped}
 use Rattle.inp_model.specs.Description.{Description}
+use Rattle.inp_actors.specs.declared.actor_text.TheConstants.{ACTORS_MAX}
 use Rattle.inp_actors.specs.declared.actor_text.ActorText.{ActorText}
 use Rattle.inp_actors.specs.declared.line.Line.{Line}
 use Rattle.inp_actors.specs.declared.command.Command.{Command}
 use Rattle.inp_actors.specs.declared.command.Command.TheVariants as commands
 use Rattle.inp_actors.specs.declared.role.Role as role
 use Rattle.inp_actors.specs.declared.role.Role.TheVariants as roles
-use Rattle.inp_actors.specs.Command.{is_command_of, is_in_range}
+use Rattle.inp_actors.specs.Command.{is_command_of, is_in_range, is_source}
 use Rattle.inp_actors.specs.Record.{stream_of, streams_of, AreInTime, IsRecord}
 use Rattle.inp_words.specs.Line.{is_comment, is_text, words_of}
 use Rattle.inp_record.specs.declared.cause.Cause.{Cause}
 use Rattle.inp_record.specs.declared.cause.Cause.TheVariants.{NotText}
+use Rattle.inp_record.specs.declared.context.TheConstants.{DEVICES_MAX, SOURCES_MAX, READERS_MAX}
 use Rattle.inp_record.specs.declared.item.Item as item
 use Rattle.inp_record.specs.declared.item.Item.TheVariants.{Header, Device, Hint, Log, Realtime, Boottime, Slots, Kind, Code, Axis, Actor, Action}
 use Rattle.inp_record.specs.declared.keyword.Keyword as keyword
 use Rattle.inp_record.specs.Place.{is_describing, is_naming, is_out_of_place}
 use Rattle.inp_record.specs.Words.{item_of, action_item, or_bad_word, plain_item, is_action}
-use Rattle.inp_record.specs.Past.{Past, place_of, latest_name, latest_description, former_devices, devices_of, with_latest, actors_of, lines_of, stream_count, streams_in, context_of}
-use Rattle.inp_record.specs.Meaning.{checked, item_of_words, behind, behind_words, behind_line, go_on, behind_lines, record_of}
-use Rattle.inp_record.proofs.Inversions.{IsAct, IsPlaced, keyword_for, checked_is, words_are, plain_keyword, act_is}
+use Rattle.inp_record.specs.Past.{Past, place_of, latest_name, latest_description, former_devices, devices_of, with_latest, actors_of, lines_of, source_count, reader_count, stream_count, streams_in, context_of}
+use Rattle.inp_record.specs.Meaning.{device_count, has_all, is_too_many, checked, item_of_words, behind, behind_words, behind_line, go_on, behind_lines, record_of}
+use Rattle.inp_record.proofs.Inversions.{IsAct, IsChecked, IsPlaced, keyword_for, checked_is, words_are, plain_keyword, act_is}
 use Rattle.inp_record.proofs.Rooms.{closed_length}
 
 pub push_get : {X : Type 0} (xs : List X) (y : X) (i : ℕ) (a : X) → slice_get (xs ++ y ∷ []) i ≡ Some a → (slice_get xs i ≡ Some a) ⊎ (a ≡ y)
@@ -46,6 +49,14 @@ range_on a (suc n) m =
     let same : a + 1 + n ≡ a + suc n = omega arith in
     rw (next, range_on (a + 1) n m, same) refl
 
+-- Only a device has actors, and each device has only so many.
+pub record HasFewActors (past : Past) : Type 0 where
+  pub devices : length (devices_of past) ≤ DEVICES_MAX
+  pub sources : source_count past ≤ SOURCES_MAX
+  pub readers : reader_count past ≤ READERS_MAX
+  pub latest : source_count past + reader_count past ≤ (if is_some (latest_name past) then SOURCES_MAX + READERS_MAX else 0)
+  pub all : length (actors_of past) ≤ (SOURCES_MAX + READERS_MAX) * length (former_devices past) + (source_count past + reader_count past)
+
 -- the lists of a past are those of a record, and no longer than so many
 pub record IsGood (n : ℕ) (past : Past) : Type 0 where
   pub named : (is_describing (place_of past) || is_naming (place_of past)) ≡ true → is_some (latest_name past) ≡ true
@@ -55,14 +66,14 @@ pub record IsGood (n : ℕ) (past : Past) : Type 0 where
   pub ranges : (i : ℕ) (l : Line) → slice_get (lines_of past) i ≡ Some l → is_in_range l.command ≡ true
   pub numbered : streams_of (lines_of past) ≡ range_with_len 0 (stream_count past)
   pub few_devices : length (devices_of past) ≤ n
-  pub few_actors : length (actors_of past) ≤ n
+  pub few_actors : HasFewActors past
   pub few_lines : length (lines_of past) ≤ n
   pub few_streams : stream_count past ≤ n
 
 -- a line that adds to none of the lists
 goes_on : (n : ℕ) (past new : Past) → IsGood n past → ((is_describing (place_of new) || is_naming (place_of new)) ≡ true → is_some (latest_name new) ≡ true)
-    → actors_of new ≡ actors_of past → lines_of new ≡ lines_of past → stream_count new ≡ stream_count past → length (devices_of new) ≡ length (devices_of past) → IsGood (suc n) new
-goes_on n past new good named a l s d = record {
+    → actors_of new ≡ actors_of past → lines_of new ≡ lines_of past → stream_count new ≡ stream_count past → length (devices_of new) ≡ length (devices_of past) → HasFewActors new → IsGood (suc n) new
+goes_on n past new good named a l s d few = record {
   named = named;
   devices = λ i x h. omega (arith, d, good.devices i x (rw a at h));
   actors = λ i x h. omega (arith, ap length a, good.actors i x (rw l at h));
@@ -70,7 +81,7 @@ goes_on n past new good named a l s d = record {
   ranges = λ i x h. good.ranges i x (rw l at h);
   numbered = rw (l, s) good.numbered;
   few_devices = omega (arith, good.few_devices);
-  few_actors = omega (arith, ap length a, good.few_actors);
+  few_actors = few;
   few_lines = omega (arith, ap length l, good.few_lines);
   few_streams = omega (arith, good.few_streams);
 }
@@ -89,14 +100,30 @@ or_left false b h = absurd (cc h)
 
 -- a description of the latest device
 described : (n : ℕ) (past : Past) (new : Past) → IsGood n past → not (is_describing (place_of past)) ≡ false → latest_name new ≡ latest_name past
-    → actors_of new ≡ actors_of past → lines_of new ≡ lines_of past → stream_count new ≡ stream_count past → former_devices new ≡ former_devices past → IsGood (suc n) new
-described n past new good place name a l s f =
-    goes_on n past new good (λ h. rw name (good.named (or_left (is_describing (place_of past)) (is_naming (place_of past)) (describing (is_describing (place_of past)) place)))) a l s
-    (rw (f, name) (as_many past (latest_description new)))
+    → actors_of new ≡ actors_of past → lines_of new ≡ lines_of past → stream_count new ≡ stream_count past → former_devices new ≡ former_devices past → source_count new ≡ source_count past → reader_count new ≡ reader_count past → IsGood (suc n) new
+described n past new good place name a l s f sources readers =
+    let long : length (devices_of new) ≡ length (devices_of past) = rw (f, name) (as_many past (latest_description new)) in
+    let few : HasFewActors past = good.few_actors in
+    goes_on n past new good (λ h. rw name (good.named (or_left (is_describing (place_of past)) (is_naming (place_of past)) (describing (is_describing (place_of past)) place)))) a l s long
+    (record {
+      devices = omega (arith, long, few.devices);
+      sources = omega (arith, sources, few.sources);
+      readers = omega (arith, readers, few.readers);
+      latest = rw (name, sources, readers) few.latest;
+      all = rw (a, f, sources, readers) few.all;
+    })
 
-device_begun : (n : ℕ) (past : Past) (name : List ℕ) → IsGood n past → IsGood (suc n) (Device name ∷ past)
-device_begun n past name good =
+-- the actors before a device that is begun
+begun_all : (actors former all here : ℕ) (some : Bool) → actors ≤ 136 * former + here → here ≤ (if some then 136 else 0) → all ≡ former + (if some then 1 else 0) → actors ≤ 136 * all + 0
+begun_all actors former all here true h k e = omega arith
+begun_all actors former all here false h k e = omega arith
+
+device_begun : (n : ℕ) (past : Past) (name : List ℕ) → IsGood n past → nat_le DEVICES_MAX (device_count (context_of past)) ≡ false → IsGood (suc n) (Device name ∷ past)
+device_begun n past name good enough =
     let count : length (devices_of (Device name ∷ past)) ≡ length (devices_of past) + 1 = length-append (devices_of past) _ in
+    let before : length (devices_of past) ≡ length (former_devices past) + (if is_some (latest_name past) then 1 else 0) = closed_length (former_devices past) (latest_name past) (latest_description past) in
+    let less : length (former_devices past) + (if is_some (latest_name past) then 1 else 0) < 8 = grind (arith, nat_tests, enough) in
+    let few : HasFewActors past = good.few_actors in
     record {
       named = λ h. refl;
       devices = λ i x h. omega (arith, count, good.devices i x h);
@@ -105,17 +132,31 @@ device_begun n past name good =
       ranges = good.ranges;
       numbered = good.numbered;
       few_devices = omega (arith, count, good.few_devices);
-      few_actors = omega (arith, good.few_actors);
+      few_actors = record {
+        devices = omega (arith, count, before, less);
+        sources = omega arith;
+        readers = omega arith;
+        latest = omega arith;
+        all = begun_all (length (actors_of past)) (length (former_devices past)) (length (devices_of past)) (source_count past + reader_count past) (is_some (latest_name past)) few.all few.latest before;
+      };
       few_lines = omega (arith, good.few_lines);
       few_streams = omega (arith, good.few_streams);
     }
 
-actor_added : (n : ℕ) (past : Past) (r : role.Role) (name : List ℕ) → IsGood n past → not (is_describing (place_of past) || is_naming (place_of past)) ≡ false → IsGood (suc n) (Actor r name ∷ past)
-actor_added n past r name good place =
+-- there was room for one actor more
+one_more : (source : Bool) (sources readers : ℕ) → sources ≤ 8 → readers ≤ 128 → (if source then nat_le 8 sources else nat_le 128 readers) ≡ false
+    → (sources + (if source then 1 else 0) ≤ 8) × (readers + (if source then 0 else 1) ≤ 128) × ((sources + (if source then 1 else 0)) + (readers + (if source then 0 else 1)) ≡ (sources + readers) + 1)
+one_more true sources readers h k e = (grind (arith, nat_tests, e), omega arith, omega arith)
+one_more false sources readers h k e = (omega arith, grind (arith, nat_tests, e), omega arith)
+
+actor_added : (n : ℕ) (past : Past) (r : role.Role) (name : List ℕ) → IsGood n past → not (is_describing (place_of past) || is_naming (place_of past)) ≡ false → has_all (context_of past) r ≡ false → IsGood (suc n) (Actor r name ∷ past)
+actor_added n past r name good place enough =
     let some : is_some (latest_name past) ≡ true = good.named (describing (is_describing (place_of past) || is_naming (place_of past)) place) in
     let new : ActorText = record { name = name; role = r; device = length (former_devices past) } in
     let size : length (actors_of past ++ new ∷ []) ≡ length (actors_of past) + 1 = length-append (actors_of past) (new ∷ []) in
     let latest : length (devices_of past) ≡ length (former_devices past) + 1 = closed_length (former_devices past) (latest_name past) (latest_description past) ∙ ap (λ (b : Bool). length (former_devices past) + (if b then 1 else 0)) some in
+    let few : HasFewActors past = good.few_actors in
+    let more = one_more (is_source r) (source_count past) (reader_count past) few.sources few.readers enough in
     record {
       named = λ h. some;
       devices = λ i x h. elim (push_get (actors_of past) new i x h) [
@@ -127,7 +168,13 @@ actor_added n past r name good place =
       ranges = good.ranges;
       numbered = good.numbered;
       few_devices = omega (arith, good.few_devices);
-      few_actors = omega (arith, size, good.few_actors);
+      few_actors = record {
+        devices = few.devices;
+        sources = more.0;
+        readers = more.1;
+        latest = rw some (omega (arith, more.0, more.1));
+        all = omega (arith, size, few.all, more.2);
+      };
       few_lines = omega (arith, good.few_lines);
       few_streams = omega (arith, good.few_streams);
     }
@@ -168,26 +215,28 @@ action_added n past actor c good act =
           ∙ ap (λ (k : ℕ). range_with_len 0 (stream_count past) ++ range_with_len k (streams_in c)) (omega arith)
           ∙ sym (range_on 0 (stream_count past) (streams_in c));
       few_devices = omega (arith, good.few_devices);
-      few_actors = omega (arith, good.few_actors);
+      few_actors = (let few : HasFewActors past = good.few_actors in record { devices = few.devices; sources = few.sources; readers = few.readers; latest = few.latest; all = few.all });
       few_lines = omega (arith, size, good.few_lines);
       few_streams = omega (arith, good.few_streams, few_in c);
     }
 
-plain_added : (n : ℕ) (past : Past) (i : item.Item) → IsGood n past → is_out_of_place (place_of past) (keyword_for i) ≡ false → is_action (keyword_for i) ≡ false → IsGood (suc n) (i ∷ past)
-plain_added n past Header good place plain = goes_on n past (Header ∷ past) good (λ h. absurd (cc h)) refl refl refl refl
-plain_added n past (Device name) good place plain = device_begun n past name good
-plain_added n past (Hint count) good place plain = described n past (Hint count ∷ past) good place refl refl refl refl refl
-plain_added n past (Log count) good place plain = described n past (Log count ∷ past) good place refl refl refl refl refl
-plain_added n past (Realtime offset) good place plain = described n past (Realtime offset ∷ past) good place refl refl refl refl refl
-plain_added n past (Boottime offset) good place plain = described n past (Boottime offset ∷ past) good place refl refl refl refl refl
-plain_added n past (Slots count) good place plain = described n past (Slots count ∷ past) good place refl refl refl refl refl
-plain_added n past (Kind kind) good place plain = described n past (Kind kind ∷ past) good place refl refl refl refl refl
-plain_added n past (Code kind code) good place plain = described n past (Code kind code ∷ past) good place refl refl refl refl refl
-plain_added n past (Axis code info) good place plain = described n past (Axis code info ∷ past) good place refl refl refl refl refl
-plain_added n past (Actor roles.Source name) good place plain = actor_added n past roles.Source name good place
-plain_added n past (Actor roles.Client name) good place plain = actor_added n past roles.Client name good place
-plain_added n past (Actor roles.Tap name) good place plain = actor_added n past roles.Tap name good place
-plain_added n past (Action actor command) good place plain = absurd (cc plain)
+plain_added : (n : ℕ) (past : Past) (i : item.Item) → IsGood n past → is_out_of_place (place_of past) (keyword_for i) ≡ false → is_action (keyword_for i) ≡ false → is_too_many (context_of past) i ≡ false → IsGood (suc n) (i ∷ past)
+plain_added n past Header good place plain enough =
+    let few : HasFewActors past = good.few_actors in
+    goes_on n past (Header ∷ past) good (λ h. absurd (cc h)) refl refl refl refl (record { devices = few.devices; sources = few.sources; readers = few.readers; latest = few.latest; all = few.all })
+plain_added n past (Device name) good place plain enough = device_begun n past name good enough
+plain_added n past (Hint count) good place plain enough = described n past (Hint count ∷ past) good place refl refl refl refl refl refl refl
+plain_added n past (Log count) good place plain enough = described n past (Log count ∷ past) good place refl refl refl refl refl refl refl
+plain_added n past (Realtime offset) good place plain enough = described n past (Realtime offset ∷ past) good place refl refl refl refl refl refl refl
+plain_added n past (Boottime offset) good place plain enough = described n past (Boottime offset ∷ past) good place refl refl refl refl refl refl refl
+plain_added n past (Slots count) good place plain enough = described n past (Slots count ∷ past) good place refl refl refl refl refl refl refl
+plain_added n past (Kind kind) good place plain enough = described n past (Kind kind ∷ past) good place refl refl refl refl refl refl refl
+plain_added n past (Code kind code) good place plain enough = described n past (Code kind code ∷ past) good place refl refl refl refl refl refl refl
+plain_added n past (Axis code info) good place plain enough = described n past (Axis code info ∷ past) good place refl refl refl refl refl refl refl
+plain_added n past (Actor roles.Source name) good place plain enough = actor_added n past roles.Source name good place enough
+plain_added n past (Actor roles.Client name) good place plain enough = actor_added n past roles.Client name good place enough
+plain_added n past (Actor roles.Tap name) good place plain enough = actor_added n past roles.Tap name good place enough
+plain_added n past (Action actor command) good place plain enough = absurd (cc plain)
 
 pub or_bad_is : (o : Option item.Item) (i : item.Item) → or_bad_word o ≡ Ok i → o ≡ Some i
 or_bad_is None i e = absurd (cc e)
@@ -204,10 +253,10 @@ item_is actors s k ws i e = by_action (is_action k) refl e
     by_action true h e = inl (act_is actors s ws i e)
     by_action false h e = inr (plain_keyword k ws i (or_bad_is (plain_item k ws) i e), h)
 
-added : (n : ℕ) (past : Past) (ws : List (List ℕ)) (i : item.Item) → IsGood n past → IsPlaced (context_of past) ws i → IsGood (suc n) (i ∷ past)
-added n past ws i good p = elim (item_is (actors_of past) (stream_count past) p.keyword ws i p.item) [
+added : (n : ℕ) (past : Past) (ws : List (List ℕ)) (i : item.Item) → IsGood n past → IsPlaced (context_of past) ws i → is_too_many (context_of past) i ≡ false → IsGood (suc n) (i ∷ past)
+added n past ws i good p enough = elim (item_is (actors_of past) (stream_count past) p.keyword ws i p.item) [
   | inl h ↦ let P : item.Item → Type 0 = λ x. IsGood (suc n) (x ∷ past) in subst P (sym h.2) (action_added n past h.0 h.1 good h.3)
-  | inr h ↦ plain_added n past i good (rw h.0 p.in_place) (rw h.0 h.1)
+  | inr h ↦ plain_added n past i good (rw h.0 p.in_place) (rw h.0 h.1) enough
 ]
 
 -- a line that adds nothing
@@ -220,23 +269,26 @@ stays n past good = record {
   ranges = good.ranges;
   numbered = good.numbered;
   few_devices = omega (arith, good.few_devices);
-  few_actors = omega (arith, good.few_actors);
+  few_actors = good.few_actors;
   few_lines = omega (arith, good.few_lines);
   few_streams = omega (arith, good.few_streams);
 }
 
-behind_good : (n : ℕ) (past now : Past) (ws : List (List ℕ)) (means : Result item.Item Cause) → IsGood n past → ((i : item.Item) → means ≡ Ok i → IsPlaced (context_of past) ws i) → behind past means ≡ Ok now → IsGood (suc n) now
+behind_good : (n : ℕ) (past now : Past) (ws : List (List ℕ)) (means : Result item.Item Cause) → IsGood n past → ((i : item.Item) → means ≡ Ok i → IsPlaced (context_of past) ws i × (is_too_many (context_of past) i ≡ false)) → behind past means ≡ Ok now → IsGood (suc n) now
 behind_good n past now ws (Err cause) good p e = absurd (cc e)
 behind_good n past now ws (Ok i) good p e =
     let same : i ∷ past ≡ now = cc e in
     let P : Past → Type 0 = λ x. IsGood (suc n) x in
-    subst P same (added n past ws i good (p i refl))
+    let h = p i refl in
+    subst P same (added n past ws i good h.0 h.1)
 
 words_good : (n : ℕ) (past now : Past) (ws : List (List ℕ)) → IsGood n past → behind_words past ws ≡ Ok now → IsGood (suc n) now
 words_good n past now [] good e = let same : past ≡ now = cc e in let P : Past → Type 0 = λ x. IsGood (suc n) x in subst P same (stays n past good)
 words_good n past now (w ∷ ws) good e =
     behind_good n past now (w ∷ ws) (checked (context_of past) (item_of_words (context_of past) (w ∷ ws))) good
-    (λ i h. words_are (context_of past) (w ∷ ws) i (checked_is (context_of past) (item_of_words (context_of past) (w ∷ ws)) i h).read) e
+    (λ i h.
+    let is : IsChecked (context_of past) (item_of_words (context_of past) (w ∷ ws)) i = checked_is (context_of past) (item_of_words (context_of past) (w ∷ ws)) i h in
+    (words_are (context_of past) (w ∷ ws) i is.read, is.enough)) e
 
 line_good : (n : ℕ) (past now : Past) (line : List ℕ) → IsGood n past → behind_line past line ≡ Ok now → IsGood (suc n) now
 unfolding behind_line
@@ -268,7 +320,7 @@ none_good = record {
   ranges = λ i x h. absurd (cc h);
   numbered = refl;
   few_devices = omega arith;
-  few_actors = omega arith;
+  few_actors = record { devices = omega arith; sources = omega arith; readers = omega arith; latest = omega arith; all = omega arith };
   few_lines = omega arith;
   few_streams = omega arith;
 }
@@ -281,6 +333,12 @@ empty_get (suc n) (suc i) x h = empty_get n i x h
 empty_length : (n : ℕ) → length (replicate {A = List Stamped} n []) ≡ n
 empty_length zero = refl
 empty_length (suc n) = omega (arith, empty_length n)
+
+all_few : (past : Past) → HasFewActors past → length (actors_of past) ≤ ACTORS_MAX
+all_few past few =
+    let before : length (devices_of past) ≡ length (former_devices past) + (if is_some (latest_name past) then 1 else 0) = closed_length (former_devices past) (latest_name past) (latest_description past) in
+    let most : length (actors_of past) ≤ 136 * length (devices_of past) + 0 = begun_all (length (actors_of past)) (length (former_devices past)) (length (devices_of past)) (source_count past + reader_count past) (is_some (latest_name past)) few.all few.latest before in
+    omega (arith, most, few.devices)
 
 -- what lines mean is a record
 pub IsRecord-read : (lines : List (List ℕ)) (past : Past) → length lines < 2 ^ 32 → behind_lines 1 lines [] ≡ Ok past → IsRecord (record_of past)
@@ -295,7 +353,7 @@ IsRecord-read lines past h e =
       numbered = rw few good.numbered;
       in_time = λ i x g. empty_get (stream_count past) i x g;
       few_devices = omega (arith, good.few_devices);
-      few_actors = omega (arith, good.few_actors);
+      few_actors = all_few past good.few_actors;
       few_lines = omega (arith, good.few_lines);
       few_streams = omega (arith, few, good.few_streams);
     }
