@@ -1,0 +1,66 @@
+-- What a reader did in one call, and then in another.
+use Rattle.std.proofs.Common.{◌≡◌, ℕ, List, [], ◌++◌, reverse, refl, sym, ap, subst, ◌∙◌, append_assoc, append-nil}
+use Rattle.inp_model.specs.Description.{Description}
+use Rattle.inp_model.specs.Evdev.{EvdevView}
+use Rattle.inp_reader.specs.declared.call_made.CallMade.{CallMade}
+use Rattle.inp_reader.specs.declared.mode.Mode.{Mode}
+use Rattle.inp_reader.specs.declared.next.Next.{Next}
+use Rattle.inp_reader.specs.Leaving.{LeavesMade}
+use Rattle.inp_reader.specs.Reading.{Reading, ReaderView, next_talk}
+use Rattle.inp_reader.specs.Says.{Says}
+use Rattle.inp_reader.specs.Showing.{AnswerShows}
+use Rattle.inp_reader.specs.Standing.{StandsAt, Stands, IsAlone}
+use Rattle.inp_reader.proofs.Alones.{alone-first, alone-then}
+use Rattle.inp_reader.proofs.Leavings.{leaves_made-none, leaves_made-then}
+use Rattle.inp_reader.proofs.SayingStands.{client-in}
+use Rattle.inp_joy.specs.Kept.{Goes}
+
+-- one `next`
+pub goes-next : (before after : EvdevView) (old new : List CallMade) (mode : Mode) (r s : ReaderView) (next : Next) → Says before after [] s.made (next_talk r.description mode r.reading) (next, s.reading) → s.description ≡ r.description → LeavesMade before after s.made → new ≡ old ++ s.made
+    → (Stands before r → IsAlone before after s.reading.client s.made → Stands after s) → (Stands before r → IsAlone before after s.reading.client s.made → AnswerShows after s next) → Goes before after old new r.description r.reading s.reading (AnswerShows after s next)
+goes-next before after old new mode r s next says same left kept stands shows = record {
+  more = s.made;
+  kept = kept;
+  left = left;
+  client = client-in r.description mode r.reading.phase r.reading says.calls (next, s.reading) says.talk_ends;
+  stands = λ stood alone. subst (λ (d : Description). StandsAt d (reverse after.seen) s.reading) same (stands stood alone);
+  shows = shows;
+}
+
+-- nothing
+pub goes-none : (told : EvdevView) (made : List CallMade) (d : Description) (r : Reading) (Shown : Type 0) → Shown → Goes told told made made d r r Shown
+goes-none told made d r Shown shown = record {
+  more = [];
+  kept = sym (append-nil made);
+  left = leaves_made-none told;
+  client = refl;
+  stands = λ stood alone. stood;
+  shows = λ stood alone. shown;
+}
+
+-- one call, and then another
+pub goes-then : (before between after : EvdevView) (old mid new : List CallMade) (d : Description) (r s t : Reading) (Shown First : Type 0) → Goes before between old mid d r s First → Goes between after mid new d s t Shown → Goes before after old new d r t Shown
+goes-then before between after old mid new d r s t Shown First g h = record {
+  more = g.more ++ h.more;
+  kept = h.kept ∙ ap (λ (ms : List CallMade). ms ++ h.more) g.kept ∙ append_assoc old g.more h.more;
+  left = leaves_made-then before between after g.more h.more g.left h.left;
+  client = h.client ∙ g.client;
+  stands = λ stood alone.
+      h.stands (g.stands stood (first alone)) (alone-then before between after t.client g.more h.more g.left alone);
+  shows = λ stood alone.
+      h.shows (g.stands stood (first alone)) (alone-then before between after t.client g.more h.more g.left alone);
+}
+  where
+    first : IsAlone before after t.client (g.more ++ h.more) → IsAlone before between s.client g.more
+    first alone = subst (λ (n : ℕ). IsAlone before between n g.more) h.client (alone-first before between after t.client g.more h.more h.left alone)
+
+-- what is shown says something else too
+pub goes-weaker : (before after : EvdevView) (old new : List CallMade) (d : Description) (r s : Reading) (Shown Other : Type 0) → (Shown → Other) → Goes before after old new d r s Shown → Goes before after old new d r s Other
+goes-weaker before after old new d r s Shown Other other g = record {
+  more = g.more;
+  kept = g.kept;
+  left = g.left;
+  client = g.client;
+  stands = g.stands;
+  shows = λ stood alone. other (g.shows stood alone);
+}

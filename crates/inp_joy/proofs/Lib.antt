@@ -1,0 +1,15 @@
+pub mod Lists
+pub mod CodeLists
+pub mod Startups
+pub mod Pictures
+pub mod Numbers
+pub mod Events
+pub mod Counting
+pub mod Nexts
+pub mod Goings
+pub mod Turning
+pub mod TurnEnds
+pub mod Devices
+pub mod Outcomes
+pub mod Passing
+pub mod NewJoys

@@ -1,0 +1,206 @@
+-- Codes that occur once, by their numbers, and what a function of them is that changes at one.
+use Rattle.std.proofs.Common.{◌≡◌, ℕ, zero, suc, ◌+◌, ◌-◌, ◌<◌, ◌≤◌, Bool, true, false, cond, nat_eq, nat_lt, List, [], ◌∷◌, ◌++◌, length, map, take, set, get_or, replicate, Some, None, refl, sym, ap, subst, ◌∙◌, arith, inl, inr, ◌⊎◌}
+use Rattle.std.specs.List.{range_with_len, filter, position_from}
+use Rattle.std.proofs.lemmas.Bool.Decides.{nat_tests}
+use Rattle.std.proofs.lemmas.Iterator.Adapters.{position_from-zero}
+use Rattle.std.proofs.lemmas.List.{set-append_left, length-set}
+use Rattle.inp_model.specs.declared.event.TheConstants.{EV_KEY, EV_ABS}
+use Rattle.inp_model.specs.Description.{Description, supports}
+use Rattle.inp_joy.specs.Codes.{codes_among, buttons, axes, number_of}
+use Rattle.inp_joy.specs.Picture.{up_to_64}
+use Rattle.inp_joy.proofs.CodeLists.{axes-are}
+
+-- How often a code occurs
+
+abbrev pub occurs : ℕ → List ℕ → ℕ
+occurs code [] = 0
+occurs code (c ∷ cs) = cond (nat_eq c code) (suc (occurs code cs)) (occurs code cs)
+
+occurs-append : (code : ℕ) (xs ys : List ℕ) → occurs code (xs ++ ys) ≡ occurs code xs + occurs code ys
+occurs-append code [] ys = omega arith
+occurs-append code (x ∷ xs) ys = by_flag (nat_eq x code) (occurs-append code xs ys)
+  where
+    by_flag : (b : Bool) → occurs code (xs ++ ys) ≡ occurs code xs + occurs code ys → cond b (suc (occurs code (xs ++ ys))) (occurs code (xs ++ ys)) ≡ cond b (suc (occurs code xs)) (occurs code xs) + occurs code ys
+    by_flag true h = omega (arith, h)
+    by_flag false h = h
+
+occurs-take : (code n : ℕ) (xs : List ℕ) → occurs code (take n xs) ≤ occurs code xs
+occurs-take code zero xs = omega arith
+occurs-take code (suc n) [] = omega arith
+occurs-take code (suc n) (x ∷ xs) = by_flag (nat_eq x code) (occurs-take code n xs)
+  where
+    by_flag : (b : Bool) → occurs code (take n xs) ≤ occurs code xs → cond b (suc (occurs code (take n xs))) (occurs code (take n xs)) ≤ cond b (suc (occurs code xs)) (occurs code xs)
+    by_flag true h = omega (arith, h)
+    by_flag false h = h
+
+occurs-filter : (code : ℕ) (test : ℕ → Bool) (xs : List ℕ) → occurs code (filter test xs) ≤ occurs code xs
+occurs-filter code test [] = omega arith
+occurs-filter code test (x ∷ xs) = by_flags (test x) (nat_eq x code) refl (occurs-filter code test xs)
+  where
+    by_flags : (b e : Bool) → nat_eq x code ≡ e → occurs code (filter test xs) ≤ occurs code xs → occurs code (cond b (x ∷ filter test xs) (filter test xs)) ≤ cond e (suc (occurs code xs)) (occurs code xs)
+    by_flags true true is h = omega (arith, h, ap (λ (e : Bool). cond e (suc (occurs code (filter test xs))) (occurs code (filter test xs))) is)
+    by_flags true false is h = omega (arith, h, ap (λ (e : Bool). cond e (suc (occurs code (filter test xs))) (occurs code (filter test xs))) is)
+    by_flags false true is h = omega (arith, h)
+    by_flags false false is h = h
+
+none-if : (code x : ℕ) (n : ℕ) → (x ≡ code → ⊥) → cond (nat_eq x code) (suc n) n ≡ n
+none-if code x n apart = by_flag (nat_eq x code) refl
+  where
+    by_flag : (b : Bool) → nat_eq x code ≡ b → cond b (suc n) n ≡ n
+    by_flag true is = absurd (apart (grind (arith, nat_tests, is)))
+    by_flag false is = refl
+
+-- none is in a range that is past it
+occurs-past : (code first n : ℕ) → code < first → occurs code (range_with_len first n) ≡ 0
+occurs-past code first zero h = refl
+occurs-past code first (suc n) h = none-if code first (occurs code (range_with_len (first + 1) n)) (λ e. omega (arith, h, e)) ∙ occurs-past code (first + 1) n (omega (arith, h))
+
+-- nor in one that is before it
+occurs-before : (code first n : ℕ) → first + n ≤ code → occurs code (range_with_len first n) ≡ 0
+occurs-before code first zero h = refl
+occurs-before code first (suc n) h = none-if code first (occurs code (range_with_len (first + 1) n)) (λ e. omega (arith, h, e)) ∙ occurs-before code (first + 1) n (omega (arith, h))
+
+occurs-range : (code first n : ℕ) → occurs code (range_with_len first n) ≤ 1
+occurs-range code first zero = omega arith
+occurs-range code first (suc n) = by_flag (nat_eq first code) refl (occurs-range code (first + 1) n) (λ e. occurs-past code (first + 1) n (omega (arith, e)))
+  where
+    by_flag : (b : Bool) → nat_eq first code ≡ b → occurs code (range_with_len (first + 1) n) ≤ 1 → (first ≡ code → occurs code (range_with_len (first + 1) n) ≡ 0) → cond b (suc (occurs code (range_with_len (first + 1) n))) (occurs code (range_with_len (first + 1) n)) ≤ 1
+    by_flag true is h k = let e : first ≡ code = grind (arith, nat_tests, is) in omega (arith, k e)
+    by_flag false is h k = h
+
+among-past : (d : Description) (kind code first n : ℕ) → code < first → occurs code (codes_among d kind first n) ≡ 0
+unfolding codes_among
+among-past d kind code first n h = omega (arith, occurs-filter code (supports d kind) (range_with_len first n), occurs-past code first n h)
+
+among-before : (d : Description) (kind code first n : ℕ) → first + n ≤ code → occurs code (codes_among d kind first n) ≡ 0
+unfolding codes_among
+among-before d kind code first n h = omega (arith, occurs-filter code (supports d kind) (range_with_len first n), occurs-before code first n h)
+
+among-once : (d : Description) (kind code first n : ℕ) → occurs code (codes_among d kind first n) ≤ 1
+unfolding codes_among
+among-once d kind code first n = omega (arith, occurs-filter code (supports d kind) (range_with_len first n), occurs-range code first n)
+
+-- a number is below another, or not
+below : (m n : ℕ) → (m < n) ⊎ (n ≤ m)
+below m n = by_flag (nat_lt m n) refl
+  where
+    by_flag : (b : Bool) → nat_lt m n ≡ b → (m < n) ⊎ (n ≤ m)
+    by_flag true is = inl (grind (arith, nat_tests, is))
+    by_flag false is = inr (grind (arith, nat_tests, is))
+
+buttons-most : (d : Description) (code : ℕ) → occurs code (buttons d) ≤ occurs code (codes_among d EV_KEY 288 480) + occurs code (codes_among d EV_KEY 256 32)
+unfolding buttons
+buttons-most d code =
+    let all : List ℕ = codes_among d EV_KEY 288 480 ++ codes_among d EV_KEY 256 32 in
+    omega (arith, occurs-take code 64 all, occurs-append code (codes_among d EV_KEY 288 480) (codes_among d EV_KEY 256 32))
+
+-- each button occurs once
+pub buttons-once : (d : Description) (code : ℕ) → occurs code (buttons d) ≤ 1
+buttons-once d code = by_cases (below code 288)
+  where
+    by_cases : (code < 288) ⊎ (288 ≤ code) → occurs code (buttons d) ≤ 1
+    by_cases (inl h) = omega (arith, buttons-most d code, among-past d EV_KEY code 288 480 h, among-once d EV_KEY code 256 32)
+    by_cases (inr h) = omega (arith, buttons-most d code, among-before d EV_KEY code 256 32 h, among-once d EV_KEY code 288 480)
+
+-- and is a key that there is
+pub buttons-within : (d : Description) (code : ℕ) → 1 ≤ occurs code (buttons d) → code < 768
+buttons-within d code h = by_cases (below code 768)
+  where
+    by_cases : (code < 768) ⊎ (768 ≤ code) → code < 768
+    by_cases (inl k) = k
+    by_cases (inr k) = let past : 256 + 32 ≤ code = omega (arith, k) in absurd (omega (arith, h, buttons-most d code, among-before d EV_KEY code 288 480 k, among-before d EV_KEY code 256 32 past))
+
+axes-all : (d : Description) (code : ℕ) → occurs code (axes d) ≡ occurs code (codes_among d EV_ABS 0 47) + occurs code (codes_among d EV_ABS 62 2)
+axes-all d code = ap (λ (cs : List ℕ). occurs code cs) (axes-are d) ∙ occurs-append code (codes_among d EV_ABS 0 47) (codes_among d EV_ABS 62 2)
+
+pub axes-once : (d : Description) (code : ℕ) → occurs code (axes d) ≤ 1
+axes-once d code = by_cases (below code 62)
+  where
+    by_cases : (code < 62) ⊎ (62 ≤ code) → occurs code (axes d) ≤ 1
+    by_cases (inl h) = omega (arith, axes-all d code, among-past d EV_ABS code 62 2 h, among-once d EV_ABS code 0 47)
+    by_cases (inr h) = let past : 0 + 47 ≤ code = omega (arith, h) in omega (arith, axes-all d code, among-before d EV_ABS code 0 47 past, among-once d EV_ABS code 62 2)
+
+-- each axis has a value of its own
+pub axes-within : (d : Description) (code : ℕ) → 1 ≤ occurs code (axes d) → (code < 47) ⊎ ((62 ≤ code) × (code < 64))
+axes-within d code h = by_cases (below code 47) (below code 62) (below code 64)
+  where
+    by_cases : (code < 47) ⊎ (47 ≤ code) → (code < 62) ⊎ (62 ≤ code) → (code < 64) ⊎ (64 ≤ code) → (code < 47) ⊎ ((62 ≤ code) × (code < 64))
+    by_cases (inl k) l m = inl k
+    by_cases (inr k) (inl l) m = absurd (omega (arith, h, axes-all d code, among-before d EV_ABS code 0 47 k, among-past d EV_ABS code 62 2 l))
+    by_cases (inr k) (inr l) (inl m) = inr (l, m)
+    by_cases (inr k) (inr l) (inr m) = absurd (omega (arith, h, axes-all d code, among-before d EV_ABS code 0 47 k, among-before d EV_ABS code 62 2 m))
+
+-- A function of codes, and one that may differ from it at one code
+
+pub map-same : {X : Type 0} (f g : ℕ → X) (code : ℕ) (codes : List ℕ) → occurs code codes ≡ 0 → ((c : ℕ) → nat_eq c code ≡ false → g c ≡ f c) → map g codes ≡ map f codes
+map-same f g code [] none same = refl
+map-same f g code (c ∷ cs) none same = by_flag (nat_eq c code) refl none (λ k. map-same f g code cs k same)
+  where
+    by_flag : (b : Bool) → nat_eq c code ≡ b → cond b (suc (occurs code cs)) (occurs code cs) ≡ 0 → (occurs code cs ≡ 0 → map g cs ≡ map f cs) → g c ∷ map g cs ≡ f c ∷ map f cs
+    by_flag true is k rest = absurd (omega (arith, k))
+    by_flag false is k rest = ap (λ x. x ∷ map g cs) (same c is) ∙ ap (λ xs. f c ∷ xs) (rest k)
+
+-- at the number of the code it is set
+pub record IsSetAt {X : Type 0} (f g : ℕ → X) (code : ℕ) (codes : List ℕ) (k : ℕ) : Type 0 where
+  pub within : k < length codes
+  pub occurring : 1 ≤ occurs code codes
+  pub is_set_at : map g codes ≡ set (map f codes) k (g code)
+  pub before : (filler : X) → get_or (map f codes) k filler ≡ f code
+
+set-from : {X : Type 0} (f g : ℕ → X) (code : ℕ) (codes : List ℕ) (i n : ℕ) → occurs code codes ≤ 1 → ((c : ℕ) → nat_eq c code ≡ false → g c ≡ f c) → position_from (λ c. nat_eq c code) i codes ≡ Some n → (k : ℕ) × (n ≡ i + k) × IsSetAt f g code codes k
+set-from f g code [] i n once same h = absurd cc
+set-from {X = X} f g code (c ∷ cs) i n once same h = by_flag (nat_eq c code) refl once h (λ o k. set-from f g code cs (i + 1) n o same k)
+  where
+    by_flag : (b : Bool) → nat_eq c code ≡ b → cond b (suc (occurs code cs)) (occurs code cs) ≤ 1 → cond b (Some i) (position_from (λ x. nat_eq x code) (i + 1) cs) ≡ Some n
+        → (occurs code cs ≤ 1 → position_from (λ x. nat_eq x code) (i + 1) cs ≡ Some n → (k : ℕ) × (n ≡ i + 1 + k) × IsSetAt f g code cs k) → (k : ℕ) × (n ≡ i + k) × IsSetAt f g code (c ∷ cs) k
+    by_flag true is o k rest =
+        let here : c ≡ code = grind (arith, nat_tests, is) in
+        let at : i ≡ n = cc in (
+          0,
+          omega (arith, at),
+          record {
+            within = omega arith;
+            occurring = subst (λ (b : Bool). 1 ≤ cond b (suc (occurs code cs)) (occurs code cs)) (sym is) (omega arith);
+            is_set_at = ap (λ (x : ℕ). g x ∷ map g cs) here ∙ ap (λ (xs : List X). g code ∷ xs) (map-same f g code cs (omega (arith, o)) same);
+            before = λ filler. ap f here;
+          },
+        )
+    by_flag false is o k rest =
+        let r : (m : ℕ) × (n ≡ i + 1 + m) × IsSetAt f g code cs m = rest o k in (
+          suc r.0,
+          omega (arith, r.1),
+          record {
+            within = let w : r.0 < length cs = r.2.within in omega (arith, w);
+            occurring = subst (λ (b : Bool). 1 ≤ cond b (suc (occurs code cs)) (occurs code cs)) (sym is) r.2.occurring;
+            is_set_at = ap (λ (x : X). x ∷ map g cs) (same c is) ∙ ap (λ (xs : List X). f c ∷ xs) r.2.is_set_at;
+            before = λ filler. r.2.before filler;
+          },
+        )
+
+none-from : (code : ℕ) (codes : List ℕ) (i : ℕ) → position_from (λ c. nat_eq c code) i codes ≡ None → occurs code codes ≡ 0
+none-from code [] i h = refl
+none-from code (c ∷ cs) i h = by_flag (nat_eq c code) h (λ k. none-from code cs (i + 1) k)
+  where
+    by_flag : (b : Bool) → cond b (Some i) (position_from (λ x. nat_eq x code) (i + 1) cs) ≡ None → (position_from (λ x. nat_eq x code) (i + 1) cs ≡ None → occurs code cs ≡ 0) → cond b (suc (occurs code cs)) (occurs code cs) ≡ 0
+    by_flag true k rest = absurd cc
+    by_flag false k rest = rest k
+
+number-from : (code : ℕ) (codes : List ℕ) → number_of code codes ≡ position_from (λ c. nat_eq c code) 0 codes
+number-from code codes = position_from-zero (λ c. nat_eq c code) codes
+
+pub number-set : {X : Type 0} (f g : ℕ → X) (code number : ℕ) (codes : List ℕ) → occurs code codes ≤ 1 → ((c : ℕ) → nat_eq c code ≡ false → g c ≡ f c) → number_of code codes ≡ Some number → IsSetAt f g code codes number
+number-set f g code number codes once same h =
+    let r : (k : ℕ) × (number ≡ 0 + k) × IsSetAt f g code codes k = set-from f g code codes 0 number once same (sym (number-from code codes) ∙ h) in
+    let e : r.0 ≡ number = omega (arith, r.1) in
+    subst (λ (k : ℕ). IsSetAt f g code codes k) e r.2
+
+pub number-none : (code : ℕ) (codes : List ℕ) → number_of code codes ≡ None → occurs code codes ≡ 0
+number-none code codes h = none-from code codes 0 (sym (number-from code codes) ∙ h)
+
+-- The same of a list that is filled up
+
+pub fill-set : {X : Type 0} (filler x : X) (xs ys : List X) (k : ℕ) → k < length xs → ys ≡ set xs k x → up_to_64 filler ys ≡ set (up_to_64 filler xs) k x
+fill-set filler x xs ys k h is =
+    ap (λ (zs : List _). up_to_64 filler zs) is
+    ∙ ap (λ (n : ℕ). set xs k x ++ replicate (64 - n) filler) (length-set xs k x)
+    ∙ sym (set-append_left xs (replicate (64 - length xs) filler) k x h)

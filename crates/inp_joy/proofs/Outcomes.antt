@@ -1,0 +1,89 @@
+-- What a turn shows where a frame ended.
+use Rattle.std.proofs.Common.{◌≡◌, ℕ, reverse, Bool, true, false, if◌then◌else◌, Some, None, refl, sym, ap, subst, ◌∙◌}
+use Rattle.std.specs.Prelude.{Option}
+use Rattle.inp_model.specs.declared.taken.Taken.{Taken}
+use Rattle.inp_model.specs.Description.{Description}
+use Rattle.inp_model.specs.Event.{is_report}
+use Rattle.inp_model.specs.Evdev.{EvdevView}
+use Rattle.inp_reader.specs.declared.next.Next.{Next}
+use Rattle.inp_reader.specs.declared.next.Next.TheVariants.{Success, Dropped, Sync, Again as NothingVisible, Synced, NoDevice as Revoked, Closed as NotOpen, Full as FullHistory}
+use Rattle.inp_reader.specs.Reading.{Reading, ReaderView}
+use Rattle.inp_reader.specs.Showing.{AnswerShows, ShowsTheDevice}
+use Rattle.inp_joy.specs.declared.joy_read.JoyRead.{JoyRead}
+use Rattle.inp_joy.specs.declared.joy_read.JoyRead.TheVariants.{Frame, Again, NoDevice, Closed, Full, More}
+use Rattle.inp_joy.specs.declared.joy_record.JoyRecord.{JoyRecord}
+use Rattle.inp_joy.specs.declared.outcome.Outcome.{Outcome}
+use Rattle.inp_joy.specs.declared.outcome.Outcome.TheVariants.{Hands, Stops, GoesOn}
+use Rattle.inp_joy.specs.Joying.{Joying, Turn, gives, goes_on, hands, stop_of, record_of, record_or_on, stops_with, after_next}
+use Rattle.inp_joy.specs.Kept.{turn_of, OutcomeShows, OutcomePictures}
+use Rattle.inp_joy.specs.Picture.{picture_of_view}
+use Rattle.inp_joy.specs.Reads.{PicturesTheDevice}
+use Rattle.inp_joy.proofs.Devices.{device-pictured}
+use Rattle.inp_joy.proofs.TurnEnds.{IsTurnPictured, frame-pictured}
+
+-- the answer of a turn that gives one
+abbrev read_of : Turn → JoyRead
+read_of (gives answer) = answer.read
+read_of (goes_on j) = More
+
+-- a stopped synchronisation is no frame
+pub sync-shows : (told : EvdevView) (r : ReaderView) (next : Next) (read : JoyRead) → Some read ≡ stop_of next → OutcomeShows told r (Stops read)
+sync-shows told r (NothingVisible at ends) read h = let e : Again at ends ≡ read = cc in subst (λ (x : JoyRead). OutcomeShows told r (Stops x)) e tt
+sync-shows told r Revoked read h = let e : NoDevice ≡ read = cc in subst (λ (x : JoyRead). OutcomeShows told r (Stops x)) e tt
+sync-shows told r NotOpen read h = let e : Closed ≡ read = cc in subst (λ (x : JoyRead). OutcomeShows told r (Stops x)) e tt
+sync-shows told r (FullHistory at) read h = let e : Full at ≡ read = cc in subst (λ (x : JoyRead). OutcomeShows told r (Stops x)) e tt
+sync-shows told r (Success taken) read h = absurd cc
+sync-shows told r (Dropped taken) read h = absurd cc
+sync-shows told r (Sync event) read h = absurd cc
+sync-shows told r Synced read h = absurd cc
+
+record_or_on-shows : (told : EvdevView) (r : ReaderView) (j : Joying) (o : Option JoyRecord) → OutcomeShows told r (Stops (read_of (record_or_on j o)))
+record_or_on-shows told r j None = tt
+record_or_on-shows told r j (Some entry) = tt
+
+next-read_shows : (told : EvdevView) (r : ReaderView) (d : Description) (j : Joying) (next : Next) → AnswerShows told r next → OutcomeShows told r (Stops (read_of (after_next d j next)))
+next-read_shows told r d j (Success taken) h = by_flag (is_report taken.event)
+  where
+    by_flag : (b : Bool) → OutcomeShows told r (Stops (read_of (if b then gives (stops_with (Frame taken.place) j) else record_or_on j (record_of d j.picture taken))))
+    by_flag true = (taken, refl, h)
+    by_flag false = record_or_on-shows told r j (record_of d j.picture taken)
+next-read_shows told r d j (NothingVisible at ends) h = tt
+next-read_shows told r d j Revoked h = tt
+next-read_shows told r d j NotOpen h = tt
+next-read_shows told r d j (FullHistory at) h = tt
+next-read_shows told r d j (Dropped taken) h = tt
+next-read_shows told r d j (Sync event) h = tt
+next-read_shows told r d j Synced h = tt
+
+-- a report that the reader handed out ends a frame
+pub next-shows : (told : EvdevView) (r : ReaderView) (d : Description) (j k : Joying) (next : Next) (outcome : Outcome) → turn_of outcome k ≡ after_next d j next → AnswerShows told r next → OutcomeShows told r outcome
+next-shows told r d j k next (Hands entry) is h = tt
+next-shows told r d j k next (Stops read) is h = subst (λ (x : JoyRead). OutcomeShows told r (Stops x)) (sym (ap (λ (t : Turn). read_of t) is)) (next-read_shows told r d j next h)
+next-shows told r d j k next GoesOn is h = tt
+
+-- a record that was handed out is no frame
+pub hands-pictures : (told : EvdevView) (d : Description) (j k : Joying) (entry : JoyRecord) (outcome : Outcome) → turn_of outcome k ≡ gives (hands j entry) → OutcomePictures told d k outcome
+hands-pictures told d j k entry (Hands other) is = tt
+hands-pictures told d j k entry (Stops read) is = subst (λ (x : JoyRead). OutcomePictures told d k (Stops x)) (sym (ap (λ (t : Turn). read_of t) is)) tt
+hands-pictures told d j k entry GoesOn is = tt
+
+-- where the picture shows the view at the end of a frame, it is the device's there
+shown-device : (told : EvdevView) (d : Description) (k : Joying) (place : ℕ) (taken : Taken) → taken.place ≡ place → ShowsTheDevice d (reverse told.seen) k.reading taken → k.picture ≡ picture_of_view d k.reading.view → PicturesTheDevice d (reverse told.seen) k place
+shown-device told d k place taken at h shown = record {
+  taken = taken;
+  is_place = at;
+  is_taken = h.is_taken;
+  pictures = λ f report followed. shown ∙ device-pictured d f.cut.until k.reading.view (h.shows f report followed);
+}
+
+stop-pictures : (told : EvdevView) (d : Description) (r : ReaderView) (k : Joying) (read : JoyRead) → r.reading ≡ k.reading → r.description ≡ d → IsTurnPictured d (turn_of (Stops read) k) → OutcomeShows told r (Stops read) → OutcomePictures told d k (Stops read)
+stop-pictures told d r k (Frame place) same is shown h =
+    let all : ShowsTheDevice d (reverse told.seen) k.reading h.0 =
+    subst (λ (x : Reading). ShowsTheDevice d (reverse told.seen) x h.0) same (subst (λ (e : Description). ShowsTheDevice e (reverse told.seen) r.reading h.0) is h.2) in
+    shown-device told d k place h.0 h.1 all (frame-pictured d k place shown)
+stop-pictures told d r k _ same is shown h = tt
+
+pub shows-pictures : (told : EvdevView) (d : Description) (r : ReaderView) (k : Joying) (outcome : Outcome) → r.reading ≡ k.reading → r.description ≡ d → IsTurnPictured d (turn_of outcome k) → OutcomeShows told r outcome → OutcomePictures told d k outcome
+shows-pictures told d r k (Hands entry) same is shown h = tt
+shows-pictures told d r k (Stops read) same is shown h = stop-pictures told d r k read same is shown h
+shows-pictures told d r k GoesOn same is shown h = tt

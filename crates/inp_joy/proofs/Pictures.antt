@@ -1,0 +1,127 @@
+-- A startup leads a blank picture to the view that it is made from.
+use Rattle.std.proofs.Common.{◌≡◌, ℕ, zero, suc, ◌+◌, ◌-◌, ◌<◌, ◌≤◌, ℤ, pos, Bool, true, false, not, int_eq, List, [], ◌∷◌, ◌++◌, length, map, drop, replicate, set, Some, refl, sym, ap, ◌∙◌, arith, append_assoc, append-nil, length-append}
+use Rattle.std.specs.Prelude.{slice_index_or}
+use Rattle.std.specs.List.{slice_get}
+use Rattle.std.proofs.lemmas.List.{length-map, set_at, drop_more, drop_all, replicate-append-replicate}
+use Rattle.std.proofs.lemmas.Option.{get_or_from_slice_get, slice_get_within}
+use Rattle.inp_model.specs.Description.{Description}
+use Rattle.inp_reader.specs.Synthesis.{bit_value}
+use Rattle.inp_recon.specs.declared.view.View.{View}
+use Rattle.inp_recon.specs.View.{first_view}
+use Rattle.inp_joy.specs.declared.joy_record.JoyRecord.{JoyRecord}
+use Rattle.inp_joy.specs.Codes.{buttons, axes, startup_len}
+use Rattle.inp_joy.specs.JoyRecord.{cut, startup_button, startup_axis}
+use Rattle.inp_joy.specs.Joying.{numbered, startup, startup_buttons, startup_axes}
+use Rattle.inp_joy.specs.Picture.{PictureView, blank_picture, picture_after, picture_after_all, up_to_64, picture_by, is_down_in, value_in, picture_of_view}
+use Rattle.inp_joy.proofs.CodeLists.{length-buttons, length-axes}
+use Rattle.inp_joy.proofs.Startups.{length-startup}
+
+pub after_all-append : (p : PictureView) (xs ys : List JoyRecord) → picture_after_all p (xs ++ ys) ≡ picture_after_all (picture_after_all p xs) ys
+after_all-append p [] ys = refl
+after_all-append p (x ∷ xs) ys = after_all-append (picture_after p x) xs ys
+
+-- a list that is filled up, with one more item
+pub fill-next : {X : Type 0} (filler x : X) (xs : List X) → length xs < 64 → set (up_to_64 filler xs) (length xs) x ≡ up_to_64 filler (xs ++ x ∷ [])
+fill-next filler x xs h =
+    let n : ℕ = length xs in
+    let one : 64 - n ≡ suc (64 - suc n) = omega (arith, h) in
+    let long : suc n ≡ length (xs ++ x ∷ []) = omega (arith, length-append xs (x ∷ [])) in
+    ap (λ (k : ℕ). set (xs ++ replicate k filler) n x) one
+    ∙ set_at xs filler (replicate (64 - suc n) filler) x n refl
+    ∙ sym (append_assoc xs (x ∷ []) (replicate (64 - suc n) filler))
+    ∙ ap (λ (k : ℕ). (xs ++ x ∷ []) ++ replicate (64 - k) filler) long
+
+-- the value of a button's record tells whether it is down
+pub button-tells : (b : Bool) → not (int_eq (bit_value b) (pos 0)) ≡ b
+button-tells true = refl
+button-tells false = refl
+
+-- The buttons
+
+button_next : (done : List Bool) (x : Bool) (values : List ℤ) → length done < 64 → picture_after (record { buttons = up_to_64 false done; axes = values }) (startup_button (length done) x) ≡ record { buttons = up_to_64 false (done ++ x ∷ []); axes = values }
+unfolding picture_after
+button_next done x values h =
+    ap (λ (b : Bool). let q : PictureView = record { buttons = set (up_to_64 false done) (length done) b; axes = values } in q) (button-tells x)
+    ∙ ap (λ (bs : List Bool). let q : PictureView = record { buttons = bs; axes = values } in q) (fill-next false x done h)
+
+buttons-fold : (done xs : List Bool) (values : List ℤ) → length done + length xs ≤ 64
+    → picture_after_all (record { buttons = up_to_64 false done; axes = values }) (numbered startup_button (length done) xs) ≡ record { buttons = up_to_64 false (done ++ xs); axes = values }
+buttons-fold done [] values h = ap (λ (bs : List Bool). let q : PictureView = record { buttons = up_to_64 false bs; axes = values } in q) (sym (append-nil done))
+buttons-fold done (x ∷ xs) values h =
+    let long : length done + 1 ≡ length (done ++ x ∷ []) = omega (arith, length-append done (x ∷ [])) in
+    ap (λ (p : PictureView). picture_after_all p (numbered startup_button (length done + 1) xs)) (button_next done x values (omega (arith, h)))
+    ∙ ap (λ (n : ℕ). picture_after_all (record { buttons = up_to_64 false (done ++ x ∷ []); axes = values }) (numbered startup_button n xs)) long
+    ∙ buttons-fold (done ++ x ∷ []) xs values (omega (arith, h, length-append done (x ∷ [])))
+    ∙ ap (λ (bs : List Bool). let q : PictureView = record { buttons = up_to_64 false bs; axes = values } in q) (append_assoc done (x ∷ []) xs)
+
+-- The axes
+
+axis_next : (done : List ℤ) (x : ℤ) (down : List Bool) → length done < 64 → picture_after (record { buttons = down; axes = up_to_64 (pos 0) done }) (startup_axis (length done) x) ≡ record { buttons = down; axes = up_to_64 (pos 0) (done ++ x ∷ []) }
+unfolding picture_after
+axis_next done x down h = ap (λ (zs : List ℤ). let q : PictureView = record { buttons = down; axes = zs } in q) (fill-next (pos 0) x done h)
+
+axes-fold : (done xs : List ℤ) (down : List Bool) → length done + length xs ≤ 64
+    → picture_after_all (record { buttons = down; axes = up_to_64 (pos 0) done }) (numbered startup_axis (length done) xs) ≡ record { buttons = down; axes = up_to_64 (pos 0) (done ++ xs) }
+axes-fold done [] down h = ap (λ (zs : List ℤ). let q : PictureView = record { buttons = down; axes = up_to_64 (pos 0) zs } in q) (sym (append-nil done))
+axes-fold done (x ∷ xs) down h =
+    let long : length done + 1 ≡ length (done ++ x ∷ []) = omega (arith, length-append done (x ∷ [])) in
+    ap (λ (p : PictureView). picture_after_all p (numbered startup_axis (length done + 1) xs)) (axis_next done x down (omega (arith, h)))
+    ∙ ap (λ (n : ℕ). picture_after_all (record { buttons = down; axes = up_to_64 (pos 0) (done ++ x ∷ []) }) (numbered startup_axis n xs)) long
+    ∙ axes-fold (done ++ x ∷ []) xs down (omega (arith, h, length-append done (x ∷ [])))
+    ∙ ap (λ (zs : List ℤ). let q : PictureView = record { buttons = down; axes = up_to_64 (pos 0) zs } in q) (append_assoc done (x ∷ []) xs)
+
+-- Both
+
+pub startup-pictured : (d : Description) (v : View) → picture_after_all blank_picture (startup d v) ≡ picture_of_view d v
+unfolding startup picture_by
+startup-pictured d v =
+    let bs : List Bool = map (is_down_in v) (buttons d) in
+    let zs : List ℤ = map (λ code. cut (value_in v code)) (axes d) in
+    let mid : PictureView = record { buttons = up_to_64 false bs; axes = up_to_64 (pos 0) [] } in
+    after_all-append blank_picture (startup_buttons d v) (startup_axes d v)
+    ∙ ap (λ (p : PictureView). picture_after_all p (startup_axes d v)) (buttons-fold [] bs (replicate 64 (pos 0)) (omega (arith, length-map (buttons d) (is_down_in v), length-buttons d)))
+    ∙ axes-fold [] zs (up_to_64 false bs) (omega (arith, length-map (axes d) (λ code. cut (value_in v code)), length-axes d))
+
+-- a record of a startup more
+pub startup-more : (p end : PictureView) (records : List JoyRecord) (handed : ℕ) (r : JoyRecord) → slice_get records handed ≡ Some r → picture_after_all p (drop handed records) ≡ end → picture_after_all (picture_after p r) (drop (handed + 1) records) ≡ end
+startup-more p end records handed r at h =
+    let is : drop handed records ≡ r ∷ drop (handed + 1) records =
+    drop_more records handed r (slice_get_within records handed r at) ∙ ap (λ (x : JoyRecord). x ∷ drop (handed + 1) records) (get_or_from_slice_get records handed r r at) in
+    sym (ap (λ (rs : List JoyRecord). picture_after_all p rs) is) ∙ h
+
+-- none is left
+pub startup-over : (p end : PictureView) (d : Description) (v : View) (handed : ℕ) → startup_len d ≤ handed → picture_after_all p (drop handed (startup d v)) ≡ end → p ≡ end
+startup-over p end d v handed past h =
+    sym (ap (λ (rs : List JoyRecord). picture_after_all p rs) (drop_all handed (startup d v) (omega (arith, length-startup d v)))) ∙ h
+
+pub startup-gone : (p end : PictureView) (d : Description) (v : View) (handed : ℕ) → startup_len d ≤ handed → p ≡ end → picture_after_all p (drop handed (startup d v)) ≡ end
+startup-gone p end d v handed past h =
+    ap (λ (rs : List JoyRecord). picture_after_all p rs) (drop_all handed (startup d v) (omega (arith, length-startup d v))) ∙ h
+
+-- A new view has the blank picture.
+
+get_or-blank : {X : Type 0} (n i : ℕ) (x : X) → slice_index_or (replicate n x) i x ≡ x
+get_or-blank zero i x = refl
+get_or-blank (suc n) zero x = refl
+get_or-blank (suc n) (suc i) x = get_or-blank n i x
+
+map-constant : {X : Type 0} (f : ℕ → X) (x : X) (codes : List ℕ) → ((c : ℕ) → f c ≡ x) → map f codes ≡ replicate (length codes) x
+map-constant f x [] same = refl
+map-constant f x (c ∷ cs) same = ap (λ y. y ∷ map f cs) (same c) ∙ ap (λ ys. x ∷ ys) (map-constant f x cs same)
+
+blank-fill : {X : Type 0} (f : ℕ → X) (x : X) (codes : List ℕ) → length codes ≤ 64 → ((c : ℕ) → f c ≡ x) → up_to_64 x (map f codes) ≡ replicate 64 x
+blank-fill f x codes few same =
+    let n : ℕ = length codes in
+    let all : n + (64 - n) ≡ 64 = omega (arith, few) in
+    ap (λ (k : ℕ). map f codes ++ replicate (64 - k) x) (length-map codes f)
+    ∙ ap (λ ys. ys ++ replicate (64 - n) x) (map-constant f x codes same)
+    ∙ replicate-append-replicate n (64 - n) x
+    ∙ ap (λ (k : ℕ). replicate k x) all
+
+pub first-blank : (d : Description) → blank_picture ≡ picture_of_view d (first_view d)
+unfolding picture_by first_view
+first-blank d =
+    sym (ap (λ (bs : List Bool). let q : PictureView = record { buttons = bs; axes = up_to_64 (pos 0) (map (λ code. cut (value_in (first_view d) code)) (axes d)) } in q)
+    (blank-fill (is_down_in (first_view d)) false (buttons d) (length-buttons d) (λ c. get_or-blank 768 c false))
+    ∙ ap (λ (zs : List ℤ). let q : PictureView = record { buttons = replicate 64 false; axes = zs } in q)
+    (blank-fill (λ code. cut (value_in (first_view d) code)) (pos 0) (axes d) (omega (arith, length-axes d)) (λ c. ap (λ (z : ℤ). cut z) (get_or-blank 64 c (pos 0)))))

@@ -1,0 +1,22 @@
+use Rattle.std.proofs.Common.{◌++◌, ◌∙◌, ap, List}
+use Rattle.inp_reader.specs.declared.call_made.CallMade.{CallMade}
+use Rattle.inp_reader.specs.declared.next.Next.{Next}
+use Rattle.inp_reader.specs.Reading.{Reading}
+use Rattle.inp_reader.proofs.Giving.{Gives-says, Gives-next, HasKeptView}
+use Rattle.inp_joy.proofs.Goings.{goes-next}
+use Rattle.inp_joy.proofs.joy_state.JoyState.next.Goals as goal
+
+pub returns-clause-goes : goal.returns-clause-goes
+returns-clause-goes g c =
+    goes-next _ _ c.args.self.now.made c.add_all.new.self c.args.mode c.args.self.now.reader c.next-next.new.self c.next-next.result c.next-next.ensures.says c.next-next.ensures.reader c.next-next.ensures.left
+    (c.add_all.ensures ∙ ap (λ (ms : List CallMade). c.args.self.now.made ++ ms) c.made.ensures.made) c.next-next.ensures.stands c.next-next.ensures.shows
+
+pub returns-clause-state : goal.returns-clause-state
+returns-clause-state g c = record {
+  description = c.next-next.ensures.reader;
+  buttons = c.requires.state.buttons;
+  axes = c.requires.state.axes;
+  handed = c.requires.state.handed;
+  view =
+      Gives-says _ (λ (o : Next × Reading). HasKeptView c.args.self.now.reader.description o) _ _ _ _ _ (c.next-next.result, c.next-next.new.self.reading) (Gives-next c.args.self.now.reader.description c.args.mode _ c.args.self.now.reader.reading c.requires.state.view) c.requires.description c.next-next.ensures.says;
+}

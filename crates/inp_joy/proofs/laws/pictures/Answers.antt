@@ -1,0 +1,17 @@
+-- The laws of startups and pictures.
+use Rattle.std.proofs.Common.{arith}
+use Rattle.inp_joy.proofs.CodeLists.{length-buttons, length-axes}
+use Rattle.inp_joy.proofs.Devices.{device-pictured}
+use Rattle.inp_joy.proofs.Events.{event-pictured}
+use Rattle.inp_joy.proofs.Pictures.{startup-pictured}
+use Rattle.inp_joy.proofs.Startups.{length-startup}
+use Rattle.inp_joy.proofs.laws.pictures.Goals as goal
+
+pub returns : goal.returns
+returns c = record {
+  whole = length-startup;
+  short = λ d. omega (arith, length-buttons d, length-axes d);
+  startup = startup-pictured;
+  event = λ d v taken sized. event-pictured d v taken sized.keys sized.axes;
+  device = device-pictured;
+}

@@ -1,0 +1,8 @@
+pub mod JoyRecord
+pub mod Codes
+pub mod Picture
+pub mod Joying
+pub mod Reads
+pub mod Kept
+pub mod Laws
+pub mod Examples

@@ -1,0 +1,65 @@
+-- What `read` of a joystick client promises (docs/RULES.md, "Joystick clients").
+use Rattle.std.specs.Prelude.{◌≡◌, ℕ, ◌+◌, ◌-◌, ◌^◌, nat_lt, if◌then◌else◌, false, List, [], reverse, map, drop, slice_get, Option, Some, None}
+use Rattle.inp_model.specs.declared.step.Step.{Step}
+use Rattle.inp_model.specs.declared.taken.Taken.{Taken}
+use Rattle.inp_model.specs.Description.{Description}
+use Rattle.inp_model.specs.Evdev.{EvdevView}
+use Rattle.inp_model.specs.Frame.{Frame as DeviceFrame}
+use Rattle.inp_model.specs.Queue.{took}
+use Rattle.inp_model.specs.Reply.{taken_of}
+use Rattle.inp_recon.specs.ClientView.{past_before_read, read_up_to}
+use Rattle.inp_recon.specs.Faithful.{IsReportAt, IsFollowed}
+use Rattle.inp_reader.specs.declared.call_made.CallMade.{CallMade}
+use Rattle.inp_reader.specs.Says.{Says}
+use Rattle.inp_reader.specs.Showing.{index_handed_out}
+use Rattle.inp_reader.specs.Standing.{StandsAt, is_needed}
+use Rattle.inp_joy.specs.declared.joy_read.JoyRead.{JoyRead}
+use Rattle.inp_joy.specs.declared.joy_read.JoyRead.TheVariants.{Frame, Again}
+use Rattle.inp_joy.specs.declared.joy_record.JoyRecord.{JoyRecord}
+use Rattle.inp_joy.specs.JoyRecord.{bytes_of}
+use Rattle.inp_joy.specs.Picture.{picture_after_all, picture_of_view, picture_of_device}
+use Rattle.inp_joy.specs.Joying.{Joying, JoyView, startup, turns}
+
+-- the caller's eight bytes: the record that was handed out, or what they were
+abbrev pub written : Option JoyRecord → List ℕ → List ℕ
+written None out = out
+written (Some r) out = bytes_of r
+
+-- The calls that were made are those of some number of turns, and the answer, what is kept and what is written are their
+-- result.
+pub record IsRead (before after : EvdevView) (d : Description) (old new : Joying) (made : List CallMade) (read : JoyRead) (out new_out : List ℕ) : Type 0 where
+  pub count : ℕ
+  pub handed : Option JoyRecord
+  pub says : Says before after [] made (turns d count 0 old) (Some (record { read = read; handed = handed; joying = new }))
+  pub out_written : new_out ≡ written handed out
+
+-- the count of answers Again after a read; it stays at the end of its type
+abbrev pub agains_after_read : JoyRead → ℕ → ℕ
+agains_after_read (Again at ends) n = if nat_lt n (2 ^ 64 - 1) then n + 1 else n
+agains_after_read _ n = n
+
+-- What is left of a startup leads the picture to the view's buttons and cut axes; after the startup it shows them.
+abbrev pub IsPictured : Description → Joying → Type 0
+IsPictured d j =
+    is_needed j.reading.phase ≡ false
+    → picture_after_all j.picture (drop j.handed (startup d j.reading.view)) ≡ picture_of_view d j.reading.view
+
+-- the reader of a joystick client stands at the end of the history that is seen
+abbrev pub JoyStands : EvdevView → JoyView → Type 0
+JoyStands told joy = StandsAt joy.description (reverse told.seen) joy.joying.reading
+
+-- A report that its client took ended the frame of this place. Where the client could follow the device up to that frame,
+-- the picture is the device's at the frame's end.
+pub record PicturesTheDevice (d : Description) (past : List Step) (j : Joying) (place : ℕ) : Type 0 where
+  pub taken : Taken
+  pub is_place : taken.place ≡ place
+  pub is_taken : slice_get (map taken_of (took d past j.reading.client)) (index_handed_out d past j.reading) ≡ Some taken
+  pub pictures : (f : DeviceFrame)
+      → IsReportAt (took d past j.reading.client) (index_handed_out d past j.reading) f
+      → IsFollowed d (past_before_read d past j.reading.client (index_handed_out d past j.reading)) j.reading.client (read_up_to d past j.reading.client (index_handed_out d past j.reading)) f
+      → j.picture ≡ picture_of_device d f.cut.until
+
+-- what `read` answered, where a frame ended
+abbrev pub ReadPictures : EvdevView → Description → Joying → JoyRead → Type 0
+ReadPictures told d j (Frame place) = PicturesTheDevice d (reverse told.seen) j place
+ReadPictures told d j _ = Unit {0}

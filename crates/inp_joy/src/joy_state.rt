@@ -1,0 +1,474 @@
+//! What a joystick client keeps, and what it does.
+ghost use Rattle.std.specs.Prelude.{◌≡◌, ◌≤◌, ◌<◌, ◌+◌, true, false, [], ◌++◌, length, slice_get, Some, None, IfSome};
+ghost use Rattle.std.specs.Ordering.{int_eq};
+ghost use Rattle.inp_reader.specs.Effort.{effort, IsLess, is_idle};
+ghost use Rattle.inp_reader.specs.Leaving.{LeavesMade, agains_after_next};
+ghost use Rattle.inp_reader.specs.Reading.{next_talk};
+ghost use Rattle.inp_reader.specs.Says.{Says};
+ghost use Rattle.inp_reader.specs.Showing.{AnswerShows};
+ghost use Rattle.inp_reader.specs.Standing.{IsAlone, is_needed, has_opened};
+ghost use Rattle.inp_joy.specs.Codes.{number_of, startup_len};
+ghost use Rattle.inp_joy.specs.Joying.{startup, startup_buttons, startup_axes, with_startup, without_startup, is_startup_over, is_long, hands, record_of, record_of_key, record_of_axis, last_value, after_event, after_next, after_start, sync_turn, event_turn, next_in_startup, record_or_turn, turn_talk, joy_start, gives};
+ghost use Rattle.inp_joy.specs.Kept.{joying_of, IsJoyState, answer_of, turn_of, is_end, IsOutcomeLess, agains_after_turn, Goes, OutcomeShows, OutcomePictures, HasTurned, StateStands};
+ghost use Rattle.inp_joy.specs.Picture.{seen_as};
+ghost use Rattle.inp_joy.specs.Reads.{IsPictured, IsRead, ReadPictures, agains_after_read};
+
+use crate::code_list::CodeList;
+use crate::joy_calls::JoyCalls;
+use crate::joy_record::cut;
+use crate::outcome::Outcome;
+use crate::stops::{event_of, is_lost, stop_of};
+use crate::views::{cut_axis_of, is_down};
+use crate::{JoyRead, JoyRecord, Picture};
+use inp_model::{EV_ABS, EV_KEY, Evdev, Taken};
+use inp_reader::{Mode, Next, Phase, Reader, Started};
+
+/// How many accepted calls end a read that came to no answer (this project's choice).
+const LONG: usize = 64;
+
+const _: () = prove!(LONG == 64);
+
+/// All that a joystick client keeps.
+#[derive(Drop)]
+pub(crate) struct JoyState {
+    /// The codes of the buttons, by their numbers.
+    pub(crate) buttons: CodeList,
+    /// The codes of the axes, by their numbers.
+    pub(crate) axes: CodeList,
+    /// Who reads the device.
+    pub(crate) reader: Reader,
+    /// How many records of the startup were handed out.
+    pub(crate) handed: usize,
+    /// What the records since the startup began tell.
+    pub(crate) picture: Picture,
+    /// The calls of the last `start` or `read`.
+    pub(crate) made: JoyCalls,
+}
+
+impl JoyState {
+    // The startup record of a button.
+    fn startup_button(&self, number: usize) -> JoyRecord
+        requires state { IsJoyState self.now.reader.description self.now }
+        requires within { number < length self.now.buttons }
+        ensures found { slice_get (startup_buttons self.now.reader.description self.now.reader.reading.view) number
+            ≡ Some result }
+        ensures number { result.number < 64 }
+    {
+        let code = self.buttons.get(number);
+        JoyRecord::startup_button(number as u8, is_down(self.reader.view(), code))
+    }
+
+    // The startup record of an axis.
+    fn startup_axis(&self, number: usize) -> JoyRecord
+        requires state { IsJoyState self.now.reader.description self.now }
+        requires within { number < length self.now.axes }
+        ensures found { slice_get (startup_axes self.now.reader.description self.now.reader.reading.view) number
+            ≡ Some result }
+        ensures number { result.number < 64 }
+    {
+        let code = self.axes.get(number);
+        JoyRecord::startup_axis(number as u8, cut_axis_of(self.reader.view(), code))
+    }
+
+    // The next record of the startup, if one is left.
+    fn startup_record(&self) -> Option<JoyRecord>
+        requires state { IsJoyState self.now.reader.description self.now }
+        ensures found { result
+            ≡ slice_get (startup self.now.reader.description self.now.reader.reading.view) self.now.handed }
+        ensures number { IfSome result (λ entry. entry.number < 64) }
+    {
+        let buttons = self.buttons.len();
+        if self.handed < buttons {
+            return Some(self.startup_button(self.handed));
+        }
+        let axis = self.handed - buttons;
+        if axis < self.axes.len() {
+            Some(self.startup_axis(axis))
+        } else {
+            None
+        }
+    }
+
+    // How many records a startup has.
+    fn startup_len(&self) -> usize
+        requires { IsJoyState self.now.reader.description self.now }
+        ensures { result ≡ startup_len self.now.reader.description }
+    {
+        self.buttons.len() + self.axes.len()
+    }
+
+    // A startup begins.
+    fn begin_startup(&mut self)
+        ensures joying { joying_of self.new ≡ with_startup self.old.reader.reading }
+        ensures rest { self.new ≡ record self.old { handed = 0; picture = self.new.picture } }
+    {
+        self.handed = 0;
+        self.picture = Picture::blank();
+    }
+
+    // The record of a key event, if it gives one.
+    fn button_record(&self, event: Taken) -> Option<JoyRecord>
+        ensures found { result ≡ record_of_key (number_of event.event.code self.now.buttons) event }
+        ensures number { IfSome result (λ entry. entry.number < 64) }
+    {
+        let Some(number) = self.buttons.number_of(event.event.code) else {
+            return None;
+        };
+        if event.event.is_repeat() {
+            None
+        } else {
+            Some(JoyRecord::of_button(number as u8, event))
+        }
+    }
+
+    // Whether a value of an axis is the one that was handed out last.
+    fn is_last_value(&self, number: usize, value: i16) -> bool
+        requires { number < 64 }
+        ensures { result ≡ int_eq value (last_value (seen_as self.now.picture) number) }
+    {
+        value == self.picture.axes[number]
+    }
+
+    // The record of an axis event, if it gives one.
+    fn axis_record(&self, event: Taken) -> Option<JoyRecord>
+        ensures found { result
+            ≡ record_of_axis (seen_as self.now.picture) (number_of event.event.code self.now.axes) event }
+        ensures number { IfSome result (λ entry. entry.number < 64) }
+    {
+        let Some(number) = self.axes.number_of(event.event.code) else {
+            return None;
+        };
+        if self.is_last_value(number, cut(event.event.value)) {
+            None
+        } else {
+            Some(JoyRecord::of_axis(number as u8, event))
+        }
+    }
+
+    // The record of an event, if it gives one.
+    fn event_record(&self, event: Taken) -> Option<JoyRecord>
+        requires state { IsJoyState self.now.reader.description self.now }
+        ensures found { result
+            ≡ record_of self.now.reader.description (seen_as self.now.picture) event }
+        ensures number { IfSome result (λ entry. entry.number < 64) }
+    {
+        match event.event.kind {
+            EV_KEY => self.button_record(event),
+            EV_ABS => self.axis_record(event),
+            _ => None,
+        }
+    }
+
+    // Hands out a record.
+    fn hand(&mut self, entry: JoyRecord) -> Outcome
+        requires { entry.number < 64 }
+        ensures turn { turn_of result (joying_of self.new) ≡ gives (hands (joying_of self.old) entry) }
+        ensures rest { self.new ≡ record self.old { picture = self.new.picture } }
+    {
+        self.picture.take(entry);
+        Outcome::Hands { entry }
+    }
+
+    // After an event of the reader.
+    fn after_event(&mut self, event: Taken) -> Outcome
+        requires state { IsJoyState self.old.reader.description self.old }
+        ensures turn { turn_of result (joying_of self.new)
+            ≡ after_event self.old.reader.description (joying_of self.old) event }
+        ensures rest { self.new ≡ record self.old { picture = self.new.picture } }
+    {
+        if event.event.is_report() {
+            let read = JoyRead::Frame { place: event.place };
+            return Outcome::Stops { read };
+        }
+        match self.event_record(event) {
+            Some(entry) => self.hand(entry),
+            None => Outcome::GoesOn,
+        }
+    }
+
+    // After an answer of the reader that lost no events.
+    fn after_next(&mut self, next: Next) -> Outcome
+        requires state { IsJoyState self.old.reader.description self.old }
+        ensures turn { turn_of result (joying_of self.new)
+            ≡ after_next self.old.reader.description (joying_of self.old) next }
+        ensures rest { self.new ≡ record self.old { picture = self.new.picture } }
+    {
+        if let Some(read) = stop_of(next) {
+            return Outcome::Stops { read };
+        }
+        match event_of(next) {
+            Some(event) => self.after_event(event),
+            None => Outcome::GoesOn,
+        }
+    }
+
+    // Asks the reader for its next event, and keeps the calls that it made.
+    fn next<E: Evdev>(&mut self, dev: &mut E, mode: Mode) -> Next
+        requires description { (E.told dev.old).description ≡ self.old.reader.description }
+        requires state { IsJoyState self.old.reader.description self.old }
+        requires few { length self.old.made + 55 ≤ 128 }
+        ensures says { Says (E.told dev.old) (E.told dev.new) self.old.made self.new.made
+            (next_talk self.old.reader.description mode self.old.reader.reading)
+            (result, self.new.reader.reading) }
+        ensures goes { Goes (E.told dev.old) (E.told dev.new) self.old.made self.new.made
+            self.old.reader.description self.old.reader.reading self.new.reader.reading
+            (AnswerShows (E.told dev.new) self.new.reader result) }
+        ensures agains { (E.told dev.new).agains ≡ agains_after_next result (E.told dev.old).agains }
+        ensures less { is_idle mode self.old.reader.reading.phase ≡ false → IsLess result
+            (effort (E.told dev.new) self.new.reader.reading)
+            (effort (E.told dev.old) self.old.reader.reading) }
+        ensures rest { self.new
+            ≡ record self.old { reader = self.new.reader; made = self.new.made } }
+        ensures state { IsJoyState self.old.reader.description self.new }
+        ensures few { length self.new.made ≤ length self.old.made + 55 }
+        ensures one { is_needed self.old.reader.reading.phase ≡ false
+            → length self.new.made ≤ length self.old.made + 1 }
+    {
+        let next = self.reader.next(dev, mode);
+        self.made.add_all(self.reader.made());
+        next
+    }
+
+    // Makes the reader synchronise; then a startup begins.
+    fn synchronise<E: Evdev>(&mut self, dev: &mut E) -> Outcome
+        requires description { (E.told dev.old).description ≡ self.old.reader.description }
+        requires state { IsJoyState self.old.reader.description self.old }
+        requires needed { is_needed self.old.reader.reading.phase ≡ true }
+        requires few { length self.old.made + 55 ≤ 128 }
+        ensures says { Says (E.told dev.old) (E.told dev.new) self.old.made self.new.made
+            (sync_turn self.old.reader.description (joying_of self.old))
+            (turn_of result (joying_of self.new)) }
+        ensures goes { Goes (E.told dev.old) (E.told dev.new) self.old.made self.new.made
+            self.old.reader.description self.old.reader.reading self.new.reader.reading
+            (OutcomeShows (E.told dev.new) self.new.reader result) }
+        ensures agains { (E.told dev.new).agains ≡ agains_after_turn result (E.told dev.old).agains }
+        ensures less { IsOutcomeLess result
+            (effort (E.told dev.new) self.new.reader.reading)
+            (effort (E.told dev.old) self.old.reader.reading) }
+        ensures state { IsJoyState self.old.reader.description self.new }
+        ensures few { length self.new.made ≤ length self.old.made + 55 }
+    {
+        let next = self.next(dev, Mode::Sync);
+        if let Some(read) = stop_of(next) {
+            return Outcome::Stops { read };
+        }
+        self.begin_startup();
+        Outcome::GoesOn
+    }
+
+    // Asks the reader for its next event; where events were lost it synchronises.
+    fn take_event<E: Evdev>(&mut self, dev: &mut E) -> Outcome
+        requires description { (E.told dev.old).description ≡ self.old.reader.description }
+        requires state { IsJoyState self.old.reader.description self.old }
+        requires plain { is_needed self.old.reader.reading.phase ≡ false }
+        requires few { length self.old.made < 64 }
+        ensures says { Says (E.told dev.old) (E.told dev.new) self.old.made self.new.made
+            (event_turn self.old.reader.description (joying_of self.old))
+            (turn_of result (joying_of self.new)) }
+        ensures goes { Goes (E.told dev.old) (E.told dev.new) self.old.made self.new.made
+            self.old.reader.description self.old.reader.reading self.new.reader.reading
+            (OutcomeShows (E.told dev.new) self.new.reader result) }
+        ensures agains { (E.told dev.new).agains ≡ agains_after_turn result (E.told dev.old).agains }
+        ensures less { IsOutcomeLess result
+            (effort (E.told dev.new) self.new.reader.reading)
+            (effort (E.told dev.old) self.old.reader.reading) }
+        ensures state { IsJoyState self.old.reader.description self.new }
+        ensures few { length self.new.made ≤ length self.old.made + 56 }
+    {
+        let next = self.next(dev, Mode::Normal);
+        if is_lost(next) {
+            self.synchronise(dev)
+        } else {
+            self.after_next(next)
+        }
+    }
+
+    // Hands out the next record of the startup.
+    fn hand_startup(&mut self, entry: JoyRecord) -> Outcome
+        requires state { IsJoyState self.old.reader.description self.old }
+        requires left { slice_get
+            (startup self.old.reader.description self.old.reader.reading.view) self.old.handed
+            ≡ Some entry }
+        requires number { entry.number < 64 }
+        ensures turn { turn_of result (joying_of self.new)
+            ≡ gives (hands (next_in_startup (joying_of self.old)) entry) }
+        ensures rest { self.new
+            ≡ record self.old { handed = self.old.handed + 1; picture = self.new.picture } }
+        ensures state { IsJoyState self.old.reader.description self.new }
+    {
+        self.handed += 1;
+        self.hand(entry)
+    }
+
+    // A turn where no record of the startup is left.
+    fn go_on<E: Evdev>(&mut self, dev: &mut E) -> Outcome
+        requires description { (E.told dev.old).description ≡ self.old.reader.description }
+        requires state { IsJoyState self.old.reader.description self.old }
+        requires few { length self.old.made < 64 }
+        ensures says { Says (E.told dev.old) (E.told dev.new) self.old.made self.new.made
+            (record_or_turn self.old.reader.description (joying_of self.old) None)
+            (turn_of result (joying_of self.new)) }
+        ensures goes { Goes (E.told dev.old) (E.told dev.new) self.old.made self.new.made
+            self.old.reader.description self.old.reader.reading self.new.reader.reading
+            (OutcomeShows (E.told dev.new) self.new.reader result) }
+        ensures agains { (E.told dev.new).agains ≡ agains_after_turn result (E.told dev.old).agains }
+        ensures less { IsOutcomeLess result
+            (effort (E.told dev.new) self.new.reader.reading)
+            (effort (E.told dev.old) self.old.reader.reading) }
+        ensures state { IsJoyState self.old.reader.description self.new }
+        ensures few { length self.new.made ≤ 128 }
+    {
+        if self.is_needed() {
+            self.synchronise(dev)
+        } else {
+            self.take_event(dev)
+        }
+    }
+
+    // A turn of a read.
+    fn turn<E: Evdev>(&mut self, dev: &mut E) -> Outcome
+        requires description { (E.told dev.old).description ≡ self.old.reader.description }
+        requires state { IsJoyState self.old.reader.description self.old }
+        requires pictured { IsPictured self.old.reader.description (joying_of self.old) }
+        requires short { is_startup_over self.old.reader.description (joying_of self.old) ≡ true
+            → length self.old.made < 64 }
+        requires few { length self.old.made ≤ 128 }
+        ensures says { Says (E.told dev.old) (E.told dev.new) self.old.made self.new.made
+            (turn_talk self.old.reader.description (joying_of self.old))
+            (turn_of result (joying_of self.new)) }
+        ensures goes { Goes (E.told dev.old) (E.told dev.new) self.old.made self.new.made
+            self.old.reader.description self.old.reader.reading self.new.reader.reading
+            (OutcomePictures (E.told dev.new) self.old.reader.description
+            (joying_of self.new) result) }
+        ensures agains { (E.told dev.new).agains ≡ agains_after_turn result (E.told dev.old).agains }
+        ensures less { IsOutcomeLess result
+            (effort (E.told dev.new) self.new.reader.reading)
+            (effort (E.told dev.old) self.old.reader.reading) }
+        ensures state { IsJoyState self.old.reader.description self.new }
+        ensures pictured { IsPictured self.old.reader.description (joying_of self.new) }
+        ensures few { length self.new.made ≤ 128 }
+    {
+        match self.startup_record() {
+            Some(entry) => self.hand_startup(entry),
+            None => self.go_on(dev),
+        }
+    }
+
+    // Whether no other turn follows.
+    fn is_end(&self, outcome: Outcome) -> bool
+        requires { IsJoyState self.now.reader.description self.now }
+        ensures { result
+            ≡ is_end self.now.reader.description outcome (joying_of self.now) (length self.now.made) }
+    {
+        match outcome {
+            Outcome::GoesOn => self.startup_len() <= self.handed && self.made.len() >= LONG,
+            _ => true,
+        }
+    }
+
+    // Turns until one gives an answer, or until the read is long.
+    fn take_turns<E: Evdev>(&mut self, dev: &mut E) -> Outcome
+        requires description { (E.told dev.old).description ≡ self.old.reader.description }
+        requires state { IsJoyState self.old.reader.description self.old }
+        requires pictured { IsPictured self.old.reader.description (joying_of self.old) }
+        requires anew { self.old.made ≡ [] }
+        ensures says { HasTurned (E.told dev.old) (E.told dev.new)
+            self.old.reader.description (joying_of self.old) self.new.made
+            (answer_of result (joying_of self.new)) }
+        ensures goes { Goes (E.told dev.old) (E.told dev.new) [] self.new.made
+            self.old.reader.description self.old.reader.reading self.new.reader.reading
+            (OutcomePictures (E.told dev.new) self.old.reader.description
+            (joying_of self.new) result) }
+        ensures agains { (E.told dev.new).agains ≡ agains_after_turn result (E.told dev.old).agains }
+        ensures state { IsJoyState self.old.reader.description self.new }
+        ensures pictured { IsPictured self.old.reader.description (joying_of self.new) }
+        ensures few { length self.new.made ≤ 128 }
+    {
+        loop {
+            let outcome = self.turn(dev);
+            if self.is_end(outcome) {
+                return outcome;
+            }
+        }
+    }
+
+    // Reads: the record, where there is one, goes to `out`.
+    pub(crate) fn read<E: Evdev>(&mut self, dev: &mut E, out: &mut [u8; 8]) -> JoyRead
+        requires description { (E.told dev.old).description ≡ self.old.reader.description }
+        requires state { IsJoyState self.old.reader.description self.old }
+        requires pictured { IsPictured self.old.reader.description (joying_of self.old) }
+        ensures says { IsRead (E.told dev.old) (E.told dev.new)
+            self.old.reader.description (joying_of self.old) (joying_of self.new) self.new.made
+            result out.old out.new }
+        ensures goes { Goes (E.told dev.old) (E.told dev.new) [] self.new.made
+            self.old.reader.description self.old.reader.reading self.new.reader.reading
+            (ReadPictures (E.told dev.new) self.old.reader.description (joying_of self.new) result) }
+        ensures agains { (E.told dev.new).agains ≡ agains_after_read result (E.told dev.old).agains }
+        ensures state { IsJoyState self.old.reader.description self.new }
+        ensures pictured { IsPictured self.old.reader.description (joying_of self.new) }
+        ensures few { length self.new.made ≤ 128 }
+    {
+        self.made.clear();
+        match self.take_turns(dev) {
+            Outcome::Hands { entry } => {
+                *out = entry.bytes();
+                JoyRead::Record
+            }
+            Outcome::Stops { read } => read,
+            Outcome::GoesOn => JoyRead::More,
+        }
+    }
+
+    // A startup begins where the reader opened a client; where its queries were refused in part none is left.
+    fn after_start(&mut self, started: Started)
+        requires state { IsJoyState self.old.reader.description self.old }
+        ensures joying { joying_of self.new
+            ≡ after_start self.old.reader.description (joying_of self.old) started }
+        ensures rest { self.new
+            ≡ record self.old { handed = self.new.handed; picture = self.new.picture } }
+        ensures handed { self.new.handed ≤ startup_len self.old.reader.description }
+    {
+        match started {
+            Started::Opened { .. } => self.begin_startup(),
+            Started::Refused { .. } => {
+                if self.is_needed() {
+                    self.handed = self.startup_len();
+                }
+            }
+        }
+    }
+
+    // Whether the reader is to synchronise.
+    fn is_needed(&self) -> bool
+        ensures { result ≡ is_needed self.now.reader.reading.phase }
+    {
+        matches!(self.reader.phase(), Phase::Needed)
+    }
+
+    // Starts the reader.
+    pub(crate) fn start<E: Evdev>(&mut self, dev: &mut E) -> Started
+        requires description { (E.told dev.old).description ≡ self.old.reader.description }
+        requires state { IsJoyState self.old.reader.description self.old }
+        requires pictured { IsPictured self.old.reader.description (joying_of self.old) }
+        ensures says { Says (E.told dev.old) (E.told dev.new) [] self.new.made
+            (joy_start self.old.reader.description (joying_of self.old))
+            (result, joying_of self.new) }
+        ensures left { LeavesMade (E.told dev.old) (E.told dev.new) self.new.made }
+        ensures agains { (E.told dev.new).agains ≡ (E.told dev.old).agains }
+        ensures opened { has_opened result ≡ true
+            → IsAlone (E.told dev.old) (E.told dev.new) self.new.reader.reading.client self.new.made
+            → StateStands (E.told dev.new) self.new }
+        ensures stands { StateStands (E.told dev.old) self.old
+            → IsAlone (E.told dev.old) (E.told dev.new) self.new.reader.reading.client self.new.made
+            → StateStands (E.told dev.new) self.new }
+        ensures state { IsJoyState self.old.reader.description self.new }
+        ensures pictured { IsPictured self.old.reader.description (joying_of self.new) }
+        ensures few { length self.new.made ≤ 64 }
+    {
+        self.made.clear();
+        let started = self.reader.start(dev);
+        self.made.add_all(self.reader.made());
+        self.after_start(started);
+        started
+    }
+}

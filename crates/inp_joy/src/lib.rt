@@ -1,0 +1,43 @@
+//! A joystick client of an input device, as the kernel's joydev is one: it hands out numbered buttons and axes.
+//!
+//! This crate is for whoever reads a device as a joystick. A [`Joy`] opens a client, hands out how each button and axis
+//! stands (a startup), and then a record of eight bytes for each button event and each change of an axis. Where events were
+//! lost it synchronises and begins with a startup again. It stands on `inp_reader` for the client, on `inp_recon` for its
+//! view, on `inp_model` for events and the trait `Evdev`, on `inp_caps` for the description and on `inp_bits` for words of
+//! truth values. Nothing of the program stands on it yet.
+//!
+//! Its contract: `specs/Joying.antt` says what `start` and `read` ask of an evdev, one step by the answers before it, and
+//! what they answer, hand out and keep (a `Talk` of `inp_reader`). [`Joy::start`] and [`Joy::read`] promise that the calls
+//! they made are those of that talk, and that the answer, the record and what is kept are its result. What the calls leave
+//! of the history is said as [`Reader`](inp_reader::Reader) says it (`LeavesMade`), and so is where the client stands.
+//! [`examples`] shows what the definitions compute on short histories.
+//!
+//! The picture is what the records since the last startup make of a blank one (`specs/Picture.antt`). What is left of a
+//! startup leads it to the buttons and cut axes of the reader's view, and after the startup it shows them: an invariant,
+//! `IsPictured` of `specs/Reads.antt`, which [`Joy::picture`] promises. Where `read` answers `Frame`, the picture is the
+//! device's at the end of that frame, if the client could follow the device up to there.
+//!
+//! A joystick client takes all its memory when it is made; only the open of a start may meet want of memory. A `start`
+//! makes at most 64 calls, a `read` at most 128.
+#![tactic(auto)]
+
+mod code_list;
+mod joy;
+mod joy_calls;
+mod joy_read;
+mod joy_record;
+mod joy_state;
+pub mod laws;
+mod outcome;
+mod picture;
+mod rows;
+mod stops;
+mod views;
+
+pub use code_list::{BTN_JOYSTICK, BTN_MISC};
+pub use inp_reader::{NO_CLIENT, Started};
+pub use joy::Joy;
+pub use joy_read::JoyRead;
+pub use joy_record::{JS_EVENT_AXIS, JS_EVENT_BUTTON, JS_EVENT_INIT, JoyRecord};
+pub use picture::Picture;
+pub use rows::examples;

@@ -1,0 +1,14 @@
+//! What a turn of a read comes to.
+
+use crate::{JoyRead, JoyRecord};
+
+/// What a turn of a read comes to.
+#[derive(Clone, Copy)]
+pub(crate) enum Outcome {
+    /// This record is handed out.
+    Hands { entry: JoyRecord },
+    /// The read answers so.
+    Stops { read: JoyRead },
+    /// The read goes on.
+    GoesOn,
+}

@@ -1,0 +1,37 @@
+//! What an answer of a reader is to a joystick client.
+ghost use Rattle.std.specs.Prelude.{◌≡◌};
+ghost use Rattle.inp_joy.specs.Joying.{stop_of, is_lost, event_of};
+
+use crate::JoyRead;
+use inp_model::Taken;
+use inp_reader::Next;
+
+// The answer of a read that it is, if it is one.
+pub(crate) fn stop_of(next: Next) -> Option<JoyRead>
+    ensures { result ≡ stop_of next }
+{
+    match next {
+        Next::Again { at, ends } => Some(JoyRead::Again { at, ends }),
+        Next::NoDevice => Some(JoyRead::NoDevice),
+        Next::Closed => Some(JoyRead::Closed),
+        Next::Full { at } => Some(JoyRead::Full { at }),
+        _ => None,
+    }
+}
+
+// Whether events were lost.
+pub(crate) fn is_lost(next: Next) -> bool
+    ensures { result ≡ is_lost next }
+{
+    matches!(next, Next::Dropped { .. })
+}
+
+// The event that was handed out, if there was one.
+pub(crate) fn event_of(next: Next) -> Option<Taken>
+    ensures { result ≡ event_of next }
+{
+    match next {
+        Next::Success { event } => Some(event),
+        _ => None,
+    }
+}
