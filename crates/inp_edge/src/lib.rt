@@ -57,8 +57,6 @@ mod mem_input;
 mod mem_sink;
 mod out_sink;
 mod sink;
-#[cfg(test)]
-mod tests;
 
 pub use calls::Fails;
 pub use fault::{Failed, NoMemory, ReadFault};

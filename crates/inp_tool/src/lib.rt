@@ -34,8 +34,6 @@ mod no_record;
 mod outcome;
 mod playing;
 mod reading;
-#[cfg(test)]
-mod tests;
 mod texts;
 mod top;
 mod views;

@@ -1,7 +1,9 @@
-// The edge at work: what no clause says, and each call once.
-use crate::{
-    Failed, Fails, FileInput, Gate, INPUT_LIMIT, Input, Items, MemFile, MemFiles, MemInput,
-    MemSink, OpenGate, OutSink, ReadFault, read_all, write_all,
+//! The edge at work: what no clause says, and each call once.
+
+use crate::common::{input_of, sink_of};
+use inp_edge::{
+    Failed, FileInput, Gate, INPUT_LIMIT, Input, Items, OpenGate, OutSink, ReadFault, Sink,
+    read_all, write_all,
 };
 use std::alloc::{AllocError, Global};
 use std::cell::{Cell, RefCell};
@@ -20,23 +22,16 @@ fn sample(alloc: Global, len: usize) -> Result<Vec<u8>, AllocError> {
     Ok(bytes)
 }
 
-// An input with one file, `a`, of so many bytes.
-fn input_of(alloc: Global, len: usize, fails: Vec<u64>) -> Result<MemInput, Fail> {
-    let mut files = MemFiles::new(alloc);
-    let name = String::from_str(alloc, "a")?;
-    files.push(MemFile::new(name, sample(alloc, len)?))?;
-    Ok(MemInput::new(files, Fails::of(fails)))
-}
-
-// How a whole read of a file ends, with the number of its bytes where they are the file's, and how many faults there were.
+// How a whole read of a file of so many bytes, `a`, ends, with the number of its bytes where they are the file's, and how
+// many faults there were.
 fn whole_read(
     alloc: Global,
     len: usize,
     fail: u64,
     name: &str,
 ) -> Result<(Result<usize, ReadFault>, u64), Fail> {
-    let mut input = input_of(alloc, len, vec![in alloc; fail]?)?;
     let bytes = sample(alloc, len)?;
+    let mut input = input_of(alloc, &[("a", bytes.as_slice())], &[fail])?;
     let read = read_all(alloc, &mut input, name);
     Ok((
         read.map(|read| if read == bytes { len } else { usize::MAX }),
@@ -75,7 +70,7 @@ fn whole_write(
     fail: u64,
     written: &str,
 ) -> Result<(Result<(), Failed>, bool, u64), Fail> {
-    let mut sink = MemSink::new(alloc, room, Fails::of(vec![in alloc; fail]?))?;
+    let mut sink = sink_of(alloc, room, &[fail])?;
     let ended = write_all(&mut sink, text.as_bytes());
     Ok((ended, sink.bytes() == written.as_bytes(), sink.faults()))
 }

@@ -1,7 +1,7 @@
 //! Records, and what the program writes of them, worked out by hand.
 
 /// A key goes down, and a tap reads it.
-pub(super) const ONE_KEY: &str = "inputrecord 1
+pub const ONE_KEY: &str = "inputrecord 1
 device kbd
 cap EV_KEY KEY_A
 source s
@@ -12,7 +12,7 @@ do s event 1000 EV_SYN SYN_REPORT 0
 do t read 16
 ";
 
-pub(super) const ONE_KEY_REPORT: &str = "device kbd steps 4
+pub const ONE_KEY_REPORT: &str = "device kbd steps 4
 source s calls 2 stop finished
 tap t
 call open reply opened 0 0 128
@@ -24,7 +24,7 @@ stop finished
 ";
 
 /// The same with its history.
-pub(super) const HISTORY_REPORT: &str = "device kbd steps 4
+pub const HISTORY_REPORT: &str = "device kbd steps 4
 step 0 open
 step 1 inject 1000 EV_KEY KEY_A 1
 step 2 inject 1000 EV_SYN SYN_REPORT 0
@@ -39,25 +39,8 @@ keys KEY_A
 stop finished
 ";
 
-/// Its canonical text.
-pub(super) const ONE_KEY_PRINTED: &str = "inputrecord 1
-device kbd
-hint 16
-log 1048576
-clock realtime 0
-clock boottime 0
-type EV_KEY
-cap EV_KEY KEY_A
-source s
-tap t
-do t open
-do s event 1000 EV_KEY KEY_A 1
-do s event 1000 EV_SYN SYN_REPORT 0
-do t read 16
-";
-
 /// A client in place of the tap, and the key goes up again.
-pub(super) const CLIENT: &str = "inputrecord 1
+pub const CLIENT: &str = "inputrecord 1
 device kbd
 cap EV_KEY KEY_A
 source s
@@ -70,7 +53,7 @@ do s event 2000 EV_SYN SYN_REPORT 0
 do c follow
 ";
 
-pub(super) const CLIENT_REPORT: &str = "device kbd steps 7
+pub const CLIENT_REPORT: &str = "device kbd steps 7
 source s calls 4 stop finished
 client c
 call open reply opened 0 0 128
@@ -86,7 +69,7 @@ stop finished
 ";
 
 /// A history of at most four steps, and a fifth.
-pub(super) const FULL: &str = "inputrecord 1
+pub const FULL: &str = "inputrecord 1
 device kbd
 log 4
 cap EV_KEY KEY_A
@@ -99,7 +82,7 @@ do t read 16
 do s event 2000 EV_KEY KEY_A 0
 ";
 
-pub(super) const FULL_REPORT: &str = "device kbd steps 4
+pub const FULL_REPORT: &str = "device kbd steps 4
 source s calls 2 stop full 4
 tap t
 call open reply opened 0 0 128
@@ -111,7 +94,7 @@ stop finished
 ";
 
 /// The summary of the record that is made from 7 and 20.
-pub(super) const MADE: &str = "make 7 20
+pub const MADE: &str = "make 7 20
 device pad steps 674
 source finger calls 631
 client fast took 630 made 0 again 20 x 258 y 370
@@ -120,7 +103,7 @@ client slow took 1 made 41 again 1 x 258 y 370
 ";
 
 /// A stream in place of the two events.
-pub(super) const STREAM: &str = "inputrecord 1
+pub const STREAM: &str = "inputrecord 1
 device kbd
 cap EV_KEY KEY_A
 source s
@@ -131,7 +114,7 @@ do t read 16
 ";
 
 /// A stream, and a line behind it that begins with no keyword.
-pub(super) const STREAM_AND_BAD_LINE: &str = "inputrecord 1
+pub const STREAM_AND_BAD_LINE: &str = "inputrecord 1
 device kbd
 cap EV_KEY KEY_A
 source s
@@ -142,7 +125,7 @@ x
 ";
 
 /// Two streams.
-pub(super) const STREAMS: &str = "inputrecord 1
+pub const STREAMS: &str = "inputrecord 1
 device kbd
 cap EV_KEY KEY_A
 source s
@@ -154,7 +137,7 @@ do t read 16
 ";
 
 /// One file for two streams.
-pub(super) const STREAM_TWICE: &str = "inputrecord 1
+pub const STREAM_TWICE: &str = "inputrecord 1
 device kbd
 cap EV_KEY KEY_A
 source s
@@ -166,7 +149,7 @@ do t read 16
 ";
 
 /// What comes of two streams that each press the key: the second press is passed to nobody.
-pub(super) const STREAMS_REPORT: &str = "device kbd steps 6
+pub const STREAMS_REPORT: &str = "device kbd steps 6
 source s calls 4 stop finished
 tap t
 call open reply opened 0 0 128
@@ -178,7 +161,7 @@ stop finished
 ";
 
 /// A client that was revoked reads, and then closes.
-pub(super) const REVOKED: &str = "inputrecord 1
+pub const REVOKED: &str = "inputrecord 1
 device kbd
 cap EV_KEY KEY_A
 client c
@@ -188,7 +171,7 @@ do c next 1
 do c close
 ";
 
-pub(super) const REVOKED_REPORT: &str = "device kbd steps 4
+pub const REVOKED_REPORT: &str = "device kbd steps 4
 client c
 call open reply opened 0 0 128
 call getkeys 0 reply bits 1

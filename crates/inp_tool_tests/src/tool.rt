@@ -1,21 +1,16 @@
 //! The program's one call over inputs and sinks in memory: whole runs, and each status. Longer records are played through
 //! the program itself (tests/run).
 
-mod texts;
-
-use crate::{End, inputplay};
-use inp_edge::{
-    Failed, Fails, Gate, INPUT_LIMIT, Input, MemFile, MemFiles, MemInput, MemSink, OpenGate,
+use crate::common::{input_of, sink_of};
+use crate::texts::{
+    CLIENT, CLIENT_REPORT, FULL, FULL_REPORT, HISTORY_REPORT, MADE, ONE_KEY, ONE_KEY_REPORT,
+    REVOKED, REVOKED_REPORT, STREAM, STREAM_AND_BAD_LINE, STREAM_TWICE, STREAMS, STREAMS_REPORT,
 };
-use inp_record::{ParseFault, Record, parse, print};
+use inp_edge::{Failed, Gate, INPUT_LIMIT, Input, MemInput, MemSink, OpenGate};
+use inp_tool::{End, inputplay};
 use std::alloc::{AllocError, Global};
 use std::sync::atomic::{AtomicU64, Ordering};
 use std::test::Fail;
-use texts::{
-    CLIENT, CLIENT_REPORT, FULL, FULL_REPORT, HISTORY_REPORT, MADE, ONE_KEY, ONE_KEY_PRINTED,
-    ONE_KEY_REPORT, REVOKED, REVOKED_REPORT, STREAM, STREAM_AND_BAD_LINE, STREAM_TWICE, STREAMS,
-    STREAMS_REPORT,
-};
 
 /// Room for every text of these tests.
 const AMPLE: usize = 1_000_000;
@@ -30,21 +25,6 @@ const PRESS: &[u8] = &[
     0, 0, 0, 0, 0, 0, 0, 0, 0xe8, 3, 0, 0, 0, 0, 0, 0, 1, 0, 30, 0, 1, 0, 0, 0, 0, 0, 0, 0, 0, 0,
     0, 0, 0xe8, 3, 0, 0, 0, 0, 0, 0, 0, 0, 0, 0, 0, 0, 0, 0,
 ];
-
-/// An input with these files, whose calls of these numbers fail.
-fn input_of(alloc: Global, files: &[(&str, &[u8])], fails: &[u64]) -> Result<MemInput, Fail> {
-    let mut told = MemFiles::new(alloc);
-    for (name, bytes) in files {
-        let bytes = bytes.to_vec(alloc)?;
-        told.push(MemFile::new(String::from_str(alloc, name)?, bytes))?;
-    }
-    Ok(MemInput::new(told, Fails::of(fails.to_vec(alloc)?)))
-}
-
-/// A sink with so much room, whose calls of these numbers fail.
-fn sink_of(alloc: Global, room: usize, fails: &[u64]) -> Result<MemSink, Fail> {
-    Ok(MemSink::new(alloc, room, Fails::of(fails.to_vec(alloc)?))?)
-}
 
 /// The words of a command line.
 fn words_of(alloc: Global, texts: &[&str]) -> Result<Vec<String>, AllocError> {
@@ -259,21 +239,5 @@ fn ends_in_its_report_or_in_want_of_memory(rt: HostRuntime) -> Result<(), Fail> 
         _ => "another status",
     };
     assert_eq!(rt; sink.bytes(), want.as_bytes());
-    Ok(())
-}
-
-/// The record that a short text is.
-fn read(alloc: Global, text: &str) -> Result<Record, ParseFault> {
-    if text.len() > 100_000 {
-        return Err(ParseFault::NoMemory);
-    }
-    parse(alloc, text.as_bytes())
-}
-
-#[test]
-fn prints_a_record(rt: HostRuntime) -> Result<(), Fail> {
-    let recorded = read(rt.alloc(), ONE_KEY)?;
-    let printed = print(rt.alloc(), &recorded)?;
-    assert_eq!(rt; printed.as_slice(), ONE_KEY_PRINTED.as_bytes());
     Ok(())
 }
