@@ -6,25 +6,25 @@ use Rattle.inp_filter.specs.declared.filter.Filter.{Filter}
 use Rattle.inp_filter.specs.declared.filter_state.FilterState.{FilterState}
 use Rattle.inp_filter.specs.Filter.{Timed, Given, eats, given_more}
 use Rattle.inp_filter.specs.Row.{given_all, left_by, is_eaten}
-use Rattle.inp_filter.specs.FilterState.{StandsFor, StandFor}
+use Rattle.inp_filter.specs.FilterState.{FilterStandsFor, FiltersStandFor}
 
 -- a filter was given one more event, and ate it or not
 pub record OneTakes (x : Timed) (old new : FilterState) (eaten : Bool) : Type 0 where
-  pub eats : (f : Filter) (given : List Given) → StandsFor f given old → eaten ≡ eats f x given
-  pub stands : (f : Filter) (given : List Given) → StandsFor f given old → StandsFor f (given_more f x given) new
+  pub eats : (f : Filter) (given : List Given) → FilterStandsFor f given old → eaten ≡ eats f x given
+  pub stands : (f : Filter) (given : List Given) → FilterStandsFor f given old → FilterStandsFor f (given_more f x given) new
 
 -- filters in a row were given one more event, and one of them ate it or not
 pub record RowTakes (x : Timed) (old new : List FilterState) (eaten : Bool) : Type 0 where
-  pub eaten_is : (fs : List Filter) (given : List Timed) → StandFor fs given old → eaten ≡ is_eaten fs x given
-  pub stands : (fs : List Filter) (given : List Timed) → StandFor fs given old → StandFor fs (x ∷ given) new
+  pub eaten_is : (fs : List Filter) (given : List Timed) → FiltersStandFor fs given old → eaten ≡ is_eaten fs x given
+  pub stands : (fs : List Filter) (given : List Timed) → FiltersStandFor fs given old → FiltersStandFor fs (x ∷ given) new
 
-none_eats : (x : Timed) (fs : List Filter) (given : List Timed) → StandFor fs given [] → false ≡ is_eaten fs x given
-unfolding StandFor is_eaten
+none_eats : (x : Timed) (fs : List Filter) (given : List Timed) → FiltersStandFor fs given [] → false ≡ is_eaten fs x given
+unfolding FiltersStandFor is_eaten
 none_eats x [] given h = refl
 none_eats x (f ∷ fs) given h = absurd h
 
-none_stands : (x : Timed) (fs : List Filter) (given : List Timed) → StandFor fs given [] → StandFor fs (x ∷ given) []
-unfolding StandFor
+none_stands : (x : Timed) (fs : List Filter) (given : List Timed) → FiltersStandFor fs given [] → FiltersStandFor fs (x ∷ given) []
+unfolding FiltersStandFor
 none_stands x [] given h = tt
 none_stands x (f ∷ fs) given h = absurd h
 
@@ -32,46 +32,46 @@ pub row-none : (x : Timed) → RowTakes x [] [] false
 row-none x = record { eaten_is = none_eats x; stands = none_stands x }
 
 module _ (x : Timed) (old new : FilterState) (states : List FilterState) (one : OneTakes x old new true) where
-  first_eats : (fs : List Filter) (given : List Timed) → StandFor fs given (old ∷ states) → true ≡ is_eaten fs x given
-  unfolding StandFor is_eaten
+  first_eats : (fs : List Filter) (given : List Timed) → FiltersStandFor fs given (old ∷ states) → true ≡ is_eaten fs x given
+  unfolding FiltersStandFor is_eaten
   first_eats [] given h = absurd h
   first_eats (f ∷ fs) given h =
       ap (λ (b : Bool). b || is_eaten fs x (left_by f given)) (one.eats f (given_all f given) h.0)
 
-  first_stands : (fs : List Filter) (given : List Timed) → StandFor fs given (old ∷ states) → StandFor fs (x ∷ given) (new ∷ states)
-  unfolding StandFor given_all left_by
+  first_stands : (fs : List Filter) (given : List Timed) → FiltersStandFor fs given (old ∷ states) → FiltersStandFor fs (x ∷ given) (new ∷ states)
+  unfolding FiltersStandFor given_all left_by
   first_stands [] given h = absurd h
   first_stands (f ∷ fs) given h =
-      (one.stands f (given_all f given) h.0, subst (λ (b : Bool). StandFor fs (if b then left_by f given else x ∷ left_by f given) states) (one.eats f (given_all f given) h.0) h.1)
+      (one.stands f (given_all f given) h.0, subst (λ (b : Bool). FiltersStandFor fs (if b then left_by f given else x ∷ left_by f given) states) (one.eats f (given_all f given) h.0) h.1)
 
   -- the first one eats it, and those behind it are not given it
   pub row-eaten : RowTakes x (old ∷ states) (new ∷ states) true
   row-eaten = record { eaten_is = first_eats; stands = first_stands }
 
 module _ (x : Timed) (old new : FilterState) (states later : List FilterState) (eaten : Bool) (one : OneTakes x old new false) (others : RowTakes x states later eaten) where
-  next_eats : (fs : List Filter) (given : List Timed) → StandFor fs given (old ∷ states) → eaten ≡ is_eaten fs x given
-  unfolding StandFor is_eaten
+  next_eats : (fs : List Filter) (given : List Timed) → FiltersStandFor fs given (old ∷ states) → eaten ≡ is_eaten fs x given
+  unfolding FiltersStandFor is_eaten
   next_eats [] given h = absurd h
   next_eats (f ∷ fs) given h =
       others.eaten_is fs (left_by f given) h.1 ∙ ap (λ (b : Bool). b || is_eaten fs x (left_by f given)) (one.eats f (given_all f given) h.0)
 
-  next_stands : (fs : List Filter) (given : List Timed) → StandFor fs given (old ∷ states) → StandFor fs (x ∷ given) (new ∷ later)
-  unfolding StandFor given_all left_by
+  next_stands : (fs : List Filter) (given : List Timed) → FiltersStandFor fs given (old ∷ states) → FiltersStandFor fs (x ∷ given) (new ∷ later)
+  unfolding FiltersStandFor given_all left_by
   next_stands [] given h = absurd h
   next_stands (f ∷ fs) given h =
-      (one.stands f (given_all f given) h.0, subst (λ (b : Bool). StandFor fs (if b then left_by f given else x ∷ left_by f given) later) (one.eats f (given_all f given) h.0) (others.stands fs (left_by f given) h.1))
+      (one.stands f (given_all f given) h.0, subst (λ (b : Bool). FiltersStandFor fs (if b then left_by f given else x ∷ left_by f given) later) (one.eats f (given_all f given) h.0) (others.stands fs (left_by f given) h.1))
 
   -- the first one leaves it, and it is given to those behind it
   pub row-left : RowTakes x (old ∷ states) (new ∷ later) eaten
   row-left = record { eaten_is = next_eats; stands = next_stands }
 
 -- what is kept of one more filter behind the others, before any event
-pub StandFor-push : (fs : List Filter) (states : List FilterState) (f : Filter) (state : FilterState) → StandFor fs [] states → StandsFor f [] state → StandFor (fs ++ f ∷ []) [] (states ++ state ∷ [])
-unfolding StandFor given_all left_by
-StandFor-push [] [] f state h one = (one, tt)
-StandFor-push [] (s ∷ states) f state h one = absurd h
-StandFor-push (g ∷ fs) [] f state h one = absurd h
-StandFor-push (g ∷ fs) (s ∷ states) f state h one = (h.0, StandFor-push fs states f state h.1 one)
+pub FiltersStandFor-push : (fs : List Filter) (states : List FilterState) (f : Filter) (state : FilterState) → FiltersStandFor fs [] states → FilterStandsFor f [] state → FiltersStandFor (fs ++ f ∷ []) [] (states ++ state ∷ [])
+unfolding FiltersStandFor given_all left_by
+FiltersStandFor-push [] [] f state h one = (one, tt)
+FiltersStandFor-push [] (s ∷ states) f state h one = absurd h
+FiltersStandFor-push (g ∷ fs) [] f state h one = absurd h
+FiltersStandFor-push (g ∷ fs) (s ∷ states) f state h one = (h.0, FiltersStandFor-push fs states f state h.1 one)
 
 set-at : (states : List FilterState) (i : ℕ) (new : FilterState) → i < length states → set states i new ≡ take i states ++ new ∷ drop (i + 1) states
 set-at states i new lt = rw add-one (set_split states i new lt)
@@ -90,8 +90,8 @@ ComesSoFar x before states i false = GoesOn x before states i
 pub record NextTakes (x : Timed) (is_eaten : Bool) (old new : FilterState) (eaten : Bool) : Type 0 where
   pub eaten_is : is_eaten ≡ true → eaten ≡ true
   pub kept : is_eaten ≡ true → new ≡ old
-  pub eats : is_eaten ≡ false → (f : Filter) (given : List Given) → StandsFor f given old → eaten ≡ eats f x given
-  pub stands : is_eaten ≡ false → (f : Filter) (given : List Given) → StandsFor f given old → StandsFor f (given_more f x given) new
+  pub eats : is_eaten ≡ false → (f : Filter) (given : List Given) → FilterStandsFor f given old → eaten ≡ eats f x given
+  pub stands : is_eaten ≡ false → (f : Filter) (given : List Given) → FilterStandsFor f given old → FilterStandsFor f (given_more f x given) new
 
 module _ (x : Timed) (before states : List FilterState) (i : ℕ) (default new : FilterState) (lt : i < length states) where
   -- the filter at this place is the first of those from it on

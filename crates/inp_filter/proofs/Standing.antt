@@ -10,7 +10,7 @@ use Rattle.inp_filter.specs.declared.norepeat.Norepeat.{Norepeat as KeptNorepeat
 use Rattle.inp_filter.specs.declared.chord.Chord.{Chord as KeptChord}
 use Rattle.inp_filter.specs.declared.bounce.Bounce.{Bounce as KeptBounce}
 use Rattle.inp_filter.specs.declared.filter_state.FilterState.TheVariants.{Eat as EatState, Norepeat as NorepeatState, Chord as ChordState, Bounce as BounceState}
-use Rattle.inp_filter.specs.FilterState.{IsChord, IsBounce, StandsFor}
+use Rattle.inp_filter.specs.FilterState.{IsChord, IsBounce, FilterStandsFor}
 use Rattle.inp_filter.specs.Filter.{Given, Press, is_on_key, is_press, is_release, last_press, is_there_and, is_down, last_release}
 
 -- a test of the last press, behind an event that is about another key
@@ -62,23 +62,23 @@ last_release-other code g given h = cond-false (is_on_key code g.event && (is_re
 
 -- What is kept tells which kind of filter it stands for.
 
-pub of_eat : (given : List Given) (eat : KeptEat) (Q : Filter → Type 0) → Q (Eat eat.kind eat.code) → (f : Filter) → StandsFor f given (EatState eat) → Q f
-unfolding StandsFor
+pub of_eat : (given : List Given) (eat : KeptEat) (Q : Filter → Type 0) → Q (Eat eat.kind eat.code) → (f : Filter) → FilterStandsFor f given (EatState eat) → Q f
+unfolding FilterStandsFor
 of_eat given eat Q q (Eat kind code) h =
     subst (λ (k : ℕ). Q (Eat k code)) h.0 (subst (λ (k : ℕ). Q (Eat eat.kind k)) h.1 q)
 of_eat given eat Q q f h = absurd h
 
-pub of_norepeat : (given : List Given) (norepeat : KeptNorepeat) (Q : Filter → Type 0) → Q Norepeat → (f : Filter) → StandsFor f given (NorepeatState norepeat) → Q f
-unfolding StandsFor
+pub of_norepeat : (given : List Given) (norepeat : KeptNorepeat) (Q : Filter → Type 0) → Q Norepeat → (f : Filter) → FilterStandsFor f given (NorepeatState norepeat) → Q f
+unfolding FilterStandsFor
 of_norepeat given norepeat Q q Norepeat h = q
 of_norepeat given norepeat Q q f h = absurd h
 
-pub of_chord : (given : List Given) (chord : KeptChord) (Q : Filter → Type 0) → ((first second : ℕ) → IsChord first second given chord → Q (Chord first second)) → (f : Filter) → StandsFor f given (ChordState chord) → Q f
-unfolding StandsFor
+pub of_chord : (given : List Given) (chord : KeptChord) (Q : Filter → Type 0) → ((first second : ℕ) → IsChord first second given chord → Q (Chord first second)) → (f : Filter) → FilterStandsFor f given (ChordState chord) → Q f
+unfolding FilterStandsFor
 of_chord given chord Q q (Chord first second) h = q first second h
 of_chord given chord Q q f h = absurd h
 
-pub of_bounce : (given : List Given) (bounce : KeptBounce) (Q : Filter → Type 0) → ((code micros : ℕ) → IsBounce code micros given bounce → Q (Bounce code micros)) → (f : Filter) → StandsFor f given (BounceState bounce) → Q f
-unfolding StandsFor
+pub of_bounce : (given : List Given) (bounce : KeptBounce) (Q : Filter → Type 0) → ((code micros : ℕ) → IsBounce code micros given bounce → Q (Bounce code micros)) → (f : Filter) → FilterStandsFor f given (BounceState bounce) → Q f
+unfolding FilterStandsFor
 of_bounce given bounce Q q (Bounce code micros) h = q code micros h
 of_bounce given bounce Q q f h = absurd h

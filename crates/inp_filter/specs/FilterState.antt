@@ -28,17 +28,17 @@ pub record IsBounce (code micros : ℕ) (given : List Given) (bounce : KeptBounc
   pub hold : IsHold code (is_bounced code micros) given bounce.hold
 
 -- this is kept of a filter that was given these events
-unfoldable pub StandsFor : Filter → List Given → FilterState → Type 0
-StandsFor (Eat kind code) given (EatState eat) = (eat.kind ≡ kind) × (eat.code ≡ code)
-StandsFor Norepeat given (NorepeatState norepeat) = Unit {0}
-StandsFor (Chord first second) given (ChordState chord) = IsChord first second given chord
-StandsFor (Bounce code micros) given (BounceState bounce) = IsBounce code micros given bounce
-StandsFor f given state = ⊥
+unfoldable pub FilterStandsFor : Filter → List Given → FilterState → Type 0
+FilterStandsFor (Eat kind code) given (EatState eat) = (eat.kind ≡ kind) × (eat.code ≡ code)
+FilterStandsFor Norepeat given (NorepeatState norepeat) = Unit {0}
+FilterStandsFor (Chord first second) given (ChordState chord) = IsChord first second given chord
+FilterStandsFor (Bounce code micros) given (BounceState bounce) = IsBounce code micros given bounce
+FilterStandsFor f given state = ⊥
 
 -- This is kept of filters in a row, the first of which was given these events, and each other one what the one before
 -- it did not eat of those that it was given itself.
-unfoldable pub StandFor : List Filter → List Timed → List FilterState → Type 0
-StandFor [] given [] = Unit {0}
-StandFor [] given (state ∷ states) = ⊥
-StandFor (f ∷ fs) given [] = ⊥
-StandFor (f ∷ fs) given (state ∷ states) = StandsFor f (given_all f given) state × StandFor fs (left_by f given) states
+unfoldable pub FiltersStandFor : List Filter → List Timed → List FilterState → Type 0
+FiltersStandFor [] given [] = Unit {0}
+FiltersStandFor [] given (state ∷ states) = ⊥
+FiltersStandFor (f ∷ fs) given [] = ⊥
+FiltersStandFor (f ∷ fs) given (state ∷ states) = FilterStandsFor f (given_all f given) state × FiltersStandFor fs (left_by f given) states

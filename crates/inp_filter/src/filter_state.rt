@@ -2,7 +2,7 @@
 ghost use Rattle.std.specs.Prelude.{◌≡◌, true, false, List, []};
 ghost use Rattle.inp_filter.specs.declared.filter.Filter.{Filter};
 ghost use Rattle.inp_filter.specs.Filter.{Given, eats, given_more, timed};
-ghost use Rattle.inp_filter.specs.FilterState.{StandsFor};
+ghost use Rattle.inp_filter.specs.FilterState.{FilterStandsFor};
 
 use crate::Filter;
 use crate::bounce::Bounce;
@@ -23,7 +23,7 @@ pub enum FilterState {
 impl FilterState {
     /// The filter before any event.
     pub fn new(filter: Filter) -> FilterState
-        ensures fresh { StandsFor filter [] result }
+        ensures fresh { FilterStandsFor filter [] result }
     {
         match filter {
             Filter::Eat { kind, code } => FilterState::Eat(Eat { kind, code }),
@@ -35,10 +35,10 @@ impl FilterState {
 
     // Takes one more event, of a frame that ends at a moment, and says whether the filter eats it.
     fn eats(&mut self, event: Event, now: u64) -> bool
-        ensures eats { (f : Filter) (given : List Given) → StandsFor f given self.old
+        ensures eats { (f : Filter) (given : List Given) → FilterStandsFor f given self.old
             → result ≡ eats f (timed now event) given }
-        ensures stands { (f : Filter) (given : List Given) → StandsFor f given self.old
-            → StandsFor f (given_more f (timed now event) given) self.new }
+        ensures stands { (f : Filter) (given : List Given) → FilterStandsFor f given self.old
+            → FilterStandsFor f (given_more f (timed now event) given) self.new }
     {
         match self {
             FilterState::Eat(eat) => eat.eats(event),
@@ -53,10 +53,10 @@ impl FilterState {
         ensures eaten { is_eaten ≡ true → result ≡ true }
         ensures kept { is_eaten ≡ true → self.new ≡ self.old }
         ensures eats { is_eaten ≡ false → (f : Filter) (given : List Given)
-            → StandsFor f given self.old → result ≡ eats f (timed now event) given }
+            → FilterStandsFor f given self.old → result ≡ eats f (timed now event) given }
         ensures stands { is_eaten ≡ false → (f : Filter) (given : List Given)
-            → StandsFor f given self.old
-            → StandsFor f (given_more f (timed now event) given) self.new }
+            → FilterStandsFor f given self.old
+            → FilterStandsFor f (given_more f (timed now event) given) self.new }
     {
         is_eaten || self.eats(event, now)
     }

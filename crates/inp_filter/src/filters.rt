@@ -3,7 +3,7 @@ ghost use Rattle.std.specs.Prelude.{◌≡◌, ◌≤◌, ◌<◌, ◌^◌, ℕ,
 ghost use Rattle.inp_filter.specs.declared.filter.Filter.{Filter};
 ghost use Rattle.inp_filter.specs.Filter.{Timed, timed};
 ghost use Rattle.inp_filter.specs.Row.{is_eaten, is_left, with_event, left, given_after};
-ghost use Rattle.inp_filter.specs.FilterState.{StandFor};
+ghost use Rattle.inp_filter.specs.FilterState.{FiltersStandFor};
 
 use crate::Filter;
 use crate::filter_state::FilterState;
@@ -14,7 +14,7 @@ use std::marker::Model;
 /// The filters of a device, in a row: each is given what the one before it left.
 ///
 /// They keep no event: a filter keeps a few bits, and a moment at most. A contract sees them as the list of what is kept
-/// of each, and `StandFor` says for which filters and which events given so far that stands.
+/// of each, and `FiltersStandFor` says for which filters and which events given so far that stands.
 #[derive(Drop)]
 pub struct Filters {
     filters: Vec<FilterState>,
@@ -32,7 +32,7 @@ impl Model for Filters {
 impl Filters {
     /// These filters, in their order, before any frame. It is refused for memory alone.
     pub fn new(alloc: Global, filters: &[Filter]) -> Result<Filters, NoMemory>
-        ensures fresh { IfOk result (λ row. StandFor filters.now [] row) }
+        ensures fresh { IfOk result (λ row. FiltersStandFor filters.now [] row) }
     {
         let mut kept = Vec::new(alloc);
         for filter in filters {
@@ -48,10 +48,10 @@ impl Filters {
     pub fn pass(&mut self, events: &[Event], now: u64, out: &mut [Event]) -> u32
         requires count { length events.now < 2 ^ 32 }
         requires room { length events.now ≤ length out.old }
-        ensures left { (fs : List Filter) (given : List Timed) → StandFor fs given self.old
+        ensures left { (fs : List Filter) (given : List Timed) → FiltersStandFor fs given self.old
             → take result out.new ≡ left fs now given events.now }
-        ensures stands { (fs : List Filter) (given : List Timed) → StandFor fs given self.old
-            → StandFor fs (given_after now given events.now) self.new }
+        ensures stands { (fs : List Filter) (given : List Timed) → FiltersStandFor fs given self.old
+            → FiltersStandFor fs (given_after now given events.now) self.new }
         ensures fits { result ≤ length events.now }
         ensures rest { drop result out.new ≡ drop result out.old }
     {
@@ -67,10 +67,10 @@ impl Filters {
 
     // Takes one more event of a frame that ends at a moment, and says whether it is left.
     fn lets_through(&mut self, event: Event, now: u64) -> bool
-        ensures left { (fs : List Filter) (given : List Timed) → StandFor fs given self.old
+        ensures left { (fs : List Filter) (given : List Timed) → FiltersStandFor fs given self.old
             → result ≡ is_left fs now given event }
-        ensures stands { (fs : List Filter) (given : List Timed) → StandFor fs given self.old
-            → StandFor fs (with_event now event given) self.new }
+        ensures stands { (fs : List Filter) (given : List Timed) → FiltersStandFor fs given self.old
+            → FiltersStandFor fs (with_event now event given) self.new }
     {
         event.kind == EV_SYN || !is_eaten_by(&mut self.filters, event, now)
     }
@@ -78,10 +78,10 @@ impl Filters {
 
 // Gives an event to filters in a row, each of which is given what the one before it left, and says whether one ate it.
 fn is_eaten_by(filters: &mut [FilterState], event: Event, now: u64) -> bool
-    ensures eaten { (fs : List Filter) (given : List Timed) → StandFor fs given filters.old
+    ensures eaten { (fs : List Filter) (given : List Timed) → FiltersStandFor fs given filters.old
         → result ≡ is_eaten fs (timed now event) given }
-    ensures stands { (fs : List Filter) (given : List Timed) → StandFor fs given filters.old
-        → StandFor fs (timed now event ∷ given) filters.new }
+    ensures stands { (fs : List Filter) (given : List Timed) → FiltersStandFor fs given filters.old
+        → FiltersStandFor fs (timed now event ∷ given) filters.new }
 {
     let mut is_eaten = false;
     for filter in filters.iter_mut() {

@@ -1,17 +1,17 @@
 //! Filters: which events of a device's frames are kept from its clients.
 //!
-//! This crate is for whoever passes the frames of a device on to clients. [`Filters`] is made of up to a few [`Filter`]s,
-//! in order, takes the frames one by one, and writes what is left of each. A filter eats every event of a type and code,
-//! every autorepeat, the holds of a key that start while another key is down, or those that start too soon after a
-//! release. The crate stands on `inp_model`.
+//! This crate is for whoever passes the frames of a device on to clients. [`Filters`] is made from a list of
+//! [`Filter`]s, takes the frames one by one, and writes what is left of each. A filter eats every event of a type and
+//! code, every autorepeat, the holds of a key that start while another key is down, or those that start too soon after
+//! a release. The crate stands on `inp_model`.
 //!
 //! Its contract: `specs/Filter.antt` says what one filter eats of the events that it was given so far, and
 //! `specs/Row.antt` what is left of a frame behind filters in a row, each of which is given what the one before it did not
-//! eat. Events of `EV_SYN` are given to no filter and always left. A [`Filters`] keeps no list of events; `StandFor`
-//! (`specs/FilterState.antt`) says for which filters and which events given so far it stands. A new one stands for its
-//! filters before any event, and after [`Filters::pass`] it stands for the events given so far with those of the frame.
-//! What is left of a frame is the definition's for each such list. An event takes the same time at each filter whatever
-//! came before, and no memory is taken once the filters are made.
+//! eat. Events of `EV_SYN` are given to no filter and always left. A [`Filters`] keeps no list of events:
+//! `FiltersStandFor` (`specs/FilterState.antt`) says for which filters and which events given so far it stands. A new one
+//! stands for its filters before any event, and after [`Filters::pass`] it stands for the events given so far with those
+//! of the frame. What is left of a frame is the definition's for each such list. An event takes the same time at each
+//! filter whatever came before, and no memory is taken once the filters are made.
 //!
 //! Which frames the filters are given is the caller's to choose: those of a device while a client holds its grab are not
 //! meant for them. [`laws`] has what holds of all filters, and [`examples`] shows what the definitions compute on short

@@ -4,7 +4,7 @@ use Rattle.std.proofs.lemmas.List.{append-nil, drop_all}
 use Rattle.inp_model.specs.declared.event.Event.{Event}
 use Rattle.inp_filter.specs.Filter.{Timed}
 use Rattle.inp_filter.specs.Row.{left, given_after}
-use Rattle.inp_filter.specs.FilterState.{StandFor}
+use Rattle.inp_filter.specs.FilterState.{FiltersStandFor}
 use Rattle.inp_filter.proofs.Left.{Writes, passing-none, writes-left, writes-eaten, left-none, given_after-none}
 use Rattle.inp_filter.proofs.filters.Filters.pass.Goals.{then-lets_through, else-lets_through}
 use Rattle.inp_filter.proofs.filters.Filters.pass.Goals as goal
@@ -47,7 +47,7 @@ returns c =
       stands = λ fs given h.
           let p = here.invariant.passing fs given h in
           let end = p.given_is ∙ ap (λ (es : List Event). given_after c.args.now p.given_so_far es) none_more ∙ given_after-none c.args.now p.given_so_far in
-          subst (λ (l : List Timed). StandFor fs l here.self) (sym end) p.stands;
+          subst (λ (l : List Timed). FiltersStandFor fs l here.self) (sym end) p.stands;
       fits = omega (arith, here.invariant.few);
       rest = here.invariant.rest;
     }
