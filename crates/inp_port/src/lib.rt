@@ -17,8 +17,8 @@
 //! device, and may keep entries that are no steps. [`PortOf`] and [`PortClientOf`] are for any such value, and
 //! [`PortOf::shared`] is for calls of it that are no steps.
 //!
-//! Only [`PortOf::new`] takes memory, and a step what the device takes for it. Nothing says that a call gets its turn, or who
-//! is served first.
+//! Only [`PortOf::new`] takes memory, and a step what the device takes for it. Nothing says that a call gets its turn, or
+//! who is served first.
 #![tactic(auto)]
 
 mod client;

@@ -1,5 +1,5 @@
 //! A device that several threads use.
-ghost use Rattle.std.specs.Prelude.{◌≡◌, ◌≤◌, ◌+◌, false, IfOk, IfErr};
+ghost use Rattle.std.specs.Prelude.{◌≡◌, ◌≤◌, IfOk, IfErr};
 ghost use mathlib.Core.List.{IsPrefix};
 ghost use Rattle.inp_model.specs.declared.stamped.TheConstants.{MOMENT_MAX};
 ghost use Rattle.inp_model.specs.Step.{moment_of};
@@ -40,7 +40,8 @@ impl<S: Served> PortOf<S> {
         ensures first { IfOk result (λ r. first_of r.0 ≡ state) }
         ensures description { IfOk result (λ r. description_of r.0 ≡ S.base state) }
         ensures ready { IfOk result (λ r. IsReadyAt r.0 r.1) }
-        ensures view { IfOk result (λ r. view_of r.1 ≡ first_view (S.base state) (S.entries state)) }
+        ensures view { IfOk result (λ r.
+            view_of r.1 ≡ first_view (S.base state) (S.entries state)) }
         ensures back { IfErr result (λ r. r.0 ≡ state) }
     {
         let caps = state.caps().copy();
@@ -130,10 +131,10 @@ impl<S: Served> PortOf<S> {
         requires room { HasRoom (description_of self.now) step out.old cells.old }
         ensures ready { IsReadyAt self.now pass.new }
         ensures seen { IsPrefix (view_of pass.old).seen (view_of pass.new).seen }
-        ensures served { IsServedTurn S.made (description_of self.now) (view_of pass.old) step result
-            out.old out.new cells.old cells.new (view_of pass.new) }
-        ensures called { IsCallBy S.made self.now pass.old pass.new step result
-            out.old out.new cells.old cells.new }
+        ensures served { IsServedTurn S.made (description_of self.now) (view_of pass.old)
+            step result out.old out.new cells.old cells.new (view_of pass.new) }
+        ensures called { IsCallBy S.made self.now pass.old pass.new
+            step result out.old out.new cells.old cells.new }
     {
         let mut held = self.shared.take(rt, pass);
         let reply = held.state.serve(step, out, cells);
