@@ -10,7 +10,5 @@
 
 mod player;
 mod playing;
-#[cfg(test)]
-mod tests;
 
 pub use playing::play;

@@ -22,8 +22,6 @@
 mod cells;
 mod flags;
 pub mod laws;
-#[cfg(test)]
-mod tests;
 mod view;
 mod view_examples;
 

@@ -9,7 +9,6 @@ pub mod Noted
 pub mod Turns
 pub mod Rounds
 pub mod Lines
-pub mod FullDevice
 pub mod Runs
 pub mod Told
 pub mod LastAgain

@@ -32,8 +32,6 @@ mod steps;
 mod stop;
 mod stops;
 mod tap;
-#[cfg(test)]
-mod tests;
 mod waiting;
 
 pub use actor::Actor;

@@ -1,12 +1,12 @@
 //! Views of a touchpad with two slots, worked by hand.
 
-use super::*;
 use inp_caps::{Caps, CapsBuilder, CapsRefused};
 use inp_model::{
     ABS_MT_POSITION_X, ABS_MT_POSITION_Y, ABS_MT_SLOT, ABS_MT_TRACKING_ID, AxisInfo, EV_ABS,
     EV_KEY, EV_LED, EV_REL, EV_SND, EV_SW, EV_SYN, Event, KEY_A, NoMemory, Refusal, Reply,
     SYN_DROPPED, Step,
 };
+use inp_recon::View;
 use std::alloc::Global;
 use std::test::Fail;
 

@@ -2,15 +2,13 @@
 ghost use Rattle.std.specs.Prelude.{◌≡◌, ◌<◌, ℕ, length, IfOk, slice_get, Some};
 ghost use Rattle.inp_actors.specs.declared.device_text.DeviceText.{DeviceText};
 ghost use Rattle.inp_model.specs.Description.{one_key};
-ghost use Rattle.inp_actors.specs.Name.{IsName};
 
-use super::*;
-use inp_actors::{
-    ActorText, Actors, Command, DeviceText, Devices, Line, Lines, Name, Record, Role, Streams,
-};
+use crate::common::actor;
+use inp_actors::{Actors, Command, DeviceText, Devices, Line, Lines, Name, Record, Role, Streams};
 use inp_caps::{Caps, CapsBuilder};
 use inp_edge::{Gate, OpenGate};
 use inp_model::{EV_KEY, Evdev, KEY_A, NoMemory, Refusal, Reply, Step, Taken};
+use inp_script::{Actor, Gated, JobEnd, Stop};
 use std::alloc::Global;
 use std::sync::atomic::{AtomicU64, Ordering};
 use std::test::Fail;
@@ -52,18 +50,6 @@ fn keyboard() -> Caps
     builder.build()
 }
 
-fn actor(name: &[u8], role: Role) -> ActorText
-    requires { IsName name.now }
-    ensures role { result.role ≡ role }
-    ensures device { result.device ≡ 0 }
-{
-    ActorText {
-        name: Name::new(name),
-        role,
-        device: 0,
-    }
-}
-
 /// A source that presses a key twice, a client that opens, and a tap that reads and asks for keys.
 fn record(alloc: Global) -> Result<Record, NoMemory>
     ensures actors { IfOk result (λ rec. length rec.actors ≡ 3) }
@@ -76,9 +62,9 @@ fn record(alloc: Global) -> Result<Record, NoMemory>
         caps: keyboard(),
     })?;
     let mut actors = Actors::new(alloc);
-    actors.push(actor(b"s", Role::Source))?;
-    actors.push(actor(b"c", Role::Client))?;
-    actors.push(actor(b"t", Role::Tap))?;
+    actors.push(actor(b"s", Role::Source, 0))?;
+    actors.push(actor(b"c", Role::Client, 0))?;
+    actors.push(actor(b"t", Role::Tap, 0))?;
     let press = Command::Event {
         moment: 0,
         kind: EV_KEY,

@@ -1,6 +1,6 @@
 use Rattle.std.proofs.Common.{◌≡◌, ◌∙◌, sym}
-use Rattle.inp_script.proofs.FullDevice.{full-client, full-other}
-use Rattle.inp_script.proofs.tests.FullDeviceEvdev.call.Goals as goal
+use Rattle.inp_play_tests.proofs.FullDevice.{full-client, full-other}
+use Rattle.inp_play_tests.proofs.script.FullDeviceEvdev.call.Goals as goal
 
 pub returns-in-Some : goal.returns-in-Some
 returns-in-Some c = record { called = full-client c.args.step c.in-Some.field-0 _ _ (sym c.client.ensures.client ∙ c.in-Some.is) }

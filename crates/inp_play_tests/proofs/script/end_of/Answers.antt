@@ -2,8 +2,8 @@ use Rattle.std.proofs.Common.{◌≡◌, ◌∙◌, sym, ap, List}
 use Rattle.std.specs.List.{slice_get}
 use Rattle.inp_actors.specs.declared.line.Line.{Line}
 use Rattle.inp_script.specs.Job.{ActorView}
-use Rattle.inp_script.proofs.FullDevice.{has-after}
-use Rattle.inp_script.proofs.tests.end_of.Goals as goal
+use Rattle.inp_play_tests.proofs.FullDevice.{has-after}
+use Rattle.inp_play_tests.proofs.script.end_of.Goals as goal
 
 pub loop-line-init : goal.loop-line-init
 loop-line-init c =

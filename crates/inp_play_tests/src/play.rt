@@ -1,13 +1,11 @@
 //! A record of two devices, played.
-ghost use Rattle.std.specs.Prelude.{◌≡◌};
 ghost use Rattle.inp_actors.specs.Name.{IsName};
 
-use super::*;
-use inp_actors::{
-    ActorText, Actors, Command, DeviceText, Devices, Line, Lines, Name, Record, Role, Streams,
-};
+use crate::common::actor;
+use inp_actors::{Actors, Command, DeviceText, Devices, Line, Lines, Name, Record, Role, Streams};
 use inp_caps::CapsBuilder;
 use inp_model::{EV_KEY, KEY_A, NoMemory, Step};
+use inp_play::play;
 use inp_script::{Sight, Stop};
 use std::alloc::Global;
 use std::test::Fail;
@@ -21,18 +19,6 @@ fn device(name: &[u8]) -> DeviceText
     DeviceText {
         name: Name::new(name),
         caps: builder.build(),
-    }
-}
-
-fn actor(name: &[u8], role: Role, device: u32) -> ActorText
-    requires { IsName name.now }
-    ensures role { result.role ≡ role }
-    ensures device { result.device ≡ device }
-{
-    ActorText {
-        name: Name::new(name),
-        role,
-        device,
     }
 }
 

@@ -1,7 +1,7 @@
 use Rattle.std.proofs.Common.{◌≡◌}
 use Rattle.inp_script.specs.Doing.{HasActor}
-use Rattle.inp_script.proofs.FullDevice.{full}
-use Rattle.inp_script.proofs.tests.end_of.Given as goal
+use Rattle.inp_play_tests.proofs.FullDevice.{full}
+use Rattle.inp_play_tests.proofs.script.end_of.Given as goal
 
 abbrev pub invariant-loop-line : goal.invariant-loop-line
 invariant-loop-line l = record {
