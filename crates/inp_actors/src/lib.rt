@@ -18,8 +18,6 @@ mod line;
 mod name;
 mod record;
 mod role;
-#[cfg(test)]
-mod tests;
 
 pub use actor_text::{ACTORS_MAX, ActorText, Actors};
 pub use command::{Command, READ_MAX};

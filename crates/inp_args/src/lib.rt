@@ -23,8 +23,6 @@ mod command;
 mod number;
 mod reader;
 mod request;
-#[cfg(test)]
-mod tests;
 mod usage_line;
 mod word_examples;
 mod words_fault;

@@ -119,6 +119,3 @@ fn push_action(text: &mut String, actors: &Actors, line: &Line) -> Result<(), No
     write!(text, "do {}", actors.get(line.actor as usize).name.as_str())?;
     push_command(text, &line.command)
 }
-
-#[cfg(test)]
-mod tests;

@@ -31,8 +31,6 @@ mod frame;
 mod generated_examples;
 mod generated_record;
 mod pad;
-#[cfg(test)]
-mod tests;
 
 pub use generated_examples::examples;
 pub use generated_record::{FRAMES_MAX, make};

@@ -1,4 +1,4 @@
-//! What records are made of.
+//! The actors of records.
 ghost use Rattle.std.specs.Prelude.{◌≡◌};
 ghost use Rattle.inp_actors.specs.Name.{IsName};
 

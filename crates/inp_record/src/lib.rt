@@ -33,8 +33,6 @@ mod place;
 mod printer;
 mod record_examples;
 mod refused;
-#[cfg(test)]
-mod tests;
 mod verb;
 
 pub use cause::Cause;

@@ -140,6 +140,3 @@ pub(crate) fn again_count(sights: &[Sight]) -> usize
         .filter(|sight| matches!(sight, Sight::Again { .. }))
         .count()
 }
-
-#[cfg(test)]
-mod tests;

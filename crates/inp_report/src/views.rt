@@ -200,6 +200,3 @@ pub(crate) fn cell_at(cells: &Cells, slot: u32, code: u16) -> i32
 {
     *cells.get(14 * slot as usize + usize::from(code - ABS_MT_TOUCH_MAJOR))
 }
-
-#[cfg(test)]
-mod tests;

@@ -93,6 +93,3 @@ fn push_step(text: &mut String, place: usize, step: Step) -> Result<(), NoMemory
     write!(text, "step {place} {step}\n")?;
     Ok(())
 }
-
-#[cfg(test)]
-mod tests;

@@ -12,8 +12,6 @@
 mod event_record;
 mod laws;
 mod stream_refused;
-#[cfg(test)]
-mod tests;
 
 pub use event_record::{RECORD_LEN, decode, encode};
 pub use laws::{examples, round_trip};

@@ -12,8 +12,6 @@ mod clock_text;
 mod code_text;
 mod kind_text;
 mod role_text;
-#[cfg(test)]
-mod tests;
 
 pub use bits_text::BitsText;
 pub use clock_text::ClockText;

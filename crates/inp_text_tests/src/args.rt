@@ -1,6 +1,6 @@
 //! Words as a caller passes them, and what comes of them.
 
-use super::*;
+use inp_args::{Request, examples, read_words, usage};
 use std::alloc::{AllocError, Global};
 use std::test::Fail;
 

@@ -1,8 +1,8 @@
 //! Each of the texts, once.
 
-use crate::{BitsText, ClockText, CodeText, KindText, RoleText};
 use inp_actors::Role;
 use inp_model::{Clock, EV_KEY, KEY_A};
+use inp_texts::{BitsText, ClockText, CodeText, KindText, RoleText};
 use std::test::Fail;
 
 #[test]
@@ -30,6 +30,8 @@ fn writes_each_text(rt: HostRuntime) -> Result<(), Fail> {
             format!(in alloc; "{}", ClockText(Clock::Boottime))?,
             "boottime",
         ),
+        (format!(in alloc; "{}", RoleText(Role::Source))?, "source"),
+        (format!(in alloc; "{}", RoleText(Role::Client))?, "client"),
         (format!(in alloc; "{}", RoleText(Role::Tap))?, "tap"),
     ];
     for (written, want) in table {

@@ -1,13 +1,9 @@
 //! A record, written and read.
 
-use super::*;
+use crate::common::PRESS;
 use inp_model::Event;
+use inp_stream::{RECORD_LEN, StreamRefused, decode, encode};
 use std::test::Fail;
-
-/// The key A goes down at 1.5 seconds.
-const PRESS: [u8; 24] = [
-    1, 0, 0, 0, 0, 0, 0, 0, 0x20, 0xa1, 7, 0, 0, 0, 0, 0, 1, 0, 0x1e, 0, 1, 0, 0, 0,
-];
 
 #[test]
 fn records_are_written_and_read(rt: HostRuntime) -> Result<(), Fail> {

@@ -1,8 +1,8 @@
 //! Records, read.
 
-use super::*;
-use inp_caps::CapsBuilder;
+use crate::common::{PRESS, read, stream_record};
 use inp_model::Clock;
+use inp_record::{Command, ParseFault, load};
 use std::alloc::{AllocError, Global};
 use std::test::Fail;
 
@@ -37,14 +37,6 @@ fn clients(alloc: Global, count: u32) -> Result<String, AllocError> {
     Ok(text)
 }
 
-/// The record that a short text is.
-fn read(alloc: Global, text: &str) -> Result<Record, ParseFault> {
-    if text.len() > 100_000 {
-        return Err(ParseFault::NoMemory);
-    }
-    parse(alloc, text.as_bytes())
-}
-
 /// The line that is refused and the printed cause.
 fn fault_of(alloc: Global, text: &str) -> Option<(u32, &'static str)> {
     match read(alloc, text) {
@@ -77,35 +69,9 @@ fn records_are_read(rt: HostRuntime) -> Result<(), Fail> {
     Ok(())
 }
 
-/// The key A goes down at 1.5 seconds.
-const PRESS: [u8; 24] = [
-    1, 0, 0, 0, 0, 0, 0, 0, 0x20, 0xa1, 7, 0, 0, 0, 0, 0, 1, 0, 0x1e, 0, 1, 0, 0, 0,
-];
-
 #[test]
 fn streams_are_loaded(rt: HostRuntime) -> Result<(), Fail> {
-    let mut devices = Devices::new(rt.alloc());
-    devices.push(DeviceText {
-        name: Name::new(b"kbd"),
-        caps: CapsBuilder::new().build(),
-    })?;
-    let mut actors = Actors::new(rt.alloc());
-    actors.push(ActorText {
-        name: Name::new(b"s"),
-        role: Role::Source,
-        device: 0,
-    })?;
-    let mut lines = Lines::new(rt.alloc());
-    lines.push(Line {
-        actor: 0,
-        command: Command::Stream {
-            file: FileName::new(String::from_str(rt.alloc(), "keys.bin")?),
-            index: 0,
-        },
-    })?;
-    let mut streams = Streams::new(rt.alloc());
-    streams.push(Stamps::new(rt.alloc()))?;
-    let mut record = Record::new(devices, actors, lines, streams);
+    let mut record = stream_record(rt.alloc())?;
     load(&mut record, 0, &PRESS)?;
     assert_eq!(rt; record.stream_count(), 1);
     assert_eq!(rt; record.stream(0).len(), 1);

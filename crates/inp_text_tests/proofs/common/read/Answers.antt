@@ -1,6 +1,6 @@
 use Rattle.std.proofs.Common.{◌≡◌, length, arith}
 use Rattle.inp_record.proofs.Reading.{few_lines}
-use Rattle.inp_record.proofs.tests.read.Goals as goal
+use Rattle.inp_text_tests.proofs.common.read.Goals as goal
 
 pub parse-requires : goal.parse-requires
 parse-requires c =

@@ -1,7 +1,7 @@
 //! A short record, compared with its first and last lines worked out by hand.
 
-use super::*;
 use inp_actors::{Command, Record};
+use inp_make::{BTN_TOUCH, examples, make};
 use std::test::Fail;
 
 // The moment, type, code and value of the event of a line; zeros where it injects none.
