@@ -1,17 +1,19 @@
 -- How many events of a queue are visible, as the queue changes.
-use Rattle.std.proofs.Common.{◌≡◌, ◌≤◌, ℕ, zero, suc, ◌-◌, Bool, true, false, ◌||◌, if◌then◌else◌, nat_eq, List, [], ◌∷◌, ◌++◌, length, drop, refl, ap, ◌∙◌, arith}
+use Rattle.std.proofs.Common.{◌≡◌, ◌≤◌, ◌<◌, ℕ, zero, suc, ◌+◌, ◌-◌, Bool, true, false, ◌||◌, if◌then◌else◌, nat_eq, List, [], ◌∷◌, ◌++◌, length, take, get_or, slice_get, Some, None, refl, sym, ap, ◌∙◌, arith}
+use Rattle.std.proofs.lemmas.List.{take_more, length-take-le}
+use Rattle.inp_model.specs.declared.event.Event.{Event}
 use Rattle.std.proofs.lemmas.Bool.Decides.{nat_tests}
-use Rattle.inp_model.specs.declared.taken.Taken.{Taken}
+use Rattle.inp_ring.specs.declared.cell.Cell.{Cell}
 use Rattle.inp_model.specs.Event.{is_report}
 use Rattle.inp_model.specs.Queue.{is_empty, ends_in_report, visible}
-use Rattle.inp_ring.specs.Ring.{event_of}
+use Rattle.inp_ring.specs.Store.{event_of}
 
 -- the count with one event more in front, where it is known for the events behind
 abbrev pub counted_before : Bool → ℕ → ℕ
 counted_before report behind = if nat_eq behind 0 then (if report then 1 else 0) else suc behind
 
 -- no more is visible than there is
-pub visible-le : (q : List Taken) → visible event_of q ≤ length q
+pub visible-le : (q : List Cell) → visible event_of q ≤ length q
 visible-le [] = omega arith
 visible-le (x ∷ q) = step (is_report (event_of x)) (visible event_of q) (length q) (visible-le q)
   where
@@ -20,7 +22,7 @@ visible-le (x ∷ q) = step (is_report (event_of x)) (visible event_of q) (lengt
     step false behind n h = grind (arith, nat_tests)
 
 -- a report at the end makes all visible, and any other event changes nothing
-pub visible-push : (q : List Taken) (x : Taken) → visible event_of (q ++ x ∷ []) ≡ (if is_report (event_of x) then suc (length q) else visible event_of q)
+pub visible-push : (q : List Cell) (x : Cell) → visible event_of (q ++ x ∷ []) ≡ (if is_report (event_of x) then suc (length q) else visible event_of q)
 visible-push [] x = refl
 visible-push (y ∷ q) x = step (is_report (event_of x)) (is_report (event_of y)) (visible event_of (q ++ x ∷ [])) (length q) (visible event_of q) (visible-push q x)
   where
@@ -28,33 +30,29 @@ visible-push (y ∷ q) x = step (is_report (event_of x)) (is_report (event_of y)
     step true first behind n v h = grind (arith, nat_tests, h)
     step false first behind n v h = ap (counted_before first) h
 
--- what is taken from the front is no longer counted
-pub visible-drop : (n : ℕ) (q : List Taken) → n ≤ visible event_of q → visible event_of (drop n q) ≡ visible event_of q - n
-visible-drop zero q h = omega arith
-visible-drop (suc n) [] h = omega (arith, h)
-visible-drop (suc n) (x ∷ q) h =
-    visible-drop n q (less (is_report (event_of x)) (visible event_of q) n h)
-    ∙ step (is_report (event_of x)) (visible event_of q) n h
-  where
-    less : (report : Bool) (behind n : ℕ) → suc n ≤ counted_before report behind → n ≤ behind
-    less true behind n h = grind (arith, nat_tests)
-    less false behind n h = grind (arith, nat_tests)
+-- What is visible is found from the end: a report ends it, and any other event does not count.
+pub visible_at_report : (q : List Cell) (count : ℕ) (d : Cell) → count < length q → is_report (event_of (get_or q count d)) ≡ true → visible event_of (take (count + 1) q) ≡ count + 1
+visible_at_report q count d h r =
+    ap (visible event_of) (take_more q count d h) ∙ visible-push (take count q) (get_or q count d)
+    ∙ ap (λ (b : Bool). if b then suc (length (take count q)) else visible event_of (take count q)) r
+    ∙ omega (arith, length-take-le count q)
 
-    step : (report : Bool) (behind n : ℕ) → suc n ≤ counted_before report behind → behind - n ≡ counted_before report behind - suc n
-    step true behind n h = grind (arith, nat_tests)
-    step false behind n h = grind (arith, nat_tests)
+pub visible_at_other : (q : List Cell) (count : ℕ) (d : Cell) → count < length q → is_report (event_of (get_or q count d)) ≡ false → visible event_of (take (count + 1) q) ≡ visible event_of (take count q)
+visible_at_other q count d h r =
+    ap (visible event_of) (take_more q count d h) ∙ visible-push (take count q) (get_or q count d)
+    ∙ ap (λ (b : Bool). if b then suc (length (take count q)) else visible event_of (take count q)) r
 
--- all events are visible where there is none, or the last one is a report
-pub all_visible : (q : List Taken) → nat_eq (length q) (visible event_of q) ≡ (is_empty q || ends_in_report event_of q)
-all_visible [] = refl
-all_visible (x ∷ []) = one (is_report (event_of x))
-  where
-    one : (report : Bool) → nat_eq 1 (if report then 1 else 0) ≡ report
-    one true = refl
-    one false = refl
-all_visible (x ∷ y ∷ q) =
-    step (is_report (event_of x)) (length q) (visible event_of (y ∷ q)) ∙ all_visible (y ∷ q)
-  where
-    step : (report : Bool) (n behind : ℕ) → nat_eq (suc (suc n)) (counted_before report behind) ≡ nat_eq (suc n) behind
-    step true n behind = grind (arith, nat_tests)
-    step false n behind = grind (arith, nat_tests)
+-- A queue ends in a report where its last event is one.
+pub ends_last : {X : Type 0} (event : X → Event) (q : List X) (x : X) → slice_get q (length q - 1) ≡ Some x → is_empty q || ends_in_report event q ≡ is_report (event x)
+ends_last event [] x e = cc
+ends_last event (y ∷ []) x e = let same : y ≡ x = cc in ap (λ z. is_report (event z)) same
+ends_last event (y ∷ z ∷ q) x e =
+    let at : length (y ∷ z ∷ q) - 1 ≡ suc (length (z ∷ q) - 1) = omega arith in
+    ends_last event (z ∷ q) x (sym (ap (λ n. slice_get (y ∷ z ∷ q) n) at) ∙ e)
+
+pub ends_none : {X : Type 0} (event : X → Event) (q : List X) → slice_get q (length q - 1) ≡ None → is_empty q || ends_in_report event q ≡ true
+ends_none event [] e = refl
+ends_none event (y ∷ []) e = cc
+ends_none event (y ∷ z ∷ q) e =
+    let at : length (y ∷ z ∷ q) - 1 ≡ suc (length (z ∷ q) - 1) = omega arith in
+    ends_none event (z ∷ q) (sym (ap (λ n. slice_get (y ∷ z ∷ q) n) at) ∙ e)

@@ -1,3 +1,7 @@
-pub mod Counts
-pub mod Counted
+pub mod Times
+pub mod Moves
+pub mod Releases
+pub mod Kept
 pub mod Walks
+pub mod Counts
+pub mod Rings

@@ -1,191 +1,210 @@
--- The walk that removes a class of events from a queue.
-use Rattle.std.proofs.Common.{◌≡◌, ◌≤◌, ◌<◌, ℕ, suc, ◌+◌, Bool, true, false, not, if◌then◌else◌, List, [], ◌∷◌, ◌++◌, length, take, drop, get_or, Some, IsSome, refl, sym, ap, ◌∙◌, arith}
-use Rattle.std.specs.List.{slice_get}
+-- The walk that removes a class of events from a ring.
+use Rattle.std.proofs.Common.{◌≡◌, ◌≤◌, ◌<◌, ℕ, zero, suc, ◌+◌, Bool, true, false, not, if◌then◌else◌, List, [], ◌∷◌, ◌++◌, length, map, take, drop, get_or, refl, sym, ap, ◌∙◌, arith}
 use Rattle.std.proofs.lemmas.List.{append-nil, append_assoc, length_push, length-append, length-take-le, length-drop, take_more, drop_more, take_all, drop_all}
-use Rattle.circular_buffer.specs.Buffer.{Buffer, buffer, keep_last}
+use Rattle.circular_buffer.specs.Buffer.{Buffer, buffer}
 use Rattle.inp_model.specs.declared.event.Event.{Event}
-use Rattle.inp_model.specs.declared.taken.Taken.{Taken}
 use Rattle.inp_model.specs.Event.{is_report}
-use Rattle.inp_model.specs.Queue.{visible, follows_kept, stays, flush_behind, flush}
-use Rattle.inp_ring.specs.Ring.{event_of}
-use Rattle.inp_ring.proofs.Counts.{visible-push}
-use Rattle.inp_ring.proofs.Counted.{keep_last-all}
+use Rattle.inp_model.specs.Queue.{follows_kept, stays, flush_behind, flush}
+use Rattle.inp_ring.specs.declared.cell.Cell.{Cell}
+use Rattle.inp_ring.specs.Store.{StoreView, event_of}
+use Rattle.inp_ring.specs.Ring.{times, AreHeld, IsTakenOut, cell_at, some_cell, queue_in}
+use Rattle.inp_ring.proofs.Times.{once, times-append, times_push, times-take-drop, times_first}
+use Rattle.inp_ring.proofs.Moves.{held_moved, taken_none, taken_then, taken_same, idle_out}
 
--- these items, newest first, in front of those that were newest_first before
-abbrev pub newest_first : List Taken → List Taken → List Taken
+-- these numbers, newest first, in front of those that were newest_first before
+abbrev pub newest_first : List ℕ → List ℕ → List ℕ
 newest_first before [] = before
 newest_first before (x ∷ q) = newest_first (x ∷ before) q
 
-newest_first-push : (before q : List Taken) (x : Taken) → newest_first before (q ++ x ∷ []) ≡ x ∷ newest_first before q
+newest_first-push : (before q : List ℕ) (x : ℕ) → newest_first before (q ++ x ∷ []) ≡ x ∷ newest_first before q
 newest_first-push before [] x = refl
 newest_first-push before (y ∷ q) x = newest_first-push (y ∷ before) q x
 
--- the item, where it stays
-abbrev pub kept_of : Bool → Taken → List Taken
+-- the number, where it stays
+abbrev pub kept_of : Bool → ℕ → List ℕ
 kept_of kept x = if kept then x ∷ [] else []
 
--- one item more at the end
-flush_behind-push : (drops : Event → Bool) (before q : List Taken) (x : Taken) →
-    flush_behind event_of drops before (q ++ x ∷ []) ≡ flush_behind event_of drops before q ++ kept_of (stays event_of drops (newest_first before q) x) x
-flush_behind-push drops before [] x = append-nil (kept_of (stays event_of drops before x) x)
-flush_behind-push drops before (y ∷ q) x =
-    ap (λ r. kept_of (stays event_of drops before y) y ++ r) (flush_behind-push drops (y ∷ before) q x)
-    ∙ sym (append_assoc (kept_of (stays event_of drops before y) y) (flush_behind event_of drops (y ∷ before) q) (kept_of (stays event_of drops (newest_first (y ∷ before) q) x) x))
+kept_of-times : (n : ℕ) (kept : Bool) (x : ℕ) → times n (kept_of kept x) ≤ once n x
+kept_of-times n true x = omega arith
+kept_of-times n false x = omega arith
 
--- no item is added
-flush_behind-le : (drops : Event → Bool) (before q : List Taken) → length (flush_behind event_of drops before q) ≤ length q
-flush_behind-le drops before [] = omega arith
-flush_behind-le drops before (x ∷ q) =
-    let rest = flush_behind event_of drops (x ∷ before) q in
-    omega (arith, flush_behind-le drops (x ∷ before) q, length-append (kept_of (stays event_of drops before x) x) rest, one (stays event_of drops before x) x)
+kept_of-length : (kept : Bool) (x : ℕ) → length (kept_of kept x) ≤ 1
+kept_of-length true x = omega arith
+kept_of-length false x = omega arith
+
+module _ (event : ℕ → Event) (drops : Event → Bool) where
+  -- one number more at the end
+  flush_behind-push : (before q : List ℕ) (x : ℕ) →
+      flush_behind event drops before (q ++ x ∷ []) ≡ flush_behind event drops before q ++ kept_of (stays event drops (newest_first before q) x) x
+  flush_behind-push before [] x = append-nil (kept_of (stays event drops before x) x)
+  flush_behind-push before (y ∷ q) x =
+      ap (λ r. kept_of (stays event drops before y) y ++ r) (flush_behind-push (y ∷ before) q x)
+      ∙ sym (append_assoc (kept_of (stays event drops before y) y) (flush_behind event drops (y ∷ before) q) (kept_of (stays event drops (newest_first (y ∷ before) q) x) x))
+
+  -- no number is added
+  flush_behind-length : (before q : List ℕ) → length (flush_behind event drops before q) ≤ length q
+  flush_behind-length before [] = omega arith
+  flush_behind-length before (x ∷ q) =
+      let rest = flush_behind event drops (x ∷ before) q in
+      omega (arith, flush_behind-length (x ∷ before) q, length-append (kept_of (stays event drops before x) x) rest, kept_of-length (stays event drops before x) x)
+
+  flush_behind-times : (n : ℕ) (before q : List ℕ) → times n (flush_behind event drops before q) ≤ times n q
+  flush_behind-times n before [] = omega arith
+  flush_behind-times n before (x ∷ q) =
+      let rest = flush_behind event drops (x ∷ before) q in
+      omega (arith, flush_behind-times n (x ∷ before) q, times-append n (kept_of (stays event drops before x) x) rest, kept_of-times n (stays event drops before x) x)
+
+  pub flush-length : (q : List ℕ) → length (flush event drops q) ≤ length q
+  flush-length q = flush_behind-length [] q
+
+  pub flush-times : (n : ℕ) (q : List ℕ) → times n (flush event drops q) ≤ times n q
+  flush-times n q = flush_behind-times n [] q
+
+-- the event of a number as a store has it
+abbrev pub event_at : StoreView → ℕ → Event
+event_at s n = event_of (cell_at s n)
+
+-- a flush of the numbers is one of the queue
+pub flush-map : (s : StoreView) (drops : Event → Bool) (q : List ℕ) → map (cell_at s) (flush (event_at s) drops q) ≡ flush event_of drops (map (cell_at s) q)
+flush-map s drops q = behind [] q
   where
-    one : (kept : Bool) (x : Taken) → length (kept_of kept x) ≤ 1
-    one true x = omega arith
-    one false x = omega arith
+    follows : (before : List ℕ) → follows_kept (event_at s) drops before ≡ follows_kept event_of drops (map (cell_at s) before)
+    follows [] = refl
+    follows (y ∷ before) = ap (λ (b : Bool). if is_report (event_at s y) then false else if drops (event_at s y) then b else true) (follows before)
 
-pub flush-le : (drops : Event → Bool) (q : List Taken) → length (flush event_of drops q) ≤ length q
-flush-le drops q = flush_behind-le drops [] q
+    one : (b : Bool) (x : ℕ) (r : List ℕ) → map (cell_at s) (kept_of b x ++ r) ≡ (if b then cell_at s x ∷ [] else []) ++ map (cell_at s) r
+    one true x r = refl
+    one false x r = refl
 
--- The items before `at` were walked: those that stay stand behind the others. The counts and the flag are theirs.
-pub record IsWalked (drops : Event → Bool) (q : List Taken) (capacity : ℕ) (events : Buffer Taken) (at kept shown : ℕ) (report_stays : Bool) : Type 0 where
-  pub items : events ≡ buffer (drop at q ++ flush event_of drops (take at q)) capacity
-  pub counted : kept ≡ length (flush event_of drops (take at q))
-  pub visible : shown ≡ visible event_of (flush event_of drops (take at q))
-  pub flag : report_stays ≡ follows_kept event_of drops (newest_first [] (take at q))
+    behind : (before q : List ℕ) → map (cell_at s) (flush_behind (event_at s) drops before q) ≡ flush_behind event_of drops (map (cell_at s) before) (map (cell_at s) q)
+    behind before [] = refl
+    behind before (x ∷ q) =
+        let stay : stays (event_at s) drops before x ≡ stays event_of drops (map (cell_at s) before) (cell_at s x) =
+        ap (λ (b : Bool). if is_report (event_at s x) then b else not (drops (event_at s x))) (follows before) in
+        one (stays (event_at s) drops before x) x (flush_behind (event_at s) drops (x ∷ before) q)
+        ∙ ap (λ (b : Bool). (if b then cell_at s x ∷ [] else []) ++ map (cell_at s) (flush_behind (event_at s) drops (x ∷ before) q)) stay
+        ∙ ap (λ r. (if stays event_of drops (map (cell_at s) before) (cell_at s x) then cell_at s x ∷ [] else []) ++ r) (behind (x ∷ before) q)
 
-pub IsWalked-init : (drops : Event → Bool) (events : Buffer Taken) → IsWalked drops events.items events.capacity events 0 0 0 true
-IsWalked-init drops events = record { items = ap (λ q. buffer q events.capacity) (sym (append-nil events.items)); counted = refl; visible = refl; flag = refl }
+-- The numbers before `at` were walked: those that stay stand behind the others. The events are those of the first store.
+pub record IsWalked (drops : Event → Bool) (first : StoreView) (q : List ℕ) (capacity : ℕ) (s : StoreView) (numbers : Buffer ℕ) (at : ℕ) (report_stays : Bool) : Type 0 where
+  pub items : numbers ≡ buffer (drop at q ++ flush (event_at first) drops (take at q)) capacity
+  pub flag : report_stays ≡ follows_kept (event_at first) drops (newest_first [] (take at q))
+  pub taken : IsTakenOut first s q numbers.items
+  pub held : AreHeld first q
 
-pub flush_from_walk : (drops : Event → Bool) (q : List Taken) (capacity : ℕ) (events : Buffer Taken) (at kept shown : ℕ) (report_stays : Bool) →
-    IsWalked drops q capacity events at kept shown report_stays → length q ≤ at →
-    (events ≡ buffer (flush event_of drops q) capacity) × (shown ≡ visible event_of events.items)
-flush_from_walk drops q capacity events at kept shown report_stays w h =
-    let rest : drop at q ≡ [] = drop_all at q h in
-    let all : take at q ≡ q = take_all at q h in
-    let same : events ≡ buffer (flush event_of drops q) capacity =
-    w.items ∙ ap (λ r. buffer (r ++ flush event_of drops (take at q)) capacity) rest ∙ ap (λ r. buffer (flush event_of drops r) capacity) all in
-    (same, w.visible ∙ ap (λ r. visible event_of (flush event_of drops r)) all ∙ sym (ap (λ (b : Buffer Taken). visible event_of b.items) same))
+pub walked_none : (drops : Event → Bool) (s : StoreView) (numbers : Buffer ℕ) → AreHeld s numbers.items → IsWalked drops s numbers.items numbers.capacity s numbers 0 true
+walked_none drops s numbers h = record { items = ap (λ q. buffer q numbers.capacity) (sym (append-nil numbers.items)); flag = refl; taken = taken_none s numbers.items; held = h }
 
--- the item at `at`, with which the walk goes on
-pub record IsNext (q : List Taken) (at : ℕ) (x : Taken) : Type 0 where
-  pub rest : drop at q ≡ x ∷ drop (at + 1) q
-  pub front : take (at + 1) q ≡ take at q ++ x ∷ []
+module _ {drops : Event → Bool} {first s : StoreView} {q : List ℕ} {capacity at : ℕ} {numbers : Buffer ℕ} {report_stays : Bool} (w : IsWalked drops first q capacity s numbers at report_stays) where
+  pub walked_held : AreHeld s numbers.items
+  walked_held = held_moved w.taken.moved w.held
 
--- the item in front of the buffer is the next one
-pub next_item : (drops : Event → Bool) (q : List Taken) (capacity : ℕ) (events : Buffer Taken) (at kept shown : ℕ) (report_stays : Bool) (x : Taken) →
-    IsWalked drops q capacity events at kept shown report_stays → at < length q → slice_get events.items 0 ≡ Some x → IsNext q at x
-next_item drops q capacity events at kept shown report_stays x w h e =
-    let tail = flush event_of drops (take at q) in
-    let rest : drop at q ≡ get_or q at x ∷ drop (at + 1) q = drop_more q at x h in
-    let read : Some (get_or q at x) ≡ Some x =
-    ap (λ r. slice_get (r ++ tail) 0) (sym rest) ∙ sym (ap (λ (b : Buffer Taken). slice_get b.items 0) w.items) ∙ e in
-    let same : get_or q at x ≡ x = cc in
-    record {
-      rest = rest ∙ ap (λ y. y ∷ drop (at + 1) q) same;
-      front = take_more q at x h ∙ ap (λ y. take at q ++ y ∷ []) same;
-    }
+  pub walked_all : length q ≤ at → numbers ≡ buffer (flush (event_at first) drops q) capacity
+  walked_all h =
+      let rest : drop at q ≡ [] = drop_all at q h in
+      let all : take at q ≡ q = take_all at q h in
+      w.items ∙ ap (λ r. buffer (r ++ flush (event_at first) drops (take at q)) capacity) rest ∙ ap (λ r. buffer (flush (event_at first) drops r) capacity) all
 
--- what stays of one item more
-flush-more : (drops : Event → Bool) (q : List Taken) (at : ℕ) (x : Taken) (kept report_stays : Bool) → IsNext q at x →
-    kept ≡ (if is_report (event_of x) then report_stays else not (drops (event_of x))) →
-    report_stays ≡ follows_kept event_of drops (newest_first [] (take at q)) →
-    flush event_of drops (take (at + 1) q) ≡ flush event_of drops (take at q) ++ kept_of kept x
-flush-more drops q at x kept report_stays next k flag =
-    let before = newest_first [] (take at q) in
-    let same : kept ≡ stays event_of drops before x = k ∙ ap (λ (b : Bool). if is_report (event_of x) then b else not (drops (event_of x))) flag in
-    ap (flush event_of drops) next.front ∙ flush_behind-push drops [] (take at q) x
-    ∙ ap (λ b. flush event_of drops (take at q) ++ kept_of b x) (sym same)
+  walked_length : length numbers.items ≤ length q
+  walked_length =
+      omega (arith, ap (λ (b : Buffer ℕ). length b.items) w.items, length-append (drop at q) (flush (event_at first) drops (take at q)), length-drop at q, flush-length (event_at first) drops (take at q), take_within)
+    where
+      take_within : length (take at q) + length (drop at q) ≡ length q
+      take_within = take-drop at q
+        where
+          take-drop : (k : ℕ) (r : List ℕ) → length (take k r) + length (drop k r) ≡ length r
+          take-drop zero r = omega arith
+          take-drop (suc k) [] = omega arith
+          take-drop (suc k) (x ∷ r) = omega (arith, take-drop k r)
 
--- whether a report stays that follows one item more
-follows_kept-more : (drops : Event → Bool) (q : List Taken) (at : ℕ) (x : Taken) (report_stays : Bool) → IsNext q at x →
-    report_stays ≡ follows_kept event_of drops (newest_first [] (take at q)) →
-    follows_kept event_of drops (newest_first [] (take (at + 1) q)) ≡ (if is_report (event_of x) then false else if drops (event_of x) then report_stays else true)
-follows_kept-more drops q at x report_stays next flag =
-    ap (λ r. follows_kept event_of drops (newest_first [] r)) next.front
-    ∙ ap (follows_kept event_of drops) (newest_first-push [] (take at q) x)
-    ∙ ap (λ (b : Bool). if is_report (event_of x) then false else if drops (event_of x) then b else true) (sym flag)
+  -- it has no number that was not there
+  walked_times : (n : ℕ) → times n numbers.items ≤ times n q
+  walked_times n =
+      omega (arith, ap (λ (b : Buffer ℕ). times n b.items) w.items, times-append n (drop at q) (flush (event_at first) drops (take at q)), flush-times (event_at first) drops n (take at q), times-take-drop n at q)
 
--- what is left when the first item is taken
-walk_rest : (drops : Event → Bool) (q : List Taken) (capacity : ℕ) (events new : Buffer Taken) (at : ℕ) (x : Taken) → IsNext q at x →
-    events ≡ buffer (drop at q ++ flush event_of drops (take at q)) capacity → new ≡ buffer (drop 1 events.items) events.capacity →
-    new ≡ buffer (drop (at + 1) q ++ flush event_of drops (take at q)) capacity
-walk_rest drops q capacity events new at x next e n =
-    n ∙ ap (λ (b : Buffer Taken). buffer (drop 1 b.items) b.capacity) e
-    ∙ ap (λ r. buffer (drop 1 (r ++ flush event_of drops (take at q))) capacity) next.rest
+  module _ (here : at < length q) where
+    abbrev pub walked_number : ℕ
+    walked_number = get_or q at 0
 
--- an item that does not stay is taken
-pub IsWalked-dropped : (drops : Event → Bool) (q : List Taken) (capacity : ℕ) (events new : Buffer Taken) (at kept shown : ℕ) (report_stays stayed : Bool) (x : Taken) →
-    IsWalked drops q capacity events at kept shown report_stays → IsNext q at x →
-    stayed ≡ (if is_report (event_of x) then report_stays else not (drops (event_of x))) → stayed ≡ false →
-    new ≡ buffer (drop 1 events.items) events.capacity →
-    IsWalked drops q capacity new (at + 1) kept shown report_stays
-IsWalked-dropped drops q capacity events new at kept shown report_stays stayed x w next s gone n =
-    let none : flush event_of drops (take (at + 1) q) ≡ flush event_of drops (take at q) =
-    flush-more drops q at x stayed report_stays next s w.flag ∙ ap (λ b. flush event_of drops (take at q) ++ kept_of b x) gone
-    ∙ append-nil (flush event_of drops (take at q)) in
-    record {
-      items = walk_rest drops q capacity events new at x next w.items n ∙ ap (λ r. buffer (drop (at + 1) q ++ r) capacity) (sym none);
-      counted = w.counted ∙ ap length (sym none);
-      visible = w.visible ∙ ap (visible event_of) (sym none);
-      flag = same_flag (is_report (event_of x)) (drops (event_of x)) report_stays (sym s ∙ gone) ∙ sym (follows_kept-more drops q at x report_stays next w.flag);
-    }
-  where
-    same_flag : (report dropped flag : Bool) → (if report then flag else not dropped) ≡ false → flag ≡ (if report then false else if dropped then flag else true)
-    same_flag true dropped flag h = h
-    same_flag false true flag h = refl
-    same_flag false false flag h = cc
+    walked_items : numbers.items ≡ walked_number ∷ (drop (at + 1) q ++ flush (event_at first) drops (take at q))
+    walked_items = ap (λ (b : Buffer ℕ). b.items) w.items ∙ ap (λ r. r ++ flush (event_at first) drops (take at q)) (drop_more q at 0 here)
 
--- an item that stays is put behind the others
-pub IsWalked-kept : (drops : Event → Bool) (q : List Taken) (capacity : ℕ) (events taken new : Buffer Taken) (at kept shown more : ℕ) (report_stays stayed : Bool) (x : Taken) →
-    IsWalked drops q capacity events at kept shown report_stays → IsNext q at x →
-    stayed ≡ (if is_report (event_of x) then report_stays else not (drops (event_of x))) → stayed ≡ true →
-    taken ≡ buffer (drop 1 events.items) events.capacity → new ≡ buffer (keep_last taken.capacity (taken.items ++ x ∷ [])) taken.capacity →
-    at < length q → length q ≤ capacity → more ≡ (if is_report (event_of x) then kept + 1 else shown) →
-    IsWalked drops q capacity new (at + 1) (kept + 1) more (not (is_report (event_of x)))
-IsWalked-kept drops q capacity events taken new at kept shown more report_stays stayed x w next s stay t n h room m =
-    let front = flush event_of drops (take at q) in
-    let one : flush event_of drops (take (at + 1) q) ≡ front ++ x ∷ [] =
-    flush-more drops q at x stayed report_stays next s w.flag ∙ ap (λ b. front ++ kept_of b x) stay in
-    let left : taken ≡ buffer (drop (at + 1) q ++ front) capacity = walk_rest drops q capacity events taken at x next w.items t in
-    let fits : length (drop (at + 1) q ++ front ++ x ∷ []) ≤ capacity =
-    omega (arith, length_push (drop (at + 1) q ++ front) x, length-append (drop (at + 1) q) front, length-drop (at + 1) q, flush-le drops (take at q), length-take-le at q) in
-    let count : length (front ++ x ∷ []) ≡ kept + 1 = length_push front x ∙ ap (λ k. k + 1) (sym w.counted) in
-    record {
-      items =
-          n ∙ ap (λ (b : Buffer Taken). buffer (keep_last b.capacity (b.items ++ x ∷ [])) b.capacity) left
-          ∙ ap (λ r. buffer r capacity) (keep_last-all capacity (drop (at + 1) q ++ front ++ x ∷ []) fits)
-          ∙ ap (λ r. buffer r capacity) (append_assoc (drop (at + 1) q) front (x ∷ []))
-          ∙ ap (λ r. buffer (drop (at + 1) q ++ r) capacity) (sym one);
-      counted = sym count ∙ ap length (sym one);
-      visible =
-          m ∙ shown_more (is_report (event_of x)) kept shown (length front) (visible event_of front) w.counted w.visible
-          ∙ sym (visible-push front x) ∙ ap (visible event_of) (sym one);
-      flag = new_flag (is_report (event_of x)) (drops (event_of x)) report_stays (sym s ∙ stay) ∙ sym (follows_kept-more drops q at x report_stays next w.flag);
-    }
-  where
-    new_flag : (report dropped flag : Bool) → (if report then flag else not dropped) ≡ true → not report ≡ (if report then false else if dropped then flag else true)
-    new_flag true dropped flag h = refl
-    new_flag false false flag h = refl
-    new_flag false true flag h = cc
+    pub walked_some : 0 < length numbers.items
+    walked_some = omega (arith, ap length walked_items)
 
-    shown_more : (report : Bool) (kept shown n v : ℕ) → kept ≡ n → shown ≡ v → (if report then kept + 1 else shown) ≡ (if report then suc n else v)
-    shown_more true kept shown n v k e = omega arith
-    shown_more false kept shown n v k e = e
+    pub walked_within : length q ≤ capacity → length numbers.items ≤ numbers.capacity
+    walked_within h = omega (arith, walked_length, ap (λ (b : Buffer ℕ). b.capacity) w.items)
 
--- there is an item in front, where the walk is not done
-pub has_front : (drops : Event → Bool) (q : List Taken) (capacity : ℕ) (events : Buffer Taken) (at kept shown : ℕ) (report_stays : Bool) →
-    IsWalked drops q capacity events at kept shown report_stays → at < length q → IsSome (slice_get events.items 0)
-has_front drops q capacity events at kept shown report_stays w h =
-    let front = flush event_of drops (take at q) in
-    let longer : length events.items ≡ length (drop at q ++ front) = ap (λ (b : Buffer Taken). length b.items) w.items in
-    first events.items (omega (arith, longer, length-append (drop at q) front, length-drop at q))
-  where
-    first : (r : List Taken) → 0 < length r → IsSome (slice_get r 0)
-    first [] l = absurd (omega (arith, l))
-    first (x ∷ r) l = refl
+    -- the event in front is that of the number walked next, as it was first
+    pub walked_event : event_at s (get_or numbers.items 0 0) ≡ event_at first walked_number
+    walked_event =
+        let there : 1 ≤ times walked_number numbers.items = omega (arith, ap (times walked_number) walked_items, times_first walked_number (drop (at + 1) q ++ flush (event_at first) drops (take at q))) in
+        ap (λ p. event_at s (get_or p 0 0)) walked_items ∙ ap (λ o. event_of (some_cell o)) (w.taken.stay walked_number there)
 
--- no more items stay than were walked
-pub kept_few : (drops : Event → Bool) (q : List Taken) (capacity : ℕ) (events : Buffer Taken) (at kept shown : ℕ) (report_stays : Bool) →
-    IsWalked drops q capacity events at kept shown report_stays → at ≤ length q → kept ≤ at
-kept_few drops q capacity events at kept shown report_stays w h =
-    omega (arith, w.counted, flush-le drops (take at q), length-take-le at q)
+    walked_front : take (at + 1) q ≡ take at q ++ walked_number ∷ []
+    walked_front = take_more q at 0 here
+
+    -- what stays of one number more
+    flush-more : (kept : Bool) → kept ≡ (if is_report (event_at first walked_number) then report_stays else not (drops (event_at first walked_number))) →
+        flush (event_at first) drops (take (at + 1) q) ≡ flush (event_at first) drops (take at q) ++ kept_of kept walked_number
+    flush-more kept k =
+        let e = event_at first walked_number in
+        let same : kept ≡ stays (event_at first) drops (newest_first [] (take at q)) walked_number = k ∙ ap (λ (b : Bool). if is_report e then b else not (drops e)) w.flag in
+        ap (flush (event_at first) drops) walked_front ∙ flush_behind-push (event_at first) drops [] (take at q) walked_number
+        ∙ ap (λ b. flush (event_at first) drops (take at q) ++ kept_of b walked_number) (sym same)
+
+    -- whether a report stays that follows one number more
+    flag-more : follows_kept (event_at first) drops (newest_first [] (take (at + 1) q)) ≡ (if is_report (event_at first walked_number) then false else if drops (event_at first walked_number) then report_stays else true)
+    flag-more =
+        ap (λ r. follows_kept (event_at first) drops (newest_first [] r)) walked_front
+        ∙ ap (follows_kept (event_at first) drops) (newest_first-push [] (take at q) walked_number)
+        ∙ ap (λ (b : Bool). if is_report (event_at first walked_number) then false else if drops (event_at first walked_number) then b else true) (sym w.flag)
+
+    walked_then : (new : StoreView) (rest : Buffer ℕ) → IsTakenOut s new numbers.items rest.items → ((n : ℕ) → times n rest.items ≤ times n numbers.items) → IsTakenOut first new q rest.items
+    walked_then new rest t fewer = taken_then w.taken t fewer (λ n i. omega (arith, walked_times n, idle_out first q n w.held i))
+
+    -- a number that does not stay is released
+    pub walked_dropped : (new : StoreView) (rest : Buffer ℕ) (stayed : Bool) → stayed ≡ (if is_report (event_at first walked_number) then report_stays else not (drops (event_at first walked_number))) → stayed ≡ false →
+        rest ≡ buffer (drop 1 numbers.items) numbers.capacity → IsTakenOut s new numbers.items rest.items →
+        IsWalked drops first q capacity new rest (at + 1) report_stays
+    walked_dropped new rest stayed k gone e t =
+        let none : flush (event_at first) drops (take (at + 1) q) ≡ flush (event_at first) drops (take at q) =
+        flush-more stayed k ∙ ap (λ b. flush (event_at first) drops (take at q) ++ kept_of b walked_number) gone ∙ append-nil (flush (event_at first) drops (take at q)) in
+        let items : rest ≡ buffer (drop (at + 1) q ++ flush (event_at first) drops (take at q)) capacity =
+        e ∙ ap (λ p. buffer (drop 1 p) numbers.capacity) walked_items ∙ ap (λ (b : Buffer ℕ). buffer (drop (at + 1) q ++ flush (event_at first) drops (take at q)) b.capacity) w.items in
+        record {
+          items = items ∙ ap (λ r. buffer (drop (at + 1) q ++ r) capacity) (sym none);
+          flag = same_flag (is_report (event_at first walked_number)) (drops (event_at first walked_number)) report_stays (sym k ∙ gone) ∙ sym flag-more;
+          taken = walked_then new rest t (λ n. omega (arith, ap (λ (b : Buffer ℕ). times n b.items) e, times-take-drop n 1 numbers.items));
+          held = w.held;
+        }
+      where
+        same_flag : (report dropped flag : Bool) → (if report then flag else not dropped) ≡ false → flag ≡ (if report then false else if dropped then flag else true)
+        same_flag true dropped flag h = h
+        same_flag false true flag h = refl
+        same_flag false false flag h = cc
+
+    -- a number that stays is put behind the others
+    pub walked_kept : (rest : Buffer ℕ) (stayed : Bool) → stayed ≡ (if is_report (event_at first walked_number) then report_stays else not (drops (event_at first walked_number))) → stayed ≡ true →
+        rest ≡ buffer (drop 1 numbers.items ++ get_or numbers.items 0 0 ∷ []) numbers.capacity →
+        IsWalked drops first q capacity s rest (at + 1) (not (is_report (event_at first walked_number)))
+    walked_kept rest stayed k stay e =
+        let front = flush (event_at first) drops (take at q) in
+        let one : flush (event_at first) drops (take (at + 1) q) ≡ front ++ walked_number ∷ [] =
+        flush-more stayed k ∙ ap (λ b. front ++ kept_of b walked_number) stay in
+        let items : rest ≡ buffer ((drop (at + 1) q ++ front) ++ walked_number ∷ []) capacity =
+        e ∙ ap (λ p. buffer (drop 1 p ++ get_or p 0 0 ∷ []) numbers.capacity) walked_items
+        ∙ ap (λ (b : Buffer ℕ). buffer ((drop (at + 1) q ++ front) ++ walked_number ∷ []) b.capacity) w.items in
+        let turned : (n : ℕ) → times n rest.items ≡ times n numbers.items =
+        λ n. omega (arith, ap (λ (b : Buffer ℕ). times n b.items) items, times_push n walked_number (drop (at + 1) q ++ front), ap (times n) walked_items) in
+        record {
+          items = items ∙ ap (λ r. buffer r capacity) (append_assoc (drop (at + 1) q) front (walked_number ∷ [])) ∙ ap (λ r. buffer (drop (at + 1) q ++ r) capacity) (sym one);
+          flag = new_flag (is_report (event_at first walked_number)) (drops (event_at first walked_number)) report_stays (sym k ∙ stay) ∙ sym flag-more;
+          taken = walked_then s rest (taken_same s numbers.items rest.items (λ n. sym (turned n))) (λ n. omega (arith, turned n));
+          held = w.held;
+        }
+      where
+        new_flag : (report dropped flag : Bool) → (if report then flag else not dropped) ≡ true → not report ≡ (if report then false else if dropped then flag else true)
+        new_flag true dropped flag h = refl
+        new_flag false false flag h = refl
+        new_flag false true flag h = cc

@@ -1,2 +1,3 @@
 pub mod Class
+pub mod Store
 pub mod Ring

@@ -1,34 +1,89 @@
--- What a contract sees of a ring.
-use Rattle.std.specs.Prelude.{◌≡◌, ◌≤◌, ◌<◌, ◌+◌, ◌⊎◌, ℕ, List, [], ◌∷◌, ◌++◌, length}
+-- What a contract sees of a ring, alone and with the store that its numbers name.
+use Rattle.std.specs.Prelude.{◌≡◌, ◌≤◌, ◌<◌, ◌+◌, ◌⊎◌, ℕ, Bool, if◌then◌else◌, nat_eq, List, [], ◌∷◌, ◌++◌, length, map, All, Option, None, Some}
 use Rattle.circular_buffer.specs.Buffer.{Buffer}
 use Rattle.inp_model.specs.declared.event.Event.{Event}
-use Rattle.inp_model.specs.declared.taken.Taken.{Taken}
-use Rattle.inp_model.specs.Queue.{visible}
+use Rattle.inp_model.specs.declared.stamped.TheConstants.{MOMENT_MAX}
+use Rattle.inp_model.specs.Event.{syn_dropped}
+use Rattle.inp_ring.specs.declared.cell.Cell.{Cell}
+use Rattle.inp_ring.specs.Store.{StoreView, entry, cell_of, cell_in, holders, cell_count, IsIdle}
 
--- the places of a ring, and the events in it, oldest first
-pub record Queued : Type 0 where
+-- the places of a ring, and the numbers of its cells, oldest first
+pub record RingView : Type 0 where
   pub places : ℕ
-  pub events : List Taken
-
--- the event, without its time and place
-abbrev pub event_of : Taken → Event
-event_of t = t.event
+  pub numbers : List ℕ
 
 -- a ring, by the buffer that it lies in
-abbrev pub queued_in : Buffer Taken → Queued
-queued_in buffer = record { places = buffer.capacity; events = buffer.items }
+abbrev pub ring_in : Buffer ℕ → RingView
+ring_in buffer = record { places = buffer.capacity; numbers = buffer.items }
 
--- all places of the ring are held but one
-abbrev pub HoldsAllButOne : Queued → Type 0
-HoldsAllButOne ring = length ring.events + 1 ≡ ring.places
+-- how often a number is in a list
+abbrev pub times : ℕ → List ℕ → ℕ
+times n [] = 0
+times n (m ∷ q) = (if nat_eq m n then 1 else 0) + times n q
 
--- Where an item is put, nothing enters the queue but the item itself, behind all that was there.
-abbrev pub EntersAlone : Taken → List Taken → List Taken → Type 0
-EntersAlone item old new = (new ≡ old) ⊎ (new ≡ old ++ item ∷ [])
+-- each number has a cell with at least one holder
+abbrev pub AreHeld : StoreView → List ℕ → Type 0
+AreHeld s q = (n : ℕ) → times n q ≤ holders s n
 
--- what holds of every ring, and of the number of visible events that is kept beside it
-pub record IsCounted (ring : Queued) (count : ℕ) : Type 0 where
+-- no number is there twice
+abbrev pub AreDifferent : List ℕ → Type 0
+AreDifferent q = (n : ℕ) → times n q ≤ 1
+
+-- what holds of every ring: it has 64 to 4,096 places, one more at least than it has numbers
+pub record IsRing (ring : RingView) : Type 0 where
   pub least : 64 ≤ ring.places
   pub most : ring.places ≤ 4096
-  pub room : length ring.events < ring.places
-  pub counted : count ≡ visible event_of ring.events
+  pub room : length ring.numbers < ring.places
+  pub different : AreDifferent ring.numbers
+
+-- all places of the ring are held but one
+abbrev pub HoldsAllButOne : RingView → Type 0
+HoldsAllButOne ring = length ring.numbers + 1 ≡ ring.places
+
+-- Where a number is put, nothing enters the ring but the number itself, behind all that was there.
+abbrev pub EntersAlone : ℕ → List ℕ → List ℕ → Type 0
+EntersAlone number old new = (new ≡ old) ⊎ (new ≡ old ++ number ∷ [])
+
+-- the cell of a slot, and any where it is empty
+abbrev pub some_cell : Option Cell → Cell
+some_cell None = record { event = syn_dropped; now = 0; place = 0 }
+some_cell (Some cell) = cell
+
+-- the cell under a number, and any where there is none
+abbrev pub cell_at : StoreView → ℕ → Cell
+cell_at s number = some_cell (cell_in s number)
+
+-- the queue of cells that a list of numbers is
+abbrev pub queue_in : StoreView → List ℕ → List Cell
+queue_in s q = map (cell_at s) q
+
+-- each cell has a moment that a clock can be ahead of
+abbrev pub AreFit : List Cell → Type 0
+AreFit cells = All (λ cell. cell.now ≤ MOMENT_MAX) cells
+
+-- What becomes of a store where a ring goes from some numbers to others: each number that leaves has one holder less, and
+-- its cell goes with the last one; each number that comes has one holder more. A number may leave with its cell, and
+-- come again with another.
+pub record IsMoved (old new : StoreView) (from to : List ℕ) : Type 0 where
+  pub held : (n : ℕ) → holders new n + times n from ≡ holders old n + times n to
+  -- a cell that another ring holds stays
+  pub kept : (n : ℕ) → times n from < holders old n → cell_in new n ≡ cell_in old n
+  -- no cell is left without a holder that had one
+  pub idle : (n : ℕ) → IsIdle new n → IsIdle old n
+  -- a cell without holders stays, unless it comes
+  pub rest : (n : ℕ) → IsIdle old n → times n to ≡ 0 → entry new n ≡ entry old n
+  pub room : cell_count old + old.spare ≤ cell_count new + new.spare
+
+-- The same where numbers leave and none comes: those that stay keep their cells, and no less is spare.
+pub record IsTakenOut (old new : StoreView) (from to : List ℕ) : Type 0 where
+  pub moved : IsMoved old new from to
+  pub spare : old.spare ≤ new.spare
+  pub stay : (n : ℕ) → 1 ≤ times n to → cell_in new n ≡ cell_in old n
+
+-- A number was put at the end of a ring, or left out, and was given no holder. `before` is what stands before it.
+pub record IsEntered (old new : StoreView) (from to : List ℕ) (number : ℕ) (is_in : Bool) : Type 0 where
+  pub before : List ℕ
+  pub moved : IsMoved old new from before
+  pub entered : to ≡ (if is_in then before ++ number ∷ [] else before)
+  -- its own entry stays
+  pub same : entry new number ≡ entry old number

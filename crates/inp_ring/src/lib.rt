@@ -1,18 +1,30 @@
-//! The ring that keeps a client's events until they are read, and may lose them.
+//! The rings that keep clients' events until they are read, and may lose them, over one store of events.
 //!
-//! This crate is for whoever keeps clients. [`Ring`] takes events one by one, shows those up to the last SYN_REPORT, and
-//! tells a loss by SYN_DROPPED, as evdev's client buffer does. It stands on `inp_model`, whose definitions of a queue
-//! (`Queue`) its contract cites, and on the toolchain's `circular_buffer`, in which the events lie.
+//! This crate is for whoever keeps clients. An event that several clients are offered is one [`Cell`] of a [`Store`] that
+//! they share, and a [`Ring`] holds numbers of cells. A ring takes numbers one by one, shows those up to the last
+//! SYN_REPORT, and tells a loss by SYN_DROPPED, as evdev's client buffer does. The crate stands on `inp_model`, whose
+//! definitions of a queue (`Queue`) its contract cites, and on the toolchain's `slab`, in which the cells lie, and
+//! `circular_buffer`, in which the numbers lie.
 //!
-//! A contract sees a [`Ring`] as its number of places and the list of its events, oldest first (`Queued` in
-//! `specs/Ring.antt`). Each call does to that list what the definition of its name says, and gives the exact result.
-//! Memory is taken when a ring is made and never again. How many events are visible is kept, so that putting an event,
-//! taking one and asking how many are visible take the same time at any length, but for a loss, which drops all events; a
-//! flush walks the queue once, in place.
+//! A contract sees a [`Store`] as a finite map from numbers to cells with how many rings hold each, and how many more cells
+//! fit (`StoreView` in `specs/Store.antt`). It sees a [`Ring`] as its number of places and the list of its numbers, oldest
+//! first (`RingView` in `specs/Ring.antt`); with a store its queue is the list of their cells. Each call does to that queue
+//! what the definition of its name says, and gives the exact result. What becomes of the store is one fact, `IsMoved`: each
+//! number that leaves the ring has one holder less, and its cell goes with the last one; each number that comes has one
+//! holder more; and all else stays. So a store whose cells have as many holders as there are rings with their numbers stays
+//! so.
+//!
+//! Memory is taken when a ring is made, and by [`Store::grow`], and never else. Putting an event and reading one take the
+//! same time at any length, but for a loss, which drops all events. A flush walks the queue once, in place. The events that
+//! are visible are counted from the newest one back, which between two frames is a report.
 #![tactic(auto)]
 
+mod cell;
 mod class;
 mod removal;
 mod ring;
+mod store;
 
+pub use cell::Cell;
 pub use ring::Ring;
+pub use store::Store;

@@ -1,19 +1,23 @@
 //! The ring of a client: a queue that may lose its events.
-ghost use Rattle.std.specs.Prelude.{◌≡◌, ◌≢◌, ◌≤◌, ◌<◌, ◌+◌, ◌||◌, ◌⊎◌, min, suc, nat_lt, false, [], ◌∷◌, ◌++◌, length, take, drop, IfOk};
+ghost use Rattle.std.specs.Prelude.{◌≡◌, ◌≢◌, ◌≤◌, ◌<◌, ◌+◌, ◌||◌, ◌⊎◌, if◌then◌else◌, get_or, min, suc, nat_lt, false, [], ◌∷◌, ◌++◌, length, map, take, drop, Some, IfOk};
 ghost use Rattle.std.specs.Bool.{OnFalse};
+ghost use Rattle.std.specs.Option.{option_map};
 ghost use Rattle.inp_model.specs.declared.event.TheConstants.{EV_SYN};
-ghost use Rattle.inp_model.specs.declared.taken.Taken.{Taken};
+ghost use Rattle.inp_model.specs.declared.stamped.TheConstants.{MOMENT_MAX};
 ghost use Rattle.inp_model.specs.Event.{is_report, syn_dropped};
-ghost use Rattle.inp_model.specs.Queue.{dropped_at, is_empty, ends_in_report, put, visible, flush, clock_changed};
+ghost use Rattle.inp_model.specs.Queue.{is_empty, ends_in_report, put, visible, flush, clock_changed};
 ghost use Rattle.inp_model.specs.Reply.{written};
 ghost use Rattle.inp_model.specs.Step.{is_part_of, Codes, Slots};
 ghost use Rattle.inp_ring.specs.Class.{query_of};
-ghost use Rattle.inp_ring.specs.Ring.{event_of, EntersAlone, HoldsAllButOne};
+ghost use Rattle.inp_ring.specs.Store.{entry, cell_in, event_of, dropped_at, taken_of, holders, HasCell};
+ghost use Rattle.inp_ring.specs.Ring.{times, cell_at, queue_in, AreFit, AreHeld, EntersAlone, HoldsAllButOne, IsMoved, IsTakenOut, IsEntered};
 
+use crate::cell::Cell;
 use crate::class::Class;
-use crate::removal::remove_class;
+use crate::removal::{read_front, release_front, remove_class, replace_all};
+use crate::store::Store;
 use circular_buffer::HeapCircularBuffer;
-use inp_model::{EV_SYN, Event, NoMemory, SYN_DROPPED, Taken};
+use inp_model::{EV_SYN, Event, MOMENT_MAX, NoMemory, SYN_DROPPED, Taken};
 use std::alloc::Global;
 use std::marker::Model;
 
@@ -24,187 +28,275 @@ const LOSS: Event = Event {
     value: 0,
 };
 
-/// The events that a client was offered and has not read, oldest first, in a ring of 64 to 4,096 places that holds one
-/// event less than it has places.
+/// The events that a client was offered and has not read, oldest first: the numbers of their cells, in a ring of 64 to
+/// 4,096 places that holds one number less than it has places.
 ///
-/// The events up to the last SYN_REPORT are visible: they may be read. How many they are is kept, and no call but
-/// [`flush`](Ring::flush) and [`flush_slots`](Ring::flush_slots) walks the queue.
+/// With a [`Store`], which the ring shares with others, its queue is the list of the cells. Each call keeps that each of
+/// its numbers has a cell with a holder. The events up to the last SYN_REPORT are visible: they may be read.
 #[derive(Drop)]
 pub struct Ring {
-    events: HeapCircularBuffer<Taken>,
-    visible: u32,
+    numbers: HeapCircularBuffer<u32>,
 }
 
 impl Model for Ring {
-    ghost use Rattle.inp_ring.specs.Ring.{Queued, queued_in, IsCounted};
+    ghost use Rattle.inp_ring.specs.Ring.{RingView, ring_in, IsRing};
 
-    ghost Value = { Queued };
+    ghost Value = { RingView };
 
-    ghost view = { λ ring. queued_in ring.events };
+    ghost view = { λ ring. ring_in ring.numbers };
 
-    ghost invariant = { λ ring. IsCounted (queued_in ring.events) ring.visible };
+    ghost invariant = { λ ring. IsRing (ring_in ring.numbers) };
 }
 
 impl Ring {
     /// An empty ring of 64 to 4,096 places, with all the memory that it will need. It is refused for memory alone.
     pub fn new(alloc: Global, places: u32) -> Result<Ring, NoMemory>
         requires range { (64 ≤ places) × (places ≤ 4096) }
-        ensures empty { IfOk result (λ ring. ring ≡ record { places = places; events = [] }) }
+        ensures empty { IfOk result (λ ring. ring ≡ record { places = places; numbers = [] }) }
     {
         Ok(Ring {
-            events: HeapCircularBuffer::with_capacity(alloc, places as usize)?,
-            visible: 0,
+            numbers: HeapCircularBuffer::with_capacity(alloc, places as usize)?,
         })
     }
 
-    /// Puts one event at the end. A SYN_REPORT is left out where it would follow a SYN_REPORT, or nothing.
+    /// Puts the number of a cell at the end, and adds a holder. A SYN_REPORT is left out where it would follow a
+    /// SYN_REPORT, or nothing.
     ///
-    /// Where all places but one are held, all events are lost: SYN_DROPPED stands in their place, with the time and
-    /// place of the event that did not fit, and that event behind it (evdev's client buffer). It takes the same time at
-    /// any length but for a loss, and no memory.
-    pub fn put(&mut self, item: Taken)
-        ensures put { let events = self.old.events in
-            self.new.events ≡ put event_of dropped_at self.old.places events item }
+    /// Where all places but one are held, all events are lost: SYN_DROPPED stands in their place, in a cell of its own
+    /// with the moment and place of the event that did not fit, and that event behind it (evdev's client buffer). There
+    /// must be room to spare for that cell. It takes the same time at any length but for a loss, and no memory.
+    ///
+    /// The number must have a cell with fewer than 64 holders, and not be in this ring.
+    pub fn put(&mut self, store: &mut Store, number: u32)
+        requires there { HasCell store.old number }
+        requires few { holders store.old number < 64 }
+        requires absent { times number self.old.numbers ≡ 0 }
+        requires room { HoldsAllButOne self.old → 0 < store.old.spare }
+        requires held { AreHeld store.old self.old.numbers }
+        ensures put { let queue = queue_in store.old self.old.numbers in
+            queue_in store.new self.new.numbers
+            ≡ put event_of dropped_at self.old.places queue (cell_at store.old number) }
         ensures places { self.new.places ≡ self.old.places }
+        ensures moved { IsMoved store.old store.new self.old.numbers self.new.numbers }
 
         // SYN_DROPPED, where it is not the item itself, enters at a full ring alone.
-        ensures lost { EntersAlone item self.old.events self.new.events ⊎ HoldsAllButOne self.old }
+        ensures lost { EntersAlone number self.old.numbers self.new.numbers ⊎ HoldsAllButOne self.old }
     {
-        if item.event.is_report() && self.is_all_visible() {
-            return;
+        let event = store.get(number).event;
+        if self.enter(store, number, event) {
+            store.hold(number);
         }
-        if self.has_room() {
-            self.append(item);
-        } else {
-            self.lose(item);
+    }
+
+    /// Puts the number of a cell at the end as [`put`](Ring::put) does, but adds no holder, and says whether the number is
+    /// in the ring now. So a caller that puts it in several rings can add all their holders at once.
+    ///
+    /// The number must have a cell with this event, and not be in this ring.
+    pub fn enter(&mut self, store: &mut Store, number: u32, event: Event) -> bool
+        requires event { option_map event_of (cell_in store.old number) ≡ Some event }
+        requires absent { times number self.old.numbers ≡ 0 }
+        requires room { HoldsAllButOne self.old → 0 < store.old.spare }
+        requires held { AreHeld store.old self.old.numbers }
+        ensures put { let queue = queue_in store.old self.old.numbers in
+            queue_in store.new self.new.numbers
+            ≡ put event_of dropped_at self.old.places queue (cell_at store.old number) }
+        ensures places { self.new.places ≡ self.old.places }
+        ensures entered { IsEntered store.old store.new self.old.numbers self.new.numbers number result }
+
+        // SYN_DROPPED, where it is not the item itself, enters at a full ring alone.
+        ensures lost { EntersAlone number self.old.numbers self.new.numbers ⊎ HoldsAllButOne self.old }
+    {
+        if event.is_report() && self.is_all_visible(store) {
+            return false;
         }
+        self.make_room(store, number);
+        self.append(number);
+        true
     }
 
     /// Removes the events of a type, as the answer to a query of its codes does. Each SYN_REPORT that is left with
     /// nothing between it and the one before it is removed too, but not the first one.
     ///
     /// It walks the queue once, and takes no memory. The type must not be EV_SYN.
-    pub fn flush(&mut self, kind: u16)
+    pub fn flush(&mut self, store: &mut Store, kind: u16)
         requires not_syn { kind ≢ EV_SYN }
-        ensures flush { let rest = flush event_of (is_part_of (Codes kind)) self.old.events in
-            self.new ≡ record self.old { events = rest } }
+        requires held { AreHeld store.old self.old.numbers }
+        ensures flush { let queue = queue_in store.old self.old.numbers in
+            queue_in store.new self.new.numbers ≡ flush event_of (is_part_of (Codes kind)) queue }
+        ensures places { self.new.places ≡ self.old.places }
+        ensures moved { IsTakenOut store.old store.new self.old.numbers self.new.numbers }
     {
-        self.remove(Class::Kind(kind));
+        self.remove(store, Class::Kind(kind));
     }
 
     /// Removes the events of multi-touch axes, ABS_MT_SLOT included, as [`flush`](Ring::flush) does those of a type.
-    pub fn flush_slots(&mut self)
-        ensures flush { let rest = flush event_of (is_part_of Slots) self.old.events in
-            self.new ≡ record self.old { events = rest } }
+    pub fn flush_slots(&mut self, store: &mut Store)
+        requires held { AreHeld store.old self.old.numbers }
+        ensures flush { let queue = queue_in store.old self.old.numbers in
+            queue_in store.new self.new.numbers ≡ flush event_of (is_part_of Slots) queue }
+        ensures places { self.new.places ≡ self.old.places }
+        ensures moved { IsTakenOut store.old store.new self.old.numbers self.new.numbers }
     {
-        self.remove(Class::MultiTouch);
+        self.remove(store, Class::MultiTouch);
     }
 
     /// How many events may be read: those up to the last SYN_REPORT.
-    pub fn visible(&self) -> u32
-        ensures visible { result ≡ visible event_of self.now.events }
+    ///
+    /// It looks from the newest event back to the last SYN_REPORT, which between two frames is the newest one.
+    pub fn visible(&self, store: &Store) -> u32
+        requires held { AreHeld store.now self.now.numbers }
+        ensures visible { result ≡ visible event_of (queue_in store.now self.now.numbers) }
+        ensures within { result ≤ length self.now.numbers }
     {
-        self.visible
+        let mut count = self.numbers.len();
+        while count > 0 && !self.is_report_at(store, count - 1) {
+            count -= 1;
+        }
+        count as u32
     }
 
-    /// Moves the first `count` visible events, or as many as there are, to the front of a buffer, and says how many. The
-    /// rest of the buffer stays. The buffer must have room for `count`.
-    pub fn take(&mut self, count: u32, out: &mut [Taken]) -> u32
+    /// Moves the first `count` visible events, or as many as there are, to the front of a buffer, and says how many. Each
+    /// is read on a clock that is `offset` microseconds ahead, and has one holder less.
+    ///
+    /// The rest of the buffer stays. The buffer must have room for `count`.
+    pub fn take(&mut self, store: &mut Store, count: u32, offset: u64, out: &mut [Taken]) -> u32
         requires room { count ≤ length out.old }
-        ensures count { result ≡ min count (visible event_of self.old.events) }
-        ensures taken { out.new ≡ written (take result self.old.events) out.old }
-        ensures rest { self.new ≡ record self.old { events = drop result self.old.events } }
+        requires offset { offset ≤ MOMENT_MAX }
+        requires moments { AreFit (queue_in store.old self.old.numbers) }
+        requires held { AreHeld store.old self.old.numbers }
+        ensures count { let queue = queue_in store.old self.old.numbers in
+            result ≡ min count (visible event_of queue) }
+        ensures taken { let cells = take result (queue_in store.old self.old.numbers) in
+            out.new ≡ written (map (taken_of offset) cells) out.old }
+        ensures rest { self.new ≡ record self.old { numbers = drop result self.old.numbers } }
+        ensures left { let queue = queue_in store.old self.old.numbers in
+            queue_in store.new self.new.numbers ≡ drop result queue }
+        ensures moved { IsTakenOut store.old store.new self.old.numbers self.new.numbers }
     {
-        let taken = count.min(self.visible);
-        self.events.read_into(&mut out[..taken as usize]);
-        self.visible -= taken;
+        let taken = count.min(self.visible(store));
+        read_front(&mut self.numbers, store, taken as usize, offset, out);
         taken
     }
 
     /// Removes all visible events, unread, and says how many they were.
-    pub fn discard(&mut self) -> u32
-        ensures count { result ≡ visible event_of self.old.events }
-        ensures rest { self.new ≡ record self.old { events = drop result self.old.events } }
+    pub fn discard(&mut self, store: &mut Store) -> u32
+        requires held { AreHeld store.old self.old.numbers }
+        ensures count { let queue = queue_in store.old self.old.numbers in
+            result ≡ visible event_of queue }
+        ensures rest { self.new ≡ record self.old { numbers = drop result self.old.numbers } }
+        ensures left { let queue = queue_in store.old self.old.numbers in
+            queue_in store.new self.new.numbers ≡ drop result queue }
+        ensures moved { IsTakenOut store.old store.new self.old.numbers self.new.numbers }
     {
-        let removed = self.visible;
-        self.events
-            .truncate_front(self.events.len() - removed as usize);
-        self.visible = 0;
+        let removed = self.visible(store);
+        release_front(&mut self.numbers, store, removed as usize);
         removed
     }
 
-    /// Puts SYN_DROPPED in the place of all events, with a time in microseconds on the client's new clock and the place
-    /// of the step that changed the clock (evdev's clock request). An empty ring stays empty.
-    pub fn clock_changed(&mut self, time: u64, place: u32)
-        ensures changed { let dropped : Taken =
-            record { event = syn_dropped; time = time; place = place } in
-            self.new ≡ record self.old { events = clock_changed false dropped self.old.events } }
+    /// Puts SYN_DROPPED in the place of all events, with a moment in microseconds and the place of the step that changed
+    /// the client's clock (evdev's clock request). An empty ring stays empty. There must be room to spare for a cell.
+    pub fn clock_changed(&mut self, store: &mut Store, now: u64, place: u32)
+        requires room { 0 < store.old.spare }
+        requires held { AreHeld store.old self.old.numbers }
+        ensures changed { let queue = queue_in store.old self.old.numbers in
+            queue_in store.new self.new.numbers
+            ≡ clock_changed false (record { event = syn_dropped; now = now; place = place }) queue }
+        ensures places { self.new.places ≡ self.old.places }
+        ensures moved { IsMoved store.old store.new self.old.numbers self.new.numbers }
     {
-        if self.events.is_empty() {
+        if self.numbers.is_empty() {
             return;
         }
-        self.clear();
-        self.append(Taken {
+        let cell = Cell {
             event: LOSS,
-            time,
+            now,
             place,
-        });
+        };
+        replace_all(&mut self.numbers, store, cell);
+    }
+
+    /// Releases all events, and leaves the ring empty.
+    pub fn clear(&mut self, store: &mut Store)
+        requires held { AreHeld store.old self.old.numbers }
+        ensures cleared { self.new ≡ record self.old { numbers = [] } }
+        ensures moved { IsTakenOut store.old store.new self.old.numbers self.new.numbers }
+    {
+        let count = self.numbers.len();
+        release_front(&mut self.numbers, store, count);
     }
 
     /// Whether there is no event, or the last one is a SYN_REPORT.
-    fn is_all_visible(&self) -> bool
-        ensures whole { let events = self.now.events in
-            result ≡ (is_empty events || ends_in_report event_of events) }
+    fn is_all_visible(&self, store: &Store) -> bool
+        requires held { AreHeld store.now self.now.numbers }
+        ensures whole { let queue = queue_in store.now self.now.numbers in
+            result ≡ (is_empty queue || ends_in_report event_of queue) }
     {
-        self.events.len() == self.visible as usize
-    }
-
-    /// Whether one more event leaves a place free.
-    fn has_room(&self) -> bool
-        ensures room { result ≡ nat_lt (suc (length self.now.events)) self.now.places }
-        ensures full { OnFalse result (HoldsAllButOne self.now) }
-    {
-        self.events.len() + 1 < self.events.capacity()
-    }
-
-    /// Puts one event at the end, where it leaves a place free.
-    fn append(&mut self, item: Taken)
-        requires room { suc (length self.old.events) < self.old.places }
-        ensures appended { self.new ≡ record self.old { events = self.old.events ++ item ∷ [] } }
-    {
-        self.events.push_back(item);
-        if item.event.is_report() {
-            self.visible = self.events.len() as u32;
+        match self.numbers.back() {
+            Some(number) => store.get(*number).event.is_report(),
+            None => true,
         }
     }
 
-    /// Removes all events.
-    fn clear(&mut self)
-        ensures cleared { self.new ≡ record self.old { events = [] } }
-        ensures least { 64 ≤ self.new.places }
+    /// Whether the event at an index is a SYN_REPORT.
+    fn is_report_at(&self, store: &Store, index: usize) -> bool
+        requires within { index < length self.now.numbers }
+        requires held { AreHeld store.now self.now.numbers }
+        ensures report { result ≡ is_report (event_of (cell_at store.now (get_or self.now.numbers index 0))) }
     {
-        self.events.clear();
-        self.visible = 0;
+        let number = *self.numbers.get(index).unwrap();
+        store.get(number).event.is_report()
     }
 
-    /// Puts SYN_DROPPED in the place of all events, and behind it the event that did not fit.
-    fn lose(&mut self, item: Taken)
-        ensures lost { self.new ≡ record self.old { events = dropped_at item ∷ item ∷ [] } }
+    /// Whether one more number leaves a place free.
+    fn has_room(&self) -> bool
+        ensures room { result ≡ nat_lt (suc (length self.now.numbers)) self.now.places }
+        ensures full { OnFalse result (HoldsAllButOne self.now) }
     {
-        self.clear();
-        self.append(Taken {
-            event: LOSS,
-            ..item
-        });
-        self.append(item);
+        self.numbers.len() + 1 < self.numbers.capacity()
     }
 
-    /// Removes the events of a class, and the reports that are left with no event before them.
-    fn remove(&mut self, class: Class)
-        ensures removed { let rest = flush event_of (is_part_of (query_of class)) self.old.events in
-            self.new ≡ record self.old { events = rest } }
+    /// Leaves the ring as it is where one more number fits. Else SYN_DROPPED stands in the place of all, at the moment and
+    /// place of the cell under a number.
+    fn make_room(&mut self, store: &mut Store, number: u32)
+        requires there { HasCell store.old number }
+        requires absent { times number self.old.numbers ≡ 0 }
+        requires room { HoldsAllButOne self.old → 0 < store.old.spare }
+        requires held { AreHeld store.old self.old.numbers }
+        ensures room { suc (length self.new.numbers) < self.new.places }
+        ensures queue { let queue = queue_in store.old self.old.numbers in
+            queue_in store.new self.new.numbers
+            ≡ (if nat_lt (suc (length self.old.numbers)) self.old.places then queue
+            else dropped_at (cell_at store.old number) ∷ []) }
+        ensures places { self.new.places ≡ self.old.places }
+        ensures absent { times number self.new.numbers ≡ 0 }
+        ensures same { entry store.new number ≡ entry store.old number }
+        ensures moved { IsMoved store.old store.new self.old.numbers self.new.numbers }
+        ensures lost { (self.new.numbers ≡ self.old.numbers) ⊎ HoldsAllButOne self.old }
     {
-        let visible = remove_class(&mut self.events, class);
-        self.visible = visible;
+        if self.has_room() {
+            return;
+        }
+        let cell = store.get(number);
+        replace_all(&mut self.numbers, store, Cell { event: LOSS, ..cell });
+    }
+
+    /// Puts a number at the end, where it leaves a place free.
+    fn append(&mut self, number: u32)
+        requires room { suc (length self.old.numbers) < self.old.places }
+        requires absent { times number self.old.numbers ≡ 0 }
+        ensures appended { self.new ≡ record self.old { numbers = self.old.numbers ++ number ∷ [] } }
+    {
+        self.numbers.push_back(number);
+    }
+
+    /// Releases the events of a class, and the reports that are left with no event before them.
+    fn remove(&mut self, store: &mut Store, class: Class)
+        requires held { AreHeld store.old self.old.numbers }
+        ensures removed { let queue = queue_in store.old self.old.numbers in
+            queue_in store.new self.new.numbers ≡ flush event_of (is_part_of (query_of class)) queue }
+        ensures places { self.new.places ≡ self.old.places }
+        ensures moved { IsTakenOut store.old store.new self.old.numbers self.new.numbers }
+    {
+        remove_class(&mut self.numbers, store, class);
     }
 }

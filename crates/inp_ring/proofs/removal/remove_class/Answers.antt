@@ -1,34 +1,28 @@
-use Rattle.std.proofs.Common.{◌≡◌, if◌then◌else◌, ◌+◌, sym, ◌∙◌, arith}
-use Rattle.inp_ring.proofs.Walks.{IsWalked-init, flush_from_walk, IsWalked-dropped, IsWalked-kept, next_item, has_front, kept_few}
+use Rattle.std.proofs.Common.{◌≡◌, ◌<◌, length, not, if◌then◌else◌, ap, ◌∙◌, sym, arith}
+use Rattle.inp_model.specs.declared.event.Event.{Event}
+use Rattle.inp_model.specs.Event.{is_report}
+use Rattle.inp_model.specs.Step.{is_part_of}
+use Rattle.inp_ring.specs.Class.{query_of}
+use Rattle.inp_ring.proofs.Walks.{walked_none, walked_held, walked_some, walked_within, walked_all, walked_event, walked_dropped, walked_kept, walked_number, event_at}
 use Rattle.inp_ring.proofs.removal.remove_class.Goals as goal
-use Rattle.inp_ring.proofs.removal.remove_class.Goals.{then-is_report, else-is_report}
 
 pub loop-init : goal.loop-init
-loop-init c = IsWalked-init _ c.args.events.now
+loop-init c = walked_none _ c.args.store.now c.args.numbers.now c.requires.held
 
-pub unwrap-item-requires : goal.unwrap-item-requires
-unwrap-item-requires c =
-    rw c.pop_front.ensures.value (has_front _ _ _ _ _ _ _ _ c.loop.invariant (omega (arith, c.len-end.ensures.len)))
+pub turn-requires-clause-within : goal.turn-requires-clause-within
+turn-requires-clause-within c = walked_within c.loop.invariant (omega arith) c.requires.within
 
 pub loop-preserved-then-not-stays : goal.loop-preserved-then-not-stays
 loop-preserved-then-not-stays c =
-    let next = next_item _ _ _ _ _ _ _ _ c.unwrap-item.result c.loop.invariant (omega (arith, c.len-end.ensures.len)) (sym c.pop_front.ensures.value ∙ c.unwrap-item.ensures) in
-    IsWalked-dropped _ _ _ _ _ _ _ _ _ _ _ c.loop.invariant next c.stays.ensures c.if-not-stays.true c.pop_front.ensures.items
-
-pub overflow_add-kept : goal.overflow_add-kept
-overflow_add-kept c = omega (arith, kept_few _ _ _ _ _ _ _ _ c.loop.invariant (omega (arith, c.len-end.ensures.len)), c.requires.within, c.len-end.ensures.len)
+    let here : c.loop.counter < length c.args.numbers.now.items = omega arith in
+    let event : c.first_event-event.result ≡ event_at c.args.store.now (walked_number c.loop.invariant here) = c.first_event-event.ensures.event ∙ walked_event c.loop.invariant here in
+    let stayed = c.stays.ensures ∙ ap (λ (e : Event). if is_report e then c.loop.report_stays else not (is_part_of (query_of c.args.class) e)) event in
+    walked_dropped c.loop.invariant here c.release_first.new.store c.release_first.new.numbers c.stays.result stayed c.if-not-stays.true c.release_first.ensures.rest c.release_first.ensures.moved
 
 pub loop-preserved : goal.loop-preserved
 loop-preserved c =
-    let next = next_item _ _ _ _ _ _ _ _ c.unwrap-item.result c.loop.invariant (omega (arith, c.len-end.ensures.len)) (sym c.pop_front.ensures.value ∙ c.unwrap-item.ensures) in
-    let shown : c.if-is_report.visible ≡ (if c.is_report-is_report.result then c.loop.kept + 1 else c.loop.visible) =
-    elim c.if-is_report.branch [ then-is_report w ↦ rw w.if-is_report.true w.visible-is | else-is_report w ↦ rw w.if-is_report.false w.visible-is ] in
-    rw c.is_report-is_report.ensures.report (IsWalked-kept _ _ _ _ _ _ _ _ _ _ _ _ _ c.loop.invariant next c.stays.ensures c.if-not-stays.false
-    c.pop_front.ensures.items c.push_back.ensures.items (omega (arith, c.len-end.ensures.len)) (omega (arith, c.len-end.ensures.len))
-    (rw c.is_report-is_report.ensures.report at shown))
-
-pub returns-clause-removed : goal.returns-clause-removed
-returns-clause-removed c = (flush_from_walk _ _ _ _ _ _ _ _ c.loop.invariant (omega (arith, c.len-end.ensures.len))).0
-
-pub returns-clause-visible : goal.returns-clause-visible
-returns-clause-visible c = (flush_from_walk _ _ _ _ _ _ _ _ c.loop.invariant (omega (arith, c.len-end.ensures.len))).1
+    let here : c.loop.counter < length c.args.numbers.now.items = omega arith in
+    let event : c.first_event-event.result ≡ event_at c.args.store.now (walked_number c.loop.invariant here) = c.first_event-event.ensures.event ∙ walked_event c.loop.invariant here in
+    let stayed = c.stays.ensures ∙ ap (λ (e : Event). if is_report e then c.loop.report_stays else not (is_part_of (query_of c.args.class) e)) event in
+    let flag = c.is_report-report_stays.ensures.report ∙ ap is_report event in
+    rw flag (walked_kept c.loop.invariant here c.turn.new.numbers c.stays.result stayed c.if-not-stays.false c.turn.ensures.turned)

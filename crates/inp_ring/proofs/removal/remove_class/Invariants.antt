@@ -5,4 +5,4 @@ use Rattle.inp_ring.proofs.removal.remove_class.Given as goal
 
 abbrev pub invariant-loop : goal.invariant-loop
 invariant-loop l =
-    IsWalked (is_part_of (query_of l.class)) l.initial.events.items l.initial.events.capacity l.events l.counter l.kept l.visible l.report_stays
+    IsWalked (is_part_of (query_of l.class)) l.initial.store l.initial.numbers.items l.initial.numbers.capacity l.store l.numbers l.counter l.report_stays

@@ -1,10 +1,12 @@
-use Rattle.std.proofs.Common.{arith, ◌-◌, ap}
-use Rattle.inp_ring.proofs.Counted.{counted_within, IsCounted-rest}
+use Rattle.std.proofs.Common.{ℕ, ap}
+use Rattle.circular_buffer.specs.Buffer.{Buffer}
+use Rattle.inp_ring.proofs.Rings.{ring_rest, queue_rest}
 use Rattle.inp_ring.proofs.ring.Ring.discard.Goals as goal
 
-pub overflow_sub-len : goal.overflow_sub-len
-overflow_sub-len c = omega (arith, counted_within _ _ c.self.invariant)
-
 pub invariant_of-self : goal.invariant_of-self
-invariant_of-self c =
-    IsCounted-rest c.self.inside.events _ _ _ c.self.invariant (ap (λ n. n - c.self.inside.visible) c.len.ensures.len) c.truncate_front.ensures
+invariant_of-self c = ring_rest c.self.inside.numbers _ c.visible-removed.result c.self.invariant c.release_front.ensures.rest
+
+pub returns-clause-left : goal.returns-clause-left
+returns-clause-left c =
+    rw (← c.self.view_is) (queue_rest c.args.store.now c.release_front.new.store c.self.inside.numbers.items c.release_front.new.numbers.items c.visible-removed.result
+    (ap (λ (b : Buffer ℕ). b.items) c.release_front.ensures.rest) c.release_front.ensures.moved)

@@ -1,0 +1,154 @@
+-- What becomes of a store as a ring's numbers change, step by step.
+use Rattle.std.proofs.Common.{◌≡◌, ◌≢◌, ◌≤◌, ◌<◌, ℕ, zero, suc, ◌+◌, ◌-◌, Bool, true, false, if◌then◌else◌, nat_eq, List, [], ◌∷◌, ◌++◌, length, map, take, drop, get_or, Option, Some, None, IsSome, refl, sym, ap, ap₂, ◌∙◌, subst, inl, inr, slice_get, arith}
+use Rattle.std.specs.List.{All}
+use Rattle.std.proofs.lemmas.Bool.{cases_eq, eq-eqb, ne_eqb}
+use Rattle.std.proofs.lemmas.Bool.Decides.{nat_tests}
+use Rattle.inp_ring.specs.declared.cell.Cell.{Cell}
+use Rattle.inp_ring.specs.declared.cell.Held.{Held}
+use Rattle.inp_ring.specs.Store.{StoreView, entry, cell_in, holders, holders_of, cell_of, cell_count, held_more, held_less, held_by, HasCell, IsIdle, IsIdleSlot, IsPut}
+use Rattle.inp_ring.specs.Ring.{times, AreHeld, IsMoved, IsTakenOut, IsEntered, cell_at, some_cell, queue_in}
+use Rattle.inp_ring.proofs.Times.{once, once_same, once_other, once-le, times-append, times_push, times_first}
+
+-- Nothing moves.
+pub moved_none : (s : StoreView) (q : List ℕ) → IsMoved s s q q
+moved_none s q = record { held = λ n. refl; kept = λ n h. refl; idle = λ n h. h; rest = λ n h e. refl; room = omega arith }
+
+pub taken_none : (s : StoreView) (q : List ℕ) → IsTakenOut s s q q
+taken_none s q = record { moved = moved_none s q; spare = omega arith; stay = λ n h. refl }
+
+-- The ring stays held.
+pub held_moved : {old new : StoreView} {from to : List ℕ} → IsMoved old new from to → AreHeld old from → AreHeld new to
+held_moved {old} {new} {from} {to} m h n = omega (arith, m.held n, h n)
+
+-- Two moves make one, where no cell without holders comes in between.
+pub moved_then : {a b c : StoreView} {p q r : List ℕ} → IsMoved a b p q → IsMoved b c q r → ((n : ℕ) → IsIdle a n → times n r ≡ 0 → times n q ≡ 0) → IsMoved a c p r
+moved_then {a} {b} {c} {p} {q} {r} m k none = record {
+  held = λ n. omega (arith, m.held n, k.held n);
+  kept = λ n h. let less : times n q < holders b n = omega (arith, m.held n) in k.kept n less ∙ m.kept n h;
+  idle = λ n h. m.idle n (k.idle n h);
+  rest = λ n i e.
+      let same : entry b n ≡ entry a n = m.rest n i (none n i e) in
+      let idle : IsIdle b n = subst IsIdleSlot (sym same) i in
+      k.rest n idle e ∙ same;
+  room = omega (arith, m.room, k.room);
+}
+
+pub taken_then : {a b c : StoreView} {p q r : List ℕ} → IsTakenOut a b p q → IsTakenOut b c q r → ((n : ℕ) → times n r ≤ times n q) → ((n : ℕ) → IsIdle a n → times n q ≡ 0) → IsTakenOut a c p r
+taken_then {a} {b} {c} {p} {q} {r} m k less none = record {
+  moved = moved_then m.moved k.moved (λ n i e. none n i);
+  spare = omega (arith, m.spare, k.spare);
+  stay = λ n h. let also : 1 ≤ times n q = omega (arith, less n) in k.stay n h ∙ m.stay n also;
+}
+
+-- A cell without holders has none.
+pub idle_none : (s : StoreView) (n : ℕ) → IsIdle s n → holders s n ≡ 0
+idle_none s n h = none (entry s n) h
+  where
+    none : (o : Option Held) → IsIdleSlot o → holders_of o ≡ 0
+    none None i = refl
+    none (Some x) i = i
+
+-- It is in no ring.
+pub idle_out : (s : StoreView) (q : List ℕ) (n : ℕ) → AreHeld s q → IsIdle s n → times n q ≡ 0
+idle_out s q n h i = omega (arith, h n, idle_none s n i)
+
+-- A new cell comes with its one holder.
+pub moved_add : {s new : StoreView} (m : ℕ) (cell : Cell) → entry s m ≡ None → IsPut s new m (held_by 1 cell) → cell_count s + s.spare ≤ cell_count new + new.spare → IsMoved s new [] (m ∷ [])
+moved_add {s} {new} m cell none put room = record {
+  held = λ n. elim (cases_eq n m) [
+    | inl e ↦
+        let there : holders new n ≡ 1 = ap (λ k. holders new k) e ∙ ap holders_of put.changed in
+        let before : holders s n ≡ 0 = ap (λ k. holders s k) e ∙ ap holders_of none in
+        omega (arith, there, before, once_same n, ap (λ k. once n k) e)
+    | inr d ↦ omega (arith, ap holders_of (put.others n d), once_other n m (λ e. d (sym e)))
+  ];
+  kept = λ n h. elim (cases_eq n m) [
+    | inl e ↦ let before : holders s n ≡ 0 = ap (λ k. holders s k) e ∙ ap holders_of none in absurd (omega (arith, before))
+    | inr d ↦ ap cell_of (put.others n d)
+  ];
+  idle = λ n h. elim (cases_eq n m) [
+    | inl e ↦
+        let there : holders new n ≡ 1 = ap (λ k. holders new k) e ∙ ap holders_of put.changed in
+        absurd (omega (arith, there, idle_none new n h))
+    | inr d ↦ subst IsIdleSlot (put.others n d) h
+  ];
+  rest = λ n i t. elim (cases_eq n m) [
+    | inl e ↦ absurd (omega (arith, t, once_same n, ap (λ k. once n k) e))
+    | inr d ↦ put.others n d
+  ];
+  room = room;
+}
+
+-- The same numbers in another order.
+pub taken_same : (s : StoreView) (p q : List ℕ) → ((n : ℕ) → times n p ≡ times n q) → IsTakenOut s s p q
+taken_same s p q same = record {
+  moved = record { held = λ n. omega (arith, same n); kept = λ n h. refl; idle = λ n h. h; rest = λ n h e. refl; room = omega arith };
+  spare = omega arith;
+  stay = λ n h. refl;
+}
+
+-- A cell that is held is there.
+pub held_there : (s : StoreView) (n : ℕ) → 0 < holders s n → HasCell s n
+held_there s n h = there (entry s n) h
+  where
+    there : (o : Option Held) → 0 < holders_of o → IsSome o
+    there None h = absurd (omega arith)
+    there (Some x) h = refl
+
+-- The number that is in the list at an index has a cell.
+pub number_there : (s : StoreView) (q : List ℕ) (at x : ℕ) → AreHeld s q → slice_get q at ≡ Some x → HasCell s x
+number_there s q at x held e = held_there s x (omega (arith, held x, among q at e))
+  where
+    among : (r : List ℕ) (i : ℕ) → slice_get r i ≡ Some x → 1 ≤ times x r
+    among [] i e = cc
+    among (y ∷ r) zero e = let same : y ≡ x = cc in omega (arith, ap (λ k. once x k) same, once_same x)
+    among (y ∷ r) (suc i) e = omega (arith, among r i e)
+
+-- What neither leaves nor comes stays as it is.
+pub entry_same : {old new : StoreView} {from to : List ℕ} (n : ℕ) → IsMoved old new from to → HasCell old n → times n from ≡ 0 → times n to ≡ 0 → entry new n ≡ entry old n
+entry_same {old} {new} n m there out absent = same (entry old n) (entry new n) there (λ i. m.rest n i absent) (λ h. m.kept n (omega arith)) (omega (arith, m.held n))
+  where
+    same : (o p : Option Held) → IsSome o → (IsIdleSlot o → p ≡ o) → (0 < holders_of o → cell_of p ≡ cell_of o) → holders_of p ≡ holders_of o → p ≡ o
+    same None p some idle kept equal = cc
+    same (Some h) None some idle kept equal = elim (cases_eq h.holders 0) [
+      | inl e ↦ idle e
+      | inr d ↦ let none : None ≡ Some h.cell = kept (omega arith) in cc
+    ]
+    same (Some h) (Some k) some idle kept equal = elim (cases_eq h.holders 0) [
+      | inl e ↦ idle e
+      | inr d ↦ let cell : Some k.cell ≡ Some h.cell = kept (omega arith) in let one : k.cell ≡ h.cell = cc in ap₂ (λ c n. Some (record { cell = c; holders = n })) one equal
+    ]
+
+-- A number that was put, and was given no holder, is given one.
+pub moved_hold : {s t u : StoreView} {from to : List ℕ} (x : ℕ) → IsEntered s t from to x true → times x from ≡ 0 → HasCell t x → IsPut t u x (held_more 1 (entry t x)) → cell_count t + t.spare ≤ cell_count u + u.spare → IsMoved s u from to
+moved_hold {s} {t} {u} {from} {to} x e absent there put room =
+    let more : holders u x ≡ holders t x + 1 = ap holders_of put.changed ∙ plus (entry t x) there in
+    let before : times x e.before ≡ 0 = omega (arith, e.moved.held x, ap holders_of e.same) in
+    let here : times x to ≡ 1 = omega (arith, ap (times x) e.entered, times_push x x e.before, once_same x) in
+    record {
+      held = λ n. elim (cases_eq n x) [
+        | inl i ↦ subst (λ (k : ℕ). holders u k + times k from ≡ holders s k + times k to) (sym i) (omega (arith, more, here, absent, ap holders_of e.same))
+        | inr d ↦ omega (arith, ap holders_of (put.others n d), ap (times n) e.entered, times_push n x e.before, once_other n x (λ i. d (sym i)), e.moved.held n)
+      ];
+      kept = λ n h. elim (cases_eq n x) [
+        | inl i ↦ subst (λ (k : ℕ). cell_in u k ≡ cell_in s k) (sym i) (ap cell_of put.changed ∙ same_cell (entry t x) ∙ ap cell_of e.same)
+        | inr d ↦ ap cell_of (put.others n d) ∙ e.moved.kept n h
+      ];
+      idle = λ n h. elim (cases_eq n x) [
+        | inl i ↦ absurd (omega (arith, more, idle_none u n h, ap (λ (k : ℕ). holders u k) i))
+        | inr d ↦ e.moved.idle n (subst IsIdleSlot (put.others n d) h)
+      ];
+      rest = λ n i t0. elim (cases_eq n x) [
+        | inl j ↦ absurd (omega (arith, t0, here, ap (λ (k : ℕ). times k to) j))
+        | inr d ↦ put.others n d ∙ e.moved.rest n i (omega (arith, t0, ap (times n) e.entered, times_push n x e.before))
+      ];
+      room = omega (arith, e.moved.room, room);
+    }
+  where
+    plus : (o : Option Held) → IsSome o → holders_of (held_more 1 o) ≡ holders_of o + 1
+    plus None h = cc
+    plus (Some h) i = refl
+
+    same_cell : (o : Option Held) → cell_of (held_more 1 o) ≡ cell_of o
+    same_cell None = refl
+    same_cell (Some h) = refl

@@ -1,0 +1,66 @@
+-- What holds of a ring and its queue after each change of its numbers.
+use Rattle.std.proofs.Common.{◌≡◌, ◌≢◌, ◌≤◌, ◌<◌, ℕ, zero, suc, ◌+◌, ◌-◌, Bool, true, false, ◌||◌, List, [], ◌∷◌, ◌++◌, length, map, take, drop, get_or, slice_get, Some, None, refl, sym, ap, ◌∙◌, arith}
+use Rattle.std.proofs.lemmas.List.{length-drop, length_push, length-map, get_or-map, drop-map, map_push}
+use Rattle.circular_buffer.specs.Buffer.{Buffer, buffer, keep_last}
+use Rattle.inp_model.specs.declared.event.Event.{Event}
+use Rattle.inp_model.specs.Event.{is_report}
+use Rattle.inp_model.specs.Queue.{is_empty, ends_in_report, flush}
+use Rattle.inp_ring.specs.declared.cell.Cell.{Cell}
+use Rattle.inp_ring.specs.Store.{StoreView, event_of, cell_in, holders}
+use Rattle.inp_ring.specs.Ring.{times, ring_in, AreHeld, AreDifferent, IsRing, IsTakenOut, cell_at, some_cell, queue_in}
+use Rattle.inp_ring.proofs.Times.{once, once-le, times-drop-le, times-le-length, times_first, AreDifferent_push}
+use Rattle.inp_ring.proofs.Kept.{keep_last-push}
+use Rattle.inp_ring.proofs.Walks.{event_at, flush-length, flush-times, flush-map}
+
+-- one number more
+pub ring_push : (b new : Buffer ℕ) (m : ℕ) → IsRing (ring_in b) → suc (length b.items) < b.capacity → times m b.items ≡ 0 →
+    new ≡ buffer (keep_last b.capacity (b.items ++ m ∷ [])) b.capacity → IsRing (ring_in new)
+ring_push b new m h room absent e =
+    let same : new ≡ buffer (b.items ++ m ∷ []) b.capacity = e ∙ ap (λ q. buffer q b.capacity) (keep_last-push b.capacity b.items m (omega arith)) in
+    rw same (record { least = h.least; most = h.most; room = omega (arith, length_push b.items m); different = AreDifferent_push m b.items h.different absent })
+
+-- the oldest ones less
+pub ring_rest : (b new : Buffer ℕ) (n : ℕ) → IsRing (ring_in b) → new ≡ buffer (drop n b.items) b.capacity → IsRing (ring_in new)
+ring_rest b new n h e =
+    rw e (record { least = h.least; most = h.most; room = omega (arith, h.room, length-drop n b.items); different = λ k. omega (arith, h.different k, times-drop-le k n b.items) })
+
+-- a class of events less
+pub ring_flush : (b new : Buffer ℕ) (event : ℕ → Event) (drops : Event → Bool) → IsRing (ring_in b) → new ≡ buffer (flush event drops b.items) b.capacity → IsRing (ring_in new)
+ring_flush b new event drops h e =
+    rw e (record { least = h.least; most = h.most; room = omega (arith, h.room, flush-length event drops b.items); different = λ k. omega (arith, h.different k, flush-times event drops k b.items) })
+
+-- one number in the place of all
+pub ring_one : (b new : Buffer ℕ) → IsRing (ring_in b) → length new.items ≡ 1 → new.capacity ≡ b.capacity → IsRing (ring_in new)
+ring_one b new h one same = record {
+  least = omega (arith, h.least);
+  most = omega (arith, h.most);
+  room = omega (arith, h.least);
+  different = λ k. omega (arith, times-le-length k new.items);
+}
+
+-- Where the cells of its numbers stay, so does a queue.
+pub queue_stays : (old new : StoreView) (q : List ℕ) → ((n : ℕ) → 1 ≤ times n q → cell_in new n ≡ cell_in old n) → queue_in new q ≡ queue_in old q
+queue_stays old new [] h = refl
+queue_stays old new (x ∷ q) h =
+    let first : cell_at new x ≡ cell_at old x = ap some_cell (h x (times_first x q)) in
+    ap (λ c. c ∷ queue_in new q) first ∙ ap (λ r. cell_at old x ∷ r) (queue_stays old new q (λ n t. h n (omega (arith, t))))
+
+-- what is left of a queue when the oldest events are taken
+pub queue_rest : (old new : StoreView) (q r : List ℕ) (n : ℕ) → r ≡ drop n q → IsTakenOut old new q r → queue_in new r ≡ drop n (queue_in old q)
+queue_rest old new q r n e t = queue_stays old new r t.stay ∙ ap (queue_in old) e ∙ sym (drop-map (cell_at old) n q)
+
+-- what is left of it when a class of events is removed
+pub queue_flush : (old new : StoreView) (q r : List ℕ) (drops : Event → Bool) → r ≡ flush (event_at old) drops q → IsTakenOut old new q r → queue_in new r ≡ flush event_of drops (queue_in old q)
+queue_flush old new q r drops e t = queue_stays old new r t.stay ∙ ap (queue_in old) e ∙ flush-map old drops q
+
+-- the number at an index
+pub number_at : (q : List ℕ) (i x : ℕ) → slice_get q i ≡ Some x → get_or q i 0 ≡ x
+number_at [] i x e = cc
+number_at (y ∷ q) zero x e = cc
+number_at (y ∷ q) (suc i) x e = number_at q i x e
+
+-- a queue ends in a report where its numbers do
+pub ends_map : (s : StoreView) (q : List ℕ) → (is_empty (queue_in s q) || ends_in_report event_of (queue_in s q)) ≡ (is_empty q || ends_in_report (event_at s) q)
+ends_map s [] = refl
+ends_map s (x ∷ []) = refl
+ends_map s (x ∷ y ∷ q) = ends_map s (y ∷ q)

@@ -1,0 +1,42 @@
+use Rattle.std.proofs.Common.{◌≡◌, ◌≢◌, None, Some, IsSome, [], ◌∷◌, ◌++◌, length, List, ℕ, Option, arith, ap, ◌∙◌, sym, subst, refl}
+use Rattle.std.proofs.lemmas.List.{drop_all}
+use Rattle.circular_buffer.specs.Buffer.{Buffer, buffer, keep_last}
+use Rattle.inp_ring.specs.declared.cell.Held.{Held}
+use Rattle.inp_ring.specs.Store.{entry}
+use Rattle.inp_ring.specs.Ring.{times, IsMoved}
+use Rattle.inp_ring.proofs.Kept.{keep_last-all}
+use Rattle.inp_ring.proofs.Times.{once, once_other}
+use Rattle.inp_ring.proofs.Moves.{moved_add, moved_then, entry_same}
+use Rattle.inp_ring.proofs.removal.replace_all.Goals as goal
+
+pub add_held-number-requires : goal.add_held-number-requires
+add_held-number-requires c = record { room = omega (arith, c.release_front.ensures.moved.spare) }
+
+-- the one number that is there
+only : (c : goal.After-push_back) → c.push_back.new.self.items ≡ c.add_held-number.result ∷ []
+only c =
+    let number = c.add_held-number.result in
+    let rest : c.release_front.new.numbers ≡ buffer [] c.args.numbers.now.capacity = c.release_front.ensures.rest ∙ ap (λ r. buffer r c.args.numbers.now.capacity) (drop_all c.len-count.result c.args.numbers.now.items (omega arith)) in
+    ap (λ (b : Buffer ℕ). b.items) (c.push_back.ensures.items ∙ ap (λ (b : Buffer ℕ). buffer (keep_last b.capacity (b.items ++ number ∷ [])) b.capacity) rest)
+    ∙ keep_last-all c.args.numbers.now.capacity (number ∷ []) (omega arith)
+
+-- all that was there is released
+emptied : (c : goal.After-push_back) → IsMoved c.args.store.now c.release_front.new.store c.args.numbers.now.items []
+emptied c =
+    let P : List ℕ → Type 0 = λ r. IsMoved c.args.store.now c.release_front.new.store c.args.numbers.now.items r in
+    subst P (ap (λ (b : Buffer ℕ). b.items) c.release_front.ensures.rest ∙ drop_all c.len-count.result c.args.numbers.now.items (omega arith)) c.release_front.ensures.moved.moved
+
+pub returns-clause-moved : goal.returns-clause-moved
+returns-clause-moved c =
+    let came = moved_add c.add_held-number.result c.args.cell c.add_held-number.ensures.new c.add_held-number.ensures.added (omega (arith, c.add_held-number.ensures.spare, c.add_held-number.ensures.count)) in
+    rw (only c) (moved_then (emptied c) came (λ n i e. refl))
+
+pub returns-clause-fresh : goal.returns-clause-fresh
+returns-clause-fresh c n there out =
+    let here : entry c.release_front.new.store n ≡ entry c.args.store.now n = entry_same n (emptied c) there out refl in
+    let other : c.add_held-number.result ≢ n = λ e. apart (entry c.args.store.now n) there (sym here ∙ ap (entry c.release_front.new.store) (sym e) ∙ c.add_held-number.ensures.new) in
+    omega (arith, ap (times n) (only c), once_other n c.add_held-number.result other)
+  where
+    apart : (o : Option Held) → IsSome o → o ≡ None → ⊥
+    apart None h e = cc
+    apart (Some x) h e = cc
