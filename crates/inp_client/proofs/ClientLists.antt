@@ -8,46 +8,47 @@ use Rattle.inp_client.specs.Client.{ClientView}
 use Rattle.inp_client.proofs.Lists.{any_below}
 use Rattle.inp_client.specs.Clients.{has_number, has_client, client_named, has_revoked_client, events_of, map_client, with_client, without_client}
 
--- each open client has a lower number
-abbrev pub AllBelow : ℕ → List ClientView → Type 0
-AllBelow number clients = All (λ c. c.number < number) clients
+module _ {E : Type 0} where
+  -- each open client has a lower number
+  abbrev pub AllBelow : ℕ → List (ClientView E) → Type 0
+  AllBelow number clients = All (λ c. c.number < number) clients
 
--- no open client has such a number
-pub unused_above : (number : ℕ) (clients : List ClientView) → AllBelow number clients → has_client number clients ≡ false
-unused_above number [] below = refl
-unused_above number (c ∷ clients) below =
-    let first : c.number < number = All-head (λ c. c.number < number) c clients below in
-    rw (ne_eqb c.number number (λ e. omega (arith, e))) (unused_above number clients (All-tail (λ c. c.number < number) c clients below))
+  -- no open client has such a number
+  pub unused_above : (number : ℕ) (clients : List (ClientView E)) → AllBelow number clients → has_client number clients ≡ false
+  unused_above number [] below = refl
+  unused_above number (c ∷ clients) below =
+      let first : c.number < number = All-head (λ c. c.number < number) c clients below in
+      rw (ne_eqb c.number number (λ e. omega (arith, e))) (unused_above number clients (All-tail (λ c. c.number < number) c clients below))
 
--- one with such a number comes last
-pub with_client_above : (new : ClientView) (clients : List ClientView) → AllBelow new.number clients → with_client new clients ≡ clients ++ new ∷ []
-with_client_above new [] below = refl
-with_client_above new (c ∷ clients) below =
-    let first : c.number < new.number = All-head (λ c. c.number < new.number) c clients below in
-    rw (lt-ltb c.number new.number first) (ap (λ (cs : List ClientView). c ∷ cs) (with_client_above new clients (All-tail (λ c. c.number < new.number) c clients below)))
+  -- one with such a number comes last
+  pub with_client_above : (new : ClientView E) (clients : List (ClientView E)) → AllBelow new.number clients → with_client new clients ≡ clients ++ new ∷ []
+  with_client_above new [] below = refl
+  with_client_above new (c ∷ clients) below =
+      let first : c.number < new.number = All-head (λ c. c.number < new.number) c clients below in
+      rw (lt-ltb c.number new.number first) (ap (λ (cs : List (ClientView E)). c ∷ cs) (with_client_above new clients (All-tail (λ c. c.number < new.number) c clients below)))
 
--- one that is made of an element is opened where that element is inserted in its place
-pub map-insert : {X : Type 0} (g : X → ClientView) (xs : List X) (i : ℕ) (y : X) → i ≤ length xs → AllWithin (λ x. (g x).number < (g y).number) xs 0 i → AllWithin (λ x. (g y).number ≤ (g x).number) xs i (length xs) → map g (insert xs i y) ≡ with_client (g y) (map g xs)
-map-insert g [] zero y within lower others = refl
-map-insert g [] (suc i) y within lower others = absurd (omega arith)
-map-insert g (x ∷ xs) zero y within lower others = rw (le-ltb (g x).number (g y).number (others 0 x (omega arith) (omega arith))) refl
-map-insert g (x ∷ xs) (suc i) y within lower others =
-    rw (lt-ltb (g x).number (g y).number (lower 0 x (omega arith) (omega arith)))
-    (ap (λ (cs : List ClientView). g x ∷ cs) (map-insert g xs i y (omega arith) (λ k d le lt. lower (suc k) d (omega arith) (omega arith)) (λ k d le lt. others (suc k) d (omega arith) (omega arith))))
+  -- one that is made of an element is opened where that element is inserted in its place
+  pub map-insert : {X : Type 0} (g : X → ClientView E) (xs : List X) (i : ℕ) (y : X) → i ≤ length xs → AllWithin (λ x. (g x).number < (g y).number) xs 0 i → AllWithin (λ x. (g y).number ≤ (g x).number) xs i (length xs) → map g (insert xs i y) ≡ with_client (g y) (map g xs)
+  map-insert g [] zero y within lower others = refl
+  map-insert g [] (suc i) y within lower others = absurd (omega arith)
+  map-insert g (x ∷ xs) zero y within lower others = rw (le-ltb (g x).number (g y).number (others 0 x (omega arith) (omega arith))) refl
+  map-insert g (x ∷ xs) (suc i) y within lower others =
+      rw (lt-ltb (g x).number (g y).number (lower 0 x (omega arith) (omega arith)))
+      (ap (λ (cs : List (ClientView E)). g x ∷ cs) (map-insert g xs i y (omega arith) (λ k d le lt. lower (suc k) d (omega arith) (omega arith)) (λ k d le lt. others (suc k) d (omega arith) (omega arith))))
 
-module _ (f : ℕ → ClientView) (numbered : (n : ℕ) → (f n).number ≡ n) where
+module _ {E : Type 0} (f : ℕ → ClientView E) (numbered : (n : ℕ) → (f n).number ≡ n) where
   has_number_of : (number n : ℕ) → has_number number (f n) ≡ nat_eq n number
   has_number_of number n = ap (λ (m : ℕ). nat_eq m number) (numbered n)
 
   -- the one with this number is changed
-  pub map_client-map : (number : ℕ) (change : ClientView → ClientView) (ns : List ℕ) → map_client number change (map f ns) ≡ map (λ n. if nat_eq n number then change (f n) else f n) ns
+  pub map_client-map : (number : ℕ) (change : ClientView E → ClientView E) (ns : List ℕ) → map_client number change (map f ns) ≡ map (λ n. if nat_eq n number then change (f n) else f n) ns
   map_client-map number change [] = refl
   map_client-map number change (n ∷ ns) =
       ap (λ (b : Bool). (if b then change (f n) else f n) ∷ map_client number change (map f ns)) (has_number_of number n)
-      ∙ ap (λ (cs : List ClientView). (if nat_eq n number then change (f n) else f n) ∷ cs) (map_client-map number change ns)
+      ∙ ap (λ (cs : List (ClientView E)). (if nat_eq n number then change (f n) else f n) ∷ cs) (map_client-map number change ns)
 
   -- the clients after a call on one of them, by what becomes of it and that the others stay
-  pub map_client-to : (number : ℕ) (change : ClientView → ClientView) (after : ℕ → ClientView) (ns : List ℕ) → after number ≡ change (f number) → ((n : ℕ) → n ≢ number → after n ≡ f n) → map_client number change (map f ns) ≡ map after ns
+  pub map_client-to : (number : ℕ) (change : ClientView E → ClientView E) (after : ℕ → ClientView E) (ns : List ℕ) → after number ≡ change (f number) → ((n : ℕ) → n ≢ number → after n ≡ f n) → map_client number change (map f ns) ≡ map after ns
   map_client-to number change after ns changed others = map_client-map number change ns ∙ each ns
     where
       one : (n : ℕ) → (if nat_eq n number then change (f n) else f n) ≡ after n
@@ -58,13 +59,13 @@ module _ (f : ℕ → ClientView) (numbered : (n : ℕ) → (f n).number ≡ n) 
 
       each : (ns : List ℕ) → map (λ n. if nat_eq n number then change (f n) else f n) ns ≡ map after ns
       each [] = refl
-      each (n ∷ ns) = ap (λ (c : ClientView). c ∷ map (λ n. if nat_eq n number then change (f n) else f n) ns) (one n) ∙ ap (λ (cs : List ClientView). after n ∷ cs) (each ns)
+      each (n ∷ ns) = ap (λ (c : ClientView E). c ∷ map (λ n. if nat_eq n number then change (f n) else f n) ns) (one n) ∙ ap (λ (cs : List (ClientView E)). after n ∷ cs) (each ns)
 
   -- the clients after a frame was offered to each
-  pub map-to : (change : ClientView → ClientView) (after : ℕ → ClientView) (ns : List ℕ) → ((n : ℕ) → after n ≡ change (f n)) → map change (map f ns) ≡ map after ns
+  pub map-to : (change : ClientView E → ClientView E) (after : ℕ → ClientView E) (ns : List ℕ) → ((n : ℕ) → after n ≡ change (f n)) → map change (map f ns) ≡ map after ns
   map-to change after [] each = refl
   map-to change after (n ∷ ns) each =
-      ap (λ (c : ClientView). c ∷ map change (map f ns)) (sym (each n)) ∙ ap (λ (cs : List ClientView). after n ∷ cs) (map-to change after ns each)
+      ap (λ (c : ClientView E). c ∷ map change (map f ns)) (sym (each n)) ∙ ap (λ (cs : List (ClientView E)). after n ∷ cs) (map-to change after ns each)
 
   -- a client is open where its number is in the list
   pub has_client-map : (number : ℕ) (ns : List ℕ) → has_client number (map f ns) ≡ list_any (λ n. nat_eq n number) ns
@@ -88,17 +89,17 @@ module _ (f : ℕ → ClientView) (numbered : (n : ℕ) → (f n).number ≡ n) 
       ]
 
   pub events_of-map : (number : ℕ) (ns : List ℕ) → list_any (λ n. nat_eq n number) ns ≡ true → events_of number (map f ns) ≡ (f number).ring.events
-  events_of-map number ns there = ap (λ o. option_map_or (λ (c : ClientView). c.ring.events) o []) (client_named-map number ns there)
+  events_of-map number ns there = ap (λ o. option_map_or (λ (c : ClientView E). c.ring.events) o []) (client_named-map number ns there)
 
   pub has_revoked_client-map : (number : ℕ) (ns : List ℕ) → list_any (λ n. nat_eq n number) ns ≡ true → has_revoked_client number (map f ns) ≡ (f number).revoked
-  has_revoked_client-map number ns there = ap (λ o. option_map_or (λ (c : ClientView). c.revoked) o false) (client_named-map number ns there)
+  has_revoked_client-map number ns there = ap (λ o. option_map_or (λ (c : ClientView E). c.revoked) o false) (client_named-map number ns there)
 
   -- the clients but one
   pub without_client-map : (number : ℕ) (ns : List ℕ) → without_client number (map f ns) ≡ map f (filter (λ n. not (nat_eq n number)) ns)
   without_client-map number [] = refl
   without_client-map number (n ∷ ns) =
       ap (λ (b : Bool). if not b then f n ∷ without_client number (map f ns) else without_client number (map f ns)) (has_number_of number n)
-      ∙ ap (λ (cs : List ClientView). if not (nat_eq n number) then f n ∷ cs else cs) (without_client-map number ns)
+      ∙ ap (λ (cs : List (ClientView E)). if not (nat_eq n number) then f n ∷ cs else cs) (without_client-map number ns)
       ∙ kept (not (nat_eq n number))
     where
       kept : (b : Bool) → (if b then f n ∷ map f (filter (λ n. not (nat_eq n number)) ns) else map f (filter (λ n. not (nat_eq n number)) ns))

@@ -1,7 +1,13 @@
 pub mod Lists
+pub mod Counting
 pub mod MaskBits
-pub mod Locating
 pub mod Searching
-pub mod Writing
-pub mod Offering
 pub mod ClientLists
+pub mod Locating
+pub mod Sharing
+pub mod Offering
+pub mod OnClock
+pub mod Calling
+pub mod Offers
+pub mod Opening
+pub mod Stored

@@ -1,23 +1,30 @@
 -- Clients in their locations: what a write, a removal and an insert leave.
-use Rattle.std.proofs.Common.{◌≡◌, ◌≢◌, ◌<◌, ◌≤◌, ◌+◌, ℕ, Bool, true, false, cond, ◌||◌, nat_eq, if◌then◌else◌, List, [], ◌∷◌, length, get_or, map, All, Option, Some, None, is_some, unwrap_or, refl, sym, ap, ◌∙◌, inl, inr, arith}
+use Rattle.std.proofs.Common.{◌≡◌, ◌≢◌, ◌<◌, ◌≤◌, ◌+◌, ℕ, Bool, true, false, cond, ◌||◌, nat_eq, if◌then◌else◌, ◌-◌, List, [], ◌∷◌, length, get_or, set, map, All, Option, Some, None, is_some, unwrap_or, refl, sym, ap, ◌∙◌, inl, inr, arith}
 use Rattle.std.specs.List.{list_any, remove, insert}
 use Rattle.std.specs.Option.{option_map}
 use Rattle.std.proofs.lemmas.Bool.{cases_eq, cases_lt, cases_order, eq-eqb, ne_eqb, cond-true, cond-false, false≢true}
-use Rattle.std.proofs.lemmas.List.{get_or-map, length-map}
+use Rattle.std.specs.List.{AllWithin}
+use Rattle.std.proofs.lemmas.List.{get_or-map, length-map, length-set, get_or-set_same, get_or-set_other, same_lists}
 use Rattle.std.proofs.lemmas.List.Elements.{All-head, All-tail, All-from_get_or}
 use Rattle.std.proofs.lemmas.List.Quantifiers.{all_pairs_remove}
-use Rattle.std.proofs.lemmas.List.Edits.{length-insert, length-remove, get_or-remove_below, get_or-remove_above}
+use Rattle.std.proofs.lemmas.List.Edits.{length-insert, length-remove, get_or-remove_below, get_or-remove_above, get_or-insert_below, get_or-insert_at, get_or-insert_above}
 use Rattle.std.proofs.lemmas.List.Folds.{list_any_at}
 use Rattle.std.proofs.lemmas.List.Sums.{sum_by-set}
 use Rattle.std.proofs.lemmas.Option.{same_Some, none-some}
 use Rattle.slab.specs.Slab.{Slab, get, slab_len, with_value, Updates, ContainsKey}
 use Rattle.slab.proofs.SlabLemmas.{ContainsKey-within, Updates-with_value}
 use Rattle.inp_client.specs.declared.location.Location.{Location}
-use Rattle.inp_client.specs.Client.{ClientView, new_client}
-use Rattle.inp_client.specs.Clients.{has_number, has_client, client_named, map_client, with_client, without_client}
-use Rattle.inp_client.proofs.Lists.{map_over, map_same, find_at, one_removed, All-insert, all_pairs_insert}
-use Rattle.inp_client.proofs.ClientLists.{map-insert}
+use Rattle.inp_client.specs.Client.{new_client}
+use Rattle.inp_client.specs.Member.{Member}
+use Rattle.inp_client.specs.Clients.{has_number, has_client}
+use Rattle.inp_client.proofs.Lists.{All-insert, all_pairs_insert}
 use Rattle.inp_client.specs.Locations.{client_at, number_at, clients_in, has_location, AreAscending, AreLocated, IsPlaceFor}
+
+-- the clients before the index have lower numbers, and no other one has
+pub record IsPlaceOf (ms : List Member) (number i : ℕ) : Type 0 where
+  pub within : i ≤ length ms
+  pub lower : AllWithin (λ m. m.number < number) ms 0 i
+  pub others : AllWithin (λ m. number ≤ m.number) ms i (length ms)
 
 -- two locations with one number are one
 one_location : (locations : List Location) → AreAscending locations → (i j : ℕ) (d : Location) → i < length locations → j < length locations → (get_or locations i d).number ≡ (get_or locations j d).number → i ≡ j
@@ -28,12 +35,12 @@ one_location locations up i j d in_i in_j same =
       | inr (inr higher) ↦ absurd (omega (arith, up j i d higher in_i))
     ]
 
-module _ {locations : List Location} {slab : Slab ClientView} (located : AreLocated locations slab) where
+module _ {locations : List Location} {slab : Slab Member} (located : AreLocated locations slab) where
   -- the client under the key of a location
-  client_of_location : (i : ℕ) (d : Location) → i < length locations → (c : ClientView) × (get slab (get_or locations i d).key ≡ Some c) × (c.number ≡ (get_or locations i d).number)
+  client_of_location : (i : ℕ) (d : Location) → i < length locations → (c : Member) × (get slab (get_or locations i d).key ≡ Some c) × (c.number ≡ (get_or locations i d).number)
   client_of_location i d within = by_slot (get slab (get_or locations i d).key) refl (located.keyed i d within)
     where
-      by_slot : (slot : Option ClientView) → get slab (get_or locations i d).key ≡ slot → option_map (λ c. c.number) slot ≡ Some (get_or locations i d).number → (c : ClientView) × (get slab (get_or locations i d).key ≡ Some c) × (c.number ≡ (get_or locations i d).number)
+      by_slot : (slot : Option Member) → get slab (get_or locations i d).key ≡ slot → option_map (λ c. c.number) slot ≡ Some (get_or locations i d).number → (c : Member) × (get slab (get_or locations i d).key ≡ Some c) × (c.number ≡ (get_or locations i d).number)
       by_slot None found numbered = absurd (cc)
       by_slot (Some c) found numbered = (c, found, same_Some _ _ numbered)
 
@@ -46,21 +53,21 @@ module _ {locations : List Location} {slab : Slab ClientView} (located : AreLoca
       differs (one_location locations located.ascending j i d in_j in_i (same_Some _ _ numbers))
 
   -- the client under a key, by what the slab has there
-  pub client_at_found : (key : ℕ) (c : ClientView) → get slab key ≡ Some c → client_at slab key ≡ c
-  client_at_found key c found = ap (λ (o : Option ClientView). unwrap_or o (new_client 0 0)) found
+  pub client_at_found : (key : ℕ) (c : Member) → get slab key ≡ Some c → client_at slab key ≡ c
+  client_at_found key c found = ap (λ (o : Option Member). unwrap_or o (new_client 0 0)) found
 
   -- the number of the client in a location
   number_in_location : (i : ℕ) (d : Location) → i < length locations → (client_at slab (get_or locations i d).key).number ≡ (get_or locations i d).number
   number_in_location i d within =
       let it = client_of_location i d within in
-      ap (λ (c : ClientView). c.number) (client_at_found _ it.0 it.1) ∙ it.2
+      ap (λ (c : Member). c.number) (client_at_found _ it.0 it.1) ∙ it.2
 
   -- the key of a location has a client
   pub key_in_slab : (i : ℕ) (d : Location) → i < length locations → ContainsKey slab (get_or locations i d).key
   key_in_slab i d within = let it = client_of_location i d within in rw it.1 refl
 
   -- A client is written under the key of the location at i.
-  module _ (i : ℕ) (d : Location) (key : ℕ) (old new : ClientView) (in_i : i < length locations) (at : (get_or locations i d).key ≡ key) (found : get slab key ≡ Some old) where
+  module _ (i : ℕ) (d : Location) (key : ℕ) (old new : Member) (in_i : i < length locations) (at : (get_or locations i d).key ≡ key) (found : get slab key ≡ Some old) where
     write : Updates slab (with_value slab key new) key (Some new)
     write = Updates-with_value slab key new (rw found refl)
 
@@ -79,7 +86,7 @@ module _ {locations : List Location} {slab : Slab ClientView} (located : AreLoca
 
     pub client_of_slot : (j : ℕ) → j < length locations → client_at (with_value slab key new) (get_or locations j d).key ≡ (if nat_eq j i then new else client_at slab (get_or locations j d).key)
     client_of_slot j in_j =
-        ap (λ (o : Option ClientView). unwrap_or o (new_client 0 0)) (slot_of_location j in_j) ∙ either (nat_eq j i)
+        ap (λ (o : Option Member). unwrap_or o (new_client 0 0)) (slot_of_location j in_j) ∙ either (nat_eq j i)
       where
         either : (b : Bool) → unwrap_or (if b then Some new else get slab (get_or locations j d).key) (new_client 0 0) ≡ (if b then new else client_at slab (get_or locations j d).key)
         either true = refl
@@ -99,7 +106,7 @@ module _ {locations : List Location} {slab : Slab ClientView} (located : AreLoca
         counted_after : slab_len (with_value slab key new) ≡ length locations
         counted_after =
             let present : is_some (get slab key) ≡ true = rw found refl in
-            omega (arith, sum_by-set (λ (o : Option ClientView). cond (is_some o) 1 0) slab.slots key (Some new) None (ContainsKey-within slab key present), ap {B = ℕ} (λ (b : Bool). cond b 1 0) present, located.counted)
+            omega (arith, sum_by-set (λ (o : Option Member). cond (is_some o) 1 0) slab.slots key (Some new) None (ContainsKey-within slab key present), ap {B = ℕ} (λ (b : Bool). cond b 1 0) present, located.counted)
 
         numbered : (j : ℕ) → j < length locations → number_at (with_value slab key new) (get_or locations j d).key ≡ Some (get_or locations j d).number
         numbered j in_j =
@@ -109,25 +116,25 @@ module _ {locations : List Location} {slab : Slab ClientView} (located : AreLoca
               | inr n ↦ ap (λ (b : Bool). option_map (λ c. c.number) (if b then Some new else get slab (get_or locations j d).key)) (ne_eqb j i n) ∙ located.keyed j d in_j
             ]
 
-    -- the client there is changed, and the others stay
-    pub clients_after_write : (change : ClientView → ClientView) → new ≡ change old → clients_in locations (with_value slab key new) ≡ map_client (get_or locations i d).number change (clients_in locations slab)
-    clients_after_write change changed =
-        map_over (λ s. client_at (with_value slab key new) s.key) (λ s. client_at slab s.key) (λ c. if has_number (get_or locations i d).number c then change c else c) locations
-        (All-from_get_or (λ s. client_at (with_value slab key new) s.key ≡ (if has_number (get_or locations i d).number (client_at slab s.key) then change (client_at slab s.key) else client_at slab s.key)) locations d (λ j in_j. each j in_j))
+    -- the client there is another one, and the others stay
+    pub members_after_write : clients_in locations (with_value slab key new) ≡ set (clients_in locations slab) i new
+    members_after_write =
+        same_lists (clients_in locations (with_value slab key new)) (set (clients_in locations slab) i new)
+        (omega (arith, length-map locations (λ s. client_at (with_value slab key new) s.key), length-set (clients_in locations slab) i new, length-map locations (λ s. client_at slab s.key)))
+        (λ j e within. each j e (omega (arith, within, length-map locations (λ s. client_at (with_value slab key new) s.key))))
       where
-        each : (j : ℕ) → j < length locations → client_at (with_value slab key new) (get_or locations j d).key
-            ≡ (if nat_eq (client_at slab (get_or locations j d).key).number (get_or locations i d).number then change (client_at slab (get_or locations j d).key) else client_at slab (get_or locations j d).key)
-        each j in_j =
-            client_of_slot j in_j
+        each : (j : ℕ) (e : Member) → j < length locations → get_or (clients_in locations (with_value slab key new)) j e ≡ get_or (set (clients_in locations slab) i new) j e
+        each j e in_j =
+            get_or-map (λ s. client_at (with_value slab key new) s.key) locations j d e in_j
+            ∙ client_of_slot j in_j
             ∙ elim (cases_eq j i) [
-              | inl e ↦
-                  cond-true (nat_eq j i) new (client_at slab (get_or locations j d).key) (eq-eqb j i e)
-                  ∙ changed
-                  ∙ ap change (sym (client_at_found key old found) ∙ ap (client_at slab) (sym at) ∙ ap (λ (n : ℕ). client_at slab (get_or locations n d).key) (sym e))
-                  ∙ sym (cond-true _ _ _ (eq-eqb _ _ (number_in_location j d in_j ∙ ap (λ (n : ℕ). (get_or locations n d).number) e)))
-              | inr n ↦
-                  cond-false (nat_eq j i) new (client_at slab (get_or locations j d).key) (ne_eqb j i n)
-                  ∙ sym (cond-false _ _ _ (ne_eqb _ _ (λ same. n (one_location locations located.ascending j i d in_j in_i (sym (number_in_location j d in_j) ∙ same)))))
+              | inl same ↦
+                  let long : i < length (clients_in locations slab) = omega (arith, length-map locations (λ s. client_at slab s.key)) in
+                  cond-true (nat_eq j i) new (client_at slab (get_or locations j d).key) (eq-eqb j i same)
+                  ∙ sym (ap (λ (n : ℕ). get_or (set (clients_in locations slab) i new) n e) same ∙ get_or-set_same (clients_in locations slab) i new e long)
+              | inr differs ↦
+                  cond-false (nat_eq j i) new (client_at slab (get_or locations j d).key) (ne_eqb j i differs)
+                  ∙ sym (get_or-set_other (clients_in locations slab) i j new e differs ∙ get_or-map (λ s. client_at slab s.key) locations j d e in_j)
             ]
 
   -- the number of a location is that of an open client
@@ -140,27 +147,25 @@ module _ {locations : List Location} {slab : Slab ClientView} (located : AreLoca
           ap (λ (b : Bool). b || list_any (has_number number) (map (λ s. client_at slab s.key) ss)) (All-head (λ s. nat_eq (client_at slab s.key).number number ≡ nat_eq s.number number) s ss each)
           ∙ ap (λ (b : Bool). nat_eq s.number number || b) (any_over ss (All-tail (λ s. nat_eq (client_at slab s.key).number number ≡ nat_eq s.number number) s ss each))
 
-  -- the client in a location is the one that its number names
-  pub client_named-clients_in : (i : ℕ) (d : Location) (key : ℕ) (c : ClientView) → i < length locations → (get_or locations i d).key ≡ key → get slab key ≡ Some c → client_named (get_or locations i d).number (clients_in locations slab) ≡ Some c
-  client_named-clients_in i d key c in_i at found =
-      let clients = clients_in locations slab in
-      let e : ClientView = client_at slab d.key in
-      let long : length clients ≡ length locations = length-map locations (λ s. client_at slab s.key) in
-      let reads : (j : ℕ) → j < length locations → get_or clients j e ≡ client_at slab (get_or locations j d).key = λ j in_j. get_or-map (λ s. client_at slab s.key) locations j d e in_j in
-      let here : get_or clients i e ≡ c = reads i in_i ∙ ap (client_at slab) at ∙ client_at_found key c found in
-      let apart : (j : ℕ) → j < i → (get_or clients j e).number ≢ (get_or locations i d).number = λ j below same.
-      let in_j : j < length locations = omega arith in
-      let numbers : (get_or locations j d).number ≡ (get_or locations i d).number = sym (ap (λ (x : ClientView). x.number) (reads j in_j) ∙ number_in_location j d in_j) ∙ same in
-      let one : j ≡ i = one_location locations located.ascending j i d in_j in_i numbers in
-      omega arith
-      in
-      find_at (has_number (get_or locations i d).number) clients i e (omega arith)
-      (eq-eqb _ _ (ap (λ (x : ClientView). x.number) (reads i in_i) ∙ number_in_location i d in_i))
-      (λ j below. ne_eqb _ _ (apart j below))
-      ∙ ap Some here
+  -- the client in a location
+  pub member_in_location : (i : ℕ) (d : Location) (e : Member) → i < length locations → get_or (clients_in locations slab) i e ≡ client_at slab (get_or locations i d).key
+  member_in_location i d e in_i = get_or-map (λ s. client_at slab s.key) locations i d e in_i
+
+  -- its number is that of the location
+  pub member_number : (i : ℕ) (d : Location) (e : Member) → i < length locations → (get_or (clients_in locations slab) i e).number ≡ (get_or locations i d).number
+  member_number i d e in_i = ap (λ (c : Member). c.number) (member_in_location i d e in_i) ∙ number_in_location i d in_i
+
+  pub members_long : length (clients_in locations slab) ≡ length locations
+  members_long = length-map locations (λ s. client_at slab s.key)
+
+  -- no two clients have one number
+  pub members_apart : (i j : ℕ) (e : Member) → i < length locations → j < length locations → j ≢ i → (get_or (clients_in locations slab) j e).number ≢ (get_or (clients_in locations slab) i e).number
+  members_apart i j e in_i in_j differs same =
+      let d : Location = record { number = 0; key = 0 } in
+      differs (one_location locations located.ascending j i d in_j in_i (sym (member_number j d e in_j) ∙ same ∙ member_number i d e in_i))
 
   -- The client in the location at i is removed, and the location too.
-  module _ (i : ℕ) (d : Location) (key : ℕ) (after : Slab ClientView) (in_i : i < length locations) (at : (get_or locations i d).key ≡ key) (removed : Updates slab after key None) where
+  module _ (i : ℕ) (d : Location) (key : ℕ) (after : Slab Member) (in_i : i < length locations) (at : (get_or locations i d).key ≡ key) (removed : Updates slab after key None) where
     others_stay : (j : ℕ) → j < length locations → j ≢ i → get after (get_or locations j d).key ≡ get slab (get_or locations j d).key
     others_stay j in_j differs = removed.others _ (λ e. keys_apart i j d in_i in_j differs (e ∙ sym at))
 
@@ -182,17 +187,35 @@ module _ {locations : List Location} {slab : Slab ClientView} (located : AreLoca
               | inr above ↦ rw (get_or-remove_above locations i d j above in_i) (kept (j + 1) (omega arith) (λ e. omega (arith, e)))
             ]
 
-    pub clients_after_removal : clients_in (remove locations i) after ≡ without_client (get_or locations i d).number (clients_in locations slab)
-    clients_after_removal =
-        one_removed (has_number (get_or locations i d).number) (λ s. client_at slab s.key) (λ s. client_at after s.key) locations i d in_i
-        (eq-eqb _ _ (number_in_location i d in_i))
-        (λ j in_j differs. (
-          ne_eqb _ _ (λ same. differs (one_location locations located.ascending j i d in_j in_i (sym (number_in_location j d in_j) ∙ same))),
-          ap (λ (o : Option ClientView). unwrap_or o (new_client 0 0)) (others_stay j in_j differs),
-        ))
+    pub members_after_removal : clients_in (remove locations i) after ≡ remove (clients_in locations slab) i
+    members_after_removal =
+        same_lists (clients_in (remove locations i) after) (remove (clients_in locations slab) i)
+        (omega (arith, length-map (remove locations i) (λ s. client_at after s.key), length-remove locations i in_i, length-remove (clients_in locations slab) i long, members_long))
+        (λ j e within. each j e (omega (arith, within, length-map (remove locations i) (λ s. client_at after s.key))))
+      where
+        long : i < length (clients_in locations slab)
+        long = omega (arith, members_long)
+
+        stays : (j : ℕ) → j < length locations → j ≢ i → client_at after (get_or locations j d).key ≡ client_at slab (get_or locations j d).key
+        stays j in_j differs = ap (λ (o : Option Member). unwrap_or o (new_client 0 0)) (others_stay j in_j differs)
+
+        each : (j : ℕ) (e : Member) → j < length (remove locations i) → get_or (clients_in (remove locations i) after) j e ≡ get_or (remove (clients_in locations slab) i) j e
+        each j e in_j =
+            let shorter = length-remove locations i in_i in
+            get_or-map (λ s. client_at after s.key) (remove locations i) j d e in_j
+            ∙ elim (cases_lt j i) [
+              | inl below ↦
+                  ap (λ (s : Location). client_at after s.key) (get_or-remove_below locations i d j below in_i)
+                  ∙ stays j (omega arith) (λ e. omega (arith, e))
+                  ∙ sym (get_or-remove_below (clients_in locations slab) i e j below long ∙ member_in_location j d e (omega arith))
+              | inr above ↦
+                  ap (λ (s : Location). client_at after s.key) (get_or-remove_above locations i d j above in_i)
+                  ∙ stays (j + 1) (omega arith) (λ e. omega (arith, e))
+                  ∙ sym (get_or-remove_above (clients_in locations slab) i e j above long ∙ member_in_location (j + 1) d e (omega arith))
+            ]
 
   -- A client with a number that no other has comes under a key that was vacant, and its location in its place.
-  module _ (key : ℕ) (new : ClientView) (after : Slab ClientView) (i : ℕ) (vacant : get slab key ≡ None) (inserted : Updates slab after key (Some new)) (place : IsPlaceFor locations new.number i) where
+  module _ (key : ℕ) (new : Member) (after : Slab Member) (i : ℕ) (vacant : get slab key ≡ None) (inserted : Updates slab after key (Some new)) (place : IsPlaceFor locations new.number i) where
     abbrev new_location : Location
     new_location = record { number = new.number; key = key }
 
@@ -203,14 +226,14 @@ module _ {locations : List Location} {slab : Slab ClientView} (located : AreLoca
 
     -- the same clients lie in the locations
     clients_stay : (j : ℕ) (d : Location) → j < length locations → client_at after (get_or locations j d).key ≡ client_at slab (get_or locations j d).key
-    clients_stay j d in_j = ap (λ (o : Option ClientView). unwrap_or o (new_client 0 0)) (all_stay j d in_j)
+    clients_stay j d in_j = ap (λ (o : Option Member). unwrap_or o (new_client 0 0)) (all_stay j d in_j)
 
     -- and have the numbers of the locations
     numbers_stay : (j : ℕ) (d : Location) → j < length locations → (client_at after (get_or locations j d).key).number ≡ (get_or locations j d).number
-    numbers_stay j d in_j = ap (λ (c : ClientView). c.number) (clients_stay j d in_j) ∙ number_in_location j d in_j
+    numbers_stay j d in_j = ap (λ (c : Member). c.number) (clients_stay j d in_j) ∙ number_in_location j d in_j
 
     new_there : client_at after key ≡ new
-    new_there = ap (λ (o : Option ClientView). unwrap_or o (new_client 0 0)) inserted.changed
+    new_there = ap (λ (o : Option Member). unwrap_or o (new_client 0 0)) inserted.changed
 
     pub located_after_insert : has_client new.number (clients_in locations slab) ≡ false → slab_len after ≡ slab_len slab + 1 → AreLocated (insert locations i (record { number = new.number; key = key })) after
     located_after_insert unused more = record {
@@ -228,21 +251,44 @@ module _ {locations : List Location} {slab : Slab ClientView} (located : AreLoca
           | inr differs ↦ omega (arith, place.others j d le in_j, differs)
         ]
 
-    pub clients_after_insert : clients_in (insert locations i (record { number = new.number; key = key })) after ≡ with_client new (clients_in locations slab)
-    clients_after_insert =
-        map-insert (λ s. client_at after s.key) locations i new_location place.within
-        (λ j d le lt. lower j d lt)
-        (λ j d le in_j. higher j d le in_j)
-        ∙ ap (λ (c : ClientView). with_client c (map (λ s. client_at after s.key) locations)) new_there
-        ∙ ap (with_client new) (map_same (λ s. client_at after s.key) (λ s. client_at slab s.key) locations (λ j d in_j. clients_stay j d in_j))
+    pub members_after_insert : clients_in (insert locations i (record { number = new.number; key = key })) after ≡ insert (clients_in locations slab) i new
+    members_after_insert =
+        let d : Location = record { number = 0; key = 0 } in
+        same_lists (clients_in (insert locations i new_location) after) (insert (clients_in locations slab) i new)
+        (omega (arith, length-map (insert locations i new_location) (λ s. client_at after s.key), length-insert locations i new_location place.within, length-insert (clients_in locations slab) i new long, members_long))
+        (λ j e within. each j e (omega (arith, within, length-map (insert locations i new_location) (λ s. client_at after s.key))))
       where
-        new_number : (client_at after key).number ≡ new.number
-        new_number = ap (λ (c : ClientView). c.number) new_there
+        long : i ≤ length (clients_in locations slab)
+        long = omega (arith, members_long, place.within)
 
-        lower : (j : ℕ) (d : Location) → j < i → (client_at after (get_or locations j d).key).number < (client_at after key).number
-        lower j d lt =
-            let in_j : j < length locations = omega (arith, place.within) in
-            omega (arith, place.lower j d (omega arith) lt, numbers_stay j d in_j, new_number)
+        each : (j : ℕ) (e : Member) → j < length (insert locations i new_location) → get_or (clients_in (insert locations i new_location) after) j e ≡ get_or (insert (clients_in locations slab) i new) j e
+        each j e in_j =
+            let d : Location = record { number = 0; key = 0 } in
+            let longer = length-insert locations i new_location place.within in
+            get_or-map (λ s. client_at after s.key) (insert locations i new_location) j d e in_j
+            ∙ elim (cases_order j i) [
+              | inl same ↦
+                  ap (λ (n : ℕ). client_at after (get_or (insert locations i new_location) n d).key) same
+                  ∙ ap (λ (s : Location). client_at after s.key) (get_or-insert_at locations i new_location d place.within)
+                  ∙ new_there
+                  ∙ sym (ap (λ (n : ℕ). get_or (insert (clients_in locations slab) i new) n e) same ∙ get_or-insert_at (clients_in locations slab) i new e long)
+              | inr (inl below) ↦
+                  ap (λ (s : Location). client_at after s.key) (get_or-insert_below locations i new_location d j below place.within)
+                  ∙ clients_stay j d (omega (arith, place.within))
+                  ∙ sym (get_or-insert_below (clients_in locations slab) i new e j below long ∙ member_in_location j d e (omega (arith, place.within)))
+              | inr (inr above) ↦
+                  let m : ℕ = j - 1 in
+                  let at : m + 1 ≡ j = omega arith in
+                  ap (λ (n : ℕ). client_at after (get_or (insert locations i new_location) n d).key) (sym at)
+                  ∙ ap (λ (s : Location). client_at after s.key) (get_or-insert_above locations i new_location d m (omega arith) place.within)
+                  ∙ clients_stay m d (omega arith)
+                  ∙ sym (ap (λ (n : ℕ). get_or (insert (clients_in locations slab) i new) n e) (sym at) ∙ get_or-insert_above (clients_in locations slab) i new e m (omega arith) long ∙ member_in_location m d e (omega arith))
+            ]
 
-        higher : (j : ℕ) (d : Location) → i ≤ j → j < length locations → (client_at after key).number ≤ (client_at after (get_or locations j d).key).number
-        higher j d le in_j = omega (arith, place.others j d le in_j, numbers_stay j d in_j, new_number)
+    -- it has its place among the clients
+    pub place_of_member : IsPlaceOf (clients_in locations slab) new.number i
+    place_of_member = record {
+      within = omega (arith, members_long, place.within);
+      lower = λ j e le lt. omega (arith, place.lower j (record { number = 0; key = 0 }) (omega arith) lt, member_number j (record { number = 0; key = 0 }) e (omega (arith, place.within)));
+      others = λ j e le in_j. omega (arith, place.others j (record { number = 0; key = 0 }) le (omega (arith, members_long)), member_number j (record { number = 0; key = 0 }) e (omega (arith, members_long)));
+    }

@@ -1,39 +1,52 @@
--- The list of the open clients, ascending by number.
-use Rattle.std.specs.Prelude.{ℕ, Bool, false, not, if◌then◌else◌, nat_eq, nat_lt, List, [], ◌∷◌, map, filter, Option}
+-- The list of the open clients, ascending by number, and the cells that they share.
+use Rattle.std.specs.Prelude.{ℕ, Bool, true, false, not, if◌then◌else◌, nat_eq, nat_lt, List, [], ◌∷◌, length, map, filter, Option}
 use Rattle.std.specs.List.{find, list_any}
 use Rattle.std.specs.Option.{option_map_or}
-use Rattle.inp_model.specs.declared.taken.Taken.{Taken}
+use Rattle.inp_ring.specs.declared.cell.Cell.{Cell}
+use Rattle.inp_ring.specs.Ring.{times}
 use Rattle.inp_client.specs.Client.{ClientView}
 
--- the client has this number
-abbrev pub has_number : ℕ → ClientView → Bool
-has_number number c = nat_eq c.number number
+-- The open clients, each with its queue of cells; and the numbers of the cells that their rings hold, ring by ring, so that a
+-- cell stands there as often as rings hold it.
+pub record ClientsView : Type 0 where
+  pub list : List (ClientView Cell)
+  pub numbers : List ℕ
 
--- a client with this number is open
-abbrev pub has_client : ℕ → List ClientView → Bool
-has_client number clients = list_any (has_number number) clients
+-- the numbers, each once
+abbrev pub distinct : List ℕ → List ℕ
+distinct [] = []
+distinct (n ∷ q) = if nat_lt 0 (times n q) then distinct q else n ∷ distinct q
 
--- the open client with this number
-abbrev pub client_named : ℕ → List ClientView → Option ClientView
-client_named number clients = find (has_number number) clients
+module _ {E : Type 0} where
+  -- the client has this number
+  abbrev pub has_number : ℕ → ClientView E → Bool
+  has_number number c = nat_eq c.number number
 
--- whether it was revoked, false where it is not open
-abbrev pub has_revoked_client : ℕ → List ClientView → Bool
-has_revoked_client number clients = option_map_or (λ c. c.revoked) (client_named number clients) false
+  -- a client with this number is open
+  abbrev pub has_client : ℕ → List (ClientView E) → Bool
+  has_client number clients = list_any (has_number number) clients
 
--- its queue, empty where it is not open
-abbrev pub events_of : ℕ → List ClientView → List Taken
-events_of number clients = option_map_or (λ c. c.ring.events) (client_named number clients) []
+  -- the open client with this number
+  abbrev pub client_named : ℕ → List (ClientView E) → Option (ClientView E)
+  client_named number clients = find (has_number number) clients
 
--- one client is changed, and the others stay
-abbrev pub map_client : ℕ → (ClientView → ClientView) → List ClientView → List ClientView
-map_client number change clients = map (λ c. if has_number number c then change c else c) clients
+  -- whether it was revoked, false where it is not open
+  abbrev pub has_revoked_client : ℕ → List (ClientView E) → Bool
+  has_revoked_client number clients = option_map_or (λ c. c.revoked) (client_named number clients) false
 
--- one client is closed, and the others stay
-abbrev pub without_client : ℕ → List ClientView → List ClientView
-without_client number clients = filter (λ c. not (has_number number c)) clients
+  -- its queue, empty where it is not open
+  abbrev pub events_of : ℕ → List (ClientView E) → List E
+  events_of number clients = option_map_or (λ c. c.ring.events) (client_named number clients) []
 
--- one client is opened: it stands behind those with lower numbers, and the others stay
-abbrev pub with_client : ClientView → List ClientView → List ClientView
-with_client new [] = new ∷ []
-with_client new (c ∷ clients) = if nat_lt c.number new.number then c ∷ with_client new clients else new ∷ c ∷ clients
+  -- one client is changed, and the others stay
+  abbrev pub map_client : ℕ → (ClientView E → ClientView E) → List (ClientView E) → List (ClientView E)
+  map_client number change clients = map (λ c. if has_number number c then change c else c) clients
+
+  -- one client is closed, and the others stay
+  abbrev pub without_client : ℕ → List (ClientView E) → List (ClientView E)
+  without_client number clients = filter (λ c. not (has_number number c)) clients
+
+  -- one client is opened: it stands behind those with lower numbers, and the others stay
+  abbrev pub with_client : ClientView E → List (ClientView E) → List (ClientView E)
+  with_client new [] = new ∷ []
+  with_client new (c ∷ clients) = if nat_lt c.number new.number then c ∷ with_client new clients else new ∷ c ∷ clients

@@ -1,7 +1,10 @@
 pub mod Masks
 pub mod Client
 pub mod Clients
+pub mod Read
+pub mod Member
 pub mod Locations
+pub mod Offered
 pub mod Kept
 pub mod KeptMasks
 pub mod OpenRefused

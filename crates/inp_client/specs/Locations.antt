@@ -4,18 +4,19 @@ use Rattle.std.specs.Option.{option_map}
 use Rattle.std.specs.List.{list_any, HoldsAt, AllWithin}
 use Rattle.slab.specs.Slab.{Slab, get, slab_len}
 use Rattle.inp_client.specs.declared.location.Location.{Location}
-use Rattle.inp_client.specs.Client.{ClientView, new_client}
+use Rattle.inp_client.specs.Client.{new_client}
+use Rattle.inp_client.specs.Member.{Member}
 
 -- the client under a key, and any client where there is none
-abbrev pub client_at : Slab ClientView → ℕ → ClientView
+abbrev pub client_at : Slab Member → ℕ → Member
 client_at slab key = unwrap_or (get slab key) (new_client 0 0)
 
 -- the number of the client under a key
-abbrev pub number_at : Slab ClientView → ℕ → Option ℕ
+abbrev pub number_at : Slab Member → ℕ → Option ℕ
 number_at slab key = option_map (λ c. c.number) (get slab key)
 
 -- the clients, in the order of their locations
-abbrev pub clients_in : List Location → Slab ClientView → List ClientView
+abbrev pub clients_in : List Location → Slab Member → List Member
 clients_in locations slab = map (λ at. client_at slab at.key) locations
 
 -- a location has this number
@@ -38,7 +39,7 @@ pub record IsPlaceFor (locations : List Location) (number index : ℕ) : Type 0 
   pub others : AllWithin (λ at. number ≤ at.number) locations index (length locations)
 
 -- each client of the slab has one location, and the locations ascend by number
-pub record AreLocated (locations : List Location) (slab : Slab ClientView) : Type 0 where
+pub record AreLocated (locations : List Location) (slab : Slab Member) : Type 0 where
   pub ascending : AreAscending locations
   pub keyed : All (λ at. number_at slab at.key ≡ Some at.number) locations
   pub counted : slab_len slab ≡ length locations

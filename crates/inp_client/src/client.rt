@@ -1,23 +1,28 @@
 //! One open client.
-ghost use Rattle.std.specs.Prelude.{◌≡◌, ◌≢◌, ◌≤◌, ◌<◌, ◌+◌, true, length, min, map, filter, take, IfOk};
+ghost use Rattle.std.specs.Prelude.{◌≡◌, ◌≢◌, ◌≤◌, ◌<◌, ◌+◌, ◌&&◌, ℕ, if◌then◌else◌, [], true, length, min, map, take, Some, IfOk};
+ghost use Rattle.std.specs.Option.{option_map};
 ghost use Rattle.inp_model.specs.declared.event.TheConstants.{EV_SYN};
 ghost use Rattle.inp_model.specs.declared.stamped.TheConstants.{MOMENT_MAX};
+ghost use Rattle.inp_model.specs.Description.{offset};
 ghost use Rattle.inp_model.specs.Past.{has_mask, mask_words, is_other};
-ghost use Rattle.inp_model.specs.Queue.{dropped_at, put_all, visible, is_same_clock};
+ghost use Rattle.inp_model.specs.Queue.{visible, is_same_clock, put};
 ghost use Rattle.inp_model.specs.Reply.{written};
 ghost use Rattle.inp_model.specs.Step.{Codes, Slots};
-ghost use Rattle.inp_ring.specs.Ring.{event_of};
+ghost use Rattle.inp_ring.specs.Store.{event_of, dropped_at, taken_of, cell_in};
+ghost use Rattle.inp_ring.specs.Ring.{times, cell_at, AreFit, AreHeld, IsEntered, IsRing};
 ghost use Rattle.inp_client.specs.Masks.{admits_of, full_masks};
-ghost use Rattle.inp_client.specs.Client.{new_client, is_offered_to, taken_at, after_offer, after_take, after_flush, after_mask, after_clock, after_revoke};
+ghost use Rattle.inp_client.specs.Client.{new_client, with_events, is_offered_to, after_take, after_flush, after_mask, after_clock, after_revoke};
+ghost use Rattle.inp_client.specs.Member.{ring_of, client_in, after_event, IsWritten};
 
 use crate::masks::Masks;
 use inp_caps::Caps;
 use inp_model::{Clock, Event, MOMENT_MAX, NoMemory, Taken};
-use inp_ring::Ring;
+use inp_ring::{Ring, Store};
 use std::alloc::Global;
 use std::marker::Model;
 
-/// A client: its ring, its masks, its clock, and whether it was revoked.
+/// A client: its ring, its masks, its clock, and whether it was revoked. The cells of its ring are in a store that it
+/// shares with others.
 #[derive(Drop)]
 pub struct Client {
     number: u32,
@@ -28,13 +33,13 @@ pub struct Client {
 }
 
 impl Model for Client {
-    ghost use Rattle.inp_client.specs.Client.{ClientView};
+    ghost use Rattle.inp_client.specs.Member.{Member, queue_of};
 
-    ghost Value = { ClientView };
+    ghost Value = { Member };
 
     ghost view = { λ c. record {
       number = c.number;
-      ring = c.ring;
+      ring = queue_of c.ring;
       masks = c.masks;
       clock = c.clock;
       revoked = c.revoked;
@@ -54,6 +59,13 @@ impl Client {
             clock: Clock::Realtime,
             revoked: false,
         })
+    }
+
+    /// How many places its ring has.
+    pub fn places(&self) -> u32
+        ensures places { result ≡ self.now.ring.places }
+    {
+        self.ring.places()
     }
 
     /// Whether it was revoked.
@@ -79,68 +91,120 @@ impl Client {
         self.masks.set_word(kind, word, bits);
     }
 
-    /// Chooses its clock.
-    pub fn set_clock(&mut self, caps: &Caps, clock: Clock, now: u64, place: u32)
-        requires moment { now ≤ MOMENT_MAX }
-        ensures set { self.new ≡ after_clock caps.now clock now place self.old }
+    /// Chooses its clock. There must be room to spare for a cell.
+    pub fn set_clock(&mut self, store: &mut Store, clock: Clock, now: u64, place: u32)
+        requires room { 0 < store.old.spare }
+        requires held { AreHeld store.old self.old.ring.events }
+        ensures set { IsWritten store.old store.new self.old self.new (after_clock clock now place) }
     {
         if is_same_clock(self.clock, clock) {
             return;
         }
         self.clock = clock;
-        self.ring.clock_changed(now + caps.offset(clock), place);
+        self.ring.clock_changed(store, now, place);
+        self.ring.sound();
     }
 
     /// How many events it may read.
-    pub fn visible(&self) -> u32
-        ensures visible { result ≡ visible event_of self.now.ring.events }
+    pub fn visible(&self, store: &Store) -> u32
+        requires held { AreHeld store.now self.now.ring.events }
+        ensures visible { result ≡ visible event_of (map (cell_at store.now) self.now.ring.events) }
     {
-        self.ring.visible()
+        self.ring.visible(store)
     }
 
-    /// Moves visible events to the front of a buffer.
-    pub fn take(&mut self, count: u32, out: &mut [Taken]) -> u32
+    /// Moves visible events to the front of a buffer, as they are read on its clock.
+    pub fn take(&mut self, store: &mut Store, caps: &Caps, count: u32, out: &mut [Taken]) -> u32
         requires room { count ≤ length out.old }
-        ensures count { result ≡ min count (visible event_of self.old.ring.events) }
-        ensures taken { out.new ≡ written (take result self.old.ring.events) out.old }
-        ensures rest { self.new ≡ after_take result self.old }
+        requires moments { AreFit (map (cell_at store.old) self.old.ring.events) }
+        requires held { AreHeld store.old self.old.ring.events }
+        ensures count { let queue = map (cell_at store.old) self.old.ring.events in
+            result ≡ min count (visible event_of queue) }
+        ensures taken { let cells = take result (map (cell_at store.old) self.old.ring.events) in
+            out.new ≡ written (map (taken_of (offset caps.now self.old.clock)) cells) out.old }
+        ensures rest { IsWritten store.old store.new self.old self.new (after_take result) }
     {
-        self.ring.take(count, out)
+        let taken = self.ring.take(store, count, caps.offset(self.clock), out);
+        self.ring.sound();
+        taken
     }
 
     /// Removes all visible events, unread.
-    pub fn discard(&mut self) -> u32
-        ensures count { result ≡ visible event_of self.old.ring.events }
-        ensures rest { self.new ≡ after_take result self.old }
+    pub fn discard(&mut self, store: &mut Store) -> u32
+        requires held { AreHeld store.old self.old.ring.events }
+        ensures count { let queue = map (cell_at store.old) self.old.ring.events in
+            result ≡ visible event_of queue }
+        ensures rest { IsWritten store.old store.new self.old self.new (after_take result) }
     {
-        self.ring.discard()
+        let removed = self.ring.discard(store);
+        self.ring.sound();
+        removed
     }
 
     /// Removes the queued events of a type.
-    pub fn flush(&mut self, kind: u16)
+    pub fn flush(&mut self, store: &mut Store, kind: u16)
         requires not_syn { kind ≢ EV_SYN }
-        ensures flushed { self.new ≡ after_flush (Codes kind) self.old }
+        requires held { AreHeld store.old self.old.ring.events }
+        ensures flushed { IsWritten store.old store.new self.old self.new
+            (after_flush event_of (Codes kind)) }
     {
-        self.ring.flush(kind);
+        self.ring.flush(store, kind);
+        self.ring.sound();
     }
 
     /// Removes the queued multi-touch events.
-    pub fn flush_slots(&mut self)
-        ensures flushed { self.new ≡ after_flush Slots self.old }
+    pub fn flush_slots(&mut self, store: &mut Store)
+        requires held { AreHeld store.old self.old.ring.events }
+        ensures flushed { IsWritten store.old store.new self.old self.new
+            (after_flush event_of Slots) }
     {
-        self.ring.flush_slots();
+        self.ring.flush_slots(store);
+        self.ring.sound();
     }
 
-    /// Puts the events of a frame that it admits, unless it was revoked or another client holds the grab.
-    pub fn offer(&mut self, caps: &Caps, frame: &[Event], now: u64, place: u32, holder: Option<u32>)
-        requires moment { now ≤ MOMENT_MAX }
-        ensures offered { self.new ≡ after_offer caps.now frame.now now place holder self.old }
+    /// Releases all that is queued.
+    pub fn clear(&mut self, store: &mut Store)
+        requires held { AreHeld store.old self.old.ring.events }
+        ensures cleared { IsWritten store.old store.new self.old self.new (with_events []) }
+        ensures none { self.new.ring.events ≡ [] }
     {
-        if !self.is_offered_to(holder) {
-            return;
+        self.ring.clear(store);
+        self.ring.sound();
+    }
+
+    /// Puts the number of a cell with an event of a frame, unless it was revoked, another client holds the grab, or its
+    /// masks do not admit it. It adds no holder, and says whether its ring has the number now.
+    pub fn enter(
+        &mut self,
+        store: &mut Store,
+        number: u32,
+        event: Event,
+        holder: Option<u32>,
+    ) -> bool
+        requires event { option_map event_of (cell_in store.old number) ≡ Some event }
+        requires absent { times number self.old.ring.events ≡ 0 }
+        requires room { 0 < store.old.spare }
+        requires held { AreHeld store.old self.old.ring.events }
+        ensures number { self.new.number ≡ self.old.number }
+        ensures places { self.new.ring.places ≡ self.old.ring.places }
+        ensures sound { IsRing (ring_of self.old) → IsRing (ring_of self.new) }
+        ensures entered { IsEntered store.old store.new self.old.ring.events self.new.ring.events number result }
+        ensures offered { client_in store.new self.new
+            ≡ after_event (cell_at store.old number) holder (client_in store.old self.old) }
+    {
+        if !self.is_offered_to(holder) || !self.admits(event) {
+            return false;
         }
-        let time = now + caps.offset(self.clock);
-        put_admitted(&mut self.ring, &self.masks, frame, time, place);
+        let is_in = self.ring.enter(store, number, event);
+        self.ring.sound();
+        is_in
+    }
+
+    /// Whether its masks admit an event. Where no mask was set, that is seen at once.
+    fn admits(&self, event: Event) -> bool
+        ensures admits { result ≡ admits_of self.now.masks event }
+    {
+        self.masks.is_full() || self.masks.admits(event)
     }
 
     /// Whether a frame is offered to it, given who holds the grab.
@@ -166,49 +230,4 @@ fn is_same_clock(a: Clock, b: Clock) -> bool
     ensures { result ≡ is_same_clock a b }
 {
     a == b
-}
-
-/// Puts the events of a frame that the masks admit. Where no mask was set, that is asked once.
-fn put_admitted(ring: &mut Ring, masks: &Masks, frame: &[Event], time: u64, place: u32)
-    ensures put { let items = map (taken_at time place) (filter (admits_of masks.now) frame.now) in
-        let events = put_all event_of dropped_at ring.old.places ring.old.events items in
-        ring.new ≡ record ring.old { events = events } }
-{
-    if masks.is_full() {
-        put_whole(ring, frame, time, place);
-    } else {
-        put_filtered(ring, masks, frame, time, place);
-    }
-}
-
-/// Puts all events of a frame.
-fn put_whole(ring: &mut Ring, frame: &[Event], time: u64, place: u32)
-    ensures put { let items = map (taken_at time place) frame.now in
-        let events = put_all event_of dropped_at ring.old.places ring.old.events items in
-        ring.new ≡ record ring.old { events = events } }
-{
-    for event in frame {
-        ring.put(Taken {
-            event: *event,
-            time,
-            place,
-        });
-    }
-}
-
-/// Puts the events of a frame that the masks admit, asking them of each event.
-fn put_filtered(ring: &mut Ring, masks: &Masks, frame: &[Event], time: u64, place: u32)
-    ensures put { let items = map (taken_at time place) (filter (admits_of masks.now) frame.now) in
-        let events = put_all event_of dropped_at ring.old.places ring.old.events items in
-        ring.new ≡ record ring.old { events = events } }
-{
-    for event in frame {
-        if masks.admits(*event) {
-            ring.put(Taken {
-                event: *event,
-                time,
-                place,
-            });
-        }
-    }
 }

@@ -1,5 +1,5 @@
 //! The open clients of a device.
-ghost use Rattle.std.specs.Prelude.{◌≡◌, ◌≢◌, ◌≤◌, ◌<◌, ◌↔◌, [], true, false, length, min, map, take, Contains, Err, IfOk, OnOk, OnErr};
+ghost use Rattle.std.specs.Prelude.{◌≡◌, ◌≢◌, ℕ, ◌≤◌, ◌<◌, ◌↔◌, [], true, false, length, min, map, take, sum_by, All, Contains, Err, IfOk, OnOk, OnErr};
 ghost use Rattle.slab.specs.Slab.{ContainsKey};
 ghost use Rattle.inp_model.specs.declared.event.TheConstants.{EV_SYN};
 ghost use Rattle.inp_model.specs.declared.limits.TheConstants.{CLIENTS_MAX};
@@ -8,10 +8,13 @@ ghost use Rattle.inp_model.specs.Past.{has_mask, mask_words};
 ghost use Rattle.inp_model.specs.Queue.{visible};
 ghost use Rattle.inp_model.specs.Reply.{written};
 ghost use Rattle.inp_model.specs.Step.{Codes, Slots};
-ghost use Rattle.inp_ring.specs.Ring.{event_of};
-ghost use Rattle.inp_client.specs.Client.{new_client, after_offer, after_take, after_flush, after_mask, after_clock, after_revoke};
-ghost use Rattle.inp_client.specs.Clients.{has_client, has_revoked_client, events_of, map_client, with_client, without_client};
+ghost use Rattle.inp_ring.specs.Store.{event_of, entry, held_by, IsIdle};
+ghost use Rattle.inp_client.specs.Client.{new_client, cell_of_event, after_offer, after_take, after_flush, after_mask, after_clock, after_revoke};
+ghost use Rattle.inp_client.specs.Clients.{distinct, has_client, has_revoked_client, events_of, map_client, with_client, without_client};
+ghost use Rattle.inp_client.specs.Read.{clients_on};
 ghost use Rattle.inp_client.specs.Locations.{clients_in, AreLocated};
+ghost use Rattle.inp_client.specs.Member.{cells_in, wanted, after_event, AreStored};
+ghost use Rattle.inp_client.specs.Offered.{AreShared, IsEnteredTo, owing};
 ghost use Rattle.inp_client.specs.declared.open_refused.OpenRefused.TheVariants.{TooMany};
 
 use crate::client::Client;
@@ -19,32 +22,34 @@ use crate::location::{Location, index_of, place_for};
 use crate::open_refused::OpenRefused;
 use inp_caps::Caps;
 use inp_model::{CLIENTS_MAX, Clock, Event, MOMENT_MAX, NoMemory, Taken};
+use inp_ring::{Cell, Store};
 use slab::Slab;
 use std::alloc::Global;
 use std::marker::Model;
 
 /// The open clients of a device, at most 64, each under its number (evdev's clients).
 ///
-/// They ascend by number, so that one is found by binary search. A contract sees the list of the open clients, ascending
-/// by number.
+/// They ascend by number, so that one is found by binary search. Each event of a frame that a client's queue holds is kept
+/// once, as a cell that all of them share. A contract sees the list of the open clients, ascending by number, each with its
+/// queue of cells, and the numbers of the cells.
 #[derive(Drop)]
 pub struct Clients {
     alloc: Global,
     slab: Slab<Client>,
     // Where each client lies in the slab, ascending by number.
     locations: Vec<Location>,
+    store: Store,
+    // How many cells the store has room for: for each ring one more than it has places.
+    cells: u32,
 }
 
 impl Model for Clients {
-    ghost use Rattle.std.specs.Prelude.{List};
-    ghost use Rattle.inp_client.specs.Client.{ClientView};
+    ghost use Rattle.inp_client.specs.Clients.{ClientsView};
+    ghost use Rattle.inp_client.specs.Kept.{view_of, AreKept};
 
-    ghost Value = { List ClientView };
+    ghost Value = { ClientsView };
 
-    ghost use Rattle.inp_client.specs.Locations.{clients_in};
-    ghost use Rattle.inp_client.specs.Kept.{AreKept};
-
-    ghost view = { λ c. clients_in c.locations.items c.slab };
+    ghost view = { view_of };
 
     ghost invariant = { AreKept };
 }
@@ -52,53 +57,60 @@ impl Model for Clients {
 impl Clients {
     /// No client, with room for 64. It is refused for memory alone.
     pub fn new(alloc: Global) -> Result<Clients, NoMemory>
-        ensures none { IfOk result (λ clients. clients ≡ []) }
+        ensures none { IfOk result (λ clients. clients ≡ record { list = []; numbers = [] }) }
     {
         Ok(Clients {
             alloc,
             slab: Slab::with_capacity(alloc, CLIENTS_MAX as usize)?,
             locations: Vec::with_capacity(alloc, CLIENTS_MAX as usize)?,
+            store: Store::new(alloc),
+            cells: 0,
         })
     }
 
     /// Opens a client, with an empty ring of 64 to 4,096 places, all bits of its masks set, on the realtime clock.
     ///
-    /// No open client may have its number. It is refused where 64 are open, and may be refused for want of memory;
-    /// nothing changes then.
+    /// The store grows first, by one cell more than the ring has places, so that no other call takes memory. No open client
+    /// may have the number. It is refused where 64 are open, and may be refused for want of memory; nothing changes then.
     pub fn open(&mut self, number: u32, ring: u32) -> Result<(), OpenRefused>
         requires ring { (64 ≤ ring) × (ring ≤ 4096) }
-        requires unused { has_client number self.old ≡ false }
-        ensures too_many { (result ≡ Err TooMany) ↔ (length self.old ≡ CLIENTS_MAX) }
-        ensures ok { OnOk result (self.new ≡ with_client (new_client number ring) self.old) }
+        requires unused { has_client number self.old.list ≡ false }
+        ensures too_many { (result ≡ Err TooMany) ↔ (length self.old.list ≡ CLIENTS_MAX) }
+        ensures ok { OnOk result (self.new.list ≡ with_client (new_client number ring) self.old.list) }
         ensures err { OnErr result (self.new ≡ self.old) }
     {
         if self.locations.len() == CLIENTS_MAX as usize {
             return Err(OpenRefused::TooMany);
         }
+        let cells = self.cells + ring + 1;
+        self.store.grow(cells)?;
         let client = Client::new(self.alloc, number, ring)?;
         let key = self.slab.insert_reserved(client);
         let place = place_for(&self.locations, number);
         self.locations
             .insert(place, Location { number, key })
             .unwrap();
+        self.cells = cells;
         Ok(())
     }
 
     /// Closes an open client. What is queued for it is lost.
     pub fn close(&mut self, number: u32)
-        requires open { has_client number self.old ≡ true }
-        ensures closed { self.new ≡ without_client number self.old }
+        requires open { has_client number self.old.list ≡ true }
+        ensures closed { self.new.list ≡ without_client number self.old.list }
     {
         let index = index_of(&self.locations, number).unwrap();
         let location = self.locations.remove(index);
-        self.slab.remove(location.key);
+        let mut client = self.slab.remove(location.key);
+        client.clear(&mut self.store);
+        self.cells -= client.places() + 1;
     }
 
     /// An open client loses the device for good: no frame is offered to it any more. It stays open, and what is queued
     /// for it stays.
     pub fn revoke(&mut self, number: u32)
-        requires open { has_client number self.old ≡ true }
-        ensures revoked { self.new ≡ map_client number after_revoke self.old }
+        requires open { has_client number self.old.list ≡ true }
+        ensures revoked { self.new.list ≡ map_client number after_revoke self.old.list }
     {
         let key = key_of(&self.locations, &self.slab, number);
         self.slab[key].revoke();
@@ -106,15 +118,15 @@ impl Clients {
 
     /// Whether a client with this number is open.
     pub fn is_open(&self, number: u32) -> bool
-        ensures open { result ≡ has_client number self.now }
+        ensures open { result ≡ has_client number self.now.list }
     {
         index_of(&self.locations, number).is_some()
     }
 
     /// Whether an open client was revoked.
     pub fn is_revoked(&self, number: u32) -> bool
-        requires open { has_client number self.now ≡ true }
-        ensures revoked { result ≡ has_revoked_client number self.now }
+        requires open { has_client number self.now.list ≡ true }
+        ensures revoked { result ≡ has_revoked_client number self.now.list }
     {
         let key = key_of(&self.locations, &self.slab, number);
         self.slab[key].is_revoked()
@@ -122,10 +134,22 @@ impl Clients {
 
     /// How many clients are open, at most 64. A client that was revoked is open until it is closed.
     pub fn count(&self) -> u32
-        ensures count { result ≡ length self.now }
+        ensures count { result ≡ length self.now.list }
         ensures few { result ≤ CLIENTS_MAX }
     {
         self.locations.len() as u32
+    }
+
+    /// How many events are kept: each event of a frame that at least one queue holds, once, and each SYN_DROPPED.
+    ///
+    /// It is as many as there are different numbers in the rings. So it is at least the length of the longest queue, and at
+    /// most that of all queues together.
+    pub fn stored(&self) -> u32
+        ensures stored { result ≡ length (distinct self.now.numbers) }
+        ensures least { All (λ c. length c.ring.events ≤ result) self.now.list }
+        ensures most { result ≤ sum_by (λ c. length c.ring.events) self.now.list }
+    {
+        self.store.count()
     }
 
     /// Sets 64 bits of one of an open client's masks, from `64 * word` on, the lowest bit of `bits` first. The mask of
@@ -133,94 +157,109 @@ impl Clients {
     ///
     /// Bits past a mask's end, and the bit of `EV_SYN`, may be cleared, and that changes nothing.
     pub fn set_mask(&mut self, number: u32, kind: u16, word: u16, bits: u64)
-        requires open { has_client number self.old ≡ true }
+        requires open { has_client number self.old.list ≡ true }
         requires kind { has_mask kind ≡ true }
         requires word { word < mask_words kind }
-        ensures set { self.new ≡ map_client number (after_mask kind word bits) self.old }
+        ensures set { self.new.list ≡ map_client number (after_mask kind word bits) self.old.list }
     {
         let key = key_of(&self.locations, &self.slab, number);
         self.slab[key].set_mask(kind, word, bits);
     }
 
-    /// Chooses the clock by which an open client's events are timed, at a moment in microseconds and at the place of the
-    /// step in the history.
+    /// Chooses the clock by which an open client reads its events, at a moment in microseconds and at the place of the
+    /// step in the history. The description is not looked at: a client's offset is added when it reads.
     ///
     /// Where the clock is another one than before and the queue is not empty, all of it is lost: SYN_DROPPED stands in
-    /// its place, timed by the new clock.
-    pub fn set_clock(&mut self, caps: &Caps, number: u32, clock: Clock, now: u64, place: u32)
-        requires open { has_client number self.old ≡ true }
+    /// its place. So all of a queue is on the present clock.
+    pub fn set_clock(&mut self, _caps: &Caps, number: u32, clock: Clock, now: u64, place: u32)
+        requires open { has_client number self.old.list ≡ true }
         requires moment { now ≤ MOMENT_MAX }
-        ensures set { self.new ≡ map_client number (after_clock caps.now clock now place) self.old }
+        ensures set { self.new.list ≡ map_client number (after_clock clock now place) self.old.list }
     {
         let key = key_of(&self.locations, &self.slab, number);
-        self.slab[key].set_clock(caps, clock, now, place);
+        self.slab[key].set_clock(&mut self.store, clock, now, place);
     }
 
     /// How many events an open client may read: those up to the last SYN_REPORT.
     pub fn visible(&self, number: u32) -> u32
-        requires open { has_client number self.now ≡ true }
-        ensures visible { result ≡ visible event_of (events_of number self.now) }
+        requires open { has_client number self.now.list ≡ true }
+        ensures visible { result ≡ visible event_of (events_of number self.now.list) }
     {
         let key = key_of(&self.locations, &self.slab, number);
-        self.slab[key].visible()
+        self.slab[key].visible(&self.store)
     }
 
     /// Moves the first `count` visible events of an open client, or as many as there are, to the front of a buffer, and
-    /// says how many. The rest of the buffer stays. The buffer must have room for `count`.
-    pub fn take(&mut self, number: u32, count: u32, out: &mut [Taken]) -> u32
-        requires open { has_client number self.old ≡ true }
+    /// says how many. Each is read on the client's clock. The rest of the buffer stays. The buffer must have room for
+    /// `count`.
+    pub fn take(&mut self, caps: &Caps, number: u32, count: u32, out: &mut [Taken]) -> u32
+        requires open { has_client number self.old.list ≡ true }
         requires room { count ≤ length out.old }
-        ensures count { result ≡ min count (visible event_of (events_of number self.old)) }
-        ensures taken { out.new ≡ written (take result (events_of number self.old)) out.old }
-        ensures rest { self.new ≡ map_client number (after_take result) self.old }
+        ensures count { result ≡ min count (visible event_of (events_of number self.old.list)) }
+        ensures taken { let queue = events_of number (clients_on caps.now self.old.list) in
+            out.new ≡ written (take result queue) out.old }
+        ensures rest { self.new.list ≡ map_client number (after_take result) self.old.list }
     {
         let key = key_of(&self.locations, &self.slab, number);
-        self.slab[key].take(count, out)
+        self.slab[key].take(&mut self.store, caps, count, out)
     }
 
     /// Removes all visible events of an open client, unread, and says how many they were.
     pub fn discard(&mut self, number: u32) -> u32
-        requires open { has_client number self.old ≡ true }
-        ensures count { result ≡ visible event_of (events_of number self.old) }
-        ensures rest { self.new ≡ map_client number (after_take result) self.old }
+        requires open { has_client number self.old.list ≡ true }
+        ensures count { result ≡ visible event_of (events_of number self.old.list) }
+        ensures rest { self.new.list ≡ map_client number (after_take result) self.old.list }
     {
         let key = key_of(&self.locations, &self.slab, number);
-        self.slab[key].discard()
+        self.slab[key].discard(&mut self.store)
     }
 
     /// Removes an open client's queued events of a type, as the answer to a query of its codes does. The type must not
     /// be `EV_SYN`.
     pub fn flush(&mut self, number: u32, kind: u16)
-        requires open { has_client number self.old ≡ true }
+        requires open { has_client number self.old.list ≡ true }
         requires not_syn { kind ≢ EV_SYN }
-        ensures flushed { self.new ≡ map_client number (after_flush (Codes kind)) self.old }
+        ensures flushed { self.new.list
+            ≡ map_client number (after_flush event_of (Codes kind)) self.old.list }
     {
         let key = key_of(&self.locations, &self.slab, number);
-        self.slab[key].flush(kind);
+        self.slab[key].flush(&mut self.store, kind);
     }
 
     /// Removes an open client's queued multi-touch events, as the answer to a query of all slots does.
     pub fn flush_slots(&mut self, number: u32)
-        requires open { has_client number self.old ≡ true }
-        ensures flushed { self.new ≡ map_client number (after_flush Slots) self.old }
+        requires open { has_client number self.old.list ≡ true }
+        ensures flushed { self.new.list
+            ≡ map_client number (after_flush event_of Slots) self.old.list }
     {
         let key = key_of(&self.locations, &self.slab, number);
-        self.slab[key].flush_slots();
+        self.slab[key].flush_slots(&mut self.store);
     }
 
     /// Offers a frame to each open client, or to the holder of the grab alone, where there is one. A client that was
-    /// revoked is offered none. Each client gets the events that its masks admit, timed by its clock.
+    /// revoked is offered none. Each client gets the events that its masks admit; each of them is kept once, whoever gets
+    /// it. The description is not looked at: a client's offset is added when it reads.
     ///
     /// The frame ended at a moment in microseconds, and at the place of its step in the history. It takes no memory.
-    pub fn offer(&mut self, caps: &Caps, frame: &[Event], now: u64, place: u32, holder: Option<u32>)
+    pub fn offer(
+        &mut self,
+        _caps: &Caps,
+        frame: &[Event],
+        now: u64,
+        place: u32,
+        holder: Option<u32>,
+    )
         requires moment { now ≤ MOMENT_MAX }
-        ensures offered { self.new
-            ≡ map (after_offer caps.now frame.now now place holder) self.old }
+        ensures offered { self.new.list
+            ≡ map (after_offer frame.now now place holder) self.old.list }
     {
-        offer_each(
+        if self.locations.is_empty() {
+            return;
+        }
+        offer_events(
             &self.locations,
             &mut self.slab,
-            caps,
+            &mut self.store,
             frame,
             now,
             place,
@@ -229,26 +268,87 @@ impl Clients {
     }
 }
 
-// Offers a frame to the client in each location.
-fn offer_each(
+// Offers the events of a frame to the client in each location. There must be a client.
+fn offer_events(
     locations: &[Location],
     slab: &mut Slab<Client>,
-    caps: &Caps,
+    store: &mut Store,
     frame: &[Event],
     now: u64,
     place: u32,
     holder: Option<u32>,
 )
-    requires before { AreLocated locations.now slab.old }
+    requires before { AreShared locations.now slab.old store.old }
+    requires some { 0 < length locations.now }
+    requires few { length locations.now ≤ CLIENTS_MAX }
     requires moment { now ≤ MOMENT_MAX }
-    ensures after { AreLocated locations.now slab.new }
-    ensures offered { clients_in locations.now slab.new
-        ≡ map (after_offer caps.now frame.now now place holder) (clients_in locations.now slab.old) }
+    ensures after { AreShared locations.now slab.new store.new }
+    ensures offered { cells_in store.new (clients_in locations.now slab.new)
+        ≡ map (after_offer frame.now now place holder) (cells_in store.old (clients_in locations.now slab.old)) }
+    ensures wanted { wanted (clients_in locations.now slab.new)
+        ≡ wanted (clients_in locations.now slab.old) }
     ensures capacity { slab.new.capacity ≡ slab.old.capacity }
 {
-    for location in locations {
-        slab[location.key].offer(caps, frame, now, place, holder);
+    for event in frame {
+        let cell = Cell {
+            event: *event,
+            now,
+            place,
+        };
+        offer_cell(locations, slab, store, cell, holder);
     }
+}
+
+// Offers one event of a frame to the client in each location. Its cell stays where somebody takes it.
+fn offer_cell(
+    locations: &[Location],
+    slab: &mut Slab<Client>,
+    store: &mut Store,
+    cell: Cell,
+    holder: Option<u32>,
+)
+    requires before { AreShared locations.now slab.old store.old }
+    requires some { 0 < length locations.now }
+    requires few { length locations.now ≤ CLIENTS_MAX }
+    requires moment { cell.now ≤ MOMENT_MAX }
+    ensures after { AreShared locations.now slab.new store.new }
+    ensures offered { cells_in store.new (clients_in locations.now slab.new)
+        ≡ map (after_event cell holder) (cells_in store.old (clients_in locations.now slab.old)) }
+    ensures wanted { wanted (clients_in locations.now slab.new)
+        ≡ wanted (clients_in locations.now slab.old) }
+    ensures capacity { slab.new.capacity ≡ slab.old.capacity }
+{
+    let number = store.add(cell);
+    let taken = enter_each(locations, slab, store, number, cell, holder);
+    if taken == 0 {
+        store.free(number);
+        return;
+    }
+    store.hold_many(number, taken);
+}
+
+// Puts the number of a cell that nobody holds into the ring of each client that takes it, and says how many do.
+fn enter_each(
+    locations: &[Location],
+    slab: &mut Slab<Client>,
+    store: &mut Store,
+    number: u32,
+    cell: Cell,
+    holder: Option<u32>,
+) -> u32
+    requires located { AreLocated locations.now slab.old }
+    requires stored { AreStored store.old (clients_in locations.now slab.old) (λ n. 0) }
+    requires only { (n : ℕ) → IsIdle store.old n → n ≡ number }
+    requires cell { entry store.old number ≡ held_by 0 cell }
+    requires few { length locations.now ≤ CLIENTS_MAX }
+    requires moment { cell.now ≤ MOMENT_MAX }
+    ensures entered { IsEnteredTo (length locations.now) cell holder number locations.now slab.old slab.new store.old store.new result }
+{
+    let mut taken = 0;
+    for location in locations {
+        taken += u32::from(slab[location.key].enter(store, number, cell.event, holder));
+    }
+    taken
 }
 
 // The key of an open client.

@@ -1,15 +1,21 @@
-//! The open clients of a device: their rings, masks and clocks.
+//! The open clients of a device: their rings, masks and clocks, and the events that they share.
 //!
-//! This crate is for whoever makes a device. [`Clients`] keeps up to 64 open clients, each with a ring of events
-//! (`inp_ring`), the masks that say which events it admits, the clock by which its events are timed, and whether it was
+//! This crate is for whoever makes a device. [`Clients`] keeps up to 64 open clients, each with a ring
+//! (`inp_ring`), the masks that say which events it admits, the clock by which it reads its events, and whether it was
 //! revoked. It offers a frame to each client, or to the holder of the grab alone, and hands each client what its ring
-//! has. It stands on `inp_model`, `inp_bits`, `inp_caps` and `inp_ring`, and on the toolchain's `slab`, in which the
-//! clients lie.
+//! has. Each event of a frame that some queue holds is kept once, in a store that all clients share. It stands on
+//! `inp_model`, `inp_bits`, `inp_caps` and `inp_ring`, and on the toolchain's `slab`, in which the clients lie.
 //!
 //! Its contract: a [`Clients`] is seen as the list of its open clients, ascending by number, each a `ClientView` of
-//! `specs/Client.antt`. Each call changes the named client alone, by the definition there that is named after the call
-//! (`after_flush`, `after_mask`), and gives the exact result. Only [`Clients::new`] and [`Clients::open`] take memory.
-//! Lemmas for callers are in `proofs/ClientLists.antt` and `proofs/MaskBits.antt`.
+//! `specs/Client.antt` with a queue of cells, and the numbers of the cells that their rings hold. Each call changes the named
+//! client alone, by the definition there that is named after the call (`after_flush`, `after_mask`), and gives the exact
+//! result. What clients read of their cells is said in `specs/Read.antt`, and `proofs/OnClock.antt` has a lemma for each
+//! call. [`Clients::stored`] is how many different numbers there are.
+//!
+//! Only [`Clients::new`] and [`Clients::open`] take memory. Before it makes a ring of S places, an open has the store grow
+//! by S + 1 cells. A ring holds at most S - 1 numbers, and while a frame is offered there is at most one cell more that no
+//! ring has; so there is always room for one cell (`proofs/Sharing.antt`, `spare_some`).
+//! Lemmas for callers are in `proofs/ClientLists.antt`, `proofs/OnClock.antt` and `proofs/MaskBits.antt`.
 #![tactic(auto)]
 
 mod client;

@@ -10,7 +10,7 @@ ghost use Rattle.inp_model.specs.Reply.{written};
 ghost use Rattle.inp_model.specs.Step.{is_part_of, Codes, Slots};
 ghost use Rattle.inp_ring.specs.Class.{query_of};
 ghost use Rattle.inp_ring.specs.Store.{entry, cell_in, event_of, dropped_at, taken_of, holders, HasCell};
-ghost use Rattle.inp_ring.specs.Ring.{times, cell_at, queue_in, AreFit, AreHeld, EntersAlone, HoldsAllButOne, IsMoved, IsTakenOut, IsEntered};
+ghost use Rattle.inp_ring.specs.Ring.{times, cell_at, queue_in, IsRing, AreFit, AreHeld, EntersAlone, HoldsAllButOne, IsMoved, IsTakenOut, IsEntered};
 
 use crate::cell::Cell;
 use crate::class::Class;
@@ -57,6 +57,20 @@ impl Ring {
         Ok(Ring {
             numbers: HeapCircularBuffer::with_capacity(alloc, places as usize)?,
         })
+    }
+
+    /// How many places it has, 64 to 4,096.
+    pub fn places(&self) -> u32
+        ensures places { result ≡ self.now.places }
+    {
+        self.numbers.capacity() as u32
+    }
+
+    /// Says what holds of every ring, for a caller whose proof needs it. It does nothing.
+    pub fn sound(&self)
+        ensures sound { IsRing self.now }
+    {
+        let _ = &self.numbers;
     }
 
     /// Puts the number of a cell at the end, and adds a holder. A SYN_REPORT is left out where it would follow a

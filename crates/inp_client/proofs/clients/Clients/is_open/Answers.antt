@@ -1,6 +1,8 @@
 use Rattle.std.proofs.Common.{sym, ap, ◌∙◌}
-use Rattle.inp_client.specs.Clients.{has_client}
+use Rattle.inp_client.specs.Clients.{ClientsView, has_client}
+use Rattle.inp_client.specs.Locations.{clients_in}
 use Rattle.inp_client.proofs.Locating.{has_client-clients_in}
+use Rattle.inp_client.proofs.Calling.{has_client-cells_in}
 use Rattle.inp_client.proofs.Searching.{index_is_some}
 use Rattle.inp_client.proofs.clients.Clients.is_open.Goals as goal
 
@@ -13,6 +15,6 @@ returns c =
       «open» =
           c.is_some.ensures
           ∙ index_is_some locations c.args.number c.index_of.result found none
-          ∙ sym (has_client-clients_in c.self.invariant.located c.args.number)
-          ∙ ap (has_client c.args.number) c.self.view_is;
+          ∙ sym (has_client-cells_in c.self.inside.store (clients_in locations c.self.inside.slab) c.args.number ∙ has_client-clients_in c.self.invariant.located c.args.number)
+          ∙ ap (λ (v : ClientsView). has_client c.args.number v.list) c.self.view_is;
     }

@@ -1,22 +1,38 @@
-use Rattle.std.proofs.Common.{ap, ◌∙◌, arith}
+use Rattle.std.proofs.Common.{◌≡◌, ◌+◌, ap, ◌∙◌, refl, arith}
 use Rattle.std.proofs.lemmas.List.Edits.{length-insert}
 use Rattle.inp_client.specs.Client.{new_client}
-use Rattle.inp_client.specs.Clients.{has_client, with_client}
-use Rattle.inp_client.proofs.Locating.{located_after_insert, clients_after_insert}
+use Rattle.inp_client.specs.Clients.{ClientsView, has_client, with_client}
+use Rattle.inp_client.proofs.Locating.{located_after_insert}
+use Rattle.inp_client.proofs.Calling.{call_closed}
+use Rattle.inp_client.proofs.Opening.{new_ring, cells_few, stored_open, idle_open, counted_open, list_open}
 use Rattle.inp_client.proofs.clients.Clients.open.Goals as goal
 
-pub invariant_of-self : goal.invariant_of-self
-invariant_of-self c =
+pub overflow_add-cells : goal.overflow_add-cells
+overflow_add-cells c = omega (arith, cells_few c.self.inside c.self.invariant, c.requires.ring.1)
+
+pub overflow_add-cells-2 : goal.overflow_add-cells-2
+overflow_add-cells-2 c = omega (arith, cells_few c.self.inside c.self.invariant, c.requires.ring.1)
+
+pub invariant_of-self-2 : goal.invariant_of-self-2
+invariant_of-self-2 c =
+    let k = c.self.inside in
     let client = new_client c.args.number c.args.ring in
     let place = rw c.deref.ensures.value at c.place_for-place.ensures.place in
     let items = rw c.unwrap.ensures at c.insert.ensures.items in
-    let unused = ap (has_client c.args.number) c.self.view_is ∙ c.requires.unused in
     let updates = rw c.in_ok-client.ensures.new at c.insert_reserved-key.ensures.updates in
+    let key = c.insert_reserved-key.result in
+    let slab = c.insert_reserved-key.new.self in
+    let at = c.place_for-place.result in
+    let after = c.grow.new.self in
+    let same = c.grow.ensures.cells in
     record {
-      located = rw items (located_after_insert c.self.invariant.located c.insert_reserved-key.result client c.insert_reserved-key.new.self c.place_for-place.result c.insert_reserved-key.ensures.was_vacant updates place unused c.insert_reserved-key.ensures.len);
-      few = rw items (omega (arith, length-insert c.self.inside.locations.items c.place_for-place.result (record { number = c.args.number; key = c.insert_reserved-key.result }) place.within, c.self.invariant.few));
+      located = rw items (located_after_insert c.self.invariant.located key client slab at c.insert_reserved-key.ensures.was_vacant updates place (call_closed k c.args.number c.args.self.now c.self.view_is c.requires.unused) c.insert_reserved-key.ensures.len);
+      few = rw items (omega (arith, length-insert k.locations.items at (record { number = c.args.number; key = key }) place.within, c.self.invariant.few));
       slab_room = rw c.insert_reserved-key.ensures.capacity c.self.invariant.slab_room;
       location_room = omega (arith, c.insert.ensures.capacity, c.self.invariant.location_room);
+      stored = rw items (stored_open k c.self.invariant key client slab at c.insert_reserved-key.ensures.was_vacant updates place after same (omega (arith, c.in_ok-grow.ensures.room)) refl (new_ring c.args.number c.args.ring c.requires.ring.0 c.requires.ring.1));
+      none_idle = idle_open k c.self.invariant key client slab at c.insert_reserved-key.ensures.was_vacant updates place after same;
+      counted = rw items (counted_open k c.self.invariant key client slab at c.insert_reserved-key.ensures.was_vacant updates place after same);
     }
 
 pub returns-clause-ok : goal.returns-clause-ok
@@ -26,5 +42,5 @@ returns-clause-ok c =
     let items = rw c.unwrap.ensures at c.insert.ensures.items in
     let updates = rw c.in_ok-client.ensures.new at c.insert_reserved-key.ensures.updates in
     rw items
-    (clients_after_insert c.self.invariant.located c.insert_reserved-key.result client c.insert_reserved-key.new.self c.place_for-place.result c.insert_reserved-key.ensures.was_vacant updates place
-    ∙ ap (with_client client) c.self.view_is)
+    (list_open c.self.inside c.self.invariant c.insert_reserved-key.result client c.insert_reserved-key.new.self c.place_for-place.result c.insert_reserved-key.ensures.was_vacant updates place c.grow.new.self c.grow.ensures.cells
+    ∙ ap (λ (v : ClientsView). with_client (new_client c.args.number c.args.ring) v.list) c.self.view_is)

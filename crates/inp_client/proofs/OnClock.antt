@@ -1,0 +1,182 @@
+-- What is said of cells, said of what clients read.
+use Rattle.std.proofs.Common.{◌≡◌, ℕ, suc, ◌+◌, Bool, true, false, ◌&&◌, ◌||◌, not, if◌then◌else◌, nat_eq, nat_lt, List, [], ◌∷◌, ◌++◌, length, map, drop, Option, Some, None, refl, sym, ap, ◌∙◌}
+use Rattle.std.specs.Prelude.{filter}
+use Rattle.std.specs.Option.{option_map, option_map_or}
+use Rattle.std.proofs.lemmas.List.{length-map, map_push, drop-map}
+use Rattle.inp_model.specs.declared.event.Event.{Event}
+use Rattle.inp_model.specs.declared.taken.Taken.{Taken}
+use Rattle.inp_model.specs.declared.clock.Clock.{Clock}
+use Rattle.inp_model.specs.declared.clock.Clock.TheVariants.{Realtime, Monotonic, Boottime}
+use Rattle.inp_model.specs.Description.{Description, offset}
+use Rattle.inp_model.specs.Event.{is_report, syn_dropped}
+use Rattle.inp_model.specs.Step.{Query, is_part_of}
+use Rattle.inp_model.specs.Queue as model
+use Rattle.inp_model.specs.Queue.{is_empty, ends_in_report, put, put_all, visible, follows_kept, stays, flush_behind, flush, is_same_clock, clock_changed}
+use Rattle.inp_ring.specs.declared.cell.Cell.{Cell}
+use Rattle.inp_ring.specs.Store.{event_of, dropped_at, taken_of}
+use Rattle.inp_client.specs.Masks.{admits_of}
+use Rattle.inp_client.specs.Client.{ClientView, with_events, is_offered_to, new_client, cell_of_event, admitted_cells, after_offer, after_take, after_flush, after_mask, after_clock, after_revoke, map_events}
+use Rattle.inp_client.specs.Clients.{has_number, has_client, client_named, has_revoked_client, events_of, map_client, with_client, without_client}
+use Rattle.inp_client.specs.Read.{taken_event, client_on, clients_on, taken_at, admitted_events, read_after_offer, read_after_clock}
+
+-- A queue of items that are made of others, with the same events.
+module _ {X Y : Type 0} (f : X → Y) (event : X → Event) (event' : Y → Event) (same : (x : X) → event' (f x) ≡ event x) where
+  visible-on : (q : List X) → visible event' (map f q) ≡ visible event q
+  visible-on [] = refl
+  visible-on (x ∷ q) =
+      ap (λ (b : Bool). if nat_eq (visible event' (map f q)) 0 then (if b then 1 else 0) else suc (visible event' (map f q))) (ap is_report (same x))
+      ∙ ap (λ n. if nat_eq n 0 then (if is_report (event x) then 1 else 0) else suc n) (visible-on q)
+
+  ends-on : (q : List X) → (is_empty (map f q) || ends_in_report event' (map f q)) ≡ (is_empty q || ends_in_report event q)
+  ends-on [] = refl
+  ends-on (x ∷ []) = ap is_report (same x)
+  ends-on (x ∷ y ∷ q) = ends-on (y ∷ q)
+
+  follows-on : (drops : Event → Bool) (before : List X) → follows_kept event' drops (map f before) ≡ follows_kept event drops before
+  follows-on drops [] = refl
+  follows-on drops (y ∷ before) =
+      ap (λ e. if is_report e then false else if drops e then follows_kept event' drops (map f before) else true) (same y)
+      ∙ ap (λ (b : Bool). if is_report (event y) then false else if drops (event y) then b else true) (follows-on drops before)
+
+  flush_behind-on : (drops : Event → Bool) (before q : List X) → flush_behind event' drops (map f before) (map f q) ≡ map f (flush_behind event drops before q)
+  flush_behind-on drops before [] = refl
+  flush_behind-on drops before (x ∷ q) =
+      ap (λ (b : Bool). (if b then f x ∷ [] else []) ++ flush_behind event' drops (map f (x ∷ before)) (map f q)) stay
+      ∙ ap (λ r. (if stays event drops before x then f x ∷ [] else []) ++ r) (flush_behind-on drops (x ∷ before) q)
+      ∙ one (stays event drops before x)
+    where
+      stay : stays event' drops (map f before) (f x) ≡ stays event drops before x
+      stay = ap (λ e. if is_report e then follows_kept event' drops (map f before) else not (drops e)) (same x)
+          ∙ ap (λ (b : Bool). if is_report (event x) then b else not (drops (event x))) (follows-on drops before)
+
+      one : (b : Bool) → (if b then f x ∷ [] else []) ++ map f (flush_behind event drops (x ∷ before) q) ≡ map f ((if b then x ∷ [] else []) ++ flush_behind event drops (x ∷ before) q)
+      one true = refl
+      one false = refl
+
+  put-on : (lost : X → X) (lost' : Y → Y) → ((x : X) → lost' (f x) ≡ f (lost x)) → (places : ℕ) (q : List X) (x : X) → put event' lost' places (map f q) (f x) ≡ map f (put event lost places q x)
+  put-on lost lost' alike places q x =
+      ap (λ (b : Bool). if b then map f q else if nat_lt (suc (length (map f q))) places then map f q ++ f x ∷ [] else lost' (f x) ∷ f x ∷ []) left_out
+      ∙ ap (λ n. if is_report (event x) && (is_empty q || ends_in_report event q) then map f q else if nat_lt (suc n) places then map f q ++ f x ∷ [] else lost' (f x) ∷ f x ∷ []) (length-map q f)
+      ∙ ap (λ y. if is_report (event x) && (is_empty q || ends_in_report event q) then map f q else if nat_lt (suc (length q)) places then map f q ++ f x ∷ [] else y ∷ f x ∷ []) (alike x)
+      ∙ either (is_report (event x) && (is_empty q || ends_in_report event q)) (nat_lt (suc (length q)) places)
+    where
+      left_out : (is_report (event' (f x)) && (is_empty (map f q) || ends_in_report event' (map f q))) ≡ (is_report (event x) && (is_empty q || ends_in_report event q))
+      left_out = ap (λ e. is_report e && (is_empty (map f q) || ends_in_report event' (map f q))) (same x) ∙ ap (λ (b : Bool). is_report (event x) && b) (ends-on q)
+
+      either : (a b : Bool) → (if a then map f q else if b then map f q ++ f x ∷ [] else f (lost x) ∷ f x ∷ []) ≡ map f (if a then q else if b then q ++ x ∷ [] else lost x ∷ x ∷ [])
+      either true b = refl
+      either false true = sym (map_push f q x)
+      either false false = refl
+
+  put_all-on : (lost : X → X) (lost' : Y → Y) → ((x : X) → lost' (f x) ≡ f (lost x)) → (places : ℕ) (q xs : List X) → put_all event' lost' places (map f q) (map f xs) ≡ map f (put_all event lost places q xs)
+  put_all-on lost lost' alike places q [] = refl
+  put_all-on lost lost' alike places q (x ∷ xs) =
+      ap (λ r. put_all event' lost' places r (map f xs)) (put-on lost lost' alike places q x)
+      ∙ put_all-on lost lost' alike places (put event lost places q x) xs
+
+same_clock : (a b : Clock) → is_same_clock a b ≡ true → a ≡ b
+same_clock Realtime Realtime e = refl
+same_clock Realtime Monotonic e = cc
+same_clock Realtime Boottime e = cc
+same_clock Monotonic Realtime e = cc
+same_clock Monotonic Monotonic e = refl
+same_clock Monotonic Boottime e = cc
+same_clock Boottime Realtime e = cc
+same_clock Boottime Monotonic e = cc
+same_clock Boottime Boottime e = refl
+
+-- the calls
+module _ (d : Description) where
+  pub visible-client_on : (c : ClientView Cell) → visible taken_event (client_on d c).ring.events ≡ visible event_of c.ring.events
+  visible-client_on c = visible-on (taken_of (offset d c.clock)) event_of taken_event (λ x. refl) c.ring.events
+
+  pub on_take : (count : ℕ) (c : ClientView Cell) → client_on d (after_take count c) ≡ after_take count (client_on d c)
+  on_take count c = ap (λ q. with_events q (client_on d c)) (sym (drop-map (taken_of (offset d c.clock)) count c.ring.events))
+
+  pub on_flush : (query : Query) (c : ClientView Cell) → client_on d (after_flush event_of query c) ≡ after_flush taken_event query (client_on d c)
+  on_flush query c = ap (λ q. with_events q (client_on d c)) (sym (flush_behind-on (taken_of (offset d c.clock)) event_of taken_event (λ x. refl) (is_part_of query) [] c.ring.events))
+
+  pub on_clock : (clock : Clock) (now place : ℕ) (c : ClientView Cell) → client_on d (after_clock clock now place c) ≡ read_after_clock d clock now place (client_on d c)
+  on_clock clock now place c =
+      ap (λ q. record (client_on d c) { clock = clock; ring = record (client_on d c).ring { events = q } })
+      (queue (is_same_clock c.clock clock) c.ring.events (λ e. ap (offset d) (sym (same_clock c.clock clock e))))
+    where
+      queue : (b : Bool) (q : List Cell) → (b ≡ true → offset d clock ≡ offset d c.clock) → map (taken_of (offset d clock)) (clock_changed b (cell_of_event now place syn_dropped) q) ≡ clock_changed b (taken_at (now + offset d clock) place syn_dropped) (map (taken_of (offset d c.clock)) q)
+      queue b [] h = refl
+      queue true (x ∷ q) h = ap (λ o. map (taken_of o) (x ∷ q)) (h refl)
+      queue false (x ∷ q) h = refl
+
+  pub on_offer : (frame : List Event) (now place : ℕ) (holder : Option ℕ) (c : ClientView Cell) → client_on d (after_offer frame now place holder c) ≡ read_after_offer d frame now place holder (client_on d c)
+  on_offer frame now place holder c = either (is_offered_to holder c)
+    where
+      items : (es : List Event) → map (taken_at (now + offset d c.clock) place) es ≡ map (taken_of (offset d c.clock)) (map (cell_of_event now place) es)
+      items [] = refl
+      items (e ∷ es) = ap (λ r. taken_at (now + offset d c.clock) place e ∷ r) (items es)
+
+      queue : put_all taken_event model.dropped_at c.ring.places (client_on d c).ring.events (admitted_events d frame now place (client_on d c)) ≡ map (taken_of (offset d c.clock)) (put_all event_of dropped_at c.ring.places c.ring.events (admitted_cells frame now place c))
+      queue =
+          ap (put_all taken_event model.dropped_at c.ring.places (client_on d c).ring.events) (items (filter (admits_of c.masks) frame))
+          ∙ put_all-on (taken_of (offset d c.clock)) event_of taken_event (λ x. refl) dropped_at model.dropped_at (λ x. refl) c.ring.places c.ring.events (admitted_cells frame now place c)
+
+      either : (b : Bool) → client_on d (if b then with_events (put_all event_of dropped_at c.ring.places c.ring.events (admitted_cells frame now place c)) c else c)
+          ≡ (if b then with_events (put_all taken_event model.dropped_at c.ring.places (client_on d c).ring.events (admitted_events d frame now place (client_on d c))) (client_on d c) else client_on d c)
+      either true = ap (λ q. with_events q (client_on d c)) (sym queue)
+      either false = refl
+
+  -- the list of clients
+  pub clients_on-map : (change : ClientView Cell → ClientView Cell) (change' : ClientView Taken → ClientView Taken) → ((c : ClientView Cell) → client_on d (change c) ≡ change' (client_on d c)) → (clients : List (ClientView Cell)) → clients_on d (map change clients) ≡ map change' (clients_on d clients)
+  clients_on-map change change' same [] = refl
+  clients_on-map change change' same (c ∷ clients) = ap (λ x. x ∷ clients_on d (map change clients)) (same c) ∙ ap (λ xs. change' (client_on d c) ∷ xs) (clients_on-map change change' same clients)
+
+  pub clients_on-map_client : (number : ℕ) (change : ClientView Cell → ClientView Cell) (change' : ClientView Taken → ClientView Taken) → ((c : ClientView Cell) → client_on d (change c) ≡ change' (client_on d c)) → (clients : List (ClientView Cell)) → clients_on d (map_client number change clients) ≡ map_client number change' (clients_on d clients)
+  clients_on-map_client number change change' same clients =
+      clients_on-map (λ c. if has_number number c then change c else c) (λ c. if has_number number c then change' c else c) (λ c. one c (has_number number c)) clients
+    where
+      one : (c : ClientView Cell) (b : Bool) → client_on d (if b then change c else c) ≡ (if b then change' (client_on d c) else client_on d c)
+      one c true = same c
+      one c false = refl
+
+  pub has_client-on : (number : ℕ) (clients : List (ClientView Cell)) → has_client number (clients_on d clients) ≡ has_client number clients
+  has_client-on number [] = refl
+  has_client-on number (c ∷ clients) = ap (λ (b : Bool). nat_eq c.number number || b) (has_client-on number clients)
+
+  pub length-on : (clients : List (ClientView Cell)) → length (clients_on d clients) ≡ length clients
+  length-on clients = length-map clients (client_on d)
+
+  pub client_named-on : (number : ℕ) (clients : List (ClientView Cell)) → client_named number (clients_on d clients) ≡ option_map (client_on d) (client_named number clients)
+  client_named-on number [] = refl
+  client_named-on number (c ∷ clients) = one (nat_eq c.number number) (client_named-on number clients)
+    where
+      one : (b : Bool) → client_named number (clients_on d clients) ≡ option_map (client_on d) (client_named number clients) → (if b then Some (client_on d c) else client_named number (clients_on d clients)) ≡ option_map (client_on d) (if b then Some c else client_named number clients)
+      one true rest = refl
+      one false rest = rest
+
+  pub has_revoked_client-on : (number : ℕ) (clients : List (ClientView Cell)) → has_revoked_client number (clients_on d clients) ≡ has_revoked_client number clients
+  has_revoked_client-on number clients = ap (λ o. option_map_or (λ (c : ClientView Taken). c.revoked) o false) (client_named-on number clients) ∙ one (client_named number clients)
+    where
+      one : (o : Option (ClientView Cell)) → option_map_or (λ c. c.revoked) (option_map (client_on d) o) false ≡ option_map_or (λ c. c.revoked) o false
+      one None = refl
+      one (Some c) = refl
+
+  pub visible-on_clock : (number : ℕ) (clients : List (ClientView Cell)) → visible taken_event (events_of number (clients_on d clients)) ≡ visible event_of (events_of number clients)
+  visible-on_clock number clients = ap (λ o. visible taken_event (option_map_or (λ (c : ClientView Taken). c.ring.events) o [])) (client_named-on number clients) ∙ one (client_named number clients)
+    where
+      one : (o : Option (ClientView Cell)) → visible taken_event (option_map_or (λ c. c.ring.events) (option_map (client_on d) o) []) ≡ visible event_of (option_map_or (λ c. c.ring.events) o [])
+      one None = refl
+      one (Some c) = visible-client_on c
+
+  pub without_client-on : (number : ℕ) (clients : List (ClientView Cell)) → clients_on d (without_client number clients) ≡ without_client number (clients_on d clients)
+  without_client-on number [] = refl
+  without_client-on number (c ∷ clients) = one (not (nat_eq c.number number)) (without_client-on number clients)
+    where
+      one : (b : Bool) → clients_on d (without_client number clients) ≡ without_client number (clients_on d clients) → clients_on d (if b then c ∷ without_client number clients else without_client number clients) ≡ (if b then client_on d c ∷ without_client number (clients_on d clients) else without_client number (clients_on d clients))
+      one true rest = ap (λ xs. client_on d c ∷ xs) rest
+      one false rest = rest
+
+  pub with_client-on : (new : ClientView Cell) (clients : List (ClientView Cell)) → clients_on d (with_client new clients) ≡ with_client (client_on d new) (clients_on d clients)
+  with_client-on new [] = refl
+  with_client-on new (c ∷ clients) = one (nat_lt c.number new.number) (with_client-on new clients)
+    where
+      one : (b : Bool) → clients_on d (with_client new clients) ≡ with_client (client_on d new) (clients_on d clients) → clients_on d (if b then c ∷ with_client new clients else new ∷ c ∷ clients) ≡ (if b then client_on d c ∷ with_client (client_on d new) (clients_on d clients) else client_on d new ∷ client_on d c ∷ clients_on d clients)
+      one true rest = ap (λ xs. client_on d c ∷ xs) rest
+      one false rest = refl

@@ -1,0 +1,8 @@
+use Rattle.inp_client.proofs.Offers.{offered_more, offered_all}
+use Rattle.inp_client.proofs.clients.offer_events.Goals as goal
+
+pub loop-event-preserved : goal.loop-event-preserved
+loop-event-preserved c = offered_more _ c.loop-event.invariant c.loop-event-test.true c.offer_cell.ensures.after c.offer_cell.ensures.offered c.offer_cell.ensures.wanted c.offer_cell.ensures.capacity
+
+pub returns-clause-offered : goal.returns-clause-offered
+returns-clause-offered c = offered_all c.loop-event.invariant c.loop-event-test.false
