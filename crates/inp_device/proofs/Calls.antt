@@ -20,7 +20,8 @@ use Rattle.inp_model.specs.Queue as model
 use Rattle.inp_model.specs.Queue.{Entry, entry_dropped_at, put_all, visible, flush, flush_for, is_same_clock, clock_changed, clock_entry, entries, left_by_call, queue}
 use Rattle.inp_model.specs.Reply.{taken_of}
 use Rattle.inp_client.specs.Masks.{masks_with, full_masks}
-use Rattle.inp_client.specs.Client.{ClientView, new_client, with_events, after_take, after_flush, after_mask, after_clock, after_revoke}
+use Rattle.inp_client.specs.Client.{ClientView, new_client, with_events, after_take, after_flush, after_mask, after_revoke}
+use Rattle.inp_client.specs.Read.{taken_event, read_after_clock}
 use Rattle.inp_client.specs.Clients.{has_client, has_revoked_client, events_of, map_client, without_client}
 use Rattle.inp_device.specs.Present.{client_after, clients_after, MasksEnd, IsFresh}
 use Rattle.inp_model.proofs.Opens.{is_open-lt}
@@ -67,7 +68,7 @@ has_revoked_client-after d past n h = has_revoked_client-map (client_after d pas
 -- Steps that end no frame
 
 -- a step of one client that opens and closes none: the clients are as the call changes that one
-changed_by : (d : Description) (past : List Step) (x : Step) (n : ℕ) (change : ClientView → ClientView) → open_clients (x ∷ past) ≡ open_clients past
+changed_by : (d : Description) (past : List Step) (x : Step) (n : ℕ) (change : ClientView Taken → ClientView Taken) → open_clients (x ∷ past) ≡ open_clients past
     → (is_open past n ≡ true → client_after d (x ∷ past) n ≡ change (client_after d past n)) → ((k : ℕ) → (k ≡ n → ⊥) → client_after d (x ∷ past) k ≡ client_after d past k)
     → clients_after d (x ∷ past) ≡ map_client n change (clients_after d past)
 changed_by d past x n change same here there =
@@ -85,7 +86,7 @@ at_name n changed q = ap (λ b. if b then changed else q) (nat_eq-same n)
 left_of : (d : Description) (past : List Step) (n count : ℕ) (q : List Entry) → client_with d past n (drop count q) ≡ after_take count (client_with d past n q)
 left_of d past n count q = ap (λ (ts : List Taken). with_events ts (client_with d past n q)) (sym (drop-map taken_of count q))
 
-flush_of : (d : Description) (past : List Step) (n : ℕ) (query : Query) (q : List Entry) → client_with d past n (flush model.event_of (is_part_of query) q) ≡ after_flush query (client_with d past n q)
+flush_of : (d : Description) (past : List Step) (n : ℕ) (query : Query) (q : List Entry) → client_with d past n (flush model.event_of (is_part_of query) q) ≡ after_flush taken_event query (client_with d past n q)
 flush_of d past n query q = ap (λ (ts : List Taken). with_events ts (client_with d past n q)) (flush-map (is_part_of query) q)
 
 pub clients_after-read : (d : Description) (past : List Step) (n count taken : ℕ) → taken ≡ min count (visible model.event_of (queue d past n)) → clients_after d (Read n count ∷ past) ≡ map_client n (after_take taken) (clients_after d past)
@@ -105,9 +106,9 @@ clients_after-discard d past n removed chosen =
 -- a step that asks for something whole
 asked : (d : Description) (past : List Step) (x : Step) (n : ℕ) (query : Query) → open_clients (x ∷ past) ≡ open_clients past
     → ((k : ℕ) → client_after d (x ∷ past) k ≡ client_with d past k (if nat_eq n k then flush model.event_of (is_part_of query) (queue d past k) else queue d past k))
-    → clients_after d (x ∷ past) ≡ map_client n (after_flush query) (clients_after d past)
+    → clients_after d (x ∷ past) ≡ map_client n (after_flush taken_event query) (clients_after d past)
 asked d past x n query same is =
-    changed_by d past x n (after_flush query) same
+    changed_by d past x n (after_flush taken_event query) same
     (λ opened. is n ∙ ap (client_with d past n) (at_name n (flush model.event_of (is_part_of query) (queue d past n)) (queue d past n)) ∙ flush_of d past n query (queue d past n))
     (λ k other. is k ∙ ap (client_with d past k) (by_name n k (flush model.event_of (is_part_of query) (queue d past k)) (queue d past k) other))
 
@@ -115,28 +116,28 @@ some_same : {X : Type 0} (x y : X) → Some x ≡ Some y → x ≡ y
 some_same x y e = cc
 
 -- the queries of bits, and of all slots
-pub clients_after-query : (d : Description) (past : List Step) (x : Step) (n : ℕ) (query : Query) → client_of x ≡ Some n → query_of x ≡ Some query → clients_after d (x ∷ past) ≡ map_client n (after_flush query) (clients_after d past)
+pub clients_after-query : (d : Description) (past : List Step) (x : Step) (n : ℕ) (query : Query) → client_of x ≡ Some n → query_of x ≡ Some query → clients_after d (x ∷ past) ≡ map_client n (after_flush taken_event query) (clients_after d past)
 unfolding opens is_open is_revoked clock_of mask_bit queue raw_of_step cuts
 clients_after-query d past (GetKeys m) n query named whole =
     let same : m ≡ n = some_same m n named in
     let asks : Codes 1 ≡ query = some_same (Codes 1) query whole in
-    asked d past (GetKeys m) m (Codes 1) refl (λ k. refl) ∙ ap (λ (j : ℕ). map_client j (after_flush (Codes 1)) (clients_after d past)) same ∙ ap (λ q. map_client n (after_flush q) (clients_after d past)) asks
+    asked d past (GetKeys m) m (Codes 1) refl (λ k. refl) ∙ ap (λ (j : ℕ). map_client j (after_flush taken_event (Codes 1)) (clients_after d past)) same ∙ ap (λ q. map_client n (after_flush taken_event q) (clients_after d past)) asks
 clients_after-query d past (GetSwitches m) n query named whole =
     let same : m ≡ n = some_same m n named in
     let asks : Codes 5 ≡ query = some_same (Codes 5) query whole in
-    asked d past (GetSwitches m) m (Codes 5) refl (λ k. refl) ∙ ap (λ (j : ℕ). map_client j (after_flush (Codes 5)) (clients_after d past)) same ∙ ap (λ q. map_client n (after_flush q) (clients_after d past)) asks
+    asked d past (GetSwitches m) m (Codes 5) refl (λ k. refl) ∙ ap (λ (j : ℕ). map_client j (after_flush taken_event (Codes 5)) (clients_after d past)) same ∙ ap (λ q. map_client n (after_flush taken_event q) (clients_after d past)) asks
 clients_after-query d past (GetLeds m) n query named whole =
     let same : m ≡ n = some_same m n named in
     let asks : Codes 17 ≡ query = some_same (Codes 17) query whole in
-    asked d past (GetLeds m) m (Codes 17) refl (λ k. refl) ∙ ap (λ (j : ℕ). map_client j (after_flush (Codes 17)) (clients_after d past)) same ∙ ap (λ q. map_client n (after_flush q) (clients_after d past)) asks
+    asked d past (GetLeds m) m (Codes 17) refl (λ k. refl) ∙ ap (λ (j : ℕ). map_client j (after_flush taken_event (Codes 17)) (clients_after d past)) same ∙ ap (λ q. map_client n (after_flush taken_event q) (clients_after d past)) asks
 clients_after-query d past (GetSounds m) n query named whole =
     let same : m ≡ n = some_same m n named in
     let asks : Codes 18 ≡ query = some_same (Codes 18) query whole in
-    asked d past (GetSounds m) m (Codes 18) refl (λ k. refl) ∙ ap (λ (j : ℕ). map_client j (after_flush (Codes 18)) (clients_after d past)) same ∙ ap (λ q. map_client n (after_flush q) (clients_after d past)) asks
+    asked d past (GetSounds m) m (Codes 18) refl (λ k. refl) ∙ ap (λ (j : ℕ). map_client j (after_flush taken_event (Codes 18)) (clients_after d past)) same ∙ ap (λ q. map_client n (after_flush taken_event q) (clients_after d past)) asks
 clients_after-query d past (SyncSlots m) n query named whole =
     let same : m ≡ n = some_same m n named in
     let asks : Slots ≡ query = some_same Slots query whole in
-    asked d past (SyncSlots m) m Slots refl (λ k. refl) ∙ ap (λ (j : ℕ). map_client j (after_flush Slots) (clients_after d past)) same ∙ ap (λ q. map_client n (after_flush q) (clients_after d past)) asks
+    asked d past (SyncSlots m) m Slots refl (λ k. refl) ∙ ap (λ (j : ℕ). map_client j (after_flush taken_event Slots) (clients_after d past)) same ∙ ap (λ q. map_client n (after_flush taken_event q) (clients_after d past)) asks
 clients_after-query d past x n query named whole = absurd (cc whole)
 
 pub clients_after-revoke : (d : Description) (past : List Step) (n : ℕ) → clients_after d (Revoke n ∷ past) ≡ map_client n after_revoke (clients_after d past)
@@ -146,7 +147,7 @@ clients_after-revoke d past n =
     (λ opened. here (nat_eq n n) (nat_eq-same n))
     (λ k other. there k (nat_eq n k) (nat_eq-other n k (λ e. other (sym e))))
   where
-    with_flag : ℕ → Bool → List Entry → ClientView
+    with_flag : ℕ → Bool → List Entry → ClientView Taken
     with_flag k revoked q = record (client_with d past k q) { revoked = revoked }
 
     here : (b : Bool) → b ≡ true → with_flag n (if b then true else is_revoked past n) (if b then queue d past n else queue d past n) ≡ after_revoke (client_after d past n)
@@ -160,13 +161,13 @@ clients_after-revoke d past n =
 -- the masks of a client, by whether it is the one named
 mask_there : (d : Description) (past : List Step) (n k kind word bits : ℕ) (b : Bool) → b ≡ false
     → (let changed : ℕ → ℕ → Bool = λ this i. unwrap_or (if b && nat_eq kind this && nat_eq word (i / 64) then Some (bit_at bits (i % 64) == 1) else None) (mask_bit past k this i) in
-    let c : ClientView = record (client_with d past k (if b then queue d past k else queue d past k)) { masks = masks_with changed } in c ≡ client_after d past k)
+    let c : ClientView Taken = record (client_with d past k (if b then queue d past k else queue d past k)) { masks = masks_with changed } in c ≡ client_after d past k)
 mask_there d past n k kind word bits true h = absurd (cc h)
 mask_there d past n k kind word bits false h = refl
 
 mask_here : (d : Description) (past : List Step) (n kind word bits : ℕ) (b : Bool) → word < mask_words kind → b ≡ true
     → (let changed : ℕ → ℕ → Bool = λ this i. unwrap_or (if b && nat_eq kind this && nat_eq word (i / 64) then Some (bit_at bits (i % 64) == 1) else None) (mask_bit past n this i) in
-    let c : ClientView = record (client_with d past n (if b then queue d past n else queue d past n)) { masks = masks_with changed } in c ≡ after_mask kind word bits (client_after d past n))
+    let c : ClientView Taken = record (client_with d past n (if b then queue d past n else queue d past n)) { masks = masks_with changed } in c ≡ after_mask kind word bits (client_after d past n))
 mask_here d past n kind word bits true fits h = ap (λ m. record (client_after d past n) { masks = m }) (masks_with-set (mask_bit past n) kind word bits fits)
 mask_here d past n kind word bits false fits h = absurd (cc h)
 
@@ -184,20 +185,20 @@ clock_changed-map d past true e (x ∷ q) = refl
 clock_changed-map d past false e (x ∷ q) = refl
 
 clock_there : (d : Description) (past : List Step) (k : ℕ) (clock : Clock) (changed : List Entry) (b : Bool) → b ≡ false
-    → (let c : ClientView = record (client_with d past k (if b then changed else queue d past k)) { clock = unwrap_or (if b then Some clock else None) (clock_of past k) } in c ≡ client_after d past k)
+    → (let c : ClientView Taken = record (client_with d past k (if b then changed else queue d past k)) { clock = unwrap_or (if b then Some clock else None) (clock_of past k) } in c ≡ client_after d past k)
 clock_there d past k clock changed true h = absurd (cc h)
 clock_there d past k clock changed false h = refl
 
 clock_here : (d : Description) (past : List Step) (n : ℕ) (clock : Clock) (now : ℕ) (b : Bool) → b ≡ true
-    → (let c : ClientView = record (client_with d past n (if b then clock_changed (is_same_clock (clock_of past n) clock) (clock_entry d past clock now) (queue d past n) else queue d past n)) { clock = unwrap_or (if b then Some clock else None) (clock_of past n) } in c ≡ after_clock d clock now (length past) (client_after d past n))
+    → (let c : ClientView Taken = record (client_with d past n (if b then clock_changed (is_same_clock (clock_of past n) clock) (clock_entry d past clock now) (queue d past n) else queue d past n)) { clock = unwrap_or (if b then Some clock else None) (clock_of past n) } in c ≡ read_after_clock d clock now (length past) (client_after d past n))
 clock_here d past n clock now true h =
     ap (λ (ts : List Taken). record (with_events ts (client_after d past n)) { clock = clock }) (clock_changed-map d past (is_same_clock (clock_of past n) clock) (clock_entry d past clock now) (queue d past n))
 clock_here d past n clock now false h = absurd (cc h)
 
-pub clients_after-clock : (d : Description) (past : List Step) (n : ℕ) (clock : Clock) (now : ℕ) → clients_after d (ToClock n clock now ∷ past) ≡ map_client n (after_clock d clock now (length past)) (clients_after d past)
+pub clients_after-clock : (d : Description) (past : List Step) (n : ℕ) (clock : Clock) (now : ℕ) → clients_after d (ToClock n clock now ∷ past) ≡ map_client n (read_after_clock d clock now (length past)) (clients_after d past)
 unfolding opens is_open is_revoked clock_of mask_bit queue raw_of_step cuts
 clients_after-clock d past n clock now =
-    changed_by d past (ToClock n clock now) n (after_clock d clock now (length past)) refl
+    changed_by d past (ToClock n clock now) n (read_after_clock d clock now (length past)) refl
     (λ opened. clock_here d past n clock now (nat_eq n n) (nat_eq-same n))
     (λ k other. clock_there d past k clock (clock_changed (is_same_clock (clock_of past n) clock) (clock_entry d past clock now) (queue d past k)) (nat_eq n k) (nat_eq-other n k (λ e. other (sym e))))
 
@@ -247,13 +248,13 @@ clients_after-open d past fresh =
     let f = client_after d (Open ∷ past) in
     ap (map f) (open_clients-open past)
     ∙ map-append f (open_clients past) (n ∷ [])
-    ∙ ap (λ (cs : List ClientView). cs ++ f n ∷ [])
+    ∙ ap (λ (cs : List (ClientView Taken)). cs ++ f n ∷ [])
     (map-filter_same f (client_after d past) (is_open past) (range_with_len 0 n) (λ k opened. ap (client_with d past k) (open_by (nat_eq n k) (queue d past k) (nat_eq-other n k (λ e. absurd (omega (arith, e, is_open-lt past k opened)))))))
     ∙ ap (λ c. clients_after d past ++ c ∷ []) (ap (client_with d past n) (opened_by (nat_eq n n) (queue d past n) (nat_eq-same n)) ∙ new_client-is d past n fresh)
 
 -- Steps that may end frames
 
-map_map : {X : Type 0} → (f : ClientView → X) (g : ℕ → ClientView) (ns : List ℕ) → map f (map g ns) ≡ map (λ n. f (g n)) ns
+map_map : {X : Type 0} → (f : ClientView Taken → X) (g : ℕ → ClientView Taken) (ns : List ℕ) → map f (map g ns) ≡ map (λ n. f (g n)) ns
 map_map f g [] = refl
 map_map f g (n ∷ ns) = ap (λ xs. f (g n) ∷ xs) (map_map f g ns)
 

@@ -9,6 +9,7 @@ pub mod Named
 pub mod Offers
 pub mod Calls
 pub mod Standing
+pub mod Stored
 pub mod Making
 pub mod Entering
 pub mod WordLists

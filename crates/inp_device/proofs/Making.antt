@@ -27,9 +27,12 @@ use Rattle.inp_device.specs.declared.handler.Handler.{Handler}
 use Rattle.inp_device.specs.declared.present.Present.{Present}
 use Rattle.inp_device.specs.Handler.{fresh_handler}
 use Rattle.inp_bits.proofs.Indices.{All-filter_range}
-use Rattle.inp_ring.specs.Ring.{event_of}
+use Rattle.inp_ring.specs.declared.cell.Cell.{Cell}
+use Rattle.inp_ring.specs.Store.{event_of}
 use Rattle.inp_client.specs.Client.{ClientView, new_client, after_take, after_flush}
 use Rattle.inp_client.specs.Clients.{has_client, has_revoked_client, events_of, map_client, with_client}
+use Rattle.inp_client.specs.Read.{taken_event, client_on, clients_on}
+use Rattle.inp_client.proofs.OnClock.{clients_on-map_client, has_client-on, has_revoked_client-on, visible-on_clock, length-on, with_client-on}
 use Rattle.inp_client.proofs.ClientLists.{AllBelow, unused_above, with_client_above}
 use Rattle.inp_device.specs.Present.{client_after, clients_after, HasBits, AsksBits, StandsFor, IsReadyFor, IsMade}
 use Rattle.inp_model.proofs.Opens.{opens-le}
@@ -37,6 +40,14 @@ use Rattle.inp_device.proofs.Queues.{visible-map}
 use Rattle.inp_model.proofs.Allowed.{allowed, named_open}
 use Rattle.inp_device.proofs.Calls.{makes_events, leaves_clients, has_client-after, has_revoked_client-after, events_of-after, clients_after-read, clients_after-discard, clients_after-query, clients_after-open, clients_after-left}
 use Rattle.inp_device.proofs.Standing.{takes, leaves_grab, stands_called, stands_framed, holder-keeps, opens-keeps, opens-open, ends-keeps, ends-end, ends-le, handler_stands, no_holder, own_grab, holder-grab, holder-ungrab}
+
+-- the clients that are kept, with what they read of their cells
+abbrev pub shown : Present → List (ClientView Taken)
+shown p = clients_on p.caps p.handler.clients.list
+
+-- what a call on one client makes of its cells, it makes of what the client reads
+pub call_on_clock : (d : Description) (client : ℕ) (change : ClientView Cell → ClientView Cell) (change' : ClientView Taken → ClientView Taken) (old : List (ClientView Cell)) {new : List (ClientView Cell)} → ((v : ClientView Cell) → client_on d (change v) ≡ change' (client_on d v)) → new ≡ map_client client change old → clients_on d new ≡ map_client client change' (clients_on d old)
+call_on_clock d client change change' old same e = ap (clients_on d) e ∙ clients_on-map_client d client change change' same old
 
 -- a step that answers a reply alone
 pub made_alone : (history : List Step) (x : Step) (old new : Present) (reply is : Reply) → accepted old.caps (reverse history) x ≡ alone is → reply ≡ is → StandsFor old.caps (x ∷ reverse history) new → IsMade history x old reply [] [] [] [] new
@@ -51,14 +62,15 @@ done_at : (history : List Step) (reply : Reply) → reply ≡ Done (length histo
 done_at history reply r = r ∙ ap (λ (n : ℕ). Done n) (sym (length-reverse history))
 
 -- the client that a step names is among those that are kept
-pub named_there : (history : List Step) (x : Step) (old : Present) (client : ℕ) → IsReadyFor history x old → client_of x ≡ Some client → has_client client old.handler.clients ≡ true
+pub named_there : (history : List Step) (x : Step) (old : Present) (client : ℕ) → IsReadyFor history x old → client_of x ≡ Some client → has_client client old.handler.clients.list ≡ true
 named_there history x old client ready named =
-    ap (has_client client) ready.stands.handler.clients
+    sym (has_client-on old.caps client old.handler.clients.list)
+    ∙ ap (has_client client) ready.stands.handler.clients
     ∙ has_client-after old.caps (reverse history) client
     ∙ named_open (reverse history) x client named (allowed old.caps (reverse history) x ready.allowed).client
 
 -- its queue
-pub named_events : (history : List Step) (x : Step) (old : Present) (client : ℕ) → IsReadyFor history x old → client_of x ≡ Some client → events_of client old.handler.clients ≡ map taken_of (queue old.caps (reverse history) client)
+pub named_events : (history : List Step) (x : Step) (old : Present) (client : ℕ) → IsReadyFor history x old → client_of x ≡ Some client → events_of client (shown old) ≡ map taken_of (queue old.caps (reverse history) client)
 named_events history x old client ready named =
     ap (events_of client) ready.stands.handler.clients
     ∙ events_of-after old.caps (reverse history) client (named_open (reverse history) x client named (allowed old.caps (reverse history) x ready.allowed).client)
@@ -66,7 +78,7 @@ named_events history x old client ready named =
 -- a call that asks the core for nothing, and opens no client
 pub called : (history : List Step) (x : Step) (old new : Present) → IsReadyFor history x old → makes_no_events x ≡ true → is_open_step x ≡ false → is_end_step x ≡ false
     → new.caps ≡ old.caps → new.core ≡ old.core → new.handler.caps ≡ old.handler.caps → new.opens ≡ old.opens → new.ends ≡ old.ends
-    → new.handler.clients ≡ clients_after old.caps (x ∷ reverse history) → new.handles.holder ≡ holder (x ∷ reverse history) → StandsFor old.caps (x ∷ reverse history) new
+    → clients_on old.caps new.handler.clients.list ≡ clients_after old.caps (x ∷ reverse history) → new.handles.holder ≡ holder (x ∷ reverse history) → StandsFor old.caps (x ∷ reverse history) new
 called history x old new ready none opening ending caps core handler opened ended clients grab =
     let past : List Step = reverse history in
     stands_called old.caps past x old new ready.stands (allowed old.caps past x ready.allowed) none
@@ -85,7 +97,7 @@ pub holder_same : (history : List Step) (x : Step) (old : Present) → IsReadyFo
 holder_same history x old ready grab = ready.stands.holder ∙ sym (holder-keeps (reverse history) x grab)
 
 -- the clients are as before
-pub clients_same : (history : List Step) (x : Step) (old : Present) → IsReadyFor history x old → leaves_clients x ≡ true → old.handler.clients ≡ clients_after old.caps (x ∷ reverse history)
+pub clients_same : (history : List Step) (x : Step) (old : Present) → IsReadyFor history x old → leaves_clients x ≡ true → shown old ≡ clients_after old.caps (x ∷ reverse history)
 clients_same history x old ready leaves = ready.stands.handler.clients ∙ sym (clients_after-left old.caps (reverse history) x leaves)
 
 -- a call that is done
@@ -111,7 +123,7 @@ stands_uninhibited history old new ready caps core made handler grab opened ende
       caps = caps;
       core = core;
       made = made;
-      handler = handler_stands old.caps past Uninhibit old.handler new.handler (allowed old.caps past Uninhibit ready.allowed) ready.stands.handler (ap (λ (h : Handler). h.caps) handler) (ap (λ (h : Handler). h.clients) handler ∙ clients_same history Uninhibit old ready refl);
+      handler = handler_stands old.caps past Uninhibit old.handler new.handler (allowed old.caps past Uninhibit ready.allowed) ready.stands.handler (ap (λ (h : Handler). h.caps) handler) (ap (λ (h : Handler). clients_on old.caps h.clients.list) handler ∙ clients_same history Uninhibit old ready refl);
       holder = grab ∙ holder_same history Uninhibit old ready refl;
       opens = opened ∙ ready.stands.opens ∙ sym (opens-keeps past Uninhibit refl);
       ends = ended ∙ ready.stands.ends ∙ sym (ends-keeps past Uninhibit refl);
@@ -127,7 +139,7 @@ stands_ended history old new ready caps core handler grab opened ended =
       caps = caps;
       core = core;
       handler = ap (λ (h : Handler). h.caps) handler;
-      clients = ap (λ (h : Handler). h.clients) handler ∙ clients_same history End old ready refl;
+      clients = ap (λ (h : Handler). clients_on old.caps h.clients.list) handler ∙ clients_same history End old ready refl;
       holder = grab ∙ holder_same history End old ready refl;
       opens = opened ∙ ready.stands.opens ∙ sym (opens-keeps past End refl);
       ends = ended ∙ ap (λ (n : ℕ). n + 1) ready.stands.ends ∙ more ∙ sym (ends-end past);
@@ -142,8 +154,8 @@ opens_fit history x old ready = omega (arith, opens-le (reverse history), ready.
 
 -- Reading
 
-visible_of : (history : List Step) (x : Step) (old : Present) (client : ℕ) → IsReadyFor history x old → client_of x ≡ Some client → visible event_of (events_of client old.handler.clients) ≡ visible model.event_of (queue old.caps (reverse history) client)
-visible_of history x old client ready named = ap (visible event_of) (named_events history x old client ready named) ∙ visible-map (queue old.caps (reverse history) client)
+visible_of : (history : List Step) (x : Step) (old : Present) (client : ℕ) → IsReadyFor history x old → client_of x ≡ Some client → visible event_of (events_of client old.handler.clients.list) ≡ visible model.event_of (queue old.caps (reverse history) client)
+visible_of history x old client ready named = sym (visible-on_clock old.caps client old.handler.clients.list) ∙ ap (visible taken_event) (named_events history x old client ready named) ∙ visible-map (queue old.caps (reverse history) client)
 
 nat_eq_same : (n : ℕ) → nat_eq n n ≡ true
 nat_eq_same n = grind (arith, nat_tests)
@@ -167,29 +179,29 @@ read_answer past q count taken at ts chosen is placed =
     ∙ ap (λ (n : ℕ). record { reply = Took at n; events = map taken_of (take taken q); cells = [] }) long
     ∙ ap (λ (es : List Taken). record { reply = Took at taken; events = es; cells = [] }) (sym (take-map taken_of taken q) ∙ ap (take taken) (sym is))
 
-pub accepted-read : (history : List Step) (old : Present) (client count taken : ℕ) → IsReadyFor history (Read client count) old → taken ≡ min count (visible event_of (events_of client old.handler.clients))
-    → accepted old.caps (reverse history) (Read client count) ≡ record { reply = Took (length history) taken; events = take taken (events_of client old.handler.clients); cells = [] }
+pub accepted-read : (history : List Step) (old : Present) (client count taken : ℕ) → IsReadyFor history (Read client count) old → taken ≡ min count (visible event_of (events_of client old.handler.clients.list))
+    → accepted old.caps (reverse history) (Read client count) ≡ record { reply = Took (length history) taken; events = take taken (events_of client (shown old)); cells = [] }
 accepted-read history old client count taken ready chosen =
     let past : List Step = reverse history in
     let q : List Entry = queue old.caps past client in
     ap (λ b. took_answer past (if b then take (min count (visible model.event_of q)) q else [])) (nat_eq_same client)
-    ∙ read_answer past q count taken (length history) (events_of client old.handler.clients)
+    ∙ read_answer past q count taken (length history) (events_of client (shown old))
     (chosen ∙ ap (min count) (visible_of history (Read client count) old client ready refl))
     (named_events history (Read client count) old client ready refl) (sym (length-reverse history))
 
-pub clients_read : (history : List Step) (old : Present) (client count taken : ℕ) → IsReadyFor history (Read client count) old → taken ≡ min count (visible event_of (events_of client old.handler.clients))
-    → map_client client (after_take taken) old.handler.clients ≡ clients_after old.caps (Read client count ∷ reverse history)
+pub clients_read : (history : List Step) (old : Present) (client count taken : ℕ) → IsReadyFor history (Read client count) old → taken ≡ min count (visible event_of (events_of client old.handler.clients.list))
+    → map_client client (after_take taken) (shown old) ≡ clients_after old.caps (Read client count ∷ reverse history)
 clients_read history old client count taken ready chosen =
     ap (map_client client (after_take taken)) ready.stands.handler.clients
     ∙ sym (clients_after-read old.caps (reverse history) client count taken (chosen ∙ ap (min count) (visible_of history (Read client count) old client ready refl)))
 
-pub clients_discarded : (history : List Step) (old : Present) (client removed : ℕ) → IsReadyFor history (Discard client) old → removed ≡ visible event_of (events_of client old.handler.clients)
-    → map_client client (after_take removed) old.handler.clients ≡ clients_after old.caps (Discard client ∷ reverse history)
+pub clients_discarded : (history : List Step) (old : Present) (client removed : ℕ) → IsReadyFor history (Discard client) old → removed ≡ visible event_of (events_of client old.handler.clients.list)
+    → map_client client (after_take removed) (shown old) ≡ clients_after old.caps (Discard client ∷ reverse history)
 clients_discarded history old client removed ready chosen =
     ap (map_client client (after_take removed)) ready.stands.handler.clients
     ∙ sym (clients_after-discard old.caps (reverse history) client removed (chosen ∙ visible_of history (Discard client) old client ready refl))
 
-pub discarded_at : (history : List Step) (old : Present) (client removed : ℕ) → IsReadyFor history (Discard client) old → removed ≡ visible event_of (events_of client old.handler.clients)
+pub discarded_at : (history : List Step) (old : Present) (client removed : ℕ) → IsReadyFor history (Discard client) old → removed ≡ visible event_of (events_of client old.handler.clients.list)
     → Discarded (length history) removed ≡ Discarded (length (reverse history)) (visible model.event_of (queue old.caps (reverse history) client))
 discarded_at history old client removed ready chosen =
     ap (λ (n : ℕ). Discarded n removed) (sym (length-reverse history))
@@ -243,29 +255,29 @@ all_below : (d : Description) (past : List Step) → AllBelow (opens past) (clie
 all_below d past =
     let zero_plus : 0 + opens past ≡ opens past = omega arith in
     subst (λ (n : ℕ). AllBelow n (clients_after d past)) zero_plus
-    (All-map (λ (c : ClientView). c.number < 0 + opens past) (client_after d past) (open_clients past) (All-filter_range (is_open past) 0 (opens past)))
+    (All-map (λ (c : ClientView Taken). c.number < 0 + opens past) (client_after d past) (open_clients past) (All-filter_range (is_open past) 0 (opens past)))
 
-opens_above : (history : List Step) (old : Present) → IsReadyFor history Open old → AllBelow old.opens old.handler.clients
+opens_above : (history : List Step) (old : Present) → IsReadyFor history Open old → AllBelow old.opens (shown old)
 opens_above history old ready =
-    subst (λ (n : ℕ). AllBelow n old.handler.clients) (sym ready.stands.opens)
+    subst (λ (n : ℕ). AllBelow n (shown old)) (sym ready.stands.opens)
     (subst (AllBelow (opens (reverse history))) (sym ready.stands.handler.clients) (all_below old.caps (reverse history)))
 
 -- so no open client has that number
-pub opens_unused : (history : List Step) (old : Present) → IsReadyFor history Open old → has_client old.opens old.handler.clients ≡ false
-opens_unused history old ready = unused_above old.opens old.handler.clients (opens_above history old ready)
+pub opens_unused : (history : List Step) (old : Present) → IsReadyFor history Open old → has_client old.opens old.handler.clients.list ≡ false
+opens_unused history old ready = sym (has_client-on old.caps old.opens old.handler.clients.list) ∙ unused_above old.opens (shown old) (opens_above history old ready)
 
 le_true : (m n : ℕ) → nat_le m n ≡ false → n < m
 le_true m n h = grind (arith, nat_tests, h)
 
 -- fewer clients are open than may be
-pub opens_few : (history : List Step) (old : Present) → IsReadyFor history Open old → length old.handler.clients < CLIENTS_MAX
+pub opens_few : (history : List Step) (old : Present) → IsReadyFor history Open old → length old.handler.clients.list < CLIENTS_MAX
 opens_few history old ready =
     let past : List Step = reverse history in
     let open_few : length (open_clients past) < CLIENTS_MAX = le_true CLIENTS_MAX (length (open_clients past)) (allowed old.caps past Open ready.allowed).few in
-    omega (arith, open_few, ap length ready.stands.handler.clients, length-map (open_clients past) (client_after old.caps past))
+    omega (arith, open_few, length-on old.caps old.handler.clients.list, ap length ready.stands.handler.clients, length-map (open_clients past) (client_after old.caps past))
 
 pub made_open : (history : List Step) (old new : Present) (places : ℕ) → IsReadyFor history Open old → places ≡ ring old.caps → new.caps ≡ old.caps → new.core ≡ old.core → new.handler.caps ≡ old.handler.caps
-    → new.handler.clients ≡ with_client (new_client old.opens places) old.handler.clients → new.handles.holder ≡ old.handles.holder → new.opens ≡ old.opens + 1 → new.ends ≡ old.ends
+    → new.handler.clients.list ≡ with_client (new_client old.opens places) old.handler.clients.list → new.handles.holder ≡ old.handles.holder → new.opens ≡ old.opens + 1 → new.ends ≡ old.ends
     → IsMade history Open old (Opened (length history) old.opens places) [] [] [] [] new
 made_open history old new places ready ringed caps core handler clients grab opened ended =
     let past : List Step = reverse history in
@@ -280,9 +292,10 @@ made_open history old new places ready ringed caps core handler clients grab ope
       caps = caps;
       core = core;
       handler = handler;
-      clients = clients
-          ∙ with_client_above (new_client old.opens places) old.handler.clients (opens_above history old ready)
-          ∙ ap (λ (cs : List ClientView). cs ++ new_client old.opens places ∷ []) ready.stands.handler.clients
+      clients = ap (clients_on old.caps) clients
+          ∙ with_client-on old.caps (new_client old.opens places) old.handler.clients.list
+          ∙ with_client_above (new_client old.opens places) (shown old) (opens_above history old ready)
+          ∙ ap (λ (cs : List (ClientView Taken)). cs ++ new_client old.opens places ∷ []) ready.stands.handler.clients
           ∙ ap (λ (n : ℕ). clients_after old.caps past ++ new_client n places ∷ []) ready.stands.opens
           ∙ ap (λ (n : ℕ). clients_after old.caps past ++ new_client (opens past) n ∷ []) ringed
           ∙ sym (clients_after-open old.caps past (ready.stands.handler.fresh (opens past) le));
@@ -298,7 +311,7 @@ stands_same d past old new was caps core handler clients grab opened ended = rec
   caps = caps ∙ was.caps;
   core = subst (CoreStandsFor d past) (sym core) was.core;
   made = subst (IsFor d) (sym core) was.made;
-  handler = record { caps = handler ∙ was.handler.caps; clients = clients ∙ was.handler.clients; masks = was.handler.masks; fresh = was.handler.fresh };
+  handler = record { caps = handler ∙ was.handler.caps; clients = ap (λ v. clients_on d v.list) clients ∙ was.handler.clients; masks = was.handler.masks; fresh = was.handler.fresh };
   holder = grab ∙ was.holder;
   opens = opened ∙ was.opens;
   ends = ended ∙ was.ends;
@@ -343,8 +356,8 @@ axis_at history old code given e = ap (λ (n : ℕ). Axis n given) (sym (length-
 
 -- the clients after a query
 pub clients_asked : (history : List Step) (x : Step) (old : Present) (client : ℕ) (whole : Query) → IsReadyFor history x old → client_of x ≡ Some client → query_of x ≡ Some whole
-    → map_client client (after_flush whole) old.handler.clients ≡ clients_after old.caps (x ∷ reverse history)
-clients_asked history x old client whole ready named asks = ap (map_client client (after_flush whole)) ready.stands.handler.clients ∙ sym (clients_after-query old.caps (reverse history) x client whole named asks)
+    → map_client client (after_flush taken_event whole) (shown old) ≡ clients_after old.caps (x ∷ reverse history)
+clients_asked history x old client whole ready named asks = ap (map_client client (after_flush taken_event whole)) ready.stands.handler.clients ∙ sym (clients_after-query old.caps (reverse history) x client whole named asks)
 
 -- the reply that tells values of slots
 pub cells_at : (history : List Step) (x : Step) (old : Present) (reply : Reply) (count told : ℕ) (values : List ℤ) → IsReadyFor history x old → reply ≡ Cells (length history) count old.core.slots.at_frame → count ≡ told
@@ -360,12 +373,12 @@ slots_kept history x old count ready e = e ∙ sym ready.stands.made.slots
 
 -- The code's tests of a client
 
-pub bad_client : (d : Description) (past : List Step) (p : Present) (x : Step) (client : ℕ) (is : Bool) → StandsFor d past p → client_of x ≡ Some client → is ≡ has_client client p.handler.clients → not is ≡ is_bad_client past (client_of x)
+pub bad_client : (d : Description) (past : List Step) (p : Present) (x : Step) (client : ℕ) (is : Bool) → StandsFor d past p → client_of x ≡ Some client → is ≡ has_client client p.handler.clients.list → not is ≡ is_bad_client past (client_of x)
 bad_client d past p x client is stands named test =
-    ap not (test ∙ ap (has_client client) stands.handler.clients ∙ has_client-after d past client) ∙ sym (ap (is_bad_client past) named)
+    ap not (test ∙ sym (has_client-on d client p.handler.clients.list) ∙ ap (has_client client) stands.handler.clients ∙ has_client-after d past client) ∙ sym (ap (is_bad_client past) named)
 
-open_there : (d : Description) (past : List Step) (p : Present) (client : ℕ) → StandsFor d past p → has_client client p.handler.clients ≡ true → is_open past client ≡ true
-open_there d past p client stands there = sym (has_client-after d past client) ∙ ap (has_client client) (sym stands.handler.clients) ∙ there
+open_there : (d : Description) (past : List Step) (p : Present) (client : ℕ) → StandsFor d past p → has_client client p.handler.clients.list ≡ true → is_open past client ≡ true
+open_there d past p client stands there = sym (has_client-after d past client) ∙ ap (has_client client) (sym stands.handler.clients) ∙ has_client-on d client p.handler.clients.list ∙ there
 
 not_close : (x : Step) (client : ℕ) → ((n : ℕ) → x ≡ Close n → ⊥) → is_close_of client x ≡ false
 not_close (Close n) client other = absurd (other n refl)
@@ -375,20 +388,20 @@ and_true : (b : Bool) → (b && true) ≡ b
 and_true true = refl
 and_true false = refl
 
-pub no_device : (d : Description) (past : List Step) (p : Present) (x : Step) (client : ℕ) (is : Bool) → StandsFor d past p → client_of x ≡ Some client → has_client client p.handler.clients ≡ true → is ≡ has_revoked_client client p.handler.clients → ((n : ℕ) → x ≡ Close n → ⊥)
+pub no_device : (d : Description) (past : List Step) (p : Present) (x : Step) (client : ℕ) (is : Bool) → StandsFor d past p → client_of x ≡ Some client → has_client client p.handler.clients.list ≡ true → is ≡ has_revoked_client client p.handler.clients.list → ((n : ℕ) → x ≡ Close n → ⊥)
     → is ≡ is_no_device past x (client_of x)
 no_device d past p x client is stands named there test other =
-    test ∙ ap (has_revoked_client client) stands.handler.clients ∙ has_revoked_client-after d past client (open_there d past p client stands there)
+    test ∙ sym (has_revoked_client-on d client p.handler.clients.list) ∙ ap (has_revoked_client client) stands.handler.clients ∙ has_revoked_client-after d past client (open_there d past p client stands there)
     ∙ sym (and_true (is_revoked past client))
     ∙ ap (λ b. is_revoked past client && not b) (sym (not_close x client other))
     ∙ sym (ap (is_no_device past x) named)
 
-pub nothing_found : (d : Description) (past : List Step) (p : Present) (x : Step) (client count seen : ℕ) → StandsFor d past p → x ≡ Read client count → has_client client p.handler.clients ≡ true → seen ≡ visible event_of (events_of client p.handler.clients)
+pub nothing_found : (d : Description) (past : List Step) (p : Present) (x : Step) (client count seen : ℕ) → StandsFor d past p → x ≡ Read client count → has_client client p.handler.clients.list ≡ true → seen ≡ visible event_of (events_of client p.handler.clients.list)
     → nat_eq seen 0 ≡ finds_nothing d past x
 nothing_found d past p x client count seen stands is there test =
     ap (λ (n : ℕ). nat_eq n 0)
-    (test ∙ ap (λ cs. visible event_of (events_of client cs)) stands.handler.clients
-    ∙ ap (visible event_of) (events_of-after d past client (open_there d past p client stands there))
+    (test ∙ sym (visible-on_clock d client p.handler.clients.list) ∙ ap (λ cs. visible taken_event (events_of client cs)) stands.handler.clients
+    ∙ ap (visible taken_event) (events_of-after d past client (open_there d past p client stands there))
     ∙ visible-map (queue d past client))
     ∙ sym (ap (finds_nothing d past) is)
 
@@ -402,7 +415,7 @@ stands_first d p caps core made handler grab opened ended = record {
   made = made;
   handler = record {
     caps = ap (λ (h : Handler). h.caps) handler;
-    clients = ap (λ (h : Handler). h.clients) handler;
+    clients = ap (λ (h : Handler). clients_on d h.clients.list) handler;
     masks = λ client kind index h. refl;
     fresh = λ client h. record { bits = λ kind index. refl; clock = refl; revoked = refl };
   };

@@ -3,6 +3,7 @@ use Rattle.std.proofs.Common.{◌≡◌, ℕ, Bool, true, false, if◌then◌els
 use Rattle.std.specs.Prelude.{filter}
 use Rattle.std.proofs.lemmas.Bool.{cases_eq}
 use Rattle.std.proofs.lemmas.Bool.Decides.{nat_tests}
+use Rattle.inp_model.specs.declared.taken.Taken.{Taken}
 use Rattle.inp_client.specs.Client.{ClientView}
 use Rattle.inp_client.specs.Clients.{map_client}
 use Rattle.inp_client.proofs.ClientLists.{map_client-map}
@@ -14,7 +15,7 @@ pub nat_eq-other : (m n : ℕ) → (m ≡ n → ⊥) → nat_eq m n ≡ false
 nat_eq-other m n h = grind (arith, nat_tests, h)
 
 -- each client of the list has the number that it stands for
-abbrev pub IsNumbered : (ℕ → ClientView) → Type 0
+abbrev pub IsNumbered : (ℕ → ClientView Taken) → Type 0
 IsNumbered f = (n : ℕ) → (f n).number ≡ n
 
 -- two functions that agree at each number that passes a test
@@ -27,7 +28,7 @@ map-filter_same f g p (k ∷ ns) same = keep (p k) (same k) (map-filter_same f g
     keep false here rest = rest
 
 -- one client changed, and the others as they are
-pub map_client-filter : (n : ℕ) (change : ClientView → ClientView) (f g : ℕ → ClientView) (p : ℕ → Bool) (ns : List ℕ) → IsNumbered f
+pub map_client-filter : (n : ℕ) (change : ClientView Taken → ClientView Taken) (f g : ℕ → ClientView Taken) (p : ℕ → Bool) (ns : List ℕ) → IsNumbered f
     → (p n ≡ true → g n ≡ change (f n)) → ((k : ℕ) → (k ≡ n → ⊥) → g k ≡ f k) → map g (filter p ns) ≡ map_client n change (map f (filter p ns))
 map_client-filter n change f g p ns numbered here there =
     map-filter_same g (λ k. if nat_eq k n then change (f k) else f k) p ns (λ k passes.

@@ -12,15 +12,15 @@ use Rattle.inp_model.specs.Frame.{Frame, place, frame_of}
 use Rattle.inp_model.specs.Queue as model
 use Rattle.inp_model.specs.Queue.{Entry, dropped_at, entry_dropped_at, put_all, is_offered, entry, entries_of, entries}
 use Rattle.inp_model.specs.Reply.{taken_of}
-use Rattle.inp_ring.specs.Ring.{event_of}
+use Rattle.inp_client.specs.Read.{taken_event as event_of, taken_at, admitted_events, read_after_offer}
 use Rattle.inp_client.specs.Masks.{masks_with, admits_of}
-use Rattle.inp_client.specs.Client.{ClientView, with_events, taken_at, is_offered_to, admitted_events, after_offer}
+use Rattle.inp_client.specs.Client.{ClientView, with_events, is_offered_to}
 use Rattle.inp_device.proofs.Queues.{put_all-map}
 use Rattle.inp_device.specs.Present.{EndsSet}
 use Rattle.inp_device.proofs.Masks.{admits_of-with}
 
 -- a client after a past, with this queue
-abbrev pub client_with : Description → List Step → ℕ → List Entry → ClientView
+abbrev pub client_with : Description → List Step → ℕ → List Entry → ClientView Taken
 client_with d past client q = record {
   number = client;
   ring = record { places = ring d; events = map taken_of q };
@@ -30,9 +30,9 @@ client_with d past client q = record {
 }
 
 -- a client after it was offered the frames of these cuts
-abbrev pub after_offers : Description → ℕ → ℕ → Option ℕ → List Cut → ClientView → ClientView
+abbrev pub after_offers : Description → ℕ → ℕ → Option ℕ → List Cut → ClientView Taken → ClientView Taken
 after_offers d now at grabber [] c = c
-after_offers d now at grabber (k ∷ ks) c = after_offers d now at grabber ks (after_offer d k.events now at grabber c)
+after_offers d now at grabber (k ∷ ks) c = after_offers d now at grabber ks (read_after_offer d k.events now at grabber c)
 
 map-entry : (d : Description) (client : ℕ) (f : Frame) (es : List Event) → map taken_of (map (entry d client f) es) ≡ map (taken_at (f.moment + offset d (clock_of f.before client)) (place f)) es
 map-entry d client f [] = refl
@@ -58,7 +58,7 @@ is_offered-open past client is = ap (λ b. b && not (is_revoked past client) && 
 
 -- one frame
 after_offer-with : (d : Description) (past : List Step) (client now : ℕ) (k : Cut) (q : List Entry) → is_open past client ≡ true → EndsSet (mask_bit past client)
-    → after_offer d k.events now (length past) (holder past) (client_with d past client q) ≡ client_with d past client (put_all model.event_of entry_dropped_at (ring d) q (entries_of d client (frame_of past now k)))
+    → read_after_offer d k.events now (length past) (holder past) (client_with d past client q) ≡ client_with d past client (put_all model.event_of entry_dropped_at (ring d) q (entries_of d client (frame_of past now k)))
 after_offer-with d past client now k q is ends =
     let es : List Entry = map (entry d client (frame_of past now k)) (filter (admits past client) k.events) in
     offer_by d past client q es (admitted_events d k.events now (length past) (client_with d past client q)) (is_offered_to (holder past) (client_with d past client q)) (admitted-entries d past client now k q ends)

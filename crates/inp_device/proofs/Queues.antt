@@ -8,7 +8,7 @@ use Rattle.inp_model.specs.Event.{is_report}
 use Rattle.inp_model.specs.Queue as queue
 use Rattle.inp_model.specs.Queue.{Entry, dropped_at, entry_dropped_at, ends_in_report, is_empty, put, put_all, visible, follows_kept, stays, flush_behind, flush}
 use Rattle.inp_model.specs.Reply.{taken_of}
-use Rattle.inp_ring.specs.Ring.{event_of}
+use Rattle.inp_client.specs.Read.{taken_event as event_of}
 
 ends_in_report-map : (q : List Entry) → ends_in_report event_of (map taken_of q) ≡ ends_in_report queue.event_of q
 ends_in_report-map [] = refl

@@ -16,13 +16,15 @@ use Rattle.inp_model.specs.Queue.{queue}
 use Rattle.inp_model.specs.Reply.{refused, accepted, taken_of, written}
 use Rattle.inp_frames.specs.Core.{CoreStandsFor, IsFor}
 use Rattle.inp_client.specs.Masks.{masks_with}
+use Rattle.inp_ring.specs.declared.cell.Cell.{Cell}
 use Rattle.inp_client.specs.Client.{ClientView}
 use Rattle.inp_client.specs.Clients.{has_client}
+use Rattle.inp_client.specs.Read.{clients_on}
 use Rattle.inp_device.specs.declared.handler.Handler.{Handler}
 use Rattle.inp_device.specs.declared.present.Present.{Present}
 
--- a client after a past
-abbrev pub client_after : Description → List Step → ℕ → ClientView
+-- a client after a past, with its queue as it reads it
+abbrev pub client_after : Description → List Step → ℕ → ClientView Taken
 client_after d past client = record {
   number = client;
   ring = record { places = ring d; events = map taken_of (queue d past client) };
@@ -32,7 +34,7 @@ client_after d past client = record {
 }
 
 -- the open clients after a past
-abbrev pub clients_after : Description → List Step → List ClientView
+abbrev pub clients_after : Description → List Step → List (ClientView Taken)
 clients_after d past = map (client_after d past) (open_clients past)
 
 -- a bit that there is of a mask that there is
@@ -57,10 +59,10 @@ pub record IsFresh (past : List Step) (client : ℕ) : Type 0 where
 abbrev pub AreFresh : List Step → Type 0
 AreFresh past = (client : ℕ) → opens past ≤ client → IsFresh past client
 
--- the handler stands for the clients of a past
+-- the handler stands for the clients of a past, with what they read of their cells
 pub record HandlerStandsFor (d : Description) (past : List Step) (h : Handler) : Type 0 where
   pub caps : h.caps ≡ d
-  pub clients : h.clients ≡ clients_after d past
+  pub clients : clients_on d h.clients.list ≡ clients_after d past
   pub masks : MasksEnd past
   pub fresh : AreFresh past
 
@@ -94,7 +96,7 @@ IsMadeOrLacks history x old (Err e) out new_out cells new_cells new =
     (x ≡ Open) × (new_out ≡ out) × (new_cells ≡ cells) × StandsFor old.caps (reverse history) new
 
 -- an open client is named, if one is
-abbrev pub NamesOpen : List ClientView → Option ℕ → Type 0
+abbrev pub NamesOpen : List (ClientView Cell) → Option ℕ → Type 0
 NamesOpen clients None = Unit {0}
 NamesOpen clients (Some client) = has_client client clients ≡ true
 

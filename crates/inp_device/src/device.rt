@@ -1,8 +1,10 @@
 //! The device.
-ghost use Rattle.std.specs.Prelude.{◌≡◌, ◌≤◌, [], length, reverse, IfOk};
+ghost use Rattle.std.specs.Prelude.{◌≡◌, ◌≤◌, [], length, reverse, IfOk, ◌↔◌, sum_by, All};
 ghost use Rattle.inp_model.specs.declared.limits.TheConstants.{LOG_MAX};
 ghost use Rattle.inp_model.specs.declared.stamped.TheConstants.{MOMENT_MAX};
 ghost use Rattle.inp_model.specs.History.{IsHistory};
+ghost use Rattle.inp_model.specs.Past.{open_clients};
+ghost use Rattle.inp_model.specs.Queue.{queue};
 ghost use Rattle.inp_model.specs.Step.{moment_of};
 ghost use Rattle.inp_model.specs.Reply.{HasRoom, IsDeviceStep};
 ghost use Rattle.inp_model.specs.Evdev.{agains_after};
@@ -114,6 +116,24 @@ impl Device {
             }
             Err(NoMemory) => refuse(&self.steps, Refusal::NoMemory),
         }
+    }
+
+    /// How many events are kept: each event of a frame that at least one queue holds, once, and each SYN_DROPPED.
+    ///
+    /// It is 0 exactly where all queues are empty. It is at least the length of the longest queue, and at most that of all
+    /// queues together.
+    pub fn stored(&self) -> u32
+        ensures none { (result ≡ 0)
+            ↔ All (λ client. queue self.now.description self.now.past client ≡ [])
+            (open_clients self.now.past) }
+        ensures least {
+            All (λ client. length (queue self.now.description self.now.past client) ≤ result)
+            (open_clients self.now.past) }
+        ensures most { result
+            ≤ sum_by (λ client. length (queue self.now.description self.now.past client))
+            (open_clients self.now.past) }
+    {
+        self.present.handler.clients.stored()
     }
 
     /// The history: the accepted steps, oldest first.

@@ -19,10 +19,9 @@ pub struct Handler {
 }
 
 impl Frames for Handler {
-    ghost use Rattle.std.specs.Prelude.{◌≡◌};
-    ghost use Rattle.inp_device.specs.Handler.{after_frame};
+    ghost use Rattle.inp_device.specs.Handler.{IsAfterFrame};
 
-    ghost takes = { λ before events now after. after ≡ after_frame before events now };
+    ghost takes = { IsAfterFrame };
 
     fn pass(&mut self, events: &[Event], now: u64) {
         self.clients

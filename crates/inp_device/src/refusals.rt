@@ -60,7 +60,7 @@ impl Present {
     fn is_bad_client(&self, step: Step) -> bool
         ensures exact { (d : Description) (past : List Step) → StandsFor d past self.now
             → result ≡ is_bad_client past (client_of step) }
-        ensures open { result ≡ false → NamesOpen self.now.handler.clients (client_of step) }
+        ensures open { result ≡ false → NamesOpen self.now.handler.clients.list (client_of step) }
     {
         match step.client() {
             Some(client) => !self.handler.clients.is_open(client),
@@ -70,7 +70,7 @@ impl Present {
 
     // Whether a client is named that was revoked, for another step than closing it.
     fn is_no_device(&self, step: Step) -> bool
-        requires open { NamesOpen self.now.handler.clients (client_of step) }
+        requires open { NamesOpen self.now.handler.clients.list (client_of step) }
         ensures exact { (d : Description) (past : List Step) → StandsFor d past self.now
             → result ≡ is_no_device past step (client_of step) }
     {
@@ -97,7 +97,7 @@ impl Present {
 
     // Whether a read finds nothing visible.
     fn finds_nothing(&self, step: Step) -> bool
-        requires open { NamesOpen self.now.handler.clients (client_of step) }
+        requires open { NamesOpen self.now.handler.clients.list (client_of step) }
         ensures exact { (d : Description) (past : List Step) → StandsFor d past self.now
             → result ≡ finds_nothing d past step }
     {

@@ -1,6 +1,7 @@
 use Rattle.std.proofs.Common.{refl, ◌∙◌}
 use Rattle.inp_model.specs.declared.step.Step.TheVariants.{Discard}
-use Rattle.inp_device.proofs.Making.{named_there, made_alone, called, clients_discarded, discarded_at, holder_same}
+use Rattle.inp_client.proofs.OnClock.{on_take}
+use Rattle.inp_device.proofs.Making.{call_on_clock, named_there, made_alone, called, clients_discarded, discarded_at, holder_same}
 use Rattle.inp_device.proofs.present.Present.discard.Goals as goal
 
 pub discard-removed-requires : goal.discard-removed-requires
@@ -14,6 +15,6 @@ returns c =
     record {
       made = made_alone history x old _ _ _ refl (discarded_at history old c.args.client c.discard-removed.result c.requires.ready c.discard-removed.ensures.count)
           (called history x old _ c.requires.ready refl refl refl refl refl refl refl refl
-          (c.discard-removed.ensures.rest ∙ clients_discarded history old c.args.client c.discard-removed.result c.requires.ready c.discard-removed.ensures.count)
+          (call_on_clock old.caps c.args.client _ _ old.handler.clients.list (on_take old.caps c.discard-removed.result) c.discard-removed.ensures.rest ∙ clients_discarded history old c.args.client c.discard-removed.result c.requires.ready c.discard-removed.ensures.count)
           (holder_same history x old c.requires.ready refl));
     }

@@ -1,6 +1,7 @@
 use Rattle.std.proofs.Common.{reverse, refl, ◌∙◌}
 use Rattle.inp_model.specs.Step.{Codes}
-use Rattle.inp_device.proofs.Making.{IsQuery, query, kind_has_bits, kind_not_syn, named_there, made_alone, called, accepted-bits, bits_at, clients_asked, holder_same}
+use Rattle.inp_client.proofs.OnClock.{on_flush}
+use Rattle.inp_device.proofs.Making.{call_on_clock, IsQuery, query, kind_has_bits, kind_not_syn, named_there, made_alone, called, accepted-bits, bits_at, clients_asked, holder_same}
 use Rattle.inp_device.proofs.present.Present.get_bits.Goals as goal
 
 pub bits-words-requires : goal.bits-words-requires
@@ -21,6 +22,6 @@ returns c =
       made = made_alone history c.args.step old _ _ _ (accepted-bits old.caps (reverse history) c.args.step c.args.client c.args.kind c.requires.asks)
           (bits_at history old c.args.kind c.bits-words.result (c.bits-words.ensures.bits old.caps (reverse history) c.requires.ready.stands.core))
           (called history c.args.step old _ c.requires.ready asks.events asks.opening asks.ending refl refl refl refl refl
-          (c.flush.ensures.flushed ∙ clients_asked history c.args.step old c.args.client (Codes c.args.kind) c.requires.ready c.requires.asks.named c.requires.asks.whole)
+          (call_on_clock old.caps c.args.client _ _ old.handler.clients.list (on_flush old.caps (Codes c.args.kind)) c.flush.ensures.flushed ∙ clients_asked history c.args.step old c.args.client (Codes c.args.kind) c.requires.ready c.requires.asks.named c.requires.asks.whole)
           (holder_same history c.args.step old c.requires.ready asks.grab));
     }

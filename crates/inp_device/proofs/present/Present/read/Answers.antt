@@ -1,6 +1,7 @@
 use Rattle.std.proofs.Common.{refl, ◌∙◌}
 use Rattle.inp_model.specs.declared.step.Step.TheVariants.{Read}
-use Rattle.inp_device.proofs.Making.{named_there, made_written, called, accepted-read, clients_read, holder_same}
+use Rattle.inp_client.proofs.OnClock.{on_take}
+use Rattle.inp_device.proofs.Making.{call_on_clock, named_there, made_written, called, accepted-read, clients_read, holder_same}
 use Rattle.inp_device.proofs.present.Present.read.Goals as goal
 
 pub take-taken-requires-clause-open : goal.take-taken-requires-clause-open
@@ -16,6 +17,6 @@ returns c =
           (accepted-read history old c.args.client c.args.count c.take-taken.result c.requires.ready c.take-taken.ensures.count)
           refl c.take-taken.ensures.taken refl
           (called history x old _ c.requires.ready refl refl refl refl refl refl refl refl
-          (c.take-taken.ensures.rest ∙ clients_read history old c.args.client c.args.count c.take-taken.result c.requires.ready c.take-taken.ensures.count)
+          (call_on_clock old.caps c.args.client _ _ old.handler.clients.list (on_take old.caps c.take-taken.result) c.take-taken.ensures.rest ∙ clients_read history old c.args.client c.args.count c.take-taken.result c.requires.ready c.take-taken.ensures.count)
           (holder_same history x old c.requires.ready refl));
     }

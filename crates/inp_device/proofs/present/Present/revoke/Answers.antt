@@ -5,7 +5,7 @@ use Rattle.inp_client.specs.Client.{after_revoke}
 use Rattle.inp_client.specs.Clients.{map_client}
 use Rattle.inp_device.proofs.Calls.{clients_after-revoke}
 use Rattle.inp_device.proofs.Standing.{holder-revoke}
-use Rattle.inp_device.proofs.Making.{made_call, called, named_there}
+use Rattle.inp_device.proofs.Making.{call_on_clock, made_call, called, named_there}
 use Rattle.inp_device.proofs.present.Present.revoke.Goals as goal
 
 pub revoke-requires : goal.revoke-requires
@@ -19,6 +19,6 @@ returns c =
     record {
       made = made_call history x old _ c.done.result refl c.done.ensures.done
           (called history x old _ c.requires.ready refl refl refl refl refl refl refl refl
-          (c.revoke.ensures.revoked ∙ ap (map_client c.args.client after_revoke) c.requires.ready.stands.handler.clients ∙ sym (clients_after-revoke old.caps (reverse history) c.args.client))
+          (call_on_clock old.caps c.args.client _ _ old.handler.clients.list (λ v. refl) c.revoke.ensures.revoked ∙ ap (map_client c.args.client after_revoke) c.requires.ready.stands.handler.clients ∙ sym (clients_after-revoke old.caps (reverse history) c.args.client))
           (ap (λ (h : HandleState). h.holder) c.release.ensures.holder ∙ ap (λ (o : Option ℕ). holder_without c.args.client o) c.requires.ready.stands.holder ∙ holder-revoke (reverse history) c.args.client));
     }

@@ -6,7 +6,7 @@ use Rattle.inp_client.specs.Client.{after_mask}
 use Rattle.inp_client.specs.Clients.{map_client}
 use Rattle.inp_model.proofs.Allowed.{allowed, mask_kind, mask_word}
 use Rattle.inp_device.proofs.Calls.{clients_after-mask}
-use Rattle.inp_device.proofs.Making.{made_call, called, named_there, holder_same}
+use Rattle.inp_device.proofs.Making.{call_on_clock, made_call, called, named_there, holder_same}
 use Rattle.inp_device.proofs.present.Present.set_mask.Goals as goal
 
 pub set_mask-requires-clause-open : goal.set_mask-requires-clause-open
@@ -29,6 +29,6 @@ returns c =
     record {
       made = made_call history x old _ c.done.result refl c.done.ensures.done
           (called history x old _ c.requires.ready refl refl refl refl refl refl refl refl
-          (c.set_mask.ensures.set ∙ ap (map_client c.args.client (after_mask c.args.kind c.args.word c.args.bits)) c.requires.ready.stands.handler.clients ∙ sym (clients_after-mask old.caps (reverse history) c.args.client c.args.kind c.args.word c.args.bits (has_word c)))
+          (call_on_clock old.caps c.args.client _ _ old.handler.clients.list (λ v. refl) c.set_mask.ensures.set ∙ ap (map_client c.args.client (after_mask c.args.kind c.args.word c.args.bits)) c.requires.ready.stands.handler.clients ∙ sym (clients_after-mask old.caps (reverse history) c.args.client c.args.kind c.args.word c.args.bits (has_word c)))
           (holder_same history x old c.requires.ready refl));
     }

@@ -6,7 +6,8 @@ use Rattle.std.proofs.Common.{subst}
 use Rattle.inp_model.specs.Raw.{raw}
 use Rattle.inp_slots.specs.Slots.{SlotValues, SlotsStandFor}
 use Rattle.inp_model.specs.Reply.{rows, cells_answer}
-use Rattle.inp_device.proofs.Making.{named_there, made_written, called, cells_at, slots_kept, clients_asked, holder_same}
+use Rattle.inp_client.proofs.OnClock.{on_flush}
+use Rattle.inp_device.proofs.Making.{call_on_clock, named_there, made_written, called, cells_at, slots_kept, clients_asked, holder_same}
 use Rattle.inp_device.proofs.present.Present.sync_slots.Goals as goal
 
 pub flush_slots-requires : goal.flush_slots-requires
@@ -29,6 +30,6 @@ returns c =
           refl
           (c.write_rows.ensures.written old.caps (raw old.caps (reverse history)) (subst (SlotsStandFor old.caps (raw old.caps (reverse history))) (sym c.slots.ensures.slots) c.requires.ready.stands.core.raw_events.slots))
           (called history x old _ c.requires.ready refl refl refl refl refl refl refl refl
-          (c.flush_slots.ensures.flushed ∙ clients_asked history x old c.args.client Slots c.requires.ready refl refl)
+          (call_on_clock old.caps c.args.client _ _ old.handler.clients.list (on_flush old.caps Slots) c.flush_slots.ensures.flushed ∙ clients_asked history x old c.args.client Slots c.requires.ready refl refl)
           (holder_same history x old c.requires.ready refl));
     }

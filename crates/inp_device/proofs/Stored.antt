@@ -1,0 +1,51 @@
+-- How many events are kept, by the queues of a past.
+use Rattle.std.proofs.Common.{◌≡◌, ◌≤◌, ◌<◌, ℕ, ◌*◌, ◌↔◌, List, [], ◌∷◌, length, map, get_or, reverse, refl, sym, ap, ◌∙◌, subst, arith}
+use Rattle.std.specs.Prelude.{All, sum_by, sum}
+use Rattle.std.proofs.lemmas.List.{length-map, get_or-map, nil_from_length}
+use Rattle.std.proofs.lemmas.List.Sums.{sum-map, sum_by-le}
+use Rattle.std.proofs.lemmas.List.Elements.{All-map}
+use Rattle.inp_model.specs.declared.step.Step.{Step}
+use Rattle.inp_model.specs.declared.taken.Taken.{Taken}
+use Rattle.inp_model.specs.Description.{Description, offset}
+use Rattle.inp_model.specs.Past.{open_clients}
+use Rattle.inp_model.specs.Queue.{queue}
+use Rattle.inp_model.specs.Reply.{taken_of}
+use Rattle.inp_ring.specs.declared.cell.Cell.{Cell}
+use Rattle.inp_ring.specs.Store as store
+use Rattle.inp_client.specs.Client.{ClientView}
+use Rattle.inp_client.specs.Read.{client_on, clients_on}
+use Rattle.inp_device.specs.declared.handler.Handler.{Handler}
+use Rattle.inp_device.specs.Present.{client_after, clients_after, HandlerStandsFor}
+
+-- how long the queues are, as they are kept, and as they follow from the past
+lengths : (clients : List (ClientView Cell)) (d : Description) → map (λ c. length c.ring.events) clients ≡ map (λ (c : ClientView Taken). length c.ring.events) (clients_on d clients)
+lengths [] d = refl
+lengths (c ∷ clients) d = ap (λ n. n ∷ map (λ (c : ClientView Cell). length c.ring.events) clients) (sym (length-map c.ring.events (store.taken_of (offset d c.clock)))) ∙ ap (λ ns. length (client_on d c).ring.events ∷ ns) (lengths clients d)
+
+lengths_after : (d : Description) (past : List Step) (ns : List ℕ) → map (λ (c : ClientView Taken). length c.ring.events) (map (client_after d past) ns) ≡ map (λ n. length (queue d past n)) ns
+lengths_after d past [] = refl
+lengths_after d past (n ∷ ns) = ap (λ k. k ∷ map (λ (c : ClientView Taken). length c.ring.events) (map (client_after d past) ns)) (length-map (queue d past n) taken_of) ∙ ap (λ ks. length (queue d past n) ∷ ks) (lengths_after d past ns)
+
+All-of_map : {X : Type 0} (f : X → ℕ) (m : ℕ) (xs : List X) → All (λ k. k ≤ m) (map f xs) → All (λ x. f x ≤ m) xs
+All-of_map f m xs all i d in_i = omega (arith, all i 0 (omega (arith, in_i, length-map xs f)), get_or-map f xs i d 0 in_i)
+
+module _ (d : Description) (past : List Step) (h : Handler) (stands : HandlerStandsFor d past h) (stored : ℕ) where
+  abbrev long : ℕ → ℕ
+  long n = length (queue d past n)
+
+  same_lengths : map (λ c. length c.ring.events) h.clients.list ≡ map long (open_clients past)
+  same_lengths = lengths h.clients.list d ∙ ap (map (λ (c : ClientView Taken). length c.ring.events)) stands.clients ∙ lengths_after d past (open_clients past)
+
+  pub stored_least : All (λ c. length c.ring.events ≤ stored) h.clients.list → All (λ n. length (queue d past n) ≤ stored) (open_clients past)
+  stored_least all =
+      let P : List ℕ → Type 0 = λ ks. All (λ k. k ≤ stored) ks in
+      All-of_map long stored (open_clients past) (subst P same_lengths (All-map (λ k. k ≤ stored) (λ (c : ClientView Cell). length c.ring.events) h.clients.list all))
+
+  pub stored_most : stored ≤ sum_by (λ c. length c.ring.events) h.clients.list → stored ≤ sum_by (λ n. length (queue d past n)) (open_clients past)
+  stored_most few = omega (arith, few, sum-map (λ (c : ClientView Cell). length c.ring.events) h.clients.list, ap sum same_lengths, sum-map long (open_clients past))
+
+  pub stored_none : All (λ n. length (queue d past n) ≤ stored) (open_clients past) → stored ≤ sum_by (λ n. length (queue d past n)) (open_clients past) → (stored ≡ 0) ↔ All (λ n. queue d past n ≡ []) (open_clients past)
+  stored_none least most = (
+    λ e i x in_i. nil_from_length (queue d past (get_or (open_clients past) i x)) (omega (arith, least i x in_i, e)),
+    λ all. omega (arith, most, sum_by-le long 0 (open_clients past) (λ i x in_i. omega (arith, ap length (all i x in_i)))),
+  )
