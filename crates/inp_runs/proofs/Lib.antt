@@ -20,3 +20,5 @@ pub mod JobViews
 pub mod JobTold
 pub mod JobSizes
 pub mod Done
+pub mod MoreRounds
+pub mod DoingAll

@@ -3,3 +3,4 @@ pub mod IndexExamples
 pub mod Losses
 pub mod Job
 pub mod Done
+pub mod DoingAll

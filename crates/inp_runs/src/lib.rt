@@ -1,4 +1,5 @@
-//! What is promised of what came of a record, whatever the order in which its jobs' steps were made.
+//! What is promised of what came of a record, whatever the order in which its jobs' steps were made, and all lines of an
+//! actor.
 //!
 //! This crate is for whoever plays a record, on one thread or on many, and for whoever relies on what came of it. It
 //! stands on `inp_script` for jobs and runs, on `inp_recon` and `inp_losses` for what is true of each client, and on no
@@ -11,11 +12,14 @@
 //! ([`jobs_show_the_device`]).
 //!
 //! What a player must show for it stands in `specs/Done.antt`: that each actor followed its lines on one history, of which
-//! each place is one accepted call of one actor ([`devices_done_are_promised`], [`all_as_promised`]).
+//! each place is one accepted call of one actor ([`devices_done_are_promised`], [`all_as_promised`]). [`do_lines`] has an
+//! actor do all its lines over whatever evdev it is lent, and says so (`specs/DoingAll.antt`).
 #![tactic(auto)]
 
+mod doing;
 mod laws;
 
+pub use doing::do_lines;
 pub use laws::{
     all_as_promised, devices_done_are_promised, indices_on_a_short_sight, jobs_show_the_device,
 };
