@@ -14,7 +14,8 @@ codes_among d kind first count = filter (supports d kind) (range_with_len first 
 -- the keys of a joystick and those behind them, and then the keys before them: the first 64
 unfoldable pub buttons : Description → List ℕ
 buttons d =
-    take 64 (codes_among d EV_KEY BTN_JOYSTICK (KEY_MAX + 1 - BTN_JOYSTICK) ++ codes_among d EV_KEY BTN_MISC (BTN_JOYSTICK - BTN_MISC))
+    take 64 (codes_among d EV_KEY BTN_JOYSTICK (KEY_MAX + 1 - BTN_JOYSTICK)
+    ++ codes_among d EV_KEY BTN_MISC (BTN_JOYSTICK - BTN_MISC))
 
 -- the axes with a value of their own, ascending
 abbrev pub axes : Description → List ℕ

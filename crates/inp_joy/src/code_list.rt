@@ -72,7 +72,8 @@ impl CodeList {
     fn add_supported(&mut self, caps: &Caps, kind: u16, first: u16, end: u16)
         requires order { first ≤ end }
         requires few { length self.old ≤ 64 }
-        ensures added { self.new ≡ take 64 (self.old ++ codes_among caps.now kind first (end - first)) }
+        ensures added { self.new
+            ≡ take 64 (self.old ++ codes_among caps.now kind first (end - first)) }
         ensures few { length self.new ≤ 64 }
     {
         for code in first..end {

@@ -50,7 +50,8 @@ impl JoyState {
     fn startup_button(&self, number: usize) -> JoyRecord
         requires state { IsJoyState self.now.reader.description self.now }
         requires within { number < length self.now.buttons }
-        ensures found { slice_get (startup_buttons self.now.reader.description self.now.reader.reading.view) number
+        ensures found { slice_get
+            (startup_buttons self.now.reader.description self.now.reader.reading.view) number
             ≡ Some result }
         ensures number { result.number < 64 }
     {
@@ -62,7 +63,8 @@ impl JoyState {
     fn startup_axis(&self, number: usize) -> JoyRecord
         requires state { IsJoyState self.now.reader.description self.now }
         requires within { number < length self.now.axes }
-        ensures found { slice_get (startup_axes self.now.reader.description self.now.reader.reading.view) number
+        ensures found { slice_get
+            (startup_axes self.now.reader.description self.now.reader.reading.view) number
             ≡ Some result }
         ensures number { result.number < 64 }
     {
@@ -74,7 +76,8 @@ impl JoyState {
     fn startup_record(&self) -> Option<JoyRecord>
         requires state { IsJoyState self.now.reader.description self.now }
         ensures found { result
-            ≡ slice_get (startup self.now.reader.description self.now.reader.reading.view) self.now.handed }
+            ≡ slice_get (startup self.now.reader.description self.now.reader.reading.view)
+            self.now.handed }
         ensures number { IfSome result (λ entry. entry.number < 64) }
     {
         let buttons = self.buttons.len();
@@ -132,7 +135,8 @@ impl JoyState {
     // The record of an axis event, if it gives one.
     fn axis_record(&self, event: Taken) -> Option<JoyRecord>
         ensures found { result
-            ≡ record_of_axis (seen_as self.now.picture) (number_of event.event.code self.now.axes) event }
+            ≡ record_of_axis (seen_as self.now.picture)
+            (number_of event.event.code self.now.axes) event }
         ensures number { IfSome result (λ entry. entry.number < 64) }
     {
         let Some(number) = self.axes.number_of(event.event.code) else {
@@ -162,7 +166,8 @@ impl JoyState {
     // Hands out a record.
     fn hand(&mut self, entry: JoyRecord) -> Outcome
         requires { entry.number < 64 }
-        ensures turn { turn_of result (joying_of self.new) ≡ gives (hands (joying_of self.old) entry) }
+        ensures turn { turn_of result (joying_of self.new)
+            ≡ gives (hands (joying_of self.old) entry) }
         ensures rest { self.new ≡ record self.old { picture = self.new.picture } }
     {
         self.picture.take(entry);
@@ -358,7 +363,8 @@ impl JoyState {
     fn is_end(&self, outcome: Outcome) -> bool
         requires { IsJoyState self.now.reader.description self.now }
         ensures { result
-            ≡ is_end self.now.reader.description outcome (joying_of self.now) (length self.now.made) }
+            ≡ is_end self.now.reader.description outcome (joying_of self.now)
+            (length self.now.made) }
     {
         match outcome {
             Outcome::GoesOn => self.startup_len() <= self.handed && self.made.len() >= LONG,

@@ -35,7 +35,6 @@ mod stops;
 mod views;
 
 pub use code_list::{BTN_JOYSTICK, BTN_MISC};
-pub use inp_reader::{NO_CLIENT, Started};
 pub use joy::Joy;
 pub use joy_read::JoyRead;
 pub use joy_record::{JS_EVENT_AXIS, JS_EVENT_BUTTON, JS_EVENT_INIT, JoyRecord};
