@@ -9,19 +9,19 @@ use Rattle.inp_model.specs.Run.{Call}
 use Rattle.inp_reader.specs.Says.{kept_of, made_of}
 use Rattle.inp_reader.specs.Talk.{Talk, finish, ask, LeadsTo, EndsWith}
 use Rattle.inp_reader.proofs.Calls.{AreAccepted}
-use Rattle.inp_joy.specs.Joying.{counted}
+use Rattle.inp_joy.specs.Joying.{with_count}
 
 -- so many before, and those of these calls that were accepted
 abbrev pub count_after : List Call → ℕ → ℕ
 count_after [] n = n
 count_after (call ∷ calls) n = count_after calls (if is_accepted call.answer.reply then n + 1 else n)
 
-pub counted-ends : {A : Type 0} (talk : Talk A) (calls : List Call) (a : A) (n : ℕ) → EndsWith talk calls a → EndsWith (counted talk n) calls (count_after calls n, a)
+pub with_count-ends : {A : Type 0} (talk : Talk A) (calls : List Call) (a : A) (n : ℕ) → EndsWith talk calls a → EndsWith (with_count talk n) calls (count_after calls n, a)
 unfolding LeadsTo
-counted-ends (finish b) [] a n h = let e : b ≡ a = cc in ap (λ x. finish (n, x)) e
-counted-ends (finish b) (call ∷ calls) a n h = elim h [ ]
-counted-ends (ask x rest) [] a n h = absurd cc
-counted-ends (ask x rest) (call ∷ calls) a n h = (h.0, counted-ends (rest call.answer) calls a (if is_accepted call.answer.reply then n + 1 else n) h.1)
+with_count-ends (finish b) [] a n h = let e : b ≡ a = cc in ap (λ x. finish (n, x)) e
+with_count-ends (finish b) (call ∷ calls) a n h = elim h [ ]
+with_count-ends (ask x rest) [] a n h = absurd cc
+with_count-ends (ask x rest) (call ∷ calls) a n h = (h.0, with_count-ends (rest call.answer) calls a (if is_accepted call.answer.reply then n + 1 else n) h.1)
 
 kept_one : (x : Step) (reply : Reply) → is_accepted reply ≡ true → length (kept_of x reply) ≡ 1
 kept_one x (Again at ends) h = absurd (true≢false (sym h))

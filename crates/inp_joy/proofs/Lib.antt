@@ -6,7 +6,7 @@ pub mod Numbers
 pub mod Events
 pub mod Counting
 pub mod Nexts
-pub mod Goings
+pub mod ReaderCalls
 pub mod Turning
 pub mod TurnEnds
 pub mod Devices

@@ -4,7 +4,7 @@ use Rattle.std.specs.Prelude.{slice_range}
 use Rattle.std.proofs.lemmas.List.{length-set, take_all, drop_all}
 use Rattle.std.specs.List.{slice_get}
 use Rattle.inp_joy.specs.declared.joy_record.JoyRecord.{JoyRecord}
-use Rattle.inp_joy.specs.Joying.{numbered}
+use Rattle.inp_joy.specs.Joying.{map_numbered}
 
 pub slice_get-left : {X : Type 0} (xs ys : List X) (k : ℕ) (x : X) → slice_get xs k ≡ Some x → slice_get (xs ++ ys) k ≡ Some x
 slice_get-left [] ys k x h = absurd cc
@@ -18,19 +18,19 @@ slice_get-right (x ∷ xs) ys k =
     ap (λ n. slice_get (x ∷ xs ++ ys) n) e ∙ slice_get-right xs ys k
 
 -- the item of a number
-pub numbered-get : {X : Type 0} (f : ℕ → X → JoyRecord) (first k : ℕ) (xs : List X) (x : X) → slice_get xs k ≡ Some x → slice_get (numbered f first xs) k ≡ Some (f (first + k) x)
-numbered-get f first k [] x h = absurd cc
-numbered-get f first zero (y ∷ xs) x h =
+pub map_numbered-get : {X : Type 0} (f : ℕ → X → JoyRecord) (first k : ℕ) (xs : List X) (x : X) → slice_get xs k ≡ Some x → slice_get (map_numbered f first xs) k ≡ Some (f (first + k) x)
+map_numbered-get f first k [] x h = absurd cc
+map_numbered-get f first zero (y ∷ xs) x h =
     let e : first ≡ first + zero = omega arith in
     let same : y ≡ x = cc in
     ap (λ n. Some (f n y)) e ∙ ap (λ z. Some (f (first + zero) z)) same
-numbered-get f first (suc k) (y ∷ xs) x h =
+map_numbered-get f first (suc k) (y ∷ xs) x h =
     let e : first + 1 + k ≡ first + suc k = omega arith in
-    numbered-get f (first + 1) k xs x h ∙ ap (λ n. Some (f n x)) e
+    map_numbered-get f (first + 1) k xs x h ∙ ap (λ n. Some (f n x)) e
 
-pub length-numbered : {X : Type 0} (f : ℕ → X → JoyRecord) (first : ℕ) (xs : List X) → length (numbered f first xs) ≡ length xs
-length-numbered f first [] = refl
-length-numbered f first (x ∷ xs) = ap (λ n. suc n) (length-numbered f (first + 1) xs)
+pub length-map_numbered : {X : Type 0} (f : ℕ → X → JoyRecord) (first : ℕ) (xs : List X) → length (map_numbered f first xs) ≡ length xs
+length-map_numbered f first [] = refl
+length-map_numbered f first (x ∷ xs) = ap (λ n. suc n) (length-map_numbered f (first + 1) xs)
 
 -- The bits of a word that was set at one place
 

@@ -12,11 +12,11 @@ use Rattle.inp_reader.specs.declared.call_made.CallMade.{CallMade}
 use Rattle.inp_reader.specs.Says.{Says, made_of}
 use Rattle.inp_reader.specs.Talk.{Talk, finish, LeadsTo, EndsWith}
 use Rattle.inp_reader.proofs.Talks.{LeadsTo-append, LeadsTo-and_then, made_of-append}
-use Rattle.inp_joy.specs.declared.outcome.Outcome.{Outcome}
-use Rattle.inp_joy.specs.declared.outcome.Outcome.TheVariants.{Hands, Stops, GoesOn}
-use Rattle.inp_joy.specs.Joying.{Joying, JoyAnswer, Turn, goes_on, is_startup_over, is_long, turn_talk, counted, after_turn, turns}
-use Rattle.inp_joy.specs.Kept.{answer_of, turn_of, is_end, IsOutcomeLess, agains_after_turn, HasTurned}
-use Rattle.inp_joy.proofs.Counting.{count_after, counted-ends, count-kept}
+use Rattle.inp_joy.specs.declared.turn_end.TurnEnd.{TurnEnd}
+use Rattle.inp_joy.specs.declared.turn_end.TurnEnd.TheVariants.{Hands, Stops, GoesOn}
+use Rattle.inp_joy.specs.Joying.{Joying, JoyAnswer, Turn, goes_on, is_startup_over, is_long, turn_talk, with_count, after_turn, turns}
+use Rattle.inp_joy.specs.Kept.{answer_of, turn_of, is_end, IsTurnEndLess, agains_after_turn, HasTurned}
+use Rattle.inp_joy.proofs.Counting.{count_after, with_count-ends, count-kept}
 use Rattle.inp_joy.proofs.TurnEnds.{turn-accepted}
 
 -- so many turns were made, all calls of which were accepted and kept, and the read goes on from here
@@ -44,32 +44,32 @@ one_turn : (d : Description) (here : Joying) (turn : Turn) (n count : ℕ) (call
 unfolding turns
 one_turn d here turn n count calls h =
     let next : ℕ × Turn → Talk (Option JoyAnswer) = λ o. after_turn d (turns d n) o.0 o.1 in
-    LeadsTo-and_then (counted (turn_talk d here) count) (finish (count_after calls count, turn)) next calls (counted-ends (turn_talk d here) calls turn count h)
+    LeadsTo-and_then (with_count (turn_talk d here) count) (finish (count_after calls count, turn)) next calls (with_count-ends (turn_talk d here) calls turn count h)
 
 -- a turn after which no other one follows
-ended : (d : Description) (go_on : ℕ → Joying → Talk (Option JoyAnswer)) (n : ℕ) (outcome : Outcome) (j : Joying) → is_end d outcome j n ≡ true → after_turn d go_on n (turn_of outcome j) ≡ finish (Some (answer_of outcome j))
+ended : (d : Description) (go_on : ℕ → Joying → Talk (Option JoyAnswer)) (n : ℕ) (outcome : TurnEnd) (j : Joying) → is_end d outcome j n ≡ true → after_turn d go_on n (turn_of outcome j) ≡ finish (Some (answer_of outcome j))
 ended d go_on n (Hands r) j h = refl
 ended d go_on n (Stops read) j h = refl
 ended d go_on n GoesOn j h = ap (λ (b : Bool). if b then finish (Some (answer_of GoesOn j)) else go_on n j) h
 
 -- another one
-goes : (d : Description) (go_on : ℕ → Joying → Talk (Option JoyAnswer)) (n : ℕ) (outcome : Outcome) (j : Joying) → is_end d outcome j n ≡ false → after_turn d go_on n (turn_of outcome j) ≡ go_on n j
+goes : (d : Description) (go_on : ℕ → Joying → Talk (Option JoyAnswer)) (n : ℕ) (outcome : TurnEnd) (j : Joying) → is_end d outcome j n ≡ false → after_turn d go_on n (turn_of outcome j) ≡ go_on n j
 goes d go_on n (Hands r) j h = absurd (true≢false h)
 goes d go_on n (Stops read) j h = absurd (true≢false h)
 goes d go_on n GoesOn j h = ap (λ (b : Bool). if b then finish (Some (answer_of GoesOn j)) else go_on n j) h
 
-went-on : (d : Description) (outcome : Outcome) (j : Joying) (n : ℕ) → is_end d outcome j n ≡ false → turn_of outcome j ≡ goes_on j
+went-on : (d : Description) (outcome : TurnEnd) (j : Joying) (n : ℕ) → is_end d outcome j n ≡ false → turn_of outcome j ≡ goes_on j
 went-on d (Hands r) j n h = absurd (true≢false h)
 went-on d (Stops read) j n h = absurd (true≢false h)
 went-on d GoesOn j n h = refl
 
 -- the count of the calls that were accepted is that of those that were kept
-counted-kept : (d : Description) (here next : Joying) (calls : List Call) (made new : List CallMade) → EndsWith (turn_talk d here) calls (goes_on next) → new ≡ made ++ made_of calls → count_after calls (length made) ≡ length new
-counted-kept d here next calls made new h kept =
+with_count-kept : (d : Description) (here next : Joying) (calls : List Call) (made new : List CallMade) → EndsWith (turn_talk d here) calls (goes_on next) → new ≡ made ++ made_of calls → count_after calls (length made) ≡ length new
+with_count-kept d here next calls made new h kept =
     count-kept calls (length made) (turn-accepted d here next calls h) ∙ sym (ap length kept ∙ length-append made (made_of calls))
 
 -- after a turn that goes on
-pub passed-more : (before between after : EvdevView) (d : Description) (start here next : Joying) (made new : List CallMade) (outcome : Outcome) → Passed before between d start here made → Says between after made new (turn_talk d here) (turn_of outcome next) → is_end d outcome next (length new) ≡ false → Passed before after d start next new
+pub passed-more : (before between after : EvdevView) (d : Description) (start here next : Joying) (made new : List CallMade) (outcome : TurnEnd) → Passed before between d start here made → Says between after made new (turn_talk d here) (turn_of outcome next) → is_end d outcome next (length new) ≡ false → Passed before after d start next new
 passed-more before between after d start here next made new outcome s h on =
     let ends : EndsWith (turn_talk d here) h.calls (goes_on next) = subst (λ (t : Turn). EndsWith (turn_talk d here) h.calls t) (went-on d outcome next (length new) on) h.talk_ends in
     record {
@@ -78,20 +78,20 @@ passed-more before between after d start here next made new outcome s h on =
       leads = λ n m e.
           LeadsTo-append (turns d m 0 start) (turns d (suc n) (length made) here) (turns d n (length new) next) s.calls h.calls (s.leads (suc n) m (omega (arith, e)))
           (subst (λ (t : Talk (Option JoyAnswer)). LeadsTo (turns d (suc n) (length made) here) h.calls t)
-          (ap (λ (k : ℕ). after_turn d (turns d n) k (turn_of outcome next)) (counted-kept d here next h.calls made new ends h.kept) ∙ goes d (turns d n) (length new) outcome next on)
+          (ap (λ (k : ℕ). after_turn d (turns d n) k (turn_of outcome next)) (with_count-kept d here next h.calls made new ends h.kept) ∙ goes d (turns d n) (length new) outcome next on)
           (one_turn d here (turn_of outcome next) n (length made) h.calls h.talk_ends));
       are_calls = AreCalls-append before between after s.calls h.calls s.are_calls h.are_calls;
       kept = h.kept ∙ ap (λ (ms : List CallMade). ms ++ made_of h.calls) s.kept ∙ sym (made_of-append s.calls h.calls);
     }
 
 -- the number of accepted calls after the last turn, where that matters
-end-counted : (d : Description) (here next : Joying) (calls : List Call) (made new : List CallMade) (outcome : Outcome) → EndsWith (turn_talk d here) calls (turn_of outcome next) → new ≡ made ++ made_of calls → is_end d outcome next (length new) ≡ true → is_end d outcome next (count_after calls (length made)) ≡ true
-end-counted d here next calls made new (Hands r) h kept end = refl
-end-counted d here next calls made new (Stops read) h kept end = refl
-end-counted d here next calls made new GoesOn h kept end = ap (λ (n : ℕ). is_long d next n) (counted-kept d here next calls made new h kept) ∙ end
+end-with_count : (d : Description) (here next : Joying) (calls : List Call) (made new : List CallMade) (outcome : TurnEnd) → EndsWith (turn_talk d here) calls (turn_of outcome next) → new ≡ made ++ made_of calls → is_end d outcome next (length new) ≡ true → is_end d outcome next (count_after calls (length made)) ≡ true
+end-with_count d here next calls made new (Hands r) h kept end = refl
+end-with_count d here next calls made new (Stops read) h kept end = refl
+end-with_count d here next calls made new GoesOn h kept end = ap (λ (n : ℕ). is_long d next n) (with_count-kept d here next calls made new h kept) ∙ end
 
 -- after the last one
-pub passed-last : (before between after : EvdevView) (d : Description) (start here next : Joying) (made new : List CallMade) (outcome : Outcome) → Passed before between d start here made → Says between after made new (turn_talk d here) (turn_of outcome next) → is_end d outcome next (length new) ≡ true → HasTurned before after d start new (answer_of outcome next)
+pub passed-last : (before between after : EvdevView) (d : Description) (start here next : Joying) (made new : List CallMade) (outcome : TurnEnd) → Passed before between d start here made → Says between after made new (turn_talk d here) (turn_of outcome next) → is_end d outcome next (length new) ≡ true → HasTurned before after d start new (answer_of outcome next)
 passed-last before between after d start here next made new outcome s h end = record {
   count = s.count + 1;
   says = record {
@@ -99,7 +99,7 @@ passed-last before between after d start here next made new outcome s h end = re
     talk_ends =
         LeadsTo-append (turns d (s.count + 1) 0 start) (turns d (suc 0) (length made) here) (finish (Some (answer_of outcome next))) s.calls h.calls (s.leads (suc 0) (s.count + 1) (omega arith))
         (subst (λ (t : Talk (Option JoyAnswer)). LeadsTo (turns d (suc 0) (length made) here) h.calls t)
-        (ended d (turns d 0) (count_after h.calls (length made)) outcome next (end-counted d here next h.calls made new outcome h.talk_ends h.kept end))
+        (ended d (turns d 0) (count_after h.calls (length made)) outcome next (end-with_count d here next h.calls made new outcome h.talk_ends h.kept end))
         (one_turn d here (turn_of outcome next) 0 (length made) h.calls h.talk_ends));
     are_calls = AreCalls-append before between after s.calls h.calls s.are_calls h.are_calls;
     kept = h.kept ∙ ap (λ (ms : List CallMade). ms ++ made_of h.calls) s.kept ∙ sym (made_of-append s.calls h.calls);
@@ -108,18 +108,18 @@ passed-last before between after d start here next made new outcome s h end = re
 
 -- What a turn that goes on leaves
 
-pub on-less : (d : Description) (outcome : Outcome) (j : Joying) (n after before : ℕ) → is_end d outcome j n ≡ false → IsOutcomeLess outcome after before → after < before
+pub on-less : (d : Description) (outcome : TurnEnd) (j : Joying) (n after before : ℕ) → is_end d outcome j n ≡ false → IsTurnEndLess outcome after before → after < before
 on-less d (Hands r) j n after before on h = absurd (true≢false on)
 on-less d (Stops read) j n after before on h = absurd (true≢false on)
 on-less d GoesOn j n after before on h = h
 
-pub on-short : (d : Description) (outcome : Outcome) (j : Joying) (n : ℕ) → is_end d outcome j n ≡ false → is_startup_over d j ≡ true → n < 64
+pub on-short : (d : Description) (outcome : TurnEnd) (j : Joying) (n : ℕ) → is_end d outcome j n ≡ false → is_startup_over d j ≡ true → n < 64
 on-short d (Hands r) j n on over = absurd (true≢false on)
 on-short d (Stops read) j n on over = absurd (true≢false on)
 on-short d GoesOn j n on over =
     let few : nat_le 64 n ≡ false = sym (ap (λ (b : Bool). b && nat_le 64 n) over) ∙ on in grind (arith, nat_tests, few)
 
-pub on-agains : (d : Description) (outcome : Outcome) (j : Joying) (n count : ℕ) → is_end d outcome j n ≡ false → agains_after_turn outcome count ≡ count
+pub on-agains : (d : Description) (outcome : TurnEnd) (j : Joying) (n count : ℕ) → is_end d outcome j n ≡ false → agains_after_turn outcome count ≡ count
 on-agains d (Hands r) j n count on = absurd (true≢false on)
 on-agains d (Stops read) j n count on = absurd (true≢false on)
 on-agains d GoesOn j n count on = refl

@@ -11,7 +11,7 @@ use Rattle.inp_recon.specs.View.{first_view}
 use Rattle.inp_joy.specs.declared.joy_record.JoyRecord.{JoyRecord}
 use Rattle.inp_joy.specs.Codes.{buttons, axes, startup_len}
 use Rattle.inp_joy.specs.JoyRecord.{cut, startup_button, startup_axis}
-use Rattle.inp_joy.specs.Joying.{numbered, startup, startup_buttons, startup_axes}
+use Rattle.inp_joy.specs.Joying.{map_numbered, startup, startup_buttons, startup_axes}
 use Rattle.inp_joy.specs.Picture.{PictureView, blank_picture, picture_after, picture_after_all, up_to_64, picture_by, is_down_in, value_in, picture_of_view}
 use Rattle.inp_joy.proofs.CodeLists.{length-buttons, length-axes}
 use Rattle.inp_joy.proofs.Startups.{length-startup}
@@ -45,12 +45,12 @@ button_next done x values h =
     ∙ ap (λ (bs : List Bool). let q : PictureView = record { buttons = bs; axes = values } in q) (fill-next false x done h)
 
 buttons-fold : (done xs : List Bool) (values : List ℤ) → length done + length xs ≤ 64
-    → picture_after_all (record { buttons = up_to_64 false done; axes = values }) (numbered startup_button (length done) xs) ≡ record { buttons = up_to_64 false (done ++ xs); axes = values }
+    → picture_after_all (record { buttons = up_to_64 false done; axes = values }) (map_numbered startup_button (length done) xs) ≡ record { buttons = up_to_64 false (done ++ xs); axes = values }
 buttons-fold done [] values h = ap (λ (bs : List Bool). let q : PictureView = record { buttons = up_to_64 false bs; axes = values } in q) (sym (append-nil done))
 buttons-fold done (x ∷ xs) values h =
     let long : length done + 1 ≡ length (done ++ x ∷ []) = omega (arith, length-append done (x ∷ [])) in
-    ap (λ (p : PictureView). picture_after_all p (numbered startup_button (length done + 1) xs)) (button_next done x values (omega (arith, h)))
-    ∙ ap (λ (n : ℕ). picture_after_all (record { buttons = up_to_64 false (done ++ x ∷ []); axes = values }) (numbered startup_button n xs)) long
+    ap (λ (p : PictureView). picture_after_all p (map_numbered startup_button (length done + 1) xs)) (button_next done x values (omega (arith, h)))
+    ∙ ap (λ (n : ℕ). picture_after_all (record { buttons = up_to_64 false (done ++ x ∷ []); axes = values }) (map_numbered startup_button n xs)) long
     ∙ buttons-fold (done ++ x ∷ []) xs values (omega (arith, h, length-append done (x ∷ [])))
     ∙ ap (λ (bs : List Bool). let q : PictureView = record { buttons = up_to_64 false bs; axes = values } in q) (append_assoc done (x ∷ []) xs)
 
@@ -61,12 +61,12 @@ unfolding picture_after
 axis_next done x down h = ap (λ (zs : List ℤ). let q : PictureView = record { buttons = down; axes = zs } in q) (fill-next (pos 0) x done h)
 
 axes-fold : (done xs : List ℤ) (down : List Bool) → length done + length xs ≤ 64
-    → picture_after_all (record { buttons = down; axes = up_to_64 (pos 0) done }) (numbered startup_axis (length done) xs) ≡ record { buttons = down; axes = up_to_64 (pos 0) (done ++ xs) }
+    → picture_after_all (record { buttons = down; axes = up_to_64 (pos 0) done }) (map_numbered startup_axis (length done) xs) ≡ record { buttons = down; axes = up_to_64 (pos 0) (done ++ xs) }
 axes-fold done [] down h = ap (λ (zs : List ℤ). let q : PictureView = record { buttons = down; axes = up_to_64 (pos 0) zs } in q) (sym (append-nil done))
 axes-fold done (x ∷ xs) down h =
     let long : length done + 1 ≡ length (done ++ x ∷ []) = omega (arith, length-append done (x ∷ [])) in
-    ap (λ (p : PictureView). picture_after_all p (numbered startup_axis (length done + 1) xs)) (axis_next done x down (omega (arith, h)))
-    ∙ ap (λ (n : ℕ). picture_after_all (record { buttons = down; axes = up_to_64 (pos 0) (done ++ x ∷ []) }) (numbered startup_axis n xs)) long
+    ap (λ (p : PictureView). picture_after_all p (map_numbered startup_axis (length done + 1) xs)) (axis_next done x down (omega (arith, h)))
+    ∙ ap (λ (n : ℕ). picture_after_all (record { buttons = down; axes = up_to_64 (pos 0) (done ++ x ∷ []) }) (map_numbered startup_axis n xs)) long
     ∙ axes-fold (done ++ x ∷ []) xs down (omega (arith, h, length-append done (x ∷ [])))
     ∙ ap (λ (zs : List ℤ). let q : PictureView = record { buttons = down; axes = up_to_64 (pos 0) zs } in q) (append_assoc done (x ∷ []) xs)
 

@@ -11,7 +11,7 @@ use Rattle.inp_joy.specs.Codes.{buttons, axes, startup_len}
 use Rattle.inp_joy.specs.JoyRecord.{cut, startup_button, startup_axis}
 use Rattle.inp_joy.specs.Joying.{startup, startup_buttons, startup_axes}
 use Rattle.inp_joy.specs.Picture.{is_down_in, value_in}
-use Rattle.inp_joy.proofs.Lists.{slice_get-left, slice_get-right, numbered-get, length-numbered}
+use Rattle.inp_joy.proofs.Lists.{slice_get-left, slice_get-right, map_numbered-get, length-map_numbered}
 
 -- One record
 
@@ -20,7 +20,7 @@ button-found d v codes number code down r are at is made =
     let there : slice_get (map (is_down_in v) (buttons d)) number ≡ Some (is_down_in v code) =
     slice_get-map (is_down_in v) (buttons d) number ∙ ap (λ (cs : List ℕ). option_map (is_down_in v) (slice_get cs number)) (sym are) ∙ ap (λ o. option_map (is_down_in v) o) at in
     let e : 0 + number ≡ number = omega arith in
-    numbered-get startup_button 0 number (map (is_down_in v) (buttons d)) (is_down_in v code) there
+    map_numbered-get startup_button 0 number (map (is_down_in v) (buttons d)) (is_down_in v code) there
     ∙ ap (λ (n : ℕ). Some (startup_button n (is_down_in v code))) e
     ∙ ap (λ (b : Bool). Some (startup_button number b)) (sym is)
     ∙ ap (λ (x : JoyRecord). Some x) (sym made)
@@ -31,16 +31,16 @@ axis-found d v codes number code value r are at is made =
     let there : slice_get (map f (axes d)) number ≡ Some (f code) =
     slice_get-map f (axes d) number ∙ ap (λ (cs : List ℕ). option_map f (slice_get cs number)) (sym are) ∙ ap (λ o. option_map f o) at in
     let e : 0 + number ≡ number = omega arith in
-    numbered-get startup_axis 0 number (map f (axes d)) (f code) there
+    map_numbered-get startup_axis 0 number (map f (axes d)) (f code) there
     ∙ ap (λ (n : ℕ). Some (startup_axis n (f code))) e
     ∙ ap (λ (z : ℤ). Some (startup_axis number z)) (sym is)
     ∙ ap (λ (x : JoyRecord). Some x) (sym made)
 
 length-startup_buttons : (d : Description) (v : View) → length (startup_buttons d v) ≡ length (buttons d)
-length-startup_buttons d v = length-numbered startup_button 0 (map (is_down_in v) (buttons d)) ∙ length-map (buttons d) (is_down_in v)
+length-startup_buttons d v = length-map_numbered startup_button 0 (map (is_down_in v) (buttons d)) ∙ length-map (buttons d) (is_down_in v)
 
 length-startup_axes : (d : Description) (v : View) → length (startup_axes d v) ≡ length (axes d)
-length-startup_axes d v = let f : ℕ → ℤ = λ c. cut (value_in v c) in length-numbered startup_axis 0 (map f (axes d)) ∙ length-map (axes d) f
+length-startup_axes d v = let f : ℕ → ℤ = λ c. cut (value_in v c) in length-map_numbered startup_axis 0 (map f (axes d)) ∙ length-map (axes d) f
 
 pub length-startup : (d : Description) (v : View) → length (startup d v) ≡ startup_len d
 unfolding startup

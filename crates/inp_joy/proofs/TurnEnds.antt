@@ -22,10 +22,10 @@ use Rattle.inp_reader.proofs.Calls.{IsSplit, split-and_then, finished, AreAccept
 use Rattle.inp_joy.specs.declared.joy_read.JoyRead.{JoyRead}
 use Rattle.inp_joy.specs.declared.joy_read.JoyRead.TheVariants.{Frame}
 use Rattle.inp_joy.specs.declared.joy_record.JoyRecord.{JoyRecord}
-use Rattle.inp_joy.specs.declared.outcome.Outcome.{Outcome}
-use Rattle.inp_joy.specs.declared.outcome.Outcome.TheVariants.{Hands, Stops, GoesOn}
+use Rattle.inp_joy.specs.declared.turn_end.TurnEnd.{TurnEnd}
+use Rattle.inp_joy.specs.declared.turn_end.TurnEnd.TheVariants.{Hands, Stops, GoesOn}
 use Rattle.inp_joy.specs.Codes.{startup_len}
-use Rattle.inp_joy.specs.Joying.{Joying, JoyAnswer, Turn, gives, goes_on, hands, stops_with, with_reading, with_startup, without_startup, next_in_startup, is_startup_over, after_start, startup, stop_of, is_lost, record_of, record_or_on, event_of, after_event, stop_or_event, after_next, stop_or_startup, after_sync, sync_turn, after_normal, event_turn, record_or_turn, turn_talk}
+use Rattle.inp_joy.specs.Joying.{Joying, JoyAnswer, Turn, gives, goes_on, hand_out_record, stop_with, with_reading, with_startup, without_startup, next_in_startup, is_startup_over, after_start, startup, stop_of, is_lost, record_of, record_or_on, event_of, after_event, stop_or_event, after_next, stop_or_startup, after_sync, sync_turn, after_normal, event_turn, record_or_turn, turn_talk}
 use Rattle.inp_joy.specs.Kept.{turn_of}
 use Rattle.inp_joy.specs.Picture.{PictureView, picture_after_if, picture_of_view}
 use Rattle.inp_joy.specs.Reads.{IsPictured}
@@ -77,7 +77,7 @@ pub begun-pictured : (d : Description) (r : Reading) → IsPictured d (with_star
 begun-pictured d r = λ plain. startup-pictured d r.view
 
 -- a record of the startup
-pub record-pictured : (d : Description) (j : Joying) (r : JoyRecord) → slice_get (startup d j.reading.view) j.handed ≡ Some r → IsPictured d j → IsPictured d (hands (next_in_startup j) r).joying
+pub record-pictured : (d : Description) (j : Joying) (r : JoyRecord) → slice_get (startup d j.reading.view) j.handed ≡ Some r → IsPictured d j → IsPictured d (hand_out_record (next_in_startup j) r).joying
 record-pictured d j r at h = λ plain. startup-more j.picture (picture_of_view d j.reading.view) (startup d j.reading.view) j.handed r at (h plain)
 
 -- a synchronisation
@@ -101,7 +101,7 @@ sync_turn-pictured d j calls t needed h =
 -- an event
 event-gives : (d : Description) (j : Joying) (o : Option JoyRecord) → startup_len d ≤ j.handed → picture_after_if j.picture o ≡ picture_of_view d j.reading.view → IsTurnPictured d (record_or_on j o)
 event-gives d j None over shown = shown-pictured d j over shown
-event-gives d j (Some r) over shown = (shown-pictured d (hands j r).joying over shown, tt)
+event-gives d j (Some r) over shown = (shown-pictured d (hand_out_record j r).joying over shown, tt)
 
 taken-pictured : (d : Description) (j : Joying) (view : View) (taken : Taken) → IsSizedFor d.slots view → startup_len d ≤ j.handed → j.picture ≡ picture_of_view d view → j.reading.view ≡ view_after_event view taken.event → IsTurnPictured d (after_event d j taken)
 taken-pictured d j view taken sized over shown moved = by_flag (is_report taken.event) refl
@@ -109,7 +109,7 @@ taken-pictured d j view taken sized over shown moved = by_flag (is_report taken.
     all : picture_after_if j.picture (record_of d j.picture taken) ≡ picture_of_view d j.reading.view
     all = ap (λ (p : PictureView). picture_after_if p (record_of d p taken)) shown ∙ event-pictured d view taken sized.keys sized.axes ∙ ap (λ (v : View). picture_of_view d v) (sym moved)
 
-    by_flag : (b : Bool) → is_report taken.event ≡ b → IsTurnPictured d (if b then gives (stops_with (Frame taken.place) j) else record_or_on j (record_of d j.picture taken))
+    by_flag : (b : Bool) → is_report taken.event ≡ b → IsTurnPictured d (if b then gives (stop_with (Frame taken.place) j) else record_or_on j (record_of d j.picture taken))
     by_flag true is =
         let still : j.picture ≡ picture_of_view d j.reading.view = ap (λ (o : Option JoyRecord). picture_after_if j.picture o) (sym (report-none d j.picture taken is)) ∙ all in
         (shown-pictured d j over still, still)
@@ -148,7 +148,7 @@ turn-pictured d j calls t sized pictured none h = by_flag (is_needed j.reading.p
     by_flag false plain k = event_turn-pictured d j calls t sized (over-none d j.reading.view j.handed none) plain pictured k
 
 -- as an outcome
-pub outcome-pictured : (d : Description) (k : Joying) (outcome : Outcome) → IsTurnPictured d (turn_of outcome k) → IsPictured d k
+pub outcome-pictured : (d : Description) (k : Joying) (outcome : TurnEnd) → IsTurnPictured d (turn_of outcome k) → IsPictured d k
 outcome-pictured d k (Hands r) h = h.0
 outcome-pictured d k (Stops read) h = h.0
 outcome-pictured d k GoesOn h = h
@@ -174,7 +174,7 @@ gives-goes answer k e = cc
 
 stop-none : (j k : Joying) (o : Option JoyRead) → stop_or_startup j o ≡ goes_on k → o ≡ None
 stop-none j k None h = refl
-stop-none j k (Some read) h = absurd (gives-goes (stops_with read j) k h)
+stop-none j k (Some read) h = absurd (gives-goes (stop_with read j) k h)
 
 sync_turn-accepted : (d : Description) (j k : Joying) (calls : List Call) → EndsWith (sync_turn d j) calls (goes_on k) → AreAccepted calls
 unfolding sync_turn AreAccepted
@@ -187,7 +187,7 @@ sync_turn-accepted d j k calls h =
 
 event-none : (d : Description) (j k : Joying) (o : Option JoyRead) (e : Option Taken) → stop_or_event d j o e ≡ goes_on k → o ≡ None
 event-none d j k None e h = refl
-event-none d j k (Some read) e h = absurd (gives-goes (stops_with read j) k h)
+event-none d j k (Some read) e h = absurd (gives-goes (stop_with read j) k h)
 
 lost-none : (next : Next) → is_lost next ≡ true → stop_of next ≡ None
 lost-none (Dropped taken) h = refl
@@ -222,7 +222,7 @@ record_or-accepted d j k None calls h = by_flag (is_needed j.reading.phase) h
     by_flag true m = sync_turn-accepted d j k calls m
     by_flag false m = event_turn-accepted d j k calls m
 record_or-accepted d j k (Some r) calls h =
-    let answer : JoyAnswer = hands (next_in_startup j) r in absurd (gives-goes answer k (finished (gives answer) (goes_on k) calls h).1)
+    let answer : JoyAnswer = hand_out_record (next_in_startup j) r in absurd (gives-goes answer k (finished (gives answer) (goes_on k) calls h).1)
 
 pub turn-accepted : (d : Description) (j k : Joying) (calls : List Call) → EndsWith (turn_talk d j) calls (goes_on k) → AreAccepted calls
 turn-accepted d j k calls h = record_or-accepted d j k (slice_get (startup d j.reading.view) j.handed) calls h

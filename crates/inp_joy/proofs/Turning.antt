@@ -14,7 +14,7 @@ use Rattle.inp_reader.specs.Talk.{Talk, finish}
 use Rattle.inp_reader.proofs.Saying.{says-nothing, says-then}
 use Rattle.inp_joy.specs.declared.joy_read.JoyRead.{JoyRead}
 use Rattle.inp_joy.specs.declared.joy_record.JoyRecord.{JoyRecord}
-use Rattle.inp_joy.specs.Joying.{Joying, Turn, gives, goes_on, hands, stops_with, with_reading, with_startup, next_in_startup, after_start, joy_started, joy_start, stop_of, is_lost, after_next, stop_or_startup, after_sync, sync_turn, after_normal, event_turn, startup, record_or_turn, turn_talk}
+use Rattle.inp_joy.specs.Joying.{Joying, Turn, gives, goes_on, hand_out_record, stop_with, with_reading, with_startup, next_in_startup, after_start, joy_started, joy_start, stop_of, is_lost, after_next, stop_or_startup, after_sync, sync_turn, after_normal, event_turn, startup, record_or_turn, turn_talk}
 
 -- A synchronisation
 
@@ -26,10 +26,10 @@ says-sync before after old new d j next r turn s is =
     (says-nothing after new (finish (after_sync j o)) turn (ap (λ (t : Turn). finish t) is))
 
 -- one that was stopped
-pub says-sync_stopped : (before after : EvdevView) (old new : List CallMade) (d : Description) (j k : Joying) (next : Next) (r : Reading) (read : JoyRead) → Says before after old new (next_talk d Synchronising j.reading) (next, r) → k ≡ with_reading j r → Some read ≡ stop_of next → Says before after old new (sync_turn d j) (gives (stops_with read k))
+pub says-sync_stopped : (before after : EvdevView) (old new : List CallMade) (d : Description) (j k : Joying) (next : Next) (r : Reading) (read : JoyRead) → Says before after old new (next_talk d Synchronising j.reading) (next, r) → k ≡ with_reading j r → Some read ≡ stop_of next → Says before after old new (sync_turn d j) (gives (stop_with read k))
 says-sync_stopped before after old new d j k next r read s kept stopped =
-    says-sync before after old new d j next r (gives (stops_with read k)) s
-    (ap (λ (o : Option JoyRead). stop_or_startup (with_reading j r) o) (sym stopped) ∙ ap (λ (l : Joying). gives (stops_with read l)) (sym kept))
+    says-sync before after old new d j next r (gives (stop_with read k)) s
+    (ap (λ (o : Option JoyRead). stop_or_startup (with_reading j r) o) (sym stopped) ∙ ap (λ (l : Joying). gives (stop_with read l)) (sym kept))
 
 -- one that was not
 pub says-sync_whole : (before after : EvdevView) (old new : List CallMade) (d : Description) (j k : Joying) (next : Next) (r : Reading) → Says before after old new (next_talk d Synchronising j.reading) (next, r) → stop_of next ≡ None → k ≡ with_startup r → Says before after old new (sync_turn d j) (goes_on k)
@@ -77,7 +77,7 @@ says-plain before after old new d j turn plain s =
 pub says-turn : (before after : EvdevView) (old new : List CallMade) (d : Description) (j : Joying) (next : Option JoyRecord) (turn : Turn) → next ≡ slice_get (startup d j.reading.view) j.handed → Says before after old new (record_or_turn d j next) turn → Says before after old new (turn_talk d j) turn
 says-turn before after old new d j next turn is s = subst (λ (o : Option JoyRecord). Says before after old new (record_or_turn d j o) turn) is s
 
-pub says-startup : (told : EvdevView) (made new : List CallMade) (d : Description) (j : Joying) (r : JoyRecord) (turn : Turn) → new ≡ made → turn ≡ gives (hands (next_in_startup j) r) → Says told told made new (record_or_turn d j (Some r)) turn
+pub says-startup : (told : EvdevView) (made new : List CallMade) (d : Description) (j : Joying) (r : JoyRecord) (turn : Turn) → new ≡ made → turn ≡ gives (hand_out_record (next_in_startup j) r) → Says told told made new (record_or_turn d j (Some r)) turn
 says-startup told made new d j r turn same is =
     subst (λ (ms : List CallMade). Says told told made ms (record_or_turn d j (Some r)) turn) (sym same)
     (says-nothing told made (record_or_turn d j (Some r)) turn (ap (λ (t : Turn). finish t) (sym is)))

@@ -13,9 +13,9 @@ use Rattle.inp_reader.specs.Says.{made_of}
 use Rattle.inp_joy.specs.declared.joy_read.JoyRead.{JoyRead}
 use Rattle.inp_joy.specs.declared.joy_read.JoyRead.TheVariants.{Record, Frame, Again, More}
 use Rattle.inp_joy.specs.Codes.{startup_len}
-use Rattle.inp_joy.specs.Joying.{Joying, joy_start, turns, stops_with}
+use Rattle.inp_joy.specs.Joying.{Joying, joy_start, turns, stop_with}
 use Rattle.inp_joy.specs.Picture.{blank_picture, up_to_64}
-use Rattle.inp_joy.specs.Reads.{written}
+use Rattle.inp_joy.specs.Reads.{bytes_after}
 
 -- a joystick client on a one-thread device: its answers with the bytes that it handed out, and the calls that it made
 pub record JoyStand : Type 0 where
@@ -38,8 +38,8 @@ abbrev pub after_reads : Description → List Step → Joying → ℕ → List (
 after_reads d past j zero answers made = record { past = past; joying = j; answers = answers; made = made }
 after_reads d past j (suc n) answers made =
     let p = played d past [] (turns d 4 0 j) in
-    let answer = unwrap_or p.result (stops_with More j) in
-    after_reads d p.past answer.joying n (answers ++ (answer.read, written answer.handed []) ∷ []) (made ++ made_of p.calls)
+    let answer = unwrap_or p.result (stop_with More j) in
+    after_reads d p.past answer.joying n (answers ++ (answer.read, bytes_after answer.record_out []) ∷ []) (made ++ made_of p.calls)
 
 -- a new client starts, these steps come, and it reads so often
 abbrev pub after_joy : Description → List Step → ℕ → JoyStand

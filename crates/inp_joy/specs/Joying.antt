@@ -41,16 +41,16 @@ pub record JoyView : Type 0 where
 -- Startups
 
 -- what f makes of each item and of its number, from so many on
-abbrev pub numbered : {X : Type 0} → (ℕ → X → JoyRecord) → ℕ → List X → List JoyRecord
-numbered f n [] = []
-numbered f n (x ∷ xs) = f n x ∷ numbered f (n + 1) xs
+abbrev pub map_numbered : {X : Type 0} → (ℕ → X → JoyRecord) → ℕ → List X → List JoyRecord
+map_numbered f n [] = []
+map_numbered f n (x ∷ xs) = f n x ∷ map_numbered f (n + 1) xs
 
 -- how the buttons stand in a view, and the axes
 abbrev pub startup_buttons : Description → View → List JoyRecord
-startup_buttons d v = numbered startup_button 0 (map (is_down_in v) (buttons d))
+startup_buttons d v = map_numbered startup_button 0 (map (is_down_in v) (buttons d))
 
 abbrev pub startup_axes : Description → View → List JoyRecord
-startup_axes d v = numbered startup_axis 0 (map (λ code. cut (value_in v code)) (axes d))
+startup_axes d v = map_numbered startup_axis 0 (map (λ code. cut (value_in v code)) (axes d))
 
 -- the records of a startup: all buttons and then all axes
 unfoldable pub startup : Description → View → List JoyRecord
@@ -89,7 +89,7 @@ joy_start d j = and_then (start_talk d j.reading) (λ o. finish (joy_started d j
 -- an answer of `read`, with the record that it hands out and what is kept then
 pub record JoyAnswer : Type 0 where
   pub read : JoyRead
-  pub handed : Option JoyRecord
+  pub record_out : Option JoyRecord
   pub joying : Joying
 
 -- a turn gives an answer, or the read goes on
@@ -97,11 +97,11 @@ pub data Turn : Type 0 where
   gives : JoyAnswer → Turn
   goes_on : Joying → Turn
 
-abbrev pub hands : Joying → JoyRecord → JoyAnswer
-hands j r = record { read = Record; handed = Some r; joying = record j { picture = picture_after j.picture r } }
+abbrev pub hand_out_record : Joying → JoyRecord → JoyAnswer
+hand_out_record j r = record { read = Record; record_out = Some r; joying = record j { picture = picture_after j.picture r } }
 
-abbrev pub stops_with : JoyRead → Joying → JoyAnswer
-stops_with read j = record { read = read; handed = None; joying = j }
+abbrev pub stop_with : JoyRead → Joying → JoyAnswer
+stop_with read j = record { read = read; record_out = None; joying = j }
 
 -- the answers of a reader that are answers of a read too
 abbrev pub stop_of : Next → Option JoyRead
@@ -144,12 +144,12 @@ record_of d p taken =
 -- the record that is there is handed out
 abbrev pub record_or_on : Joying → Option JoyRecord → Turn
 record_or_on j None = goes_on j
-record_or_on j (Some r) = gives (hands j r)
+record_or_on j (Some r) = gives (hand_out_record j r)
 
 -- after an event of the reader: a report ends a frame, and others may give a record
 abbrev pub after_event : Description → Joying → Taken → Turn
 after_event d j taken =
-    if is_report taken.event then gives (stops_with (Frame taken.place) j)
+    if is_report taken.event then gives (stop_with (Frame taken.place) j)
     else record_or_on j (record_of d j.picture taken)
 
 abbrev pub event_or_on : Description → Joying → Option Taken → Turn
@@ -159,7 +159,7 @@ event_or_on d j (Some taken) = after_event d j taken
 -- after an answer of the reader that lost no events
 abbrev pub stop_or_event : Description → Joying → Option JoyRead → Option Taken → Turn
 stop_or_event d j None event = event_or_on d j event
-stop_or_event d j (Some read) event = gives (stops_with read j)
+stop_or_event d j (Some read) event = gives (stop_with read j)
 
 abbrev pub after_next : Description → Joying → Next → Turn
 after_next d j next = stop_or_event d j (stop_of next) (event_of next)
@@ -167,7 +167,7 @@ after_next d j next = stop_or_event d j (stop_of next) (event_of next)
 -- after a synchronisation: a startup begins, unless it was stopped
 abbrev pub stop_or_startup : Joying → Option JoyRead → Turn
 stop_or_startup j None = goes_on (with_startup j.reading)
-stop_or_startup j (Some read) = gives (stops_with read j)
+stop_or_startup j (Some read) = gives (stop_with read j)
 
 abbrev pub after_sync : Joying → Next × Reading → Turn
 after_sync j o = stop_or_startup (with_reading j o.1) (stop_of o.0)
@@ -191,15 +191,15 @@ next_in_startup j = record j { handed = j.handed + 1 }
 -- a turn: a record of the startup, where one is left, or a synchronisation, where one is needed, or an event
 abbrev pub record_or_turn : Description → Joying → Option JoyRecord → Talk Turn
 record_or_turn d j None = if is_needed j.reading.phase then sync_turn d j else event_turn d j
-record_or_turn d j (Some r) = finish (gives (hands (next_in_startup j) r))
+record_or_turn d j (Some r) = finish (gives (hand_out_record (next_in_startup j) r))
 
 abbrev pub turn_talk : Description → Joying → Talk Turn
 turn_talk d j = record_or_turn d j (slice_get (startup d j.reading.view) j.handed)
 
 -- a talk, with how many of its steps were accepted behind so many before
-abbrev pub counted : {A : Type 0} → Talk A → ℕ → Talk (ℕ × A)
-counted (finish a) n = finish (n, a)
-counted (ask x rest) n = ask x (λ answer. counted (rest answer) (if is_accepted answer.reply then n + 1 else n))
+abbrev pub with_count : {A : Type 0} → Talk A → ℕ → Talk (ℕ × A)
+with_count (finish a) n = finish (n, a)
+with_count (ask x rest) n = ask x (λ answer. with_count (rest answer) (if is_accepted answer.reply then n + 1 else n))
 
 -- a read is over for now: no startup record is left, and 64 of its steps were accepted
 abbrev pub is_long : Description → Joying → ℕ → Bool
@@ -207,9 +207,9 @@ is_long d j n = is_startup_over d j && nat_le 64 n
 
 abbrev pub after_turn : Description → (ℕ → Joying → Talk (Option JoyAnswer)) → ℕ → Turn → Talk (Option JoyAnswer)
 after_turn d go_on n (gives answer) = finish (Some answer)
-after_turn d go_on n (goes_on j) = if is_long d j n then finish (Some (stops_with More j)) else go_on n j
+after_turn d go_on n (goes_on j) = if is_long d j n then finish (Some (stop_with More j)) else go_on n j
 
 -- turns until one gives an answer or the read is long, at most so many
 unfoldable pub turns : Description → ℕ → ℕ → Joying → Talk (Option JoyAnswer)
 turns d zero n j = finish None
-turns d (suc k) n j = and_then (counted (turn_talk d j) n) (λ o. after_turn d (turns d k) o.0 o.1)
+turns d (suc k) n j = and_then (with_count (turn_talk d j) n) (λ o. after_turn d (turns d k) o.0 o.1)

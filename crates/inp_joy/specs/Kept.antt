@@ -13,10 +13,10 @@ use Rattle.inp_reader.specs.Standing.{StandsAt, IsAlone}
 use Rattle.inp_joy.specs.declared.joy.Joy.TheInside.{Inside}
 use Rattle.inp_joy.specs.declared.joy_read.JoyRead.TheVariants.{Record, Frame, More}
 use Rattle.inp_joy.specs.declared.joy_state.JoyState.{JoyState}
-use Rattle.inp_joy.specs.declared.outcome.Outcome.{Outcome}
-use Rattle.inp_joy.specs.declared.outcome.Outcome.TheVariants.{Hands, Stops, GoesOn}
+use Rattle.inp_joy.specs.declared.turn_end.TurnEnd.{TurnEnd}
+use Rattle.inp_joy.specs.declared.turn_end.TurnEnd.TheVariants.{Hands, Stops, GoesOn}
 use Rattle.inp_joy.specs.Codes.{buttons, axes, startup_len}
-use Rattle.inp_joy.specs.Joying.{Joying, JoyView, JoyAnswer, Turn, gives, goes_on, stops_with, is_long, turns}
+use Rattle.inp_joy.specs.Joying.{Joying, JoyView, JoyAnswer, Turn, gives, goes_on, stop_with, is_long, turns}
 use Rattle.inp_joy.specs.Picture.{seen_as}
 use Rattle.inp_joy.specs.Reads.{IsPictured, PicturesTheDevice, agains_after_read}
 
@@ -41,34 +41,34 @@ pub record IsJoy (j : Inside) : Type 0 where
   pub pictured : IsPictured j.state.reader.description (joying_of j.state)
 
 -- the answer that a turn comes to; where it goes on, the read is over for now
-abbrev pub answer_of : Outcome → Joying → JoyAnswer
-answer_of (Hands r) j = record { read = Record; handed = Some r; joying = j }
-answer_of (Stops read) j = stops_with read j
-answer_of GoesOn j = stops_with More j
+abbrev pub answer_of : TurnEnd → Joying → JoyAnswer
+answer_of (Hands r) j = record { read = Record; record_out = Some r; joying = j }
+answer_of (Stops read) j = stop_with read j
+answer_of GoesOn j = stop_with More j
 
-abbrev pub turn_of : Outcome → Joying → Turn
+abbrev pub turn_of : TurnEnd → Joying → Turn
 turn_of (Hands r) j = gives (answer_of (Hands r) j)
 turn_of (Stops read) j = gives (answer_of (Stops read) j)
 turn_of GoesOn j = goes_on j
 
 -- no other turn follows
-abbrev pub is_end : Description → Outcome → Joying → ℕ → Bool
+abbrev pub is_end : Description → TurnEnd → Joying → ℕ → Bool
 is_end d GoesOn j n = is_long d j n
 is_end d _ j n = true
 
 -- a turn that goes on leaves less to do
-abbrev pub IsOutcomeLess : Outcome → ℕ → ℕ → Type 0
-IsOutcomeLess GoesOn after before = after < before
-IsOutcomeLess _ after before = Unit {0}
+abbrev pub IsTurnEndLess : TurnEnd → ℕ → ℕ → Type 0
+IsTurnEndLess GoesOn after before = after < before
+IsTurnEndLess _ after before = Unit {0}
 
 -- the count of answers Again after a turn
-abbrev pub agains_after_turn : Outcome → ℕ → ℕ
+abbrev pub agains_after_turn : TurnEnd → ℕ → ℕ
 agains_after_turn (Stops read) n = agains_after_read read n
 agains_after_turn _ n = n
 
 -- What a reader did: the calls that it made, what they leave, and that it stands afterwards, and shows this, where it stood
 -- before and nobody else used its client.
-pub record Goes (before after : EvdevView) (old new : List CallMade) (d : Description) (r s : Reading) (Shown : Type 0) : Type 0 where
+pub record ReaderCalls (before after : EvdevView) (old new : List CallMade) (d : Description) (r s : Reading) (Shown : Type 0) : Type 0 where
   pub more : List CallMade
   pub kept : new ≡ old ++ more
   pub left : LeavesMade before after more
@@ -77,14 +77,14 @@ pub record Goes (before after : EvdevView) (old new : List CallMade) (d : Descri
   pub shows : StandsAt d (reverse before.seen) r → IsAlone before after s.client more → Shown
 
 -- what a turn shows where a frame ended
-abbrev pub OutcomePictures : EvdevView → Description → Joying → Outcome → Type 0
-OutcomePictures told d j (Stops (Frame place)) = PicturesTheDevice d (reverse told.seen) j place
-OutcomePictures told d j _ = Unit {0}
+abbrev pub TurnEndPictures : EvdevView → Description → Joying → TurnEnd → Type 0
+TurnEndPictures told d j (Stops (Frame place)) = PicturesTheDevice d (reverse told.seen) j place
+TurnEndPictures told d j _ = Unit {0}
 
 -- what the reader shows there
-abbrev pub OutcomeShows : EvdevView → ReaderView → Outcome → Type 0
-OutcomeShows told r (Stops (Frame place)) = (taken : Taken) × (taken.place ≡ place) × ShowsTheDevice r.description (reverse told.seen) r.reading taken
-OutcomeShows told r _ = Unit {0}
+abbrev pub TurnEndShows : EvdevView → ReaderView → TurnEnd → Type 0
+TurnEndShows told r (Stops (Frame place)) = (taken : Taken) × (taken.place ≡ place) × ShowsTheDevice r.description (reverse told.seen) r.reading taken
+TurnEndShows told r _ = Unit {0}
 
 -- the calls that were made are those of some number of turns, and this is their answer
 pub record HasTurned (before after : EvdevView) (d : Description) (old : Joying) (made : List CallMade) (answer : JoyAnswer) : Type 0 where

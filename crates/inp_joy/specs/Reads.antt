@@ -21,17 +21,17 @@ use Rattle.inp_joy.specs.Picture.{picture_after_all, picture_of_view, picture_of
 use Rattle.inp_joy.specs.Joying.{Joying, JoyView, startup, turns}
 
 -- the caller's eight bytes: the record that was handed out, or what they were
-abbrev pub written : Option JoyRecord → List ℕ → List ℕ
-written None out = out
-written (Some r) out = bytes_of r
+abbrev pub bytes_after : Option JoyRecord → List ℕ → List ℕ
+bytes_after None out = out
+bytes_after (Some r) out = bytes_of r
 
 -- The calls that were made are those of some number of turns, and the answer, what is kept and what is written are their
 -- result.
 pub record IsRead (before after : EvdevView) (d : Description) (old new : Joying) (made : List CallMade) (read : JoyRead) (out new_out : List ℕ) : Type 0 where
   pub count : ℕ
-  pub handed : Option JoyRecord
-  pub says : Says before after [] made (turns d count 0 old) (Some (record { read = read; handed = handed; joying = new }))
-  pub out_written : new_out ≡ written handed out
+  pub record_out : Option JoyRecord
+  pub says : Says before after [] made (turns d count 0 old) (Some (record { read = read; record_out = record_out; joying = new }))
+  pub out_written : new_out ≡ bytes_after record_out out
 
 -- the count of answers Again after a read; it stays at the end of its type
 abbrev pub agains_after_read : JoyRead → ℕ → ℕ

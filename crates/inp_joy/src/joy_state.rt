@@ -8,16 +8,16 @@ ghost use Rattle.inp_reader.specs.Says.{Says};
 ghost use Rattle.inp_reader.specs.Showing.{AnswerShows};
 ghost use Rattle.inp_reader.specs.Standing.{IsAlone, is_needed, has_opened};
 ghost use Rattle.inp_joy.specs.Codes.{number_of, startup_len};
-ghost use Rattle.inp_joy.specs.Joying.{startup, startup_buttons, startup_axes, with_startup, without_startup, is_startup_over, is_long, hands, record_of, record_of_key, record_of_axis, last_value, after_event, after_next, after_start, sync_turn, event_turn, next_in_startup, record_or_turn, turn_talk, joy_start, gives};
-ghost use Rattle.inp_joy.specs.Kept.{joying_of, IsJoyState, answer_of, turn_of, is_end, IsOutcomeLess, agains_after_turn, Goes, OutcomeShows, OutcomePictures, HasTurned, StateStands};
+ghost use Rattle.inp_joy.specs.Joying.{startup, startup_buttons, startup_axes, with_startup, without_startup, is_startup_over, is_long, hand_out_record, record_of, record_of_key, record_of_axis, last_value, after_event, after_next, after_start, sync_turn, event_turn, next_in_startup, record_or_turn, turn_talk, joy_start, gives};
+ghost use Rattle.inp_joy.specs.Kept.{joying_of, IsJoyState, answer_of, turn_of, is_end, IsTurnEndLess, agains_after_turn, ReaderCalls, TurnEndShows, TurnEndPictures, HasTurned, StateStands};
 ghost use Rattle.inp_joy.specs.Picture.{seen_as};
 ghost use Rattle.inp_joy.specs.Reads.{IsPictured, IsRead, ReadPictures, agains_after_read};
 
 use crate::code_list::CodeList;
 use crate::joy_calls::JoyCalls;
 use crate::joy_record::cut;
-use crate::outcome::Outcome;
 use crate::stops::{event_of, is_lost, stop_of};
+use crate::turn_end::TurnEnd;
 use crate::views::{cut_axis_of, is_down};
 use crate::{JoyRead, JoyRecord, Picture};
 use inp_model::{EV_ABS, EV_KEY, Evdev, Taken};
@@ -78,7 +78,7 @@ impl JoyState {
         ensures found { result
             ≡ slice_get (startup self.now.reader.description self.now.reader.reading.view)
             self.now.handed }
-        ensures number { IfSome result (λ entry. entry.number < 64) }
+        ensures number { IfSome result (λ joy_record. joy_record.number < 64) }
     {
         let buttons = self.buttons.len();
         if self.handed < buttons {
@@ -112,7 +112,7 @@ impl JoyState {
     // The record of a key event, if it gives one.
     fn button_record(&self, event: Taken) -> Option<JoyRecord>
         ensures found { result ≡ record_of_key (number_of event.event.code self.now.buttons) event }
-        ensures number { IfSome result (λ entry. entry.number < 64) }
+        ensures number { IfSome result (λ joy_record. joy_record.number < 64) }
     {
         let Some(number) = self.buttons.number_of(event.event.code) else {
             return None;
@@ -137,7 +137,7 @@ impl JoyState {
         ensures found { result
             ≡ record_of_axis (seen_as self.now.picture)
             (number_of event.event.code self.now.axes) event }
-        ensures number { IfSome result (λ entry. entry.number < 64) }
+        ensures number { IfSome result (λ joy_record. joy_record.number < 64) }
     {
         let Some(number) = self.axes.number_of(event.event.code) else {
             return None;
@@ -154,7 +154,7 @@ impl JoyState {
         requires state { IsJoyState self.now.reader.description self.now }
         ensures found { result
             ≡ record_of self.now.reader.description (seen_as self.now.picture) event }
-        ensures number { IfSome result (λ entry. entry.number < 64) }
+        ensures number { IfSome result (λ joy_record. joy_record.number < 64) }
     {
         match event.event.kind {
             EV_KEY => self.button_record(event),
@@ -164,18 +164,18 @@ impl JoyState {
     }
 
     // Hands out a record.
-    fn hand(&mut self, entry: JoyRecord) -> Outcome
-        requires { entry.number < 64 }
+    fn hand(&mut self, joy_record: JoyRecord) -> TurnEnd
+        requires { joy_record.number < 64 }
         ensures turn { turn_of result (joying_of self.new)
-            ≡ gives (hands (joying_of self.old) entry) }
+            ≡ gives (hand_out_record (joying_of self.old) joy_record) }
         ensures rest { self.new ≡ record self.old { picture = self.new.picture } }
     {
-        self.picture.take(entry);
-        Outcome::Hands { entry }
+        self.picture.take(joy_record);
+        TurnEnd::Hands { joy_record }
     }
 
     // After an event of the reader.
-    fn after_event(&mut self, event: Taken) -> Outcome
+    fn after_event(&mut self, event: Taken) -> TurnEnd
         requires state { IsJoyState self.old.reader.description self.old }
         ensures turn { turn_of result (joying_of self.new)
             ≡ after_event self.old.reader.description (joying_of self.old) event }
@@ -183,27 +183,27 @@ impl JoyState {
     {
         if event.event.is_report() {
             let read = JoyRead::Frame { place: event.place };
-            return Outcome::Stops { read };
+            return TurnEnd::Stops { read };
         }
         match self.event_record(event) {
-            Some(entry) => self.hand(entry),
-            None => Outcome::GoesOn,
+            Some(joy_record) => self.hand(joy_record),
+            None => TurnEnd::GoesOn,
         }
     }
 
     // After an answer of the reader that lost no events.
-    fn after_next(&mut self, next: Next) -> Outcome
+    fn after_next(&mut self, next: Next) -> TurnEnd
         requires state { IsJoyState self.old.reader.description self.old }
         ensures turn { turn_of result (joying_of self.new)
             ≡ after_next self.old.reader.description (joying_of self.old) next }
         ensures rest { self.new ≡ record self.old { picture = self.new.picture } }
     {
         if let Some(read) = stop_of(next) {
-            return Outcome::Stops { read };
+            return TurnEnd::Stops { read };
         }
         match event_of(next) {
             Some(event) => self.after_event(event),
-            None => Outcome::GoesOn,
+            None => TurnEnd::GoesOn,
         }
     }
 
@@ -215,7 +215,7 @@ impl JoyState {
         ensures says { Says (E.told dev.old) (E.told dev.new) self.old.made self.new.made
             (next_talk self.old.reader.description mode self.old.reader.reading)
             (result, self.new.reader.reading) }
-        ensures goes { Goes (E.told dev.old) (E.told dev.new) self.old.made self.new.made
+        ensures calls { ReaderCalls (E.told dev.old) (E.told dev.new) self.old.made self.new.made
             self.old.reader.description self.old.reader.reading self.new.reader.reading
             (AnswerShows (E.told dev.new) self.new.reader result) }
         ensures agains { (E.told dev.new).agains ≡ agains_after_next result (E.told dev.old).agains }
@@ -235,7 +235,7 @@ impl JoyState {
     }
 
     // Makes the reader synchronise; then a startup begins.
-    fn synchronise<E: Evdev>(&mut self, dev: &mut E) -> Outcome
+    fn synchronise<E: Evdev>(&mut self, dev: &mut E) -> TurnEnd
         requires description { (E.told dev.old).description ≡ self.old.reader.description }
         requires state { IsJoyState self.old.reader.description self.old }
         requires needed { is_needed self.old.reader.reading.phase ≡ true }
@@ -243,11 +243,11 @@ impl JoyState {
         ensures says { Says (E.told dev.old) (E.told dev.new) self.old.made self.new.made
             (sync_turn self.old.reader.description (joying_of self.old))
             (turn_of result (joying_of self.new)) }
-        ensures goes { Goes (E.told dev.old) (E.told dev.new) self.old.made self.new.made
+        ensures calls { ReaderCalls (E.told dev.old) (E.told dev.new) self.old.made self.new.made
             self.old.reader.description self.old.reader.reading self.new.reader.reading
-            (OutcomeShows (E.told dev.new) self.new.reader result) }
+            (TurnEndShows (E.told dev.new) self.new.reader result) }
         ensures agains { (E.told dev.new).agains ≡ agains_after_turn result (E.told dev.old).agains }
-        ensures less { IsOutcomeLess result
+        ensures less { IsTurnEndLess result
             (effort (E.told dev.new) self.new.reader.reading)
             (effort (E.told dev.old) self.old.reader.reading) }
         ensures state { IsJoyState self.old.reader.description self.new }
@@ -255,14 +255,14 @@ impl JoyState {
     {
         let next = self.next(dev, Mode::Sync);
         if let Some(read) = stop_of(next) {
-            return Outcome::Stops { read };
+            return TurnEnd::Stops { read };
         }
         self.begin_startup();
-        Outcome::GoesOn
+        TurnEnd::GoesOn
     }
 
     // Asks the reader for its next event; where events were lost it synchronises.
-    fn take_event<E: Evdev>(&mut self, dev: &mut E) -> Outcome
+    fn take_event<E: Evdev>(&mut self, dev: &mut E) -> TurnEnd
         requires description { (E.told dev.old).description ≡ self.old.reader.description }
         requires state { IsJoyState self.old.reader.description self.old }
         requires plain { is_needed self.old.reader.reading.phase ≡ false }
@@ -270,11 +270,11 @@ impl JoyState {
         ensures says { Says (E.told dev.old) (E.told dev.new) self.old.made self.new.made
             (event_turn self.old.reader.description (joying_of self.old))
             (turn_of result (joying_of self.new)) }
-        ensures goes { Goes (E.told dev.old) (E.told dev.new) self.old.made self.new.made
+        ensures calls { ReaderCalls (E.told dev.old) (E.told dev.new) self.old.made self.new.made
             self.old.reader.description self.old.reader.reading self.new.reader.reading
-            (OutcomeShows (E.told dev.new) self.new.reader result) }
+            (TurnEndShows (E.told dev.new) self.new.reader result) }
         ensures agains { (E.told dev.new).agains ≡ agains_after_turn result (E.told dev.old).agains }
-        ensures less { IsOutcomeLess result
+        ensures less { IsTurnEndLess result
             (effort (E.told dev.new) self.new.reader.reading)
             (effort (E.told dev.old) self.old.reader.reading) }
         ensures state { IsJoyState self.old.reader.description self.new }
@@ -289,35 +289,35 @@ impl JoyState {
     }
 
     // Hands out the next record of the startup.
-    fn hand_startup(&mut self, entry: JoyRecord) -> Outcome
+    fn hand_startup(&mut self, joy_record: JoyRecord) -> TurnEnd
         requires state { IsJoyState self.old.reader.description self.old }
         requires left { slice_get
             (startup self.old.reader.description self.old.reader.reading.view) self.old.handed
-            ≡ Some entry }
-        requires number { entry.number < 64 }
+            ≡ Some joy_record }
+        requires number { joy_record.number < 64 }
         ensures turn { turn_of result (joying_of self.new)
-            ≡ gives (hands (next_in_startup (joying_of self.old)) entry) }
+            ≡ gives (hand_out_record (next_in_startup (joying_of self.old)) joy_record) }
         ensures rest { self.new
             ≡ record self.old { handed = self.old.handed + 1; picture = self.new.picture } }
         ensures state { IsJoyState self.old.reader.description self.new }
     {
         self.handed += 1;
-        self.hand(entry)
+        self.hand(joy_record)
     }
 
     // A turn where no record of the startup is left.
-    fn go_on<E: Evdev>(&mut self, dev: &mut E) -> Outcome
+    fn go_on<E: Evdev>(&mut self, dev: &mut E) -> TurnEnd
         requires description { (E.told dev.old).description ≡ self.old.reader.description }
         requires state { IsJoyState self.old.reader.description self.old }
         requires few { length self.old.made < 64 }
         ensures says { Says (E.told dev.old) (E.told dev.new) self.old.made self.new.made
             (record_or_turn self.old.reader.description (joying_of self.old) None)
             (turn_of result (joying_of self.new)) }
-        ensures goes { Goes (E.told dev.old) (E.told dev.new) self.old.made self.new.made
+        ensures calls { ReaderCalls (E.told dev.old) (E.told dev.new) self.old.made self.new.made
             self.old.reader.description self.old.reader.reading self.new.reader.reading
-            (OutcomeShows (E.told dev.new) self.new.reader result) }
+            (TurnEndShows (E.told dev.new) self.new.reader result) }
         ensures agains { (E.told dev.new).agains ≡ agains_after_turn result (E.told dev.old).agains }
-        ensures less { IsOutcomeLess result
+        ensures less { IsTurnEndLess result
             (effort (E.told dev.new) self.new.reader.reading)
             (effort (E.told dev.old) self.old.reader.reading) }
         ensures state { IsJoyState self.old.reader.description self.new }
@@ -331,7 +331,7 @@ impl JoyState {
     }
 
     // A turn of a read.
-    fn turn<E: Evdev>(&mut self, dev: &mut E) -> Outcome
+    fn turn<E: Evdev>(&mut self, dev: &mut E) -> TurnEnd
         requires description { (E.told dev.old).description ≡ self.old.reader.description }
         requires state { IsJoyState self.old.reader.description self.old }
         requires pictured { IsPictured self.old.reader.description (joying_of self.old) }
@@ -341,12 +341,12 @@ impl JoyState {
         ensures says { Says (E.told dev.old) (E.told dev.new) self.old.made self.new.made
             (turn_talk self.old.reader.description (joying_of self.old))
             (turn_of result (joying_of self.new)) }
-        ensures goes { Goes (E.told dev.old) (E.told dev.new) self.old.made self.new.made
+        ensures calls { ReaderCalls (E.told dev.old) (E.told dev.new) self.old.made self.new.made
             self.old.reader.description self.old.reader.reading self.new.reader.reading
-            (OutcomePictures (E.told dev.new) self.old.reader.description
+            (TurnEndPictures (E.told dev.new) self.old.reader.description
             (joying_of self.new) result) }
         ensures agains { (E.told dev.new).agains ≡ agains_after_turn result (E.told dev.old).agains }
-        ensures less { IsOutcomeLess result
+        ensures less { IsTurnEndLess result
             (effort (E.told dev.new) self.new.reader.reading)
             (effort (E.told dev.old) self.old.reader.reading) }
         ensures state { IsJoyState self.old.reader.description self.new }
@@ -354,26 +354,26 @@ impl JoyState {
         ensures few { length self.new.made ≤ 128 }
     {
         match self.startup_record() {
-            Some(entry) => self.hand_startup(entry),
+            Some(joy_record) => self.hand_startup(joy_record),
             None => self.go_on(dev),
         }
     }
 
     // Whether no other turn follows.
-    fn is_end(&self, outcome: Outcome) -> bool
+    fn is_end(&self, outcome: TurnEnd) -> bool
         requires { IsJoyState self.now.reader.description self.now }
         ensures { result
             ≡ is_end self.now.reader.description outcome (joying_of self.now)
             (length self.now.made) }
     {
         match outcome {
-            Outcome::GoesOn => self.startup_len() <= self.handed && self.made.len() >= LONG,
+            TurnEnd::GoesOn => self.startup_len() <= self.handed && self.made.len() >= LONG,
             _ => true,
         }
     }
 
     // Turns until one gives an answer, or until the read is long.
-    fn take_turns<E: Evdev>(&mut self, dev: &mut E) -> Outcome
+    fn take_turns<E: Evdev>(&mut self, dev: &mut E) -> TurnEnd
         requires description { (E.told dev.old).description ≡ self.old.reader.description }
         requires state { IsJoyState self.old.reader.description self.old }
         requires pictured { IsPictured self.old.reader.description (joying_of self.old) }
@@ -381,9 +381,9 @@ impl JoyState {
         ensures says { HasTurned (E.told dev.old) (E.told dev.new)
             self.old.reader.description (joying_of self.old) self.new.made
             (answer_of result (joying_of self.new)) }
-        ensures goes { Goes (E.told dev.old) (E.told dev.new) [] self.new.made
+        ensures calls { ReaderCalls (E.told dev.old) (E.told dev.new) [] self.new.made
             self.old.reader.description self.old.reader.reading self.new.reader.reading
-            (OutcomePictures (E.told dev.new) self.old.reader.description
+            (TurnEndPictures (E.told dev.new) self.old.reader.description
             (joying_of self.new) result) }
         ensures agains { (E.told dev.new).agains ≡ agains_after_turn result (E.told dev.old).agains }
         ensures state { IsJoyState self.old.reader.description self.new }
@@ -406,7 +406,7 @@ impl JoyState {
         ensures says { IsRead (E.told dev.old) (E.told dev.new)
             self.old.reader.description (joying_of self.old) (joying_of self.new) self.new.made
             result out.old out.new }
-        ensures goes { Goes (E.told dev.old) (E.told dev.new) [] self.new.made
+        ensures calls { ReaderCalls (E.told dev.old) (E.told dev.new) [] self.new.made
             self.old.reader.description self.old.reader.reading self.new.reader.reading
             (ReadPictures (E.told dev.new) self.old.reader.description (joying_of self.new) result) }
         ensures agains { (E.told dev.new).agains ≡ agains_after_read result (E.told dev.old).agains }
@@ -416,12 +416,12 @@ impl JoyState {
     {
         self.made.clear();
         match self.take_turns(dev) {
-            Outcome::Hands { entry } => {
-                *out = entry.bytes();
+            TurnEnd::Hands { joy_record } => {
+                *out = joy_record.bytes();
                 JoyRead::Record
             }
-            Outcome::Stops { read } => read,
-            Outcome::GoesOn => JoyRead::More,
+            TurnEnd::Stops { read } => read,
+            TurnEnd::GoesOn => JoyRead::More,
         }
     }
 

@@ -28,10 +28,10 @@ mod joy_read;
 mod joy_record;
 mod joy_state;
 pub mod laws;
-mod outcome;
 mod picture;
 mod rows;
 mod stops;
+mod turn_end;
 mod views;
 
 pub use code_list::{BTN_JOYSTICK, BTN_MISC};

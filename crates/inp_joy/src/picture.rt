@@ -29,24 +29,24 @@ impl Picture {
 
     // Takes over a record.
     #[tactic(auto, unfolding(crate::specs::Picture::picture_after))]
-    pub(crate) fn take(&mut self, entry: JoyRecord)
-        requires { entry.number < 64 }
-        ensures { seen_as self.new ≡ picture_after (seen_as self.old) entry }
+    pub(crate) fn take(&mut self, joy_record: JoyRecord)
+        requires { joy_record.number < 64 }
+        ensures { seen_as self.new ≡ picture_after (seen_as self.old) joy_record }
     {
-        if entry.is_of_button() {
-            self.buttons = with_button(self.buttons, entry.number, is_on(entry));
+        if joy_record.is_of_button() {
+            self.buttons = with_button(self.buttons, joy_record.number, is_on(joy_record));
         }
-        if entry.is_of_axis() {
-            self.axes[usize::from(entry.number)] = entry.value;
+        if joy_record.is_of_axis() {
+            self.axes[usize::from(joy_record.number)] = joy_record.value;
         }
     }
 }
 
 // Of a button's record: whether it is down.
-fn is_on(entry: JoyRecord) -> bool
-    ensures { result ≡ not (int_eq entry.value (pos 0)) }
+fn is_on(joy_record: JoyRecord) -> bool
+    ensures { result ≡ not (int_eq joy_record.value (pos 0)) }
 {
-    entry.value != 0
+    joy_record.value != 0
 }
 
 // A word of truth values with another value at an index.

@@ -9,13 +9,13 @@ use Rattle.inp_joy.proofs.joy_state.JoyState.hand_startup.Goals as goal
 pub overflow_add-self : goal.overflow_add-self
 overflow_add-self c =
     let d = c.args.self.now.reader.description in
-    let below = left-within d c.args.self.now.reader.reading.view c.args.self.now.handed c.args.entry c.requires.left in
+    let below = left-within d c.args.self.now.reader.reading.view c.args.self.now.handed c.args.joy_record c.requires.left in
     omega (arith, below, length-buttons d, length-axes d)
 
 pub returns-clause-state : goal.returns-clause-state
 returns-clause-state c =
     let d = c.args.self.now.reader.description in
-    let below : c.args.self.now.handed + 1 ≤ startup_len d = omega (arith, left-within d c.args.self.now.reader.reading.view c.args.self.now.handed c.args.entry c.requires.left) in
+    let below : c.args.self.now.handed + 1 ≤ startup_len d = omega (arith, left-within d c.args.self.now.reader.reading.view c.args.self.now.handed c.args.joy_record c.requires.left) in
     subst (λ (s : JoyState). IsJoyState d s) (sym c.hand.ensures.rest) (record {
       description = refl;
       buttons = c.requires.state.buttons;

@@ -3,12 +3,12 @@ use Rattle.inp_reader.specs.declared.call_made.CallMade.{CallMade}
 use Rattle.inp_reader.specs.declared.next.Next.{Next}
 use Rattle.inp_reader.specs.Reading.{Reading}
 use Rattle.inp_reader.proofs.Giving.{Gives-says, Gives-next, HasKeptView}
-use Rattle.inp_joy.proofs.Goings.{goes-next}
+use Rattle.inp_joy.proofs.ReaderCalls.{calls-next}
 use Rattle.inp_joy.proofs.joy_state.JoyState.next.Goals as goal
 
-pub returns-clause-goes : goal.returns-clause-goes
-returns-clause-goes g c =
-    goes-next _ _ c.args.self.now.made c.add_all.new.self c.args.mode c.args.self.now.reader c.next-next.new.self c.next-next.result c.next-next.ensures.says c.next-next.ensures.reader c.next-next.ensures.left
+pub returns-clause-calls : goal.returns-clause-calls
+returns-clause-calls g c =
+    calls-next _ _ c.args.self.now.made c.add_all.new.self c.args.mode c.args.self.now.reader c.next-next.new.self c.next-next.result c.next-next.ensures.says c.next-next.ensures.reader c.next-next.ensures.left
     (c.add_all.ensures ∙ ap (λ (ms : List CallMade). c.args.self.now.made ++ ms) c.made.ensures.made) c.next-next.ensures.stands c.next-next.ensures.shows
 
 pub returns-clause-state : goal.returns-clause-state

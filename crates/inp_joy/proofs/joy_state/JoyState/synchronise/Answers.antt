@@ -3,8 +3,8 @@ use Rattle.inp_reader.specs.declared.call_made.CallMade.{CallMade}
 use Rattle.inp_reader.specs.Says.{Says}
 use Rattle.inp_joy.specs.declared.joy_state.JoyState.{JoyState}
 use Rattle.inp_joy.specs.Joying.{sync_turn, goes_on}
-use Rattle.inp_joy.specs.Kept.{joying_of, Goes}
-use Rattle.inp_joy.proofs.Goings.{goes-weaker}
+use Rattle.inp_joy.specs.Kept.{joying_of, ReaderCalls}
+use Rattle.inp_joy.proofs.ReaderCalls.{calls-weaker}
 use Rattle.inp_joy.proofs.Outcomes.{sync-shows}
 use Rattle.inp_joy.proofs.Turning.{says-sync_stopped, says-sync_whole}
 use Rattle.inp_joy.proofs.joy_state.JoyState.synchronise.Goals as goal
@@ -21,12 +21,12 @@ returns-clause-says g c =
     subst (λ (ms : List CallMade). Says a b c.args.self.now.made ms (sync_turn d (joying_of c.args.self.now)) (goes_on (joying_of c.begin_startup.new.self))) (sym (ap (λ (s : JoyState). s.made) c.begin_startup.ensures.rest))
     (says-sync_whole a b _ _ d (joying_of c.args.self.now) (joying_of c.begin_startup.new.self) c.next-next.result c.next-next.new.self.reader.reading c.next-next.ensures.says (sym c.in_default.ensures) c.begin_startup.ensures.joying)
 
-pub returns-in-Some-clause-goes : goal.returns-in-Some-clause-goes
-returns-in-Some-clause-goes g c =
-    goes-weaker _ _ _ _ _ _ _ _ _ (λ shown. sync-shows (g.E.Evdev.told c.next-next.new.dev) c.next-next.new.self.reader c.next-next.result c.in-Some.read c.in-Some.ensures) c.next-next.ensures.goes
+pub returns-in-Some-clause-calls : goal.returns-in-Some-clause-calls
+returns-in-Some-clause-calls g c =
+    calls-weaker _ _ _ _ _ _ _ _ _ (λ shown. sync-shows (g.E.Evdev.told c.next-next.new.dev) c.next-next.new.self.reader c.next-next.result c.in-Some.read c.in-Some.ensures) c.next-next.ensures.calls
 
-pub returns-clause-goes : goal.returns-clause-goes
-returns-clause-goes g c =
+pub returns-clause-calls : goal.returns-clause-calls
+returns-clause-calls g c =
     let a = g.E.Evdev.told c.args.dev.now in
     let b = g.E.Evdev.told c.next-next.new.dev in
-    subst (λ (s : JoyState). Goes a b c.args.self.now.made s.made c.args.self.now.reader.description c.args.self.now.reader.reading s.reader.reading (Unit {0})) (sym c.begin_startup.ensures.rest) (goes-weaker a b _ _ _ _ _ _ (Unit {0}) (λ shown. tt) c.next-next.ensures.goes)
+    subst (λ (s : JoyState). ReaderCalls a b c.args.self.now.made s.made c.args.self.now.reader.description c.args.self.now.reader.reading s.reader.reading (Unit {0})) (sym c.begin_startup.ensures.rest) (calls-weaker a b _ _ _ _ _ _ (Unit {0}) (λ shown. tt) c.next-next.ensures.calls)

@@ -4,8 +4,8 @@ use Rattle.inp_reader.specs.declared.call_made.CallMade.{CallMade}
 use Rattle.inp_reader.specs.Says.{Says}
 use Rattle.inp_joy.specs.declared.joy_state.JoyState.{JoyState}
 use Rattle.inp_joy.specs.Joying.{after_next, event_turn, sync_turn}
-use Rattle.inp_joy.specs.Kept.{joying_of, turn_of, Goes, OutcomeShows}
-use Rattle.inp_joy.proofs.Goings.{goes-then, goes-weaker}
+use Rattle.inp_joy.specs.Kept.{joying_of, turn_of, ReaderCalls, TurnEndShows}
+use Rattle.inp_joy.proofs.ReaderCalls.{calls-then, calls-weaker}
 use Rattle.inp_joy.proofs.Nexts.{lost-needed}
 use Rattle.inp_joy.proofs.Outcomes.{next-shows}
 use Rattle.inp_joy.proofs.Turning.{says-event_lost, says-event}
@@ -25,12 +25,12 @@ returns-then-is_lost-clause-says g c =
     says-event_lost a m b _ _ _ c.args.self.now.reader.description (joying_of c.args.self.now) k c.next-next.result c.next-next.new.self.reader.reading turn c.next-next.ensures.says (sym c.if-is_lost.ensures) (ap (λ (s : JoyState). joying_of s) c.next-next.ensures.rest)
     (subst (λ (d : Description). Says m b c.next-next.new.self.made c.synchronise.new.self.made (sync_turn d k) turn) c.next-next.ensures.state.description c.synchronise.ensures.says)
 
-pub returns-then-is_lost-clause-goes : goal.returns-then-is_lost-clause-goes
-returns-then-is_lost-clause-goes g c =
+pub returns-then-is_lost-clause-calls : goal.returns-then-is_lost-clause-calls
+returns-then-is_lost-clause-calls g c =
     let m = g.E.Evdev.told c.next-next.new.dev in
     let b = g.E.Evdev.told c.synchronise.new.dev in
-    goes-then _ m b _ _ _ c.args.self.now.reader.description _ _ _ _ _ c.next-next.ensures.goes
-    (subst (λ (d : Description). Goes m b c.next-next.new.self.made c.synchronise.new.self.made d c.next-next.new.self.reader.reading c.synchronise.new.self.reader.reading (OutcomeShows b c.synchronise.new.self.reader c.synchronise.result)) c.next-next.ensures.state.description c.synchronise.ensures.goes)
+    calls-then _ m b _ _ _ c.args.self.now.reader.description _ _ _ _ _ c.next-next.ensures.calls
+    (subst (λ (d : Description). ReaderCalls m b c.next-next.new.self.made c.synchronise.new.self.made d c.next-next.new.self.reader.reading c.synchronise.new.self.reader.reading (TurnEndShows b c.synchronise.new.self.reader c.synchronise.result)) c.next-next.ensures.state.description c.synchronise.ensures.calls)
 
 pub returns-else-is_lost-clause-says : goal.returns-else-is_lost-clause-says
 returns-else-is_lost-clause-says g c =
@@ -42,10 +42,10 @@ returns-else-is_lost-clause-says g c =
     subst (λ (ms : List CallMade). Says a b c.args.self.now.made ms (event_turn d (joying_of c.args.self.now)) turn) (sym (ap (λ (s : JoyState). s.made) c.after_next.ensures.rest))
     (says-event a b _ _ d (joying_of c.args.self.now) (joying_of c.next-next.new.self) c.next-next.result c.next-next.new.self.reader.reading turn c.next-next.ensures.says (sym c.if-is_lost.ensures) (ap (λ (s : JoyState). joying_of s) c.next-next.ensures.rest) is)
 
-pub returns-else-is_lost-clause-goes : goal.returns-else-is_lost-clause-goes
-returns-else-is_lost-clause-goes g c =
+pub returns-else-is_lost-clause-calls : goal.returns-else-is_lost-clause-calls
+returns-else-is_lost-clause-calls g c =
     let a = g.E.Evdev.told c.args.dev.now in
     let b = g.E.Evdev.told c.next-next.new.dev in
     let mid = c.next-next.new.self in
-    subst (λ (s : JoyState). Goes a b c.args.self.now.made s.made c.args.self.now.reader.description c.args.self.now.reader.reading s.reader.reading (OutcomeShows b s.reader c.after_next.result)) (sym c.after_next.ensures.rest)
-    (goes-weaker a b _ _ _ _ _ _ _ (λ shown. next-shows b mid.reader mid.reader.description (joying_of mid) (joying_of c.after_next.new.self) c.next-next.result c.after_next.result c.after_next.ensures.turn shown) c.next-next.ensures.goes)
+    subst (λ (s : JoyState). ReaderCalls a b c.args.self.now.made s.made c.args.self.now.reader.description c.args.self.now.reader.reading s.reader.reading (TurnEndShows b s.reader c.after_next.result)) (sym c.after_next.ensures.rest)
+    (calls-weaker a b _ _ _ _ _ _ _ (λ shown. next-shows b mid.reader mid.reader.description (joying_of mid) (joying_of c.after_next.new.self) c.next-next.result c.after_next.result c.after_next.ensures.turn shown) c.next-next.ensures.calls)

@@ -3,9 +3,9 @@ use Rattle.inp_model.specs.Description.{Description}
 use Rattle.inp_reader.specs.declared.call_made.CallMade.{CallMade}
 use Rattle.inp_reader.specs.Says.{Says}
 use Rattle.inp_joy.specs.Joying.{turn_talk}
-use Rattle.inp_joy.specs.Kept.{joying_of, IsJoyState, turn_of, is_end, Goes, OutcomePictures}
+use Rattle.inp_joy.specs.Kept.{joying_of, IsJoyState, turn_of, is_end, ReaderCalls, TurnEndPictures}
 use Rattle.inp_joy.specs.Reads.{IsPictured}
-use Rattle.inp_joy.proofs.Goings.{goes-none, goes-then, goes-weaker}
+use Rattle.inp_joy.proofs.ReaderCalls.{calls-none, calls-then, calls-weaker}
 use Rattle.inp_joy.proofs.Passing.{passed-none, passed-more, passed-last, on-short, on-agains}
 use Rattle.inp_joy.proofs.joy_state.JoyState.take_turns.Goals as goal
 
@@ -16,7 +16,7 @@ loop-outcome-init g c =
     let r = c.args.self.now.reader.reading in
     record {
       passed = passed-none a d (joying_of c.args.self.now) c.args.self.now.made c.requires.anew;
-      goes = subst (λ (ms : List CallMade). Goes a a ms c.args.self.now.made d r r (Unit {0})) c.requires.anew (goes-none a c.args.self.now.made d r (Unit {0}) tt);
+      calls = subst (λ (ms : List CallMade). ReaderCalls a a ms c.args.self.now.made d r r (Unit {0})) c.requires.anew (calls-none a c.args.self.now.made d r (Unit {0}) tt);
       agains = refl;
       state = c.requires.state;
       pictured = c.requires.pictured;
@@ -36,14 +36,14 @@ returns-then-is_end-clause-says g c =
     let end = subst (λ (e : Description). is_end e c.turn-outcome.result next (length c.turn-outcome.new.self.made) ≡ true) (c.turn-outcome.ensures.state.description ∙ same) (sym c.is_end.ensures ∙ c.if-is_end.true) in
     passed-last _ m b d (joying_of c.args.self.now) here next c.loop-outcome.self.made c.turn-outcome.new.self.made c.turn-outcome.result c.loop-outcome.invariant.passed says end
 
-pub returns-then-is_end-clause-goes : goal.returns-then-is_end-clause-goes
-returns-then-is_end-clause-goes g c =
+pub returns-then-is_end-clause-calls : goal.returns-then-is_end-clause-calls
+returns-then-is_end-clause-calls g c =
     let m = g.E.Evdev.told c.loop-outcome.dev in
     let b = g.E.Evdev.told c.turn-outcome.new.dev in
     let d = c.args.self.now.reader.description in
     let next = joying_of c.turn-outcome.new.self in
-    goes-then _ m b _ _ _ d _ _ _ _ _ c.loop-outcome.invariant.goes
-    (subst (λ (e : Description). Goes m b c.loop-outcome.self.made c.turn-outcome.new.self.made e c.loop-outcome.self.reader.reading c.turn-outcome.new.self.reader.reading (OutcomePictures b e next c.turn-outcome.result)) c.loop-outcome.invariant.state.description c.turn-outcome.ensures.goes)
+    calls-then _ m b _ _ _ d _ _ _ _ _ c.loop-outcome.invariant.calls
+    (subst (λ (e : Description). ReaderCalls m b c.loop-outcome.self.made c.turn-outcome.new.self.made e c.loop-outcome.self.reader.reading c.turn-outcome.new.self.reader.reading (TurnEndPictures b e next c.turn-outcome.result)) c.loop-outcome.invariant.state.description c.turn-outcome.ensures.calls)
 
 pub loop-outcome-preserved : goal.loop-outcome-preserved
 loop-outcome-preserved g c =
@@ -58,10 +58,10 @@ loop-outcome-preserved g c =
     let on = subst (λ (e : Description). is_end e c.turn-outcome.result next (length new.made) ≡ false) (c.turn-outcome.ensures.state.description ∙ same) (sym c.is_end.ensures ∙ c.if-is_end.false) in
     record {
       passed = passed-more _ m b d (joying_of c.args.self.now) here next c.loop-outcome.self.made new.made c.turn-outcome.result c.loop-outcome.invariant.passed says on;
-      goes =
-          goes-weaker _ b _ _ d _ _ _ _ (λ shown. tt)
-          (goes-then _ m b _ _ _ d _ _ _ (OutcomePictures b d next c.turn-outcome.result) (Unit {0}) c.loop-outcome.invariant.goes
-          (subst (λ (e : Description). Goes m b c.loop-outcome.self.made new.made e c.loop-outcome.self.reader.reading new.reader.reading (OutcomePictures b e next c.turn-outcome.result)) same c.turn-outcome.ensures.goes));
+      calls =
+          calls-weaker _ b _ _ d _ _ _ _ (λ shown. tt)
+          (calls-then _ m b _ _ _ d _ _ _ (TurnEndPictures b d next c.turn-outcome.result) (Unit {0}) c.loop-outcome.invariant.calls
+          (subst (λ (e : Description). ReaderCalls m b c.loop-outcome.self.made new.made e c.loop-outcome.self.reader.reading new.reader.reading (TurnEndPictures b e next c.turn-outcome.result)) same c.turn-outcome.ensures.calls));
       agains = c.turn-outcome.ensures.agains ∙ on-agains d c.turn-outcome.result next (length new.made) _ on ∙ c.loop-outcome.invariant.agains;
       state = subst (λ (e : Description). IsJoyState e new) same c.turn-outcome.ensures.state;
       pictured = subst (λ (e : Description). IsPictured e next) same c.turn-outcome.ensures.pictured;

@@ -13,12 +13,12 @@ use Rattle.inp_reader.specs.Standing.{StandsAt, Stands, IsAlone}
 use Rattle.inp_reader.proofs.Alones.{alone-first, alone-then}
 use Rattle.inp_reader.proofs.Leavings.{leaves_made-none, leaves_made-then}
 use Rattle.inp_reader.proofs.SayingStands.{client-in}
-use Rattle.inp_joy.specs.Kept.{Goes}
+use Rattle.inp_joy.specs.Kept.{ReaderCalls}
 
 -- one `next`
-pub goes-next : (before after : EvdevView) (old new : List CallMade) (mode : Mode) (r s : ReaderView) (next : Next) → Says before after [] s.made (next_talk r.description mode r.reading) (next, s.reading) → s.description ≡ r.description → LeavesMade before after s.made → new ≡ old ++ s.made
-    → (Stands before r → IsAlone before after s.reading.client s.made → Stands after s) → (Stands before r → IsAlone before after s.reading.client s.made → AnswerShows after s next) → Goes before after old new r.description r.reading s.reading (AnswerShows after s next)
-goes-next before after old new mode r s next says same left kept stands shows = record {
+pub calls-next : (before after : EvdevView) (old new : List CallMade) (mode : Mode) (r s : ReaderView) (next : Next) → Says before after [] s.made (next_talk r.description mode r.reading) (next, s.reading) → s.description ≡ r.description → LeavesMade before after s.made → new ≡ old ++ s.made
+    → (Stands before r → IsAlone before after s.reading.client s.made → Stands after s) → (Stands before r → IsAlone before after s.reading.client s.made → AnswerShows after s next) → ReaderCalls before after old new r.description r.reading s.reading (AnswerShows after s next)
+calls-next before after old new mode r s next says same left kept stands shows = record {
   more = s.made;
   kept = kept;
   left = left;
@@ -28,8 +28,8 @@ goes-next before after old new mode r s next says same left kept stands shows = 
 }
 
 -- nothing
-pub goes-none : (told : EvdevView) (made : List CallMade) (d : Description) (r : Reading) (Shown : Type 0) → Shown → Goes told told made made d r r Shown
-goes-none told made d r Shown shown = record {
+pub calls-none : (told : EvdevView) (made : List CallMade) (d : Description) (r : Reading) (Shown : Type 0) → Shown → ReaderCalls told told made made d r r Shown
+calls-none told made d r Shown shown = record {
   more = [];
   kept = sym (append-nil made);
   left = leaves_made-none told;
@@ -39,8 +39,8 @@ goes-none told made d r Shown shown = record {
 }
 
 -- one call, and then another
-pub goes-then : (before between after : EvdevView) (old mid new : List CallMade) (d : Description) (r s t : Reading) (Shown First : Type 0) → Goes before between old mid d r s First → Goes between after mid new d s t Shown → Goes before after old new d r t Shown
-goes-then before between after old mid new d r s t Shown First g h = record {
+pub calls-then : (before between after : EvdevView) (old mid new : List CallMade) (d : Description) (r s t : Reading) (Shown First : Type 0) → ReaderCalls before between old mid d r s First → ReaderCalls between after mid new d s t Shown → ReaderCalls before after old new d r t Shown
+calls-then before between after old mid new d r s t Shown First g h = record {
   more = g.more ++ h.more;
   kept = h.kept ∙ ap (λ (ms : List CallMade). ms ++ h.more) g.kept ∙ append_assoc old g.more h.more;
   left = leaves_made-then before between after g.more h.more g.left h.left;
@@ -55,8 +55,8 @@ goes-then before between after old mid new d r s t Shown First g h = record {
     first alone = subst (λ (n : ℕ). IsAlone before between n g.more) h.client (alone-first before between after t.client g.more h.more h.left alone)
 
 -- what is shown says something else too
-pub goes-weaker : (before after : EvdevView) (old new : List CallMade) (d : Description) (r s : Reading) (Shown Other : Type 0) → (Shown → Other) → Goes before after old new d r s Shown → Goes before after old new d r s Other
-goes-weaker before after old new d r s Shown Other other g = record {
+pub calls-weaker : (before after : EvdevView) (old new : List CallMade) (d : Description) (r s : Reading) (Shown Other : Type 0) → (Shown → Other) → ReaderCalls before after old new d r s Shown → ReaderCalls before after old new d r s Other
+calls-weaker before after old new d r s Shown Other other g = record {
   more = g.more;
   kept = g.kept;
   left = g.left;

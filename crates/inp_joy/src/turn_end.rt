@@ -4,9 +4,9 @@ use crate::{JoyRead, JoyRecord};
 
 /// What a turn of a read comes to.
 #[derive(Clone, Copy)]
-pub(crate) enum Outcome {
+pub(crate) enum TurnEnd {
     /// This record is handed out.
-    Hands { entry: JoyRecord },
+    Hands { joy_record: JoyRecord },
     /// The read answers so.
     Stops { read: JoyRead },
     /// The read goes on.
