@@ -1,4 +1,4 @@
-use Rattle.std.proofs.Common.{◌≡◌, ℕ, suc, ◌+◌, length, refl, sym, ap, subst, ◌∙◌, add-one, arith, Some}
+use Rattle.std.proofs.Common.{◌≡◌, ℕ, suc, length, refl, sym, ap, subst, ◌∙◌, add-one, arith, Some}
 use Rattle.std.proofs.lemmas.Result.{on_ok_weaker}
 use Rattle.inp_model.proofs.Leaves.{calls-left, description-kept, left-then}
 use Rattle.inp_script.specs.Doing.{Holds}
