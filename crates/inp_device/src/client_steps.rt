@@ -48,10 +48,8 @@ impl Present {
         ensures made { IsMade history.now (Read client count) self.old result out.old out.new [] []
             self.new }
     {
-        let taken = self
-            .handler
-            .clients
-            .take(&self.caps, client, count, out);
+        let clients = &mut self.handler.clients;
+        let taken = clients.take(&self.caps, client, count, out);
         Reply::Took {
             at: history.len() as u32,
             count: taken,
