@@ -64,10 +64,10 @@ fn offer(clients: &mut Clients, caps: &Caps, frame: &[Event], now: u32, holder: 
 }
 
 /// Reads all that a client may read, and says that it is this.
-fn expect(rt: &impl Abort, clients: &mut Clients, number: u32, wanted: &[Taken]) {
+fn expect(rt: &impl Abort, clients: &mut Clients, caps: &Caps, number: u32, wanted: &[Taken]) {
     assert!(rt; clients.is_open(number), "client {number}");
     let mut out = [timed(REPORT, 0, 0); 64];
-    let taken = clients.take(number, 64, &mut out);
+    let taken = clients.take(caps, number, 64, &mut out);
     assert_eq!(rt; &out[..taken as usize], wanted, "client {number}");
 }
 
@@ -106,9 +106,21 @@ fn masks_say_what_is_admitted(rt: HostRuntime) -> Result<(), Fail> {
     set_mask(&rt, &mut clients, 2, EV_MSC, 0, 0);
 
     offer(&mut clients, &caps, &[key(A, 1), REPORT], 1, None);
-    expect(&rt, &mut clients, 0, &[]);
-    expect(&rt, &mut clients, 1, &[at(key(A, 1), 1), at(REPORT, 1)]);
-    expect(&rt, &mut clients, 2, &[at(key(A, 1), 1), at(REPORT, 1)]);
+    expect(&rt, &mut clients, &caps, 0, &[]);
+    expect(
+        &rt,
+        &mut clients,
+        &caps,
+        1,
+        &[at(key(A, 1), 1), at(REPORT, 1)],
+    );
+    expect(
+        &rt,
+        &mut clients,
+        &caps,
+        2,
+        &[at(key(A, 1), 1), at(REPORT, 1)],
+    );
 
     offer(
         &mut clients,
@@ -117,7 +129,13 @@ fn masks_say_what_is_admitted(rt: HostRuntime) -> Result<(), Fail> {
         2,
         None,
     );
-    expect(&rt, &mut clients, 0, &[at(key(B, 1), 2), at(REPORT, 2)]);
+    expect(
+        &rt,
+        &mut clients,
+        &caps,
+        0,
+        &[at(key(B, 1), 2), at(REPORT, 2)],
+    );
 
     let delay = Event {
         kind: EV_REP,
@@ -133,6 +151,7 @@ fn masks_say_what_is_admitted(rt: HostRuntime) -> Result<(), Fail> {
     expect(
         &rt,
         &mut clients,
+        &caps,
         0,
         &[at(delay, 3), at(scan, 3), at(REPORT, 3)],
     );
@@ -143,7 +162,7 @@ fn masks_say_what_is_admitted(rt: HostRuntime) -> Result<(), Fail> {
         at(scan, 3),
         at(REPORT, 3),
     ];
-    expect(&rt, &mut clients, 1, &left);
+    expect(&rt, &mut clients, &caps, 1, &left);
     let left = [
         at(key(A, 0), 2),
         at(key(B, 1), 2),
@@ -151,7 +170,7 @@ fn masks_say_what_is_admitted(rt: HostRuntime) -> Result<(), Fail> {
         at(delay, 3),
         at(REPORT, 3),
     ];
-    expect(&rt, &mut clients, 2, &left);
+    expect(&rt, &mut clients, &caps, 2, &left);
     Ok(())
 }
 
@@ -169,12 +188,24 @@ fn a_mask_leaves_what_is_queued(rt: HostRuntime) -> Result<(), Fail> {
         2,
         None,
     );
-    expect(&rt, &mut clients, 0, &[at(key(A, 1), 1), at(REPORT, 1)]);
+    expect(
+        &rt,
+        &mut clients,
+        &caps,
+        0,
+        &[at(key(A, 1), 1), at(REPORT, 1)],
+    );
 
     // The bit is set again.
     set_mask(&rt, &mut clients, 0, EV_KEY, 0, u64::MAX);
     offer(&mut clients, &caps, &[key(A, 1), REPORT], 3, None);
-    expect(&rt, &mut clients, 0, &[at(key(A, 1), 3), at(REPORT, 3)]);
+    expect(
+        &rt,
+        &mut clients,
+        &caps,
+        0,
+        &[at(key(A, 1), 3), at(REPORT, 3)],
+    );
     Ok(())
 }
 
@@ -183,9 +214,15 @@ fn the_holder_gets_frames_alone_and_a_revoked_client_none(rt: HostRuntime) -> Re
     let caps = caps()?;
     let mut clients = three(&rt)?;
     offer(&mut clients, &caps, &[key(A, 1), REPORT], 1, Some(1));
-    expect(&rt, &mut clients, 0, &[]);
-    expect(&rt, &mut clients, 1, &[at(key(A, 1), 1), at(REPORT, 1)]);
-    expect(&rt, &mut clients, 2, &[]);
+    expect(&rt, &mut clients, &caps, 0, &[]);
+    expect(
+        &rt,
+        &mut clients,
+        &caps,
+        1,
+        &[at(key(A, 1), 1), at(REPORT, 1)],
+    );
+    expect(&rt, &mut clients, &caps, 2, &[]);
 
     offer(&mut clients, &caps, &[key(A, 0), REPORT], 2, None);
     assert!(rt; clients.is_open(1) && !clients.is_revoked(1));
@@ -194,15 +231,21 @@ fn the_holder_gets_frames_alone_and_a_revoked_client_none(rt: HostRuntime) -> Re
     assert!(rt; clients.is_open(2) && !clients.is_revoked(2));
     offer(&mut clients, &caps, &[key(B, 1), REPORT], 3, None);
     offer(&mut clients, &caps, &[key(B, 0), REPORT], 4, Some(1));
-    expect(&rt, &mut clients, 1, &[at(key(A, 0), 2), at(REPORT, 2)]);
+    expect(
+        &rt,
+        &mut clients,
+        &caps,
+        1,
+        &[at(key(A, 0), 2), at(REPORT, 2)],
+    );
     let left = [
         at(key(A, 0), 2),
         at(REPORT, 2),
         at(key(B, 1), 3),
         at(REPORT, 3),
     ];
-    expect(&rt, &mut clients, 0, &left);
-    expect(&rt, &mut clients, 2, &left);
+    expect(&rt, &mut clients, &caps, 0, &left);
+    expect(&rt, &mut clients, &caps, 2, &left);
     assert_eq!(rt; clients.count(), 3, "a revoked client is open");
     Ok(())
 }
@@ -217,6 +260,7 @@ fn another_clock_empties_a_queue(rt: HostRuntime) -> Result<(), Fail> {
     expect(
         &rt,
         &mut clients,
+        &caps,
         0,
         &[timed(key(A, 1), 10, 0), timed(REPORT, 10, 0)],
     );
@@ -230,11 +274,18 @@ fn another_clock_empties_a_queue(rt: HostRuntime) -> Result<(), Fail> {
         "SYN_DROPPED has no report yet"
     );
     offer(&mut clients, &caps, &[REPORT], 30, None);
-    expect(&rt, &mut clients, 0, &[]);
-    expect(&rt, &mut clients, 1, &[at(key(A, 1), 10), at(REPORT, 10)]);
+    expect(&rt, &mut clients, &caps, 0, &[]);
     expect(
         &rt,
         &mut clients,
+        &caps,
+        1,
+        &[at(key(A, 1), 10), at(REPORT, 10)],
+    );
+    expect(
+        &rt,
+        &mut clients,
+        &caps,
         2,
         &[timed(LOSS, 20, BOOTTIME), timed(REPORT, 30, BOOTTIME)],
     );
@@ -255,6 +306,7 @@ fn one_clients_queue_is_flushed_and_discarded(rt: HostRuntime) -> Result<(), Fai
     expect(
         &rt,
         &mut clients,
+        &caps,
         0,
         &[at(REPORT, 1), at(slot, 2), at(REPORT, 2)],
     );
@@ -264,7 +316,7 @@ fn one_clients_queue_is_flushed_and_discarded(rt: HostRuntime) -> Result<(), Fai
         at(key(B, 1), 2),
         at(REPORT, 2),
     ];
-    expect(&rt, &mut clients, 1, &left);
+    expect(&rt, &mut clients, &caps, 1, &left);
 
     offer(&mut clients, &caps, &[key(A, 0)], 3, None);
     assert!(rt; clients.is_open(2));
@@ -316,7 +368,7 @@ fn sixty_four_clients_with_a_mask_each(rt: HostRuntime) -> Result<(), Fail> {
         let is_there = number < 64 && number % 2 == 1 || number >= 65 && number < 97;
         assert_eq!(rt; clients.is_open(number), is_there, "client {number}");
         if is_there {
-            expect_own_key(&rt, &mut clients, number);
+            expect_own_key(&rt, &mut clients, &caps, number);
         }
     }
     Ok(())
@@ -334,23 +386,135 @@ fn a_client_is_opened_under_any_number_that_is_not_open(rt: HostRuntime) -> Resu
     open_one(&rt, &mut clients, 2)?;
     offer(&mut clients, &caps, &[key(A, 0), REPORT], 2, None);
     let fresh = [at(key(A, 0), 2), at(REPORT, 2)];
-    expect(&rt, &mut clients, 2, &fresh);
+    expect(&rt, &mut clients, &caps, 2, &fresh);
     let all = [at(key(A, 1), 1), at(REPORT, 1), fresh[0], fresh[1]];
     for number in [0, 3, 5, u32::MAX] {
-        expect(&rt, &mut clients, number, &all);
+        expect(&rt, &mut clients, &caps, number, &all);
     }
     assert_eq!(rt; clients.count(), 5);
     Ok(())
 }
 
 /// Reads what a client has of the keys 1, 6 and 9, where it admits the key `number % 64` alone.
-fn expect_own_key(rt: &impl Abort, clients: &mut Clients, number: u32) {
+fn expect_own_key(rt: &impl Abort, clients: &mut Clients, caps: &Caps, number: u32) {
     match number % 64 {
-        1 => expect(rt, clients, number, &[at(key(1, 1), 5), at(REPORT, 5)]),
-        6 => expect(rt, clients, number, &[at(key(6, 1), 5), at(REPORT, 5)]),
-        9 => expect(rt, clients, number, &[at(key(9, 1), 5), at(REPORT, 5)]),
-        _ => expect(rt, clients, number, &[]),
+        1 => expect(
+            rt,
+            clients,
+            caps,
+            number,
+            &[at(key(1, 1), 5), at(REPORT, 5)],
+        ),
+        6 => expect(
+            rt,
+            clients,
+            caps,
+            number,
+            &[at(key(6, 1), 5), at(REPORT, 5)],
+        ),
+        9 => expect(
+            rt,
+            clients,
+            caps,
+            number,
+            &[at(key(9, 1), 5), at(REPORT, 5)],
+        ),
+        _ => expect(rt, clients, caps, number, &[]),
     }
+}
+
+/// Offers so many frames of A and a report to all clients, at the moments from 10 on.
+fn offer_frames(clients: &mut Clients, caps: &Caps, count: u8) {
+    for frame in 0..count {
+        let press = key(A, (frame % 2) as i32);
+        offer(clients, caps, &[press, REPORT], 10 + frame as u32, None);
+    }
+}
+
+#[test]
+fn an_event_is_kept_once_while_a_queue_holds_it(rt: HostRuntime) -> Result<(), Fail> {
+    let caps = caps()?;
+    let mut clients = three(&rt)?;
+    assert_eq!(rt; clients.stored(), 0);
+    // The client 2 admits no key, and a report alone is left out of an empty queue.
+    set_mask(&rt, &mut clients, 2, EV_KEY, 0, 0);
+    offer(&mut clients, &caps, &[key(A, 1), REPORT], 1, None);
+    assert_eq!(rt; clients.stored(), 2, "for the clients 0 and 1");
+    offer(
+        &mut clients,
+        &caps,
+        &[axis(0, 5), key(A, 0), REPORT],
+        2,
+        None,
+    );
+    assert_eq!(rt; clients.stored(), 5, "for all three");
+
+    let all = [
+        at(key(A, 1), 1),
+        at(REPORT, 1),
+        at(axis(0, 5), 2),
+        at(key(A, 0), 2),
+        at(REPORT, 2),
+    ];
+    expect(&rt, &mut clients, &caps, 0, &all);
+    assert_eq!(rt; clients.stored(), 5, "the client 1 has not read");
+    assert!(rt; clients.is_open(1));
+    clients.flush(1, EV_KEY);
+    assert_eq!(rt; clients.stored(), 3, "both reports and the axis");
+    close_one(&rt, &mut clients, 1);
+    assert_eq!(rt; clients.stored(), 2, "the client 2 has the last frame's");
+
+    // The client 2 has a report at its end, so it takes no other one.
+    open_one(&rt, &mut clients, 3)?;
+    offer(&mut clients, &caps, &[key(B, 1), REPORT], 3, None);
+    assert_eq!(rt; clients.stored(), 4);
+    expect(
+        &rt,
+        &mut clients,
+        &caps,
+        2,
+        &[at(axis(0, 5), 2), at(REPORT, 2)],
+    );
+    assert_eq!(rt; clients.stored(), 2);
+    offer(&mut clients, &caps, &[key(B, 0), REPORT], 4, Some(3));
+    assert_eq!(rt; clients.stored(), 4, "two more for the client 3");
+    Ok(())
+}
+
+#[test]
+fn a_loss_is_kept_for_each_client_that_has_it(rt: HostRuntime) -> Result<(), Fail> {
+    let caps = caps()?;
+    let mut clients = three(&rt)?;
+    // The client 0 has two frames more than the clients 1 and 2.
+    offer(&mut clients, &caps, &[key(B, 1), REPORT], 1, Some(0));
+    offer(&mut clients, &caps, &[key(B, 0), REPORT], 2, Some(0));
+    offer_frames(&mut clients, &caps, 29);
+    assert_eq!(rt; clients.stored(), 62, "4 and 58 of the client 0");
+    offer(&mut clients, &caps, &[key(A, 1), REPORT], 50, None);
+    assert_eq!(rt; clients.stored(), 61, "60 of the others, and a loss");
+    expect(&rt, &mut clients, &caps, 0, &[at(LOSS, 50), at(REPORT, 50)]);
+    assert_eq!(rt; clients.stored(), 60);
+
+    // The others fill up too, but for the client 2, which loses its queue with its clock.
+    set_clock(&rt, &mut clients, &caps, 2, Clock::Monotonic, 60);
+    assert_eq!(rt; clients.stored(), 61, "60 of the client 1, and a loss");
+    offer(&mut clients, &caps, &[key(A, 0), REPORT], 70, None);
+    assert_eq!(rt; clients.stored(), 63);
+    offer(&mut clients, &caps, &[key(A, 1), REPORT], 71, None);
+    assert_eq!(rt; clients.stored(), 6, "two frames, and two losses");
+    expect(&rt, &mut clients, &caps, 1, &[at(LOSS, 71), at(REPORT, 71)]);
+    let left = [
+        timed(LOSS, 60, 0),
+        timed(key(A, 0), 70, 0),
+        timed(REPORT, 70, 0),
+        timed(key(A, 1), 71, 0),
+        timed(REPORT, 71, 0),
+    ];
+    expect(&rt, &mut clients, &caps, 2, &left);
+    assert_eq!(rt; clients.stored(), 4, "the client 0 has both frames");
+    close_one(&rt, &mut clients, 0);
+    assert_eq!(rt; clients.stored(), 0);
+    Ok(())
 }
 
 #[test]

@@ -1,7 +1,7 @@
 //! A device with ample memory. What it answers after longer histories is told by its contract, and by the records of
 //! `tests/records`.
 
-use crate::common::{A, A_DOWN, REPORT};
+use crate::common::{A, A_DOWN, REPORT, key};
 use inp_caps::{Caps, CapsBuilder, CapsRefused};
 use inp_device::Device;
 use inp_model::{EV_KEY, Event, MOMENT_MAX, Refusal, Reply, Step, Taken};
@@ -13,6 +13,14 @@ fn keyboard(log: u32) -> Result<Caps, CapsRefused> {
     let mut builder = CapsBuilder::new();
     builder.code(EV_KEY, A)?;
     builder.log(log)?;
+    Ok(builder.build())
+}
+
+/// A keyboard with the key A, whose frames gather at most 8 events, so that rings have 64 places.
+fn small_keyboard() -> Result<Caps, CapsRefused> {
+    let mut builder = CapsBuilder::new();
+    builder.code(EV_KEY, A)?;
+    builder.hint(8)?;
     Ok(builder.build())
 }
 
@@ -126,5 +134,23 @@ fn a_device_keeps_the_steps_that_it_accepted(rt: HostRuntime) -> Result<(), Fail
     refuses(&rt, &mut device, Step::End, Refusal::LogFull);
     assert_eq!(rt; device.history(), accepted.as_slice());
     assert_eq!(rt; device.into_history().as_slice(), accepted.as_slice());
+    Ok(())
+}
+
+#[test]
+fn sixty_four_clients_share_the_events_that_are_kept(rt: HostRuntime) -> Result<(), Fail> {
+    let mut device = Device::new(rt.alloc(), small_keyboard()?)?;
+    for client in 0..64 {
+        opens(&rt, &mut device, client, 64);
+    }
+    assert_eq!(rt; device.stored(), 0);
+    for frame in 0..31 {
+        let value = if frame % 2 == 0 { 1 } else { 0 };
+        let press = key(A, value);
+        inject(&rt, &mut device, 0, &[press, REPORT]);
+    }
+    assert_eq!(rt; device.stored(), 62, "each event once");
+    inject(&rt, &mut device, 0, &[key(A, 0), REPORT]);
+    assert_eq!(rt; device.stored(), 65, "a loss for each, and one report");
     Ok(())
 }

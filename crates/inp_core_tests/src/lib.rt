@@ -1,4 +1,4 @@
-//! The tests of the core: of the crates from `inp_bits` to `inp_device`, and of `inp_turn`.
+//! The tests of the core: of the crates from `inp_bits` to `inp_device`, and of `inp_filter`, `inp_turn` and `inp_port`.
 //!
 //! A crate with tests is proved twice, once without and once with them. So the crates under test have none of their own:
 //! their tests stand here, over public calls alone, in one file for each crate. `common` has the events and axes that
@@ -18,11 +18,15 @@ mod common;
 #[cfg(test)]
 mod device;
 #[cfg(test)]
+mod filter;
+#[cfg(test)]
 mod frames;
 #[cfg(test)]
 mod handles;
 #[cfg(test)]
 mod model;
+#[cfg(test)]
+mod port;
 #[cfg(test)]
 mod ring;
 #[cfg(test)]

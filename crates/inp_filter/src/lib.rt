@@ -29,8 +29,6 @@ mod keys;
 pub mod laws;
 mod norepeat;
 mod short_frames;
-#[cfg(test)]
-mod tests;
 
 pub use filter::Filter;
 pub use filters::Filters;

@@ -25,8 +25,6 @@ mod client;
 mod device;
 mod port;
 mod served;
-#[cfg(test)]
-mod tests;
 
 pub use client::{PortClient, PortClientOf};
 pub use port::{Port, PortOf};

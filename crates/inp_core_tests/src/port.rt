@@ -3,10 +3,11 @@ ghost use Rattle.std.specs.Prelude.{◌≡◌, ◌≤◌};
 ghost use Rattle.inp_turn.specs.Pass.{view_of};
 ghost use Rattle.inp_port.specs.Port.{IsReadyAt};
 
-use super::*;
+use crate::common::{A, A_DOWN, REPORT};
 use inp_caps::{Caps, CapsBuilder, CapsRefused};
 use inp_device::Device;
-use inp_model::{EV_KEY, EV_SYN, Evdev, Event, KEY_A, Reply, SYN_REPORT, Step, Taken};
+use inp_model::{EV_KEY, Evdev, Reply, Step, Taken};
+use inp_port::{Port, PortClient};
 use inp_turn::Pass;
 use std::alloc::Global;
 use std::process::Abort;
@@ -14,18 +15,6 @@ use std::sync::Wait;
 use std::test::Fail;
 use std::thread;
 use std::thread::Threads;
-
-const A_DOWN: Event = Event {
-    kind: EV_KEY,
-    code: KEY_A,
-    value: 1,
-};
-
-const REPORT: Event = Event {
-    kind: EV_SYN,
-    code: SYN_REPORT,
-    value: 0,
-};
 
 const NO_EVENT: Taken = Taken {
     event: REPORT,
@@ -36,7 +25,7 @@ const NO_EVENT: Taken = Taken {
 /// A keyboard with the key A.
 fn keyboard() -> Result<Caps, CapsRefused> {
     let mut builder = CapsBuilder::new();
-    builder.code(EV_KEY, KEY_A)?;
+    builder.code(EV_KEY, A)?;
     Ok(builder.build())
 }
 
