@@ -261,17 +261,25 @@ def report(devices, actors, history):
     return lines
 
 
-def play(text, folder=".", history=False):
-    """The lines of the report."""
+def run(text, folder="."):
+    """The devices and, in record order, the actors, once all lines are done."""
     record = read_record(text)
     devices = [Device(name, caps) for name, caps in record.descriptions]
     actors = {name: Actor(name, role, devices[device]) for name, role, device in record.actors}
     for name, *words in record.actions:
         actors[name].do(words, streams_of(folder))
-    return report(devices, list(actors.values()), history)
+    return devices, list(actors.values())
+
+
+def play(text, folder=".", history=False):
+    """The lines of the report."""
+    return report(*run(text, folder), history)
 
 
 if __name__ == "__main__":
     path = sys.argv[-1]
-    for line in play(open(path).read(), os.path.dirname(os.path.abspath(path)), "--history" in sys.argv[1:-1]):
+    # (a comment may hold any bytes)
+    with open(path, encoding="latin1", newline="") as file:
+        lines = play(file.read(), os.path.dirname(os.path.abspath(path)), "--history" in sys.argv[1:-1])
+    for line in lines:
         print(line)

@@ -1,0 +1,300 @@
+"""Which line of a record's text is refused, and for which cause.
+
+It was written from docs/FORMATS.md ("The record") and, for the calls that describe a device, from docs/RULES.md. It
+shares nothing with the program's parser, and with the rest of this second program the table of names alone.
+"""
+
+import re
+
+from names import ABS, CODES, GREATEST, KEY, SYN, TYPES
+
+MOMENT_MAX = 9000000000000000
+U16, U32, U64 = 2**16 - 1, 2**32 - 1, 2**64 - 1
+CLOCKS = ("realtime", "monotonic", "boottime")
+
+MOST_DEVICES, MOST_SOURCES, MOST_READERS, MOST_STREAMS = 8, 8, 128, 16
+
+SLOT, TRACKING_ID, LAST_OF_SLOT = 0x2F, 0x39, 0x3D
+
+
+class Cause(Exception):
+    """Why a line is refused."""
+
+
+class Refused(Exception):
+    """The first line that is refused, and why."""
+
+    def __init__(self, line, cause):
+        super().__init__(f"line {line}: {cause}")
+        self.line, self.cause = line, cause
+
+
+# Lines and words
+
+
+def lines_of(data):
+    return [line[:-1] if line.endswith(b"\r") else line for line in data.split(b"\n")]
+
+
+def words_of(line):
+    """The words of a line. A comment and a line of blanks have none."""
+    line = line.strip(b" \t")
+    if line.startswith(b"#"):
+        return []
+    if any(byte != 9 and not 0x20 <= byte <= 0x7E for byte in line):
+        raise Cause("not-text")
+    return line.decode("ascii").split()
+
+
+def number(word, greatest):
+    found = re.fullmatch("0x([0-9a-fA-F]+)|([0-9]+)", word)
+    if not found:
+        raise Cause("bad-word")
+    digits, base = (found[1], 16) if found[1] else (found[2], 10)
+    digits = digits.lstrip("0") or "0"
+    # (no range goes beyond 20 digits, and Python reads no number of many thousand)
+    if len(digits) > 20 or int(digits, base) > greatest:
+        raise Cause("bad-word")
+    return int(digits, base)
+
+
+def signed(word):
+    return -number(word[1:], 2**31) if word.startswith("-") else number(word, 2**31 - 1)
+
+
+def one_of(word, words):
+    if word not in words:
+        raise Cause("bad-word")
+    return word
+
+
+def name(word):
+    if not re.fullmatch("[a-z0-9_-]{1,32}", word):
+        raise Cause("bad-word")
+    return word
+
+
+def kind(word):
+    return TYPES[word] if word in TYPES else number(word, U16)
+
+
+def code(word, of_kind):
+    names = CODES.get(of_kind, {})
+    return names[word] if word in names else number(word, U16)
+
+
+# What each form of a word means. A CODE belongs to the TYPE before it, and is one of an axis where there is none.
+FORMS = {
+    "NAME": name,
+    "FILE": str,
+    "SIGNED": signed,
+    "TYPE": kind,
+    "U16": lambda word: number(word, U16),
+    "U32": lambda word: number(word, U32),
+    "U64": lambda word: number(word, U64),
+    "COUNT": lambda word: number(word, 4096),
+    "MOMENT": lambda word: number(word, MOMENT_MAX),
+    "CLOCK": lambda word: one_of(word, CLOCKS),
+    "AHEAD": lambda word: one_of(word, ("realtime", "boottime")),
+}
+
+
+def values_of(forms, words):
+    """What words mean that have these forms."""
+    values, of_kind = [], ABS
+    for form, word in zip(forms.split(), words):
+        value = code(word, of_kind) if form == "CODE" else FORMS[form](word)
+        of_kind = value if form == "TYPE" else of_kind
+        values.append(value)
+    return values
+
+
+# The words behind the first one of each line, but of `do`, which has the forms of its command.
+DESCRIPTION = {
+    "hint": "U32",
+    "log": "U32",
+    "clock": "AHEAD U64",
+    "slots": "U32",
+    "type": "TYPE",
+    "cap": "TYPE CODE",
+    "axis": "CODE SIGNED SIGNED SIGNED SIGNED SIGNED SIGNED",
+}
+ACTORS = {"source": "NAME", "client": "NAME", "tap": "NAME"}
+LINES = {"inputrecord": "FILE", "device": "NAME", **DESCRIPTION, **ACTORS}
+
+READERS = {
+    **dict.fromkeys(("open", "close", "grab", "ungrab", "revoke"), ""),
+    "mask": "TYPE U16 U64",
+    "clock": "CLOCK MOMENT",
+    "write": "MOMENT TYPE CODE SIGNED",
+}
+COMMANDS = {
+    "source": {
+        "event": "MOMENT TYPE CODE SIGNED",
+        "tick": "MOMENT",
+        "inhibit": "MOMENT",
+        "uninhibit": "",
+        "stream": "FILE",
+    },
+    "client": {**READERS, "next": "U32", "skip": "U32", "follow": "", "force": ""},
+    "tap": {
+        **READERS,
+        **dict.fromkeys(("discard", "keys", "switches", "leds", "sounds", "syncslots"), ""),
+        "read": "COUNT",
+        "axis": "CODE",
+        "slots": "CODE",
+    },
+}
+
+
+def has_length(forms, words):
+    return len(words) == len(forms.split())
+
+
+def is_line(first, rest):
+    """Whether a line begins with this word and has so many words behind it."""
+    if first == "do":
+        return len(rest) >= 2
+    return first in LINES and has_length(LINES[first], rest)
+
+
+# The calls that describe a device
+
+
+def cause_of_call(first, values):
+    """Why the call for a line of a description is refused, or None."""
+    if first == "hint":
+        return None if 2 <= values[0] <= 512 else "bad-hint"
+    if first == "log":
+        return None if 1 <= values[0] <= 8388608 else "bad-log"
+    if first == "slots":
+        return None if 1 <= values[0] <= 64 else "bad-slots"
+    if first == "clock":
+        return None if values[1] <= MOMENT_MAX else "bad-offset"
+    if first == "type":
+        return None if values[0] in TYPES.values() else "bad-code"
+    if first == "cap":
+        of_kind, number_of_code = values
+        is_code = of_kind not in (SYN, ABS) and number_of_code <= GREATEST.get(of_kind, -1)
+        return None if is_code and values != [KEY, 0] else "bad-code"
+    return cause_of_axis(*values)
+
+
+def cause_of_axis(axis, value, _minimum, _maximum, fuzz, _flat, _resolution):
+    if axis > GREATEST[ABS]:
+        return "bad-code"
+    is_bad = not 0 <= fuzz <= 2**30
+    is_bad |= SLOT <= axis <= LAST_OF_SLOT and value != 0
+    is_bad |= axis in (SLOT, TRACKING_ID) and fuzz != 0
+    return "bad-axis" if is_bad else None
+
+
+# The whole text
+
+
+class Text:
+    """The lines of a text so far, each of them accepted."""
+
+    def __init__(self):
+        self.has_header, self.has_action = False, False
+        self.devices, self.actors = set(), {}
+        # Of the latest device: what was given that may be given once, and its actors' roles.
+        self.given, self.roles = set(), []
+        self.streams = []
+
+    def take(self, line, words):
+        """Takes a line's words, or raises the cause."""
+        first, *rest = words
+        if not self.has_header:
+            if words != ["inputrecord", "1"]:
+                raise Cause("bad-header")
+            self.has_header = True
+            return
+        if not is_line(first, rest):
+            raise Cause("bad-line")
+        if self.is_out_of_place(first):
+            raise Cause("out-of-place")
+        if first == "do":
+            self.take_action(line, *rest)
+        elif first == "device":
+            self.take_device(*values_of("NAME", rest))
+        elif first in ACTORS:
+            self.take_actor(first, *values_of("NAME", rest))
+        else:
+            self.take_description(first, values_of(DESCRIPTION[first], rest))
+
+    def is_out_of_place(self, first):
+        if first == "do":
+            return False
+        if first == "inputrecord" or self.has_action:
+            return True
+        if first == "device":
+            return False
+        return not self.devices or (first in DESCRIPTION and bool(self.roles))
+
+    def take_device(self, device):
+        if device in self.devices:
+            raise Cause("twice")
+        if len(self.devices) == MOST_DEVICES:
+            raise Cause("too-many")
+        self.devices.add(device)
+        self.given, self.roles = set(), []
+
+    def take_description(self, first, values):
+        what = (first, values[0]) if first in ("clock", "axis") else first
+        if what in self.given:
+            raise Cause("twice")
+        cause = cause_of_call(first, values)
+        if cause:
+            raise Cause(cause)
+        if first not in ("type", "cap"):
+            self.given.add(what)
+
+    def take_actor(self, role, actor):
+        if actor in self.actors:
+            raise Cause("twice")
+        sources = self.roles.count("source")
+        is_full = sources == MOST_SOURCES if role == "source" else len(self.roles) - sources == MOST_READERS
+        if is_full:
+            raise Cause("too-many")
+        self.actors[actor] = role
+        self.roles.append(role)
+
+    def take_action(self, line, actor, command, *words):
+        if actor not in self.actors:
+            raise Cause("no-actor")
+        forms = COMMANDS[self.actors[actor]].get(command)
+        if forms is None or not has_length(forms, words):
+            raise Cause("bad-command")
+        values = values_of(forms, words)
+        if command == "stream":
+            if len(self.streams) == MOST_STREAMS:
+                raise Cause("too-many")
+            self.streams.append((line, *values))
+        self.has_action = True
+
+
+def streams_of_text(data):
+    """The `stream` lines of a text, each as its number and its file, or `Refused` is raised."""
+    text, lines = Text(), lines_of(data)
+    for line, bytes_of_line in enumerate(lines, start=1):
+        try:
+            words = words_of(bytes_of_line)
+            if words:
+                text.take(line, words)
+        except Cause as cause:
+            raise Refused(line, str(cause)) from None
+    if not text.has_header:
+        raise Refused(len(lines), "bad-header")
+    return text.streams
+
+
+def is_stream(data):
+    """Whether bytes are whole records of events, each at a time that is one."""
+    if len(data) % 24:
+        return False
+    for at in range(0, len(data), 24):
+        seconds, micros = (int.from_bytes(data[i : i + 8], "little") for i in (at, at + 8))
+        if micros >= 1000000 or seconds * 1000000 + micros > MOMENT_MAX:
+            return False
+    return True
