@@ -1,0 +1,222 @@
+"""What `bench/alloc` and `bench/faults` say of programs that are right, and of some that are not.
+
+The programs are small ones in C, which do as the real one at calls that fail. Where there is no C compiler the
+scripts must say so, and the rules by which they judge are tested alone.
+"""
+
+import os
+import shutil
+import subprocess
+import sys
+from importlib.machinery import SourceFileLoader
+from importlib.util import module_from_spec, spec_from_loader
+
+from playing import TOP, USAGE, FolderCase
+
+MODEL = TOP / "bench" / "model"
+sys.path.insert(0, str(TOP / "bench"))
+sys.path.insert(0, str(MODEL))
+
+from side_by_side import play_side_by_side
+from trial import Run
+
+HAS_COMPILER = shutil.which(os.environ.get("CC", "cc")) is not None
+
+# Reads a file, and writes how many bytes it has, in pieces.
+RIGHT = r"""
+#include <fcntl.h>
+#include <stdio.h>
+#include <stdlib.h>
+#include <string.h>
+#include <unistd.h>
+
+static int say(int status, const char *text) {
+    for (size_t size = strlen(text), done = 0; done < size;) {
+        ssize_t more = write(1, text + done, size - done < 4 ? size - done : 4);
+        if (more < 0)
+            return 4;
+        done += more;
+    }
+    return status;
+}
+
+int main(int count, char **words) {
+    char text[64], *word = malloc(strlen(words[count - 1]) + 1);
+    if (!word)
+        return say(2, "usage: inputplay FILE\n");
+    strcpy(word, words[count - 1]);
+    int file = open(word, O_RDONLY);
+    if (file < 0)
+        return say(3, "inputplay: read failed\n");
+    char *bytes = calloc(1, 1000);
+    if (!bytes)
+        return say(5, "inputplay: out of memory\n");
+    size_t size = 0;
+    for (ssize_t more = 1; more; size += more)
+        if ((more = read(file, bytes + size, 7)) < 0)
+            return say(3, "inputplay: read failed\n");
+    void *larger = realloc(bytes, 2000);
+    bytes = larger ? larger : bytes;
+    snprintf(text, sizeof text, "%zu bytes\n", size);
+    return say(0, text);
+}
+"""
+
+RECORD = "inputrecord 1\n"
+
+# Programs that are wrong: the script that finds it, what is changed, and what is said.
+WRONG = {
+    "it takes memory that it was not given": (
+        "alloc",
+        ("if (!bytes)", "if (!bytes && (bytes[0] = 1))"),
+        "allocation 2 refused (calloc 1000 bytes): SIGSEGV, b''",
+    ),
+    "it tells of its words too late": (
+        "alloc",
+        ("bytes = larger ? larger : bytes;", 'if (!larger) return say(2, "usage: inputplay FILE\\n");'),
+        "allocation 3 refused (realloc 2000 bytes): status 2, b'usage: inputplay FILE\\n'",
+    ),
+    "it takes a fault for an end": (
+        "faults",
+        ("bytes + size, 7)) < 0)", "bytes + size, 7)) < 0 && (more = 0))"),
+        "read 1 of f fails: WRONG: status 0, and status 3 was wanted\n",
+    ),
+    "it takes a short read for an end": (
+        "faults",
+        ("more; size += more)", "more == 7 || more == 1; size += more)"),
+        "read 1 of f is short: WRONG: status 0, which is not as without it\n",
+    ),
+    "it takes a short write for a whole one": (
+        "faults",
+        ("done += more", "done += 4"),
+        "write 1 of the output is short: WRONG: status 0, which is not as without it\n",
+    ),
+    "it does not look at its writes": (
+        "faults",
+        ("return 4;", "more = 4;"),
+        "write 1 of the output fails: WRONG: status 0, and status 4 was wanted\n",
+    ),
+}
+
+
+def loaded(name):
+    """A script of bench/ as a module."""
+    loader = SourceFileLoader(name, str(TOP / "bench" / name))
+    module = module_from_spec(spec_from_loader(name, loader))
+    loader.exec_module(module)
+    return module
+
+
+class FailingCalls(FolderCase):
+    def setUp(self):
+        super().setUp()
+        (self.folder / "f").write_text(RECORD)
+        self.program = self.folder / "program"
+
+    def compile(self, text, *more):
+        source = self.folder / "program.c"
+        source.write_text(text)
+        command = [os.environ.get("CC", "cc"), *more, "-o", self.program, source]
+        subprocess.run(command, check=True, capture_output=True, timeout=60)
+
+    def script(self, name, *words):
+        command = [sys.executable, TOP / "bench" / name, "--program", self.program, *words]
+        where = {**os.environ, "TMPDIR": str(self.folder)}
+        return subprocess.run(command, capture_output=True, text=True, timeout=60, env=where)
+
+    def says(self, name, status, *said, words=()):
+        done = self.script(name, *words, self.folder / "f")
+        self.assertEqual(status, done.returncode, done.stdout + done.stderr)
+        for text in said:
+            self.assertIn(text, done.stdout + done.stderr)
+
+    def test_a_program_that_is_right(self):
+        if not HAS_COMPILER:
+            shutil.copy(sys.executable, self.program)
+            for name in ("alloc", "faults"):
+                self.says(name, 2, "there is no C compiler: ")
+            return
+        self.compile(RIGHT)
+        self.says("alloc", 0, "f: 1 status 0, 1 status 2, 1 status 5\n3 runs of 1 records, none that ends otherwise\n")
+        self.says("alloc", 0, "f: 1 status 0, 1 status 2, 1 status 5\n", words=["--rest"])
+        self.says(
+            "faults",
+            0,
+            "    open 1 of f fails: status 3\n",
+            "    read 3 of f fails: status 3\n",
+            "    write 3 of the output fails: status 4\n",
+            "    read 2 of f is short: status 0\n",
+            "    write 2 of the output is short: status 0\n",
+            "11 runs of 1 records, none that ends otherwise\n",
+        )
+
+    def test_programs_that_are_wrong(self):
+        for name, (script, (before, after), said) in WRONG.items():
+            with self.subTest(name):
+                self.assertIn(before, RIGHT)
+                if not HAS_COMPILER:
+                    continue
+                self.compile(RIGHT.replace(before, after))
+                self.says(script, 1, said, " that end otherwise\n")
+
+    def test_a_program_whose_calls_cannot_be_made_to_fail(self):
+        if not HAS_COMPILER:
+            return
+        for text, status, said, words in (
+            ("void _start(void) {}", 2, "is not linked dynamically", ["-static", "-nostdlib"]),
+            ("int main() {}", 1, "no call could be made to fail\n", []),
+        ):
+            self.compile(text, *words)
+            for name in ("alloc", "faults"):
+                with self.subTest(script=name, said=said):
+                    self.says(name, status, said)
+
+    def test_wrong_words(self):
+        shutil.copy(sys.executable, self.program)
+        for name, words, said in (
+            ("alloc", ["--program", "none"], "is not there; 'rt ci' builds it"),
+            ("alloc", [self.folder / "g"], "is not there"),
+            ("alloc", ["--word=--threads"], "so --word=--history is wanted too"),
+            ("faults", ["--program", "none"], "is not there; 'rt ci' builds it"),
+            ("faults", [self.folder / "g"], "is not there"),
+        ):
+            with self.subTest(script=name, words=words):
+                done = self.script(name, *words)
+                self.assertEqual(2, done.returncode)
+                self.assertIn(said, done.stderr)
+
+
+class Judging(FolderCase):
+    """By which rules a run is judged."""
+
+    def test_runs_with_an_allocation_refused(self):
+        whole = Run(6, b"device d steps 1\n", b"")
+        for run, is_right in (
+            (whole, True),
+            (Run(5, b"inputplay: out of memory\n", b""), True),
+            (Run(4, b"inputplay: out", b""), True),
+            (Run(4, b"inputplay: out of memory\n", b""), False),
+            (Run(4, b"device", b""), False),
+            (Run(0, whole.text, b""), False),
+            (Run(6, b"device d", b""), False),
+            (Run(5, b"device d steps 1\n", b""), False),
+            (Run(5, b"inputplay: out of memory\n", b"?"), False),
+            (Run(2, USAGE, b""), False),
+            (Run(-11, b"", b""), False),
+            (Run(None, b"", b""), False),
+        ):
+            with self.subTest(run=run):
+                judge = loaded("alloc").Judge(self.folder / "f", [], whole)
+                self.assertIsNone(judge.complaint(Run(2, USAGE, b"")))
+                judge.complaint(whole)
+                self.assertEqual(is_right, judge.complaint(run) is None)
+
+    def test_runs_with_threads(self):
+        record = "inputrecord 1\ndevice d\ncap EV_KEY KEY_A\nsource s\nclient c\ndo c open\ndo s uninhibit\ndo c follow\n"
+        (self.folder / "f").write_text(record)
+        judge = loaded("alloc").Judge(self.folder / "f", ["--threads", "--history", "--idle", "3"], Run(0, b"", b""))
+        for seed in range(3):
+            text = "".join(line + "\n" for line in play_side_by_side(record, seed, idle=3)).encode()
+            self.assertIsNone(judge.complaint(Run(0, text, b"")))
+            self.assertIsNotNone(judge.complaint(Run(0, text.replace(b"finished", b"full 3"), b"")))
+            self.assertIsNotNone(judge.complaint(Run(3, text, b"")))
