@@ -2,11 +2,11 @@
 //
 // FAILING      the kind: alloc, open, read or write
 // FAILING_AT   which call of that kind, from 1
-// FAILING_HOW  fail; or rest: all calls of that kind behind it fail too; or short: a read or a write is of half of its bytes
+// FAILING_HOW  fail; rest: all calls of that kind behind it fail too; short: a read or a write is of half of its bytes
 // FAILING_TELL the number of an open file, to which a line on that call is written when it comes
 //
-// An allocation that fails gives ENOMEM, any other call EIO. Calls are counted from the end of this library's own start on.
-// It works with glibc alone, since its own calls of the allocator are those to which glibc gives other names.
+// An allocation that fails gives ENOMEM, any other call EIO. Calls are counted once this library has started. It
+// works with glibc alone, since it calls the allocator by other names that glibc gives it.
 #define _GNU_SOURCE
 #include <errno.h>
 #include <fcntl.h>

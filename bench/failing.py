@@ -12,7 +12,7 @@ def add_words(parser):
 
 
 def records_of(parser, names, usual):
-    """The paths of the records that are named, or of the usual ones. The parser ends the script where one is missing."""
+    """The paths of the records that are named, or of the usual ones, or the parser ends the script."""
     records = [Path(name).resolve() for name in names or [TOP / name for name in usual]]
     for record in records:
         if not record.is_file():

@@ -177,6 +177,20 @@ class Damage(FolderCase):
         firsts = {data[:1] for what, data in forms.items() if what.startswith("byte 0 ")}
         self.assertEqual({b"\0", b"\t", b"\n", b"\r", b" ", b"#", b"0", b"`", b"\x7f", b"\x80", b"\xff"}, firsts)
 
+    def test_lines_and_words_that_are_moved(self):
+        forms = dict(loaded().rearranged(b"a  b\n# c d\n"))
+        self.assertEqual(3 * 3 + 2 * (3 + len(loaded().WORDS)), len(forms))
+        for what, text in (
+            ("line 1 left out", b"# c d\n"),
+            ("line 1 twice", b"a  b\na  b\n# c d\n"),
+            ("line 2 behind the next one", b"a  b\n\n# c d"),
+            ("line 1, word 2 left out", b"a\n# c d\n"),
+            ("line 1, word 1 twice", b"a a b\n# c d\n"),
+            ("line 1, word 1 behind the next one", b"b a\n# c d\n"),
+            ("line 1, word 2 as KEY_A", b"a KEY_A\n# c d\n"),
+        ):
+            self.assertEqual(text, forms[what])
+
     def test_what_it_says(self):
         record = EXAMPLES / "one_key.rec"
         done = self.damage(RIGHT.encode(), "--every", "600", record)

@@ -212,7 +212,8 @@ class Judging(FolderCase):
                 self.assertEqual(is_right, judge.complaint(run) is None)
 
     def test_runs_with_threads(self):
-        record = "inputrecord 1\ndevice d\ncap EV_KEY KEY_A\nsource s\nclient c\ndo c open\ndo s uninhibit\ndo c follow\n"
+        record = "inputrecord 1\ndevice d\ncap EV_KEY KEY_A\nsource s\nclient c\n"
+        record += "do c open\ndo s uninhibit\ndo c follow\n"
         (self.folder / "f").write_text(record)
         judge = loaded("alloc").Judge(self.folder / "f", ["--threads", "--history", "--idle", "3"], Run(0, b"", b""))
         for seed in range(3):
