@@ -126,8 +126,7 @@ impl Device {
         ensures none { (result ≡ 0)
             ↔ All (λ client. queue self.now.description self.now.past client ≡ [])
             (open_clients self.now.past) }
-        ensures least {
-            All (λ client. length (queue self.now.description self.now.past client) ≤ result)
+        ensures least { All (λ client. length (queue self.now.description self.now.past client) ≤ result)
             (open_clients self.now.past) }
         ensures most { result
             ≤ sum_by (λ client. length (queue self.now.description self.now.past client))

@@ -291,7 +291,14 @@ impl Ring {
             return;
         }
         let cell = store.get(number);
-        replace_all(&mut self.numbers, store, Cell { event: LOSS, ..cell });
+        replace_all(
+            &mut self.numbers,
+            store,
+            Cell {
+                event: LOSS,
+                ..cell
+            },
+        );
     }
 
     /// Puts a number at the end, where it leaves a place free.

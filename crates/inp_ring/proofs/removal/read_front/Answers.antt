@@ -28,7 +28,8 @@ loop-at-preserved c =
     let here : at < length q = omega arith in
     let long : at < length (queue_in first q) = omega (arith, length-map q (cell_at first)) in
     let cell : c.release_first.result ≡ get_or (queue_in first q) at (some_cell None) =
-    c.release_first.ensures.cell ∙ released_cell c.loop-at.invariant.0 here ∙ sym (get_or-map (cell_at first) q at 0 (some_cell None) here) in
-    (released_more c.loop-at.invariant.0 here c.release_first.ensures.rest c.release_first.ensures.moved,
-    ap (λ x. set c.loop-at.out at x) (c.taken.ensures.taken ∙ ap (taken_of c.args.offset) cell)
-    ∙ read_more (taken_of c.args.offset) (queue_in first q) c.args.out.now c.loop-at.out at (some_cell None) c.loop-at.invariant.1 long (omega arith))
+    c.release_first.ensures.cell ∙ released_cell c.loop-at.invariant.0 here ∙ sym (get_or-map (cell_at first) q at 0 (some_cell None) here) in (
+      released_more c.loop-at.invariant.0 here c.release_first.ensures.rest c.release_first.ensures.moved,
+      ap (λ x. set c.loop-at.out at x) (c.taken.ensures.taken ∙ ap (taken_of c.args.offset) cell)
+          ∙ read_more (taken_of c.args.offset) (queue_in first q) c.args.out.now c.loop-at.out at (some_cell None) c.loop-at.invariant.1 long (omega arith),
+    )
