@@ -1,9 +1,10 @@
 // Put before the C library with LD_PRELOAD, it has one call of a program fail, or be short: the Nth of its kind.
 //
-// FAILING      the kind: alloc, open, read or write
-// FAILING_AT   which call of that kind, from 1
-// FAILING_HOW  fail; rest: all calls of that kind behind it fail too; short: a read or a write is of half of its bytes
-// FAILING_TELL the number of an open file, to which a line on that call is written when it comes
+// FAILING       the kind: alloc, open, read or write
+// FAILING_AT    which call of that kind, from 1
+// FAILING_HOW   fail; rest: all calls of that kind behind it fail too; short: a read or a write is of half of its bytes
+// FAILING_PIECE how many bytes any read or write takes at most, where it is set
+// FAILING_TELL  the number of an open file, to which a line on that call is written when it comes
 //
 // An allocation that fails gives ENOMEM, any other call EIO. Calls are counted once this library has started. It
 // works with glibc alone, since it calls the allocator by other names that glibc gives it.
@@ -12,6 +13,7 @@
 #include <fcntl.h>
 #include <stdarg.h>
 #include <stddef.h>
+#include <stdint.h>
 #include <stdio.h>
 #include <stdlib.h>
 #include <string.h>
@@ -31,17 +33,19 @@ static enum kind kind = NONE;
 static long left = 0;
 static int is_short = 0, is_rest = 0;
 static int told_to = -1;
+static size_t piece = SIZE_MAX;
 
 __attribute__((constructor)) static void start(void) {
     static const char *const names[] = {"", "alloc", "open", "read", "write"};
     const char *name = getenv("FAILING"), *at = getenv("FAILING_AT");
-    const char *how = getenv("FAILING_HOW"), *tell = getenv("FAILING_TELL");
+    const char *how = getenv("FAILING_HOW"), *tell = getenv("FAILING_TELL"), *most = getenv("FAILING_PIECE");
     if (!name || !at)
         return;
     left = atol(at);
     is_short = how && !strcmp(how, "short");
     is_rest = how && !strcmp(how, "rest");
     told_to = tell ? atoi(tell) : -1;
+    piece = most ? (size_t)atol(most) : SIZE_MAX;
     for (int i = ALLOC; i <= WRITE; i++)
         if (!strcmp(name, names[i]))
             kind = i;
@@ -154,6 +158,7 @@ ssize_t read(int file, void *bytes, size_t size) {
     int is_one = is_the_one(READ);
     if (is_one && !is_short)
         return fault("read", 0, file);
+    size = size < piece ? size : piece;
     ssize_t count = syscall(SYS_read, file, bytes, size);
     if (!is_one)
         return count;
@@ -168,6 +173,7 @@ ssize_t pread64(int file, void *bytes, size_t size, off64_t at) {
     int is_one = is_the_one(READ);
     if (is_one && !is_short)
         return fault("pread64", 0, file);
+    size = size < piece ? size : piece;
     ssize_t count = syscall(SYS_pread64, file, bytes, size, at);
     if (!is_one)
         return count;
@@ -180,6 +186,7 @@ ssize_t pread(int file, void *bytes, size_t size, off_t at) {
 }
 
 ssize_t write(int file, const void *bytes, size_t size) {
+    size = size < piece ? size : piece;
     if (!is_the_one(WRITE))
         return syscall(SYS_write, file, bytes, size);
     if (!is_short)

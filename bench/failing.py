@@ -23,8 +23,9 @@ def records_of(parser, names, usual):
 class Failing:
     """Runs a program with one of its calls failing. It builds failing.c in a folder."""
 
-    def __init__(self, parser, program, folder):
+    def __init__(self, parser, program, folder, piece=None):
         self.program, self.library, self.tell = program, Path(folder) / "failing.so", Path(folder) / "told"
+        self.piece = {"FAILING_PIECE": str(piece)} if piece else {}
         source = TOP / "bench" / "failing.c"
         command = [os.environ.get("CC", "cc"), "-shared", "-fPIC", "-O2", "-o", self.library, source]
         try:
@@ -40,7 +41,7 @@ class Failing:
         """A run in which the call fails, and the words that tell of this call; none where there were fewer calls."""
         with open(self.tell, "w+b") as tell:
             failing = {"FAILING": kind, "FAILING_AT": str(at), "FAILING_HOW": how, "FAILING_TELL": str(tell.fileno())}
-            env = {**os.environ, **failing, "LD_PRELOAD": str(self.library)}
+            env = {**os.environ, **self.piece, **failing, "LD_PRELOAD": str(self.library)}
             run = run_once(self.program, words, folder, seconds, env=env, pass_fds=(tell.fileno(),), **more)
             tell.seek(0)
             return run, tell.read().decode("utf-8", "backslashreplace").rstrip("\n").split(maxsplit=2)

@@ -1,5 +1,6 @@
 """How the scripts of this folder find the built program and run it once."""
 
+import argparse
 import os
 import signal
 import subprocess
@@ -44,3 +45,10 @@ def run_once(program, words, folder, seconds, **more):
     except subprocess.TimeoutExpired as late:
         return Run(None, late.stdout or b"", late.stderr or b"")
     return Run(done.returncode, done.stdout or b"", done.stderr or b"")
+
+
+def positive(text):
+    number = int(text)
+    if number < 1:
+        raise argparse.ArgumentTypeError(f"{text} is not 1 or more")
+    return number

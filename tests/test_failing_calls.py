@@ -149,6 +149,7 @@ class FailingCalls(FolderCase):
             "    write 2 of the output is short: status 0\n",
             "11 runs of 1 records, none that ends otherwise\n",
         )
+        self.says("faults", 0, "f\n18 runs of 1 records, none ", words=["--piece", "3", "--quiet"])
 
     def test_programs_that_are_wrong(self):
         for name, (script, (before, after), said) in WRONG.items():
@@ -179,6 +180,7 @@ class FailingCalls(FolderCase):
             ("alloc", ["--word=--threads"], "so --word=--history is wanted too"),
             ("faults", ["--program", "none"], "is not there; 'rt ci' builds it"),
             ("faults", [self.folder / "g"], "is not there"),
+            ("faults", ["--piece", "0"], "0 is not 1 or more"),
         ):
             with self.subTest(script=name, words=words):
                 done = self.script(name, *words)
