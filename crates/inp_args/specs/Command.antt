@@ -24,10 +24,17 @@ file = new_rule (codes "FILE")
 abbrev pub no_arguments : App
 no_arguments = on_top (λ s. record s { no_binary_name = true; disable_help_flag = true }) (new_app (codes "inputplay"))
 
--- the flag `--history`, the options `--make` and `--count`, and FILE
+-- the flags `--threads` and `--history`
+abbrev pub with_flags : App
+with_flags = with_rule (with_rule no_arguments (flag (codes "threads"))) (flag (codes "history"))
+
+-- the options `--idle`, `--make` and `--count`
+abbrev pub with_options : App
+with_options = with_rule (with_rule (with_rule with_flags (option (codes "idle"))) (option (codes "make"))) (option (codes "count"))
+
+-- these, and FILE
 unfoldable pub command : App
-command =
-    with_rule (with_rule (with_rule (with_rule no_arguments (flag (codes "history"))) (option (codes "make"))) (option (codes "count"))) file
+command = with_rule with_options file
 
 -- the command takes the words
 unfoldable pub is_taken : List Text → Bool

@@ -17,16 +17,25 @@ Makes words number count = requested words ≡ Some (Make number count)
 -- a file is played; the flag stands before it or behind it
 abbrev pub PlaysFiles : Type 0
 PlaysFiles =
-    (requested (codes "f" ∷ []) ≡ Some (Play (codes "f") false)) × (requested (codes "--history" ∷ codes "f" ∷ []) ≡ Some (Play (codes "f") true))
-    × (requested (codes "f" ∷ codes "--history" ∷ []) ≡ Some (Play (codes "f") true))
+    (requested (codes "f" ∷ []) ≡ Some (Play (codes "f") false None)) × (requested (codes "--history" ∷ codes "f" ∷ []) ≡ Some (Play (codes "f") true None))
+    × (requested (codes "f" ∷ codes "--history" ∷ []) ≡ Some (Play (codes "f") true None))
+
+-- threads are asked for, with a bound or without one; a bound alone changes nothing
+abbrev pub PlaysOnThreads : Type 0
+PlaysOnThreads =
+    (requested (codes "--threads" ∷ codes "f" ∷ []) ≡ Some (Play (codes "f") false (Some 1000000)))
+    × (requested (codes "--threads" ∷ codes "f" ∷ codes "--idle" ∷ codes "1" ∷ codes "--history" ∷ []) ≡ Some (Play (codes "f") true (Some 1)))
+    × (requested (codes "--idle=1000000000" ∷ codes "--threads" ∷ codes "f" ∷ []) ≡ Some (Play (codes "f") false (Some 1000000000)))
+    × (requested (codes "--idle" ∷ codes "5" ∷ codes "f" ∷ []) ≡ Some (Play (codes "f") false None))
+    × Makes (codes "--make" ∷ codes "7" ∷ codes "--idle" ∷ codes "5" ∷ []) 7 100
 
 -- a lone `-` is a file, and so are the empty word and each word behind `--`
 abbrev pub PlaysOddWords : Type 0
 PlaysOddWords =
-    (requested (codes "-" ∷ []) ≡ Some (Play (codes "-") false)) × (requested (codes "" ∷ []) ≡ Some (Play [] false))
-    × (requested (codes "--" ∷ codes "f" ∷ []) ≡ Some (Play (codes "f") false))
-    × (requested (codes "--" ∷ codes "--make" ∷ []) ≡ Some (Play (codes "--make") false))
-    × (requested (codes "--history" ∷ codes "--" ∷ codes "--history" ∷ []) ≡ Some (Play (codes "--history") true))
+    (requested (codes "-" ∷ []) ≡ Some (Play (codes "-") false None)) × (requested (codes "" ∷ []) ≡ Some (Play [] false None))
+    × (requested (codes "--" ∷ codes "f" ∷ []) ≡ Some (Play (codes "f") false None))
+    × (requested (codes "--" ∷ codes "--make" ∷ []) ≡ Some (Play (codes "--make") false None))
+    × (requested (codes "--history" ∷ codes "--" ∷ codes "--history" ∷ []) ≡ Some (Play (codes "--history") true None))
 
 -- a number, alone and with a count; an option and its text may be one word
 abbrev pub MakesRecords : Type 0
@@ -48,17 +57,23 @@ RefusesNumbers =
     × IsRefused (codes "--make" ∷ codes "-0" ∷ []) × IsRefused (codes "--make=-0" ∷ []) × IsRefused (codes "--make" ∷ codes "0x5" ∷ [])
     × IsRefused (codes "--make" ∷ codes "5 " ∷ []) × IsRefused (codes "--make" ∷ codes "+" ∷ [])
 
+-- a bound that is out of range or no number is refused, wherever it stands
+abbrev pub RefusesBounds : Type 0
+RefusesBounds =
+    IsRefused (codes "--threads" ∷ codes "f" ∷ codes "--idle" ∷ codes "0" ∷ []) × IsRefused (codes "--threads" ∷ codes "f" ∷ codes "--idle" ∷ codes "1000000001" ∷ [])
+    × IsRefused (codes "--idle" ∷ codes "x" ∷ codes "f" ∷ []) × IsRefused (codes "--make" ∷ codes "7" ∷ codes "--idle" ∷ codes "0" ∷ [])
+
 abbrev pub RefusesCounts : Type 0
 RefusesCounts =
     IsRefused (codes "--make" ∷ codes "7" ∷ codes "--count" ∷ codes "0" ∷ []) × IsRefused (codes "--make" ∷ codes "7" ∷ codes "--count" ∷ codes "10001" ∷ [])
     × IsRefused (codes "--make" ∷ codes "7" ∷ codes "--count=" ∷ [])
 
--- a file with `--make` or `--count`, a count without a number, the history of a record that is made, and neither
+-- a file with `--make` or `--count`, a count without a number, the history or threads of a record that is made, and neither
 abbrev pub RefusesMixtures : Type 0
 RefusesMixtures =
     IsRefused (codes "--make" ∷ codes "7" ∷ codes "x" ∷ []) × IsRefused (codes "--count" ∷ codes "5" ∷ codes "x" ∷ [])
     × IsRefused (codes "--count" ∷ codes "5" ∷ []) × IsRefused (codes "--count=5" ∷ []) × IsRefused (codes "--make" ∷ codes "7" ∷ codes "--history" ∷ [])
-    × IsRefused [] × IsRefused (codes "--history" ∷ []) × IsRefused (codes "--" ∷ [])
+    × IsRefused (codes "--make" ∷ codes "7" ∷ codes "--threads" ∷ []) × IsRefused [] × IsRefused (codes "--history" ∷ []) × IsRefused (codes "--" ∷ [])
 
 -- two files, what is given twice, a name cut short, and an option without its text
 abbrev pub RefusesForms : Type 0
@@ -70,5 +85,5 @@ RefusesForms =
 -- options that there are not
 abbrev pub RefusesOptions : Type 0
 RefusesOptions =
-    IsRefused (codes "--help" ∷ []) × IsRefused (codes "-h" ∷ []) × IsRefused (codes "--threads" ∷ codes "f" ∷ [])
-    × IsRefused (codes "--idle" ∷ codes "5" ∷ codes "f" ∷ []) × IsRefused (codes "--version" ∷ [])
+    IsRefused (codes "--help" ∷ []) × IsRefused (codes "-h" ∷ []) × IsRefused (codes "--version" ∷ [])
+    × IsRefused (codes "--threads=2" ∷ codes "f" ∷ [])

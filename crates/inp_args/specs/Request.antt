@@ -1,39 +1,47 @@
 -- What words ask for.
-use Rattle.std.specs.Prelude.{ℕ, ◌≤◌, Bool, false, ◌&&◌, List, Option, Some, None, option_and_then, nat_le, if◌then◌else◌, codes}
+use Rattle.std.specs.Prelude.{ℕ, ◌≤◌, IfSome, Bool, false, ◌&&◌, List, Option, Some, None, option_and_then, nat_le, if◌then◌else◌, codes}
 use Rattle.inp_args.specs.declared.request.Request.{Request}
 use Rattle.inp_args.specs.declared.request.Request.TheVariants.{Play, Make}
 use Rattle.inp_args.specs.Number.{number_of}
 use Rattle.inp_args.specs.Command.{is_taken, is_given, text_of}
 
--- a count of frames, 1 to 10,000
-abbrev pub is_count : ℕ → Bool
-is_count count = nat_le 1 count && nat_le count 10000
+-- the number of a text, where it is one from 1 to `most`
+abbrev pub number_up_to : ℕ → List ℕ → Option ℕ
+number_up_to most text = option_and_then (λ n. if nat_le 1 n && nat_le n most then Some n else None) (number_of text)
 
--- the count of a text, or 100 where none is given
+-- the count of frames of a text, 1 to 10,000, or 100 where none is given
 abbrev pub count_of : Option (List ℕ) → Option ℕ
 count_of None = Some 100
-count_of (Some text) = option_and_then (λ count. if is_count count then Some count else None) (number_of text)
+count_of (Some text) = number_up_to 10000 text
+
+-- how many reads in a row may find nothing, by a text: 1 to 1,000,000,000, or 1,000,000 where none is given
+abbrev pub idle_of : Option (List ℕ) → Option ℕ
+idle_of None = Some 1000000
+idle_of (Some text) = number_up_to 1000000000 text
 
 -- a record is to be made of both numbers
 abbrev pub made_of : Option ℕ → Option ℕ → Option Request
 made_of (Some number) (Some count) = Some (Make number count)
 made_of _ _ = None
 
--- what the texts of FILE, `--make` and `--count` ask for, and whether the history is wanted
-abbrev pub request_of : Option (List ℕ) → Option (List ℕ) → Option (List ℕ) → Bool → Option Request
-request_of (Some file) None None history = Some (Play file history)
-request_of None (Some number) count false = made_of (number_of number) (count_of count)
-request_of _ _ _ _ = None
+-- what the texts of FILE, `--make` and `--count` ask for; whether the history is wanted, and `idle` where threads are
+abbrev pub request_of : Option (List ℕ) → Option (List ℕ) → Option (List ℕ) → Bool → Option ℕ → Option Request
+request_of (Some file) None None history idle = Some (Play file history idle)
+request_of None (Some number) count false None = made_of (number_of number) (count_of count)
+request_of _ _ _ _ _ = None
+
+-- the same with the flags, where `--idle` has a number
+abbrev pub request_with : List (List ℕ) → ℕ → Option Request
+request_with words idle =
+    request_of (text_of (codes "FILE") words) (text_of (codes "make") words) (text_of (codes "count") words)
+    (is_given (text_of (codes "history") words)) (if is_given (text_of (codes "threads") words) then Some idle else None)
 
 -- what the words after the program's name ask for; nothing where they are not accepted
 abbrev pub requested : List (List ℕ) → Option Request
 requested words =
-    if is_taken words
-    then request_of (text_of (codes "FILE") words) (text_of (codes "make") words) (text_of (codes "count") words)
-    (is_given (text_of (codes "history") words))
-    else None
+    if is_taken words then option_and_then (request_with words) (idle_of (text_of (codes "idle") words)) else None
 
--- the count of a record to be made is in its range
-abbrev pub HasCount : Request → Type 0
-HasCount (Play file history) = Unit {0}
-HasCount (Make number count) = (1 ≤ count) × (count ≤ 10000)
+-- the numbers of a request are in their ranges
+abbrev pub IsInRange : Request → Type 0
+IsInRange (Play file history idle) = IfSome idle (λ n. (1 ≤ n) × (n ≤ 1000000000))
+IsInRange (Make number count) = (1 ≤ count) × (count ≤ 10000)

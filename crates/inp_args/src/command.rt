@@ -43,7 +43,9 @@ fn command<'a>(alloc: Global) -> Result<Command<'a>, AllocError>
     Command::new(alloc, "inputplay")
         .no_binary_name(true)
         .disable_help_flag(true)
+        .arg(flag(alloc, "threads"))?
         .arg(flag(alloc, "history"))?
+        .arg(option(alloc, "idle"))?
         .arg(option(alloc, "make"))?
         .arg(option(alloc, "count"))?
         .arg(Arg::new(alloc, "FILE"))

@@ -6,13 +6,16 @@
 //!
 //! | Word | Is |
 //! |---|---|
+//! | `--threads` | a flag: each source, client and tap does its lines on a thread of its own |
 //! | `--history` | a flag: the history is wanted too |
+//! | `--idle N` | on threads a `follow` ends after so many reads in a row that found nothing, 1 to 1,000,000,000, and 1,000,000 where it is not given |
 //! | `--make NUMBER` | a record is made from this number, 0 to 4,294,967,295, and played |
 //! | `--count COUNT` | of so many frames, 1 to 10,000, and 100 where it is not given |
 //! | `FILE` | the record in this file is played |
 //!
-//! There is either FILE, without `--make` and `--count`, or `--make`, without `--history`. Numbers are as Rust reads a
-//! `u32`. None of the words has a short form, and there is no `--help`.
+//! There is either FILE, without `--make` and `--count`, or `--make`, without `--threads` and `--history`. Numbers are as
+//! Rust reads a `u32`, and one that is not in its range is refused also where it is not used. None of the words has a short
+//! form, and there is no `--help`.
 //!
 //! Its contract: `specs/Command.antt` is the command in `clap`'s own definitions, and `requested` of
 //! `specs/Request.antt` says what words ask for. A request comes exactly where `requested` gives it, and `Usage` exactly

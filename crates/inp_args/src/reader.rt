@@ -2,11 +2,11 @@
 ghost use Rattle.std.specs.Prelude.{◌≡◌, None, Some, Err, map, string_bytes, IfOk};
 ghost use Rattle.std.specs.Option.{option_copied};
 ghost use Rattle.inp_args.specs.Command.{is_given};
-ghost use Rattle.inp_args.specs.Request.{HasCount, made_of, request_of, requested};
+ghost use Rattle.inp_args.specs.Request.{IsInRange, made_of, request_of, requested};
 ghost use Rattle.inp_args.specs.declared.words_fault.WordsFault.{WordsFault};
 
 use crate::command::matches_in;
-use crate::number::{count_of, number_of};
+use crate::number::{count_of, idle_of, number_of};
 use crate::{Request, WordsFault};
 use inp_actors::FileName;
 use std::alloc::Global;
@@ -22,14 +22,16 @@ pub fn read_words(alloc: Global, words: &[String]) -> Result<Request, WordsFault
         (λ request. requested (map string_bytes words.now) ≡ Some request) }
     ensures usage { result ≡ Err WordsFault.Usage
         → requested (map string_bytes words.now) ≡ None }
-    ensures count { IfOk result HasCount }
+    ensures range { IfOk result IsInRange }
 {
     let matches = matches_in(alloc, words)?;
     let file = matches.get_str("FILE");
     let number = matches.get_str("make");
     let count = matches.get_str("count");
     let history = is_given(matches.get_str("history"));
-    request_of(alloc, file, number, count, history)
+    let idle = idle_of(matches.get_str("idle")).ok_or(WordsFault::Usage)?;
+    let idle = is_given(matches.get_str("threads")).then_some(idle);
+    request_of(alloc, file, number, count, history, idle)
 }
 
 // Whether a flag was given, by its text.
@@ -49,18 +51,20 @@ fn request_of(
     number: Option<&str>,
     count: Option<&str>,
     history: bool,
+    idle: Option<u32>,
 ) -> Result<Request, WordsFault>
     ensures request { IfOk result (λ request. request_of (option_copied file.entry)
-        (option_copied number.entry) (option_copied count.entry) history ≡ Some request) }
+        (option_copied number.entry) (option_copied count.entry) history idle ≡ Some request) }
     ensures usage { result ≡ Err WordsFault.Usage → request_of (option_copied file.entry)
-        (option_copied number.entry) (option_copied count.entry) history ≡ None }
+        (option_copied number.entry) (option_copied count.entry) history idle ≡ None }
 {
     match (file, number, count) {
         (Some(file), None, None) => Ok(Request::Play {
             file: FileName::new(String::from_str(alloc, file)?),
             history,
+            idle,
         }),
-        (None, Some(number), count) if !history => {
+        (None, Some(number), count) if !history && idle.is_none() => {
             made_of(number_of(number), count_of(count)).ok_or(WordsFault::Usage)
         }
         _ => Err(WordsFault::Usage),

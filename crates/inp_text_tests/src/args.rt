@@ -11,9 +11,20 @@ fn answer(alloc: Global, words: &[&str]) -> Result<String, AllocError> {
         owned.push(String::from_str(alloc, word)?)?;
     }
     match read_words(alloc, owned.as_slice()) {
-        Ok(Request::Play { file, history }) => {
-            format!(in alloc; "play {} {history}", file.text())
-        }
+        Ok(
+            Request::Play {
+                file,
+                history,
+                idle: None,
+            },
+        ) => { format!(in alloc; "play {} {history}", file.text()) }
+        Ok(
+            Request::Play {
+                file,
+                history,
+                idle: Some(idle),
+            },
+        ) => { format!(in alloc; "play {} {history} {idle}", file.text()) }
         Ok(Request::Make { number, count }) => format!(in alloc; "make {number} {count}"),
         Err(fault) => format!(in alloc; "{fault}"),
     }
@@ -40,7 +51,8 @@ fn words_are_read_as_worked_out_by_hand(rt: HostRuntime) -> Result<(), Fail> {
             ["--make", "4294967296"].as_slice(),
             "the words are not accepted",
         ),
-        (["--threads", "f"].as_slice(), "the words are not accepted"),
+        (["--threads", "f"].as_slice(), "play f false 1000000"),
+        (["--threads", "f", "--idle=5"].as_slice(), "play f false 5"),
         ([].as_slice(), "the words are not accepted"),
     ];
     for (words, told) in rows {
