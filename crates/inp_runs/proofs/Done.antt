@@ -49,7 +49,7 @@ followed-answered r d wait history text a is_record is_text f =
     let talk : Talk (Option Job) = lines_talk text.role d r.streams wait f.rounds lines (first_job d) in
     talk-answered d history 0 talk f.calls a.job (gives_up-lines text.role d r.streams wait f.rounds lines (first_job d) (its_lines r a.actor text is_text r.lines is_record.commands)) f.legal f.follows
 
-followed-told : (r : RecordView) (d : Description) (wait : Option Waiting) (history : List Step) (text : ActorText) (a : ActorView) → IsRecord r → slice_get r.actors a.actor ≡ Some text → (f : HasFollowed r d wait history text.role a) → AreTold wait f.calls a.job.sight
+pub followed-told : (r : RecordView) (d : Description) (wait : Option Waiting) (history : List Step) (text : ActorText) (a : ActorView) → IsRecord r → slice_get r.actors a.actor ≡ Some text → (f : HasFollowed r d wait history text.role a) → AreTold wait f.calls a.job.sight
 followed-told r d wait history text a is_record is_text f =
     job-told text.role d r.streams wait f.rounds (lines_by a.actor r.lines) a.job f.calls (followed-answered r d wait history text a is_record is_text f) f.follows
 

@@ -1,0 +1,79 @@
+-- What comes of a device whose workers are done, and whose passes were joined: all is promised of it.
+use Rattle.std.proofs.Common.{◌≡◌, ℕ, ◌*◌, true, nat_eq, List, [], ◌∷◌, ◌++◌, refl, sym, ap, subst, ◌∙◌, arith, Option, Some}
+use Rattle.std.specs.Prelude.{All, map, slice_get}
+use Rattle.std.specs.List.{count_by}
+use Rattle.std.proofs.lemmas.Option.{get_or_from_slice_get, slice_get_within}
+use mathlib.Core.List.{IsPrefix}
+use Rattle.inp_model.specs.declared.step.Step.{Step}
+use Rattle.inp_model.specs.Description.{Description, IsDescription}
+use Rattle.inp_model.specs.DeviceView.{DeviceView}
+use Rattle.inp_actors.specs.declared.device_text.DeviceText.{DeviceText}
+use Rattle.inp_actors.specs.Record.{RecordView, IsRecord}
+use Rattle.inp_script.specs.declared.waiting.Waiting.{Waiting}
+use Rattle.inp_script.specs.Job.{ActorView, JobView, job_end}
+use Rattle.inp_script.specs.Runs.{actors_of}
+use Rattle.inp_runs.specs.Done.{IsRunAsPromised}
+use Rattle.inp_runs.specs.Job.{wait_of}
+use Rattle.inp_turn.specs.declared.pass_view.PassView.{PassView}
+use Rattle.inp_turn.specs.PassView.{IsEachAddedOnce}
+use Rattle.inp_port.specs.declared.port.PortOf.{PortOf}
+use Rattle.inp_port.specs.Port.{description_of}
+use Rattle.inp_threads.specs.declared.worker.Worker.{Worker}
+use Rattle.inp_threads.specs.Worker.{view_in, actor_number, HasWorked, IsWorked}
+use Rattle.inp_threads.specs.Joined.{AreJoined, AreDone, IsSized, AreSized, jobs_of, own_of}
+use Rattle.inp_threads.proofs.Assembling.{AreAllDone, HasDone, done-promised}
+
+-- a fact on all stands where one is found
+at_found : {A : Type 0} (P : A → Type 0) (xs : List A) (k : ℕ) (x : A) → All P xs → slice_get xs k ≡ Some x → P x
+at_found P xs k x all at = subst P (get_or_from_slice_get xs k x x at) (all k x (slice_get_within xs k x at))
+
+actor_numbers : (ws : List Worker) → map (λ (a : ActorView). a.actor) (map (λ (w : Worker). w.actor) ws) ≡ map actor_number ws
+actor_numbers [] = refl
+actor_numbers (w ∷ ws) = ap (λ (ns : List ℕ). w.actor.actor ∷ ns) (actor_numbers ws)
+
+actor_jobs : (ws : List Worker) → map job_end (map (λ (w : Worker). w.actor) ws) ≡ jobs_of ws
+actor_jobs [] = refl
+actor_jobs (w ∷ ws) = ap (λ (jobs : List JobView). job_end w.actor ∷ jobs) (actor_jobs ws)
+
+-- What the workers of a device and its port left, once all are done and the port is closed.
+pub record IsLeftOf (idle i : ℕ) (r : RecordView) (d : Description) (port : PortOf DeviceView Step) (left joined : PassView Description Step) (workers : List Worker) (history : List Step) : Type 0 where
+  pub description : description_of port ≡ d
+  pub numbers : map actor_number workers ≡ actors_of r.actors i
+  pub worked : All (IsWorked port r (wait_of (Some idle) r i)) workers
+  pub done : AreDone workers
+  pub sized : AreSized workers
+  pub are_joined : AreJoined workers left joined
+  pub none : left.own ≡ []
+  pub seen : joined.seen ≡ history
+  pub owned : IsEachAddedOnce [] history joined.own
+
+module _ (idle i : ℕ) (r : RecordView) (device : DeviceText) (port : PortOf DeviceView Step) (left joined : PassView Description Step) (workers : List Worker) (history : List Step) (is : IsLeftOf idle i r device.caps port left joined workers history) where
+  has_done : (k : ℕ) (w : Worker) → slice_get workers k ≡ Some w → HasDone r device.caps (wait_of (Some idle) r i) history (view_in w.pass) w.actor
+  has_done k w at =
+      let wait : Option Waiting = wait_of (Some idle) r i in
+      let here : IsWorked port r wait w = at_found (IsWorked port r wait) workers k w is.worked at in
+      let all : AreJoined workers left joined = is.are_joined in
+      let worked : HasWorked r (description_of port) wait w.actor (view_in w.pass) = here.worked (at_found (λ (u : Worker). u.is_done ≡ true) workers k w is.done at) in
+      let slots : w.actor.description.slots ≡ device.caps.slots = ap (λ (d : Description). d.slots) (here.description ∙ is.description) in
+      record {
+        worked = subst (λ (d : Description). HasWorked r d wait w.actor (view_in w.pass)) is.description worked;
+        has_actor = here.actor;
+        seen = subst (IsPrefix (view_in w.pass).seen) is.seen (at_found (λ (u : Worker). IsPrefix (view_in u.pass).seen joined.seen) workers k w all.seen at);
+        cells = at_found IsSized workers k w is.sized at ∙ ap (λ (n : ℕ). 14 * n) slots;
+      }
+
+  all_done : AreAllDone (λ (w : Worker). view_in w.pass) (λ (w : Worker). w.actor) (Some idle) r i device.caps history workers
+  all_done =
+      let all : AreJoined workers left joined = is.are_joined in
+      let owned : IsEachAddedOnce [] history joined.own = is.owned in
+      let own : joined.own ≡ own_of workers = all.own ∙ ap (λ (places : List ℕ). places ++ own_of workers) is.none in
+      record {
+        numbers = actor_numbers workers ∙ is.numbers;
+        each = has_done;
+        once = λ place below. ap (count_by (nat_eq place)) (sym own) ∙ owned.once place (omega arith) below;
+      }
+
+  pub left-promised : IsRecord r → IsDescription device.caps → (jobs : List JobView) → jobs ≡ jobs_of workers → IsRunAsPromised (Some idle) r i device (record { history = history; jobs = jobs })
+  left-promised is_record described jobs ended =
+      subst (λ (js : List JobView). IsRunAsPromised (Some idle) r i device (record { history = history; jobs = js })) (actor_jobs workers ∙ sym ended)
+      (done-promised (λ (w : Worker). view_in w.pass) (λ (w : Worker). w.actor) (Some idle) r i device history workers is_record described all_done)

@@ -1,0 +1,9 @@
+pub mod Counting
+pub mod Followed
+pub mod Assembling
+pub mod Joining
+pub mod DeviceRun
+pub mod Dealing
+pub mod Promised
+pub mod Running
+pub mod Working

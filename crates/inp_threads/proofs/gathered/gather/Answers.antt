@@ -1,0 +1,30 @@
+use Rattle.std.proofs.Common.{List, [], ◌∷◌, ◌++◌, length, sym, ap, subst, ◌∙◌}
+use Rattle.std.proofs.lemmas.Iterator.Adapters.{YieldsList-from_vec}
+use Rattle.std.proofs.lemmas.Iterator.Consumers.{YieldsList-turn}
+use Rattle.std.proofs.lemmas.List.Elements.{All-push}
+use Rattle.inp_script.specs.Job.{JobView}
+use Rattle.inp_turn.specs.Pass.{view_of}
+use Rattle.inp_threads.specs.declared.worker.Worker.{Worker}
+use Rattle.inp_threads.specs.Joined.{IsBack, IsSized, jobs_of}
+use Rattle.inp_threads.proofs.Joining.{done-more, joined-more, jobs_of-append}
+use Rattle.inp_threads.proofs.gathered.gather.Goals as goal
+
+pub add-gathered-requires-clause-back : goal.add-gathered-requires-clause-back
+add-gathered-requires-clause-back c =
+    let gives = c.into_iter-worker-iterator.ensures.into_iter_gives in
+    let turn = YieldsList-turn (YieldsList-from_vec {s = c.into_iter-worker-iterator.result} c.args.workers.items gives.0 (gives.1 ∙ c.args.workers.ok.0)) c.loop-worker.yielded c.loop-worker.worker-iterator c.loop-worker.yielded_by c.next.result c.next.new.self c.in-Some.worker c.in-Some.is c.next.ensures.steps in
+    subst (λ (w : Worker). IsBack c.args.port.now w) (sym turn.1) (c.requires.back (length c.loop-worker.yielded) c.in-Some.worker turn.0)
+
+pub loop-worker-preserved : goal.loop-worker-preserved
+loop-worker-preserved c =
+    let so_far : List Worker = c.loop-worker.yielded in
+    let w : Worker = c.in-Some.worker in
+    let is = c.loop-worker.invariant in
+    let added = c.add-gathered.ensures in (
+      added.ready,
+      joined-more so_far (w ∷ []) (view_of c.args.pass) (view_of c.loop-worker.gathered.pass) (view_of c.add-gathered.result.pass) is.1 added.joined,
+      added.jobs ∙ ap (λ (jobs : List JobView). jobs ++ jobs_of (w ∷ [])) is.2 ∙ sym (jobs_of-append so_far (w ∷ [])),
+      added.capacity ∙ is.3,
+      All-push IsSized so_far w is.4 added.sized,
+      λ both. done-more so_far w c.loop-worker.gathered.is_done is.5 (sym added.done ∙ both),
+    )

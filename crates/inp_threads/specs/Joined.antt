@@ -1,0 +1,46 @@
+-- What stands when the passes of all workers were joined into one.
+use Rattle.std.specs.Prelude.{◌≡◌, ℕ, ◌+◌, ◌*◌, true, List, ◌++◌, length, map, flat_map, All}
+use mathlib.Core.List.{IsPrefix}
+use Rattle.inp_model.specs.declared.step.Step.{Step}
+use Rattle.inp_model.specs.Description.{Description}
+use Rattle.inp_model.specs.DeviceView.{DeviceView}
+use Rattle.inp_script.specs.Job.{JobView, job_end}
+use Rattle.inp_turn.specs.declared.pass_view.PassView.{PassView}
+use Rattle.inp_port.specs.declared.port.PortOf.{PortOf}
+use Rattle.inp_threads.specs.declared.worker.Worker.{Worker}
+use Rattle.inp_threads.specs.Worker.{view_in, HasPass}
+
+-- the pass of a worker is back
+abbrev pub IsBack : PortOf DeviceView Step → Worker → Type 0
+IsBack port w = HasPass port w.pass
+
+-- the places that the workers own, one worker's after another's
+abbrev pub own_of : List Worker → List ℕ
+own_of workers = flat_map (λ (w : Worker). (view_in w.pass).own) workers
+
+-- what each worker has seen is a beginning of this history
+abbrev pub SawAll : List Worker → List Step → Type 0
+SawAll workers seen = All (λ (w : Worker). IsPrefix (view_in w.pass).seen seen) workers
+
+-- The passes of the workers were joined into one: nothing of what they saw, own and share is lost.
+pub record AreJoined (workers : List Worker) (before after : PassView Description Step) : Type 0 where
+  pub share : after.share ≡ before.share + length workers
+  pub own : after.own ≡ before.own ++ own_of workers
+  pub more : IsPrefix before.seen after.seen
+  pub seen : SawAll workers after.seen
+
+-- what comes of the workers' jobs
+abbrev pub jobs_of : List Worker → List JobView
+jobs_of workers = map (λ (w : Worker). job_end w.actor) workers
+
+-- each worker is done
+abbrev pub AreDone : List Worker → Type 0
+AreDone workers = All (λ (w : Worker). w.is_done ≡ true) workers
+
+-- the view of a worker's actor has the slots of its device
+abbrev pub IsSized : Worker → Type 0
+IsSized w = length w.actor.job.reading.view.cells ≡ 14 * w.actor.description.slots
+
+-- and so has that of each
+abbrev pub AreSized : List Worker → Type 0
+AreSized workers = All IsSized workers

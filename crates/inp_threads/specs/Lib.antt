@@ -1,0 +1,3 @@
+pub mod Worker
+pub mod Joined
+pub mod Promise

@@ -1,0 +1,50 @@
+//! One device with its jobs.
+ghost use Rattle.std.specs.Prelude.{◌≤◌, ◌<◌, length, IfOk};
+ghost use Rattle.inp_threads.specs.Promise.{IsPromisedOf};
+
+use crate::gathered::{Gathered, gather};
+use crate::workers::{deal, run_all};
+use inp_actors::Record;
+use inp_device::Device;
+use inp_edge::Gate;
+use inp_model::NoMemory;
+use inp_port::Port;
+use inp_script::{Jobs, Run};
+use std::alloc::Global;
+use std::sync::Wait;
+use std::thread::Threads;
+
+// What comes of the device of this number, whose actors do their lines on a thread each.
+pub(crate) fn run_device<R: Threads + Wait + Sync, G: Gate>(
+    rt: &R,
+    alloc: Global,
+    rec: &Record,
+    number: u32,
+    idle: u32,
+    gate: &G,
+) -> Result<Run, NoMemory>
+    requires bound { 1 ≤ idle }
+    requires device { number < length rec.now.devices }
+    ensures promised { IfOk result (IsPromisedOf idle rec.now number) }
+{
+    let caps = rec.devices().get(number as usize).caps.copy();
+    let Ok((port, mut pass)) = Port::new(alloc, Device::new(alloc, caps)?) else {
+        return Err(NoMemory);
+    };
+    let mut workers = deal(alloc, rec, number, &port, &mut pass)?;
+    let jobs = Vec::with_capacity(alloc, workers.len())?;
+    run_all(rt, &port, rec, number, idle, &mut workers, gate);
+    let Gathered {
+        pass,
+        jobs,
+        is_done,
+    } = gather(&port, pass, workers, jobs);
+    let history = port.close(pass).into_history();
+    if !is_done {
+        return Err(NoMemory);
+    }
+    Ok(Run {
+        history,
+        jobs: Jobs::of(jobs),
+    })
+}
