@@ -22,7 +22,7 @@ fn main(rt: HostRuntime) -> ExitCode {
     let args = arguments(alloc, &rt).unwrap_or(Vec::new(alloc));
     let mut input = FileInput::new(&rt);
     let mut out = OutSink::new(&rt);
-    run(alloc, &args, &mut input, &mut out, &OpenGate)
+    run(&rt, alloc, &args, &mut input, &mut out, &OpenGate)
 }
 
 /// The arguments of the process, the program's name first.

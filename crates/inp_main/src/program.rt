@@ -10,11 +10,14 @@ use inp_tool::inputplay;
 use std::alloc::{AllocError, Global};
 use std::env::Args;
 use std::process::ExitCode;
+use std::sync::Wait;
+use std::thread::Threads;
 
 /// Calls `inputplay` with the words behind the program's name, and ends with the status of its end.
 ///
 /// The arguments are those of the process, the program's name first. Where there are none there are no words.
-pub fn run<I: Input, O: Sink, G: Gate>(
+pub fn run<R: Threads + Wait + Sync, I: Input, O: Sink, G: Gate>(
+    rt: &R,
     alloc: Global,
     args: &[String],
     input: &mut I,
@@ -26,7 +29,7 @@ pub fn run<I: Input, O: Sink, G: Gate>(
         (writes_of O.written O.faults out.old out.new)
         (exit_status result) }
 {
-    let end = inputplay(alloc, words(args), input, out, gate);
+    let end = inputplay(rt, alloc, words(args), input, out, gate);
     ExitCode::from(end.status)
 }
 

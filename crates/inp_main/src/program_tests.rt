@@ -4,7 +4,9 @@ use crate::program::{collected, run};
 use inp_edge::{Fails, MemFile, MemFiles, MemInput, MemSink, OpenGate};
 use std::alloc::{AllocError, Global};
 use std::process::ExitCode;
+use std::sync::Wait;
 use std::test::Fail;
+use std::thread::Threads;
 
 /// A record of one device without actors.
 const RECORD: &str = "inputrecord 1\ndevice d\n";
@@ -24,14 +26,19 @@ fn args_of(alloc: Global, texts: &[&str]) -> Result<Vec<String>, AllocError> {
 }
 
 /// The status of a run with these arguments over one file, `f`, and what it wrote to a sink with so much room.
-fn run_with(alloc: Global, texts: &[&str], room: usize) -> Result<(ExitCode, MemSink), Fail> {
+fn run_with<R: Threads + Wait + Sync>(
+    rt: &R,
+    alloc: Global,
+    texts: &[&str],
+    room: usize,
+) -> Result<(ExitCode, MemSink), Fail> {
     let mut files = MemFiles::new(alloc);
     let name = String::from_str(alloc, "f")?;
     files.push(MemFile::new(name, RECORD.as_bytes().to_vec(alloc)?))?;
     let mut input = MemInput::new(files, Fails::of(Vec::new(alloc)));
     let mut sink = MemSink::new(alloc, room, Fails::of(Vec::new(alloc)))?;
     let args = args_of(alloc, texts)?;
-    let exit = run(alloc, &args, &mut input, &mut sink, &OpenGate);
+    let exit = run(rt, alloc, &args, &mut input, &mut sink, &OpenGate);
     Ok((exit, sink))
 }
 
@@ -55,7 +62,7 @@ fn ends_with_the_status_of_the_words_behind_its_name(rt: HostRuntime) -> Result<
         (["inputplay"].as_slice(), 0, 4, ""),
     ];
     for (texts, room, status, want) in table {
-        let (exit, sink) = run_with(rt.alloc(), texts, room)?;
+        let (exit, sink) = run_with(&rt, rt.alloc(), texts, room)?;
         assert_eq!(rt; exit, ExitCode::from(status), "{room} {want}");
         assert_eq!(rt; sink.bytes(), want.as_bytes());
     }

@@ -15,16 +15,12 @@ fn answer(alloc: Global, words: &[&str]) -> Result<String, AllocError> {
             Request::Play {
                 file,
                 history,
-                idle: None,
+                idle,
             },
-        ) => { format!(in alloc; "play {} {history}", file.text()) }
-        Ok(
-            Request::Play {
-                file,
-                history,
-                idle: Some(idle),
-            },
-        ) => { format!(in alloc; "play {} {history} {idle}", file.text()) }
+        ) => match idle {
+            Some(idle) => format!(in alloc; "play {} {history} {idle}", file.text()),
+            None => format!(in alloc; "play {} {history}", file.text()),
+        },
         Ok(Request::Make { number, count }) => format!(in alloc; "make {number} {count}"),
         Err(fault) => format!(in alloc; "{fault}"),
     }

@@ -175,46 +175,47 @@ module _ (r : Reads) (file : List ℕ) (recorded : RecordView) (readable : IsRea
       ∙ sym readable.whole
 
 -- what came of a record was told
-is_told : (w : Writes) (recorded : RecordView) (text : List Run → List ℕ) (runs : List Run) (says : List ℕ) (end : End) → CameOf recorded runs → says ≡ text runs → end.runs ≡ runs → end.status ≡ played_status runs
-    → Appends says w.before.written w.after.written → IsTold w recorded text end
-is_told w recorded text runs says end came e same status written =
+is_told : (w : Writes) (idle : Option ℕ) (recorded : RecordView) (text : List Run → List ℕ) (runs : List Run) (says : List ℕ) (end : End) → CameOf idle recorded runs → says ≡ text runs → end.runs ≡ runs → end.status ≡ played_status runs
+    → Appends says w.before.written w.after.written → IsTold w idle recorded text end
+is_told w idle recorded text runs says end came e same status written =
     let P : List Run → Type 0 = λ rs. (end.status ≡ played_status rs) × Appends (text rs) w.before.written w.after.written in
     let Q : List ℕ → Type 0 = λ t. Appends t w.before.written w.after.written in
     let here : P runs = (status, subst Q e written) in
     let at = subst P (sym same) here in
-    record { runs = subst (IsPlay recorded) (sym same) came.in_order; status = at.0; written = at.1 }
+    record { came = subst (CameOf idle recorded) (sym same) came; status = at.0; written = at.1 }
 
 -- a record that is there was played, or memory ran out
-by_outcome : (words : Words) (r : Reads) (w : Writes) (end : End) (found : Outcome) (file : List ℕ) (history : Bool) (recorded : RecordView) → AskFor words file history → IsReadable r file recorded
+by_outcome : (words : Words) (r : Reads) (w : Writes) (end : End) (found : Outcome) (file : List ℕ) (history : Bool) (idle : Option ℕ) (recorded : RecordView) → AskFor words file history idle → IsReadable r file recorded
     → is_some r.after.left ≡ is_some r.before.left → IsFaultless r.before.faults r.after.faults → HasCause words r found → IsWrittenWhole w found end
-    → (end.status ≡ 5) ⊎ IsTold w recorded (λ runs. report recorded runs history) end
-by_outcome words r w end Usage file history recorded asked readable stays faultless h whole = let never : ⊥ = cc (h.refused, asked) in absurd never
-by_outcome words r w end Unread file history recorded asked readable stays faultless h whole =
-    let same = same_file words file h.file history h.history asked h.asked in
+    → (end.status ≡ 5) ⊎ IsTold w idle recorded (λ runs. report recorded runs history) end
+by_outcome words r w end Usage file history idle recorded asked readable stays faultless h whole = let never : ⊥ = cc (h.refused, asked) in absurd never
+by_outcome words r w end Unread file history idle recorded asked readable stays faultless h whole =
+    let same = same_file words file h.file history h.history idle h.idle asked h.asked in
     let P : List ℕ → Type 0 = λ f. IsNext r f h.unread.name in
     absurd (not_unread r file recorded readable stays faultless h.unread.name (subst P same h.unread.next) h.unread.unread)
-by_outcome words r w end TooLong file history recorded asked readable stays faultless h whole =
-    let same = same_file words file h.file history h.history asked h.asked in
+by_outcome words r w end TooLong file history idle recorded asked readable stays faultless h whole =
+    let same = same_file words file h.file history h.history idle h.idle asked h.asked in
     let P : List ℕ → Type 0 = λ f. IsNext r f h.too_long.name in
     absurd (not_too_long r file recorded readable stays faultless h.too_long.name (subst P same h.too_long.next) h.too_long.too_long)
-by_outcome words r w end (Refused refused text) file history recorded asked readable stays faultless h whole =
-    let same = same_file words file h.file history h.history asked h.asked in
+by_outcome words r w end (Refused refused text) file history idle recorded asked readable stays faultless h whole =
+    let same = same_file words file h.file history h.history idle h.idle asked h.asked in
     let P : List ℕ → Type 0 = λ f. HasBadText r f refused ⊎ HasBadStream r f refused in
     absurd (not_refused r file recorded readable stays faultless refused (subst P same h.why))
-by_outcome words r w end NoMemory file history recorded asked readable stays faultless h whole = inl whole.ended.status
-by_outcome words r w end (Played runs text) file history recorded asked readable stays faultless (inl h) whole =
-    let same = same_file words file h.file history h.history asked h.asked in
+by_outcome words r w end NoMemory file history idle recorded asked readable stays faultless h whole = inl whole.ended.status
+by_outcome words r w end (Played runs text) file history idle recorded asked readable stays faultless (inl h) whole =
+    let same = same_file words file h.file history h.history idle h.idle asked h.asked in
     let same_history : h.history ≡ history = cc (h.asked, asked) in
+    let same_idle : h.idle ≡ idle = cc (h.asked, asked) in
     let P : List ℕ → Type 0 = λ f. HasRecord r f h.recorded in
     let its = same_whole r file recorded readable stays faultless h.recorded (subst P same h.read) in
-    let C : RecordView → Type 0 = λ x. CameOf x runs in
+    let C : RecordView → Type 0 = λ x. CameOf idle x runs in
     let says = h.says ∙ ap (λ (x : RecordView). report x runs h.history) its ∙ ap (λ (b : Bool). report recorded runs b) same_history in
-    inr (is_told w recorded (λ rs. report recorded rs history) runs text.items end (subst C its h.came) says whole.ended.runs whole.ended.status whole.written)
-by_outcome words r w end (Played runs text) file history recorded asked readable stays faultless (inr h) whole = let never : ⊥ = cc (h.asked, asked) in absurd never
+    inr (is_told w idle recorded (λ rs. report recorded rs history) runs text.items end (subst C its (subst (λ (o : Option ℕ). CameOf o h.recorded runs) same_idle h.came)) says whole.ended.runs whole.ended.status whole.written)
+by_outcome words r w end (Played runs text) file history idle recorded asked readable stays faultless (inr h) whole = let never : ⊥ = cc (h.asked, asked) in absurd never
 
 -- a record that was to be made was played, or memory ran out
 by_outcome_made : (words : Words) (r : Reads) (w : Writes) (end : End) (found : Outcome) (number count : ℕ) → requested words ≡ Some (Make number count) → HasCause words r found → IsWrittenWhole w found end
-    → (end.status ≡ 5) ⊎ IsTold w (generated number count) (λ runs. summary number count (generated number count) runs) end
+    → (end.status ≡ 5) ⊎ IsTold w None (generated number count) (λ runs. summary number count (generated number count) runs) end
 by_outcome_made words r w end Usage number count asked h whole = let never : ⊥ = cc (h.refused, asked) in absurd never
 by_outcome_made words r w end Unread number count asked h whole = let never : ⊥ = cc (h.asked, asked) in absurd never
 by_outcome_made words r w end TooLong number count asked h whole = let never : ⊥ = cc (h.asked, asked) in absurd never
@@ -224,31 +225,31 @@ by_outcome_made words r w end (Played runs text) number count asked (inl h) whol
 by_outcome_made words r w end (Played runs text) number count asked (inr h) whole =
     let n : h.number ≡ number = cc (h.asked, asked) in
     let c : h.count ≡ count = cc (h.asked, asked) in
-    let C : ℕ → ℕ → Type 0 = λ x y. CameOf (generated x y) runs × (text.items ≡ summary x y (generated x y) runs) in
+    let C : ℕ → ℕ → Type 0 = λ x y. CameOf None (generated x y) runs × (text.items ≡ summary x y (generated x y) runs) in
     let here : C number count = subst (λ (y : ℕ). C number y) c (subst (λ (x : ℕ). C x h.count) n (h.came, h.says)) in
-    inr (is_told w (generated number count) (λ rs. summary number count (generated number count) rs) runs text.items end here.0 here.1 whole.ended.runs whole.ended.status whole.written)
+    inr (is_told w None (generated number count) (λ rs. summary number count (generated number count) rs) runs text.items end here.0 here.1 whole.ended.runs whole.ended.status whole.written)
 
-when_read : (words : Words) (r : Reads) (w : Writes) (end : End) (p : Promise words r w end) → is_some r.after.left ≡ is_some r.before.left → (file : List ℕ) (history : Bool) (recorded : RecordView)
-    → AskFor words file history → IsReadable r file recorded → IsFaultless r.before.faults r.after.faults → IsFaultless w.before.faults w.after.faults
-    → (end.status ≡ 5) ⊎ IsTold w recorded (λ runs. report recorded runs history) end
-when_read words r w end p stays file history recorded asked readable no_read no_write = by_writing p.written
+when_read : (words : Words) (r : Reads) (w : Writes) (end : End) (p : Promise words r w end) → is_some r.after.left ≡ is_some r.before.left → (file : List ℕ) (history : Bool) (idle : Option ℕ) (recorded : RecordView)
+    → AskFor words file history idle → IsReadable r file recorded → IsFaultless r.before.faults r.after.faults → IsFaultless w.before.faults w.after.faults
+    → (end.status ≡ 5) ⊎ IsTold w idle recorded (λ runs. report recorded runs history) end
+when_read words r w end p stays file history idle recorded asked readable no_read no_write = by_writing p.written
   where
-    by_writing : IsWritten w p.found end → (end.status ≡ 5) ⊎ IsTold w recorded (λ runs. report recorded runs history) end
-    by_writing (inl whole) = by_outcome words r w end p.found file history recorded asked readable stays no_read p.cause whole
+    by_writing : IsWritten w p.found end → (end.status ≡ 5) ⊎ IsTold w idle recorded (λ runs. report recorded runs history) end
+    by_writing (inl whole) = by_outcome words r w end p.found file history idle recorded asked readable stays no_read p.cause whole
     by_writing (inr part) = absurd (no_rise w.before.faults w.after.faults no_write part.fault)
 
 when_made : (words : Words) (r : Reads) (w : Writes) (end : End) (p : Promise words r w end) → (number count : ℕ) → requested words ≡ Some (Make number count) → IsFaultless w.before.faults w.after.faults
     → (end.status ≡ 5) ⊎ IsToldWhole w number count end
 when_made words r w end p number count asked no_write = of_told (by_writing p.written)
   where
-    of_told : (end.status ≡ 5) ⊎ IsTold w (generated number count) (λ runs. summary number count (generated number count) runs) end → (end.status ≡ 5) ⊎ IsToldWhole w number count end
+    of_told : (end.status ≡ 5) ⊎ IsTold w None (generated number count) (λ runs. summary number count (generated number count) runs) end → (end.status ≡ 5) ⊎ IsToldWhole w number count end
     of_told (inl lacks) = inl lacks
     of_told (inr told) = inr (record {
       told = told;
-      status = told.status ∙ ap (λ (full : Bool). if full then 6 else 0) (asked-not_full words number count end.runs asked told.runs);
+      status = told.status ∙ ap (λ (full : Bool). if full then 6 else 0) (asked-not_full words number count end.runs asked (told.came.in_order refl));
     })
 
-    by_writing : IsWritten w p.found end → (end.status ≡ 5) ⊎ IsTold w (generated number count) (λ runs. summary number count (generated number count) runs) end
+    by_writing : IsWritten w p.found end → (end.status ≡ 5) ⊎ IsTold w None (generated number count) (λ runs. summary number count (generated number count) runs) end
     by_writing (inl whole) = by_outcome_made words r w end p.found number count asked p.cause whole
     by_writing (inr part) = absurd (no_rise w.before.faults w.after.faults no_write part.fault)
 

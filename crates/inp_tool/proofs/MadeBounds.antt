@@ -8,7 +8,7 @@ use Rattle.inp_args.specs.declared.request.Request.{Request}
 use Rattle.inp_args.specs.declared.request.Request.TheVariants.{Make}
 use Rattle.inp_args.specs.Command.{is_taken, is_given, text_of}
 use Rattle.inp_args.specs.Number.{number_of}
-use Rattle.inp_args.specs.Request.{is_count, count_of, made_of, request_of, requested}
+use Rattle.inp_args.specs.Request.{count_of, made_of, request_of, requested, request_with, idle_of}
 use Rattle.inp_model.specs.declared.event.Event.{Event}
 use Rattle.inp_model.specs.declared.step.Step.{Step}
 use Rattle.inp_model.specs.Description.{Description, ring}
@@ -165,7 +165,7 @@ read_count : (count : ℕ) (text : Option (List ℕ)) → count_of text ≡ Some
 read_count count None h = let same : 100 ≡ count = cc in (omega arith, omega arith)
 read_count count (Some text) h = by_number (number_of text) h
   where
-    by_flag : (n : ℕ) (b : Bool) → is_count n ≡ b → (if b then Some n else None) ≡ Some count → (1 ≤ count) × (count ≤ 10000)
+    by_flag : (n : ℕ) (b : Bool) → (nat_le 1 n && nat_le n 10000) ≡ b → (if b then Some n else None) ≡ Some count → (1 ≤ count) × (count ≤ 10000)
     by_flag n true is e =
         let same : n ≡ count = cc in
         let low : 1 ≤ n = grind (arith, nat_tests, is) in
@@ -173,26 +173,33 @@ read_count count (Some text) h = by_number (number_of text) h
         (omega arith, omega arith)
     by_flag n false is e = absurd cc
 
-    by_number : (o : Option ℕ) → option_and_then (λ (n : ℕ). if is_count n then Some n else None) o ≡ Some count → (1 ≤ count) × (count ≤ 10000)
+    by_number : (o : Option ℕ) → option_and_then (λ (n : ℕ). if nat_le 1 n && nat_le n 10000 then Some n else None) o ≡ Some count → (1 ≤ count) × (count ≤ 10000)
     by_number None e = absurd cc
-    by_number (Some n) e = by_flag n (is_count n) refl e
+    by_number (Some n) e = by_flag n (nat_le 1 n && nat_le n 10000) refl e
 
-asked_count : (number count : ℕ) (file make text : Option (List ℕ)) (history : Bool) → request_of file make text history ≡ Some (Make number count) → (1 ≤ count) × (count ≤ 10000)
-asked_count number count (Some file) None None history h = absurd cc
-asked_count number count None (Some make) text false h = read_count count text (made_count number count (number_of make) (count_of text) h)
-asked_count number count None (Some make) text true h = absurd cc
-asked_count number count None None text history h = absurd cc
-asked_count number count (Some file) (Some make) text history h = absurd cc
-asked_count number count (Some file) None (Some text) history h = absurd cc
+asked_count : (number count : ℕ) (file make text : Option (List ℕ)) (history : Bool) (idle : Option ℕ) → request_of file make text history idle ≡ Some (Make number count) → (1 ≤ count) × (count ≤ 10000)
+asked_count number count (Some file) None None history idle h = absurd cc
+asked_count number count None (Some make) text false None h = read_count count text (made_count number count (number_of make) (count_of text) h)
+asked_count number count None (Some make) text false (Some n) h = absurd cc
+asked_count number count None (Some make) text true idle h = absurd cc
+asked_count number count None None text history idle h = absurd cc
+asked_count number count (Some file) (Some make) text history idle h = absurd cc
+asked_count number count (Some file) None (Some text) history idle h = absurd cc
 
 has_count : (words : List (List ℕ)) (number count : ℕ) → requested words ≡ Some (Make number count) → (1 ≤ count) × (count ≤ 10000)
 has_count words number count h = by_flag (is_taken words) h
   where
-    request : Option Request
-    request = request_of (text_of (codes "FILE") words) (text_of (codes "make") words) (text_of (codes "count") words) (is_given (text_of (codes "history") words))
+    by_idle : (idle : Option ℕ) → option_and_then (request_with words) idle ≡ Some (Make number count) → (1 ≤ count) × (count ≤ 10000)
+    by_idle None e = absurd cc
+    by_idle (Some n) e =
+        asked_count number count (text_of (codes "FILE") words) (text_of (codes "make") words) (text_of (codes "count") words) (is_given (text_of (codes "history") words))
+        (if is_given (text_of (codes "threads") words) then Some n else None) e
 
-    by_flag : (b : Bool) → (if b then request else None) ≡ Some (Make number count) → (1 ≤ count) × (count ≤ 10000)
-    by_flag true e = asked_count number count (text_of (codes "FILE") words) (text_of (codes "make") words) (text_of (codes "count") words) (is_given (text_of (codes "history") words)) e
+    idle : Option ℕ
+    idle = idle_of (text_of (codes "idle") words)
+
+    by_flag : (b : Bool) → (if b then option_and_then (request_with words) idle else None) ≡ Some (Make number count) → (1 ≤ count) × (count ≤ 10000)
+    by_flag true e = by_idle idle e
     by_flag false e = absurd cc
 
 -- what is asked for and comes of it in file order stops no job as full

@@ -1,5 +1,5 @@
 -- When the program's one call writes its report (docs/PROMISES.md).
-use Rattle.std.specs.Prelude.{ℕ, ◌≡◌, ◌≤◌, ◌<◌, ◌⊎◌, Bool, List, [], ◌∷◌, length, map, Some, IsSome, Ok}
+use Rattle.std.specs.Prelude.{ℕ, ◌≡◌, ◌≤◌, ◌<◌, ◌⊎◌, Bool, List, [], ◌∷◌, length, map, Option, Some, None, IsSome, Ok}
 use Rattle.inp_edge.specs.Count.{LAST}
 use Rattle.inp_edge.specs.File.{File, bytes_of}
 use Rattle.inp_edge.specs.Sink.{Appends}
@@ -12,14 +12,13 @@ use Rattle.inp_actors.specs.Record.{RecordView}
 use Rattle.inp_record.specs.Meaning.{meaning}
 use Rattle.inp_record.specs.Stream.{stamps_of}
 use Rattle.inp_script.specs.declared.run.Run.{Run}
-use Rattle.inp_order.specs.Play.{IsPlay}
 use Rattle.inp_report.specs.Report.{report}
 use Rattle.inp_report.specs.Summary.{summary}
 use Rattle.inp_tool.specs.declared.end.End.{End}
 use Rattle.inp_tool.specs.Edge.{Reads, Writes}
 use Rattle.inp_tool.specs.Streams.{stream_files}
 use Rattle.inp_tool.specs.Outcome.{played_status}
-use Rattle.inp_tool.specs.Promise.{Words, AskFor}
+use Rattle.inp_tool.specs.Promise.{Words, AskFor, CameOf}
 
 -- a count that can rise and did not
 abbrev pub IsFaultless : ℕ → ℕ → Type 0
@@ -55,20 +54,20 @@ pub record IsReadable (r : Reads) (file : List ℕ) (recorded : RecordView) : Ty
 
 -- The text that tells the runs of this record was written whole. The status is 6 where a job stopped since a history was
 -- full, and else 0.
-pub record IsTold (w : Writes) (recorded : RecordView) (text : List Run → List ℕ) (end : End) : Type 0 where
-  pub runs : IsPlay recorded end.runs
+pub record IsTold (w : Writes) (idle : Option ℕ) (recorded : RecordView) (text : List Run → List ℕ) (end : End) : Type 0 where
+  pub came : CameOf idle recorded end.runs
   pub status : end.status ≡ played_status end.runs
   pub written : Appends (text end.runs) w.before.written w.after.written
 
 -- The summary of a record that was made was written whole. No job of it stops since a history is full: the status is 0.
 pub record IsToldWhole (w : Writes) (number count : ℕ) (end : End) : Type 0 where
-  pub told : IsTold w (generated number count) (λ runs. summary number count (generated number count) runs) end
+  pub told : IsTold w None (generated number count) (λ runs. summary number count (generated number count) runs) end
   pub status : end.status ≡ 0
 
 -- A record that is there, or a record to be made, and no fault: its report or its summary, or want of memory.
 pub record IsComplete (words : Words) (r : Reads) (w : Writes) (end : End) : Type 0 where
-  pub read : (file : List ℕ) (history : Bool) (recorded : RecordView) → AskFor words file history → IsReadable r file recorded
+  pub read : (file : List ℕ) (history : Bool) (idle : Option ℕ) (recorded : RecordView) → AskFor words file history idle → IsReadable r file recorded
       → IsFaultless r.before.faults r.after.faults → IsFaultless w.before.faults w.after.faults
-      → (end.status ≡ 5) ⊎ IsTold w recorded (λ runs. report recorded runs history) end
+      → (end.status ≡ 5) ⊎ IsTold w idle recorded (λ runs. report recorded runs history) end
   pub made : (number count : ℕ) → requested words ≡ Some (Make number count) → IsFaultless w.before.faults w.after.faults
       → (end.status ≡ 5) ⊎ IsToldWhole w number count end

@@ -1,5 +1,5 @@
 -- What the program's one call promises (docs/PROMISES.md).
-use Rattle.std.specs.Prelude.{ℕ, ◌≡◌, ◌<◌, ◌≢◌, ◌⊎◌, Bool, List, string_bytes, Some, None}
+use Rattle.std.specs.Prelude.{ℕ, ◌≡◌, ◌<◌, ◌≢◌, ◌⊎◌, Bool, List, string_bytes, Option, Some, None}
 use Rattle.inp_edge.specs.Count.{RoseUnlessSaturated}
 use Rattle.inp_edge.specs.File.{IsMissing}
 use Rattle.inp_edge.specs.Sink.{Appends, IsCutOff}
@@ -26,9 +26,10 @@ use Rattle.inp_tool.specs.Reading.{HasUnread, HasTooLong, HasBadText, HasBadStre
 abbrev pub Words : Type 0
 Words = List (List ℕ)
 
--- the words ask for the record in this file, with the history or without
-abbrev pub AskFor : Words → List ℕ → Bool → Type 0
-AskFor words file history = requested words ≡ Some (Play file history)
+-- The words ask for the record in this file, with the history or without. With a number each job is to have a thread, and
+-- waits through so many answers Again in a row.
+abbrev pub AskFor : Words → List ℕ → Bool → Option ℕ → Type 0
+AskFor words file history idle = requested words ≡ Some (Play file history idle)
 
 -- The words are not accepted, and the input is as it was.
 pub record IsUsage (words : Words) (r : Reads) : Type 0 where
@@ -39,21 +40,24 @@ pub record IsUsage (words : Words) (r : Reads) : Type 0 where
 pub record IsUnread (words : Words) (r : Reads) : Type 0 where
   pub file : List ℕ
   pub history : Bool
-  pub asked : AskFor words file history
+  pub idle : Option ℕ
+  pub asked : AskFor words file history idle
   pub unread : HasUnread r file
 
 -- FILE is too long, or the file of one of its stream lines
 pub record IsTooLong (words : Words) (r : Reads) : Type 0 where
   pub file : List ℕ
   pub history : Bool
-  pub asked : AskFor words file history
+  pub idle : Option ℕ
+  pub asked : AskFor words file history idle
   pub too_long : HasTooLong r file
 
 -- FILE was read, and is no record: by its text, or by a stream where the text is right and the streams before it are
 pub record IsNoRecord (words : Words) (r : Reads) (refused : Refused) (text : List ℕ) : Type 0 where
   pub file : List ℕ
   pub history : Bool
-  pub asked : AskFor words file history
+  pub idle : Option ℕ
+  pub asked : AskFor words file history idle
   pub why : HasBadText r file refused ⊎ HasBadStream r file refused
   pub says : text ≡ refused_text refused
 
@@ -62,19 +66,21 @@ abbrev pub IsOutOfMemory : Reads → Type 0
 IsOutOfMemory r = (r.after ≡ r.before) ⊎ RanOut r
 
 -- What came of a record: each job's replies are the one-thread device's at their places in one history, its sight follows
--- its lines, and each place of the history is in one sight (`inp_runs`). The lines were done in file order.
-pub record CameOf (recorded : RecordView) (runs : List Run) : Type 0 where
-  pub promised : ArePromised None recorded runs
-  pub in_order : IsPlay recorded runs
+-- its lines, and each place of the history is in one sight (`inp_runs`). On one thread the lines were done in file order
+-- besides (`inp_order`).
+pub record CameOf (idle : Option ℕ) (recorded : RecordView) (runs : List Run) : Type 0 where
+  pub promised : ArePromised idle recorded runs
+  pub in_order : idle ≡ None → IsPlay recorded runs
 
 -- the record in FILE was read with its streams and played, and the text is its report
 pub record IsPlayed (words : Words) (r : Reads) (runs : List Run) (text : List ℕ) : Type 0 where
   pub file : List ℕ
   pub history : Bool
-  pub asked : AskFor words file history
+  pub idle : Option ℕ
+  pub asked : AskFor words file history idle
   pub recorded : RecordView
   pub read : HasRecord r file recorded
-  pub came : CameOf recorded runs
+  pub came : CameOf idle recorded runs
   pub says : text ≡ report recorded runs history
 
 -- the record was made from two numbers and played, the text is its summary, and the input is as it was
@@ -83,7 +89,7 @@ pub record IsMade (words : Words) (r : Reads) (runs : List Run) (text : List ℕ
   pub count : ℕ
   pub asked : requested words ≡ Some (Make number count)
   pub untouched : r.after ≡ r.before
-  pub came : CameOf (generated number count) runs
+  pub came : CameOf None (generated number count) runs
   pub says : text ≡ summary number count (generated number count) runs
 
 -- Each outcome has its cause. Memory may run out anywhere, but never in place of a fault.
@@ -97,8 +103,8 @@ HasCause words r (Played runs text) = IsPlayed words r runs text.items ⊎ IsMad
 
 -- the outcome where FILE gave no record for this reason
 abbrev pub IsOutcomeOf : NoRecord → Outcome → Type 0
-IsOutcomeOf why found = (words : Words) (r : Reads) (file : List ℕ) (history : Bool)
-    → AskFor words file history → HasNoRecord r file why → HasCause words r found
+IsOutcomeOf why found = (words : Words) (r : Reads) (file : List ℕ) (history : Bool) (idle : Option ℕ)
+    → AskFor words file history idle → HasNoRecord r file why → HasCause words r found
 
 -- the status of an outcome whose text was written, with what goes with it
 pub record IsEnd (found : Outcome) (end : End) : Type 0 where
@@ -135,8 +141,8 @@ pub record HidesNoFault (words : Words) (r : Reads) (w : Writes) (end : End) : T
   pub input : end.status ≢ 3 → end.status ≢ 4 → KeepsInputFaults r
   pub sink : end.status ≢ 4 → KeepsSinkFaults w
   -- so does a FILE that is not there, unless memory ran out
-  pub missing : (file : List ℕ) (history : Bool) → AskFor words file history → IsMissing r.files file
+  pub missing : (file : List ℕ) (history : Bool) (idle : Option ℕ) → AskFor words file history idle → IsMissing r.files file
       → (end.status ≡ 3) ⊎ (end.status ≡ 4) ⊎ (end.status ≡ 5)
   -- and a file that has more bytes than an input may have ends in status 7, unless its text was cut off
-  pub too_long : (file : List ℕ) (history : Bool) → AskFor words file history → r.after ≢ r.before → INPUT_LIMIT < r.after.given
+  pub too_long : (file : List ℕ) (history : Bool) (idle : Option ℕ) → AskFor words file history idle → r.after ≢ r.before → INPUT_LIMIT < r.after.given
       → (end.status ≡ 7) ⊎ (end.status ≡ 4)

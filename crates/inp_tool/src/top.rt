@@ -1,5 +1,5 @@
 //! The program's one call.
-ghost use Rattle.std.specs.Prelude.{◌≡◌, ◌≤◌, map, is_some, string_bytes, Some};
+ghost use Rattle.std.specs.Prelude.{◌≡◌, ◌≤◌, map, is_some, string_bytes, IfSome, Some};
 ghost use Rattle.inp_args.specs.Request.{requested};
 ghost use Rattle.inp_tool.specs.Edge.{Reads, reads_of, writes_of};
 ghost use Rattle.inp_tool.specs.Outcome.{played_status};
@@ -15,18 +15,22 @@ use inp_edge::{Failed, Gate, Input, Sink, write_all};
 use inp_model::NoMemory;
 use inp_script::Runs;
 use std::alloc::Global;
+use std::sync::Wait;
+use std::thread::Threads;
 
 /// The status where the text could not be written whole.
 const WRITE_FAULT: u8 = 4;
 
-/// Reads the record that the words name, with the streams that it names, or makes the one that they ask for; plays it, its
-/// lines in file order, and writes the report or the summary of what its actors saw and what they believe.
+/// Reads the record that the words name, with the streams that it names, or makes the one that they ask for; plays it, and
+/// writes the report or the summary of what its actors saw and what they believe. A record is played on one thread, its
+/// lines in file order, or, where `--threads` is among the words, each source, client and tap on a thread of its own.
 ///
-/// The words are those after the program's name, as `inp_args` reads them. The gate is not called. The statuses of `End`
-/// are tried in this order: 2 where the words are not accepted; 3 or 7 for FILE, and 1 for its lines; stream by stream, in
+/// The words are those after the program's name, as `inp_args` reads them. The gate is called on threads alone, before each
+/// call that a job makes on its device. The statuses of `End` are tried in this order: 2 where the words are not accepted; 3 or 7 for FILE, and 1 for its lines; stream by stream, in
 /// line order, 3 or 7 for its file, and 1 for its bytes; then 4, 6 and 0. 5 may come at any point before the text is
 /// complete. Each outcome but these last writes a line of its own, and 4 comes where that cannot be written whole.
-pub fn inputplay<I: Input, O: Sink, G: Gate>(
+pub fn inputplay<R: Threads + Wait + Sync, I: Input, O: Sink, G: Gate>(
+    rt: &R,
     alloc: Global,
     words: &[String],
     input: &mut I,
@@ -54,13 +58,18 @@ pub fn inputplay<I: Input, O: Sink, G: Gate>(
     ensures input_faults { I.faults input.old ≤ I.faults input.new }
     ensures out_faults { O.faults out.old ≤ O.faults out.new }
 {
-    let _gate = gate;
-    let found = outcome_of(alloc, words, input);
+    let found = outcome_of(rt, alloc, words, input, gate);
     write_outcome(alloc, found, out)
 }
 
 /// What the words and the input lead to, before anything is written.
-fn outcome_of<I: Input>(alloc: Global, words: &[String], input: &mut I) -> Outcome
+fn outcome_of<R: Threads + Wait + Sync, I: Input, G: Gate>(
+    rt: &R,
+    alloc: Global,
+    words: &[String],
+    input: &mut I,
+    gate: &G,
+) -> Outcome
     ensures cause { HasCause (map string_bytes words.now)
         (reads_of I.files I.given I.left I.faults input.old input.new) result }
     ensures files_stay { I.files input.new ≡ I.files input.old }
@@ -68,7 +77,11 @@ fn outcome_of<I: Input>(alloc: Global, words: &[String], input: &mut I) -> Outco
     ensures never_falls { I.faults input.old ≤ I.faults input.new }
 {
     match read_words(alloc, words) {
-        Ok(Request::Play { file, history }) => play_file(alloc, input, file.text(), history),
+        Ok(Request::Play {
+            file,
+            history,
+            idle,
+        }) => play_file(rt, alloc, input, file.text(), history, idle, gate),
         Ok(Request::Make { number, count }) => play_made(alloc, number, count),
         Err(WordsFault::Usage) => Outcome::Usage,
         Err(WordsFault::NoMemory) => Outcome::NoMemory,
@@ -76,15 +89,24 @@ fn outcome_of<I: Input>(alloc: Global, words: &[String], input: &mut I) -> Outco
 }
 
 /// What a file leads to.
-fn play_file<I: Input>(alloc: Global, input: &mut I, file: &str, history: bool) -> Outcome
-    ensures cause { (words : Words) → AskFor words file.now history
+fn play_file<R: Threads + Wait + Sync, I: Input, G: Gate>(
+    rt: &R,
+    alloc: Global,
+    input: &mut I,
+    file: &str,
+    history: bool,
+    idle: Option<u32>,
+    gate: &G,
+) -> Outcome
+    requires bound { IfSome idle (λ most. 1 ≤ most) }
+    ensures cause { (words : Words) → AskFor words file.now history idle
         → HasCause words (reads_of I.files I.given I.left I.faults input.old input.new) result }
     ensures files_stay { I.files input.new ≡ I.files input.old }
     ensures stays_told { is_some (I.left input.new) ≡ is_some (I.left input.old) }
     ensures never_falls { I.faults input.old ≤ I.faults input.new }
 {
     match read_record(alloc, input, file) {
-        Ok(recorded) => match play_and_report(alloc, &recorded, history) {
+        Ok(recorded) => match play_and_report(rt, alloc, &recorded, history, idle, gate) {
             Ok((runs, text)) => Outcome::Played { runs, text },
             Err(NoMemory) => Outcome::NoMemory,
         },

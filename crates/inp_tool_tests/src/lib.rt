@@ -12,4 +12,6 @@ mod edge;
 #[cfg(test)]
 mod texts;
 #[cfg(test)]
+mod threads;
+#[cfg(test)]
 mod tool;

@@ -181,3 +181,32 @@ call close 0 reply done 3
 keys
 stop finished
 ";
+
+/// The first record with another tap.
+pub const TWO_TAPS: &str = "inputrecord 1
+device kbd
+cap EV_KEY KEY_A
+source s
+tap t
+tap u
+do t open
+do s event 1000 EV_KEY KEY_A 1
+do s event 1000 EV_SYN SYN_REPORT 0
+do t read 16
+do u open
+do u read 16
+";
+
+/// The first record without its tap.
+pub const ALONE: &str = "inputrecord 1
+device kbd
+cap EV_KEY KEY_A
+source s
+do s event 1000 EV_KEY KEY_A 1
+do s event 1000 EV_SYN SYN_REPORT 0
+";
+
+/// On a thread the source says that it is done.
+pub const ALONE_REPORT: &str = "device kbd steps 3
+source s calls 2 stop finished
+";

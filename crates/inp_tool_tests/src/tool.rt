@@ -1,16 +1,18 @@
 //! The program's one call over inputs and sinks in memory: whole runs, and each status. Longer records are played through
 //! the program itself (tests/run).
 
-use crate::common::{input_of, sink_of};
+use crate::common::{input_of, sink_of, words_of};
 use crate::texts::{
     CLIENT, CLIENT_REPORT, FULL, FULL_REPORT, HISTORY_REPORT, MADE, ONE_KEY, ONE_KEY_REPORT,
     REVOKED, REVOKED_REPORT, STREAM, STREAM_AND_BAD_LINE, STREAM_TWICE, STREAMS, STREAMS_REPORT,
 };
 use inp_edge::{Failed, Gate, INPUT_LIMIT, Input, MemInput, MemSink, OpenGate};
 use inp_tool::{End, inputplay};
-use std::alloc::{AllocError, Global};
+use std::alloc::Global;
 use std::sync::atomic::{AtomicU64, Ordering};
+use std::sync::Wait;
 use std::test::Fail;
+use std::thread::Threads;
 
 /// Room for every text of these tests.
 const AMPLE: usize = 1_000_000;
@@ -26,22 +28,20 @@ const PRESS: &[u8] = &[
     0, 0, 0xe8, 3, 0, 0, 0, 0, 0, 0, 0, 0, 0, 0, 0, 0, 0, 0,
 ];
 
-/// The words of a command line.
-fn words_of(alloc: Global, texts: &[&str]) -> Result<Vec<String>, AllocError> {
-    let mut words = Vec::new(alloc);
-    for text in texts {
-        words.push(String::from_str(alloc, text)?)?;
-    }
-    Ok(words)
-}
-
 /// The call, without what its contract says: these tests look at what it does.
-fn call<I: Input>(alloc: Global, words: &[String], input: &mut I, sink: &mut MemSink) -> End {
-    inputplay(alloc, words, input, sink, &OpenGate)
+fn call<R: Threads + Wait + Sync, I: Input>(
+    rt: &R,
+    alloc: Global,
+    words: &[String],
+    input: &mut I,
+    sink: &mut MemSink,
+) -> End {
+    inputplay(rt, alloc, words, input, sink, &OpenGate)
 }
 
 /// The end of a call of these words over these files, and what it wrote.
-fn run(
+fn run<R: Threads + Wait + Sync>(
+    rt: &R,
     alloc: Global,
     texts: &[&str],
     files: &[(&str, &[u8])],
@@ -50,7 +50,7 @@ fn run(
     let words = words_of(alloc, texts)?;
     let mut input = input_of(alloc, files, fails)?;
     let mut sink = sink_of(alloc, AMPLE, NONE)?;
-    let end = call(alloc, &words, &mut input, &mut sink);
+    let end = call(rt, alloc, &words, &mut input, &mut sink);
     Ok((end, sink))
 }
 
@@ -74,7 +74,7 @@ fn plays_whole_records(rt: HostRuntime) -> Result<(), Fail> {
     ];
     for (texts, text, status, want) in table {
         let files = [("f", text.as_bytes()), ("keys", PRESS), ("more", PRESS)];
-        let (end, sink) = run(rt.alloc(), texts, &files, NONE)?;
+        let (end, sink) = run(&rt, rt.alloc(), texts, &files, NONE)?;
         assert_eq!(rt; end.status, status, "{text}");
         assert_eq!(rt; sink.bytes(), want.as_bytes(), "{text}");
     }
@@ -102,7 +102,7 @@ fn tells_failed_reads(rt: HostRuntime) -> Result<(), Fail> {
     ];
     for (text, fail, status, want) in table {
         let files = [("f", text.as_bytes()), ("keys", PRESS)];
-        let (end, sink) = run(rt.alloc(), &["f"], &files, &[fail])?;
+        let (end, sink) = run(&rt, rt.alloc(), &["f"], &files, &[fail])?;
         assert_eq!(rt; end.status, status, "{text}");
         assert_eq!(rt; sink.bytes(), want.as_bytes(), "{text}");
     }
@@ -126,7 +126,7 @@ fn tells_files_that_are_missing_or_bad(rt: HostRuntime) -> Result<(), Fail> {
     ];
     for ([text, keys, more], bytes, status, want) in table {
         let files = [(text, STREAMS.as_bytes()), (keys, bytes), (more, PRESS)];
-        let (end, sink) = run(rt.alloc(), &["f"], &files, NONE)?;
+        let (end, sink) = run(&rt, rt.alloc(), &["f"], &files, NONE)?;
         assert_eq!(rt; end.status, status, "{keys} {more}");
         assert_eq!(rt; sink.bytes(), want.as_bytes(), "{keys} {more}");
         assert!(rt; end.runs.is_empty());
@@ -144,7 +144,7 @@ fn writes_what_fits(rt: HostRuntime) -> Result<(), Fail> {
     for (room, fail, count) in table {
         let mut input = input_of(rt.alloc(), &files, NONE)?;
         let mut sink = sink_of(rt.alloc(), room, &[fail])?;
-        let end = call(rt.alloc(), &words, &mut input, &mut sink);
+        let end = call(&rt, rt.alloc(), &words, &mut input, &mut sink);
         assert_eq!(rt; end.status, 4);
         assert_eq!(rt; sink.bytes(), &whole[..count]);
         assert_eq!(rt; end.runs.len(), 1);
@@ -152,7 +152,7 @@ fn writes_what_fits(rt: HostRuntime) -> Result<(), Fail> {
     // A fault's text that is cut off leaves no runs.
     let mut input = input_of(rt.alloc(), &[], NONE)?;
     let mut sink = sink_of(rt.alloc(), 3, NONE)?;
-    let end = call(rt.alloc(), &words, &mut input, &mut sink);
+    let end = call(&rt, rt.alloc(), &words, &mut input, &mut sink);
     assert_eq!(rt; end.status, 4);
     assert_eq!(rt; sink.bytes(), b"inp".as_slice());
     assert!(rt; end.runs.is_empty());
@@ -216,7 +216,7 @@ fn reads_in_pieces_and_passes_no_gate(rt: HostRuntime) -> Result<(), Fail> {
         calls: AtomicU64::new(0),
     };
     gate.before(0, 0);
-    let end = inputplay(rt.alloc(), &words, &mut input, &mut sink, &gate);
+    let end = inputplay(&rt, rt.alloc(), &words, &mut input, &mut sink, &gate);
     assert_eq!(rt; end.status, 0);
     assert_eq!(rt; sink.bytes(), ONE_KEY_REPORT.as_bytes());
     assert_eq!(rt;
@@ -232,7 +232,7 @@ fn reads_in_pieces_and_passes_no_gate(rt: HostRuntime) -> Result<(), Fail> {
 #[test]
 fn ends_in_its_report_or_in_want_of_memory(rt: HostRuntime) -> Result<(), Fail> {
     let files = [("f", STREAM.as_bytes()), ("keys", PRESS)];
-    let (end, sink) = run(rt.alloc(), &["f"], &files, NONE)?;
+    let (end, sink) = run(&rt, rt.alloc(), &["f"], &files, NONE)?;
     let want = match end.status {
         0 => ONE_KEY_REPORT,
         5 => "inputplay: out of memory\n",

@@ -1,0 +1,71 @@
+//! The one call on threads.
+
+use crate::common::{input_of, sink_of, words_of};
+use crate::texts::{ALONE, ALONE_REPORT, TWO_TAPS};
+use inp_edge::{Gate, OpenGate};
+use inp_tool::inputplay;
+use std::sync::atomic::{AtomicU64, Ordering};
+use std::test::Fail;
+
+/// How often a job looks for another one before it gives up.
+const LOOKS: u32 = 50_000_000;
+
+/// A gate at which the jobs 1 and 2 meet: each is held at its first call until the other has come to its own.
+#[derive(Drop)]
+struct Meeting {
+    first: AtomicU64,
+    second: AtomicU64,
+    gave_up: AtomicU64,
+}
+
+impl Meeting {
+    /// Says that a job has come, and waits for the other one.
+    fn wait(&self, own: &AtomicU64, other: &AtomicU64) {
+        own.store(1, Ordering::SeqCst);
+        for _ in 0..LOOKS {
+            if other.load(Ordering::SeqCst) == 1 {
+                return;
+            }
+        }
+        self.gave_up.store(1, Ordering::SeqCst);
+    }
+}
+
+impl Gate for Meeting {
+    ghost passed = { λ _ _ _. Unit {0} };
+
+    fn before(&self, job: u32, call: u32) {
+        match (job, call) {
+            (1, 0) => self.wait(&self.first, &self.second),
+            (2, 0) => self.wait(&self.second, &self.first),
+            _ => {}
+        }
+    }
+}
+
+#[test]
+fn jobs_run_side_by_side(rt: HostRuntime) -> Result<(), Fail> {
+    let words = words_of(rt.alloc(), &["--threads", "f"])?;
+    let mut input = input_of(rt.alloc(), &[("f", TWO_TAPS.as_bytes())], &[])?;
+    let mut sink = sink_of(rt.alloc(), 1000, &[])?;
+    let meeting = Meeting {
+        first: AtomicU64::new(0),
+        second: AtomicU64::new(0),
+        gave_up: AtomicU64::new(0),
+    };
+    let end = inputplay(&rt, rt.alloc(), &words, &mut input, &mut sink, &meeting);
+    assert_eq!(rt; end.status, 0);
+    assert_eq!(rt; meeting.gave_up.load(Ordering::SeqCst), 0, "no job waited in vain");
+    Ok(())
+}
+
+#[test]
+fn a_source_says_that_it_is_done(rt: HostRuntime) -> Result<(), Fail> {
+    let words = words_of(rt.alloc(), &["--threads", "f"])?;
+    let mut input = input_of(rt.alloc(), &[("f", ALONE.as_bytes())], &[])?;
+    let mut sink = sink_of(rt.alloc(), 1000, &[])?;
+    let end = inputplay(&rt, rt.alloc(), &words, &mut input, &mut sink, &OpenGate);
+    assert_eq!(rt; end.status, 0);
+    assert_eq!(rt; sink.bytes(), ALONE_REPORT.as_bytes());
+    Ok(())
+}
