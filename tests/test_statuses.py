@@ -70,8 +70,10 @@ REFUSED = [
 WRONG_WORDS = [
     ("there are none", []),
     ("two files", ["f", "f"]),
-    ("an option that is not accepted yet", ["--threads", "f"]),
-    ("an option that is not accepted yet", ["--idle", "3", "f"]),
+    ("no reads that find nothing", ["--threads", "--idle", "0", "f"]),
+    ("too many of them", ["--threads", "--idle", "1000000001", "f"]),
+    ("a bound that is no number", ["--idle", "x", "f"]),
+    ("a record that is made has no threads", ["--threads", "--make", "7"]),
     ("no option", ["--help"]),
     ("an option twice", ["--history", "--history", "f"]),
     ("no number", ["--make", "4294967296"]),
@@ -259,4 +261,4 @@ class Statuses(FolderCase):
         self.ends(["f"], 1, b"inputplay: line 6: bad-line\n")
 
     def test_no_file_is_read_where_words_are_not_accepted(self):
-        self.ends(["--threads", "missing"], 2, USAGE)
+        self.ends(["--idle", "0", "missing"], 2, USAGE)
