@@ -2,7 +2,8 @@
 //!
 //! This crate is for the program and for tests: [`inputplay`] is the program's one call. It stands on `inp_edge` (input,
 //! sink and gate), `inp_args` (words), `inp_record` (a record's text and its streams), `inp_make` (records that are made
-//! from numbers), `inp_play` (playing) and `inp_report` (the report and the summary). [`make`] and [`play`] are handed on.
+//! from numbers), `inp_play` (playing on one thread), `inp_threads` (playing on threads) and `inp_report` (the report and
+//! the summary). [`make`] and [`play`] are handed on.
 //!
 //! How a call goes: `read_words` says what the words ask for. For a file, `read_record` reads it, and then the files of
 //! its stream lines, in line order (`reading.rt`); for numbers, the record is made. The record is played and its text
@@ -14,8 +15,8 @@
 //!   of it with status 4. With status 0 or 6 the words ask for a file that was read with its streams, each whole where the
 //!   input tells its bytes, and is this record (`HasRecord` of `specs/Reading.antt`), or for a record that is made; of each
 //!   device there is one history, on which each job's replies are the one-thread device's, and each sight follows its
-//!   lines (`ArePromised` of `inp_runs`); the runs are those of the lines done in file order (`IsPlay`); and the text is
-//!   their report or summary. With status 1 the line and the cause are the first that the text alone decides, else those
+//!   lines (`ArePromised` of `inp_runs`), on one thread and on threads; on one thread the runs are those of the lines done
+//!   in file order (`IsPlay`); and the text is their report or summary. With status 1 the line and the cause are the first that the text alone decides, else those
 //!   of the first stream that is at fault.
 //! - `HidesNoFault`: a call of the input or of the sink that was at fault, a file that is not there, and one that is too
 //!   long are told by the status.
@@ -26,7 +27,8 @@
 //! [`examples_of_views`] is about a record that was worked out by hand (`specs/Views.antt`): at which of its reports the promise
 //! on views speaks, and what its clients' views and the device show there.
 //!
-//! Not said: whether the gate is called (it is not; a test looks).
+//! Not said: whether the gate is called on one thread (it is not; a test looks), and that jobs on threads run side by side
+//! (another test looks). With threads the call may wait, and then nothing says that it returns.
 #![tactic(auto)]
 
 mod end;
