@@ -77,11 +77,13 @@ fn outcome_of<R: Threads + Wait + Sync, I: Input, G: Gate>(
     ensures never_falls { I.faults input.old ≤ I.faults input.new }
 {
     match read_words(alloc, words) {
-        Ok(Request::Play {
-            file,
-            history,
-            idle,
-        }) => play_file(rt, alloc, input, file.text(), history, idle, gate),
+        Ok(
+            Request::Play {
+                file,
+                history,
+                idle,
+            },
+        ) => play_file(rt, alloc, input, file.text(), history, idle, gate),
         Ok(Request::Make { number, count }) => play_made(alloc, number, count),
         Err(WordsFault::Usage) => Outcome::Usage,
         Err(WordsFault::NoMemory) => Outcome::NoMemory,

@@ -55,7 +55,11 @@ fn jobs_run_side_by_side(rt: HostRuntime) -> Result<(), Fail> {
     };
     let end = inputplay(&rt, rt.alloc(), &words, &mut input, &mut sink, &meeting);
     assert_eq!(rt; end.status, 0);
-    assert_eq!(rt; meeting.gave_up.load(Ordering::SeqCst), 0, "no job waited in vain");
+    assert_eq!(rt;
+        meeting.gave_up.load(Ordering::SeqCst),
+        0,
+        "no job waited in vain"
+    );
     Ok(())
 }
 

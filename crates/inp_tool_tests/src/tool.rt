@@ -9,8 +9,8 @@ use crate::texts::{
 use inp_edge::{Failed, Gate, INPUT_LIMIT, Input, MemInput, MemSink, OpenGate};
 use inp_tool::{End, inputplay};
 use std::alloc::Global;
-use std::sync::atomic::{AtomicU64, Ordering};
 use std::sync::Wait;
+use std::sync::atomic::{AtomicU64, Ordering};
 use std::test::Fail;
 use std::thread::Threads;
 
