@@ -148,6 +148,15 @@ impl CapsBuilder {
         Ok(())
     }
 
+    /// The same builder again, with what was gathered so far. It takes no memory.
+    pub fn copy(&self) -> CapsBuilder
+        ensures same { result ≡ self.now }
+    {
+        CapsBuilder {
+            caps: self.caps.copy(),
+        }
+    }
+
     /// The description that was gathered.
     ///
     /// With slots it has `EV_ABS`, `ABS_MT_SLOT` and `ABS_MT_TRACKING_ID` besides. Where these two axes were not
