@@ -1,5 +1,5 @@
 -- The calls of an input or a sink in memory, some of which are to fail.
-use Rattle.std.specs.Prelude.{ℕ, ◌+◌, Bool, ◌&&◌, ◌==◌, nat_lt, min, List}
+use Rattle.std.specs.Prelude.{ℕ, ◌+◌, ◌≤◌, Bool, ◌&&◌, ◌==◌, nat_lt, min, List, Option, Some, None, ⊤}
 use Rattle.std.specs.List.{list_any}
 use Rattle.inp_edge.specs.Count.{LAST, faults_after}
 
@@ -24,3 +24,14 @@ calls_after calls at_fault = record {
 -- no call yet
 abbrev pub no_calls : List ℕ → Calls
 no_calls fails = record { fails = fails; made = 0; faults = 0 }
+
+-- how many bytes a call moves that could move so many: all, or as many as are in a piece, where there
+-- are pieces
+abbrev pub in_piece : Option ℕ → ℕ → ℕ
+in_piece None count = count
+in_piece (Some piece) count = min piece count
+
+-- a piece, where there are pieces, has at least one byte
+abbrev pub IsPiece : Option ℕ → Type 0
+IsPiece None = ⊤
+IsPiece (Some piece) = 1 ≤ piece

@@ -3,12 +3,14 @@ use Rattle.std.specs.Prelude.{ℕ, ◌-◌, ◌<◌, List, [], drop, length, Opt
 use Rattle.inp_edge.specs.Calls.{Calls}
 use Rattle.inp_edge.specs.File.{File}
 
--- its files, the bytes left of the file begun, how many bytes were given since, and its calls
+-- its files, the bytes left of the file begun, how many bytes were given since, its calls, and how
+-- many bytes one read gives at most, where it gives pieces
 pub record MemoryInput : Type 0 where
   pub files : List File
   pub left : List ℕ
   pub given : ℕ
   pub calls : Calls
+  pub piece : Option ℕ
 
 -- the bytes of the file at a place, or none
 abbrev pub bytes_at : List File → Option ℕ → List ℕ

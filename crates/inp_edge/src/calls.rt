@@ -1,6 +1,6 @@
 // The calls of an input or a sink in memory, some of which are to fail.
 ghost use Rattle.std.specs.Prelude.{◌≡◌, ◌≤◌};
-ghost use Rattle.inp_edge.specs.Calls.{is_next_to_fail, calls_after, no_calls};
+ghost use Rattle.inp_edge.specs.Calls.{is_next_to_fail, calls_after, no_calls, in_piece};
 
 use crate::count::count_fault;
 use crate::items::Items;
@@ -55,5 +55,15 @@ impl Calls {
         ensures { result ≡ self.now.faults }
     {
         self.faults
+    }
+}
+
+// How many bytes a call moves that could move so many, where it moves at most a piece.
+pub(crate) fn in_piece(piece: Option<u32>, count: usize) -> usize
+    ensures { result ≡ in_piece piece count }
+{
+    match piece {
+        Some(piece) => (piece as usize).min(count),
+        None => count,
     }
 }

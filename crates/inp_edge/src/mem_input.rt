@@ -1,11 +1,11 @@
 // An input in memory.
 ghost use Rattle.std.specs.Prelude.{◌≡◌, ◌+◌, ◌≤◌, ◌<◌, ◌↔◌, ◌⊎◌, [], Some, None, min, take, drop, length, IsTrue, IsErr, IfOk, OnOk, OnErr, IfSome, MatchOption};
-ghost use Rattle.inp_edge.specs.Calls.{is_next_to_fail, calls_after, no_calls};
+ghost use Rattle.inp_edge.specs.Calls.{is_next_to_fail, calls_after, no_calls, in_piece};
 ghost use Rattle.inp_edge.specs.Count.{LAST};
 ghost use Rattle.inp_edge.specs.File.{bytes_of};
 ghost use Rattle.inp_edge.specs.MemInput.{bytes_at};
 
-use crate::calls::{Calls, Fails};
+use crate::calls::{Calls, Fails, in_piece};
 use crate::fault::Failed;
 use crate::input::Input;
 use crate::mem_file::{MemFile, MemFiles};
@@ -23,10 +23,13 @@ pub struct MemInput {
     // How many of its bytes are left.
     remaining: usize,
     given: u64,
+    // How many bytes one read gives at most, where it gives pieces.
+    piece: Option<u32>,
 }
 
 impl Model for MemInput {
     ghost use Rattle.std.specs.Prelude.{◌≤◌, length};
+    ghost use Rattle.inp_edge.specs.Calls.{IsPiece};
     ghost use Rattle.inp_edge.specs.MemInput.{MemoryInput, bytes_at, last_of, IsPlaceIn};
 
     ghost Value = { MemoryInput };
@@ -36,10 +39,12 @@ impl Model for MemInput {
       left = last_of (bytes_at m.files m.begun) m.remaining;
       given = m.given;
       calls = m.calls;
+      piece = m.piece;
     } };
 
     ghost invariant = { λ m. IsPlaceIn m.files m.begun
-        × (m.remaining ≤ length (bytes_at m.files m.begun)) };
+        × (m.remaining ≤ length (bytes_at m.files m.begun))
+        × IsPiece m.piece };
 }
 
 impl MemInput {
@@ -50,6 +55,7 @@ impl MemInput {
         ensures left { result.left ≡ [] }
         ensures given { result.given ≡ 0 }
         ensures calls { result.calls ≡ no_calls fails }
+        ensures piece { result.piece ≡ None }
     {
         MemInput {
             files,
@@ -57,6 +63,26 @@ impl MemInput {
             begun: None,
             remaining: 0,
             given: 0,
+            piece: None,
+        }
+    }
+
+    /// The same, but that one read gives at most so many bytes.
+    pub fn in_pieces(files: MemFiles, fails: Fails, piece: u32) -> MemInput
+        requires some { 1 ≤ piece }
+        ensures files { result.files ≡ files }
+        ensures left { result.left ≡ [] }
+        ensures given { result.given ≡ 0 }
+        ensures calls { result.calls ≡ no_calls fails }
+        ensures piece { result.piece ≡ Some piece }
+    {
+        MemInput {
+            files,
+            calls: Calls::new(fails),
+            begun: None,
+            remaining: 0,
+            given: 0,
+            piece: Some(piece),
         }
     }
 
@@ -94,6 +120,7 @@ impl Input for MemInput {
     /// count of faults.
     fn begin(&mut self, name: &str) -> Result<(), Failed>
         ensures same_files { self.new.files ≡ self.old.files }
+        ensures same_piece { self.new.piece ≡ self.old.piece }
         ensures calls { self.new.calls
             ≡ calls_after self.old.calls (is_next_to_fail self.old.calls) }
         ensures never_falls { self.old.calls.faults ≤ self.new.calls.faults }
@@ -118,14 +145,19 @@ impl Input for MemInput {
         Ok(())
     }
 
-    /// Gives as many bytes as are left and go into `buf`. Fails exactly at a call that is to fail.
+    /// Gives as many bytes as are left and go into `buf`, or a piece of them where it gives pieces.
+    /// Fails exactly at a call that is to fail.
     fn read(&mut self, buf: &mut [u8]) -> Result<usize, Failed>
         requires room { 0 < length buf.old }
         ensures same_files { self.new.files ≡ self.old.files }
+        ensures same_piece { self.new.piece ≡ self.old.piece }
         ensures calls { self.new.calls
             ≡ calls_after self.old.calls (is_next_to_fail self.old.calls) }
         ensures never_falls { self.old.calls.faults ≤ self.new.calls.faults }
-        ensures count { IfOk result (λ n. n ≡ min (length self.old.left) (length buf.old)) }
+        ensures count { IfOk result (λ n. n
+            ≡ in_piece self.old.piece (min (length self.old.left) (length buf.old))) }
+        ensures fits { IfOk result (λ n. n ≤ length buf.new) }
+        ensures end { IfOk result (λ n. n ≡ 0 → self.new.left ≡ []) }
         ensures front { IfOk result (λ n. take n buf.new ≡ take n self.old.left) }
         ensures rest { IfOk result (λ n. self.new.left ≡ drop n self.old.left) }
         ensures given { IfOk result (λ n. self.new.given ≡ min (self.old.given + n) LAST) }
@@ -138,7 +170,7 @@ impl Input for MemInput {
         if at_fault {
             return Err(Failed);
         }
-        let count = copy_front(self.left(), buf);
+        let count = copy_front(self.left(), buf, self.piece);
         self.remaining -= count;
         self.given = self.given.saturating_add(count as u64);
         Ok(count)
@@ -159,13 +191,13 @@ fn index_of(files: &[MemFile], name: &str) -> Option<usize>
     None
 }
 
-// Copies bytes from the front of one slice to the front of another, as many as go, and answers how
-// many.
-fn copy_front(from: &[u8], to: &mut [u8]) -> usize
-    ensures count { result ≡ min (length from.now) (length to.old) }
+// Copies bytes from the front of one slice to the front of another, as many as go or a piece of them,
+// and answers how many.
+fn copy_front(from: &[u8], to: &mut [u8], piece: Option<u32>) -> usize
+    ensures count { result ≡ in_piece piece (min (length from.now) (length to.old)) }
     ensures copied { take result to.new ≡ take result from.now }
 {
-    let count = from.len().min(to.len());
+    let count = in_piece(piece, from.len().min(to.len()));
     to[..count].copy_from_slice(&from[..count]);
     count
 }
