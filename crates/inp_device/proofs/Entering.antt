@@ -40,6 +40,18 @@ device_refused p steps agains v x reply given out cells view exact is =
     subst (λ (w : DeviceView). IsDeviceStep w.description w.past x reply out out cells cells (reverse steps)) view
     (refused_step p.caps (reverse steps) x reply out cells (sym exact ∙ is))
 
+-- What a device keeps lies behind a pointer: what a call is lent is what it keeps.
+
+pub told_of : (lent p : Present) (now steps : List Step) (x : Step) (given : Option Reply) → lent ≡ p → now ≡ steps → given ≡ refused lent.caps (reverse now) x → given ≡ refused p.caps (reverse steps) x
+told_of lent p now steps x given same same_steps exact =
+    exact ∙ ap (λ (q : Present). refused q.caps (reverse now) x) same ∙ ap (λ (ss : List Step). refused p.caps (reverse ss) x) same_steps
+
+pub made_of : (lent p new : Present) (history : List Step) (x : Step) (reply : Reply) (out new_out : List Taken) (cells new_cells : List ℤ) → lent ≡ p → IsMade history x lent reply out new_out cells new_cells new → IsMade history x p reply out new_out cells new_cells new
+made_of lent p new history x reply out new_out cells new_cells same made = subst (λ (q : Present). IsMade history x q reply out new_out cells new_cells new) same made
+
+pub lacks_of : (lent p new : Present) (history : List Step) (x : Step) (e : WantOfMemory) (out new_out : List Taken) (cells new_cells : List ℤ) → lent ≡ p → IsMadeOrLacks history x lent (Err e) out new_out cells new_cells new → IsMadeOrLacks history x p (Err e) out new_out cells new_cells new
+lacks_of lent p new history x e out new_out cells new_cells same lacks = subst (λ (q : Present). IsMadeOrLacks history x q (Err e) out new_out cells new_cells new) same lacks
+
 -- Ready
 
 not_full : (m n : ℕ) → nat_le m n ≡ false → n < m

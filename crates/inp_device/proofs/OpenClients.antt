@@ -1,5 +1,5 @@
 -- The open clients, before and after a step.
-use Rattle.std.proofs.Common.{◌≡◌, ℕ, zero, suc, ◌+◌, ◌<◌, ◌≤◌, Bool, true, false, ◌&&◌, not, if◌then◌else◌, nat_eq, List, [], ◌∷◌, ◌++◌, length, refl, sym, ap, ◌∙◌, arith}
+use Rattle.std.proofs.Common.{◌≡◌, ℕ, ◌+◌, ◌<◌, Bool, true, false, ◌&&◌, not, if◌then◌else◌, nat_eq, List, [], ◌∷◌, ◌++◌, refl, sym, ap, ◌∙◌, arith}
 use Rattle.std.specs.Prelude.{filter}
 use Rattle.std.specs.List.{range_with_len}
 use Rattle.std.proofs.lemmas.List.Elements.{filter-append, filter_agree}
@@ -9,7 +9,6 @@ use Rattle.inp_client.proofs.Lists.{filter-filter}
 use Rattle.inp_model.proofs.Opens.{range-more}
 use Rattle.inp_model.specs.declared.step.Step.{Step}
 use Rattle.inp_model.specs.declared.step.Step.TheVariants.{Open, Close}
-use Rattle.inp_model.specs.Step.{is_open_step, is_close_of}
 use Rattle.inp_model.specs.Past.{opens, is_open, open_clients}
 
 -- a step that opens and closes no client

@@ -1,5 +1,5 @@
 -- What is kept stands for the past with one step more.
-use Rattle.std.proofs.Common.{◌≡◌, ℕ, suc, ◌<◌, ◌≤◌, ◌/◌, ◌%◌, ◌==◌, Bool, true, false, ◌&&◌, not, if◌then◌else◌, nat_eq, nat_le, List, [], ◌∷◌, length, map, refl, sym, ap, subst, ◌∙◌, arith, Option, Some, None, is_some}
+use Rattle.std.proofs.Common.{◌≡◌, ℕ, suc, ◌<◌, ◌≤◌, ◌/◌, ◌%◌, ◌==◌, Bool, true, false, ◌&&◌, if◌then◌else◌, nat_eq, List, [], ◌∷◌, length, map, refl, sym, ap, subst, ◌∙◌, arith, Option, Some, None, is_some}
 use Rattle.std.specs.Prelude.{unwrap_or}
 use Rattle.std.specs.Int.{bit_at}
 use Rattle.std.proofs.lemmas.Bool.{not-false}
@@ -9,7 +9,7 @@ use Rattle.inp_model.specs.declared.step.Step.{Step}
 use Rattle.inp_model.specs.declared.step.Step.TheVariants.{Open, Close, Grab, Ungrab, Mask, Clock as ToClock, Revoke, End}
 use Rattle.inp_model.specs.Description.{Description}
 use Rattle.inp_model.specs.Step.{is_open_step, is_end_step, ends_grab_of, is_same, moment_of}
-use Rattle.inp_model.specs.Past.{opens, is_revoked, holder, holder_kept, clock_of, mask_bit, has_mask, mask_words, ends}
+use Rattle.inp_model.specs.Past.{opens, is_revoked, holder, holder_kept, clock_of, mask_bit, ends}
 use Rattle.inp_model.specs.Reply.{is_busy, is_not_grabber}
 use Rattle.inp_model.specs.Cut.{Cut}
 use Rattle.inp_model.specs.Frame.{cuts_of_step}

@@ -1,5 +1,5 @@
 -- How many events are kept, by the queues of a past.
-use Rattle.std.proofs.Common.{◌≡◌, ◌≤◌, ◌<◌, ℕ, ◌*◌, ◌↔◌, List, [], ◌∷◌, length, map, get_or, reverse, refl, sym, ap, ◌∙◌, subst, arith}
+use Rattle.std.proofs.Common.{◌≡◌, ◌≤◌, ℕ, ◌↔◌, List, [], ◌∷◌, length, map, get_or, refl, sym, ap, ◌∙◌, subst, arith}
 use Rattle.std.specs.Prelude.{All, sum_by, sum}
 use Rattle.std.proofs.lemmas.List.{length-map, get_or-map, nil_from_length}
 use Rattle.std.proofs.lemmas.List.Sums.{sum-map, sum_by-le}
@@ -15,7 +15,8 @@ use Rattle.inp_ring.specs.Store as store
 use Rattle.inp_client.specs.Client.{ClientView}
 use Rattle.inp_client.specs.Read.{client_on, clients_on}
 use Rattle.inp_device.specs.declared.handler.Handler.{Handler}
-use Rattle.inp_device.specs.Present.{client_after, clients_after, HandlerStandsFor}
+use Rattle.inp_device.specs.declared.present.Present.{Present}
+use Rattle.inp_device.specs.Present.{client_after, HandlerStandsFor}
 
 -- how long the queues are, as they are kept, and as they follow from the past
 lengths : (clients : List (ClientView Cell)) (d : Description) → map (λ c. length c.ring.events) clients ≡ map (λ (c : ClientView Taken). length c.ring.events) (clients_on d clients)
@@ -28,6 +29,13 @@ lengths_after d past (n ∷ ns) = ap (λ k. k ∷ map (λ (c : ClientView Taken)
 
 All-of_map : {X : Type 0} (f : X → ℕ) (m : ℕ) (xs : List X) → All (λ k. k ≤ m) (map f xs) → All (λ x. f x ≤ m) xs
 All-of_map f m xs all i d in_i = omega (arith, all i 0 (omega (arith, in_i, length-map xs f)), get_or-map f xs i d 0 in_i)
+
+-- the counts of the clients that a call is lent are those of the clients that are kept
+pub least_of : (lent p : Present) (stored : ℕ) → lent ≡ p → All (λ c. length c.ring.events ≤ stored) lent.handler.clients.list → All (λ c. length c.ring.events ≤ stored) p.handler.clients.list
+least_of lent p stored same all = subst (λ (q : Present). All (λ c. length c.ring.events ≤ stored) q.handler.clients.list) same all
+
+pub most_of : (lent p : Present) (stored : ℕ) → lent ≡ p → stored ≤ sum_by (λ c. length c.ring.events) lent.handler.clients.list → stored ≤ sum_by (λ c. length c.ring.events) p.handler.clients.list
+most_of lent p stored same few = subst (λ (q : Present). stored ≤ sum_by (λ c. length c.ring.events) q.handler.clients.list) same few
 
 module _ (d : Description) (past : List Step) (h : Handler) (stands : HandlerStandsFor d past h) (stored : ℕ) where
   abbrev long : ℕ → ℕ

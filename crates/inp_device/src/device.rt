@@ -27,7 +27,8 @@ const _: () = prove!(size_of::<Step>() <= 32);
 /// history, and when a client is opened, and at no other step.
 #[derive(Drop)]
 pub struct Device {
-    present: Present,
+    // On the heap, so that a device is moved in some words.
+    present: Box<Present>,
     steps: Vec<Step>,
     agains: u64,
 }
@@ -41,9 +42,9 @@ impl Model for Device {
     ghost use Rattle.inp_device.specs.Present.{IsKeptWith};
 
     ghost view = { λ d.
-        record { description = d.present.caps; past = reverse d.steps.items; agains = d.agains } };
+        record { description = d.present.value.caps; past = reverse d.steps.items; agains = d.agains } };
 
-    ghost invariant = { λ d. IsKeptWith d.steps.items (vec_capacity d.steps) d.present };
+    ghost invariant = { λ d. IsKeptWith d.steps.items (vec_capacity d.steps) d.present.value };
 }
 
 impl Device {
@@ -53,7 +54,7 @@ impl Device {
             device ≡ record { description = caps; past = []; agains = 0 }) }
     {
         let steps = Vec::with_capacity(alloc, caps.log() as usize)?;
-        let present = Present::new(alloc, caps)?;
+        let present = Box::new(alloc, Present::new(alloc, caps)?)?;
         Ok(Device {
             present,
             steps,
