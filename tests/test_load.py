@@ -1,0 +1,151 @@
+"""What bench/load writes for small loads, that the program and plain C print the same of them, and what is no load."""
+
+import shutil
+import subprocess
+import unittest
+
+from playing import TOP, FolderCase, run
+
+BENCH = TOP / "bench"
+
+FOLLOWED = """\
+inputrecord 1
+device keypad
+cap EV_KEY KEY_A
+source finger
+client c0
+client c1
+do c0 open
+do c1 open
+do finger event 1000 EV_KEY KEY_A 1
+do finger event 1000 EV_SYN SYN_REPORT 0
+do finger event 2000 EV_KEY KEY_A 0
+do finger event 2000 EV_SYN SYN_REPORT 0
+do c0 follow
+do c1 follow
+do finger event 3000 EV_KEY KEY_A 1
+do finger event 3000 EV_SYN SYN_REPORT 0
+do c0 follow
+do c1 follow
+"""
+
+STREAMED = """\
+inputrecord 1
+device keypad
+cap EV_KEY KEY_A
+source finger
+client c0
+do c0 open
+do finger stream one.stream
+do c0 follow
+"""
+
+# The second frame's report: no second, 2,000 microseconds, type 0, code 0, value 0.
+LAST_EVENT = bytes(8) + (2000).to_bytes(8, "little") + bytes(8)
+
+REPORT = """\
+device keypad steps 10
+source finger calls 4 stop finished
+client c0
+call open reply opened 0 0 128
+call getkeys 0 reply bits 1
+call read 0 64 reply took 8 4
+took 5 1000 EV_KEY KEY_A 1
+took 5 1000 EV_SYN SYN_REPORT 0
+took 7 2000 EV_KEY KEY_A 0
+took 7 2000 EV_SYN SYN_REPORT 0
+again 9
+keys
+stop finished
+client c1
+call open reply opened 2 1 128
+call getkeys 1 reply bits 3
+call read 1 64 reply took 9 4
+took 5 1000 EV_KEY KEY_A 1
+took 5 1000 EV_SYN SYN_REPORT 0
+took 7 2000 EV_KEY KEY_A 0
+took 7 2000 EV_SYN SYN_REPORT 0
+again 10
+keys
+stop finished
+"""
+
+
+class Loads(FolderCase):
+    def load(self, *words):
+        return subprocess.run([str(BENCH / "load"), *words], cwd=self.folder, capture_output=True, text=True, check=False)
+
+    def written(self, *words):
+        self.assertEqual(0, self.load(*words).returncode)
+        return (self.folder / words[1]).read_text()
+
+    def test_followed(self):
+        self.assertEqual(FOLLOWED, self.written("followed", "one", "--frames", "3", "--clients", "2", "--every", "2"))
+
+    def test_streamed(self):
+        self.assertEqual(STREAMED, self.written("streamed", "one", "--frames", "2", "--clients", "1"))
+        stream = (self.folder / "one.stream").read_bytes()
+        self.assertEqual((96, LAST_EVENT), (len(stream), stream[-24:]))
+
+    def test_report(self):
+        self.written("followed", "one", "--frames", "2", "--clients", "2")
+        ours = run(["one"], self.folder)
+        self.assertEqual((0, REPORT), (ours.status, ours.text.decode()))
+
+    def test_both_programs_print_the_same(self):
+        compiler = shutil.which("cc")
+        if not compiler:
+            return  # (bench/run can't be run then, and nothing rests on plain C)
+        plain = self.folder / "plain_play"
+        subprocess.run([compiler, "-O2", "-o", plain, BENCH / "plain_play.c"], check=True)
+        for kind in ("followed", "streamed"):
+            with self.subTest(kind=kind):
+                self.written(kind, "one", "--frames", "300", "--clients", "2")
+                ours = run(["one"], self.folder)
+                theirs = subprocess.run([plain, "one"], cwd=self.folder, capture_output=True, check=True)
+                self.assertEqual((0, theirs.stdout), (ours.status, ours.text))
+
+    def test_no_load(self):
+        for words, told in (
+            (["walked", "one"], "invalid choice: 'walked'"),
+            (["followed", "one", "--frames", "0"], "0 is not 1 or more"),
+            (["followed"], "required: FILE"),
+        ):
+            with self.subTest(words=words):
+                ended = self.load(*words)
+                self.assertEqual(2, ended.returncode)
+                self.assertIn(told, ended.stderr)
+
+    def test_a_folder_that_is_not_there(self):
+        ended = self.load("followed", "none/one")
+        self.assertEqual((1, "load: none/one cannot be written: No such file or directory\n"), (ended.returncode, ended.stderr))
+
+
+class Measuring(FolderCase):
+    def measured(self, *words, **more):
+        return subprocess.run([str(BENCH / "run"), *words], capture_output=True, text=True, check=False, **more)
+
+    def test_help(self):
+        ended = self.measured("--help")
+        self.assertEqual((0, ""), (ended.returncode, ended.stderr))
+        self.assertIn("usage: bench/run [PROGRAM]", ended.stdout)
+
+    def test_what_is_refused(self):
+        none = self.folder / "none"
+        for words, told in (
+            ([none, none], "bench/run: one word at most is wanted, the program; bench/run --help says more\n"),
+            (["--fast"], "bench/run: one word at most is wanted, the program; bench/run --help says more\n"),
+            ([none], f"bench/run: {none} is not there\n"),
+        ):
+            with self.subTest(words=words):
+                ended = self.measured(*map(str, words))
+                self.assertEqual((2, ""), (ended.returncode, ended.stdout))
+                self.assertTrue(ended.stderr.startswith(told), ended.stderr)
+
+    def test_a_number_of_runs_that_is_none(self):
+        ended = self.measured(env={"RUNS": "many", "PATH": "/usr/bin:/bin"})
+        self.assertEqual((2, "bench/run: RUNS is many, and a number from 1 on is wanted\n"), (ended.returncode, ended.stderr))
+
+
+if __name__ == "__main__":
+    unittest.main()
