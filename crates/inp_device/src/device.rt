@@ -23,8 +23,8 @@ const _: () = prove!(size_of::<Step>() <= 32);
 /// A device, seen as its description, its past (the steps that it accepted, newest first) and how many calls it answered
 /// `Again`.
 ///
-/// It keeps the present state and never looks back at its history. It takes memory when it is made, for the whole
-/// history, and when a client is opened, and at no other step.
+/// It keeps the present state and never looks back at its history. It takes memory when it is made, for what it keeps and
+/// for the whole history, and when a client is opened, and at no other step.
 #[derive(Drop)]
 pub struct Device {
     // On the heap, so that a device is moved in some words.
@@ -48,7 +48,8 @@ impl Model for Device {
 }
 
 impl Device {
-    /// A device of this description with an empty history. It takes the memory for as many steps as its log limit says.
+    /// A device of this description with an empty history. It takes the memory for what a device keeps, and for as many
+    /// steps as its log limit says.
     pub fn new(alloc: Global, caps: Caps) -> Result<Device, NoMemory>
         ensures fresh { IfOk result (λ device.
             device ≡ record { description = caps; past = []; agains = 0 }) }
