@@ -1,0 +1,87 @@
+"""What `bench/races` makes of a record, and of what valgrind's two race detectors write."""
+
+import unittest
+from importlib.machinery import SourceFileLoader
+from importlib.util import module_from_spec, spec_from_loader
+
+from playing import TOP
+
+LOADER = SourceFileLoader("races", str(TOP / "bench" / "races"))
+races = module_from_spec(spec_from_loader("races", LOADER))
+LOADER.exec_module(races)
+
+RECORD = """inputrecord 1
+# a comment
+device kbd
+source s
+tap t
+do t open
+do s uninhibit
+do t read 1
+do t revoke
+"""
+
+TWICE = """inputrecord 1
+device kbd
+source s
+tap t
+do t open
+do s uninhibit
+do t read 1
+do s uninhibit
+do t read 1
+"""
+
+
+def stack(*names):
+    return "<stack>" + "".join(f"<frame><fn>{name}</fn></frame>" for name in names) + "</stack>"
+
+
+DRD = (
+    "<valgrindoutput><error><unique>0x1</unique><what>Conflicting load by thread 3 at 0x1 size 8</what>"
+    + stack("step", "work")
+    + "<auxwhat>Address 0x30 is at offset 16 from 0x20.</auxwhat>"
+    + "<allocation_context>" + stack("malloc", "make", "main") + "</allocation_context></error>"
+    + "<error><unique>0x2</unique><what>Conflicting store by thread 2 at 0x2 size 8</what>" + stack("work") + "</error>"
+    + "<errorcounts><pair><count>7</count><unique>0x1</unique></pair></errorcounts>"
+    + "<suppcounts><pair><count>9</count><name>drd-ld</name></pair></suppcounts></valgrindoutput>"
+)
+
+HELGRIND = (
+    "<valgrindoutput><error><unique>0x0</unique><xwhat><text>Possible data race during write of size 8 by thread #3</text></xwhat>"
+    + stack("step")
+    + stack("other")
+    + "<auxwhat>Address 0xA0 is 16 bytes inside a block of size 64 alloc'd</auxwhat>"
+    + stack("calloc", "make")
+    + "<auxwhat>Block was alloc'd by thread #1</auxwhat></error><error><unique>0x1</unique><xwhat><text>Possible data race during read of size 8</text></xwhat>"
+    + stack("step")
+    + stack("other")
+    + stack("realloc", "make")
+    + "</error></valgrindoutput>"
+)
+
+
+class Races(unittest.TestCase):
+    def test_a_record_is_repeated(self):
+        self.assertEqual(TWICE, races.repeated(RECORD, 2))
+
+    def test_reports_of_drd(self):
+        found = [(("step", "reads", "make"), 0x20, 7), (("work", "writes", "-"), 0, 1)]
+        self.assertEqual(found, races.reports(DRD))
+
+    def test_reports_of_helgrind(self):
+        found = [(("step", "writes", "make"), 0x90, 1), (("step", "reads", "make"), 0, 1)]
+        self.assertEqual(found, races.reports(HELGRIND))
+
+    def test_a_table(self):
+        found = [(("f", "reads", "g"), 8, 2), (("f", "reads", "g"), 9, 3), (("f", "writes", "-"), 0, 1)]
+        lines = [
+            "     2 places         5 times    2 blocks  f reads the memory of g",
+            "     1 places         1 times    1 blocks  f writes the memory of -",
+            "3 places, 6 times",
+        ]
+        self.assertEqual(lines, list(races.table(found)))
+
+
+if __name__ == "__main__":
+    unittest.main()
