@@ -8,6 +8,10 @@ use Rattle.inp_report.specs.Words.{LINE_FEED, event_text}
 use Rattle.inp_report.specs.Steps.{step_text}
 use Rattle.inp_report.specs.Replies.{reply_text}
 
+-- the words before an event that was taken, which all events of a frame share
+unfoldable pub stamp_text : ℕ → ℕ → List ℕ
+stamp_text place time = codes "took " ++ (decimal place ++ (codes " " ++ (decimal time ++ codes " ")))
+
 -- one line for each entry of a sight
 unfoldable pub sight_line : Sight → List ℕ
 sight_line (Call x reply) = codes "call " ++ (step_text x ++ (codes " reply " ++ (reply_text x reply ++ LINE_FEED)))

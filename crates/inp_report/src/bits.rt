@@ -6,8 +6,7 @@ ghost use Rattle.inp_report.specs.Replies.{codes_on_text};
 
 use inp_bits::Bits;
 use inp_model::NoMemory;
-use inp_texts::CodeText;
-use std::fmt::Write;
+use inp_texts::push_code;
 
 pub(crate) fn push_bits(text: &mut String, kind: u16, words: &[u64; 12]) -> Result<(), NoMemory>
     ensures pushed { OnOk result
@@ -37,16 +36,15 @@ pub(crate) fn push_flags<const W: usize>(
         (string_bytes text.new ≡ string_bytes text.old ++ flags_text kind flags.now) }
 {
     for code in flags.ones() {
-        push_code(text, kind, code as u16)?;
+        push_spaced_code(text, kind, code as u16)?;
     }
     Ok(())
 }
 
-fn push_code(text: &mut String, kind: u16, code: u16) -> Result<(), NoMemory>
+fn push_spaced_code(text: &mut String, kind: u16, code: u16) -> Result<(), NoMemory>
     ensures pushed { OnOk result
         (string_bytes text.new ≡ string_bytes text.old ++ spaced_code kind code) }
 {
-    let shown = CodeText { kind, code };
-    write!(text, " {shown}")?;
-    Ok(())
+    text.push_str(" ")?;
+    push_code(text, kind, code)
 }

@@ -5,7 +5,7 @@ ghost use Rattle.inp_report.specs.Report.{source_line, actor_line, stop_line, re
 
 use crate::sights::{counted_calls, push_sights};
 use crate::views::push_view;
-use crate::words::StopText;
+use crate::words::{push_numbered, push_stop};
 use inp_actors::{ActorText, Actors, Name, Role};
 use inp_caps::Caps;
 use inp_model::NoMemory;
@@ -63,7 +63,7 @@ fn push_reading(
     push_actor(text, role, name)?;
     push_sights(text, job.sight().as_slice())?;
     push_view(text, caps, job.view())?;
-    push_stop(text, *job.stop())
+    push_stop_line(text, *job.stop())
 }
 
 #[tactic(auto, unfolding(crate::specs::Report::source_line))]
@@ -71,9 +71,12 @@ fn push_source(text: &mut String, name: &Name, calls: usize, stop: Stop) -> Resu
     ensures pushed { OnOk result
         (string_bytes text.new ≡ string_bytes text.old ++ source_line name.now calls stop) }
 {
-    let name = name.as_str();
-    let stop = StopText(stop);
-    write!(text, "source {name} calls {calls} stop {stop}\n")?;
+    text.push_str("source ")?;
+    text.push_str(name.as_str())?;
+    push_numbered(text, " calls ", calls as u64)?;
+    text.push_str(" stop ")?;
+    push_stop(text, stop)?;
+    text.push_str("\n")?;
     Ok(())
 }
 
@@ -89,10 +92,11 @@ fn push_actor(text: &mut String, role: Role, name: &Name) -> Result<(), NoMemory
 }
 
 #[tactic(auto, unfolding(crate::specs::Report::stop_line))]
-fn push_stop(text: &mut String, stop: Stop) -> Result<(), NoMemory>
+fn push_stop_line(text: &mut String, stop: Stop) -> Result<(), NoMemory>
     ensures pushed { OnOk result (string_bytes text.new ≡ string_bytes text.old ++ stop_line stop) }
 {
-    let stop = StopText(stop);
-    write!(text, "stop {stop}\n")?;
+    text.push_str("stop ")?;
+    push_stop(text, stop)?;
+    text.push_str("\n")?;
     Ok(())
 }

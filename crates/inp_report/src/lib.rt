@@ -13,6 +13,7 @@ mod bits;
 mod brief;
 mod jobs;
 mod sights;
+mod stamp;
 mod step_text;
 mod text_examples;
 mod views;

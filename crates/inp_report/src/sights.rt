@@ -1,81 +1,109 @@
 //! What a job saw, and its counts.
-ghost use Rattle.std.specs.Prelude.{◌≡◌, ◌++◌, string_bytes, OnOk, flat_map};
+ghost use Rattle.std.specs.Prelude.{◌≡◌, ◌++◌, codes, decimal, string_bytes, OnOk, flat_map};
 ghost use Rattle.std.specs.List.{count_by};
 ghost use Rattle.inp_model.specs.Step.{is_end_step};
+ghost use Rattle.inp_report.specs.Steps.{step_text};
 ghost use Rattle.inp_report.specs.Replies.{query_kind, reply_text};
-ghost use Rattle.inp_report.specs.Sights.{sight_line, is_counted_call, is_took, is_made, is_again};
+ghost use Rattle.inp_report.specs.Sights.{stamp_text, sight_line, is_counted_call, is_took, is_made, is_again};
 
 use crate::bits::push_bits;
-use crate::step_text::StepText;
-use crate::words::{AxisText, EventText, RefusalText};
+use crate::stamp::Stamp;
+use crate::step_text::push_step_text;
+use crate::words::{push_axis, push_event, push_numbered, push_refusal, push_spaced};
 use inp_model::{EV_KEY, EV_LED, EV_SND, EV_SW, EV_SYN, NoMemory, Reply, Step};
 use inp_script::Sight;
-use std::fmt::Write;
 
 pub(crate) fn push_sights(text: &mut String, sights: &[Sight]) -> Result<(), NoMemory>
     ensures pushed { OnOk result
         (string_bytes text.new ≡ string_bytes text.old ++ flat_map sight_line sights.now) }
 {
+    let mut stamp = Stamp::new(*text.allocator())?;
     for sight in sights {
-        push_sight(text, *sight)?;
+        push_sight(text, &mut stamp, sight)?;
     }
     Ok(())
 }
 
-#[tactic(auto, unfolding(crate::specs::Sights::sight_line))]
-fn push_sight(text: &mut String, sight: Sight) -> Result<(), NoMemory>
+#[tactic(auto, unfolding(crate::specs::Sights::sight_line, crate::specs::Sights::stamp_text))]
+fn push_sight(text: &mut String, stamp: &mut Stamp, sight: &Sight) -> Result<(), NoMemory>
+    requires words { string_bytes stamp.old.words ≡ stamp_text stamp.old.place stamp.old.time }
+    ensures words { OnOk result
+        (string_bytes stamp.new.words ≡ stamp_text stamp.new.place stamp.new.time) }
     ensures pushed { OnOk result
-        (string_bytes text.new ≡ string_bytes text.old ++ sight_line sight) }
+        (string_bytes text.new ≡ string_bytes text.old ++ sight_line sight.now) }
 {
     match sight {
-        Sight::Call { step, reply } => {
-            write!(text, "call {} reply ", StepText(step))?;
-            push_reply(text, step, reply)?;
-            text.push_str("\n")?;
-            Ok(())
-        }
+        Sight::Call { step, reply } => push_call(text, *step, reply)?,
         Sight::Took { event } => {
-            let shown = EventText(event.event);
-            write!(text, "took {} {} {shown}\n", event.place, event.time)?;
-            Ok(())
+            stamp.push(text, event.place, event.time)?;
+            push_event(text, event.event)?;
         }
         Sight::Made { event } => {
-            let shown = EventText(event);
-            write!(text, "made {shown}\n")?;
-            Ok(())
+            text.push_str("made ")?;
+            push_event(text, *event)?;
         }
-        Sight::Again { at, .. } => {
-            write!(text, "again {at}\n")?;
-            Ok(())
+        Sight::Again { at, .. } => push_numbered(text, "again ", u64::from(*at))?,
+    }
+    text.push_str("\n")?;
+    Ok(())
+}
+
+fn push_call(text: &mut String, step: Step, reply: &Reply) -> Result<(), NoMemory>
+    ensures pushed { OnOk result
+        (string_bytes text.new
+        ≡ string_bytes text.old
+        ++ (codes "call " ++ (step_text step ++ (codes " reply " ++ reply_text step reply.now)))) }
+{
+    text.push_str("call ")?;
+    push_step_text(text, step)?;
+    text.push_str(" reply ")?;
+    push_reply(text, step, reply)
+}
+
+#[tactic(auto, unfolding(crate::specs::Replies::reply_text))]
+fn push_reply(text: &mut String, step: Step, reply: &Reply) -> Result<(), NoMemory>
+    ensures pushed { OnOk result
+        (string_bytes text.new ≡ string_bytes text.old ++ reply_text step reply.now) }
+{
+    match reply {
+        Reply::Done { at } => push_numbered(text, "done ", u64::from(*at)),
+        Reply::Opened { at, client, ring } => {
+            push_numbered(text, "opened ", u64::from(*at))?;
+            push_numbered(text, " ", u64::from(*client))?;
+            push_numbered(text, " ", u64::from(*ring))
+        }
+        Reply::Took { at, count } => push_counted(text, "took ", *at, *count),
+        Reply::Discarded { at, count } => push_counted(text, "discarded ", *at, *count),
+        Reply::Bits { at, words } => {
+            push_numbered(text, "bits ", u64::from(*at))?;
+            push_bits(text, query_kind(step), words)
+        }
+        Reply::Axis { at, info } => {
+            push_numbered(text, "axis ", u64::from(*at))?;
+            text.push_str(" ")?;
+            push_axis(text, *info)
+        }
+        Reply::Cells { at, count, slot } => {
+            push_counted(text, "cells ", *at, *count)?;
+            push_spaced(text, *slot)
+        }
+        Reply::Again { at, .. } => push_numbered(text, "again ", u64::from(*at)),
+        Reply::Refused { at, why } => {
+            push_numbered(text, "refused ", u64::from(*at))?;
+            text.push_str(" ")?;
+            push_refusal(text, *why)
         }
     }
 }
 
-#[tactic(auto, unfolding(crate::specs::Replies::reply_text))]
-fn push_reply(text: &mut String, step: Step, reply: Reply) -> Result<(), NoMemory>
+// Appends the words before a place, the place and a count.
+fn push_counted(text: &mut String, before: &str, at: u32, count: u32) -> Result<(), NoMemory>
     ensures pushed { OnOk result
-        (string_bytes text.new ≡ string_bytes text.old ++ reply_text step reply) }
+        (string_bytes text.new
+        ≡ string_bytes text.old ++ (before.now ++ (decimal at ++ (codes " " ++ decimal count)))) }
 {
-    match reply {
-        Reply::Done { at } => Ok(write!(text, "done {at}")?),
-        Reply::Opened { at, client, ring } => Ok(write!(text, "opened {at} {client} {ring}")?),
-        Reply::Took { at, count } => Ok(write!(text, "took {at} {count}")?),
-        Reply::Discarded { at, count } => Ok(write!(text, "discarded {at} {count}")?),
-        Reply::Bits { at, words } => {
-            write!(text, "bits {at}")?;
-            push_bits(text, query_kind(step), &words)
-        }
-        Reply::Axis { at, info } => {
-            let shown = AxisText(info);
-            Ok(write!(text, "axis {at} {shown}")?)
-        }
-        Reply::Cells { at, count, slot } => Ok(write!(text, "cells {at} {count} {slot}")?),
-        Reply::Again { at, .. } => Ok(write!(text, "again {at}")?),
-        Reply::Refused { at, why } => {
-            let why = RefusalText(why);
-            Ok(write!(text, "refused {at} {why}")?)
-        }
-    }
+    push_numbered(text, before, u64::from(at))?;
+    push_numbered(text, " ", u64::from(count))
 }
 
 // The type whose codes a step asks for, `EV_SYN` where it asks for none.

@@ -1,59 +1,94 @@
 //! How steps are written.
+ghost use Rattle.std.specs.Prelude.{◌≡◌, ◌++◌, codes, decimal, string_bytes, OnOk};
+ghost use Rattle.inp_model.specs.declared.event.TheConstants.{EV_ABS};
+ghost use Rattle.inp_texts.specs.Texts.{code_text, clock_text};
+ghost use Rattle.inp_report.specs.Words.{event_text, mask_text};
+ghost use Rattle.inp_report.specs.Steps.{step_text};
 
-use crate::words::{EventText, MaskText};
-use inp_model::Step;
-use inp_texts::{ClockText, CodeText};
-use std::fmt;
+use crate::words::{push_event, push_mask, push_numbered};
+use inp_model::{Clock, EV_ABS, Event, NoMemory, Step};
+use inp_texts::{ClockText, push_code};
 use std::fmt::Write;
 
-/// A step.
-#[derive(Drop)]
-pub struct StepText(pub Step);
-
-impl fmt::Display for StepText {
-    ghost use Rattle.std.specs.Prelude.{Some};
-    ghost use Rattle.inp_report.specs.Steps.{step_text};
-
-    ghost output = { λ shown. Some (step_text shown.0) };
-
-    #[tactic(auto, unfolding(crate::specs::Steps::step_text))]
-    fn fmt<W: fmt::Write>(&self, f: &mut fmt::Formatter<W>) -> fmt::Result {
-        match self.0 {
-            Step::Inject { event, now } => write!(f, "inject {now} {}", EventText(event)),
-            Step::Tick { now } => write!(f, "tick {now}"),
-            Step::Open => f.write_str("open"),
-            Step::Close { client } => write!(f, "close {client}"),
-            Step::Read { client, count } => write!(f, "read {client} {count}"),
-            Step::Discard { client } => write!(f, "discard {client}"),
-            Step::GetKeys { client } => write!(f, "getkeys {client}"),
-            Step::GetSwitches { client } => write!(f, "getswitches {client}"),
-            Step::GetLeds { client } => write!(f, "getleds {client}"),
-            Step::GetSounds { client } => write!(f, "getsounds {client}"),
-            Step::GetAxis { client, code } => {
-                write!(f, "getaxis {client} {}", CodeText::of_axis(code))
-            }
-            Step::GetSlots { client, code } => {
-                write!(f, "getslots {client} {}", CodeText::of_axis(code))
-            }
-            Step::SyncSlots { client } => write!(f, "syncslots {client}"),
-            Step::Write { client, event, now } => {
-                write!(f, "write {client} {now} {}", EventText(event))
-            }
-            Step::Grab { client } => write!(f, "grab {client}"),
-            Step::Ungrab { client } => write!(f, "ungrab {client}"),
-            Step::Mask {
-                client,
-                kind,
-                word,
-                bits,
-            } => { write!(f, "mask {client} {}", MaskText(kind, word, bits)) }
-            Step::Clock { client, clock, now } => {
-                write!(f, "clock {client} {} {now}", ClockText(clock))
-            }
-            Step::Revoke { client } => write!(f, "revoke {client}"),
-            Step::Inhibit { now } => write!(f, "inhibit {now}"),
-            Step::Uninhibit => f.write_str("uninhibit"),
-            Step::End => f.write_str("end"),
+/// Appends a step.
+#[tactic(auto, unfolding(crate::specs::Steps::step_text))]
+pub(crate) fn push_step_text(text: &mut String, step: Step) -> Result<(), NoMemory>
+    ensures pushed { OnOk result (string_bytes text.new ≡ string_bytes text.old ++ step_text step) }
+{
+    match step {
+        Step::Inject { event, now } => push_timed(text, "inject ", now, event),
+        Step::Tick { now } => push_numbered(text, "tick ", now),
+        Step::Open => Ok(text.push_str("open")?),
+        Step::Close { client } => push_numbered(text, "close ", u64::from(client)),
+        Step::Read { client, count } => {
+            push_numbered(text, "read ", u64::from(client))?;
+            push_numbered(text, " ", u64::from(count))
         }
+        Step::Discard { client } => push_numbered(text, "discard ", u64::from(client)),
+        Step::GetKeys { client } => push_numbered(text, "getkeys ", u64::from(client)),
+        Step::GetSwitches { client } => push_numbered(text, "getswitches ", u64::from(client)),
+        Step::GetLeds { client } => push_numbered(text, "getleds ", u64::from(client)),
+        Step::GetSounds { client } => push_numbered(text, "getsounds ", u64::from(client)),
+        Step::GetAxis { client, code } => push_of_axis(text, "getaxis ", client, code),
+        Step::GetSlots { client, code } => push_of_axis(text, "getslots ", client, code),
+        Step::SyncSlots { client } => push_numbered(text, "syncslots ", u64::from(client)),
+        Step::Write { client, event, now } => {
+            push_numbered(text, "write ", u64::from(client))?;
+            push_timed(text, " ", now, event)
+        }
+        Step::Grab { client } => push_numbered(text, "grab ", u64::from(client)),
+        Step::Ungrab { client } => push_numbered(text, "ungrab ", u64::from(client)),
+        Step::Mask {
+            client,
+            kind,
+            word,
+            bits,
+        } => {
+            push_numbered(text, "mask ", u64::from(client))?;
+            text.push_str(" ")?;
+            push_mask(text, kind, word, bits)
+        }
+        Step::Clock { client, clock, now } => {
+            push_numbered(text, "clock ", u64::from(client))?;
+            push_clock_at(text, clock, now)
+        }
+        Step::Revoke { client } => push_numbered(text, "revoke ", u64::from(client)),
+        Step::Inhibit { now } => push_numbered(text, "inhibit ", now),
+        Step::Uninhibit => Ok(text.push_str("uninhibit")?),
+        Step::End => Ok(text.push_str("end")?),
     }
+}
+
+/// Appends the words before a moment, the moment and an event.
+fn push_timed(text: &mut String, before: &str, now: u64, event: Event) -> Result<(), NoMemory>
+    ensures pushed { OnOk result
+        (string_bytes text.new
+        ≡ string_bytes text.old ++ (before.now ++ (decimal now ++ (codes " " ++ event_text event)))) }
+{
+    push_numbered(text, before, now)?;
+    text.push_str(" ")?;
+    push_event(text, event)
+}
+
+/// Appends the words before a client, the client and an axis.
+fn push_of_axis(text: &mut String, before: &str, client: u32, code: u16) -> Result<(), NoMemory>
+    ensures pushed { OnOk result
+        (string_bytes text.new
+        ≡ string_bytes text.old
+        ++ (before.now ++ (decimal client ++ (codes " " ++ code_text EV_ABS code)))) }
+{
+    push_numbered(text, before, u64::from(client))?;
+    text.push_str(" ")?;
+    push_code(text, EV_ABS, code)
+}
+
+/// Appends a clock and a moment, each behind a space.
+fn push_clock_at(text: &mut String, clock: Clock, now: u64) -> Result<(), NoMemory>
+    ensures pushed { OnOk result
+        (string_bytes text.new
+        ≡ string_bytes text.old
+        ++ (codes " " ++ (clock_text clock ++ (codes " " ++ decimal now)))) }
+{
+    write!(text, " {}", ClockText(clock))?;
+    push_numbered(text, " ", now)
 }

@@ -7,14 +7,14 @@ ghost use Rattle.inp_report.specs.Words.{value_text};
 ghost use Rattle.inp_report.specs.Views.{flags_line, axis_entry, axes_text, axes_line, cell_of, slot_entry, slot_text, slot_line, current_line, slots_text, view_text};
 
 use crate::bits::push_flags;
-use crate::words::ValueText;
+use crate::words::{push_numbered, push_value};
 use inp_bits::Bits;
 use inp_caps::Caps;
 use inp_model::{
     ABS_MT_SLOT, ABS_MT_TOOL_Y, ABS_MT_TOUCH_MAJOR, EV_ABS, EV_KEY, EV_LED, EV_SW, NoMemory,
 };
 use inp_recon::{Cells, View};
-use std::fmt::Write;
+use inp_texts::push_signed;
 
 #[tactic(auto, unfolding(crate::specs::Views::view_text))]
 pub(crate) fn push_view(text: &mut String, caps: &Caps, view: &View) -> Result<(), NoMemory>
@@ -86,7 +86,7 @@ fn push_axis_entry(
         (string_bytes text.new ≡ string_bytes text.old ++ axis_entry caps.now axes.now code) }
 {
     if caps.supports(EV_ABS, code) && !is_multi_touch_code(code) {
-        push_value(text, code, axes[usize::from(code)])
+        push_spaced_value(text, code, axes[usize::from(code)])
     } else {
         Ok(())
     }
@@ -99,13 +99,12 @@ fn is_multi_touch_code(code: u16) -> bool
     ABS_MT_SLOT <= code && code <= ABS_MT_TOOL_Y
 }
 
-fn push_value(text: &mut String, code: u16, value: i32) -> Result<(), NoMemory>
+fn push_spaced_value(text: &mut String, code: u16, value: i32) -> Result<(), NoMemory>
     ensures pushed { OnOk result
         (string_bytes text.new ≡ string_bytes text.old ++ codes " " ++ value_text code value) }
 {
-    let shown = ValueText(code, value);
-    write!(text, " {shown}")?;
-    Ok(())
+    text.push_str(" ")?;
+    push_value(text, code, value)
 }
 
 #[tactic(auto, unfolding(crate::specs::Views::slots_text))]
@@ -126,7 +125,9 @@ fn push_current(text: &mut String, slot: i32) -> Result<(), NoMemory>
     ensures pushed { OnOk result
         (string_bytes text.new ≡ string_bytes text.old ++ current_line slot) }
 {
-    write!(text, "current {slot}\n")?;
+    text.push_str("current ")?;
+    push_signed(text, slot)?;
+    text.push_str("\n")?;
     Ok(())
 }
 
@@ -150,7 +151,7 @@ fn push_slot_line(text: &mut String, caps: &Caps, cells: &Cells, slot: u32) -> R
     ensures pushed { OnOk result
         (string_bytes text.new ≡ string_bytes text.old ++ slot_line caps.now cells.now slot) }
 {
-    write!(text, "slot {slot}")?;
+    push_numbered(text, "slot ", u64::from(slot))?;
     push_slot_entries(text, caps, cells, slot)?;
     text.push_str("\n")?;
     Ok(())
@@ -186,7 +187,7 @@ fn push_slot_entry(
         ≡ string_bytes text.old ++ slot_entry caps.now cells.now slot code) }
 {
     if caps.supports(EV_ABS, code) {
-        push_value(text, code, cell_at(cells, slot, code))
+        push_spaced_value(text, code, cell_at(cells, slot, code))
     } else {
         Ok(())
     }

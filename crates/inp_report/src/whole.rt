@@ -4,12 +4,12 @@ ghost use Rattle.inp_report.specs.Report.{device_line, step_line, history_text, 
 ghost use Rattle.inp_script.specs.Runs.{AreRunsOf, IsRunOf};
 
 use crate::jobs::push_job;
-use crate::step_text::StepText;
+use crate::step_text::push_step_text;
+use crate::words::push_numbered;
 use inp_actors::{Actors, DeviceText, Name, Record};
 use inp_model::{NoMemory, Step};
 use inp_script::{Run, Runs};
 use std::alloc::Global;
-use std::fmt::Write;
 
 /// The report of a record and of what came of it: the devices in order, each with the number of its steps, with all its
 /// steps where `history` is wanted, and with what each of its actors did, saw and knows at the end.
@@ -69,8 +69,10 @@ pub(crate) fn push_device(text: &mut String, name: &Name, steps: usize) -> Resul
     ensures pushed { OnOk result
         (string_bytes text.new ≡ string_bytes text.old ++ device_line name.now steps) }
 {
-    let name = name.as_str();
-    write!(text, "device {name} steps {steps}\n")?;
+    text.push_str("device ")?;
+    text.push_str(name.as_str())?;
+    push_numbered(text, " steps ", steps as u64)?;
+    text.push_str("\n")?;
     Ok(())
 }
 
@@ -89,7 +91,9 @@ fn push_step(text: &mut String, place: usize, step: Step) -> Result<(), NoMemory
     ensures pushed { OnOk result
         (string_bytes text.new ≡ string_bytes text.old ++ step_line (place, step)) }
 {
-    let step = StepText(step);
-    write!(text, "step {place} {step}\n")?;
+    push_numbered(text, "step ", place as u64)?;
+    text.push_str(" ")?;
+    push_step_text(text, step)?;
+    text.push_str("\n")?;
     Ok(())
 }

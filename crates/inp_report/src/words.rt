@@ -1,136 +1,126 @@
 //! How events, masks, axes, refusals and stops are written.
+ghost use Rattle.std.specs.Prelude.{◌≡◌, ◌++◌, codes, decimal, string_bytes, OnOk};
+ghost use Rattle.std.specs.Fmt.{signed_decimal};
+ghost use Rattle.inp_report.specs.Words.{event_text, mask_text, refusal_text, axis_text, value_text, stop_text};
 
-use inp_model::{AxisInfo, Event, Refusal};
+use inp_model::{AxisInfo, EV_ABS, Event, NoMemory, Refusal};
 use inp_script::Stop;
-use inp_texts::{BitsText, CodeText, KindText};
-use std::fmt;
+use inp_texts::{BitsText, push_code, push_kind, push_number, push_signed};
 use std::fmt::Write;
 
-/// The type, code and value of an event.
-#[derive(Drop)]
-pub struct EventText(pub Event);
+/// Appends the words before a number, with the space between, and the number.
+#[inline(always)]
+pub(crate) fn push_numbered(text: &mut String, before: &str, number: u64) -> Result<(), NoMemory>
+    ensures pushed { OnOk result
+        (string_bytes text.new ≡ string_bytes text.old ++ (before.now ++ decimal number)) }
+{
+    text.push_str(before)?;
+    push_number(text, number)
+}
 
-impl fmt::Display for EventText {
-    ghost use Rattle.std.specs.Prelude.{Some};
-    ghost use Rattle.inp_report.specs.Words.{event_text};
+/// Appends a number that may be negative, behind a space.
+#[inline(always)]
+pub(crate) fn push_spaced(text: &mut String, number: i32) -> Result<(), NoMemory>
+    ensures pushed { OnOk result
+        (string_bytes text.new ≡ string_bytes text.old ++ (codes " " ++ signed_decimal number)) }
+{
+    text.push_str(" ")?;
+    push_signed(text, number)
+}
 
-    ghost output = { λ shown. Some (event_text shown.0) };
+/// Appends the type, code and value of an event.
+#[inline]
+#[tactic(auto, unfolding(crate::specs::Words::event_text))]
+pub(crate) fn push_event(text: &mut String, event: Event) -> Result<(), NoMemory>
+    ensures pushed { OnOk result
+        (string_bytes text.new ≡ string_bytes text.old ++ event_text event) }
+{
+    push_kind(text, event.kind)?;
+    text.push_str(" ")?;
+    push_code(text, event.kind, event.code)?;
+    push_spaced(text, event.value)
+}
 
-    #[tactic(auto, unfolding(crate::specs::Words::event_text))]
-    fn fmt<W: fmt::Write>(&self, f: &mut fmt::Formatter<W>) -> fmt::Result {
-        let kind = KindText(self.0.kind);
-        let code = CodeText {
-            kind: self.0.kind,
-            code: self.0.code,
-        };
-        let value = self.0.value;
-        write!(f, "{kind} {code} {value}")
+/// Appends the type, the word and the bits of a mask that is set.
+#[tactic(auto, unfolding(crate::specs::Words::mask_text))]
+pub(crate) fn push_mask(text: &mut String, kind: u16, word: u16, bits: u64) -> Result<(), NoMemory>
+    ensures pushed { OnOk result
+        (string_bytes text.new ≡ string_bytes text.old ++ mask_text kind word bits) }
+{
+    push_kind(text, kind)?;
+    push_numbered(text, " ", u64::from(word))?;
+    write!(text, " {}", BitsText(bits))?;
+    Ok(())
+}
+
+/// Appends why a step was refused.
+pub(crate) fn push_refusal(text: &mut String, why: Refusal) -> Result<(), NoMemory>
+    ensures pushed { OnOk result
+        (string_bytes text.new ≡ string_bytes text.old ++ refusal_text why) }
+{
+    text.push_str(refusal_word(why))?;
+    Ok(())
+}
+
+#[tactic(auto, unfolding(crate::specs::Words::refusal_text))]
+fn refusal_word(why: Refusal) -> &'static str
+    ensures word { result.now ≡ refusal_text why }
+{
+    match why {
+        Refusal::BadClient => "bad-client",
+        Refusal::NoDevice => "no-device",
+        Refusal::BadKind => "bad-kind",
+        Refusal::BadCode => "bad-code",
+        Refusal::Busy => "busy",
+        Refusal::NotGrabber => "not-grabber",
+        Refusal::TooMany => "too-many",
+        Refusal::LogFull => "log-full",
+        Refusal::NoMemory => "no-memory",
     }
 }
 
-/// The type, the word and the bits of a mask that is set.
-#[derive(Drop)]
-pub struct MaskText(pub u16, pub u16, pub u64);
-
-impl fmt::Display for MaskText {
-    ghost use Rattle.std.specs.Prelude.{Some};
-    ghost use Rattle.inp_report.specs.Words.{mask_text};
-
-    ghost output = { λ shown. Some (mask_text shown.0 shown.1 shown.2) };
-
-    #[tactic(auto, unfolding(crate::specs::Words::mask_text))]
-    fn fmt<W: fmt::Write>(&self, f: &mut fmt::Formatter<W>) -> fmt::Result {
-        let kind = KindText(self.0);
-        let word = self.1;
-        let bits = BitsText(self.2);
-        write!(f, "{kind} {word} {bits}")
-    }
+/// Appends the numbers of an axis.
+#[tactic(auto, unfolding(crate::specs::Words::axis_text))]
+pub(crate) fn push_axis(text: &mut String, info: AxisInfo) -> Result<(), NoMemory>
+    ensures pushed { OnOk result (string_bytes text.new ≡ string_bytes text.old ++ axis_text info) }
+{
+    let AxisInfo {
+        value,
+        minimum,
+        maximum,
+        fuzz,
+        flat,
+        resolution,
+    } = info;
+    write!(
+        text,
+        "{value} {minimum} {maximum} {fuzz} {flat} {resolution}"
+    )?;
+    Ok(())
 }
 
-/// Why a step was refused.
-#[derive(Drop)]
-pub struct RefusalText(pub Refusal);
+/// Appends an axis and its value.
+#[tactic(auto, unfolding(crate::specs::Words::value_text))]
+pub(crate) fn push_value(text: &mut String, code: u16, value: i32) -> Result<(), NoMemory>
+    ensures pushed { OnOk result
+        (string_bytes text.new ≡ string_bytes text.old ++ value_text code value) }
+{
+    push_code(text, EV_ABS, code)?;
+    text.push_str("=")?;
+    push_signed(text, value)
+}
 
-impl fmt::Display for RefusalText {
-    ghost use Rattle.std.specs.Prelude.{Some};
-    ghost use Rattle.inp_report.specs.Words.{refusal_text};
-
-    ghost output = { λ shown. Some (refusal_text shown.0) };
-
-    #[tactic(auto, unfolding(crate::specs::Words::refusal_text))]
-    fn fmt<W: fmt::Write>(&self, f: &mut fmt::Formatter<W>) -> fmt::Result {
-        match self.0 {
-            Refusal::BadClient => f.write_str("bad-client"),
-            Refusal::NoDevice => f.write_str("no-device"),
-            Refusal::BadKind => f.write_str("bad-kind"),
-            Refusal::BadCode => f.write_str("bad-code"),
-            Refusal::Busy => f.write_str("busy"),
-            Refusal::NotGrabber => f.write_str("not-grabber"),
-            Refusal::TooMany => f.write_str("too-many"),
-            Refusal::LogFull => f.write_str("log-full"),
-            Refusal::NoMemory => f.write_str("no-memory"),
+/// Appends why a job ended.
+#[tactic(auto, unfolding(crate::specs::Words::stop_text))]
+pub(crate) fn push_stop(text: &mut String, stop: Stop) -> Result<(), NoMemory>
+    ensures pushed { OnOk result (string_bytes text.new ≡ string_bytes text.old ++ stop_text stop) }
+{
+    match stop {
+        Stop::Finished => Ok(text.push_str("finished")?),
+        Stop::Idle { turns, at } => {
+            push_numbered(text, "idle ", u64::from(turns))?;
+            push_numbered(text, " ", u64::from(at))
         }
-    }
-}
-
-/// The numbers of an axis.
-#[derive(Drop)]
-pub struct AxisText(pub AxisInfo);
-
-impl fmt::Display for AxisText {
-    ghost use Rattle.std.specs.Prelude.{Some};
-    ghost use Rattle.inp_report.specs.Words.{axis_text};
-
-    ghost output = { λ shown. Some (axis_text shown.0) };
-
-    #[tactic(auto, unfolding(crate::specs::Words::axis_text))]
-    fn fmt<W: fmt::Write>(&self, f: &mut fmt::Formatter<W>) -> fmt::Result {
-        let AxisInfo {
-            value,
-            minimum,
-            maximum,
-            fuzz,
-            flat,
-            resolution,
-        } = self.0;
-        write!(f, "{value} {minimum} {maximum} {fuzz} {flat} {resolution}")
-    }
-}
-
-/// The value of an axis.
-#[derive(Drop)]
-pub struct ValueText(pub u16, pub i32);
-
-impl fmt::Display for ValueText {
-    ghost use Rattle.std.specs.Prelude.{Some};
-    ghost use Rattle.inp_report.specs.Words.{value_text};
-
-    ghost output = { λ shown. Some (value_text shown.0 shown.1) };
-
-    #[tactic(auto, unfolding(crate::specs::Words::value_text))]
-    fn fmt<W: fmt::Write>(&self, f: &mut fmt::Formatter<W>) -> fmt::Result {
-        let code = CodeText::of_axis(self.0);
-        let value = self.1;
-        write!(f, "{code}={value}")
-    }
-}
-
-/// Why a job ended.
-#[derive(Drop)]
-pub struct StopText(pub Stop);
-
-impl fmt::Display for StopText {
-    ghost use Rattle.std.specs.Prelude.{Some};
-    ghost use Rattle.inp_report.specs.Words.{stop_text};
-
-    ghost output = { λ shown. Some (stop_text shown.0) };
-
-    #[tactic(auto, unfolding(crate::specs::Words::stop_text))]
-    fn fmt<W: fmt::Write>(&self, f: &mut fmt::Formatter<W>) -> fmt::Result {
-        match self.0 {
-            Stop::Finished => f.write_str("finished"),
-            Stop::Idle { turns, at } => write!(f, "idle {turns} {at}"),
-            Stop::Full { at } => write!(f, "full {at}"),
-        }
+        Stop::Full { at } => push_numbered(text, "full ", u64::from(at)),
     }
 }

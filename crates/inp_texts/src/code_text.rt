@@ -1,9 +1,11 @@
 //! A code of a type of events, as it is written.
-ghost use Rattle.std.specs.Prelude.{◌≡◌};
+ghost use Rattle.std.specs.Prelude.{◌≡◌, ◌++◌, string_bytes, OnOk};
 ghost use Rattle.inp_model.specs.declared.event.TheConstants.{EV_ABS};
+ghost use Rattle.inp_texts.specs.Texts.{code_text};
 
+use crate::numbers::push_number;
 use inp_codes::name_of;
-use inp_model::EV_ABS;
+use inp_model::{EV_ABS, NoMemory};
 use std::fmt;
 use std::fmt::Write;
 
@@ -39,5 +41,21 @@ impl fmt::Display for CodeText {
             Some(name) => f.write_str(name),
             None => write!(f, "{code}"),
         }
+    }
+}
+
+/// Appends what [`CodeText`] writes of a code of a type, by one copy.
+///
+/// # Errors
+///
+/// `NoMemory` where there is none for the text.
+#[tactic(auto, unfolding(crate::specs::Texts::code_text))]
+pub fn push_code(text: &mut String, kind: u16, code: u16) -> Result<(), NoMemory>
+    ensures pushed { OnOk result
+        (string_bytes text.new ≡ string_bytes text.old ++ code_text kind code) }
+{
+    match name_of(kind, code) {
+        Some(name) => Ok(text.push_str(name)?),
+        None => push_number(text, u64::from(code)),
     }
 }

@@ -1,6 +1,10 @@
 //! A type of events, as it is written.
+ghost use Rattle.std.specs.Prelude.{◌≡◌, ◌++◌, string_bytes, OnOk};
+ghost use Rattle.inp_texts.specs.Texts.{kind_text};
 
+use crate::numbers::push_number;
 use inp_codes::kind_name;
+use inp_model::NoMemory;
 use std::fmt;
 use std::fmt::Write;
 
@@ -22,5 +26,21 @@ impl fmt::Display for KindText {
             Some(name) => f.write_str(name),
             None => write!(f, "{kind}"),
         }
+    }
+}
+
+/// Appends what [`KindText`] writes, by one copy.
+///
+/// # Errors
+///
+/// `NoMemory` where there is none for the text.
+#[tactic(auto, unfolding(crate::specs::Texts::kind_text))]
+pub fn push_kind(text: &mut String, kind: u16) -> Result<(), NoMemory>
+    ensures pushed { OnOk result
+        (string_bytes text.new ≡ string_bytes text.old ++ kind_text kind) }
+{
+    match kind_name(kind) {
+        Some(name) => Ok(text.push_str(name)?),
+        None => push_number(text, u64::from(kind)),
     }
 }

@@ -1,20 +1,23 @@
-//! How types, codes, the bits of a mask, clocks and roles are written, in records and in reports.
+//! How numbers, types, codes, the bits of a mask, clocks and roles are written, in records and in reports.
 //!
 //! This crate is for whoever writes a text: `inp_canon` and `inp_report`. It stands on `inp_codes` for names, on `inp_model`
 //! for clocks, and on `inp_actors` for roles.
 //!
 //! Its contract: what each of these writes is exactly the text that `specs/Texts.antt` defines of its value, or the
-//! formatter failed. It takes no memory. `proofs/Written.antt` has lemmas on loops that write.
+//! formatter failed. It takes no memory but the text's. Numbers, types and codes, which make up most of a report, can also
+//! be appended to a text with no formatter between. `proofs/Written.antt` has lemmas on loops that write.
 #![tactic(auto)]
 
 mod bits_text;
 mod clock_text;
 mod code_text;
 mod kind_text;
+mod numbers;
 mod role_text;
 
 pub use bits_text::BitsText;
 pub use clock_text::ClockText;
-pub use code_text::CodeText;
-pub use kind_text::KindText;
+pub use code_text::{CodeText, push_code};
+pub use kind_text::{KindText, push_kind};
+pub use numbers::{push_number, push_signed};
 pub use role_text::RoleText;

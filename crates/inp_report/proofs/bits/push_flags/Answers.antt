@@ -15,7 +15,7 @@ pub loop-code-preserved : goal.loop-code-preserved
 loop-code-preserved g c = record {
   whole = whole_more c.in-Some.code c.loop-code.yielded c.loop-code.code-iterator c.next.new.self _ c.in-Some.ensures.steps c.loop-code.invariant.whole;
   within = below_rest (64 * g.row.W) c.in-Some.code c.loop-code.code-iterator c.next.new.self c.in-Some.ensures.steps c.loop-code.invariant.within;
-  written = given_more (spaced_code c.args.kind) _ _ _ c.loop-code.yielded c.in-Some.code c.loop-code.invariant.written c.in_ok-push_code.ensures.pushed;
+  written = given_more (spaced_code c.args.kind) _ _ _ c.loop-code.yielded c.in-Some.code c.loop-code.invariant.written c.in_ok-push_spaced_code.ensures.pushed;
 }
 
 pub returns : goal.returns

@@ -1,0 +1,54 @@
+//! Numbers at the end of a text.
+ghost use Rattle.std.specs.Prelude.{◌≡◌, ◌<◌, ◌++◌, codes, decimal, string_bytes, OnOk};
+ghost use Rattle.std.specs.Fmt.{signed_decimal};
+
+use inp_model::NoMemory;
+use itoa::Buffer;
+
+/// Appends a number in decimal, without leading zeros.
+///
+/// # Errors
+///
+/// `NoMemory` where there is none for the digits.
+pub fn push_number(text: &mut String, number: u64) -> Result<(), NoMemory>
+    ensures pushed { OnOk result (string_bytes text.new ≡ string_bytes text.old ++ decimal number) }
+{
+    if number < 10 {
+        return push_digit(text, number);
+    }
+    let mut digits = Buffer::new();
+    text.push_str(digits.format(number))?;
+    Ok(())
+}
+
+// One digit needs no buffer, and most values of events have one.
+fn push_digit(text: &mut String, digit: u64) -> Result<(), NoMemory>
+    requires one { digit < 10 }
+    ensures pushed { OnOk result (string_bytes text.new ≡ string_bytes text.old ++ decimal digit) }
+{
+    text.push(char::from(b'0' + digit as u8))?;
+    Ok(())
+}
+
+/// Appends a number in decimal, behind `-` where it is negative, without leading zeros.
+///
+/// # Errors
+///
+/// `NoMemory` where there is none for the digits.
+pub fn push_signed(text: &mut String, number: i32) -> Result<(), NoMemory>
+    ensures pushed { OnOk result
+        (string_bytes text.new ≡ string_bytes text.old ++ signed_decimal number) }
+{
+    if number < 0 {
+        return push_negative(text, number.unsigned_abs());
+    }
+    push_number(text, u64::from(number.unsigned_abs()))
+}
+
+fn push_negative(text: &mut String, number: u32) -> Result<(), NoMemory>
+    ensures pushed { OnOk result
+        (string_bytes text.new ≡ string_bytes text.old ++ (codes "-" ++ decimal number)) }
+{
+    text.push_str("-")?;
+    push_number(text, u64::from(number))
+}
