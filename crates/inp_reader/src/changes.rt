@@ -3,7 +3,7 @@ ghost use Rattle.std.specs.Prelude.{◌≡◌, ◌≤◌, ◌<◌, ◌+◌, ◌*
 ghost use Rattle.std.specs.Ordering.{int_eq};
 ghost use Rattle.inp_model.specs.Event.{is_negative, slot_event};
 ghost use Rattle.inp_recon.specs.Cells.{slot_count};
-ghost use Rattle.inp_reader.specs.Synthesis.{bit_event, bits_differ_at, axis_event, index_in_slot, is_replaced, is_changed, lift};
+ghost use Rattle.inp_reader.specs.Synthesis.{bit_event, axis_event, index_in_slot, is_replaced, is_changed, lift};
 
 use inp_bits::Bits;
 use inp_model::{ABS_MT_SLOT, ABS_MT_TOUCH_MAJOR, ABS_MT_TRACKING_ID, EV_ABS, Event};
@@ -20,14 +20,6 @@ pub(crate) fn values_differ(one: Event, other: Event) -> bool
     ensures { result ≡ not (int_eq one.value other.value) }
 {
     one.value != other.value
-}
-
-// Whether two lists differ at a code.
-pub(crate) fn bits_differ<const W: usize>(old: &Bits<W>, new: &Bits<W>, code: u16) -> bool
-    requires { code < 64 * W }
-    ensures { result ≡ bits_differ_at old.now new.now code }
-{
-    old.get(u32::from(code)) != new.get(u32::from(code))
 }
 
 // That a code is on, or off.

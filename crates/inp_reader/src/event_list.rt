@@ -6,8 +6,8 @@ ghost use Rattle.inp_recon.specs.View.{view_after_events};
 ghost use Rattle.inp_reader.specs.Synthesis.{synth, with_report, unless_same, bit_changes, axis_changes, class_changes, changes_in, cell_changes, lifts};
 
 use crate::changes::{
-    axis_event, bit_event, bits_differ, cell_event, event_of_current, event_of_slot, is_changed,
-    is_replaced, lift, slots_of, values_differ,
+    axis_event, bit_event, cell_event, event_of_current, event_of_slot, is_changed, is_replaced,
+    lift, slots_of, values_differ,
 };
 use inp_bits::Bits;
 use inp_model::{EV_KEY, EV_LED, EV_SW, EV_SYN, Event, NoMemory, SYN_REPORT};
@@ -126,10 +126,8 @@ impl EventList {
         ensures pushed { self.new ≡ self.old ++ bit_changes kind (64 * W) old.now new.now }
         ensures few { length self.new ≤ length self.old + 64 * W }
     {
-        for code in 0..64 * W {
-            let code = code as u16;
-            let wanted = bits_differ(old, new, code);
-            self.push_if(wanted, bit_event(kind, new, code));
+        for code in old.differing(new) {
+            self.push(bit_event(kind, new, code as u16));
         }
     }
 

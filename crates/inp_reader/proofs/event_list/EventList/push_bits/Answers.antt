@@ -1,10 +1,47 @@
-use Rattle.std.proofs.Common.{arith}
-use Rattle.inp_reader.specs.Synthesis.{bits_differ_at, bit_event}
-use Rattle.inp_reader.proofs.Synthesising.{events-more}
+use Rattle.std.proofs.Common.{◌≡◌, ℕ, ◌*◌, ◌<◌, List, [], ◌∷◌, ◌++◌, length, map, ap, sym, subst, ◌∙◌, arith, append-nil, append_assoc, length-append}
+use Rattle.std.specs.List.{All, range_with_len, filter}
+use Rattle.std.proofs.lemmas.List.{map-append}
+use Rattle.std.proofs.lemmas.List.Elements.{All-tail}
+use Rattle.inp_bits.specs.Bits.{differing_indices}
+use Rattle.inp_model.specs.declared.event.Event.{Event}
+use Rattle.inp_reader.specs.Synthesis.{bit_event, bits_differ_at, where_below}
 use Rattle.inp_reader.proofs.event_list.EventList.push_bits.Goals as goal
 
+pub loop-code-init : goal.loop-code-init
+loop-code-init g c =
+    let gives = c.into_iter-code-iterator.ensures.into_iter_gives in
+    record {
+      whole = gives ∙ c.differing-code-items.ensures.value;
+      within = subst (λ (xs : List ℕ). All (λ k. k < 64 * g.row.W) xs) (sym gives) c.differing-code-items.ensures.within;
+      room = omega (arith, ap length gives, c.differing-code-items.ensures.few);
+      pushed = sym (append-nil _);
+      few = omega arith;
+    }
+
 pub loop-code-preserved : goal.loop-code-preserved
-loop-code-preserved g c = record {
-  pushed = events-more (bit_event c.args.kind c.args.new.now) (bits_differ_at c.args.old.now c.args.new.now) c.loop-code.code c.bits_differ-wanted.result c.bit_event.result _ _ _ c.push_if.ensures.pushed c.loop-code.invariant.pushed c.bits_differ-wanted.ensures c.bit_event.ensures;
-  few = omega (arith, c.push_if.ensures.few, c.loop-code.invariant.few);
-}
+loop-code-preserved g c =
+    let event = bit_event c.args.kind c.args.new.now in
+    let given = c.loop-code.yielded in
+    let code = c.in-Some.code in
+    let left = c.next.new.self in
+    let steps = c.in-Some.ensures.steps in
+    record {
+      whole = append_assoc given (code ∷ []) left ∙ ap (λ (l : List ℕ). given ++ l) (sym steps) ∙ c.loop-code.invariant.whole;
+      within = All-tail (λ k. k < 64 * g.row.W) code left (subst (λ (l : List ℕ). All (λ k. k < 64 * g.row.W) l) steps c.loop-code.invariant.within);
+      room = omega (arith, ap length steps, length-append given (code ∷ []), c.loop-code.invariant.room);
+      pushed = c.push.ensures.pushed
+          ∙ ap (λ (e : Event). c.loop-code.self ++ e ∷ []) c.bit_event.ensures
+          ∙ ap (λ (l : List Event). l ++ event code ∷ []) c.loop-code.invariant.pushed
+          ∙ append_assoc c.args.self.now (map event given) (event code ∷ [])
+          ∙ ap (λ (l : List Event). c.args.self.now ++ l) (sym (map-append event given (code ∷ [])));
+      few = omega (arith, c.push.ensures.few, c.loop-code.invariant.few, length-append given (code ∷ []));
+    }
+
+pub returns-clause-pushed : goal.returns-clause-pushed
+unfolding differing_indices
+returns-clause-pushed g c =
+    let all : c.loop-code.yielded ≡ differing_indices c.args.old.now c.args.new.now =
+    sym (append-nil c.loop-code.yielded) ∙ ap (λ (l : List ℕ). c.loop-code.yielded ++ l) (sym c.in-None.ensures.steps.0) ∙ c.loop-code.invariant.whole in
+    let whole : differing_indices c.args.old.now c.args.new.now ≡ where_below (64 * g.row.W) (bits_differ_at c.args.old.now c.args.new.now) =
+    ap (λ (n : ℕ). filter (bits_differ_at c.args.old.now c.args.new.now) (range_with_len 0 n)) c.differing-code-items.ensures.len in
+    c.loop-code.invariant.pushed ∙ ap (λ (l : List ℕ). c.args.self.now ++ map (bit_event c.args.kind c.args.new.now) l) (all ∙ whole)

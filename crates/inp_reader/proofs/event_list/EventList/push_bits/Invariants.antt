@@ -1,9 +1,15 @@
-use Rattle.std.proofs.Common.{◌≡◌, ◌≤◌, ◌+◌, ◌++◌, length, map}
-use Rattle.inp_reader.specs.Synthesis.{where_below, bit_event, bits_differ_at}
+use Rattle.std.proofs.Common.{◌≡◌, ◌≤◌, ◌<◌, ◌+◌, ◌*◌, ◌++◌, length, map}
+use Rattle.std.specs.List.{All}
+use Rattle.inp_bits.specs.Bits.{differing_indices}
+use Rattle.inp_reader.specs.Synthesis.{bit_event}
 use Rattle.inp_reader.proofs.event_list.EventList.push_bits.Given as goal
 
+-- the codes so far, and those that are left
 abbrev pub invariant-loop-code : goal.invariant-loop-code
 invariant-loop-code g l = record {
-  pushed : l.self ≡ l.initial.self ++ map (bit_event l.kind l.new) (where_below l.code (bits_differ_at l.old l.new));
-  few : length l.self ≤ length l.initial.self + l.code;
+  whole : l.yielded ++ l.code-iterator ≡ differing_indices l.old l.new;
+  within : All (λ k. k < 64 * g.row.W) l.code-iterator;
+  room : length l.yielded + length l.code-iterator ≤ 64 * g.row.W;
+  pushed : l.self ≡ l.initial.self ++ map (bit_event l.kind l.new) l.yielded;
+  few : length l.self ≤ length l.initial.self + length l.yielded;
 }
