@@ -1,24 +1,26 @@
 -- What holds of a step that nothing refuses.
-use Rattle.std.proofs.Common.{◌≡◌, ℕ, ◌<◌, Bool, true, false, not, if◌then◌else◌, nat_le, nat_lt, ◌≤◌, arith, List, [], ◌∷◌, length, refl, sym, ap, ◌∙◌, Option, Some, None}
+use Rattle.std.proofs.Common.{◌≡◌, ℕ, ◌<◌, Bool, true, false, ◌||◌, not, if◌then◌else◌, nat_le, nat_lt, ◌≤◌, arith, List, [], ◌∷◌, length, refl, sym, ap, ◌∙◌, Option, Some, None}
 use Rattle.std.proofs.lemmas.Bool.{not-false}
 use Rattle.std.proofs.lemmas.Bool.Decides.{nat_tests}
 use Rattle.inp_model.specs.declared.step.Step.{Step}
-use Rattle.inp_model.specs.declared.step.Step.TheVariants.{Mask, GetAxis, GetSlots}
+use Rattle.inp_model.specs.declared.step.Step.TheVariants.{Mask, GetAxis, SetAxis, GetSlots}
 use Rattle.inp_model.specs.declared.reply.Reply.{Reply}
 use Rattle.inp_model.specs.declared.reply.Reply.TheVariants.{Again, Refused}
-use Rattle.inp_model.specs.declared.reply.Refusal.TheVariants.{BadClient, NoDevice, BadKind, BadCode, Busy, NotGrabber, TooMany, LogFull}
-use Rattle.inp_model.specs.declared.event.TheConstants.{ABS_MAX}
-use Rattle.inp_model.specs.Description.{Description, is_slot_code}
+use Rattle.inp_model.specs.declared.reply.Refusal.TheVariants.{BadClient, NoDevice, BadKind, BadCode, BadInfo, Busy, NotGrabber, TooMany, LogFull}
+use Rattle.inp_model.specs.declared.event.TheConstants.{EV_ABS, ABS_MAX}
+use Rattle.inp_model.specs.declared.axis_info.AxisInfo.{AxisInfo}
+use Rattle.inp_model.specs.Description.{Description, supports, is_multi_touch_code, is_slot_code}
 use Rattle.inp_model.specs.Step.{client_of}
 use Rattle.inp_model.specs.Past.{is_open, has_mask, mask_words, ends}
-use Rattle.inp_model.specs.Reply.{Case, refusal, first_reply, refusals, refused, is_bad_client, is_no_device, is_bad_kind, is_bad_code, finds_nothing, is_busy, is_not_grabber, is_one_too_many, is_full, is_accepted}
+use Rattle.inp_model.specs.Reply.{Case, refusal, first_reply, refused, is_bad_client, is_no_device, is_bad_kind, is_bad_code, is_bad_info, finds_nothing, is_busy, is_not_grabber, is_one_too_many, is_full}
 
 -- no cause of a refusal is there
 pub record IsAllowed (d : Description) (past : List Step) (x : Step) : Type 0 where
   pub client : is_bad_client past (client_of x) ≡ false
   pub device : is_no_device past x (client_of x) ≡ false
   pub kind : is_bad_kind d x ≡ false
-  pub code : is_bad_code x ≡ false
+  pub code : is_bad_code d x ≡ false
+  pub info : is_bad_info x ≡ false
   pub found : finds_nothing d past x ≡ false
   pub free : is_busy past x ≡ false
   pub held : is_not_grabber past x ≡ false
@@ -42,22 +44,24 @@ allowed d past x h =
     let c0 : Case = refusal (is_bad_client past (client_of x)) (Refused (length past) BadClient) in
     let c1 : Case = refusal (is_no_device past x (client_of x)) (Refused (length past) NoDevice) in
     let c2 : Case = refusal (is_bad_kind d x) (Refused (length past) BadKind) in
-    let c3 : Case = refusal (is_bad_code x) (Refused (length past) BadCode) in
-    let c4 : Case = refusal (finds_nothing d past x) (Again (length past) (ends past)) in
-    let c5 : Case = refusal (is_busy past x) (Refused (length past) Busy) in
-    let c6 : Case = refusal (is_not_grabber past x) (Refused (length past) NotGrabber) in
-    let c7 : Case = refusal (is_one_too_many past x) (Refused (length past) TooMany) in
-    let c8 : Case = refusal (is_full d past) (Refused (length past) LogFull) in
-    let h0 : (c0.holds ≡ false) × (first_reply (c1 ∷ c2 ∷ c3 ∷ c4 ∷ c5 ∷ c6 ∷ c7 ∷ c8 ∷ []) ≡ None) = none_first c0 (c1 ∷ c2 ∷ c3 ∷ c4 ∷ c5 ∷ c6 ∷ c7 ∷ c8 ∷ []) h in
-    let h1 : (c1.holds ≡ false) × (first_reply (c2 ∷ c3 ∷ c4 ∷ c5 ∷ c6 ∷ c7 ∷ c8 ∷ []) ≡ None) = none_first c1 (c2 ∷ c3 ∷ c4 ∷ c5 ∷ c6 ∷ c7 ∷ c8 ∷ []) h0.1 in
-    let h2 : (c2.holds ≡ false) × (first_reply (c3 ∷ c4 ∷ c5 ∷ c6 ∷ c7 ∷ c8 ∷ []) ≡ None) = none_first c2 (c3 ∷ c4 ∷ c5 ∷ c6 ∷ c7 ∷ c8 ∷ []) h1.1 in
-    let h3 : (c3.holds ≡ false) × (first_reply (c4 ∷ c5 ∷ c6 ∷ c7 ∷ c8 ∷ []) ≡ None) = none_first c3 (c4 ∷ c5 ∷ c6 ∷ c7 ∷ c8 ∷ []) h2.1 in
-    let h4 : (c4.holds ≡ false) × (first_reply (c5 ∷ c6 ∷ c7 ∷ c8 ∷ []) ≡ None) = none_first c4 (c5 ∷ c6 ∷ c7 ∷ c8 ∷ []) h3.1 in
-    let h5 : (c5.holds ≡ false) × (first_reply (c6 ∷ c7 ∷ c8 ∷ []) ≡ None) = none_first c5 (c6 ∷ c7 ∷ c8 ∷ []) h4.1 in
-    let h6 : (c6.holds ≡ false) × (first_reply (c7 ∷ c8 ∷ []) ≡ None) = none_first c6 (c7 ∷ c8 ∷ []) h5.1 in
-    let h7 : (c7.holds ≡ false) × (first_reply (c8 ∷ []) ≡ None) = none_first c7 (c8 ∷ []) h6.1 in
-    let h8 : (c8.holds ≡ false) × (first_reply ([]) ≡ None) = none_first c8 ([]) h7.1 in
-    record { client = h0.0; device = h1.0; kind = h2.0; code = h3.0; found = h4.0; free = h5.0; held = h6.0; few = h7.0; room = h8.0 }
+    let c3 : Case = refusal (is_bad_code d x) (Refused (length past) BadCode) in
+    let c4 : Case = refusal (is_bad_info x) (Refused (length past) BadInfo) in
+    let c5 : Case = refusal (finds_nothing d past x) (Again (length past) (ends past)) in
+    let c6 : Case = refusal (is_busy past x) (Refused (length past) Busy) in
+    let c7 : Case = refusal (is_not_grabber past x) (Refused (length past) NotGrabber) in
+    let c8 : Case = refusal (is_one_too_many past x) (Refused (length past) TooMany) in
+    let c9 : Case = refusal (is_full d past) (Refused (length past) LogFull) in
+    let h0 : (c0.holds ≡ false) × (first_reply (c1 ∷ c2 ∷ c3 ∷ c4 ∷ c5 ∷ c6 ∷ c7 ∷ c8 ∷ c9 ∷ []) ≡ None) = none_first c0 (c1 ∷ c2 ∷ c3 ∷ c4 ∷ c5 ∷ c6 ∷ c7 ∷ c8 ∷ c9 ∷ []) h in
+    let h1 : (c1.holds ≡ false) × (first_reply (c2 ∷ c3 ∷ c4 ∷ c5 ∷ c6 ∷ c7 ∷ c8 ∷ c9 ∷ []) ≡ None) = none_first c1 (c2 ∷ c3 ∷ c4 ∷ c5 ∷ c6 ∷ c7 ∷ c8 ∷ c9 ∷ []) h0.1 in
+    let h2 : (c2.holds ≡ false) × (first_reply (c3 ∷ c4 ∷ c5 ∷ c6 ∷ c7 ∷ c8 ∷ c9 ∷ []) ≡ None) = none_first c2 (c3 ∷ c4 ∷ c5 ∷ c6 ∷ c7 ∷ c8 ∷ c9 ∷ []) h1.1 in
+    let h3 : (c3.holds ≡ false) × (first_reply (c4 ∷ c5 ∷ c6 ∷ c7 ∷ c8 ∷ c9 ∷ []) ≡ None) = none_first c3 (c4 ∷ c5 ∷ c6 ∷ c7 ∷ c8 ∷ c9 ∷ []) h2.1 in
+    let h4 : (c4.holds ≡ false) × (first_reply (c5 ∷ c6 ∷ c7 ∷ c8 ∷ c9 ∷ []) ≡ None) = none_first c4 (c5 ∷ c6 ∷ c7 ∷ c8 ∷ c9 ∷ []) h3.1 in
+    let h5 : (c5.holds ≡ false) × (first_reply (c6 ∷ c7 ∷ c8 ∷ c9 ∷ []) ≡ None) = none_first c5 (c6 ∷ c7 ∷ c8 ∷ c9 ∷ []) h4.1 in
+    let h6 : (c6.holds ≡ false) × (first_reply (c7 ∷ c8 ∷ c9 ∷ []) ≡ None) = none_first c6 (c7 ∷ c8 ∷ c9 ∷ []) h5.1 in
+    let h7 : (c7.holds ≡ false) × (first_reply (c8 ∷ c9 ∷ []) ≡ None) = none_first c7 (c8 ∷ c9 ∷ []) h6.1 in
+    let h8 : (c8.holds ≡ false) × (first_reply (c9 ∷ []) ≡ None) = none_first c8 (c9 ∷ []) h7.1 in
+    let h9 : (c9.holds ≡ false) × (first_reply ([]) ≡ None) = none_first c9 ([]) h8.1 in
+    record { client = h0.0; device = h1.0; kind = h2.0; code = h3.0; info = h4.0; found = h5.0; free = h6.0; held = h7.0; few = h8.0; room = h9.0 }
 
 -- the client that a step names is open
 pub named_open : (past : List Step) (x : Step) (client : ℕ) → client_of x ≡ Some client → is_bad_client past (client_of x) ≡ false → is_open past client ≡ true
@@ -83,3 +87,11 @@ axis_code d past client code ok = not_above ABS_MAX code ok.code
 -- the axis of slots that is asked for
 pub slot_code : (d : Description) (past : List Step) (client code : ℕ) → IsAllowed d past (GetSlots client code) → is_slot_code code ≡ true
 slot_code d past client code ok = not-false (is_slot_code code) ok.code
+
+-- the axis that is described anew
+pub set_axis_code : (d : Description) (past : List Step) (client code : ℕ) (axis : AxisInfo) → IsAllowed d past (SetAxis client code axis) → code ≤ ABS_MAX
+set_axis_code d past client code axis ok = not_above (nat_lt ABS_MAX code) (is_multi_touch_code code) (not (supports d EV_ABS code)) refl ok.code
+  where
+    not_above : (above touch lacks : Bool) → above ≡ nat_lt ABS_MAX code → (above || touch || lacks) ≡ false → code ≤ ABS_MAX
+    not_above true touch lacks is h = absurd (cc h)
+    not_above false touch lacks is h = grind (arith, nat_tests, is)

@@ -1,5 +1,5 @@
 -- A refused step is not entered, and nothing refuses one that is.
-use Rattle.std.proofs.Common.{◌≡◌, ℕ, Bool, true, false, if◌then◌else◌, List, [], ◌∷◌, length, refl, sym, ap, ◌∙◌, inl, inr, Option, Some, None}
+use Rattle.std.proofs.Common.{◌≡◌, Bool, true, false, if◌then◌else◌, List, [], ◌∷◌, refl, sym, ap, ◌∙◌, inl, inr, Option, Some, None}
 use Rattle.std.proofs.lemmas.Bool.{true≢false}
 use Rattle.inp_model.specs.declared.step.Step.{Step}
 use Rattle.inp_model.specs.declared.reply.Reply.{Reply}
@@ -21,7 +21,7 @@ first_reply-refuses (case ∷ cases) reply h e = first_if case.holds case.reply 
 
 pub refused-not_accepted : (d : Description) (past : List Step) (x : Step) (reply : Reply) → refused d past x ≡ Some reply → is_accepted reply ≡ false
 refused-not_accepted d past x reply h =
-    first_reply-refuses (refusals d past x) reply (refl, (refl, (refl, (refl, (refl, (refl, (refl, (refl, (refl, tt))))))))) h
+    first_reply-refuses (refusals d past x) reply (refl, (refl, (refl, (refl, (refl, (refl, (refl, (refl, (refl, (refl, tt)))))))))) h
 
 unrefused_by : (d : Description) (past : List Step) (x : Step) (o : Option Reply) → refused d past x ≡ o → is_accepted (answer_by o (accepted d past x)).reply ≡ true → o ≡ None
 unrefused_by d past x None h is = refl

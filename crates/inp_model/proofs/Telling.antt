@@ -41,7 +41,7 @@ accepted-place d past x = refl
 
 answer_place : (d : Description) (past : List Step) (x : Step) (o : Option Reply) → o ≡ refused d past x → place_of (answer_by o (accepted d past x)).reply ≡ length past
 answer_place d past x None h = accepted-place d past x
-answer_place d past x (Some reply) h = first_place (length past) (refusals d past x) reply (refl, (refl, (refl, (refl, (refl, (refl, (refl, (refl, (refl, tt))))))))) (sym h)
+answer_place d past x (Some reply) h = first_place (length past) (refusals d past x) reply (refl, (refl, (refl, (refl, (refl, (refl, (refl, (refl, (refl, (refl, tt)))))))))) (sym h)
 
 pub given_place : (d : Description) (past : List Step) (x : Step) (given : Answer) → IsAnswer d past x given → place_of given.reply ≡ length past
 given_place d past x given (inl e) = ap (λ (a : Answer). place_of a.reply) e ∙ answer_place d past x (refused d past x) refl

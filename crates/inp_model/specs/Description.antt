@@ -1,5 +1,5 @@
 -- What a device is: which types and codes it supports, its axes, and its numbers (docs/RULES.md, "What a device has").
-use Rattle.std.specs.Prelude.{◌≡◌, ℕ, zero, suc, ◌*◌, ◌<◌, ◌≤◌, pos, int_lt, Bool, true, false, ◌&&◌, ◌||◌, not, if◌then◌else◌, nat_eq, nat_le, List, ◌∷◌, ◌++◌, length, replicate, slice_index_or}
+use Rattle.std.specs.Prelude.{◌≡◌, ℕ, zero, suc, ◌*◌, ◌<◌, ◌≤◌, pos, int_lt, Bool, true, false, ◌&&◌, ◌||◌, not, if◌then◌else◌, nat_eq, nat_le, nat_lt, List, ◌∷◌, ◌++◌, length, replicate, slice_index_or}
 use Rattle.std.specs.Ordering.{int_eq}
 use Rattle.inp_model.specs.declared.event.TheConstants.{EV_SYN, EV_KEY, EV_REL, EV_ABS, EV_MSC, EV_SW, EV_LED, EV_SND, EV_REP, EV_MAX, SYN_DROPPED, KEY_MAX, REL_MAX, ABS_MAX, MSC_MAX, SW_MAX, LED_MAX, SND_MAX, REP_MAX}
 use Rattle.inp_model.specs.declared.multi_touch.TheConstants.{ABS_MT_SLOT, ABS_MT_TOUCH_MAJOR, ABS_MT_TRACKING_ID, ABS_MT_TOOL_Y}
@@ -70,6 +70,11 @@ is_multi_touch_code code = nat_le ABS_MT_SLOT code && nat_le code ABS_MT_TOOL_Y
 abbrev pub is_slot_code : ℕ → Bool
 is_slot_code code = nat_le ABS_MT_TOUCH_MAJOR code && nat_le code ABS_MT_TOOL_Y
 
+-- The axes that stay as they are described at first: those that no device has, those of slots, and those that this
+-- device lacks (docs/RULES.md, "Axes described anew").
+abbrev pub is_fixed_axis : Description → ℕ → Bool
+is_fixed_axis d code = nat_lt ABS_MAX code || is_multi_touch_code code || not (supports d EV_ABS code)
+
 -- a number, doubled at most so many times, until it is large enough
 abbrev pub doubled : ℕ → ℕ → ℕ → ℕ
 doubled zero enough n = n
@@ -92,11 +97,15 @@ offset d Boottime = d.boottime
 abbrev pub is_kind : ℕ → Bool
 is_kind kind = nat_le kind EV_SW || nat_eq kind EV_LED || nat_eq kind EV_SND || nat_eq kind EV_REP
 
+-- a fuzz out of range
+abbrev pub is_bad_fuzz : AxisInfo → Bool
+is_bad_fuzz i = int_lt i.fuzz (pos 0) || int_lt FUZZ_MAX i.fuzz
+
 -- The data that no axis has: a fuzz out of range, a value of a multi-touch axis, a fuzz of the slot or of the
 -- tracking id.
 abbrev pub is_bad_axis : ℕ → AxisInfo → Bool
 is_bad_axis code i =
-    (int_lt i.fuzz (pos 0) || int_lt FUZZ_MAX i.fuzz)
+    is_bad_fuzz i
     || (is_multi_touch_code code && not (int_eq i.value (pos 0)))
     || ((nat_eq code ABS_MT_SLOT || nat_eq code ABS_MT_TRACKING_ID) && not (int_eq i.fuzz (pos 0)))
 

@@ -1,5 +1,5 @@
 -- Short histories, worked out by hand: what is passed, replied and read after them.
-use Rattle.std.specs.Prelude.{ℕ, zero, suc, ◌≡◌, ℤ, pos, negsuc, Bool, true, false, not, if◌then◌else◌, List, [], ◌∷◌, ◌++◌, replicate, reverse}
+use Rattle.std.specs.Prelude.{ℕ, zero, suc, ◌≡◌, ℤ, pos, negsuc, Bool, true, false, not, if◌then◌else◌, List, [], ◌∷◌, ◌++◌, map, replicate, reverse}
 use Rattle.inp_model.specs.declared.event.TheConstants.{EV_SYN, EV_KEY, EV_REL, EV_ABS, EV_SW, EV_LED, EV_SND, EV_REP, SYN_REPORT, KEY_A}
 use Rattle.inp_model.specs.declared.event.Event.{Event}
 use Rattle.inp_model.specs.declared.taken.Taken.{Taken}
@@ -9,6 +9,7 @@ use Rattle.inp_model.specs.declared.reply.Reply.TheVariants.{Opened, Took, Again
 use Rattle.inp_model.specs.declared.reply.Refusal.TheVariants.{BadClient}
 use Rattle.inp_model.specs.Description.{Description, one_key, ring, no_info, IsDescription}
 use Rattle.inp_model.specs.Event.{syn_dropped, core_report}
+use Rattle.inp_model.specs.RawItem.{Occurred}
 use Rattle.inp_model.specs.State.{key_down}
 use Rattle.inp_model.specs.Passed.{passed}
 use Rattle.inp_model.specs.Raw.{raw}
@@ -155,7 +156,7 @@ of_kind kind value = record { kind = kind; code = 0; value = value }
 
 -- on the panel, after these raw events, oldest first, this is passed for the event
 abbrev pub Passes : List Event → Event → List Event → Type 0
-Passes events e given = passed panel (reverse events) e ≡ given
+Passes events e given = passed panel (map Occurred (reverse events)) e ≡ given
 
 -- an LED is passed where it changes, and any value but 0 is on
 abbrev pub PassesAnLedOnce : Type 0

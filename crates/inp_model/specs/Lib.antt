@@ -1,5 +1,6 @@
 pub mod Description
 pub mod Event
+pub mod RawItem
 pub mod Defuzz
 pub mod State
 pub mod Passed
@@ -9,6 +10,7 @@ pub mod Cut
 pub mod Timer
 pub mod Raw
 pub mod Frame
+pub mod Left
 pub mod Queue
 pub mod Reply
 pub mod History
@@ -21,3 +23,4 @@ pub mod QueryExamples
 pub mod SlotExamples
 pub mod ClientExamples
 pub mod RepeatExamples
+pub mod AxisExamples

@@ -6,6 +6,7 @@ use Rattle.inp_model.specs.declared.multi_touch.TheConstants.{ABS_MT_SLOT}
 use Rattle.inp_model.specs.declared.event.Event.{Event}
 use Rattle.inp_model.specs.Description.{Description, supports, is_multi_touch_code}
 use Rattle.inp_model.specs.Event.{is_repeat, is_set, is_slot_value, slot_event}
+use Rattle.inp_model.specs.RawItem.{RawItem, Occurred, Described}
 use Rattle.inp_model.specs.State.{key_down, turned_on, repeat_setting, axis_value, staged, cell}
 
 -- one is true and the other is not
@@ -14,35 +15,35 @@ differ true b = not b
 differ false b = b
 
 -- an autorepeat is passed, and what changes whether the key is down
-abbrev pub key_passes : Description → List Event → Event → Bool
-key_passes d r e = if is_repeat e then true else differ (key_down d r e.code) (key_down d (e ∷ r) e.code)
+abbrev pub key_passes : Description → List RawItem → Event → Bool
+key_passes d r e = if is_repeat e then true else differ (key_down d r e.code) (key_down d (Occurred e ∷ r) e.code)
 
 -- a switch or an LED is passed where it changes
-abbrev pub switch_passes : Description → List Event → Event → Bool
-switch_passes d r e = differ (turned_on d r e.kind e.code) (turned_on d (e ∷ r) e.kind e.code)
+abbrev pub switch_passes : Description → List RawItem → Event → Bool
+switch_passes d r e = differ (turned_on d r e.kind e.code) (turned_on d (Occurred e ∷ r) e.kind e.code)
 
 -- a setting of the autorepeat is passed where it changes
-abbrev pub setting_passes : Description → List Event → Event → Bool
-setting_passes d r e = not (int_eq (repeat_setting d r e.code) (repeat_setting d (e ∷ r) e.code))
+abbrev pub setting_passes : Description → List RawItem → Event → Bool
+setting_passes d r e = not (int_eq (repeat_setting d r e.code) (repeat_setting d (Occurred e ∷ r) e.code))
 
 -- an axis is passed where it moves
-abbrev pub axis_passes : Description → List Event → Event → Bool
-axis_passes d r e = not (int_eq (axis_value d r e.code) (axis_value d (e ∷ r) e.code))
+abbrev pub axis_passes : Description → List RawItem → Event → Bool
+axis_passes d r e = not (int_eq (axis_value d r e.code) (axis_value d (Occurred e ∷ r) e.code))
 
 -- the value of the staged slot that an event is about, after it (docs/RULES.md, "Multi-touch slots")
-abbrev pub cell_after : Description → List Event → Event → ℤ
-cell_after d r e = cell d (e ∷ r) (staged d r) e.code
+abbrev pub cell_after : Description → List RawItem → Event → ℤ
+cell_after d r e = cell d (Occurred e ∷ r) (staged d r) e.code
 
 -- The naming of a slot is not passed itself. A multi-touch value is passed where it moves the value of the staged slot;
 -- without slots it is always passed, and kept nowhere (docs/RULES.md, "Multi-touch slots").
-abbrev pub multi_touch_passes : Description → List Event → Event → Bool
+abbrev pub multi_touch_passes : Description → List RawItem → Event → Bool
 multi_touch_passes d r e =
     if nat_eq e.code ABS_MT_SLOT then false
     else if nat_eq d.slots 0 then true
     else not (int_eq (cell d r (staged d r) e.code) (cell_after d r e))
 
 -- an event of a supported code is passed
-abbrev pub code_passes : Description → List Event → Event → Bool
+abbrev pub code_passes : Description → List RawItem → Event → Bool
 code_passes d r e =
     if nat_eq e.kind EV_KEY then key_passes d r e
     else if nat_eq e.kind EV_REL then is_set e
@@ -52,44 +53,50 @@ code_passes d r e =
     else true
 
 -- a multi-touch value is passed as the one that the slot takes (docs/RULES.md, "Multi-touch slots")
-abbrev pub multi_touch_value : Description → List Event → Event → ℤ
+abbrev pub multi_touch_value : Description → List RawItem → Event → ℤ
 multi_touch_value d r e = if nat_eq d.slots 0 then e.value else cell_after d r e
 
 -- an axis is passed as the value that it takes, and all else as it was injected
-abbrev pub value_passed : Description → List Event → Event → ℤ
+abbrev pub value_passed : Description → List RawItem → Event → ℤ
 value_passed d r e =
-    if nat_eq e.kind EV_ABS then (if is_multi_touch_code e.code then multi_touch_value d r e else axis_value d (e ∷ r) e.code)
+    if nat_eq e.kind EV_ABS then (if is_multi_touch_code e.code then multi_touch_value d r e else axis_value d (Occurred e ∷ r) e.code)
     else e.value
 
--- the value under which an event is passed after the raw events r, if it is passed
-abbrev pub passes_as : Description → List Event → Event → Option ℤ
+-- the value under which an event is passed after the items r, if it is passed
+abbrev pub passes_as : Description → List RawItem → Event → Option ℤ
 passes_as d r e =
     if nat_eq e.kind EV_SYN then (if nat_lt e.code SYN_DROPPED then Some e.value else None)
     else if supports d e.kind e.code && code_passes d r e then Some (value_passed d r e)
     else None
 
 -- a value of a slot that is passed
-abbrev pub passes_slot_value : Description → List Event → Event → Bool
+abbrev pub passes_slot_value : Description → List RawItem → Event → Bool
 passes_slot_value d r e = is_slot_value e && is_some (passes_as d r e)
 
 -- the slot that the clients were told last: the one staged at the last value of a slot that was passed
 -- (docs/RULES.md, "Multi-touch slots")
-unfoldable pub announced : Description → List Event → ℤ
+unfoldable pub announced : Description → List RawItem → ℤ
 announced d [] = pos 0
-announced d (e ∷ r) =
+announced d (Described axis i ∷ r) = announced d r
+announced d (Occurred e ∷ r) =
     let before = announced d r in
     if passes_slot_value d r e then staged d r else before
 
 -- a value of another slot than the one announced last is passed behind its slot (docs/RULES.md, "Multi-touch slots")
-abbrev pub announces : Description → List Event → Event → Bool
+abbrev pub announces : Description → List RawItem → Event → Bool
 announces d r e = passes_slot_value d r e && not (int_eq (staged d r) (announced d r))
 
-abbrev pub announcement : Description → List Event → Event → List Event
+abbrev pub announcement : Description → List RawItem → Event → List Event
 announcement d r e = if announces d r e then slot_event (staged d r) ∷ [] else []
 
 -- the events that are passed for it
-abbrev pub passed : Description → List Event → Event → List Event
+abbrev pub passed : Description → List RawItem → Event → List Event
 passed d r e = announcement d r e ++ option_to_list (option_map (λ v. record e { value = v }) (passes_as d r e))
+
+-- the events that are passed for an item: none for a description
+abbrev pub passed_for : Description → List RawItem → RawItem → List Event
+passed_for d r (Occurred e) = passed d r e
+passed_for d r (Described axis i) = []
 
 -- types whose passed events the device itself gets too, to set its LEDs and the like
 abbrev pub is_output : Event → Bool
@@ -98,5 +105,5 @@ is_output e =
     || nat_eq e.kind EV_LED || nat_eq e.kind EV_SND || nat_eq e.kind EV_MSC || nat_eq e.kind EV_REP
 
 -- the device gets it
-abbrev pub goes_to_device : Description → List Event → Event → Bool
+abbrev pub goes_to_device : Description → List RawItem → Event → Bool
 goes_to_device d r e = is_output e && is_some (passes_as d r e)

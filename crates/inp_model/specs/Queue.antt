@@ -11,7 +11,9 @@ use Rattle.inp_model.specs.Description.{Description, ring, offset}
 use Rattle.inp_model.specs.Event.{is_report, syn_dropped}
 use Rattle.inp_model.specs.Step.{Query, query_of, is_part_of}
 use Rattle.inp_model.specs.Past.{is_open, is_call_of, is_revoked, holder, is_other, clock_of, admits}
-use Rattle.inp_model.specs.Frame.{Frame, place, frames_of_step}
+use Rattle.inp_model.specs.RawItem.{Frame}
+use Rattle.inp_model.specs.Frame.{place, moment, frames_of_step}
+use Rattle.inp_model.specs.Left.{Eats, eaten, left}
 
 -- an event in a client's queue, with the frame that it came in
 pub record Entry : Type 0 where
@@ -94,17 +96,26 @@ is_offered past client = is_open past client && not (is_revoked past client) && 
 -- an event of a frame as a client reads it, timed by its clock (docs/RULES.md, "Clocks")
 abbrev pub entry : Description → ℕ → Frame → Event → Entry
 entry d client f e = record {
-  taken = record { event = e; time = f.moment + offset d (clock_of f.before client); place = place f };
+  taken = record { event = e; time = moment f + offset d (clock_of f.before client); place = place f };
   frame = Some f;
 }
 
--- what comes to a client of a frame: those of its events that it admits, where it is offered the frame
--- (docs/RULES.md, "A client's queue" and "Masks")
+-- What comes to a client of a frame: what is left of it that the client admits, where it is offered the frame
+-- (docs/RULES.md, "A client's queue" and "Masks").
+--
+-- This definition, and each that ends in _with, speaks of any choice of what is left of a frame. The one of the same name
+-- without it speaks of the device's own.
+abbrev pub entries_of_with : Eats → Description → ℕ → Frame → List Entry
+entries_of_with eats d client f = if is_offered f.before client then map (entry d client f) (filter (admits f.before client) (left eats f)) else []
+
+abbrev pub entries_with : Eats → Description → ℕ → List Frame → List Entry
+entries_with eats d client fs = flat_map (entries_of_with eats d client) fs
+
 abbrev pub entries_of : Description → ℕ → Frame → List Entry
-entries_of d client f = if is_offered f.before client then map (entry d client f) (filter (admits f.before client) f.cut.events) else []
+entries_of d client f = entries_of_with (eaten d) d client f
 
 abbrev pub entries : Description → ℕ → List Frame → List Entry
-entries d client fs = flat_map (entries_of d client) fs
+entries d client fs = entries_with (eaten d) d client fs
 
 abbrev pub is_same_clock : Clock → Clock → Bool
 is_same_clock Realtime Realtime = true
@@ -135,24 +146,38 @@ left_by_call d past (ToClock client clock now) q =
 left_by_call d past x q = flush_for event_of (query_of x) q
 
 -- what a step leaves in a client's queue: its own call first, then what comes of the frames that the step ends
-abbrev pub queue_after : Description → List Step → ℕ → Step → List Entry → List Entry
-queue_after d past client x q =
+abbrev pub queue_after_with : Eats → Description → List Step → ℕ → Step → List Entry → List Entry
+queue_after_with eats d past client x q =
     put_all event_of entry_dropped_at (ring d)
     (if is_call_of past client x then left_by_call d past x q else q)
-    (entries d client (frames_of_step d past x))
+    (entries_with eats d client (frames_of_step d past x))
 
-unfoldable pub queue : Description → List Step → ℕ → List Entry
-queue d [] client = []
-queue d (x ∷ past) client = queue_after d past client x (queue d past client)
+unfoldable pub queue_with : Eats → Description → List Step → ℕ → List Entry
+queue_with eats d [] client = []
+queue_with eats d (x ∷ past) client = queue_after_with eats d past client x (queue_with eats d past client)
 
 -- what a step takes from a client's queue
-abbrev pub taken_by : Description → List Step → ℕ → Step → List Entry
-taken_by d past client (Read reader count) =
-    let q = queue d past client in
+abbrev pub taken_by_with : Eats → Description → List Step → ℕ → Step → List Entry
+taken_by_with eats d past client (Read reader count) =
+    let q = queue_with eats d past client in
     if nat_eq reader client then take (min count (visible event_of q)) q else []
-taken_by d past client _ = []
+taken_by_with eats d past client _ = []
 
 -- all that a client's reads have taken, in order
-unfoldable pub took : Description → List Step → ℕ → List Entry
-took d [] client = []
-took d (x ∷ past) client = took d past client ++ taken_by d past client x
+unfoldable pub took_with : Eats → Description → List Step → ℕ → List Entry
+took_with eats d [] client = []
+took_with eats d (x ∷ past) client = took_with eats d past client ++ taken_by_with eats d past client x
+
+-- of the device's own
+
+abbrev pub queue_after : Description → List Step → ℕ → Step → List Entry → List Entry
+queue_after d past client x q = queue_after_with (eaten d) d past client x q
+
+abbrev pub queue : Description → List Step → ℕ → List Entry
+queue d past client = queue_with (eaten d) d past client
+
+abbrev pub taken_by : Description → List Step → ℕ → Step → List Entry
+taken_by d past client x = taken_by_with (eaten d) d past client x
+
+abbrev pub took : Description → List Step → ℕ → List Entry
+took d past client = took_with (eaten d) d past client

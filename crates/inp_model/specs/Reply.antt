@@ -4,22 +4,23 @@ use Rattle.std.specs.List.{range_with_len}
 use Rattle.inp_model.specs.declared.event.TheConstants.{EV_KEY, EV_ABS, EV_SW, EV_LED, EV_SND, ABS_MAX}
 use Rattle.inp_model.specs.declared.limits.TheConstants.{CLIENTS_MAX}
 use Rattle.inp_model.specs.declared.multi_touch.TheConstants.{ABS_MT_SLOT, ABS_MT_TOUCH_MAJOR}
-use Rattle.inp_model.specs.declared.event.Event.{Event}
 use Rattle.inp_model.specs.declared.axis_info.AxisInfo.{AxisInfo}
 use Rattle.inp_model.specs.declared.taken.Taken.{Taken}
 use Rattle.inp_model.specs.declared.step.Step.{Step}
-use Rattle.inp_model.specs.declared.step.Step.TheVariants.{Inject, Tick, Open, Close, Read, Discard, GetKeys, GetSwitches, GetLeds, GetSounds, GetAxis, GetSlots, SyncSlots, Write, Grab, Ungrab, Mask, Clock as ToClock, Revoke, Inhibit, Uninhibit, End}
+use Rattle.inp_model.specs.declared.step.Step.TheVariants.{Inject, Tick, Open, Close, Read, Discard, GetKeys, GetSwitches, GetLeds, GetSounds, GetAxis, SetAxis, GetSlots, SyncSlots, Write, Grab, Ungrab, Mask, Clock as ToClock, Revoke, Inhibit, Uninhibit, End}
 use Rattle.inp_model.specs.declared.reply.Reply.{Reply}
 use Rattle.inp_model.specs.declared.reply.Reply.TheVariants.{Done, Opened, Took, Discarded, Bits, Axis, Cells, Again, Refused}
-use Rattle.inp_model.specs.declared.reply.Refusal.TheVariants.{BadClient, NoDevice, BadKind, BadCode, Busy, NotGrabber, TooMany, LogFull, NoMemory}
-use Rattle.inp_model.specs.Description.{Description, ring, has_kind, supports, info, no_info, is_multi_touch_code, is_slot_code}
-use Rattle.inp_model.specs.State.{key_down, turned_on, axis_value, cell}
+use Rattle.inp_model.specs.declared.reply.Refusal.TheVariants.{BadClient, NoDevice, BadKind, BadCode, BadInfo, Busy, NotGrabber, TooMany, LogFull, NoMemory}
+use Rattle.inp_model.specs.Description.{Description, ring, has_kind, supports, no_info, is_bad_fuzz, is_multi_touch_code, is_slot_code, is_fixed_axis}
+use Rattle.inp_model.specs.RawItem.{RawItem}
+use Rattle.inp_model.specs.State.{key_down, turned_on, axis_info, axis_value, cell}
 use Rattle.inp_model.specs.Passed.{announced}
 use Rattle.inp_model.specs.Step.{client_of, is_close_of, is_same}
 use Rattle.inp_model.specs.Past.{opens, is_open, open_clients, is_revoked, holder, has_mask, mask_words, ends}
 use Rattle.inp_model.specs.Cut.{at_frame}
 use Rattle.inp_model.specs.Raw.{raw}
-use Rattle.inp_model.specs.Queue.{Entry, event_of, queue, visible, taken_by}
+use Rattle.inp_model.specs.Left.{Eats, eaten}
+use Rattle.inp_model.specs.Queue.{Entry, event_of, queue_with, visible, taken_by_with}
 
 -- a reply, with what is written to the front of the caller's buffers of events and of cells
 pub record Answer : Type 0 where
@@ -42,25 +43,36 @@ abbrev pub is_no_device : List Step → Step → Option ℕ → Bool
 is_no_device past x None = false
 is_no_device past x (Some client) = is_revoked past client && not (is_close_of client x)
 
--- an axis is asked for on a device without axes, slots on one without slots, or a mask is set that there is not
+-- an axis is asked for or described anew on a device without axes, slots on one without slots, or a mask is set that there is not
 abbrev pub is_bad_kind : Description → Step → Bool
 is_bad_kind d (GetAxis client code) = not (has_kind d EV_ABS)
+is_bad_kind d (SetAxis client code axis) = not (has_kind d EV_ABS)
 is_bad_kind d (GetSlots client code) = nat_eq d.slots 0
 is_bad_kind d (SyncSlots client) = nat_eq d.slots 0
 is_bad_kind d (Mask client kind word bits) = not (has_mask kind)
 is_bad_kind d _ = false
 
--- an axis is asked for that no device has, or one whose values belong to no slot, or a word is set past its mask
-abbrev pub is_bad_code : Step → Bool
-is_bad_code (GetAxis client code) = nat_lt ABS_MAX code
-is_bad_code (GetSlots client code) = not (is_slot_code code)
-is_bad_code (Mask client kind word bits) = nat_le (mask_words kind) word
-is_bad_code _ = false
+-- an axis is asked for that no device has, or one whose values belong to no slot; one is described anew that stays as it
+-- is described at first; or a word is set past its mask
+abbrev pub is_bad_code : Description → Step → Bool
+is_bad_code d (GetAxis client code) = nat_lt ABS_MAX code
+is_bad_code d (SetAxis client code axis) = is_fixed_axis d code
+is_bad_code d (GetSlots client code) = not (is_slot_code code)
+is_bad_code d (Mask client kind word bits) = nat_le (mask_words kind) word
+is_bad_code d _ = false
+
+-- an axis is described anew with a fuzz out of range (docs/RULES.md, "Axes described anew")
+abbrev pub is_bad_info : Step → Bool
+is_bad_info (SetAxis client code axis) = is_bad_fuzz axis
+is_bad_info _ = false
 
 -- a read that finds nothing visible
+abbrev pub finds_nothing_with : Eats → Description → List Step → Step → Bool
+finds_nothing_with eats d past (Read client count) = nat_eq (visible event_of (queue_with eats d past client)) 0
+finds_nothing_with eats d past _ = false
+
 abbrev pub finds_nothing : Description → List Step → Step → Bool
-finds_nothing d past (Read client count) = nat_eq (visible event_of (queue d past client)) 0
-finds_nothing d past _ = false
+finds_nothing d past x = finds_nothing_with (eaten d) d past x
 
 -- the grab is taken while a client holds it (docs/RULES.md, "The grab")
 abbrev pub is_busy : List Step → Step → Bool
@@ -95,13 +107,14 @@ abbrev pub refusal : Bool → Reply → Case
 refusal holds reply = record { holds = holds; reply = reply }
 
 -- what may refuse a step, in the order in which it is tried (docs/RULES.md, "The order of refusals")
-abbrev pub refusals : Description → List Step → Step → List Case
-refusals d past x =
+abbrev pub refusals_with : Eats → Description → List Step → Step → List Case
+refusals_with eats d past x =
     refusal (is_bad_client past (client_of x)) (Refused (length past) BadClient)
     ∷ refusal (is_no_device past x (client_of x)) (Refused (length past) NoDevice)
     ∷ refusal (is_bad_kind d x) (Refused (length past) BadKind)
-    ∷ refusal (is_bad_code x) (Refused (length past) BadCode)
-    ∷ refusal (finds_nothing d past x) (Again (length past) (ends past))
+    ∷ refusal (is_bad_code d x) (Refused (length past) BadCode)
+    ∷ refusal (is_bad_info x) (Refused (length past) BadInfo)
+    ∷ refusal (finds_nothing_with eats d past x) (Again (length past) (ends past))
     ∷ refusal (is_busy past x) (Refused (length past) Busy)
     ∷ refusal (is_not_grabber past x) (Refused (length past) NotGrabber)
     ∷ refusal (is_one_too_many past x) (Refused (length past) TooMany)
@@ -109,8 +122,14 @@ refusals d past x =
     ∷ []
 
 -- the first refusal that holds, if one does
+abbrev pub refused_with : Eats → Description → List Step → Step → Option Reply
+refused_with eats d past x = first_reply (refusals_with eats d past x)
+
+abbrev pub refusals : Description → List Step → Step → List Case
+refusals d past x = refusals_with (eaten d) d past x
+
 abbrev pub refused : Description → List Step → Step → Option Reply
-refused d past x = first_reply (refusals d past x)
+refused d past x = refused_with (eaten d) d past x
 
 -- Answers to steps that nothing refuses (docs/RULES.md, "Queries", but where another rule is named)
 
@@ -130,31 +149,31 @@ abbrev pub words_of : (ℕ → Bool) → List ℕ
 words_of test = map (λ w. word_of test (64 * w)) (range_with_len 0 12)
 
 -- the present value of an axis; those whose values belong to slots have none of their own
-abbrev pub present_value : Description → List Event → ℕ → ℤ
+abbrev pub present_value : Description → List RawItem → ℕ → ℤ
 present_value d r code =
     if nat_eq code ABS_MT_SLOT then announced d r
     else if is_multi_touch_code code then pos 0
     else axis_value d r code
 
--- what an axis is and has
-abbrev pub axis_answer : Description → List Event → ℕ → AxisInfo
+-- what an axis is and has (docs/RULES.md, "Queries" and "Axes described anew")
+abbrev pub axis_answer : Description → List RawItem → ℕ → AxisInfo
 axis_answer d r code =
-    if supports d EV_ABS code then record (info d code) { value = present_value d r code } else no_info
+    if supports d EV_ABS code then record (axis_info d r code) { value = present_value d r code } else no_info
 
 -- the value of each slot, on one axis
-abbrev pub column : Description → List Event → ℕ → List ℤ
+abbrev pub column : Description → List RawItem → ℕ → List ℤ
 column d r code = map (λ slot. cell d r (pos slot) code) (range_with_len 0 d.slots)
 
 -- the fourteen values of a slot, by ascending codes
-abbrev pub row : Description → List Event → ℕ → List ℤ
+abbrev pub row : Description → List RawItem → ℕ → List ℤ
 row d r slot = map (λ code. cell d r (pos slot) code) (range_with_len ABS_MT_TOUCH_MAJOR 14)
 
 -- all values of all slots, slot by slot
-abbrev pub rows : Description → List Event → List ℤ
+abbrev pub rows : Description → List RawItem → List ℤ
 rows d r = flat_map (row d r) (range_with_len 0 d.slots)
 
 -- whether a code of the type is on now: a key is down, a switch, an LED or a sound is on
-abbrev pub code_on : Description → List Event → ℕ → ℕ → Bool
+abbrev pub code_on : Description → List RawItem → ℕ → ℕ → Bool
 code_on d r kind code = if nat_eq kind EV_KEY then key_down d r code else turned_on d r kind code
 
 -- all codes of a type
@@ -174,37 +193,44 @@ abbrev pub done_answer : List Step → Answer
 done_answer past = alone (Done (length past))
 
 -- the answer to a step that is not refused
+abbrev pub accepted_with : Eats → Description → List Step → Step → Answer
+accepted_with eats d past (Inject e now) = done_answer past
+accepted_with eats d past (Tick now) = done_answer past
+accepted_with eats d past Open = alone (Opened (length past) (opens past) (ring d))
+accepted_with eats d past (Close client) = done_answer past
+accepted_with eats d past (Read client count) = took_answer past (taken_by_with eats d past client (Read client count))
+accepted_with eats d past (Discard client) = alone (Discarded (length past) (visible event_of (queue_with eats d past client)))
+accepted_with eats d past (GetKeys client) = bits_answer d past EV_KEY
+accepted_with eats d past (GetSwitches client) = bits_answer d past EV_SW
+accepted_with eats d past (GetLeds client) = bits_answer d past EV_LED
+accepted_with eats d past (GetSounds client) = bits_answer d past EV_SND
+accepted_with eats d past (GetAxis client code) = alone (Axis (length past) (axis_answer d (raw d past) code))
+accepted_with eats d past (SetAxis client code axis) = done_answer past
+accepted_with eats d past (GetSlots client code) = cells_answer d past d.slots (column d (raw d past) code)
+accepted_with eats d past (SyncSlots client) = cells_answer d past (14 * d.slots) (rows d (raw d past))
+accepted_with eats d past (Write client e now) = done_answer past
+accepted_with eats d past (Grab client) = done_answer past
+accepted_with eats d past (Ungrab client) = done_answer past
+accepted_with eats d past (Mask client kind word bits) = done_answer past
+accepted_with eats d past (ToClock client clock now) = done_answer past
+accepted_with eats d past (Revoke client) = done_answer past
+accepted_with eats d past (Inhibit now) = done_answer past
+accepted_with eats d past Uninhibit = done_answer past
+accepted_with eats d past End = done_answer past
+
 abbrev pub accepted : Description → List Step → Step → Answer
-accepted d past (Inject e now) = done_answer past
-accepted d past (Tick now) = done_answer past
-accepted d past Open = alone (Opened (length past) (opens past) (ring d))
-accepted d past (Close client) = done_answer past
-accepted d past (Read client count) = took_answer past (taken_by d past client (Read client count))
-accepted d past (Discard client) = alone (Discarded (length past) (visible event_of (queue d past client)))
-accepted d past (GetKeys client) = bits_answer d past EV_KEY
-accepted d past (GetSwitches client) = bits_answer d past EV_SW
-accepted d past (GetLeds client) = bits_answer d past EV_LED
-accepted d past (GetSounds client) = bits_answer d past EV_SND
-accepted d past (GetAxis client code) = alone (Axis (length past) (axis_answer d (raw d past) code))
-accepted d past (GetSlots client code) = cells_answer d past d.slots (column d (raw d past) code)
-accepted d past (SyncSlots client) = cells_answer d past (14 * d.slots) (rows d (raw d past))
-accepted d past (Write client e now) = done_answer past
-accepted d past (Grab client) = done_answer past
-accepted d past (Ungrab client) = done_answer past
-accepted d past (Mask client kind word bits) = done_answer past
-accepted d past (ToClock client clock now) = done_answer past
-accepted d past (Revoke client) = done_answer past
-accepted d past (Inhibit now) = done_answer past
-accepted d past Uninhibit = done_answer past
-accepted d past End = done_answer past
+accepted d past x = accepted_with (eaten d) d past x
 
 abbrev pub answer_by : Option Reply → Answer → Answer
 answer_by None given = given
 answer_by (Some reply) given = alone reply
 
 -- the answer to a step after a past
+abbrev pub answer_with : Eats → Description → List Step → Step → Answer
+answer_with eats d past x = answer_by (refused_with eats d past x) (accepted_with eats d past x)
+
 abbrev pub answer : Description → List Step → Step → Answer
-answer d past x = answer_by (refused d past x) (accepted d past x)
+answer d past x = answer_with (eaten d) d past x
 
 -- does a reply say that the step was entered
 abbrev pub is_accepted : Reply → Bool

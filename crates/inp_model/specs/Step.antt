@@ -6,7 +6,7 @@ use Rattle.inp_model.specs.declared.event.TheConstants.{EV_KEY, EV_SW, EV_LED, E
 use Rattle.inp_model.specs.declared.event.Event.{Event}
 use Rattle.inp_model.specs.declared.clock.Clock.{Clock}
 use Rattle.inp_model.specs.declared.step.Step.{Step}
-use Rattle.inp_model.specs.declared.step.Step.TheVariants.{Inject, Tick, Open, Close, Read, Discard, GetKeys, GetSwitches, GetLeds, GetSounds, GetAxis, GetSlots, SyncSlots, Write, Grab, Ungrab, Mask, Clock as ToClock, Revoke, Inhibit, Uninhibit, End}
+use Rattle.inp_model.specs.declared.step.Step.TheVariants.{Inject, Tick, Open, Close, Read, Discard, GetKeys, GetSwitches, GetLeds, GetSounds, GetAxis, SetAxis, GetSlots, SyncSlots, Write, Grab, Ungrab, Mask, Clock as ToClock, Revoke, Inhibit, Uninhibit, End}
 use Rattle.inp_model.specs.Event.{is_multi_touch}
 
 -- the client that a step names
@@ -22,6 +22,7 @@ client_of (GetSwitches client) = Some client
 client_of (GetLeds client) = Some client
 client_of (GetSounds client) = Some client
 client_of (GetAxis client code) = Some client
+client_of (SetAxis client code axis) = Some client
 client_of (GetSlots client code) = Some client
 client_of (SyncSlots client) = Some client
 client_of (Write client e now) = Some client
@@ -47,6 +48,7 @@ moment_of (GetSwitches client) = 0
 moment_of (GetLeds client) = 0
 moment_of (GetSounds client) = 0
 moment_of (GetAxis client code) = 0
+moment_of (SetAxis client code axis) = 0
 moment_of (GetSlots client code) = 0
 moment_of (SyncSlots client) = 0
 moment_of (Write client e now) = now
@@ -103,6 +105,11 @@ abbrev pub inhibition_of : Step → Option Bool
 inhibition_of (Inhibit now) = Some true
 inhibition_of Uninhibit = Some false
 inhibition_of _ = None
+
+-- an axis is described anew (docs/RULES.md, "Axes described anew")
+abbrev pub is_description : Step → Bool
+is_description (SetAxis client code axis) = true
+is_description _ = false
 
 -- a source is done (docs/RULES.md, "The end of a source")
 abbrev pub is_end_step : Step → Bool

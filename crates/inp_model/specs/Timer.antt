@@ -5,8 +5,8 @@ use Rattle.inp_model.specs.declared.event.Event.{Event}
 use Rattle.inp_model.specs.declared.timer.Timer.{Timer}
 use Rattle.inp_model.specs.Description.{Description, has_kind}
 use Rattle.inp_model.specs.Event.{is_repeat, is_set}
+use Rattle.inp_model.specs.RawItem.{RawItem, Cut}
 use Rattle.inp_model.specs.State.{repeat_setting}
-use Rattle.inp_model.specs.Cut.{Cut}
 
 -- a device repeats keys where it has the types of the settings and of the keys
 abbrev pub repeats_keys : Description → Bool
@@ -29,7 +29,7 @@ abbrev pub timer_disarmed : Timer → Timer
 timer_disarmed timer = record timer { due = None }
 
 -- a setting of the autorepeat in microseconds; the settings are in milliseconds
-abbrev pub setting : Description → List Event → ℕ → ℕ
+abbrev pub setting : Description → List RawItem → ℕ → ℕ
 setting d r code = 1000 * unsigned_abs (repeat_setting d r code)
 
 -- A key event of a frame that ended at this moment: a release disarms the timer, and a press arms it for its key, where

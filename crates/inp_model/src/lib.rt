@@ -6,12 +6,12 @@
 //!
 //! Its definitions are what a reader must believe. `Description` says what a device is, and which descriptions there
 //! are. A history is a list of accepted steps; `Step` reads one step, and `Past` what a history says of its clients.
-//! From the history and the description alone follow the raw events (`Raw`), the state by the last write (`State`: keys
+//! From the history and the description alone follow the raw events and descriptions of axes (`Raw`), the state by the last write (`State`: keys
 //! and the like, axes, and the slots of multi-touch devices, with `Defuzz` for axes and slots), the events passed
 //! (`Passed`), the frames that they are cut into (`Cut`, `Frame`), each client's queue (`Queue`) and the reply to the
 //! next step (`Reply`). `Run` says when a caller's calls are a legal run of a history, and `Evdev` what one call of
-//! whatever makes steps leaves of what its caller sees. `examples`, `query_examples`, `slot_examples`, `client_examples`
-//! and `repeat_examples` show what the definitions compute on short histories.
+//! whatever makes steps leaves of what its caller sees. `examples`, `query_examples`, `slot_examples`, `client_examples`,
+//! `repeat_examples` and `axis_examples` show what the definitions compute on short histories.
 #![tactic(auto)]
 
 mod axis_info;
@@ -48,7 +48,7 @@ pub use multi_touch::{
 pub use no_memory::NoMemory;
 pub use reply::{Refusal, Reply};
 pub use short_histories::{
-    client_examples, examples, query_examples, repeat_examples, slot_examples,
+    axis_examples, client_examples, examples, query_examples, repeat_examples, slot_examples,
 };
 pub use stamped::{MOMENT_MAX, Stamped};
 pub use step::Step;

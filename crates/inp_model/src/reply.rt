@@ -40,6 +40,8 @@ pub enum Refusal {
     BadKind,
     /// The step is about a code that its type does not have.
     BadCode,
+    /// The axis is described with a fuzz out of range (this project's choice: evdev takes it).
+    BadInfo,
     /// A client holds the grab (evdev's `EBUSY`).
     Busy,
     /// The client does not hold the grab that it gives up (evdev's `EINVAL`).

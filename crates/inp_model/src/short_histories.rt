@@ -3,6 +3,7 @@ ghost use Rattle.inp_model.specs.QueryExamples.{TellsTheKeys, RemovesQueuedKeys,
 ghost use Rattle.inp_model.specs.SlotExamples.{NamesTheSlot, TellsAllSlots, TellsOneValue, GoesOnInTheSlot, RemovesQueuedTouches, TellsTheNamedSlot, StagesSlotsThatThereAre, PassesNoNameAlone, PassesWithoutSlots, CountsTheName, CutsAtTheHint, RefusesSlotQueries};
 ghost use Rattle.inp_model.specs.Examples.{RingOf128, ReadsAFrame, PassesAChangeOnce, ReadsNothing, NeedsAClient, ReadsNone, ReadsInParts, HidesAnOpenBatch, OffersAWholeFrame, PassesARepeat, KeepsTheKeyUp, IgnoresOthers, CutsAFullPacket, LosesAFullRing, LosesInAFrame, KeepsAllButOne, IsLegalAmongOthers, DescribesAKeyboard, PassesAnLedOnce, PassesASwitchOnce, PassesEachSound, PassesMotion, PassesAMove, PassesASetting};
 ghost use Rattle.inp_model.specs.ClientExamples.{LosesASmallRing, LosesBeforeTheReport, DiscardsAll, ForgetsAClosedClient, OpensSixtyFour, MasksAKey, MasksTypes, ChangesTheClock, KeepsTime, GrabsOnce, GrabsFrames, WritesToAll, RevokesForGood, RefusesInOrder};
+ghost use Rattle.inp_model.specs.AxisExamples.{DescribesAnAxis, MovesByTheNewFuzz, LeavesTheBatch, DescribesWhileInhibited, TakesAnyValue, RefusesDescriptions};
 ghost use Rattle.inp_model.specs.RepeatExamples.{RepeatsAKey, StopsAtARelease, RepeatsOnce, RepeatsTheLastKey, InhibitsADevice, InhibitsOnce, CountsEnds};
 
 /// What the definitions of this crate compute on short histories that were worked out by hand. It does nothing: its
@@ -87,4 +88,14 @@ pub fn repeat_examples()
     ensures inhibited { InhibitsADevice }
     ensures twice { InhibitsOnce }
     ensures ends { CountsEnds }
+{}
+
+/// The same of axes that are described anew.
+pub fn axis_examples()
+    ensures described { DescribesAnAxis }
+    ensures moves { MovesByTheNewFuzz }
+    ensures batch { LeavesTheBatch }
+    ensures inhibited { DescribesWhileInhibited }
+    ensures value { TakesAnyValue }
+    ensures refused { RefusesDescriptions }
 {}

@@ -2,7 +2,7 @@
 ghost use Rattle.std.specs.Prelude.{◌≡◌};
 ghost use Rattle.inp_model.specs.Step.{client_of};
 
-use crate::{Clock, Event};
+use crate::{AxisInfo, Clock, Event};
 
 /// One step on a device. A device's history is the list of the steps that it accepted.
 ///
@@ -55,6 +55,12 @@ pub enum Step {
     GetAxis {
         client: u32,
         code: u16,
+    },
+    /// A client describes an axis anew, value and fuzz included (evdev's `EVIOCSABS`). No event is passed.
+    SetAxis {
+        client: u32,
+        code: u16,
+        info: AxisInfo,
     },
     /// A client asks for one multi-touch value of each slot (evdev's `EVIOCGMTSLOTS`). Nothing is removed.
     GetSlots {
@@ -131,6 +137,7 @@ impl Step {
             | Step::GetLeds { client }
             | Step::GetSounds { client }
             | Step::GetAxis { client, .. }
+            | Step::SetAxis { client, .. }
             | Step::GetSlots { client, .. }
             | Step::SyncSlots { client }
             | Step::Write { client, .. }
