@@ -3,6 +3,7 @@ use Rattle.std.specs.Prelude.{ℕ, ◌+◌, Bool, ◌&&◌, if◌then◌else◌,
 use Rattle.inp_model.specs.declared.event.Event.{Event}
 use Rattle.inp_model.specs.Description.{Description}
 use Rattle.inp_model.specs.Event.{is_report}
+use Rattle.inp_model.specs.RawItem.{RawItem}
 use Rattle.inp_model.specs.Passed.{passes_as, goes_to_device, announces}
 use Rattle.inp_caps.specs.declared.disposition.Disposition.{Disposition}
 
@@ -15,8 +16,8 @@ abbrev pub flags : Bool → Bool → Bool → Bool → ℕ
 flags to_handlers to_device slot flush =
     (if to_handlers then 1 else 0) + (if to_device then 2 else 0) + (if slot then 4 else 0) + (if flush then 8 else 0)
 
--- what becomes of an event after the raw events r
-abbrev pub flags_after : Description → List Event → Event → ℕ
+-- what becomes of an event after the items r
+abbrev pub flags_after : Description → List RawItem → Event → ℕ
 flags_after d r e =
     let passed = is_some (passes_as d r e) in
     flags passed (goes_to_device d r e) (announces d r e) (passed && is_report e)
