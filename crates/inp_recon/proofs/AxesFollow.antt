@@ -1,28 +1,30 @@
 -- The axes of a view follow the device. A query of an axis removes nothing from the queue: what is queued of it leads
 -- to its present value.
-use Rattle.std.proofs.Common.{◌≡◌, ◌<◌, ℕ, ℤ, pos, Bool, true, false, ◌&&◌, not, if◌then◌else◌, cond, nat_eq, List, [], ◌∷◌, ◌++◌, length, map, get_or, refl, sym, ap, subst, ◌∙◌, Some, arith}
+use Rattle.std.proofs.Common.{◌≡◌, ◌<◌, ◌≤◌, ℕ, ℤ, pos, Bool, true, false, ◌&&◌, not, if◌then◌else◌, cond, nat_eq, List, [], ◌∷◌, ◌++◌, length, map, get_or, refl, sym, ap, subst, ◌∙◌, Some, arith}
 use Rattle.std.proofs.lemmas.Bool.{eqb-true, not-true}
 use Rattle.inp_model.specs.declared.event.TheConstants.{EV_ABS}
 use Rattle.inp_model.specs.declared.multi_touch.TheConstants.{ABS_MT_SLOT}
 use Rattle.inp_model.specs.declared.event.Event.{Event}
 use Rattle.inp_model.specs.declared.step.Step.{Step}
 use Rattle.inp_model.specs.declared.step.Step.TheVariants.{Open, Discard, GetAxis}
-use Rattle.inp_model.specs.Description.{Description, supports, info, no_info, is_multi_touch_code}
+use Rattle.inp_model.specs.RawItem.{RawItem, Cut, Frame}
+use Rattle.inp_model.specs.Description.{Description, supports, no_info, is_multi_touch_code}
 use Rattle.inp_model.specs.Event.{is_multi_touch}
-use Rattle.inp_model.specs.Step.{Codes, Slots, client_of, moment_of, is_same, query_of}
-use Rattle.inp_model.specs.State.{axis_value}
+use Rattle.inp_model.specs.Step.{Codes, Slots, client_of, is_same, query_of, is_description}
+use Rattle.inp_model.specs.State.{axis_info, axis_value}
 use Rattle.inp_model.specs.Passed.{announced}
-use Rattle.inp_model.specs.Past.{is_open}
-use Rattle.inp_model.specs.Cut.{Cut, raw_after, pending, cuts}
+use Rattle.inp_model.specs.Past.{is_open, description_places}
+use Rattle.inp_model.specs.Cut.{raw_after, pending, cuts}
 use Rattle.inp_model.specs.Raw.{raw, raw_of_step}
-use Rattle.inp_model.specs.Frame.{Frame, frame_of, frames}
-use Rattle.inp_model.specs.Queue.{Entry, event_of, queue, taken_by}
-use Rattle.inp_model.specs.Reply.{accepted, present_value, axis_answer}
+use Rattle.inp_model.specs.Frame.{frame_of, frames}
+use Rattle.inp_model.specs.Left.{Eats}
+use Rattle.inp_model.specs.Queue.{is_empty, Entry, event_of, queue_with, taken_by_with}
+use Rattle.inp_model.specs.Reply.{accepted_with, present_value, axis_answer}
 use Rattle.inp_recon.specs.declared.view.View.{View}
 use Rattle.inp_recon.specs.View.{IsSizedFor, with_value_at, view_after_event, view_after_events, view_after_answer}
-use Rattle.inp_recon.specs.ClientView.{client_view}
-use Rattle.inp_recon.specs.Synchronised.{OneAxis, asks_for, is_start, start_place, has_axis, taken_since_start, has_no_loss, has_asked}
-use Rattle.inp_recon.specs.Undisturbed.{is_whole_for}
+use Rattle.inp_recon.specs.ClientView.{client_view_with}
+use Rattle.inp_recon.specs.Synchronised.{OneAxis, asks_for, is_start, start_place, has_axis, taken_since_start_with, has_no_loss, has_asked}
+use Rattle.inp_recon.specs.Undisturbed.{is_whole_for, frames_end, described_from}
 use Rattle.inp_recon.proofs.Each.{Each, Each-left, Each-right, and-left, and-right, all-left, all-right}
 use Rattle.inp_recon.proofs.Over.{over, over-append, IsIdle}
 use Rattle.inp_recon.proofs.LastWrite.{again, suffix-same, pending-again}
@@ -30,10 +32,11 @@ use Rattle.inp_recon.proofs.CallsLeft.{left_in_queue, left_by}
 use Rattle.inp_recon.proofs.FrameEntries.{Receives}
 use Rattle.inp_recon.proofs.FrameSteps.{frames_by, offered_to, passed_by, passes_all, all_grown}
 use Rattle.inp_recon.proofs.Shape.{start-empties}
+use Rattle.inp_recon.proofs.DescriptionSteps.{items-are_events, start-undescribed, places-described, places-same, AreBelow, described_from-within, described-same, described-start, is_settled, raw-settled}
 use Rattle.inp_recon.proofs.Steps.{raw-step, queue-step, frames-step, start-same, start-before, receives-before}
 use Rattle.inp_recon.proofs.FlagClasses.{kind_asked}
 use Rattle.inp_recon.proofs.AxisPasses.{sets_axis, value_of, axis_after, unkind-idle, multi_touch-idle, axis-unviewed, axis-passes}
-use Rattle.inp_recon.proofs.Following.{Spares, AreWhole, call-keeps, Stands, stands}
+use Rattle.inp_recon.proofs.Following.{Spares, AreWhole, IsClear, call-keeps, Stands, stands}
 use Rattle.inp_recon.proofs.ViewSteps.{get-after_events, get-follows, get_or-with_value_at}
 
 -- another query spares the axis
@@ -49,15 +52,15 @@ start_raw d past client Open h = refl
 start_raw d past client (Discard reader) h = refl
 start_raw d past client x h = let bad : false ≡ true = h in absurd cc
 
-no_frames : (d : Description) (client : ℕ) (past : List Step) (now : ℕ) (r : List Event) (q : List Entry) → offered_to d client q (frames_by d past now r []) ≡ q
+no_frames : (eats : Eats) (d : Description) (client : ℕ) (past : List Step) (s : Step) (r : List RawItem) (q : List Entry) → offered_to eats d client q (frames_by d past s r []) ≡ q
 unfolding cuts
-no_frames d client past now r q = refl
+no_frames eats d client past s r q = refl
 
-whole_here : (client : ℕ) (past : List Step) (now start : ℕ) → start < length past → (cs : List Cut) → AreWhole start client (map (frame_of past now) cs) → Each (λ f. is_whole_for client f ≡ true) (map (frame_of past now) cs)
-whole_here client past now start later [] w = tt
-whole_here client past now start later (c ∷ cs) w = (w.0 later, whole_here client past now start later cs w.1)
+whole_here : (eats : Eats) (client : ℕ) (past : List Step) (s : Step) (start : ℕ) → start < length past → (cs : List Cut) → AreWhole eats start client (map (frame_of past s) cs) → Each (λ f. is_whole_for eats client f ≡ true) (map (frame_of past s) cs)
+whole_here eats client past s start later [] w = tt
+whole_here eats client past s start later (c ∷ cs) w = (w.0 later, whole_here eats client past s start later cs w.1)
 
-module _ (d : Description) (client code : ℕ) (has : has_axis d code ≡ true) (within : code < 64) where
+module _ (eats : Eats) (d : Description) (client code : ℕ) (has : has_axis d code ≡ true) (within : code < 64) where
   axis-spares : Spares client (OneAxis code) (axis_after code)
   axis-spares x asks own (Codes k) asked e part = by (nat_eq k EV_ABS) refl
     where
@@ -81,9 +84,9 @@ module _ (d : Description) (client code : ℕ) (has : has_axis d code ≡ true) 
       by false = refl
 
   -- what is told of the axis
-  told_value : (r : List Event) → (axis_answer d r code).value ≡ axis_value d r code
+  told_value : (r : List RawItem) → (axis_answer d r code).value ≡ axis_value d r code
   told_value r =
-      ap (λ (b : Bool). (if b then record (info d code) { value = present_value d r code } else no_info).value) (and-left (supports d EV_ABS code) _ has)
+      ap (λ (b : Bool). (if b then record (axis_info d r code) { value = present_value d r code } else no_info).value) (and-left (supports d EV_ABS code) _ has)
       ∙ not_slot (nat_eq code ABS_MT_SLOT) refl
       ∙ ap (λ (b : Bool). if b then pos 0 else axis_value d r code) plain
     where
@@ -98,7 +101,7 @@ module _ (d : Description) (client code : ℕ) (has : has_axis d code ≡ true) 
       not_slot false h = ap (λ (b : Bool). if b then announced d r else if is_multi_touch_code code then pos 0 else axis_value d r code) h
 
   axis_answered : (past : List Step) (x : Step) (v : View) → IsSizedFor d.slots v → is_same (client_of x) client ≡ true
-      → axis_of (view_after_answer v x (accepted d past x).reply (accepted d past x).cells) ≡ cond (asks_for (OneAxis code) client x) (axis_value d (raw d past) code) (axis_of v)
+      → axis_of (view_after_answer v x (accepted_with eats d past x).reply (accepted_with eats d past x).cells) ≡ cond (asks_for (OneAxis code) client x) (axis_value d (raw d past) code) (axis_of v)
   unfolding view_after_answer
   axis_answered past (GetAxis named asked) v h own = by (nat_eq asked code) refl
     where
@@ -131,34 +134,34 @@ module _ (d : Description) (client code : ℕ) (has : has_axis d code ≡ true) 
   axis_answered past x v h own = refl
 
   pub axis-after_events : (v : View) (es : List Event) → IsSizedFor d.slots v → axis_of (view_after_events v es) ≡ over (axis_after code) (axis_of v) es
-  axis-after_events = get-after_events d client (axis_after code) (OneAxis code) (λ r. axis_value d r code) axis_of axis_event axis_answered
+  axis-after_events = get-after_events eats d client (axis_after code) (OneAxis code) (λ r. axis_value d r code) axis_of axis_event axis_answered
 
-  axis_follows : (past : List Step) (x : Step) → axis_of (client_view d (x ∷ past) client) ≡ cond (asks_for (OneAxis code) client x) (axis_value d (raw d past) code) (over (axis_after code) (axis_of (client_view d past client)) (map event_of (taken_by d past client x)))
-  axis_follows = get-follows d client (axis_after code) (OneAxis code) (λ r. axis_value d r code) axis_of axis_event axis_answered
+  axis_follows : (past : List Step) (x : Step) → axis_of (client_view_with eats d (x ∷ past) client) ≡ cond (asks_for (OneAxis code) client x) (axis_value d (raw d past) code) (over (axis_after code) (axis_of (client_view_with eats d past client)) (map event_of (taken_by_with eats d past client x)))
+  axis_follows = get-follows eats d client (axis_after code) (OneAxis code) (λ r. axis_value d r code) axis_of axis_event axis_answered
 
   -- ---- what is queued of the axis, and what waits, leads to its present value
 
-  abbrev present : List Event → ℤ
+  abbrev present : List RawItem → ℤ
   present r = axis_value d r code
 
-  abbrev LeadsBack : List Event → List Entry → Type 0
+  abbrev LeadsBack : List RawItem → List Entry → Type 0
   LeadsBack r q = over (axis_after code) (over (axis_after code) (present r) (map event_of q)) (pending d r) ≡ present r
 
   -- the frames of a step
-  frames_lead : (past : List Step) (x : Step) (q : List Entry) → Receives past client
-      → Each (λ f. is_whole_for client f ≡ true) (frames_by d past (moment_of x) (raw d past) (raw_of_step d past x))
-      → has_no_loss (offered_to d client q (frames_by d past (moment_of x) (raw d past) (raw_of_step d past x))) ≡ true
+  frames_lead : (past : List Step) (x : Step) (q : List Entry) → is_description x ≡ false → Receives past client
+      → Each (λ f. is_whole_for eats client f ≡ true) (frames_by d past x (raw d past) (raw_of_step d past x))
+      → has_no_loss (offered_to eats d client q (frames_by d past x (raw d past) (raw_of_step d past x))) ≡ true
       → (has_no_loss q ≡ true → LeadsBack (raw d past) q)
-      → LeadsBack (raw_after (raw d past) (raw_of_step d past x)) (offered_to d client q (frames_by d past (moment_of x) (raw d past) (raw_of_step d past x)))
-  frames_lead past x q receives whole none before =
+      → LeadsBack (raw_after (raw d past) (raw_of_step d past x)) (offered_to eats d client q (frames_by d past x (raw d past) (raw_of_step d past x)))
+  frames_lead past x q other receives whole none before =
       let t : ℤ → Event → ℤ = axis_after code in
-      let r : List Event = raw d past in
-      let es : List Event = raw_of_step d past x in
-      let ps : List Event = passed_by d r es in
-      let g = all_grown d client t (axis-unviewed code) past (moment_of x) receives es r q whole none in
-      let is : over t (present r) ps ≡ present (raw_after r es) = passes_all d t present (axis-passes d code has) es r in
+      let r : List RawItem = raw d past in
+      let xs : List RawItem = raw_of_step d past x in
+      let ps : List Event = passed_by d r xs in
+      let g = all_grown eats d client t (axis-unviewed code) past x receives xs r q whole none in
+      let is : over t (present r) ps ≡ present (raw_after r xs) = passes_all d t present (axis-passes d code has) xs r (items-are_events d past x other) in
       let led : over t (present r) (map event_of q ++ pending d r) ≡ present r = over-append t (present r) (map event_of q) (pending d r) ∙ before g.kept in
-      g.same (present (raw_after r es))
+      g.same (present (raw_after r xs))
       ∙ ap (λ v. over t (over t (over t v (map event_of q)) (pending d r)) ps) (sym is)
       ∙ ap (λ v. over t v ps) (sym (over-append t (over t (present r) ps) (map event_of q) (pending d r)))
       ∙ sym (over-append t (over t (present r) ps) (map event_of q ++ pending d r) ps)
@@ -166,15 +169,15 @@ module _ (d : Description) (client code : ℕ) (has : has_axis d code ≡ true) 
       ∙ is
 
   -- the client's own call
-  call_leads : (past : List Step) (x : Step) → is_start past client x ≡ false → asks_for (OneAxis code) client x ≡ false → has_no_loss (taken_by d past client x) ≡ true → has_no_loss (left_in_queue d past client x) ≡ true
-      → (has_no_loss (queue d past client) ≡ true → LeadsBack (raw d past) (queue d past client))
-      → LeadsBack (raw d past) (left_in_queue d past client x)
+  call_leads : (past : List Step) (x : Step) → is_start past client x ≡ false → asks_for (OneAxis code) client x ≡ false → has_no_loss (taken_by_with eats d past client x) ≡ true → has_no_loss (left_in_queue eats d past client x) ≡ true
+      → (has_no_loss (queue_with eats d past client) ≡ true → LeadsBack (raw d past) (queue_with eats d past client))
+      → LeadsBack (raw d past) (left_in_queue eats d past client x)
   call_leads past x start asks none kept before =
       let t : ℤ → Event → ℤ = axis_after code in
-      let r : List Event = raw d past in
-      let left : List Entry = left_in_queue d past client x in
-      let taken : List Entry = taken_by d past client x in
-      let k = call-keeps d client t (axis-unviewed code) present (axis-passes d code has) (OneAxis code) axis-spares x (queue d past client) taken left (left_by d past client x start) asks none kept in
+      let r : List RawItem = raw d past in
+      let left : List Entry = left_in_queue eats d past client x in
+      let taken : List Entry = taken_by_with eats d past client x in
+      let k = call-keeps eats d client t (axis-unviewed code) present (axis-passes d code has) (OneAxis code) axis-spares x (queue_with eats d past client) taken left (left_by eats d past client x start) asks none kept in
       let whole : over t (over t (present r) (map event_of taken)) (map event_of left ++ pending d r) ≡ present r =
       over-append t (over t (present r) (map event_of taken)) (map event_of left) (pending d r)
       ∙ ap (λ v. over t v (pending d r)) (k.1 (present r))
@@ -183,79 +186,108 @@ module _ (d : Description) (client code : ℕ) (has : has_axis d code ≡ true) 
       ∙ suffix-same (sets_axis code) value_of (present r) (over t (present r) (map event_of taken)) (map event_of left ++ pending d r) whole
 
   -- a query of the axis leaves the queue
-  query_leaves : (past : List Step) (x : Step) → asks_for (OneAxis code) client x ≡ true → left_in_queue d past client x ≡ queue d past client
+  query_leaves : (past : List Step) (x : Step) → asks_for (OneAxis code) client x ≡ true → left_in_queue eats d past client x ≡ queue_with eats d past client
   query_leaves past (GetAxis named asked) h = by (nat_eq named client)
     where
-      by : (b : Bool) → (if b then queue d past client else queue d past client) ≡ queue d past client
+      by : (b : Bool) → (if b then queue_with eats d past client else queue_with eats d past client) ≡ queue_with eats d past client
       by true = refl
       by false = refl
   query_leaves past x h = let bad : false ≡ true = h in absurd cc
 
-  -- at a start nothing is queued, and no frame comes
-  start_leads : (past : List Step) (x : Step) → is_start past client x ≡ true → has_no_loss (queue d (x ∷ past) client) ≡ true → LeadsBack (raw d (x ∷ past)) (queue d (x ∷ past) client)
-  start_leads past x start kept =
-      let es : List Event = raw_of_step d past x in
-      let none : es ≡ [] = start_raw d past client x start in
-      let same_queue : queue d (x ∷ past) client ≡ left_in_queue d past client x =
-      queue-step d past client x ∙ ap (λ (l : List Event). offered_to d client (left_in_queue d past client x) (frames_by d past (moment_of x) (raw d past) l)) none
-      ∙ no_frames d client past (moment_of x) (raw d past) (left_in_queue d past client x) in
-      let same_raw : raw d (x ∷ past) ≡ raw d past = raw-step d past x ∙ ap (raw_after (raw d past)) none in
-      let empty : queue d (x ∷ past) client ≡ [] = same_queue ∙ start-empties d past client x start (ap has_no_loss (sym same_queue) ∙ kept) in
-      subst (LeadsBack (raw d (x ∷ past))) (sym empty)
-      (pending-again (sets_axis code) value_of d present (axis-passes d code has) (raw d (x ∷ past)))
+  -- the batch leads back, where no axis was described anew since the last frame
+  pending_leads : (r : List RawItem) → is_settled d r ≡ true → over (axis_after code) (present r) (pending d r) ≡ present r
+  unfolding is_settled
+  pending_leads =
+      pending-again (sets_axis code) value_of d present (axis-passes d code has) (is_settled d)
+      (λ r e cut settled. ap (λ (cs : List Cut). if is_empty cs then is_settled d r else true) (sym cut.none) ∙ settled)
+      (λ r axis i settled. absurd (let bad : false ≡ true = settled in cc))
 
-  pub axis-leads : (past : List Step) → Receives past client → has_no_loss (taken_since_start d past client) ≡ true → AreWhole (start_place past client) client (frames d past) → has_no_loss (queue d past client) ≡ true → LeadsBack (raw d past) (queue d past client)
-  unfolding taken_since_start is_open
-  axis-leads [] receives none whole kept = let bad : false ≡ true = receives.is_there in absurd cc
-  axis-leads (x ∷ past) receives none whole kept = by (is_start past client x) refl (axis-leads past)
+  -- what is said of descriptions after a step is said of them before a start
+  early_at_start : (past : List Step) (x : Step) → is_start past client x ≡ true → AreBelow (described_from d (x ∷ past) client) (description_places (x ∷ past)) → AreBelow (frames_end d past) (description_places past)
+  early_at_start past x start h =
+      subst (λ (from : ℕ). AreBelow from (description_places past)) (described-start d past client x start)
+      (subst (AreBelow (described_from d (x ∷ past) client)) (places-same past x (start-undescribed past client x start)) h)
+
+  -- at a start nothing is queued, and no frame comes
+  start_leads : (past : List Step) (x : Step) → is_start past client x ≡ true → AreBelow (described_from d (x ∷ past) client) (description_places (x ∷ past)) → has_no_loss (queue_with eats d (x ∷ past) client) ≡ true → LeadsBack (raw d (x ∷ past)) (queue_with eats d (x ∷ past) client)
+  start_leads past x start early kept =
+      let xs : List RawItem = raw_of_step d past x in
+      let none : xs ≡ [] = start_raw d past client x start in
+      let same_queue : queue_with eats d (x ∷ past) client ≡ left_in_queue eats d past client x =
+      queue-step eats d past client x ∙ ap (λ (l : List RawItem). offered_to eats d client (left_in_queue eats d past client x) (frames_by d past x (raw d past) l)) none
+      ∙ no_frames eats d client past x (raw d past) (left_in_queue eats d past client x) in
+      let same_raw : raw d (x ∷ past) ≡ raw d past = raw-step d past x ∙ ap (raw_after (raw d past)) none in
+      let empty : queue_with eats d (x ∷ past) client ≡ [] = same_queue ∙ start-empties eats d past client x start (ap has_no_loss (sym same_queue) ∙ kept) in
+      subst (LeadsBack (raw d (x ∷ past))) (sym empty)
+      (pending_leads (raw d (x ∷ past)) (ap (is_settled d) same_raw ∙ raw-settled d past (early_at_start past x start early)))
+
+  pub axis-leads : (past : List Step) → Receives past client → has_no_loss (taken_since_start_with eats d past client) ≡ true → IsClear eats (start_place past client) (described_from d past client) client (frames d past) (description_places past) → has_no_loss (queue_with eats d past client) ≡ true → LeadsBack (raw d past) (queue_with eats d past client)
+  unfolding taken_since_start_with is_open
+  axis-leads [] receives none clear kept = let bad : false ≡ true = receives.is_there in absurd cc
+  axis-leads (x ∷ past) receives none clear kept = by (is_start past client x) refl (axis-leads past)
     where
-      r : List Event
+      r : List RawItem
       r = raw d past
 
-      es : List Event
-      es = raw_of_step d past x
+      xs : List RawItem
+      xs = raw_of_step d past x
 
       fs : List Frame
-      fs = frames_by d past (moment_of x) r es
+      fs = frames_by d past x r xs
 
       left : List Entry
-      left = left_in_queue d past client x
+      left = left_in_queue eats d past client x
 
       IH : Type 0
-      IH = Receives past client → has_no_loss (taken_since_start d past client) ≡ true → AreWhole (start_place past client) client (frames d past) → has_no_loss (queue d past client) ≡ true → LeadsBack r (queue d past client)
+      IH = Receives past client → has_no_loss (taken_since_start_with eats d past client) ≡ true → IsClear eats (start_place past client) (described_from d past client) client (frames d past) (description_places past) → has_no_loss (queue_with eats d past client) ≡ true → LeadsBack r (queue_with eats d past client)
 
-      other : is_start past client x ≡ false → IH → LeadsBack (raw d (x ∷ past)) (queue d (x ∷ past) client)
+      -- the step does not describe an axis, since that would be a description since the client's start
+      quiet : is_start past client x ≡ false → (b : Bool) → is_description x ≡ b → b ≡ false
+      quiet start true e =
+          let all : AreBelow (described_from d past client) (length past ∷ description_places past) =
+          subst (λ (from : ℕ). AreBelow from (length past ∷ description_places past)) (described-same d past client x start)
+          (subst (AreBelow (described_from d (x ∷ past) client)) (places-described past x e) clear.1) in
+          let late : length past < described_from d past client = all.0 in
+          let within : described_from d past client ≤ length past = described_from-within d past client in
+          absurd (omega (arith, late, within))
+      quiet start false e = refl
+
+      other : is_start past client x ≡ false → IH → LeadsBack (raw d (x ∷ past)) (queue_with eats d (x ∷ past) client)
       other start ih =
           let before : Receives past client = receives-before past client x start receives in
-          let took : has_no_loss (taken_since_start d past client ++ taken_by d past client x) ≡ true =
-          ap (λ (c : Bool). has_no_loss (if c then [] else taken_since_start d past client ++ taken_by d past client x)) (sym start) ∙ none in
-          let all : AreWhole (start_place past client) client (frames d past ++ fs) =
-          subst (λ (n : ℕ). AreWhole n client (frames d past ++ fs)) (start-same past client x start)
-          (subst (AreWhole (start_place (x ∷ past) client) client) (frames-step d past x) whole) in
-          let mine : Each (λ f. is_whole_for client f ≡ true) fs = whole_here client past (moment_of x) (start_place past client) (start-before past client before) (cuts d r es) (Each-right _ (frames d past) fs all) in
-          let there = ih before (all-left _ (taken_since_start d past client) (taken_by d past client x) took) (Each-left _ (frames d past) fs all) in
-          subst (λ (l : List Event). LeadsBack l (queue d (x ∷ past) client)) (sym (raw-step d past x))
-          (subst (LeadsBack (raw_after r es)) (sym (queue-step d past client x))
-          (frames_lead past x left before mine (ap has_no_loss (sym (queue-step d past client x)) ∙ kept)
-          (at (asks_for (OneAxis code) client x) refl (all-right _ (taken_since_start d past client) (taken_by d past client x) took) there)))
+          let undescribed : is_description x ≡ false = quiet start (is_description x) refl in
+          let took : has_no_loss (taken_since_start_with eats d past client ++ taken_by_with eats d past client x) ≡ true =
+          ap (λ (c : Bool). has_no_loss (if c then [] else taken_since_start_with eats d past client ++ taken_by_with eats d past client x)) (sym start) ∙ none in
+          let all : AreWhole eats (start_place past client) client (frames d past ++ fs) =
+          subst (λ (n : ℕ). AreWhole eats n client (frames d past ++ fs)) (start-same past client x start)
+          (subst (AreWhole eats (start_place (x ∷ past) client) client) (frames-step d past x) clear.0) in
+          let early : AreBelow (described_from d past client) (description_places past) =
+          subst (λ (from : ℕ). AreBelow from (description_places past)) (described-same d past client x start)
+          (subst (AreBelow (described_from d (x ∷ past) client)) (places-same past x undescribed) clear.1) in
+          let mine : Each (λ f. is_whole_for eats client f ≡ true) fs = whole_here eats client past x (start_place past client) (start-before past client before) (cuts d r xs) (Each-right _ (frames d past) fs all) in
+          let there = ih before (all-left _ (taken_since_start_with eats d past client) (taken_by_with eats d past client x) took) (Each-left _ (frames d past) fs all, early) in
+          subst (λ (l : List RawItem). LeadsBack l (queue_with eats d (x ∷ past) client)) (sym (raw-step d past x))
+          (subst (LeadsBack (raw_after r xs)) (sym (queue-step eats d past client x))
+          (frames_lead past x left undescribed before mine (ap has_no_loss (sym (queue-step eats d past client x)) ∙ kept)
+          (at (asks_for (OneAxis code) client x) refl (all-right _ (taken_since_start_with eats d past client) (taken_by_with eats d past client x) took) there)))
         where
-          at : (b : Bool) → asks_for (OneAxis code) client x ≡ b → has_no_loss (taken_by d past client x) ≡ true → (has_no_loss (queue d past client) ≡ true → LeadsBack r (queue d past client)) → has_no_loss left ≡ true → LeadsBack r left
+          at : (b : Bool) → asks_for (OneAxis code) client x ≡ b → has_no_loss (taken_by_with eats d past client x) ≡ true → (has_no_loss (queue_with eats d past client) ≡ true → LeadsBack r (queue_with eats d past client)) → has_no_loss left ≡ true → LeadsBack r left
           at true asks took there kept = subst (LeadsBack r) (sym (query_leaves past x asks)) (there (ap has_no_loss (sym (query_leaves past x asks)) ∙ kept))
           at false asks took there kept = call_leads past x start asks took kept there
 
-      by : (c : Bool) → is_start past client x ≡ c → IH → LeadsBack (raw d (x ∷ past)) (queue d (x ∷ past) client)
-      by true start ih = start_leads past x start kept
+      by : (c : Bool) → is_start past client x ≡ c → IH → LeadsBack (raw d (x ∷ past)) (queue_with eats d (x ∷ past) client)
+      by true start ih = start_leads past x start clear.1 kept
       by false start ih = other start ih
 
   -- ---- an axis that was asked for
 
-  fresh : (past : List Step) (x : Step) → is_start past client x ≡ false → asks_for (OneAxis code) client x ≡ true → Receives past client → has_no_loss (taken_since_start d past client) ≡ true
-      → AreWhole (start_place past client) client (frames d past) → has_no_loss (left_in_queue d past client x) ≡ true
-      → LeadsBack (raw d past) (left_in_queue d past client x)
-  fresh past x start asks receives none whole kept =
-      subst (LeadsBack (raw d past)) (sym (query_leaves past x asks)) (axis-leads past receives none whole (ap has_no_loss (sym (query_leaves past x asks)) ∙ kept))
+  fresh : (past : List Step) (x : Step) → is_start past client x ≡ false → asks_for (OneAxis code) client x ≡ true → Receives past client → has_no_loss (taken_since_start_with eats d past client) ≡ true
+      → IsClear eats (start_place past client) (described_from d past client) client (frames d past) (description_places past) → has_no_loss (left_in_queue eats d past client x) ≡ true
+      → LeadsBack (raw d past) (left_in_queue eats d past client x)
+  fresh past x start asks receives none clear kept =
+      subst (LeadsBack (raw d past)) (sym (query_leaves past x asks)) (axis-leads past receives none clear (ap has_no_loss (sym (query_leaves past x asks)) ∙ kept))
 
-  pub axis-stands : (past : List Step) → Receives past client → has_no_loss (taken_since_start d past client) ≡ true → has_asked (OneAxis code) past client ≡ true
-      → Stands d client (axis_after code) (axis-unviewed code) present (axis-passes d code has) (λ past. axis_of (client_view d past client)) past
+  pub axis-stands : (past : List Step) → Receives past client → has_no_loss (taken_since_start_with eats d past client) ≡ true → has_asked (OneAxis code) past client ≡ true
+      → Stands eats d client (axis_after code) (axis-unviewed code) present (axis-passes d code has) (λ past. axis_of (client_view_with eats d past client)) past
   axis-stands =
-      stands d client (axis_after code) (axis-unviewed code) present (axis-passes d code has) (OneAxis code) axis-spares present (λ past. axis_of (client_view d past client)) axis_follows fresh
+      stands eats d client (axis_after code) (axis-unviewed code) present (axis-passes d code has) (OneAxis code) axis-spares present (λ past. axis_of (client_view_with eats d past client)) axis_follows fresh

@@ -6,10 +6,11 @@ use Rattle.std.proofs.lemmas.Bool.Decides.{Decides-int_eq}
 use Rattle.inp_model.specs.declared.event.TheConstants.{EV_ABS}
 use Rattle.inp_model.specs.declared.multi_touch.TheConstants.{ABS_MT_SLOT, ABS_MT_TOUCH_MAJOR, ABS_MT_TOOL_Y}
 use Rattle.inp_model.specs.declared.event.Event.{Event}
-use Rattle.inp_model.specs.Description.{Description, supports, info, is_multi_touch_code, is_slot_code}
+use Rattle.inp_model.specs.Description.{Description, supports, is_multi_touch_code, is_slot_code}
 use Rattle.inp_model.specs.Event.{is_multi_touch, slot_event}
+use Rattle.inp_model.specs.RawItem.{RawItem, Occurred}
 use Rattle.inp_model.specs.Defuzz.{defuzz}
-use Rattle.inp_model.specs.State.{axis_value, staged}
+use Rattle.inp_model.specs.State.{axis_info, axis_value, staged}
 use Rattle.inp_model.specs.Passed.{passes_as, axis_passes, multi_touch_passes, multi_touch_value, announced, passed}
 use Rattle.inp_recon.specs.Synchronised.{has_axis}
 use Rattle.inp_recon.specs.Undisturbed.{is_viewed}
@@ -71,31 +72,31 @@ module _ (d : Description) (code : ℕ) (has : has_axis d code ≡ true) where
   supported = and-left _ _ has
 
   -- an event that does not set the axis
-  other-each : (r : List Event) (e : Event) → (nat_eq e.kind EV_ABS && nat_eq e.code code) ≡ false → Each (IsIdle (axis_after code)) (passed d r e)
+  other-each : (r : List RawItem) (e : Event) → (nat_eq e.kind EV_ABS && nat_eq e.code code) ≡ false → Each (IsIdle (axis_after code)) (passed d r e)
   other-each r e h =
       passed-each (IsIdle (axis_after code)) d r e (λ slot. multi_touch-idle code (slot_event slot) refl)
       (λ value. unset-idle code (record e { value = value }) (not_set (nat_eq e.kind EV_ABS) (is_multi_touch (record e { value = value })) (nat_eq e.code code) h))
 
-  other-same : (r : List Event) (e : Event) → (nat_eq e.kind EV_ABS && nat_eq e.code code) ≡ false → axis_value d (e ∷ r) code ≡ axis_value d r code
+  other-same : (r : List RawItem) (e : Event) → (nat_eq e.kind EV_ABS && nat_eq e.code code) ≡ false → axis_value d (Occurred e ∷ r) code ≡ axis_value d r code
   unfolding axis_value
-  other-same r e h = ap (λ (b : Bool). if (supports d EV_ABS code && b) && not (is_multi_touch e) then defuzz e.value (axis_value d r code) (info d code).fuzz else axis_value d r code) h ∙ by (supports d EV_ABS code)
+  other-same r e h = ap (λ (b : Bool). if (supports d EV_ABS code && b) && not (is_multi_touch e) then defuzz e.value (axis_value d r code) (axis_info d r code).fuzz else axis_value d r code) h ∙ by (supports d EV_ABS code)
     where
-      by : (s : Bool) → (if (s && false) && not (is_multi_touch e) then defuzz e.value (axis_value d r code) (info d code).fuzz else axis_value d r code) ≡ axis_value d r code
+      by : (s : Bool) → (if (s && false) && not (is_multi_touch e) then defuzz e.value (axis_value d r code) (axis_info d r code).fuzz else axis_value d r code) ≡ axis_value d r code
       by true = refl
       by false = refl
 
   -- an event on the axis is passed as the value that the axis takes, where that is another one
-  passed_at : (r : List Event) (value : ℤ) → let e : Event = event EV_ABS code value in
-      passed d r e ≡ option_to_list (option_map (λ v. event EV_ABS code v) (if not (int_eq (axis_value d r code) (axis_value d (e ∷ r) code)) then Some (axis_value d (e ∷ r) code) else None))
+  passed_at : (r : List RawItem) (value : ℤ) → let e : Event = event EV_ABS code value in
+      passed d r e ≡ option_to_list (option_map (λ v. event EV_ABS code v) (if not (int_eq (axis_value d r code) (axis_value d (Occurred e ∷ r) code)) then Some (axis_value d (Occurred e ∷ r) code) else None))
   passed_at r value =
       let e : Event = event EV_ABS code value in
       let old : ℤ = axis_value d r code in
-      let new : ℤ = axis_value d (e ∷ r) code in
+      let new : ℤ = axis_value d (Occurred e ∷ r) code in
       ap (λ (b : Bool). (if (b && is_some (passes_as d r e)) && not (int_eq (staged d r) (announced d r)) then slot_event (staged d r) ∷ [] else []) ++ option_to_list (option_map (λ v. event EV_ABS code v) (passes_as d r e))) (plain-slot code plain)
       ∙ ap (λ (b : Bool). option_to_list (option_map (λ v. event EV_ABS code v) (if supports d EV_ABS code && (if b then multi_touch_passes d r e else axis_passes d r e) then Some (if b then multi_touch_value d r e else new) else None))) plain
       ∙ ap (λ (b : Bool). option_to_list (option_map (λ v. event EV_ABS code v) (if b && not (int_eq old new) then Some new else None))) supported
 
-  at_axis : (r : List Event) (value : ℤ) → over (axis_after code) (axis_value d r code) (passed d r (event EV_ABS code value)) ≡ axis_value d (event EV_ABS code value ∷ r) code
+  at_axis : (r : List RawItem) (value : ℤ) → over (axis_after code) (axis_value d r code) (passed d r (event EV_ABS code value)) ≡ axis_value d (Occurred (event EV_ABS code value) ∷ r) code
   at_axis r value =
       ap (over (axis_after code) old) (passed_at r value)
       ∙ by (int_eq old new) refl
@@ -104,7 +105,7 @@ module _ (d : Description) (code : ℕ) (has : has_axis d code ≡ true) where
       old = axis_value d r code
 
       new : ℤ
-      new = axis_value d (event EV_ABS code value ∷ r) code
+      new = axis_value d (Occurred (event EV_ABS code value) ∷ r) code
 
       mine : sets_axis code (event EV_ABS code new) ≡ true
       mine = ap (λ (b : Bool). not b && nat_eq code code) plain ∙ eq-eqb code code refl
@@ -117,11 +118,11 @@ module _ (d : Description) (code : ℕ) (has : has_axis d code ≡ true) where
           ap (λ (b : Bool). over (axis_after code) old (option_to_list (option_map (λ v. event EV_ABS code v) (if not b then Some new else None)))) h
           ∙ ap (λ (b : Bool). if b then new else old) mine
 
-  pub axis-passes : (r : List Event) (e : Event) → over (axis_after code) (axis_value d r code) (passed d r e) ≡ axis_value d (e ∷ r) code
+  pub axis-passes : (r : List RawItem) (e : Event) → over (axis_after code) (axis_value d r code) (passed d r e) ≡ axis_value d (Occurred e ∷ r) code
   axis-passes r e = by (nat_eq e.kind EV_ABS) refl (nat_eq e.code code) refl
     where
       Goal : Event → Type 0
-      Goal e = over (axis_after code) (axis_value d r code) (passed d r e) ≡ axis_value d (e ∷ r) code
+      Goal e = over (axis_after code) (axis_value d r code) (passed d r e) ≡ axis_value d (Occurred e ∷ r) code
 
       other : (nat_eq e.kind EV_ABS && nat_eq e.code code) ≡ false → Goal e
       other h = over-idle (axis_after code) (axis_value d r code) (passed d r e) (other-each r e h) ∙ sym (other-same r e h)

@@ -8,7 +8,8 @@ use Rattle.inp_model.specs.Description.{Description}
 use Rattle.inp_model.specs.Event.{is_report}
 use Rattle.inp_model.specs.Step.{Query, Codes, Slots, client_of, is_same, query_of, is_part_of}
 use Rattle.inp_model.specs.Past.{is_opening, is_call_of, clock_of}
-use Rattle.inp_model.specs.Queue.{Entry, event_of, visible, flush, queue, is_same_clock, clock_entry, clock_changed, left_by_call, taken_by}
+use Rattle.inp_model.specs.Left.{Eats}
+use Rattle.inp_model.specs.Queue.{Entry, event_of, visible, flush, queue_with, is_same_clock, clock_entry, clock_changed, left_by_call, taken_by_with}
 use Rattle.inp_recon.specs.Synchronised.{is_dropped, is_start, is_query_of}
 use Rattle.inp_recon.proofs.EventKinds.{of_losses}
 
@@ -32,38 +33,38 @@ by_clock x client (y ∷ q) taken true e loss frame none = ByNone none refl
 by_clock x client (y ∷ q) taken false e loss frame none = ByLoss e loss frame none refl
 
 -- the client's own step
-own_left : (d : Description) (past : List Step) (client : ℕ) (x : Step) → is_same (client_of x) client ≡ true → is_start past client x ≡ false → LeftBy x client (queue d past client) (taken_by d past client x) (left_by_call d past x (queue d past client))
-own_left d past client (Read reader count) own start =
-    let q = queue d past client in
+own_left : (eats : Eats) (d : Description) (past : List Step) (client : ℕ) (x : Step) → is_same (client_of x) client ≡ true → is_start past client x ≡ false → LeftBy x client (queue_with eats d past client) (taken_by_with eats d past client x) (left_by_call d past x (queue_with eats d past client))
+own_left eats d past client (Read reader count) own start =
+    let q = queue_with eats d past client in
     ByRead (min count (visible event_of q)) (ap (λ (b : Bool). if b then take (min count (visible event_of q)) q else []) own)
     refl
-own_left d past client (ToClock reader clock now) own start =
-    by_clock (ToClock reader clock now) client (queue d past client) [] (is_same_clock (clock_of past reader) clock) (clock_entry d past clock now) refl refl refl
-own_left d past client Open own start = absurd (let e : false ≡ true = own in cc)
-own_left d past client (Discard reader) own start = absurd (let e : nat_eq reader client ≡ false = start in let k : nat_eq reader client ≡ true = own in let bad : true ≡ false = sym k ∙ e in cc)
-own_left d past client (GetKeys reader) own start = ByFlush (Codes EV_KEY) refl own (inl own) (keeps (Codes EV_KEY) (λ value. refl)) refl refl
-own_left d past client (GetSwitches reader) own start = ByFlush (Codes EV_SW) refl own (inl own) (keeps (Codes EV_SW) (λ value. refl)) refl refl
-own_left d past client (GetLeds reader) own start = ByFlush (Codes EV_LED) refl own (inl own) (keeps (Codes EV_LED) (λ value. refl)) refl refl
-own_left d past client (GetSounds reader) own start = ByFlush (Codes EV_SND) refl own (inr refl) (keeps (Codes EV_SND) (λ value. refl)) refl refl
-own_left d past client (SyncSlots reader) own start = ByFlush Slots refl own (inl own) (keeps Slots (λ value. refl)) refl refl
-own_left d past client x own start = ByNone refl refl
+own_left eats d past client (ToClock reader clock now) own start =
+    by_clock (ToClock reader clock now) client (queue_with eats d past client) [] (is_same_clock (clock_of past reader) clock) (clock_entry d past clock now) refl refl refl
+own_left eats d past client Open own start = absurd (let e : false ≡ true = own in cc)
+own_left eats d past client (Discard reader) own start = absurd (let e : nat_eq reader client ≡ false = start in let k : nat_eq reader client ≡ true = own in let bad : true ≡ false = sym k ∙ e in cc)
+own_left eats d past client (GetKeys reader) own start = ByFlush (Codes EV_KEY) refl own (inl own) (keeps (Codes EV_KEY) (λ value. refl)) refl refl
+own_left eats d past client (GetSwitches reader) own start = ByFlush (Codes EV_SW) refl own (inl own) (keeps (Codes EV_SW) (λ value. refl)) refl refl
+own_left eats d past client (GetLeds reader) own start = ByFlush (Codes EV_LED) refl own (inl own) (keeps (Codes EV_LED) (λ value. refl)) refl refl
+own_left eats d past client (GetSounds reader) own start = ByFlush (Codes EV_SND) refl own (inr refl) (keeps (Codes EV_SND) (λ value. refl)) refl refl
+own_left eats d past client (SyncSlots reader) own start = ByFlush Slots refl own (inl own) (keeps Slots (λ value. refl)) refl refl
+own_left eats d past client x own start = ByNone refl refl
 
 -- another's step takes nothing
-pub not_taken : (d : Description) (past : List Step) (client : ℕ) (x : Step) → is_same (client_of x) client ≡ false → taken_by d past client x ≡ []
-not_taken d past client (Read reader count) other =
-    let q = queue d past client in
+pub not_taken : (eats : Eats) (d : Description) (past : List Step) (client : ℕ) (x : Step) → is_same (client_of x) client ≡ false → taken_by_with eats d past client x ≡ []
+not_taken eats d past client (Read reader count) other =
+    let q = queue_with eats d past client in
     ap (λ (b : Bool). if b then take (min count (visible event_of q)) q else []) other
-not_taken d past client x other = refl
+not_taken eats d past client x other = refl
 
 -- what a step leaves, whoever makes it
-abbrev pub left_in_queue : Description → List Step → ℕ → Step → List Entry
-left_in_queue d past client x = if is_call_of past client x then left_by_call d past x (queue d past client) else queue d past client
+abbrev pub left_in_queue : Eats → Description → List Step → ℕ → Step → List Entry
+left_in_queue eats d past client x = if is_call_of past client x then left_by_call d past x (queue_with eats d past client) else queue_with eats d past client
 
-pub left_by : (d : Description) (past : List Step) (client : ℕ) (x : Step) → is_start past client x ≡ false → LeftBy x client (queue d past client) (taken_by d past client x) (left_in_queue d past client x)
-left_by d past client x start = by (is_same (client_of x) client) refl
+pub left_by : (eats : Eats) (d : Description) (past : List Step) (client : ℕ) (x : Step) → is_start past client x ≡ false → LeftBy x client (queue_with eats d past client) (taken_by_with eats d past client x) (left_in_queue eats d past client x)
+left_by eats d past client x start = by (is_same (client_of x) client) refl
   where
     q : List Entry
-    q = queue d past client
+    q = queue_with eats d past client
 
     opening : is_opening past client x ≡ false
     opening = or-left (is_opening past client x) _ start
@@ -72,11 +73,11 @@ left_by d past client x start = by (is_same (client_of x) client) refl
         or-left true b h = h
         or-left false b h = refl
 
-    left : (b : Bool) → is_same (client_of x) client ≡ b → left_in_queue d past client x ≡ (if b then left_by_call d past x q else q)
+    left : (b : Bool) → is_same (client_of x) client ≡ b → left_in_queue eats d past client x ≡ (if b then left_by_call d past x q else q)
     left b e =
         ap (λ (o : Bool). if (if o then true else is_same (client_of x) client) then left_by_call d past x q else q) opening
         ∙ ap (λ (o : Bool). if o then left_by_call d past x q else q) e
 
-    by : (b : Bool) → is_same (client_of x) client ≡ b → LeftBy x client q (taken_by d past client x) (left_in_queue d past client x)
-    by true e = subst (λ l. LeftBy x client q (taken_by d past client x) l) (sym (left true e)) (own_left d past client x e start)
-    by false e = ByNone (not_taken d past client x e) (left false e)
+    by : (b : Bool) → is_same (client_of x) client ≡ b → LeftBy x client q (taken_by_with eats d past client x) (left_in_queue eats d past client x)
+    by true e = subst (λ l. LeftBy x client q (taken_by_with eats d past client x) l) (sym (left true e)) (own_left eats d past client x e start)
+    by false e = ByNone (not_taken eats d past client x e) (left false e)

@@ -6,12 +6,13 @@ use Rattle.std.proofs.lemmas.List.{append-nil}
 use Rattle.inp_model.specs.declared.step.Step.{Step}
 use Rattle.inp_model.specs.declared.step.Step.TheVariants.{Read}
 use Rattle.inp_model.specs.Description.{Description}
-use Rattle.inp_model.specs.Queue.{Entry, event_of, visible, queue, taken_by, took}
-use Rattle.inp_model.specs.Reply.{refused}
+use Rattle.inp_model.specs.Left.{Eats}
+use Rattle.inp_model.specs.Queue.{Entry, event_of, visible, queue_with, taken_by_with, took_with}
+use Rattle.inp_model.specs.Reply.{refused_with}
 use Rattle.inp_recon.specs.View.{view_after_events}
-use Rattle.inp_recon.specs.ClientView.{client_view, past_before_read, read_up_to}
-use Rattle.inp_model.specs.History.{IsHistory}
-use Rattle.inp_recon.specs.Faithful.{IsDeviceState, IsReportAt, IsFollowed, AreFaithful, AreReadsFaithful}
+use Rattle.inp_recon.specs.ClientView.{client_view_with, past_before_read_with, read_up_to_with}
+use Rattle.inp_model.specs.History.{IsHistoryWith}
+use Rattle.inp_recon.specs.Faithful.{IsDeviceState, IsReportAt, IsFollowedWith, AreFaithful, AreReadsFaithful}
 
 -- ---- a list between two others
 
@@ -41,50 +42,50 @@ get_within (y ∷ xs) (suc i) x h = let k : i < length xs = get_within xs i x h 
 -- ---- the read that took event i
 
 -- the read after the past `before` took it
-pub record IsReadAt (d : Description) (past : List Step) (client i : ℕ) (before : List Step) : Type 0 where
+pub record IsReadAt (eats : Eats) (d : Description) (past : List Step) (client i : ℕ) (before : List Step) : Type 0 where
   pub count : ℕ
-  pub accepted : IsHistory d (Read client count ∷ before)
+  pub accepted : IsHistoryWith eats d (Read client count ∷ before)
   pub later : List Entry
-  pub took_is : took d past client ≡ (took d before client ++ taken_by d before client (Read client count)) ++ later
-  pub from : length (took d before client) ≤ i
-  pub to : i < length (took d before client) + length (taken_by d before client (Read client count))
+  pub took_is : took_with eats d past client ≡ (took_with eats d before client ++ taken_by_with eats d before client (Read client count)) ++ later
+  pub from : length (took_with eats d before client) ≤ i
+  pub to : i < length (took_with eats d before client) + length (taken_by_with eats d before client (Read client count))
 
 -- a step that takes something is the client's read
-is_read : (d : Description) (past : List Step) (client : ℕ) (x : Step) → 0 < length (taken_by d past client x) → (count : ℕ) × (x ≡ Read client count)
-is_read d past client (Read reader count) some = by (nat_eq reader client) refl
+is_read : (eats : Eats) (d : Description) (past : List Step) (client : ℕ) (x : Step) → 0 < length (taken_by_with eats d past client x) → (count : ℕ) × (x ≡ Read client count)
+is_read eats d past client (Read reader count) some = by (nat_eq reader client) refl
   where
     q : List Entry
-    q = queue d past client
+    q = queue_with eats d past client
 
     by : (b : Bool) → nat_eq reader client ≡ b → (n : ℕ) × (Read reader count ≡ Read client n)
     by true e = (count, ap (λ (r : ℕ). Read r count) (eqb-true reader client e))
     by false e =
-        let none : taken_by d past client (Read reader count) ≡ [] = ap (λ (b : Bool). if b then take (min count (visible event_of q)) q else []) e in
+        let none : taken_by_with eats d past client (Read reader count) ≡ [] = ap (λ (b : Bool). if b then take (min count (visible event_of q)) q else []) e in
         absurd (omega (arith, ap length none))
-is_read d past client x some = absurd (omega arith)
+is_read eats d past client x some = absurd (omega arith)
 
-pub read_at : (d : Description) (past : List Step) (client i : ℕ) → IsHistory d past → i < length (took d past client) → IsReadAt d past client i (past_before_read d past client i)
-unfolding took past_before_read
-read_at d [] client i accepted within = absurd (omega arith)
-read_at d (x ∷ past) client i accepted within = by (nat_lt i (length (took d past client))) refl (read_at d past client i accepted.0)
+pub read_at : (eats : Eats) (d : Description) (past : List Step) (client i : ℕ) → IsHistoryWith eats d past → i < length (took_with eats d past client) → IsReadAt eats d past client i (past_before_read_with eats d past client i)
+unfolding took_with past_before_read_with
+read_at eats d [] client i accepted within = absurd (omega arith)
+read_at eats d (x ∷ past) client i accepted within = by (nat_lt i (length (took_with eats d past client))) refl (read_at eats d past client i accepted.0)
   where
     old : List Entry
-    old = took d past client
+    old = took_with eats d past client
 
     new : List Entry
-    new = taken_by d past client x
+    new = taken_by_with eats d past client x
 
     Goal : List Step → Type 0
-    Goal before = IsReadAt d (x ∷ past) client i before
+    Goal before = IsReadAt eats d (x ∷ past) client i before
 
-    earlier : IsReadAt d past client i (past_before_read d past client i) → Goal (past_before_read d past client i)
+    earlier : IsReadAt eats d past client i (past_before_read_with eats d past client i) → Goal (past_before_read_with eats d past client i)
     earlier h = record {
       count = h.count;
       accepted = h.accepted;
       later = h.later ++ new;
       took_is =
           ap (λ (l : List Entry). l ++ new) h.took_is
-          ∙ append_assoc (took d (past_before_read d past client i) client ++ taken_by d (past_before_read d past client i) client (Read client h.count)) h.later new;
+          ∙ append_assoc (took_with eats d (past_before_read_with eats d past client i) client ++ taken_by_with eats d (past_before_read_with eats d past client i) client (Read client h.count)) h.later new;
       from = h.from;
       to = h.to;
     }
@@ -92,33 +93,33 @@ read_at d (x ∷ past) client i accepted within = by (nat_lt i (length (took d p
     here : length old ≤ i → Goal past
     here from =
         let some : 0 < length new = omega (arith, length-append old new, within) in
-        let read = is_read d past client x some in
+        let read = is_read eats d past client x some in
         record {
           count = read.0;
-          accepted = (accepted.0, subst (λ (y : Step). refused d past y ≡ None) read.1 accepted.1);
+          accepted = (accepted.0, subst (λ (y : Step). refused_with eats d past y ≡ None) read.1 accepted.1);
           later = [];
-          took_is = ap (λ (y : Step). old ++ taken_by d past client y) read.1 ∙ sym (append-nil (old ++ taken_by d past client (Read client read.0)));
+          took_is = ap (λ (y : Step). old ++ taken_by_with eats d past client y) read.1 ∙ sym (append-nil (old ++ taken_by_with eats d past client (Read client read.0)));
           from = from;
-          to = omega (arith, length-append old new, within, ap (λ (y : Step). length (taken_by d past client y)) read.1);
+          to = omega (arith, length-append old new, within, ap (λ (y : Step). length (taken_by_with eats d past client y)) read.1);
         }
 
-    by : (b : Bool) → nat_lt i (length old) ≡ b → (i < length old → IsReadAt d past client i (past_before_read d past client i)) → Goal (if nat_lt i (length old) then past_before_read d past client i else past)
-    by true e ih = subst (λ (b : Bool). Goal (if b then past_before_read d past client i else past)) (sym e) (earlier (ih (ltb-true i (length old) e)))
-    by false e ih = subst (λ (b : Bool). Goal (if b then past_before_read d past client i else past)) (sym e) (here (ltb-false i (length old) e))
+    by : (b : Bool) → nat_lt i (length old) ≡ b → (i < length old → IsReadAt eats d past client i (past_before_read_with eats d past client i)) → Goal (if nat_lt i (length old) then past_before_read_with eats d past client i else past)
+    by true e ih = subst (λ (b : Bool). Goal (if b then past_before_read_with eats d past client i else past)) (sym e) (earlier (ih (ltb-true i (length old) e)))
+    by false e ih = subst (λ (b : Bool). Goal (if b then past_before_read_with eats d past client i else past)) (sym e) (here (ltb-false i (length old) e))
 
 -- ---- the law, by its reads
 
 pub faithful_by_reads : AreReadsFaithful → AreFaithful
-faithful_by_reads reads d past client described accepted i f report followed =
-    let h = read_at d past client i accepted (get_within (took d past client) i report.entry report.at) in
-    let before : List Step = past_before_read d past client i in
-    let a : List Entry = took d before client in
-    let b : List Entry = taken_by d before client (Read client h.count) in
+faithful_by_reads reads eats d past client described accepted i f report followed =
+    let h = read_at eats d past client i accepted (get_within (took_with eats d past client) i report.entry report.at) in
+    let before : List Step = past_before_read_with eats d past client i in
+    let a : List Entry = took_with eats d before client in
+    let b : List Entry = taken_by_with eats d before client (Read client h.count) in
     let k : ℕ = i - length a in
     let place : i ≡ length a + k = omega (arith, h.from) in
     let within : k < length b = omega (arith, h.from, h.to) in
-    let item : slice_get (took d past client) i ≡ slice_get b k = ap (λ (l : List Entry). slice_get l i) h.took_is ∙ get_between a b h.later i k place within in
-    let part : read_up_to d past client i ≡ take (suc k) b = ap (λ (l : List Entry). drop (length a) (take (suc i) l)) h.took_is ∙ part_between a b h.later i k place within in
+    let item : slice_get (took_with eats d past client) i ≡ slice_get b k = ap (λ (l : List Entry). slice_get l i) h.took_is ∙ get_between a b h.later i k place within in
+    let part : read_up_to_with eats d past client i ≡ take (suc k) b = ap (λ (l : List Entry). drop (length a) (take (suc i) l)) h.took_is ∙ part_between a b h.later i k place within in
     let there : IsReportAt b k f = record { entry = report.entry; at = sym item ∙ report.at; report = report.report; frame = report.frame } in
-    subst (λ (l : List Entry). IsDeviceState d f.cut.until (view_after_events (client_view d before client) (map event_of l))) (sym part)
-    (reads d before client h.count described h.accepted k f there (subst (λ (l : List Entry). IsFollowed d before client l f) part followed))
+    subst (λ (l : List Entry). IsDeviceState d f.cut.until (view_after_events (client_view_with eats d before client) (map event_of l))) (sym part)
+    (reads eats d before client h.count described h.accepted k f there (subst (λ (l : List Entry). IsFollowedWith eats d before client l f) part followed))

@@ -1,8 +1,8 @@
 -- What a client reads is faithful: at each report that is followed, each value is the device's.
-use Rattle.std.proofs.Common.{◌≡◌, ◌<◌, ◌≤◌, ℕ, zero, suc, ◌+◌, ◌/◌, ◌%◌, ℤ, pos, Bool, true, false, ◌&&◌, ◌||◌, not, if◌then◌else◌, nat_eq, nat_lt, min, List, [], ◌∷◌, length, map, take, get_or, refl, sym, ap, subst, ◌∙◌, arith, Option, Some, None, inl, inr}
+use Rattle.std.proofs.Common.{◌≡◌, ◌<◌, ◌≤◌, ℕ, zero, suc, ◌+◌, ◌/◌, ◌%◌, ℤ, pos, Bool, true, false, ◌&&◌, ◌||◌, not, if◌then◌else◌, nat_eq, nat_lt, nat_le, min, List, [], ◌∷◌, length, map, take, get_or, refl, sym, ap, subst, ◌∙◌, arith, Option, Some, None, inl, inr}
 use Rattle.std.specs.Prelude.{slice_get}
 use Rattle.std.specs.List.{list_all, range_with_len}
-use Rattle.std.proofs.lemmas.Bool.{eq-eqb, ne_eqb, lt-ltb, le-leb, cases_lt, cases_order, and_from, not-true, and_right, not-false}
+use Rattle.std.proofs.lemmas.Bool.{eq-eqb, ne_eqb, lt-ltb, le-leb, leb-true, le-ltb, cases_lt, cases_order, and_from, not-true, and_right, not-false}
 use Rattle.std.proofs.lemmas.List.{get_or_past, ext_get_or}
 use Rattle.inp_model.specs.declared.event.TheConstants.{EV_KEY, EV_ABS, EV_SW, EV_LED, KEY_MAX, SW_MAX, LED_MAX, ABS_MAX}
 use Rattle.inp_model.specs.declared.multi_touch.TheConstants.{ABS_MT_TOUCH_MAJOR, ABS_MT_TOOL_Y}
@@ -10,22 +10,24 @@ use Rattle.inp_model.specs.declared.event.Event.{Event}
 use Rattle.inp_model.specs.declared.step.Step.{Step}
 use Rattle.inp_model.specs.declared.step.Step.TheVariants.{Read}
 use Rattle.inp_model.specs.declared.reply.Reply.{Reply}
+use Rattle.inp_model.specs.RawItem.{RawItem, Frame}
 use Rattle.inp_model.specs.Description.{Description, IsDescription, AreCodes, has_kind, has_code, supports, is_slot_code}
 use Rattle.inp_model.specs.Event.{is_report}
 use Rattle.inp_model.specs.State.{key_down, turned_on, axis_value, cell}
 use Rattle.inp_model.specs.Passed.{announced}
-use Rattle.inp_model.specs.Past.{is_open, is_revoked}
+use Rattle.inp_model.specs.Past.{is_open, is_revoked, description_places}
 use Rattle.inp_model.specs.Raw.{raw}
-use Rattle.inp_model.specs.Frame.{Frame, place, frames}
-use Rattle.inp_model.specs.Queue.{Entry, event_of, visible, queue, taken_by}
-use Rattle.inp_model.specs.Reply.{refused, rows}
+use Rattle.inp_model.specs.Frame.{place, frames}
+use Rattle.inp_model.specs.Left.{Eats}
+use Rattle.inp_model.specs.Queue.{Entry, event_of, visible, queue_with, taken_by_with}
+use Rattle.inp_model.specs.Reply.{refused_with, rows}
 use Rattle.inp_recon.specs.declared.view.View.{View}
 use Rattle.inp_recon.specs.View.{IsSizedFor, view_after_events}
 use Rattle.inp_recon.specs.Cells.{cell_index}
-use Rattle.inp_recon.specs.ClientView.{client_view}
-use Rattle.inp_recon.specs.Synchronised.{Part, AllKeys, AllSwitches, AllLeds, OneAxis, AllSlots, start_place, sync_place, has_asked, has_asked_where, has_axis, taken_since_start, has_no_loss, is_synchronised}
-use Rattle.inp_recon.specs.Undisturbed.{is_up_to, is_whole_for, is_undisturbed}
-use Rattle.inp_recon.specs.Faithful.{IsReportAt, IsFollowed, AreReadsFaithful}
+use Rattle.inp_recon.specs.ClientView.{client_view_with}
+use Rattle.inp_recon.specs.Synchronised.{Part, AllKeys, AllSwitches, AllLeds, OneAxis, AllSlots, start_place, sync_place, has_asked, has_asked_where, has_axis, taken_since_start_with, has_no_loss, is_synchronised_with}
+use Rattle.inp_recon.specs.Undisturbed.{is_up_to, is_whole_for, described_from, is_undisturbed_with}
+use Rattle.inp_recon.specs.Faithful.{IsReportAt, IsFollowedWith, AreReadsFaithful}
 use Rattle.inp_recon.proofs.Each.{Each, Each-weaker, and-left, and-right, Each-from_all, all-left, all-right}
 use Rattle.inp_recon.proofs.Over.{over, over-idle, IsIdle}
 use Rattle.inp_recon.proofs.Queueing.{Promised}
@@ -33,7 +35,7 @@ use Rattle.inp_recon.proofs.FrameEntries.{Receives}
 use Rattle.inp_recon.proofs.FrameSteps.{Says}
 use Rattle.inp_recon.proofs.Following.{AreWholeTo, IsBehind, StandsAt}
 use Rattle.inp_recon.proofs.Sizes.{IsSizedFor-after_events}
-use Rattle.inp_recon.proofs.ViewSteps.{length-rows, client_view-sized}
+use Rattle.inp_recon.proofs.ViewSteps.{length-rows, client_view_with-sized}
 use Rattle.inp_recon.proofs.AxisPasses.{axis_after}
 use Rattle.inp_recon.proofs.AxesFollow.{axis-after_events, axis-stands}
 use Rattle.inp_recon.proofs.SlotPasses.{SlotCell, cell_then, cell_now}
@@ -54,15 +56,15 @@ and-false true h = h
 and-false false h = refl
 
 -- its client is open and not revoked
-pub receives-read : (d : Description) (past : List Step) (client count : ℕ) → refused d past (Read client count) ≡ None → Receives past client
-receives-read d past client count h =
+pub receives-read : (eats : Eats) (d : Description) (past : List Step) (client count : ℕ) → refused_with eats d past (Read client count) ≡ None → Receives past client
+receives-read eats d past client count h =
     let first = none_first (not (is_open past client)) _ _ h in
     let second = none_first (is_revoked past client && true) _ _ first.1 in
     record { is_there = not-false _ first.0; unrevoked = and-false _ second.0 }
 
-pub taken-read : (d : Description) (past : List Step) (client count : ℕ) → taken_by d past client (Read client count) ≡ take (min count (visible event_of (queue d past client))) (queue d past client)
-taken-read d past client count =
-    let q : List Entry = queue d past client in
+pub taken-read : (eats : Eats) (d : Description) (past : List Step) (client count : ℕ) → taken_by_with eats d past client (Read client count) ≡ take (min count (visible event_of (queue_with eats d past client))) (queue_with eats d past client)
+taken-read eats d past client count =
+    let q : List Entry = queue_with eats d past client in
     ap (λ (b : Bool). if b then take (min count (visible event_of q)) q else []) (eq-eqb client client refl)
 
 -- ---- what is promised at an item that is taken
@@ -82,30 +84,42 @@ Promised-item P t v (y ∷ q) (suc j) x at report none h =
 
 -- ---- what is known where a frame is followed
 
-whole_to : (start client : ℕ) (f : Frame) (fs : List Frame) → Each (λ g. (not (nat_lt start (place g) && is_up_to f g) || is_whole_for client g) ≡ true) fs → AreWholeTo start client f fs
-whole_to start client f fs h = Each-weaker _ _ (λ g k behind ended. one (nat_lt start (place g) && is_up_to f g) (is_whole_for client g) (ap (λ (b : Bool). b && is_up_to f g) (lt-ltb start (place g) behind) ∙ le-leb (length g.cut.until) (length f.cut.until) ended) k) fs h
+whole_to : (eats : Eats) (start client : ℕ) (f : Frame) (fs : List Frame) → Each (λ g. (not (nat_lt start (place g) && is_up_to f g) || is_whole_for eats client g) ≡ true) fs → AreWholeTo eats start client f fs
+whole_to eats start client f fs h = Each-weaker _ _ (λ g k behind ended. one (nat_lt start (place g) && is_up_to f g) (is_whole_for eats client g) (ap (λ (b : Bool). b && is_up_to f g) (lt-ltb start (place g) behind) ∙ le-leb (length g.cut.until) (length f.cut.until) ended) k) fs h
   where
     one : (a b : Bool) → a ≡ true → (not a || b) ≡ true → b ≡ true
     one true b e k = k
     one false b e k = cc
 
-pub behind-followed : (d : Description) (past : List Step) (client : ℕ) (taken : List Entry) (f : Frame) → IsFollowed d past client taken f → IsBehind (start_place past client) (sync_place past client) client (frames d past) f
-unfolding is_undisturbed
-behind-followed d past client taken f h = (h.behind, whole_to (start_place past client) client f (frames d past) (Each-from_all _ (frames d past) h.undisturbed))
+undescribed_to : (from to : ℕ) (ps : List ℕ) → Each (λ p. (nat_lt p from || nat_le to p) ≡ true) ps → Each (λ p. from ≤ p → to ≤ p) ps
+undescribed_to from to ps h = Each-weaker _ _ (λ p k late. leb-true to p (one (nat_lt p from) (nat_le to p) (le-ltb p from late) k)) ps h
+  where
+    one : (a b : Bool) → a ≡ false → (a || b) ≡ true → b ≡ true
+    one true b e k = cc
+    one false b e k = k
+
+pub behind-followed : (eats : Eats) (d : Description) (past : List Step) (client : ℕ) (taken : List Entry) (f : Frame) → IsFollowedWith eats d past client taken f
+    → IsBehind eats (start_place past client) (sync_place past client) (described_from d past client) client (frames d past) (description_places past) f
+unfolding is_undisturbed_with
+behind-followed eats d past client taken f h = (
+  h.behind,
+  whole_to eats (start_place past client) client f (frames d past) (Each-from_all _ (frames d past) (and-left _ _ h.undisturbed)),
+  undescribed_to (described_from d past client) (place f) (description_places past) (Each-from_all _ (description_places past) (and-right _ _ h.undisturbed)),
+)
 
 -- what a synchronised client asked for, and that it took no loss
-pub record HasAskedForAll (d : Description) (past : List Step) (client : ℕ) (taken : List Entry) : Type 0 where
+pub record HasAskedForAll (eats : Eats) (d : Description) (past : List Step) (client : ℕ) (taken : List Entry) : Type 0 where
   pub keys : has_asked_where (has_kind d EV_KEY) AllKeys past client ≡ true
   pub switches : has_asked_where (has_kind d EV_SW) AllSwitches past client ≡ true
   pub leds : has_asked_where (has_kind d EV_LED) AllLeds past client ≡ true
   pub axes : list_all (λ code. has_asked_where (has_axis d code) (OneAxis code) past client) (range_with_len 0 (ABS_MAX + 1)) ≡ true
   pub slots : has_asked_where (nat_lt 0 d.slots) AllSlots past client ≡ true
-  pub before : has_no_loss (taken_since_start d past client) ≡ true
+  pub before : has_no_loss (taken_since_start_with eats d past client) ≡ true
   pub now : has_no_loss taken ≡ true
 
-pub all-asked : (d : Description) (past : List Step) (client : ℕ) (taken : List Entry) → is_synchronised d past client taken ≡ true → HasAskedForAll d past client taken
-unfolding is_synchronised
-all-asked d past client taken h =
+pub all-asked : (eats : Eats) (d : Description) (past : List Step) (client : ℕ) (taken : List Entry) → is_synchronised_with eats d past client taken ≡ true → HasAskedForAll eats d past client taken
+unfolding is_synchronised_with
+all-asked eats d past client taken h =
     let h1 = and-left _ _ h in
     let h2 = and-left _ _ h1 in
     let h3 = and-left _ _ h2 in
@@ -117,8 +131,8 @@ all-asked d past client taken h =
       leds = and-right _ _ h3;
       axes = and-right _ _ h2;
       slots = and-right _ _ h1;
-      before = all-left _ (taken_since_start d past client) taken none;
-      now = all-right _ (taken_since_start d past client) taken none;
+      before = all-left _ (taken_since_start_with eats d past client) taken none;
+      now = all-right _ (taken_since_start_with eats d past client) taken none;
     }
 
 asked_where : (has asked : Bool) → has ≡ true → (not has || asked) ≡ true → asked ≡ true
@@ -128,24 +142,24 @@ asked_where false asked e h = cc
 -- ---- one value, at a report that is read
 
 -- a report of a frame, in what a read takes
-pub read-says : {V : Type 0} (d : Description) (past : List Step) (client count : ℕ) (t : V → Event → V) (st : List Event → V) (v : V)
-    → StandsAt d client t st (start_place past client) (sync_place past client) (frames d past) (raw d past) v (queue d past client)
-    → (j : ℕ) (f : Frame) → IsReportAt (taken_by d past client (Read client count)) j f
-    → IsFollowed d past client (take (suc j) (taken_by d past client (Read client count))) f
-    → over t v (map event_of (take (suc j) (taken_by d past client (Read client count)))) ≡ st f.cut.until
-read-says {V} d past client count t st v h j f report followed =
+pub read-says : {V : Type 0} (eats : Eats) (d : Description) (past : List Step) (client count : ℕ) (t : V → Event → V) (st : List RawItem → V) (v : V)
+    → StandsAt eats d client t st (start_place past client) (sync_place past client) (described_from d past client) (frames d past) (description_places past) (raw d past) v (queue_with eats d past client)
+    → (j : ℕ) (f : Frame) → IsReportAt (taken_by_with eats d past client (Read client count)) j f
+    → IsFollowedWith eats d past client (take (suc j) (taken_by_with eats d past client (Read client count))) f
+    → over t v (map event_of (take (suc j) (taken_by_with eats d past client (Read client count)))) ≡ st f.cut.until
+read-says {V} eats d past client count t st v h j f report followed =
     Promised-item P t v taken j report.entry report.at report.report none
-    (subst (Promised P t v) (sym (taken-read d past client count)) (Promised-take P t v (min count (visible event_of (queue d past client))) (queue d past client) h.reports))
-    f report.frame (behind-followed d past client (take (suc j) taken) f followed)
+    (subst (Promised P t v) (sym (taken-read eats d past client count)) (Promised-take P t v (min count (visible event_of (queue_with eats d past client))) (queue_with eats d past client) h.reports))
+    f report.frame (behind-followed eats d past client (take (suc j) taken) f followed)
   where
     taken : List Entry
-    taken = taken_by d past client (Read client count)
+    taken = taken_by_with eats d past client (Read client count)
 
     P : Entry → V → Type 0
-    P = Says st (IsBehind (start_place past client) (sync_place past client) client (frames d past))
+    P = Says st (IsBehind eats (start_place past client) (sync_place past client) (described_from d past client) client (frames d past) (description_places past))
 
     none : has_no_loss (take (suc j) taken) ≡ true
-    none = (all-asked d past client (take (suc j) taken) followed.synchronised).now
+    none = (all-asked eats d past client (take (suc j) taken) followed.synchronised).now
 
 -- a code past its list is not supported
 unsupported-past : (kind greatest count : ℕ) (d : Description) (codes : List Bool) → ((code : ℕ) → has_code d kind code ≡ get_or codes code false) → AreCodes count greatest codes → (code : ℕ) → count ≤ code → supports d kind code ≡ false
@@ -158,45 +172,45 @@ Each-map_take t (suc n) [] h = tt
 Each-map_take t (suc n) (x ∷ xs) h = (h.0, Each-map_take t n xs h.1)
 
 -- a flag of any class
-flag-read : (d : Description) (past : List Step) (client count : ℕ) (kind : ℕ) (skips : ℤ → Bool) (on : List Event → ℕ → Bool) (flags_count : ℕ) (part : Part) (flags : View → List Bool)
-    → (c : IsFlagClass d client kind skips on flags_count part flags)
+flag-read : (eats : Eats) (d : Description) (past : List Step) (client count : ℕ) (kind : ℕ) (skips : ℤ → Bool) (on : List RawItem → ℕ → Bool) (flags_count : ℕ) (part : Part) (flags : View → List Bool)
+    → (c : IsFlagClass eats d client kind skips on flags_count part flags)
     → Receives past client → has_asked_where (has_kind d kind) part past client ≡ true
     → ((code : ℕ) → flags_count ≤ code → supports d kind code ≡ false)
-    → (j : ℕ) (f : Frame) → IsReportAt (taken_by d past client (Read client count)) j f
-    → IsFollowed d past client (take (suc j) (taken_by d past client (Read client count))) f
-    → (code : ℕ) → get_or (flags (view_after_events (client_view d past client) (map event_of (take (suc j) (taken_by d past client (Read client count)))))) code false ≡ on f.cut.until code
-flag-read d past client count kind skips on flags_count part flags c receives asked beyond j f report followed code =
+    → (j : ℕ) (f : Frame) → IsReportAt (taken_by_with eats d past client (Read client count)) j f
+    → IsFollowedWith eats d past client (take (suc j) (taken_by_with eats d past client (Read client count))) f
+    → (code : ℕ) → get_or (flags (view_after_events (client_view_with eats d past client) (map event_of (take (suc j) (taken_by_with eats d past client (Read client count)))))) code false ≡ on f.cut.until code
+flag-read eats d past client count kind skips on flags_count part flags c receives asked beyond j f report followed code =
     elim (cases_lt code flags_count) [
       | inl within ↦ within_list within (supports d kind code) refl
       | inr past_it ↦
           get_or_past (flags after) code false (omega (arith, past_it, c.long after sized_after))
-          ∙ sym (unsupported-off d client kind skips on flags_count part flags c code (beyond code past_it) f.cut.until)
+          ∙ sym (unsupported-off eats d client kind skips on flags_count part flags c code (beyond code past_it) f.cut.until)
     ]
   where
     taken : List Entry
-    taken = take (suc j) (taken_by d past client (Read client count))
+    taken = take (suc j) (taken_by_with eats d past client (Read client count))
 
     v : View
-    v = client_view d past client
+    v = client_view_with eats d past client
 
     after : View
     after = view_after_events v (map event_of taken)
 
     sized_after : IsSizedFor d.slots after
-    sized_after = IsSizedFor-after_events d.slots v (map event_of taken) (client_view-sized d past client)
+    sized_after = IsSizedFor-after_events d.slots v (map event_of taken) (client_view_with-sized eats d past client)
 
     within_list : code < flags_count → (b : Bool) → supports d kind code ≡ b → get_or (flags after) code false ≡ on f.cut.until code
     within_list within true e =
-        flag-after_events d client kind skips on flags_count part flags c code within v (map event_of taken) (client_view-sized d past client)
-        ∙ read-says d past client count (flag_after d client kind skips on flags_count part flags c code) (λ r. on r code) (get_or (flags v) code false)
-        (flag-stands d client kind skips on flags_count part flags c code within past receives (all-asked d past client taken followed.synchronised).before (asked_where (has_kind d kind) (has_asked part past client) (and-left _ _ e) asked))
+        flag-after_events eats d client kind skips on flags_count part flags c code within v (map event_of taken) (client_view_with-sized eats d past client)
+        ∙ read-says eats d past client count (flag_after eats d client kind skips on flags_count part flags c code) (λ r. on r code) (get_or (flags v) code false)
+        (flag-stands eats d client kind skips on flags_count part flags c code within past receives (all-asked eats d past client taken followed.synchronised).before (asked_where (has_kind d kind) (has_asked part past client) (and-left _ _ e) asked))
         j f report followed
     within_list within false e =
-        flag-after_events d client kind skips on flags_count part flags c code within v (map event_of taken) (client_view-sized d past client)
-        ∙ over-idle (flag_after d client kind skips on flags_count part flags c code) (get_or (flags v) code false) (map event_of taken)
-        (Each-map_take (flag_after d client kind skips on flags_count part flags c code) (suc j) (taken_by d past client (Read client count)) (unsupported-taken d client kind skips on flags_count part flags c code e past (Read client count)))
-        ∙ unsupported-unseen d client kind skips on flags_count part flags c code within e past
-        ∙ sym (unsupported-off d client kind skips on flags_count part flags c code e f.cut.until)
+        flag-after_events eats d client kind skips on flags_count part flags c code within v (map event_of taken) (client_view_with-sized eats d past client)
+        ∙ over-idle (flag_after eats d client kind skips on flags_count part flags c code) (get_or (flags v) code false) (map event_of taken)
+        (Each-map_take (flag_after eats d client kind skips on flags_count part flags c code) (suc j) (taken_by_with eats d past client (Read client count)) (unsupported-taken eats d client kind skips on flags_count part flags c code e past (Read client count)))
+        ∙ unsupported-unseen eats d client kind skips on flags_count part flags c code within e past
+        ∙ sym (unsupported-off eats d client kind skips on flags_count part flags c code e f.cut.until)
 
 -- ---- axes
 
@@ -221,61 +235,61 @@ axis-within d described code has = elim (cases_lt code 64) [
       absurd cc)
 ]
 
-axis-read : (d : Description) (past : List Step) (client count : ℕ) → IsDescription d → Receives past client
-    → (j : ℕ) (f : Frame) → IsReportAt (taken_by d past client (Read client count)) j f
-    → IsFollowed d past client (take (suc j) (taken_by d past client (Read client count))) f
+axis-read : (eats : Eats) (d : Description) (past : List Step) (client count : ℕ) → IsDescription d → Receives past client
+    → (j : ℕ) (f : Frame) → IsReportAt (taken_by_with eats d past client (Read client count)) j f
+    → IsFollowedWith eats d past client (take (suc j) (taken_by_with eats d past client (Read client count))) f
     → (code : ℕ) → has_axis d code ≡ true
-    → get_or (view_after_events (client_view d past client) (map event_of (take (suc j) (taken_by d past client (Read client count))))).axes code (pos 0) ≡ axis_value d f.cut.until code
-axis-read d past client count described receives j f report followed code has =
+    → get_or (view_after_events (client_view_with eats d past client) (map event_of (take (suc j) (taken_by_with eats d past client (Read client count))))).axes code (pos 0) ≡ axis_value d f.cut.until code
+axis-read eats d past client count described receives j f report followed code has =
     let within : code < 64 = axis-within d described code has in
-    let v : View = client_view d past client in
-    let taken : List Entry = take (suc j) (taken_by d past client (Read client count)) in
-    let all = all-asked d past client taken followed.synchronised in
+    let v : View = client_view_with eats d past client in
+    let taken : List Entry = take (suc j) (taken_by_with eats d past client (Read client count)) in
+    let all = all-asked eats d past client taken followed.synchronised in
     let asked : has_asked (OneAxis code) past client ≡ true =
     asked_where (has_axis d code) (has_asked (OneAxis code) past client) has
     (all_within (λ c. has_asked_where (has_axis d c) (OneAxis c) past client) 0 (ABS_MAX + 1) code all.axes (omega arith) (omega arith)) in
-    axis-after_events d client code has within v (map event_of taken) (client_view-sized d past client)
-    ∙ read-says d past client count (axis_after code) (λ r. axis_value d r code) (get_or v.axes code (pos 0))
-    (axis-stands d client code has within past receives all.before asked) j f report followed
+    axis-after_events eats d client code has within v (map event_of taken) (client_view_with-sized eats d past client)
+    ∙ read-says eats d past client count (axis_after code) (λ r. axis_value d r code) (get_or v.axes code (pos 0))
+    (axis-stands eats d client code has within past receives all.before asked) j f report followed
 
 -- ---- slots
 
 slot_code : (k : ℕ) → k < 14 → is_slot_code (48 + k) ≡ true
 slot_code k h = and_from _ _ (le-leb ABS_MT_TOUCH_MAJOR (48 + k) (omega arith)) (le-leb (48 + k) ABS_MT_TOOL_Y (omega arith))
 
-cell-read : (d : Description) (past : List Step) (client count : ℕ) → Receives past client
-    → (j : ℕ) (f : Frame) → IsReportAt (taken_by d past client (Read client count)) j f
-    → IsFollowed d past client (take (suc j) (taken_by d past client (Read client count))) f
+cell-read : (eats : Eats) (d : Description) (past : List Step) (client count : ℕ) → Receives past client
+    → (j : ℕ) (f : Frame) → IsReportAt (taken_by_with eats d past client (Read client count)) j f
+    → IsFollowedWith eats d past client (take (suc j) (taken_by_with eats d past client (Read client count))) f
     → (slot k : ℕ) → (within : slot < d.slots) (h : k < 14)
-    → let v = view_after_events (client_view d past client) (map event_of (take (suc j) (taken_by d past client (Read client count)))) in
+    → let v = view_after_events (client_view_with eats d past client) (map event_of (take (suc j) (taken_by_with eats d past client (Read client count)))) in
     pair v.slot (get_or v.cells (cell_index (pos slot) (48 + k)) (pos 0)) ≡ pair (announced d f.cut.until) (cell d f.cut.until (pos slot) (48 + k))
-cell-read d past client count receives j f report followed slot k within h =
+cell-read eats d past client count receives j f report followed slot k within h =
     let some : nat_eq d.slots 0 ≡ false = ne_eqb d.slots 0 (λ e. omega (arith, e, within)) in
     let is_cell : is_slot_code (48 + k) ≡ true = slot_code k h in
-    let v : View = client_view d past client in
-    let taken : List Entry = take (suc j) (taken_by d past client (Read client count)) in
-    let all = all-asked d past client taken followed.synchronised in
+    let v : View = client_view_with eats d past client in
+    let taken : List Entry = take (suc j) (taken_by_with eats d past client (Read client count)) in
+    let all = all-asked eats d past client taken followed.synchronised in
     let asked : has_asked AllSlots past client ≡ true =
     asked_where (nat_lt 0 d.slots) (has_asked AllSlots past client) (lt-ltb 0 d.slots (omega (arith, within))) all.slots in
-    cell-after_events d client some slot (48 + k) within is_cell v (map event_of taken) (client_view-sized d past client)
-    ∙ read-says d past client count (cell_then (pos slot) (48 + k)) (cell_now d some (pos slot) (48 + k) is_cell) (pair v.slot (get_or v.cells (cell_index (pos slot) (48 + k)) (pos 0)))
-    (cell-stands d client some slot (48 + k) within is_cell past receives all.before asked) j f report followed
+    cell-after_events eats d client some slot (48 + k) within is_cell v (map event_of taken) (client_view_with-sized eats d past client)
+    ∙ read-says eats d past client count (cell_then (pos slot) (48 + k)) (cell_now d some (pos slot) (48 + k) is_cell) (pair v.slot (get_or v.cells (cell_index (pos slot) (48 + k)) (pos 0)))
+    (cell-stands eats d client some slot (48 + k) within is_cell past receives all.before asked) j f report followed
 
-cells-read : (d : Description) (past : List Step) (client count : ℕ) → Receives past client
-    → (j : ℕ) (f : Frame) → IsReportAt (taken_by d past client (Read client count)) j f
-    → IsFollowed d past client (take (suc j) (taken_by d past client (Read client count))) f
-    → (view_after_events (client_view d past client) (map event_of (take (suc j) (taken_by d past client (Read client count))))).cells ≡ rows d f.cut.until
-cells-read d past client count receives j f report followed =
+cells-read : (eats : Eats) (d : Description) (past : List Step) (client count : ℕ) → Receives past client
+    → (j : ℕ) (f : Frame) → IsReportAt (taken_by_with eats d past client (Read client count)) j f
+    → IsFollowedWith eats d past client (take (suc j) (taken_by_with eats d past client (Read client count))) f
+    → (view_after_events (client_view_with eats d past client) (map event_of (take (suc j) (taken_by_with eats d past client (Read client count))))).cells ≡ rows d f.cut.until
+cells-read eats d past client count receives j f report followed =
     ext_get_or (pos 0) after.cells (rows d f.cut.until) (sized.cells ∙ sym (length-rows d f.cut.until)) each
   where
     taken : List Entry
-    taken = take (suc j) (taken_by d past client (Read client count))
+    taken = take (suc j) (taken_by_with eats d past client (Read client count))
 
     after : View
-    after = view_after_events (client_view d past client) (map event_of taken)
+    after = view_after_events (client_view_with eats d past client) (map event_of taken)
 
     sized : IsSizedFor d.slots after
-    sized = IsSizedFor-after_events d.slots (client_view d past client) (map event_of taken) (client_view-sized d past client)
+    sized = IsSizedFor-after_events d.slots (client_view_with eats d past client) (map event_of taken) (client_view_with-sized eats d past client)
 
     each : (q : ℕ) → q < length after.cells → get_or after.cells q (pos 0) ≡ get_or (rows d f.cut.until) q (pos 0)
     each q h =
@@ -285,21 +299,21 @@ cells-read d past client count receives j f report followed =
         let less : k < 14 = omega arith in
         let place : cell_index (pos slot) (48 + k) ≡ q = omega arith in
         ap (λ (i : ℕ). get_or after.cells i (pos 0)) (sym place)
-        ∙ ap (λ (u : SlotCell). u.1) (cell-read d past client count receives j f report followed slot k within less)
+        ∙ ap (λ (u : SlotCell). u.1) (cell-read eats d past client count receives j f report followed slot k within less)
         ∙ sym (rows-cell d f.cut.until slot (48 + k) within (slot_code k less))
         ∙ ap (λ (i : ℕ). get_or (rows d f.cut.until) i (pos 0)) place
 
 -- ---- the law
 
 pub reads-faithful : AreReadsFaithful
-reads-faithful d past client count described accepted j f report followed =
-    let receives = receives-read d past client count accepted.1 in
-    let asked = all-asked d past client (take (suc j) (taken_by d past client (Read client count))) followed.synchronised in
+reads-faithful eats d past client count described accepted j f report followed =
+    let receives = receives-read eats d past client count accepted.1 in
+    let asked = all-asked eats d past client (take (suc j) (taken_by_with eats d past client (Read client count))) followed.synchronised in
     record {
-      keys = flag-read d past client count EV_KEY is_repeat_value (key_down d) 768 AllKeys (λ v. v.keys) (keys-class d client) receives asked.keys (unsupported-past EV_KEY KEY_MAX 768 d d.keys (λ code. refl) described.keys) j f report followed;
-      switches = flag-read d past client count EV_SW is_never (λ r code. turned_on d r EV_SW code) 64 AllSwitches (λ v. v.switches) (switches-class d client) receives asked.switches (unsupported-past EV_SW SW_MAX 64 d d.switches (λ code. refl) described.switches) j f report followed;
-      leds = flag-read d past client count EV_LED is_never (λ r code. turned_on d r EV_LED code) 64 AllLeds (λ v. v.leds) (leds-class d client) receives asked.leds (unsupported-past EV_LED LED_MAX 64 d d.leds (λ code. refl) described.leds) j f report followed;
-      axes = axis-read d past client count described receives j f report followed;
-      cells = cells-read d past client count receives j f report followed;
-      slot = λ some. ap (λ (u : SlotCell). u.0) (cell-read d past client count receives j f report followed 0 0 some (omega arith));
+      keys = flag-read eats d past client count EV_KEY is_repeat_value (key_down d) 768 AllKeys (λ v. v.keys) (keys-class eats d client) receives asked.keys (unsupported-past EV_KEY KEY_MAX 768 d d.keys (λ code. refl) described.keys) j f report followed;
+      switches = flag-read eats d past client count EV_SW is_never (λ r code. turned_on d r EV_SW code) 64 AllSwitches (λ v. v.switches) (switches-class eats d client) receives asked.switches (unsupported-past EV_SW SW_MAX 64 d d.switches (λ code. refl) described.switches) j f report followed;
+      leds = flag-read eats d past client count EV_LED is_never (λ r code. turned_on d r EV_LED code) 64 AllLeds (λ v. v.leds) (leds-class eats d client) receives asked.leds (unsupported-past EV_LED LED_MAX 64 d d.leds (λ code. refl) described.leds) j f report followed;
+      axes = axis-read eats d past client count described receives j f report followed;
+      cells = cells-read eats d past client count receives j f report followed;
+      slot = λ some. ap (λ (u : SlotCell). u.0) (cell-read eats d past client count receives j f report followed 0 0 some (omega arith));
     }

@@ -11,8 +11,9 @@ use Rattle.inp_model.specs.Event.{is_set}
 use Rattle.inp_model.specs.Step.{Query, Codes, Slots, client_of, is_same, query_of, is_part_of}
 use Rattle.inp_model.specs.State.{key_down, turned_on}
 use Rattle.inp_model.specs.Raw.{raw}
-use Rattle.inp_model.specs.Queue.{event_of, flush, queue}
-use Rattle.inp_model.specs.Reply.{accepted, code_on}
+use Rattle.inp_model.specs.Left.{Eats}
+use Rattle.inp_model.specs.Queue.{event_of, flush, queue_with}
+use Rattle.inp_model.specs.Reply.{accepted_with, code_on}
 use Rattle.inp_recon.specs.declared.view.View.{View}
 use Rattle.inp_recon.specs.View.{with_value_at, first_view, view_after_event, view_after_answer}
 use Rattle.inp_recon.specs.Synchronised.{AllKeys, AllSwitches, AllLeds, asks_for}
@@ -32,37 +33,38 @@ kind_asked (Some (Codes kind)) = kind
 abbrev pub is_repeat_value : ℤ → Bool
 is_repeat_value value = int_eq value (pos 2)
 
-key_answer : (d : Description) (client code : ℕ) → code < 768 → (past : List Step) (x : Step) (v : View) → is_same (client_of x) client ≡ true
-    → get_or (view_after_answer v x (accepted d past x).reply (accepted d past x).cells).keys code false ≡ cond (asks_for AllKeys client x) (key_down d (raw d past) code) (get_or v.keys code false)
+key_answer : (eats : Eats) (d : Description) (client code : ℕ) → code < 768 → (past : List Step) (x : Step) (v : View) → is_same (client_of x) client ≡ true
+    → get_or (view_after_answer v x (accepted_with eats d past x).reply (accepted_with eats d past x).cells).keys code false ≡ cond (asks_for AllKeys client x) (key_down d (raw d past) code) (get_or v.keys code false)
 unfolding view_after_answer
-key_answer d client code within past (GetKeys named) v own =
+key_answer eats d client code within past (GetKeys named) v own =
     told_flag 768 (code_on d (raw d past) EV_KEY) code within within
     ∙ ap (λ (b : Bool). cond b (key_down d (raw d past) code) (get_or v.keys code false)) (sym own)
-key_answer d client code within past x v own = refl
+key_answer eats d client code within past x v own = refl
 
-key_asked : (d : Description) (client : ℕ) (past : List Step) (x : Step) → asks_for AllKeys client x ≡ true → left_in_queue d past client x ≡ flush event_of (is_part_of (Codes EV_KEY)) (queue d past client)
-key_asked d client past (GetKeys named) h = ap (λ (b : Bool). if b then flush event_of (is_part_of (Codes EV_KEY)) (queue d past client) else queue d past client) h
-key_asked d client past x h = absurd (let bad : false ≡ true = h in cc)
+key_asked : (eats : Eats) (d : Description) (client : ℕ) (past : List Step) (x : Step) → asks_for AllKeys client x ≡ true → left_in_queue eats d past client x ≡ flush event_of (is_part_of (Codes EV_KEY)) (queue_with eats d past client)
+key_asked eats d client past (GetKeys named) h = ap (λ (b : Bool). if b then flush event_of (is_part_of (Codes EV_KEY)) (queue_with eats d past client) else queue_with eats d past client) h
+key_asked eats d client past x h = absurd (let bad : false ≡ true = h in cc)
 
 key_only : (client : ℕ) (x : Step) → asks_for AllKeys client x ≡ false → is_same (client_of x) client ≡ true → query_of x ≡ Some (Codes EV_KEY) → ⊥
 unfolding kind_asked
 key_only client (GetKeys named) asks own e = let bad : true ≡ false = sym own ∙ asks in cc
 key_only client x asks own e = omega (arith, ap kind_asked e)
 
-pub keys-class : (d : Description) (client : ℕ) → IsFlagClass d client EV_KEY is_repeat_value (key_down d) 768 AllKeys (λ v. v.keys)
+pub keys-class : (eats : Eats) (d : Description) (client : ℕ) → IsFlagClass eats d client EV_KEY is_repeat_value (key_down d) 768 AllKeys (λ v. v.keys)
 unfolding key_down first_view view_after_event
-keys-class d client = record {
+keys-class eats d client = record {
   steps = λ r e code. refl;
   passes = λ r code value. refl;
   off = λ code. refl;
+  described = λ r axis i code. refl;
   not_abs = refl;
   not_syn = refl;
   viewed = refl;
   long = λ v h. h.keys;
   first = λ code. get_or-replicate 768 code false;
   event = λ v e. refl;
-  answer = λ code within. key_answer d client code within;
-  asked = key_asked d client;
+  answer = λ code within. key_answer eats d client code within;
+  asked = key_asked eats d client;
   only = key_only client;
 }
 
@@ -79,37 +81,38 @@ bit-steps d kind r e code = by (supports d kind code && (nat_eq e.kind kind && n
     by true = refl
     by false = refl
 
-switch_answer : (d : Description) (client code : ℕ) → code < 64 → (past : List Step) (x : Step) (v : View) → is_same (client_of x) client ≡ true
-    → get_or (view_after_answer v x (accepted d past x).reply (accepted d past x).cells).switches code false ≡ cond (asks_for AllSwitches client x) (turned_on d (raw d past) EV_SW code) (get_or v.switches code false)
+switch_answer : (eats : Eats) (d : Description) (client code : ℕ) → code < 64 → (past : List Step) (x : Step) (v : View) → is_same (client_of x) client ≡ true
+    → get_or (view_after_answer v x (accepted_with eats d past x).reply (accepted_with eats d past x).cells).switches code false ≡ cond (asks_for AllSwitches client x) (turned_on d (raw d past) EV_SW code) (get_or v.switches code false)
 unfolding view_after_answer
-switch_answer d client code within past (GetSwitches named) v own =
+switch_answer eats d client code within past (GetSwitches named) v own =
     told_flag 64 (code_on d (raw d past) EV_SW) code within (omega arith)
     ∙ ap (λ (b : Bool). cond b (turned_on d (raw d past) EV_SW code) (get_or v.switches code false)) (sym own)
-switch_answer d client code within past x v own = refl
+switch_answer eats d client code within past x v own = refl
 
-switch_asked : (d : Description) (client : ℕ) (past : List Step) (x : Step) → asks_for AllSwitches client x ≡ true → left_in_queue d past client x ≡ flush event_of (is_part_of (Codes EV_SW)) (queue d past client)
-switch_asked d client past (GetSwitches named) h = ap (λ (b : Bool). if b then flush event_of (is_part_of (Codes EV_SW)) (queue d past client) else queue d past client) h
-switch_asked d client past x h = absurd (let bad : false ≡ true = h in cc)
+switch_asked : (eats : Eats) (d : Description) (client : ℕ) (past : List Step) (x : Step) → asks_for AllSwitches client x ≡ true → left_in_queue eats d past client x ≡ flush event_of (is_part_of (Codes EV_SW)) (queue_with eats d past client)
+switch_asked eats d client past (GetSwitches named) h = ap (λ (b : Bool). if b then flush event_of (is_part_of (Codes EV_SW)) (queue_with eats d past client) else queue_with eats d past client) h
+switch_asked eats d client past x h = absurd (let bad : false ≡ true = h in cc)
 
 switch_only : (client : ℕ) (x : Step) → asks_for AllSwitches client x ≡ false → is_same (client_of x) client ≡ true → query_of x ≡ Some (Codes EV_SW) → ⊥
 unfolding kind_asked
 switch_only client (GetSwitches named) asks own e = let bad : true ≡ false = sym own ∙ asks in cc
 switch_only client x asks own e = omega (arith, ap kind_asked e)
 
-pub switches-class : (d : Description) (client : ℕ) → IsFlagClass d client EV_SW is_never (λ r code. turned_on d r EV_SW code) 64 AllSwitches (λ v. v.switches)
+pub switches-class : (eats : Eats) (d : Description) (client : ℕ) → IsFlagClass eats d client EV_SW is_never (λ r code. turned_on d r EV_SW code) 64 AllSwitches (λ v. v.switches)
 unfolding turned_on first_view view_after_event
-switches-class d client = record {
+switches-class eats d client = record {
   steps = bit-steps d EV_SW;
   passes = λ r code value. refl;
   off = λ code. refl;
+  described = λ r axis i code. refl;
   not_abs = refl;
   not_syn = refl;
   viewed = refl;
   long = λ v h. h.switches;
   first = λ code. get_or-replicate 64 code false;
   event = λ v e. by (nat_eq e.kind EV_SW) v e;
-  answer = λ code within. switch_answer d client code within;
-  asked = switch_asked d client;
+  answer = λ code within. switch_answer eats d client code within;
+  asked = switch_asked eats d client;
   only = switch_only client;
 }
   where
@@ -117,37 +120,38 @@ switches-class d client = record {
     by true v e = refl
     by false v e = refl
 
-led_answer : (d : Description) (client code : ℕ) → code < 64 → (past : List Step) (x : Step) (v : View) → is_same (client_of x) client ≡ true
-    → get_or (view_after_answer v x (accepted d past x).reply (accepted d past x).cells).leds code false ≡ cond (asks_for AllLeds client x) (turned_on d (raw d past) EV_LED code) (get_or v.leds code false)
+led_answer : (eats : Eats) (d : Description) (client code : ℕ) → code < 64 → (past : List Step) (x : Step) (v : View) → is_same (client_of x) client ≡ true
+    → get_or (view_after_answer v x (accepted_with eats d past x).reply (accepted_with eats d past x).cells).leds code false ≡ cond (asks_for AllLeds client x) (turned_on d (raw d past) EV_LED code) (get_or v.leds code false)
 unfolding view_after_answer
-led_answer d client code within past (GetLeds named) v own =
+led_answer eats d client code within past (GetLeds named) v own =
     told_flag 64 (code_on d (raw d past) EV_LED) code within (omega arith)
     ∙ ap (λ (b : Bool). cond b (turned_on d (raw d past) EV_LED code) (get_or v.leds code false)) (sym own)
-led_answer d client code within past x v own = refl
+led_answer eats d client code within past x v own = refl
 
-led_asked : (d : Description) (client : ℕ) (past : List Step) (x : Step) → asks_for AllLeds client x ≡ true → left_in_queue d past client x ≡ flush event_of (is_part_of (Codes EV_LED)) (queue d past client)
-led_asked d client past (GetLeds named) h = ap (λ (b : Bool). if b then flush event_of (is_part_of (Codes EV_LED)) (queue d past client) else queue d past client) h
-led_asked d client past x h = absurd (let bad : false ≡ true = h in cc)
+led_asked : (eats : Eats) (d : Description) (client : ℕ) (past : List Step) (x : Step) → asks_for AllLeds client x ≡ true → left_in_queue eats d past client x ≡ flush event_of (is_part_of (Codes EV_LED)) (queue_with eats d past client)
+led_asked eats d client past (GetLeds named) h = ap (λ (b : Bool). if b then flush event_of (is_part_of (Codes EV_LED)) (queue_with eats d past client) else queue_with eats d past client) h
+led_asked eats d client past x h = absurd (let bad : false ≡ true = h in cc)
 
 led_only : (client : ℕ) (x : Step) → asks_for AllLeds client x ≡ false → is_same (client_of x) client ≡ true → query_of x ≡ Some (Codes EV_LED) → ⊥
 unfolding kind_asked
 led_only client (GetLeds named) asks own e = let bad : true ≡ false = sym own ∙ asks in cc
 led_only client x asks own e = omega (arith, ap kind_asked e)
 
-pub leds-class : (d : Description) (client : ℕ) → IsFlagClass d client EV_LED is_never (λ r code. turned_on d r EV_LED code) 64 AllLeds (λ v. v.leds)
+pub leds-class : (eats : Eats) (d : Description) (client : ℕ) → IsFlagClass eats d client EV_LED is_never (λ r code. turned_on d r EV_LED code) 64 AllLeds (λ v. v.leds)
 unfolding turned_on first_view view_after_event
-leds-class d client = record {
+leds-class eats d client = record {
   steps = bit-steps d EV_LED;
   passes = λ r code value. refl;
   off = λ code. refl;
+  described = λ r axis i code. refl;
   not_abs = refl;
   not_syn = refl;
   viewed = refl;
   long = λ v h. h.leds;
   first = λ code. get_or-replicate 64 code false;
   event = λ v e. by (nat_eq e.kind EV_LED) v e;
-  answer = λ code within. led_answer d client code within;
-  asked = led_asked d client;
+  answer = λ code within. led_answer eats d client code within;
+  asked = led_asked eats d client;
   only = led_only client;
 }
   where

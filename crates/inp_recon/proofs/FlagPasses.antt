@@ -4,6 +4,7 @@ use Rattle.std.proofs.lemmas.Bool.{eqb-true, eq-eqb, and_right, and_left}
 use Rattle.inp_model.specs.declared.event.TheConstants.{EV_ABS}
 use Rattle.inp_model.specs.declared.event.Event.{Event}
 use Rattle.inp_model.specs.Description.{Description, supports}
+use Rattle.inp_model.specs.RawItem.{RawItem, Occurred}
 use Rattle.inp_model.specs.Event.{is_set, slot_event}
 use Rattle.inp_model.specs.Passed.{differ, passes_as, announces, announcement, passed}
 use Rattle.inp_model.specs.State.{staged}
@@ -21,7 +22,7 @@ value_each P e h None = tt
 value_each P e h (Some v) = (h v, tt)
 
 -- what holds of slot events and of the event under any value holds of all that is passed for it
-pub passed-each : (P : Event → Type 0) (d : Description) (r : List Event) (e : Event) → ((slot : ℤ) → P (slot_event slot)) → ((value : ℤ) → P (record e { value = value })) → Each P (passed d r e)
+pub passed-each : (P : Event → Type 0) (d : Description) (r : List RawItem) (e : Event) → ((slot : ℤ) → P (slot_event slot)) → ((value : ℤ) → P (record e { value = value })) → Each P (passed d r e)
 passed-each P d r e slots values =
     Each-append P (announcement d r e) _ (slot_each P slots (announces d r e) (staged d r)) (value_each P e values (passes_as d r e))
 
@@ -46,38 +47,38 @@ abbrev pub sets_flag : ℕ → (ℤ → Bool) → ℕ → Event → Bool
 sets_flag kind skips code e = (nat_eq e.kind kind && nat_eq e.code code) && not (skips e.value)
 
 -- what is passed for an event of the type
-abbrev pub PassesFlag : Description → ℕ → (ℤ → Bool) → (List Event → ℕ → Bool) → Type 0
+abbrev pub PassesFlag : Description → ℕ → (ℤ → Bool) → (List RawItem → ℕ → Bool) → Type 0
 PassesFlag d kind skips on =
-    (r : List Event) (code : ℕ) (value : ℤ)
-    → passed d r (event kind code value) ≡ option_to_list (option_map (λ v. event kind code v) (if supports d kind code && (if skips value then true else differ (on r code) (on (event kind code value ∷ r) code)) then Some value else None))
+    (r : List RawItem) (code : ℕ) (value : ℤ)
+    → passed d r (event kind code value) ≡ option_to_list (option_map (λ v. event kind code v) (if supports d kind code && (if skips value then true else differ (on r code) (on (Occurred (event kind code value) ∷ r) code)) then Some value else None))
 
 -- the state by the last event on the code
-abbrev pub StepsFlag : Description → ℕ → (ℤ → Bool) → (List Event → ℕ → Bool) → Type 0
+abbrev pub StepsFlag : Description → ℕ → (ℤ → Bool) → (List RawItem → ℕ → Bool) → Type 0
 StepsFlag d kind skips on =
-    (r : List Event) (e : Event) (code : ℕ)
-    → on (e ∷ r) code ≡ (if (supports d kind code && (nat_eq e.kind kind && nat_eq e.code code)) && not (skips e.value) then is_set e else on r code)
+    (r : List RawItem) (e : Event) (code : ℕ)
+    → on (Occurred e ∷ r) code ≡ (if (supports d kind code && (nat_eq e.kind kind && nat_eq e.code code)) && not (skips e.value) then is_set e else on r code)
 
-module _ (d : Description) (kind : ℕ) (skips : ℤ → Bool) (on : List Event → ℕ → Bool) (steps : StepsFlag d kind skips on) (passes : PassesFlag d kind skips on) (not_abs : nat_eq EV_ABS kind ≡ false) where
+module _ (d : Description) (kind : ℕ) (skips : ℤ → Bool) (on : List RawItem → ℕ → Bool) (steps : StepsFlag d kind skips on) (passes : PassesFlag d kind skips on) (not_abs : nat_eq EV_ABS kind ≡ false) where
   -- an event of another type or code
   other_idle : (code : ℕ) (e : Event) → (nat_eq e.kind kind && nat_eq e.code code) ≡ false → IsIdle (set_by (sets_flag kind skips code) is_set) e
   other_idle code e h b = ap (λ (c : Bool). if c && not (skips e.value) then is_set e else b) h
 
-  other_same : (code : ℕ) (r : List Event) (e : Event) → (nat_eq e.kind kind && nat_eq e.code code) ≡ false → on (e ∷ r) code ≡ on r code
+  other_same : (code : ℕ) (r : List RawItem) (e : Event) → (nat_eq e.kind kind && nat_eq e.code code) ≡ false → on (Occurred e ∷ r) code ≡ on r code
   other_same code r e h =
       steps r e code
       ∙ ap (λ (c : Bool). if (supports d kind code && c) && not (skips e.value) then is_set e else on r code) h
       ∙ ap (λ (c : Bool). if c && not (skips e.value) then is_set e else on r code) (and_right (supports d kind code) false refl)
 
   -- nothing of the code is passed for such an event
-  pub other_each : (code : ℕ) (r : List Event) (e : Event) → (nat_eq e.kind kind && nat_eq e.code code) ≡ false → Each (λ p. (nat_eq p.kind kind && nat_eq p.code code) ≡ false) (passed d r e)
+  pub other_each : (code : ℕ) (r : List RawItem) (e : Event) → (nat_eq e.kind kind && nat_eq e.code code) ≡ false → Each (λ p. (nat_eq p.kind kind && nat_eq p.code code) ≡ false) (passed d r e)
   other_each code r e h = passed-each (λ p. (nat_eq p.kind kind && nat_eq p.code code) ≡ false) d r e (λ slot. and_left _ _ not_abs) (λ value. h)
 
-  at_code : (code : ℕ) (r : List Event) (value : ℤ) → over (set_by (sets_flag kind skips code) is_set) (on r code) (passed d r (event kind code value)) ≡ on (event kind code value ∷ r) code
+  at_code : (code : ℕ) (r : List RawItem) (value : ℤ) → over (set_by (sets_flag kind skips code) is_set) (on r code) (passed d r (event kind code value)) ≡ on (Occurred (event kind code value) ∷ r) code
   at_code code r value =
       let t : Bool → Event → Bool = set_by (sets_flag kind skips code) is_set in
       let e : Event = event kind code value in
       let before : Bool = on r code in
-      let behind : Bool = on (e ∷ r) code in
+      let behind : Bool = on (Occurred e ∷ r) code in
       let has : Bool = supports d kind code in
       let same : (nat_eq kind kind && nat_eq code code) ≡ true = ap (λ (a : Bool). a && nat_eq code code) (eq-eqb kind kind refl) ∙ eq-eqb code code refl in
       let is : behind ≡ (if has && not (skips value) then is_set e else before) =
@@ -93,11 +94,11 @@ module _ (d : Description) (kind : ℕ) (skips : ℤ → Bool) (on : List Event 
       and-true true = refl
       and-true false = refl
 
-  pub flag-passes : (code : ℕ) (r : List Event) (e : Event) → over (set_by (sets_flag kind skips code) is_set) (on r code) (passed d r e) ≡ on (e ∷ r) code
+  pub flag-passes : (code : ℕ) (r : List RawItem) (e : Event) → over (set_by (sets_flag kind skips code) is_set) (on r code) (passed d r e) ≡ on (Occurred e ∷ r) code
   flag-passes code r e = by (nat_eq e.kind kind) refl (nat_eq e.code code) refl
     where
       Goal : Event → Type 0
-      Goal e = over (set_by (sets_flag kind skips code) is_set) (on r code) (passed d r e) ≡ on (e ∷ r) code
+      Goal e = over (set_by (sets_flag kind skips code) is_set) (on r code) (passed d r e) ≡ on (Occurred e ∷ r) code
 
       other : (nat_eq e.kind kind && nat_eq e.code code) ≡ false → Goal e
       other h =
@@ -111,10 +112,10 @@ module _ (d : Description) (kind : ℕ) (skips : ℤ → Bool) (on : List Event 
       by false h b k = other (and_left _ _ h)
 
   -- a code that is not supported: its state stays, and nothing of it is passed
-  pub unsupported-same : (code : ℕ) → supports d kind code ≡ false → (r : List Event) (e : Event) → on (e ∷ r) code ≡ on r code
+  pub unsupported-same : (code : ℕ) → supports d kind code ≡ false → (r : List RawItem) (e : Event) → on (Occurred e ∷ r) code ≡ on r code
   unsupported-same code h r e = steps r e code ∙ ap (λ (c : Bool). if (c && (nat_eq e.kind kind && nat_eq e.code code)) && not (skips e.value) then is_set e else on r code) h
 
-  pub unsupported-each : (code : ℕ) → supports d kind code ≡ false → (r : List Event) (e : Event) → Each (λ p. (nat_eq p.kind kind && nat_eq p.code code) ≡ false) (passed d r e)
+  pub unsupported-each : (code : ℕ) → supports d kind code ≡ false → (r : List RawItem) (e : Event) → Each (λ p. (nat_eq p.kind kind && nat_eq p.code code) ≡ false) (passed d r e)
   unsupported-each code h r e = by (nat_eq e.kind kind) refl (nat_eq e.code code) refl
     where
       Goal : Event → Type 0
@@ -123,7 +124,7 @@ module _ (d : Description) (kind : ℕ) (skips : ℤ → Bool) (on : List Event 
       none : (value : ℤ) → passed d r (event kind code value) ≡ []
       none value =
           passes r code value
-          ∙ ap (λ (c : Bool). option_to_list (option_map (λ v. event kind code v) (if c && (if skips value then true else differ (on r code) (on (event kind code value ∷ r) code)) then Some value else None))) h
+          ∙ ap (λ (c : Bool). option_to_list (option_map (λ v. event kind code v) (if c && (if skips value then true else differ (on r code) (on (Occurred (event kind code value) ∷ r) code)) then Some value else None))) h
 
       by : (a : Bool) → nat_eq e.kind kind ≡ a → (b : Bool) → nat_eq e.code code ≡ b → Goal e
       by true k true j = subst Goal (sym (is_event e kind code (eqb-true e.kind kind k) (eqb-true e.code code j))) (subst (Each (λ p. (nat_eq p.kind kind && nat_eq p.code code) ≡ false)) (sym (none e.value)) tt)

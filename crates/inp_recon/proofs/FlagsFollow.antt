@@ -3,19 +3,22 @@ use Rattle.std.proofs.Common.{◌≡◌, ◌<◌, ℕ, ℤ, Bool, true, false, �
 use Rattle.std.proofs.lemmas.Bool.{eqb-true, and_left}
 use Rattle.inp_model.specs.declared.event.TheConstants.{EV_ABS}
 use Rattle.inp_model.specs.declared.event.Event.{Event}
+use Rattle.inp_model.specs.declared.axis_info.AxisInfo.{AxisInfo}
 use Rattle.inp_model.specs.declared.step.Step.{Step}
 use Rattle.inp_model.specs.Description.{Description, supports}
+use Rattle.inp_model.specs.RawItem.{RawItem, Occurred, Described}
 use Rattle.inp_model.specs.Event.{is_set}
 use Rattle.inp_model.specs.Step.{Codes, Slots, client_of, is_same, query_of, is_part_of}
 use Rattle.inp_model.specs.Passed.{passed}
 use Rattle.inp_model.specs.Cut.{pending}
 use Rattle.inp_model.specs.Raw.{raw}
-use Rattle.inp_model.specs.Queue.{Entry, event_of, flush, queue, taken_by}
-use Rattle.inp_model.specs.Reply.{accepted}
+use Rattle.inp_model.specs.Left.{Eats}
+use Rattle.inp_model.specs.Queue.{Entry, event_of, flush, queue_with, taken_by_with}
+use Rattle.inp_model.specs.Reply.{accepted_with}
 use Rattle.inp_recon.specs.declared.view.View.{View}
 use Rattle.inp_recon.specs.View.{IsSizedFor, with_value_at, first_view, view_after_event, view_after_events, view_after_answer}
-use Rattle.inp_recon.specs.ClientView.{client_view}
-use Rattle.inp_recon.specs.Synchronised.{Part, asks_for, has_asked, taken_since_start, has_no_loss}
+use Rattle.inp_recon.specs.ClientView.{client_view_with}
+use Rattle.inp_recon.specs.Synchronised.{Part, asks_for, has_asked, taken_since_start_with, has_no_loss}
 use Rattle.inp_recon.specs.Undisturbed.{is_viewed}
 use Rattle.inp_recon.proofs.Each.{Each, Each-weaker, Each-map, and-left}
 use Rattle.inp_recon.proofs.Over.{over, over-idle, IsIdle}
@@ -30,10 +33,11 @@ use Rattle.inp_recon.proofs.Following.{Spares, Stands, stands}
 use Rattle.inp_recon.proofs.ViewSteps.{get-after_events, get-follows, get_or-with_value_at}
 
 -- a class of flags: its type, how the device has it, and how a view has it and is told it
-pub record IsFlagClass (d : Description) (client kind : ℕ) (skips : ℤ → Bool) (on : List Event → ℕ → Bool) (count : ℕ) (part : Part) (flags : View → List Bool) : Type 0 where
+pub record IsFlagClass (eats : Eats) (d : Description) (client kind : ℕ) (skips : ℤ → Bool) (on : List RawItem → ℕ → Bool) (count : ℕ) (part : Part) (flags : View → List Bool) : Type 0 where
   pub steps : StepsFlag d kind skips on
   pub passes : PassesFlag d kind skips on
   pub off : (code : ℕ) → on [] code ≡ false
+  pub described : (r : List RawItem) (axis : ℕ) (i : AxisInfo) (code : ℕ) → on (Described axis i ∷ r) code ≡ on r code
   pub not_abs : nat_eq EV_ABS kind ≡ false
   pub not_syn : nat_eq 0 kind ≡ false
   pub viewed : is_viewed kind ≡ true
@@ -41,11 +45,11 @@ pub record IsFlagClass (d : Description) (client kind : ℕ) (skips : ℤ → Bo
   pub first : (code : ℕ) → get_or (flags (first_view d)) code false ≡ false
   pub event : (v : View) (e : Event) → flags (view_after_event v e) ≡ (if nat_eq e.kind kind && not (skips e.value) then with_value_at count (flags v) e.code (is_set e) else flags v)
   pub answer : (code : ℕ) → code < count → (past : List Step) (x : Step) (v : View) → is_same (client_of x) client ≡ true
-      → get_or (flags (view_after_answer v x (accepted d past x).reply (accepted d past x).cells)) code false ≡ cond (asks_for part client x) (on (raw d past) code) (get_or (flags v) code false)
-  pub asked : (past : List Step) (x : Step) → asks_for part client x ≡ true → left_in_queue d past client x ≡ flush event_of (is_part_of (Codes kind)) (queue d past client)
+      → get_or (flags (view_after_answer v x (accepted_with eats d past x).reply (accepted_with eats d past x).cells)) code false ≡ cond (asks_for part client x) (on (raw d past) code) (get_or (flags v) code false)
+  pub asked : (past : List Step) (x : Step) → asks_for part client x ≡ true → left_in_queue eats d past client x ≡ flush event_of (is_part_of (Codes kind)) (queue_with eats d past client)
   pub only : (x : Step) → asks_for part client x ≡ false → is_same (client_of x) client ≡ true → query_of x ≡ Some (Codes kind) → ⊥
 
-module _ (d : Description) (client kind : ℕ) (skips : ℤ → Bool) (on : List Event → ℕ → Bool) (count : ℕ) (part : Part) (flags : View → List Bool) (c : IsFlagClass d client kind skips on count part flags) (code : ℕ) where
+module _ (eats : Eats) (d : Description) (client kind : ℕ) (skips : ℤ → Bool) (on : List RawItem → ℕ → Bool) (count : ℕ) (part : Part) (flags : View → List Bool) (c : IsFlagClass eats d client kind skips on count part flags) (code : ℕ) where
   -- how an event changes the flag, and the flag of a view
   abbrev pub flag_after : Bool → Event → Bool
   flag_after = set_by (sets_flag kind skips code) is_set
@@ -60,7 +64,7 @@ module _ (d : Description) (client kind : ℕ) (skips : ℤ → Bool) (on : List
   pub flag-unviewed : (e : Event) → is_viewed e.kind ≡ false → IsIdle flag_after e
   flag-unviewed e h = kind_idle e (unviewed-other e.kind kind c.viewed h)
 
-  pub flag-passes_on : (r : List Event) (e : Event) → over flag_after (on r code) (passed d r e) ≡ on (e ∷ r) code
+  pub flag-passes_on : (r : List RawItem) (e : Event) → over flag_after (on r code) (passed d r e) ≡ on (Occurred e ∷ r) code
   flag-passes_on = flag-passes d kind skips on c.steps c.passes c.not_abs code
 
   flag_event : code < count → (v : View) (e : Event) → IsSizedFor d.slots v → flag_of (view_after_event v e) ≡ flag_after (flag_of v) e
@@ -85,10 +89,10 @@ module _ (d : Description) (client kind : ℕ) (skips : ℤ → Bool) (on : List
       by false s = refl
 
   pub flag-after_events : code < count → (v : View) (es : List Event) → IsSizedFor d.slots v → flag_of (view_after_events v es) ≡ over flag_after (flag_of v) es
-  flag-after_events within = get-after_events d client flag_after part (λ r. on r code) flag_of (flag_event within) (λ past x v h own. c.answer code within past x v own)
+  flag-after_events within = get-after_events eats d client flag_after part (λ r. on r code) flag_of (flag_event within) (λ past x v h own. c.answer code within past x v own)
 
-  follows : code < count → (past : List Step) (x : Step) → flag_of (client_view d (x ∷ past) client) ≡ cond (asks_for part client x) (on (raw d past) code) (over flag_after (flag_of (client_view d past client)) (map event_of (taken_by d past client x)))
-  follows within = get-follows d client flag_after part (λ r. on r code) flag_of (flag_event within) (λ past x v h own. c.answer code within past x v own)
+  follows : code < count → (past : List Step) (x : Step) → flag_of (client_view_with eats d (x ∷ past) client) ≡ cond (asks_for part client x) (on (raw d past) code) (over flag_after (flag_of (client_view_with eats d past client)) (map event_of (taken_by_with eats d past client x)))
+  follows within = get-follows eats d client flag_after part (λ r. on r code) flag_of (flag_event within) (λ past x v h own. c.answer code within past x v own)
 
   reports_idle : ReportsIdle flag_after
   reports_idle e h = flag-unviewed e (report-unviewed e h)
@@ -102,24 +106,25 @@ module _ (d : Description) (client kind : ℕ) (skips : ℤ → Bool) (on : List
   spares x asks own Slots asked e part = kind_idle e (ap (λ (n : ℕ). nat_eq n kind) (eqb-true e.kind EV_ABS (and-left _ _ part)) ∙ c.not_abs)
 
   fresh : (past : List Step) (x : Step) → asks_for part client x ≡ true
-      → over flag_after (over flag_after (on (raw d past) code) (map event_of (left_in_queue d past client x))) (pending d (raw d past)) ≡ on (raw d past) code
+      → over flag_after (over flag_after (on (raw d past) code) (map event_of (left_in_queue eats d past client x))) (pending d (raw d past)) ≡ on (raw d past) code
   fresh past x asks =
       ap (λ (l : List Entry). over flag_after (over flag_after (on (raw d past) code) (map event_of l)) (pending d (raw d past))) (c.asked past x asks)
-      ∙ ap (λ b. over flag_after b (pending d (raw d past))) (flush-idle flag_after reports_idle (is_part_of (Codes kind)) (λ e h. kind_idle e h) (queue d past client) (on (raw d past) code))
-      ∙ pending-again (sets_flag kind skips code) is_set d (λ r. on r code) flag-passes_on (raw d past)
+      ∙ ap (λ b. over flag_after b (pending d (raw d past))) (flush-idle flag_after reports_idle (is_part_of (Codes kind)) (λ e h. kind_idle e h) (queue_with eats d past client) (on (raw d past) code))
+      ∙ pending-again (sets_flag kind skips code) is_set d (λ r. on r code) flag-passes_on (λ r. true) (λ r e cut fits. refl) (λ r axis i fits. (refl, c.described r axis i code)) (raw d past) refl
 
   -- a flag that was asked for
-  pub flag-stands : code < count → (past : List Step) → Receives past client → has_no_loss (taken_since_start d past client) ≡ true → has_asked part past client ≡ true
-      → Stands d client flag_after flag-unviewed (λ r. on r code) flag-passes_on (λ past. flag_of (client_view d past client)) past
+  pub flag-stands : code < count → (past : List Step) → Receives past client → has_no_loss (taken_since_start_with eats d past client) ≡ true → has_asked part past client ≡ true
+      → Stands eats d client flag_after flag-unviewed (λ r. on r code) flag-passes_on (λ past. flag_of (client_view_with eats d past client)) past
   flag-stands within =
-      stands d client flag_after flag-unviewed (λ r. on r code) flag-passes_on part spares (λ r. on r code) (λ past. flag_of (client_view d past client)) (follows within)
-      (λ past x start asks receives none whole kept. fresh past x asks)
+      stands eats d client flag_after flag-unviewed (λ r. on r code) flag-passes_on part spares (λ r. on r code) (λ past. flag_of (client_view_with eats d past client)) (follows within)
+      (λ past x start asks receives none clear kept. fresh past x asks)
 
   -- ---- a flag that the device does not support is never on
 
-  pub unsupported-off : supports d kind code ≡ false → (r : List Event) → on r code ≡ false
+  pub unsupported-off : supports d kind code ≡ false → (r : List RawItem) → on r code ≡ false
   unsupported-off h [] = c.off code
-  unsupported-off h (e ∷ r) = unsupported-same d kind skips on c.steps c.passes c.not_abs code h r e ∙ unsupported-off h r
+  unsupported-off h (Described axis i ∷ r) = c.described r axis i code ∙ unsupported-off h r
+  unsupported-off h (Occurred e ∷ r) = unsupported-same d kind skips on c.steps c.passes c.not_abs code h r e ∙ unsupported-off h r
 
   pub IsOther : Event → Type 0
   IsOther e = (nat_eq e.kind kind && nat_eq e.code code) ≡ false
@@ -128,20 +133,20 @@ module _ (d : Description) (client kind : ℕ) (skips : ℤ → Bool) (on : List
   unfolding IsOther
   other-idle e h b = ap (λ (k : Bool). if k && not (skips e.value) then is_set e else b) h
 
-  pub unsupported-taken : supports d kind code ≡ false → (past : List Step) (x : Step) → Each (IsIdle flag_after) (map event_of (taken_by d past client x))
+  pub unsupported-taken : supports d kind code ≡ false → (past : List Step) (x : Step) → Each (IsIdle flag_after) (map event_of (taken_by_with eats d past client x))
   unfolding IsOther
   unsupported-taken h past x =
-      Each-map (IsIdle flag_after) event_of (taken_by d past client x)
-      (Each-weaker (λ y. IsOther (event_of y)) (λ y. IsIdle flag_after (event_of y)) (λ y. other-idle (event_of y)) (taken_by d past client x)
-      (taken-events d IsOther (λ e syn. and_left (nat_eq e.kind kind) _ (ap (λ (n : ℕ). nat_eq n kind) (eqb-true e.kind 0 syn) ∙ c.not_syn)) (unsupported-each d kind skips on c.steps c.passes c.not_abs code h) past client x))
+      Each-map (IsIdle flag_after) event_of (taken_by_with eats d past client x)
+      (Each-weaker (λ y. IsOther (event_of y)) (λ y. IsIdle flag_after (event_of y)) (λ y. other-idle (event_of y)) (taken_by_with eats d past client x)
+      (taken-events eats d IsOther (λ e syn. and_left (nat_eq e.kind kind) _ (ap (λ (n : ℕ). nat_eq n kind) (eqb-true e.kind 0 syn) ∙ c.not_syn)) (unsupported-each d kind skips on c.steps c.passes c.not_abs code h) past client x))
 
-  pub unsupported-unseen : code < count → supports d kind code ≡ false → (past : List Step) → flag_of (client_view d past client) ≡ false
-  unfolding client_view
+  pub unsupported-unseen : code < count → supports d kind code ≡ false → (past : List Step) → flag_of (client_view_with eats d past client) ≡ false
+  unfolding client_view_with
   unsupported-unseen within h [] = c.first code
   unsupported-unseen within h (x ∷ past) =
       follows within past x
       ∙ by (asks_for part client x) (unsupported-unseen within h past)
     where
-      by : (b : Bool) → flag_of (client_view d past client) ≡ false → cond b (on (raw d past) code) (over flag_after (flag_of (client_view d past client)) (map event_of (taken_by d past client x))) ≡ false
+      by : (b : Bool) → flag_of (client_view_with eats d past client) ≡ false → cond b (on (raw d past) code) (over flag_after (flag_of (client_view_with eats d past client)) (map event_of (taken_by_with eats d past client x))) ≡ false
       by true ih = unsupported-off h (raw d past)
-      by false ih = over-idle flag_after (flag_of (client_view d past client)) (map event_of (taken_by d past client x)) (unsupported-taken h past x) ∙ ih
+      by false ih = over-idle flag_after (flag_of (client_view_with eats d past client)) (map event_of (taken_by_with eats d past client x)) (unsupported-taken h past x) ∙ ih

@@ -1,5 +1,5 @@
 -- What comes to a client of a frame: all that its view follows, where nothing is kept from it.
-use Rattle.std.proofs.Common.{◌≡◌, ◌⊎◌, ℕ, Bool, true, false, ◌||◌, not, if◌then◌else◌, cond, List, [], ◌∷◌, ◌++◌, map, filter, refl, sym, ap, ◌∙◌, inl, inr}
+use Rattle.std.proofs.Common.{◌≡◌, ◌⊎◌, ℕ, suc, Bool, true, false, ◌&&◌, ◌||◌, not, if◌then◌else◌, cond, List, [], ◌∷◌, ◌++◌, map, filter, refl, sym, ap, ◌∙◌, inl, inr}
 use Rattle.std.proofs.lemmas.Bool.{and_from, not-true}
 use Rattle.std.proofs.lemmas.List.{map-append}
 use Rattle.inp_model.specs.declared.event.Event.{Event}
@@ -7,11 +7,12 @@ use Rattle.inp_model.specs.declared.step.Step.{Step}
 use Rattle.inp_model.specs.Description.{Description}
 use Rattle.inp_model.specs.Event.{is_report}
 use Rattle.inp_model.specs.Past.{is_open, is_revoked, holder, is_other, admits}
-use Rattle.inp_model.specs.Frame.{Frame}
-use Rattle.inp_model.specs.Queue.{Entry, event_of, is_offered, entry, entries_of}
-use Rattle.inp_recon.specs.Undisturbed.{is_viewed, is_whole_for}
-use Rattle.inp_recon.proofs.Each.{Each, Each-weaker, and-left, and-right, Each-from_all}
-use Rattle.inp_recon.proofs.Over.{over, over-filter, IsIdle}
+use Rattle.inp_model.specs.RawItem.{Frame}
+use Rattle.inp_model.specs.Left.{Eats, is_left, left_from, left}
+use Rattle.inp_model.specs.Queue.{Entry, event_of, is_offered, entry, entries_of_with}
+use Rattle.inp_recon.specs.Undisturbed.{is_viewed, all_come, is_whole_for}
+use Rattle.inp_recon.proofs.Each.{Each, and-left, and-right}
+use Rattle.inp_recon.proofs.Over.{over, IsIdle}
 use Rattle.inp_recon.proofs.EventKinds.{of_reports}
 use Rattle.inp_recon.proofs.Cutting.{IsNoReport}
 
@@ -30,24 +31,70 @@ unless offered xs = if offered then xs else []
 offered : (past : List Step) (client : ℕ) → Receives past client → is_other (holder past) client ≡ false → is_offered past client ≡ true
 offered past client h free = and_from _ _ (and_from _ _ h.is_there (ap not h.unrevoked)) (ap not free)
 
--- an event that the view follows is admitted, or it changes nothing
-admitted : {V : Type 0} (t : V → Event → V) → ((e : Event) → is_viewed e.kind ≡ false → IsIdle t e) → (past : List Step) (client : ℕ) (e : Event) → (not (is_viewed e.kind) || admits past client e) ≡ true → admits past client e ≡ false → IsIdle t e
-admitted t unviewed past client e h k = unviewed e (by (is_viewed e.kind) (admits past client e) h k)
+-- ---- what is left of a frame
+
+pub Each-left_from : (P : Event → Type 0) (eats : ℕ → Bool) (k : ℕ) (es : List Event) → Each P es → Each P (left_from eats k es)
+Each-left_from P eats k [] h = tt
+Each-left_from P eats k (e ∷ es) h = by (is_left eats k e) (Each-left_from P eats (suc k) es h.1)
   where
-    by : (a b : Bool) → (not a || b) ≡ true → b ≡ false → a ≡ false
-    by true b h k = absurd (let e : true ≡ false = sym h ∙ k in cc)
-    by false b h k = refl
+    rest : List Event
+    rest = left_from eats (suc k) es
+
+    by : (b : Bool) → Each P (left_from eats (suc k) es) → Each P (if b then e ∷ rest else rest)
+    by true ih = (h.0, ih)
+    by false ih = ih
+
+-- a report that comes last is left
+left-end : (eats : ℕ → Bool) (k : ℕ) (body : List Event) (report : Event) → is_report report ≡ true → left_from eats k (body ++ report ∷ []) ≡ left_from eats k body ++ report ∷ []
+left-end eats k [] report h = ap (λ (b : Bool). if b || not (eats k) then report ∷ [] else []) (and-left _ _ h)
+left-end eats k (e ∷ body) report h = by (is_left eats k e) (left-end eats (suc k) body report h)
+  where
+    more : List Event
+    more = left_from eats (suc k) (body ++ report ∷ [])
+
+    rest : List Event
+    rest = left_from eats (suc k) body
+
+    by : (b : Bool) → left_from eats (suc k) (body ++ report ∷ []) ≡ left_from eats (suc k) body ++ report ∷ [] → (if b then e ∷ more else more) ≡ (if b then e ∷ rest else rest) ++ report ∷ []
+    by true ih = ap (λ (l : List Event). e ∷ l) ih
+    by false ih = ih
+
+-- Where all events that a view follows are left and admitted, what is left and admitted changes a value as all events do.
+over-left : {V : Type 0} (t : V → Event → V) → ((e : Event) → is_viewed e.kind ≡ false → IsIdle t e) → (eats : ℕ → Bool) (p : Event → Bool) (k : ℕ) (es : List Event) → all_come eats p k es ≡ true → (v : V) → over t v (filter p (left_from eats k es)) ≡ over t v es
+over-left t unviewed eats p k [] h v = refl
+over-left {V} t unviewed eats p k (e ∷ es) h v = by (is_left eats k e) refl (p e) refl (over-left t unviewed eats p (suc k) es (and-right _ _ h))
+  where
+    rest : List Event
+    rest = left_from eats (suc k) es
+
+    missed : (a b : Bool) → (not a || b) ≡ true → b ≡ false → a ≡ false
+    missed true b h k = absurd (let bad : true ≡ false = sym h ∙ k in cc)
+    missed false b h k = refl
+
+    -- the event does not come
+    idle : (is_left eats k e && p e) ≡ false → (w : V) → w ≡ t w e
+    idle out w = sym (unviewed e (missed (is_viewed e.kind) (is_left eats k e && p e) (and-left _ _ h) out) w)
+
+    if_left : Bool → V
+    if_left b = over t v (filter p (if b then e ∷ rest else rest))
+
+    by : (a : Bool) → is_left eats k e ≡ a → (b : Bool) → p e ≡ b → ((w : V) → over t w (filter p (left_from eats (suc k) es)) ≡ over t w es) → over t v (filter p (if is_left eats k e then e ∷ rest else rest)) ≡ over t (t v e) es
+    by true l true q ih =
+        ap if_left l ∙ ap (λ (c : Bool). over t v (cond c (e ∷ filter p rest) (filter p rest))) q ∙ ih (t v e)
+    by true l false q ih =
+        ap if_left l ∙ ap (λ (c : Bool). over t v (cond c (e ∷ filter p rest) (filter p rest))) q
+        ∙ ih v ∙ ap (λ (w : V). over t w es) (idle (ap (λ (c : Bool). c && p e) l ∙ q) v)
+    by false l b q ih =
+        ap if_left l ∙ ih v ∙ ap (λ (w : V). over t w es) (idle (ap (λ (c : Bool). c && p e) l) v)
 
 -- the entries of a frame that is whole change a value as the frame does
-pub over-entries : {V : Type 0} (t : V → Event → V) → ((e : Event) → is_viewed e.kind ≡ false → IsIdle t e) → (d : Description) (client : ℕ) (f : Frame) → Receives f.before client → is_whole_for client f ≡ true → (v : V) → over t v (map event_of (entries_of d client f)) ≡ over t v f.cut.events
-over-entries t unviewed d client f receives whole v =
-    let es : List Event = filter (admits f.before client) f.cut.events in
+pub over-entries : {V : Type 0} (t : V → Event → V) → ((e : Event) → is_viewed e.kind ≡ false → IsIdle t e) → (eats : Eats) (d : Description) (client : ℕ) (f : Frame) → Receives f.before client → is_whole_for eats client f ≡ true → (v : V) → over t v (map event_of (entries_of_with eats d client f)) ≡ over t v f.cut.events
+over-entries t unviewed eats d client f receives whole v =
+    let es : List Event = filter (admits f.before client) (left eats f) in
     let free : is_other (holder f.before) client ≡ false = not-true _ (and-left _ _ whole) in
-    let each : Each (λ e. (not (is_viewed e.kind) || admits f.before client e) ≡ true) f.cut.events = Each-from_all _ f.cut.events (and-right _ _ whole) in
     ap (λ (b : Bool). over t v (map event_of (unless b (map (entry d client f) es)))) (offered f.before client receives free)
     ∙ ap (over t v) (events_of_entries d client f es)
-    ∙ over-filter t (admits f.before client) v f.cut.events
-    (Each-weaker (λ e. (not (is_viewed e.kind) || admits f.before client e) ≡ true) (λ e. admits f.before client e ≡ false → IsIdle t e) (admitted t unviewed f.before client) f.cut.events each)
+    ∙ over-left t unviewed (eats f) (admits f.before client) 0 f.cut.events (and-right _ _ whole) v
 
 -- ---- a frame is some events and a report
 
@@ -79,21 +126,25 @@ report-admitted : (past : List Step) (client : ℕ) (e : Event) → is_report e 
 report-admitted past client = of_reports (λ e. admits past client e ≡ true) (λ value. refl)
 
 -- a frame that is not offered brings nothing, and else the report comes last
-pub entries_split : (d : Description) (client : ℕ) (f : Frame) (body : List Event) (report : Event) → f.cut.events ≡ body ++ report ∷ [] → is_report report ≡ true → (entries_of d client f ≡ []) ⊎ (entries_of d client f ≡ map (entry d client f) (filter (admits f.before client) body) ++ entry d client f report ∷ [])
-entries_split d client f body report is ends = by (is_offered f.before client) refl
+pub entries_split : (eats : Eats) (d : Description) (client : ℕ) (f : Frame) (body : List Event) (report : Event) → f.cut.events ≡ body ++ report ∷ [] → is_report report ≡ true
+    → (entries_of_with eats d client f ≡ []) ⊎ (entries_of_with eats d client f ≡ map (entry d client f) (filter (admits f.before client) (left_from (eats f) 0 body)) ++ entry d client f report ∷ [])
+entries_split eats d client f body report is ends = by (is_offered f.before client) refl
   where
     p : Event → Bool
     p = admits f.before client
 
+    front : List Event
+    front = left_from (eats f) 0 body
+
     last : filter p (report ∷ []) ≡ report ∷ []
     last = ap (λ (b : Bool). cond b (report ∷ []) []) (report-admitted f.before client report ends)
 
-    all : map (entry d client f) (filter p f.cut.events) ≡ map (entry d client f) (filter p body) ++ entry d client f report ∷ []
+    all : map (entry d client f) (filter p (left eats f)) ≡ map (entry d client f) (filter p front) ++ entry d client f report ∷ []
     all =
-        ap (λ (es : List Event). map (entry d client f) (filter p es)) is
-        ∙ ap (λ (es : List Event). map (entry d client f) es) (filter-append p body (report ∷ []) ∙ ap (λ (es : List Event). filter p body ++ es) last)
-        ∙ map-append (entry d client f) (filter p body) (report ∷ [])
+        ap (λ (es : List Event). map (entry d client f) (filter p es)) (ap (left_from (eats f) 0) is ∙ left-end (eats f) 0 body report ends)
+        ∙ ap (λ (es : List Event). map (entry d client f) es) (filter-append p front (report ∷ []) ∙ ap (λ (es : List Event). filter p front ++ es) last)
+        ∙ map-append (entry d client f) (filter p front) (report ∷ [])
 
-    by : (b : Bool) → is_offered f.before client ≡ b → (entries_of d client f ≡ []) ⊎ (entries_of d client f ≡ map (entry d client f) (filter p body) ++ entry d client f report ∷ [])
-    by true e = inr (ap (λ (o : Bool). unless o (map (entry d client f) (filter p f.cut.events))) e ∙ all)
-    by false e = inl (ap (λ (o : Bool). unless o (map (entry d client f) (filter p f.cut.events))) e)
+    by : (b : Bool) → is_offered f.before client ≡ b → (entries_of_with eats d client f ≡ []) ⊎ (entries_of_with eats d client f ≡ map (entry d client f) (filter p front) ++ entry d client f report ∷ [])
+    by true e = inr (ap (λ (o : Bool). unless o (map (entry d client f) (filter p (left eats f)))) e ∙ all)
+    by false e = inl (ap (λ (o : Bool). unless o (map (entry d client f) (filter p (left eats f)))) e)

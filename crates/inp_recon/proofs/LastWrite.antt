@@ -1,6 +1,8 @@
 -- A value that is as the last event on it says: what comes twice counts once.
-use Rattle.std.proofs.Common.{◌≡◌, ◌⊎◌, Bool, true, false, if◌then◌else◌, List, [], ◌∷◌, ◌++◌, refl, sym, ap, ◌∙◌, inl, inr}
+use Rattle.std.proofs.Common.{◌≡◌, ◌⊎◌, ℕ, Bool, true, false, if◌then◌else◌, List, [], ◌∷◌, ◌++◌, refl, sym, ap, ◌∙◌, inl, inr}
 use Rattle.inp_model.specs.declared.event.Event.{Event}
+use Rattle.inp_model.specs.declared.axis_info.AxisInfo.{AxisInfo}
+use Rattle.inp_model.specs.RawItem.{RawItem, Occurred, Described}
 use Rattle.inp_model.specs.Description.{Description}
 use Rattle.inp_model.specs.Event.{is_report}
 use Rattle.inp_model.specs.Passed.{passed}
@@ -48,29 +50,42 @@ module _ {V : Type 0} (is_on : Event → Bool) (value : Event → V) where
       by (inl sets) = sets v w ∙ h
       by (inr leaves) = leaves v
 
-  -- The state now with the batch behind it is the state now.
-  pub pending-again : (d : Description) (st : List Event → V) → ((r : List Event) (e : Event) → over (set_by is_on value) (st r) (passed d r e) ≡ st (e ∷ r)) → (r : List Event) → over (set_by is_on value) (st r) (pending d r) ≡ st r
+  -- The state now with the batch behind it is the state now, where a description does not change it. Which descriptions
+  -- do may depend on the items before: `fits` tells, of those up to now.
+  pub pending-again : (d : Description) (st : List RawItem → V) → ((r : List RawItem) (e : Event) → over (set_by is_on value) (st r) (passed d r e) ≡ st (Occurred e ∷ r))
+      → (fits : List RawItem → Bool) → ((r : List RawItem) (e : Event) → NoCut d r (Occurred e) → fits (Occurred e ∷ r) ≡ true → fits r ≡ true)
+      → ((r : List RawItem) (code : ℕ) (axis : AxisInfo) → fits (Described code axis ∷ r) ≡ true → (fits r ≡ true) × (st (Described code axis ∷ r) ≡ st r))
+      → (r : List RawItem) → fits r ≡ true → over (set_by is_on value) (st r) (pending d r) ≡ st r
   unfolding pending
-  pending-again d st passes [] = refl
-  pending-again d st passes (e ∷ r) = by (cut_cases d r e) (pending-again d st passes r)
+  pending-again d st passes fits waiting described [] fit = refl
+  pending-again d st passes fits waiting described (Described code axis ∷ r) fit =
+      let before = described r code axis fit in
+      ap (λ (v : V). over (set_by is_on value) v (pending d r)) before.1 ∙ pending-again d st passes fits waiting described r before.0 ∙ sym before.1
+  pending-again d st passes fits waiting described (Occurred e ∷ r) fit = by (cut_cases d r (Occurred e)) (pending-again d st passes fits waiting described r)
     where
       t : V → Event → V
       t = set_by is_on value
 
-      none : pending d (e ∷ r) ≡ [] → over t (st (e ∷ r)) (pending d (e ∷ r)) ≡ st (e ∷ r)
-      none h = ap (over t (st (e ∷ r))) h
+      Goal : Type 0
+      Goal = over t (st (Occurred e ∷ r)) (pending d (Occurred e ∷ r)) ≡ st (Occurred e ∷ r)
 
-      waits : (pending d (e ∷ r) ≡ pending d r ++ passed d r e) → over t (st r) (pending d r) ≡ st r → over t (st (e ∷ r)) (pending d (e ∷ r)) ≡ st (e ∷ r)
+      IH : Type 0
+      IH = fits r ≡ true → over t (st r) (pending d r) ≡ st r
+
+      none : pending d (Occurred e ∷ r) ≡ [] → Goal
+      none h = ap (over t (st (Occurred e ∷ r))) h
+
+      waits : (pending d (Occurred e ∷ r) ≡ pending d r ++ passed d r e) → over t (st r) (pending d r) ≡ st r → Goal
       waits more ih =
-          ap (over t (st (e ∷ r))) more
+          ap (over t (st (Occurred e ∷ r))) more
           ∙ ap (λ w. over t w (pending d r ++ passed d r e)) (sym (passes r e))
           ∙ again (st r) (pending d r) (passed d r e) ih
           ∙ passes r e
 
-      by : NoCut d r e ⊎ OneCut d r e → over t (st r) (pending d r) ≡ st r → over t (st (e ∷ r)) (pending d (e ∷ r)) ≡ st (e ∷ r)
+      by : NoCut d r (Occurred e) ⊎ OneCut d r (Occurred e) → IH → Goal
       by (inr h) ih = none h.left
       by (inl h) ih = left h.left
         where
-          left : (pending d (e ∷ r) ≡ pending d r ++ passed d r e) ⊎ ((pending d (e ∷ r) ≡ []) × (pending d r ≡ []) × (is_report e ≡ true)) → over t (st (e ∷ r)) (pending d (e ∷ r)) ≡ st (e ∷ r)
-          left (inl more) = waits more ih
+          left : (pending d (Occurred e ∷ r) ≡ pending d r ++ passed d r e) ⊎ ((pending d (Occurred e ∷ r) ≡ []) × (pending d r ≡ []) × (is_report e ≡ true)) → Goal
+          left (inl more) = waits more (ih (waiting r e h fit))
           left (inr report) = none report.0

@@ -2,6 +2,7 @@ pub mod AxesFollow
 pub mod AxisPasses
 pub mod CallsLeft
 pub mod Computing
+pub mod DescriptionSteps
 pub mod Each
 pub mod Folds
 pub mod Cutting

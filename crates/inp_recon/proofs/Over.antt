@@ -18,12 +18,3 @@ IsIdle {V} t e = (v : V) → t v e ≡ v
 pub over-idle : {V : Type 0} (t : V → Event → V) (v : V) (es : List Event) → Each (IsIdle t) es → over t v es ≡ v
 over-idle t v [] h = refl
 over-idle t v (e ∷ es) h = over-idle t (t v e) es h.1 ∙ h.0 v
-
--- what a filter leaves out changes nothing
-pub over-filter : {V : Type 0} (t : V → Event → V) (p : Event → Bool) (v : V) (es : List Event) → Each (λ e. p e ≡ false → IsIdle t e) es → over t v (filter p es) ≡ over t v es
-over-filter {V} t p v [] h = refl
-over-filter {V} t p v (e ∷ es) h = by (p e) h.0 (λ w. over-filter t p w es h.1)
-  where
-    by : (b : Bool) → (b ≡ false → IsIdle t e) → ((w : V) → over t w (filter p es) ≡ over t w es) → over t v (cond b (e ∷ filter p es) (filter p es)) ≡ over t (t v e) es
-    by true idle rest = rest (t v e)
-    by false idle rest = rest v ∙ ap (λ (w : V). over t w es) (sym (idle refl v))

@@ -3,14 +3,16 @@ use Rattle.std.proofs.Common.{◌≡◌, ◌⊎◌, ℕ, zero, suc, Bool, true, 
 use Rattle.std.proofs.lemmas.Bool.{ne_eqb}
 use Rattle.inp_model.specs.declared.event.Event.{Event}
 use Rattle.inp_model.specs.declared.step.Step.{Step}
+use Rattle.inp_model.specs.RawItem.{RawItem, Cut, Frame}
 use Rattle.inp_model.specs.Description.{Description, ring}
 use Rattle.inp_model.specs.Event.{is_report}
-use Rattle.inp_model.specs.Step.{moment_of, is_part_of}
+use Rattle.inp_model.specs.Step.{is_part_of}
 use Rattle.inp_model.specs.Past.{admits}
-use Rattle.inp_model.specs.Cut.{Cut, cut, cuts}
+use Rattle.inp_model.specs.Cut.{cut_for, cuts}
 use Rattle.inp_model.specs.Raw.{raw, raw_of_step}
-use Rattle.inp_model.specs.Frame.{Frame, frame_of}
-use Rattle.inp_model.specs.Queue.{Entry, event_of, entry_dropped_at, is_empty, ends_in_report, put, put_all, visible, follows_kept, stays, flush_behind, flush, entry, entries_of, entries, queue}
+use Rattle.inp_model.specs.Frame.{frame_of}
+use Rattle.inp_model.specs.Left.{Eats, left_from}
+use Rattle.inp_model.specs.Queue.{Entry, event_of, entry_dropped_at, is_empty, ends_in_report, put, put_all, visible, follows_kept, stays, flush_behind, flush, entry, entries_of_with, entries_with, queue_with}
 use Rattle.inp_recon.specs.Synchronised.{is_dropped, has_no_loss, is_start}
 use Rattle.inp_recon.proofs.Each.{and-right}
 use Rattle.inp_recon.proofs.Queueing.{put_all-append}
@@ -171,86 +173,86 @@ put_report places q x report = by (is_report (event_of x) && (is_empty q || ends
     by false h true = EndsInReport (ends-push q x report)
     by false h false = EndsInReport report
 
-frame-shaped : (d : Description) (client : ℕ) (f : Frame) (body : List Event) (report : Event) → f.cut.events ≡ body ++ report ∷ [] → is_report report ≡ true → (q : List Entry) → IsShaped q → IsShaped (put_all event_of entry_dropped_at (ring d) q (entries_of d client f))
-frame-shaped d client f body report is ends q h = by (entries_split d client f body report is ends)
+frame-shaped : (eats : Eats) (d : Description) (client : ℕ) (f : Frame) (body : List Event) (report : Event) → f.cut.events ≡ body ++ report ∷ [] → is_report report ≡ true → (q : List Entry) → IsShaped q → IsShaped (put_all event_of entry_dropped_at (ring d) q (entries_of_with eats d client f))
+frame-shaped eats d client f body report is ends q h = by (entries_split eats d client f body report is ends)
   where
     front : List Entry
-    front = map (entry d client f) (filter (admits f.before client) body)
+    front = map (entry d client f) (filter (admits f.before client) (left_from (eats f) 0 body))
 
     last : Entry
     last = entry d client f report
 
-    by : (entries_of d client f ≡ []) ⊎ (entries_of d client f ≡ front ++ last ∷ []) → IsShaped (put_all event_of entry_dropped_at (ring d) q (entries_of d client f))
+    by : (entries_of_with eats d client f ≡ []) ⊎ (entries_of_with eats d client f ≡ front ++ last ∷ []) → IsShaped (put_all event_of entry_dropped_at (ring d) q (entries_of_with eats d client f))
     by (inl none) = subst (λ (l : List Entry). IsShaped (put_all event_of entry_dropped_at (ring d) q l)) (sym none) h
     by (inr split) =
         subst (λ (l : List Entry). IsShaped (put_all event_of entry_dropped_at (ring d) q l)) (sym split)
         (subst IsShaped (sym (put_all-append (ring d) q front (last ∷ []))) (put_report (ring d) (put_all event_of entry_dropped_at (ring d) q front) last ends))
 
-frames-shaped : (d : Description) (client : ℕ) (past : List Step) (now : ℕ) (es r : List Event) (q : List Entry) → IsShaped q → IsShaped (offered_to d client q (frames_by d past now r es))
+frames-shaped : (eats : Eats) (d : Description) (client : ℕ) (past : List Step) (s : Step) (xs r : List RawItem) (q : List Entry) → IsShaped q → IsShaped (offered_to eats d client q (frames_by d past s r xs))
 unfolding cuts
-frames-shaped d client past now [] r q h = h
-frames-shaped d client past now (e ∷ es) r q h = by (cut_cases d r e) (frames-shaped d client past now es (e ∷ r))
+frames-shaped eats d client past s [] r q h = h
+frames-shaped eats d client past s (x ∷ xs) r q h = by (cut_cases d r x) (frames-shaped eats d client past s xs (x ∷ r))
   where
     F : Cut → Frame
-    F = frame_of past now
+    F = frame_of past s
 
     rest : List Cut
-    rest = cuts d (e ∷ r) es
+    rest = cuts d (x ∷ r) xs
 
     Goal : List Cut → Type 0
-    Goal cs = IsShaped (offered_to d client q (map F (cs ++ rest)))
+    Goal cs = IsShaped (offered_to eats d client q (map F (cs ++ rest)))
 
-    by : NoCut d r e ⊎ OneCut d r e → ((p : List Entry) → IsShaped p → IsShaped (offered_to d client p (map F rest))) → Goal (cut d r e)
+    by : NoCut d r x ⊎ OneCut d r x → ((p : List Entry) → IsShaped p → IsShaped (offered_to eats d client p (map F rest))) → Goal (cut_for d r x)
     by (inl k) ih = subst Goal (sym k.none) (ih q h)
     by (inr k) ih =
-        let f : Frame = F (record { events = k.body ++ k.report ∷ []; until = e ∷ r }) in
+        let f : Frame = F (record { events = k.body ++ k.report ∷ []; until = x ∷ r }) in
         subst Goal (sym k.one)
-        (subst IsShaped (sym (put_all-append (ring d) q (entries_of d client f) (entries d client (map F rest))))
-        (ih (put_all event_of entry_dropped_at (ring d) q (entries_of d client f)) (frame-shaped d client f k.body k.report refl k.ends q h)))
+        (subst IsShaped (sym (put_all-append (ring d) q (entries_of_with eats d client f) (entries_with eats d client (map F rest))))
+        (ih (put_all event_of entry_dropped_at (ring d) q (entries_of_with eats d client f)) (frame-shaped eats d client f k.body k.report refl k.ends q h)))
 
 -- ---- every queue
 
-left-shaped : (d : Description) (past : List Step) (client : ℕ) (x : Step) → IsShaped (queue d past client) → IsShaped (left_in_queue d past client x)
-left-shaped d past client x h = by (is_start past client x) refl
+left-shaped : (eats : Eats) (d : Description) (past : List Step) (client : ℕ) (x : Step) → IsShaped (queue_with eats d past client) → IsShaped (left_in_queue eats d past client x)
+left-shaped eats d past client x h = by (is_start past client x) refl
   where
     q : List Entry
-    q = queue d past client
+    q = queue_with eats d past client
 
-    at_start : (left_in_queue d past client x ≡ []) ⊎ (left_in_queue d past client x ≡ drop (visible event_of q) q) → IsShaped (left_in_queue d past client x)
+    at_start : (left_in_queue eats d past client x ≡ []) ⊎ (left_in_queue eats d past client x ≡ drop (visible event_of q) q) → IsShaped (left_in_queue eats d past client x)
     at_start (inl e) = IsEmpty e
     at_start (inr e) = subst IsShaped (sym e) (drop-shaped (visible event_of q) q h)
 
-    at_call : (taken : List Entry) → LeftBy x client q taken (left_in_queue d past client x) → IsShaped (left_in_queue d past client x)
+    at_call : (taken : List Entry) → LeftBy x client q taken (left_in_queue eats d past client x) → IsShaped (left_in_queue eats d past client x)
     at_call taken (ByRead n t e) = subst IsShaped (sym e) (drop-shaped n q h)
     at_call taken (ByLoss lost is frame t e) = IsLoss lost e is
     at_call taken (ByFlush query asked own kind keeps t e) = subst IsShaped (sym e) (flush-shaped (is_part_of query) keeps q h)
     at_call taken (ByNone t e) = subst IsShaped (sym e) h
 
-    by : (b : Bool) → is_start past client x ≡ b → IsShaped (left_in_queue d past client x)
-    by true e = at_start (start_left d past client x e)
-    by false e = at_call _ (left_by d past client x e)
+    by : (b : Bool) → is_start past client x ≡ b → IsShaped (left_in_queue eats d past client x)
+    by true e = at_start (start_left eats d past client x e)
+    by false e = at_call _ (left_by eats d past client x e)
 
-pub queue-shaped : (d : Description) (past : List Step) (client : ℕ) → IsShaped (queue d past client)
-unfolding queue
-queue-shaped d [] client = IsEmpty refl
-queue-shaped d (x ∷ past) client = more (queue-shaped d past client)
+pub queue-shaped : (eats : Eats) (d : Description) (past : List Step) (client : ℕ) → IsShaped (queue_with eats d past client)
+unfolding queue_with
+queue-shaped eats d [] client = IsEmpty refl
+queue-shaped eats d (x ∷ past) client = more (queue-shaped eats d past client)
   where
-    more : IsShaped (queue d past client) → IsShaped (queue d (x ∷ past) client)
+    more : IsShaped (queue_with eats d past client) → IsShaped (queue_with eats d (x ∷ past) client)
     more h =
-        subst IsShaped (sym (queue-step d past client x))
-        (frames-shaped d client past (moment_of x) (raw_of_step d past x) (raw d past) (left_in_queue d past client x) (left-shaped d past client x h))
+        subst IsShaped (sym (queue-step eats d past client x))
+        (frames-shaped eats d client past x (raw_of_step d past x) (raw d past) (left_in_queue eats d past client x) (left-shaped eats d past client x h))
 
 -- a start leaves nothing in the queue, or a loss
-pub start-empties : (d : Description) (past : List Step) (client : ℕ) (x : Step) → is_start past client x ≡ true → has_no_loss (left_in_queue d past client x) ≡ true → left_in_queue d past client x ≡ []
-start-empties d past client x start none = by (start_left d past client x start)
+pub start-empties : (eats : Eats) (d : Description) (past : List Step) (client : ℕ) (x : Step) → is_start past client x ≡ true → has_no_loss (left_in_queue eats d past client x) ≡ true → left_in_queue eats d past client x ≡ []
+start-empties eats d past client x start none = by (start_left eats d past client x start)
   where
     q : List Entry
-    q = queue d past client
+    q = queue_with eats d past client
 
-    at : left_in_queue d past client x ≡ drop (visible event_of q) q → (drop (visible event_of q) q ≡ []) ⊎ (has_no_loss (drop (visible event_of q) q) ≡ false) → left_in_queue d past client x ≡ []
+    at : left_in_queue eats d past client x ≡ drop (visible event_of q) q → (drop (visible event_of q) q ≡ []) ⊎ (has_no_loss (drop (visible event_of q) q) ≡ false) → left_in_queue eats d past client x ≡ []
     at e (inl empty) = e ∙ empty
     at e (inr loss) = let bad : true ≡ false = sym none ∙ ap has_no_loss e ∙ loss in absurd cc
 
-    by : (left_in_queue d past client x ≡ []) ⊎ (left_in_queue d past client x ≡ drop (visible event_of q) q) → left_in_queue d past client x ≡ []
+    by : (left_in_queue eats d past client x ≡ []) ⊎ (left_in_queue eats d past client x ≡ drop (visible event_of q) q) → left_in_queue eats d past client x ≡ []
     by (inl e) = e
-    by (inr e) = at e (discarded q (queue-shaped d past client))
+    by (inr e) = at e (discarded q (queue-shaped eats d past client))

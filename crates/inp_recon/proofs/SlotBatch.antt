@@ -3,10 +3,11 @@
 use Rattle.std.proofs.Common.{◌≡◌, ◌⊎◌, ℕ, ℤ, Bool, true, false, if◌then◌else◌, nat_eq, List, [], ◌∷◌, ◌++◌, refl, sym, ap, ◌∙◌, Option, Some, None, is_some, option_to_list, option_map, inl, inr}
 use Rattle.inp_model.specs.declared.event.Event.{Event}
 use Rattle.inp_model.specs.Description.{Description, is_slot_code}
+use Rattle.inp_model.specs.RawItem.{RawItem, Occurred, Described, Cut}
 use Rattle.inp_model.specs.Event.{is_report}
 use Rattle.inp_model.specs.State.{cell}
 use Rattle.inp_model.specs.Passed.{announced, passed}
-use Rattle.inp_model.specs.Cut.{Cut, pending, cut_events, cut, at_frame}
+use Rattle.inp_model.specs.Cut.{pending, cut_events, at_frame}
 use Rattle.inp_recon.specs.View.{slot_after_event}
 use Rattle.inp_recon.proofs.Over.{over, over-append}
 use Rattle.inp_recon.proofs.EventKinds.{report-unviewed}
@@ -70,66 +71,67 @@ module _ (slot : ℤ) (code : ℕ) where
 
 -- ---- the slot at the last frame
 
-frame_or_none : (r : List Event) (e : Event) (o : Option (List Event)) → List Cut
-frame_or_none r e o = option_to_list (option_map (λ events. record { events = events; until = e ∷ r }) o)
+frame_or_none : (r : List RawItem) (e : Event) (o : Option (List Event)) → List Cut
+frame_or_none r e o = option_to_list (option_map (λ events. record { events = events; until = Occurred e ∷ r }) o)
 
-none_is : (r : List Event) (e : Event) (o : Option (List Event)) → frame_or_none r e o ≡ [] → is_some o ≡ false
+none_is : (r : List RawItem) (e : Event) (o : Option (List Event)) → frame_or_none r e o ≡ [] → is_some o ≡ false
 unfolding frame_or_none
 none_is r e None h = refl
 none_is r e (Some es) h = absurd cc
 
-some_is : (r : List Event) (e : Event) (o : Option (List Event)) (c : Cut) → frame_or_none r e o ≡ c ∷ [] → is_some o ≡ true
+some_is : (r : List RawItem) (e : Event) (o : Option (List Event)) (c : Cut) → frame_or_none r e o ≡ c ∷ [] → is_some o ≡ true
 unfolding frame_or_none
 some_is r e None c h = absurd cc
 some_is r e (Some es) c h = refl
 
-at_frame-no_cut : (d : Description) (r : List Event) (e : Event) → NoCut d r e → at_frame d (e ∷ r) ≡ at_frame d r
+at_frame-no_cut : (d : Description) (r : List RawItem) (e : Event) → NoCut d r (Occurred e) → at_frame d (Occurred e ∷ r) ≡ at_frame d r
 unfolding at_frame frame_or_none
-at_frame-no_cut d r e h = ap (λ (b : Bool). if b then announced d (e ∷ r) else at_frame d r) (none_is r e (cut_events d r e) h.none)
+at_frame-no_cut d r e h = ap (λ (b : Bool). if b then announced d (Occurred e ∷ r) else at_frame d r) (none_is r e (cut_events d r e) h.none)
 
-at_frame-cut : (d : Description) (r : List Event) (e : Event) → OneCut d r e → at_frame d (e ∷ r) ≡ announced d (e ∷ r)
+at_frame-cut : (d : Description) (r : List RawItem) (e : Event) → OneCut d r (Occurred e) → at_frame d (Occurred e ∷ r) ≡ announced d (Occurred e ∷ r)
 unfolding at_frame frame_or_none
-at_frame-cut d r e h = ap (λ (b : Bool). if b then announced d (e ∷ r) else at_frame d r) (some_is r e (cut_events d r e) _ h.one)
+at_frame-cut d r e h = ap (λ (b : Bool). if b then announced d (Occurred e ∷ r) else at_frame d r) (some_is r e (cut_events d r e) _ h.one)
 
 module _ (d : Description) (some : nat_eq d.slots 0 ≡ false) (slot : ℤ) (code : ℕ) (is_cell : is_slot_code code ≡ true) where
   -- the value now, with the slot of the last frame, as a synchronisation tells them
-  abbrev pub cell_told : List Event → SlotCell
+  abbrev pub cell_told : List RawItem → SlotCell
   cell_told r = (at_frame d r, cell d r slot code)
 
-  passes : (r : List Event) (e : Event) → over (cell_then slot code) (pair (announced d r) (cell d r slot code)) (passed d r e) ≡ pair (announced d (e ∷ r)) (cell d (e ∷ r) slot code)
+  passes : (r : List RawItem) (e : Event) → over (cell_then slot code) (pair (announced d r) (cell d r slot code)) (passed d r e) ≡ pair (announced d (Occurred e ∷ r)) (cell d (Occurred e ∷ r) slot code)
   passes = cell-passes d some slot code is_cell
 
-  pub cell-pending : (r : List Event) → over (cell_then slot code) (pair (at_frame d r) (cell d r slot code)) (pending d r) ≡ pair (announced d r) (cell d r slot code)
-  unfolding pending at_frame announced
+  pub cell-pending : (r : List RawItem) → over (cell_then slot code) (pair (at_frame d r) (cell d r slot code)) (pending d r) ≡ pair (announced d r) (cell d r slot code)
+  unfolding pending at_frame announced cell
   cell-pending [] = refl
-  cell-pending (e ∷ r) = by (cut_cases d r e) (cell-pending r)
+  cell-pending (Described axis i ∷ r) = cell-pending r
+  cell-pending (Occurred e ∷ r) = by (cut_cases d r (Occurred e)) (cell-pending r)
     where
       t : SlotCell → Event → SlotCell
       t = cell_then slot code
 
       now : ℤ
-      now = cell d (e ∷ r) slot code
+      now = cell d (Occurred e ∷ r) slot code
 
       Goal : Type 0
-      Goal = over t (pair (at_frame d (e ∷ r)) now) (pending d (e ∷ r)) ≡ pair (announced d (e ∷ r)) now
+      Goal = over t (pair (at_frame d (Occurred e ∷ r)) now) (pending d (Occurred e ∷ r)) ≡ pair (announced d (Occurred e ∷ r)) now
 
       IH : Type 0
       IH = over t (pair (at_frame d r) (cell d r slot code)) (pending d r) ≡ pair (announced d r) (cell d r slot code)
 
       -- nothing waits, and the slot of the last frame is the one announced
-      none : pending d (e ∷ r) ≡ [] → at_frame d (e ∷ r) ≡ announced d (e ∷ r) → Goal
-      none h k = ap (over t (pair (at_frame d (e ∷ r)) now)) h ∙ ap (λ (s : ℤ). pair s now) k
+      none : pending d (Occurred e ∷ r) ≡ [] → at_frame d (Occurred e ∷ r) ≡ announced d (Occurred e ∷ r) → Goal
+      none h k = ap (over t (pair (at_frame d (Occurred e ∷ r)) now)) h ∙ ap (λ (s : ℤ). pair s now) k
 
-      waits : NoCut d r e → pending d (e ∷ r) ≡ pending d r ++ passed d r e → IH → Goal
+      waits : NoCut d r (Occurred e) → pending d (Occurred e ∷ r) ≡ pending d r ++ passed d r e → IH → Goal
       waits cut h ih =
-          ap (over t (pair (at_frame d (e ∷ r)) now)) h
+          ap (over t (pair (at_frame d (Occurred e ∷ r)) now)) h
           ∙ ap (λ (s : ℤ). over t (pair s now) (pending d r ++ passed d r e)) (at_frame-no_cut d r e cut)
-          ∙ cell_again slot code (pending d r) (passed d r e) (at_frame d r) (cell d r slot code) (announced d r) (cell d r slot code) (announced d (e ∷ r)) now ih (passes r e)
+          ∙ cell_again slot code (pending d r) (passed d r e) (at_frame d r) (cell d r slot code) (announced d r) (cell d r slot code) (announced d (Occurred e ∷ r)) now ih (passes r e)
 
       -- a report that ends no frame
-      report : NoCut d r e → pending d (e ∷ r) ≡ [] → pending d r ≡ [] → is_report e ≡ true → IH → Goal
+      report : NoCut d r (Occurred e) → pending d (Occurred e ∷ r) ≡ [] → pending d r ≡ [] → is_report e ≡ true → IH → Goal
       report cut h k is ih =
-          let same : announced d r ≡ announced d (e ∷ r) =
+          let same : announced d r ≡ announced d (Occurred e ∷ r) =
           ap (λ (u : SlotCell). u.0)
           (sym (cell-unviewed slot code e (report-unviewed e is) (pair (announced d r) (cell d r slot code)))
           ∙ ap (over t (pair (announced d r) (cell d r slot code))) (sym (passed-report d r e is)) ∙ passes r e) in
@@ -137,10 +139,10 @@ module _ (d : Description) (some : nat_eq d.slots 0 ≡ false) (slot : ℤ) (cod
           ap (λ (u : SlotCell). u.0) (ap (over t (pair (at_frame d r) (cell d r slot code))) (sym k) ∙ ih) in
           none h (at_frame-no_cut d r e cut ∙ before ∙ same)
 
-      by : NoCut d r e ⊎ OneCut d r e → IH → Goal
+      by : NoCut d r (Occurred e) ⊎ OneCut d r (Occurred e) → IH → Goal
       by (inr cut) ih = none cut.left (at_frame-cut d r e cut)
       by (inl cut) ih = left cut.left
         where
-          left : (pending d (e ∷ r) ≡ pending d r ++ passed d r e) ⊎ ((pending d (e ∷ r) ≡ []) × (pending d r ≡ []) × (is_report e ≡ true)) → Goal
+          left : (pending d (Occurred e ∷ r) ≡ pending d r ++ passed d r e) ⊎ ((pending d (Occurred e ∷ r) ≡ []) × (pending d r ≡ []) × (is_report e ≡ true)) → Goal
           left (inl more) = waits cut more ih
           left (inr k) = report cut k.0 k.1 k.2 ih

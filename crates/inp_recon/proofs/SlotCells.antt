@@ -7,7 +7,7 @@ use Rattle.std.proofs.lemmas.Bool.Decides.{Decides-int_eq}
 use Rattle.std.proofs.lemmas.List.{get_or_append_left, get_or-append_right, get_or-set_same, get_or-set_other}
 use Rattle.std.proofs.lemmas.List.FromFn.{length-map-range_with_len, get_or-map-range_with_len}
 use Rattle.inp_model.specs.declared.multi_touch.TheConstants.{ABS_MT_TOUCH_MAJOR, ABS_MT_TOOL_Y}
-use Rattle.inp_model.specs.declared.event.Event.{Event}
+use Rattle.inp_model.specs.RawItem.{RawItem}
 use Rattle.inp_model.specs.Description.{Description, is_slot_code}
 use Rattle.inp_model.specs.State.{cell}
 use Rattle.inp_model.specs.Reply.{row, rows}
@@ -16,7 +16,7 @@ use Rattle.inp_recon.proofs.Each.{and-left, and-right}
 
 -- ---- the table of all values
 
-rows-at : (d : Description) (r : List Event) (a n j k : ℕ) → j < n → k < 14 → get_or (flat_map (row d r) (range_with_len a n)) (14 * j + k) (pos 0) ≡ cell d r (pos (a + j)) (48 + k)
+rows-at : (d : Description) (r : List RawItem) (a n j k : ℕ) → j < n → k < 14 → get_or (flat_map (row d r) (range_with_len a n)) (14 * j + k) (pos 0) ≡ cell d r (pos (a + j)) (48 + k)
 rows-at d r a zero j k h l = absurd (omega arith)
 rows-at d r a (suc n) zero k h l =
     let first : length (row d r a) ≡ 14 = length-map-range_with_len (λ code. cell d r (pos a) code) ABS_MT_TOUCH_MAJOR 14 in
@@ -39,7 +39,7 @@ slot_code-bounds : (code : ℕ) → is_slot_code code ≡ true → (48 ≤ code)
 slot_code-bounds code h = (leb-true ABS_MT_TOUCH_MAJOR code (and-left _ _ h), leb-true code ABS_MT_TOOL_Y (and-right (nat_le ABS_MT_TOUCH_MAJOR code) _ h))
 
 -- a value of the table
-pub rows-cell : (d : Description) (r : List Event) (slot code : ℕ) → slot < d.slots → is_slot_code code ≡ true → get_or (rows d r) (cell_index (pos slot) code) (pos 0) ≡ cell d r (pos slot) code
+pub rows-cell : (d : Description) (r : List RawItem) (slot code : ℕ) → slot < d.slots → is_slot_code code ≡ true → get_or (rows d r) (cell_index (pos slot) code) (pos 0) ≡ cell d r (pos slot) code
 rows-cell d r slot code h is =
     let bounds = slot_code-bounds code is in
     let place : 48 + (code - 48) ≡ code = omega (arith, bounds.0) in

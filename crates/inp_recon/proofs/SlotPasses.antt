@@ -8,6 +8,7 @@ use Rattle.inp_model.specs.declared.multi_touch.TheConstants.{ABS_MT_SLOT, ABS_M
 use Rattle.inp_model.specs.declared.event.Event.{Event}
 use Rattle.inp_model.specs.Description.{Description, supports, info, is_multi_touch_code, is_slot_code}
 use Rattle.inp_model.specs.Event.{is_multi_touch, is_slot_value, slot_event}
+use Rattle.inp_model.specs.RawItem.{RawItem, Occurred}
 use Rattle.inp_model.specs.Defuzz.{defuzz}
 use Rattle.inp_model.specs.State.{axis_value, staged, cell}
 use Rattle.inp_model.specs.Passed.{passes_as, multi_touch_value, axis_passes, announced, passed}
@@ -80,11 +81,11 @@ cell-unviewed slot code e h = kind-idle slot code e (unviewed-other e.kind EV_AB
 
 module _ (d : Description) (some : nat_eq d.slots 0 ≡ false) (slot : ℤ) (code : ℕ) (is_cell : is_slot_code code ≡ true) where
   -- the slot announced last, and the value now
-  abbrev pub cell_now : List Event → SlotCell
+  abbrev pub cell_now : List RawItem → SlotCell
   cell_now r = (announced d r, cell d r slot code)
 
   -- an event that is no value of a slot changes neither
-  other_now : (r : List Event) (e : Event) → is_slot_value e ≡ false → cell_now (e ∷ r) ≡ cell_now r
+  other_now : (r : List RawItem) (e : Event) → is_slot_value e ≡ false → cell_now (Occurred e ∷ r) ≡ cell_now r
   unfolding announced cell
   other_now r e h =
       both _ (announced d r) _ (cell d r slot code)
@@ -102,7 +103,7 @@ module _ (d : Description) (some : nat_eq d.slots 0 ≡ false) (slot : ℤ) (cod
       not_on false h = refl
 
   -- the naming of a slot is not passed
-  slot_unpassed : (r : List Event) (value : ℤ) → passed d r (event EV_ABS ABS_MT_SLOT value) ≡ []
+  slot_unpassed : (r : List RawItem) (value : ℤ) → passed d r (event EV_ABS ABS_MT_SLOT value) ≡ []
   slot_unpassed r value = by (supports d EV_ABS ABS_MT_SLOT)
     where
       by : (b : Bool) → option_to_list (option_map (λ v. event EV_ABS ABS_MT_SLOT v) (if b && false then Some (multi_touch_value d r (event EV_ABS ABS_MT_SLOT value)) else None)) ≡ []
@@ -110,7 +111,7 @@ module _ (d : Description) (some : nat_eq d.slots 0 ≡ false) (slot : ℤ) (cod
       by false = refl
 
   -- an event that is no value of a slot: nothing that is passed for it changes either
-  other-passes : (r : List Event) (e : Event) → is_slot_value e ≡ false → over (cell_then slot code) (cell_now r) (passed d r e) ≡ cell_now (e ∷ r)
+  other-passes : (r : List RawItem) (e : Event) → is_slot_value e ≡ false → over (cell_then slot code) (cell_now r) (passed d r e) ≡ cell_now (Occurred e ∷ r)
   other-passes r e h = by (is_multi_touch e) refl ∙ sym (other_now r e h)
     where
       -- the slot's name, as the only multi-touch axis that is no value
@@ -143,7 +144,7 @@ module _ (d : Description) (some : nat_eq d.slots 0 ≡ false) (slot : ℤ) (cod
           (Each-append (IsIdle (cell_then slot code)) _ _ (announcement_none (is_slot_value e) refl h) (values k (passes_as d r e)))
 
   -- a value of a slot
-  module _ (r : List Event) (c : ℕ) (value : ℤ) (is_value : is_slot_code c ≡ true) where
+  module _ (r : List RawItem) (c : ℕ) (value : ℤ) (is_value : is_slot_code c ≡ true) where
     e : Event
     e = event EV_ABS c value
 
@@ -151,21 +152,21 @@ module _ (d : Description) (some : nat_eq d.slots 0 ≡ false) (slot : ℤ) (cod
     old = cell d r (staged d r) c
 
     abbrev new : ℤ
-    new = cell d (event EV_ABS c value ∷ r) (staged d r) c
+    new = cell d (Occurred (event EV_ABS c value) ∷ r) (staged d r) c
 
     abbrev was : ℤ
     was = cell d r slot code
 
     -- it moves the value of the staged slot
     abbrev moves : Bool
-    moves = supports d EV_ABS c && not (int_eq (cell d r (staged d r) c) (cell d (event EV_ABS c value ∷ r) (staged d r) c))
+    moves = supports d EV_ABS c && not (int_eq (cell d r (staged d r) c) (cell d (Occurred (event EV_ABS c value) ∷ r) (staged d r) c))
 
     abbrev named : Bool → List Event
     named b = if b && not (int_eq (staged d r) (announced d r)) then slot_event (staged d r) ∷ [] else []
 
     passes_is : passes_as d r (event EV_ABS c value) ≡ (if moves then Some new else None)
     passes_is =
-        ap (λ (b : Bool). if supports d EV_ABS c && (if b then (if nat_eq c ABS_MT_SLOT then false else if nat_eq d.slots 0 then true else not (int_eq old new)) else axis_passes d r (event EV_ABS c value)) then Some (if b then (if nat_eq d.slots 0 then value else new) else axis_value d (event EV_ABS c value ∷ r) c) else None) (slot_code-multi_touch c is_value)
+        ap (λ (b : Bool). if supports d EV_ABS c && (if b then (if nat_eq c ABS_MT_SLOT then false else if nat_eq d.slots 0 then true else not (int_eq old new)) else axis_passes d r (event EV_ABS c value)) then Some (if b then (if nat_eq d.slots 0 then value else new) else axis_value d (Occurred (event EV_ABS c value) ∷ r) c) else None) (slot_code-multi_touch c is_value)
         ∙ ap (λ (b : Bool). if supports d EV_ABS c && (if b then false else if nat_eq d.slots 0 then true else not (int_eq old new)) then Some (if nat_eq d.slots 0 then value else new) else None) (slot_code-not_slot c is_value)
         ∙ ap (λ (b : Bool). if supports d EV_ABS c && (if b then true else not (int_eq old new)) then Some (if b then value else new) else None) some
 
@@ -179,7 +180,7 @@ module _ (d : Description) (some : nat_eq d.slots 0 ≡ false) (slot : ℤ) (cod
         some_if true = refl
         some_if false = refl
 
-    announced_is : announced d (event EV_ABS c value ∷ r) ≡ (if moves then staged d r else announced d r)
+    announced_is : announced d (Occurred (event EV_ABS c value) ∷ r) ≡ (if moves then staged d r else announced d r)
     unfolding announced
     announced_is =
         ap (λ (o : Option ℤ). if is_slot_code c && is_some o then staged d r else announced d r) passes_is
@@ -191,7 +192,7 @@ module _ (d : Description) (some : nat_eq d.slots 0 ≡ false) (slot : ℤ) (cod
         by false = refl
 
     -- the value of our cell behind it
-    cell_other : (supports d EV_ABS c && (nat_eq c code && int_eq (staged d r) slot)) ≡ false → cell d (event EV_ABS c value ∷ r) slot code ≡ was
+    cell_other : (supports d EV_ABS c && (nat_eq c code && int_eq (staged d r) slot)) ≡ false → cell d (Occurred (event EV_ABS c value) ∷ r) slot code ≡ was
     unfolding cell
     cell_other h = ap (λ (b : Bool). if b then defuzz value was (info d code).fuzz else was) (by (nat_eq c code) refl (int_eq (staged d r) slot) refl)
       where
@@ -207,10 +208,10 @@ module _ (d : Description) (some : nat_eq d.slots 0 ≡ false) (slot : ℤ) (cod
         by true k false l = and_right _ _ l
         by false k b l = ap (λ (x : Bool). x && int_eq (staged d r) slot) (and_right (supports d EV_ABS code) _ k)
 
-    cell_mine : nat_eq c code ≡ true → int_eq (staged d r) slot ≡ true → cell d (event EV_ABS c value ∷ r) slot code ≡ new
+    cell_mine : nat_eq c code ≡ true → int_eq (staged d r) slot ≡ true → cell d (Occurred (event EV_ABS c value) ∷ r) slot code ≡ new
     cell_mine h k =
-        ap (λ (n : ℕ). cell d (event EV_ABS c value ∷ r) slot n) (sym (eqb-true c code h))
-        ∙ ap (λ (z : ℤ). cell d (event EV_ABS c value ∷ r) z c) (sym ((Decides-int_eq (staged d r) slot).0 k))
+        ap (λ (n : ℕ). cell d (Occurred (event EV_ABS c value) ∷ r) slot n) (sym (eqb-true c code h))
+        ∙ ap (λ (z : ℤ). cell d (Occurred (event EV_ABS c value) ∷ r) z c) (sym ((Decides-int_eq (staged d r) slot).0 k))
 
     was_mine : nat_eq c code ≡ true → int_eq (staged d r) slot ≡ true → old ≡ was
     was_mine h k =
@@ -225,13 +226,13 @@ module _ (d : Description) (some : nat_eq d.slots 0 ≡ false) (slot : ℤ) (cod
         by false h = refl
 
     -- it moves a value: the staged slot is announced, and the value is ours or another one
-    moved : moves ≡ true → cell_then slot code (let v : SlotCell = (staged d r, was) in v) (event EV_ABS c new) ≡ cell_now (event EV_ABS c value ∷ r)
+    moved : moves ≡ true → cell_then slot code (let v : SlotCell = (staged d r, was) in v) (event EV_ABS c new) ≡ cell_now (Occurred (event EV_ABS c value) ∷ r)
     moved m =
-        both _ (announced d (event EV_ABS c value ∷ r)) _ (cell d (event EV_ABS c value ∷ r) slot code)
+        both _ (announced d (Occurred (event EV_ABS c value) ∷ r)) _ (cell d (Occurred (event EV_ABS c value) ∷ r) slot code)
         (ap (λ (b : Bool). if b then new else staged d r) (slot_code-not_slot c is_value) ∙ sym (announced_is ∙ ap (λ (b : Bool). if b then staged d r else announced d r) m))
         (ap (λ (b : Bool). if b && (nat_eq c code && int_eq (staged d r) slot) then new else was) is_value ∙ by (nat_eq c code) refl (int_eq (staged d r) slot) refl)
       where
-        by : (a : Bool) → nat_eq c code ≡ a → (b : Bool) → int_eq (staged d r) slot ≡ b → (if nat_eq c code && int_eq (staged d r) slot then new else was) ≡ cell d (event EV_ABS c value ∷ r) slot code
+        by : (a : Bool) → nat_eq c code ≡ a → (b : Bool) → int_eq (staged d r) slot ≡ b → (if nat_eq c code && int_eq (staged d r) slot then new else was) ≡ cell d (Occurred (event EV_ABS c value) ∷ r) slot code
         by true k true l = ap (λ (x : Bool). if x && int_eq (staged d r) slot then new else was) k ∙ ap (λ (x : Bool). if x then new else was) l ∙ sym (cell_mine k l)
         by true k false l =
             ap (λ (x : Bool). if x then new else was) (and_right (nat_eq c code) _ l)
@@ -241,13 +242,13 @@ module _ (d : Description) (some : nat_eq d.slots 0 ≡ false) (slot : ℤ) (cod
             ∙ sym (cell_other (and_right (supports d EV_ABS c) _ (ap (λ (x : Bool). x && int_eq (staged d r) slot) k)))
 
     -- it moves none
-    unmoved : moves ≡ false → cell_now r ≡ cell_now (event EV_ABS c value ∷ r)
+    unmoved : moves ≡ false → cell_now r ≡ cell_now (Occurred (event EV_ABS c value) ∷ r)
     unmoved m =
-        both (announced d r) (announced d (event EV_ABS c value ∷ r)) was (cell d (event EV_ABS c value ∷ r) slot code)
+        both (announced d r) (announced d (Occurred (event EV_ABS c value) ∷ r)) was (cell d (Occurred (event EV_ABS c value) ∷ r) slot code)
         (sym (announced_is ∙ ap (λ (b : Bool). if b then staged d r else announced d r) m))
         (by (nat_eq c code) refl (int_eq (staged d r) slot) refl)
       where
-        same : nat_eq c code ≡ true → int_eq (staged d r) slot ≡ true → (s : Bool) → supports d EV_ABS c ≡ s → was ≡ cell d (event EV_ABS c value ∷ r) slot code
+        same : nat_eq c code ≡ true → int_eq (staged d r) slot ≡ true → (s : Bool) → supports d EV_ABS c ≡ s → was ≡ cell d (Occurred (event EV_ABS c value) ∷ r) slot code
         same k l false none = sym (cell_other (ap (λ (x : Bool). x && (nat_eq c code && int_eq (staged d r) slot)) none))
         same k l true has =
             let equal : int_eq old new ≡ true = stays (int_eq old new) (ap (λ (x : Bool). x && not (int_eq old new)) (sym has) ∙ m) in
@@ -257,18 +258,18 @@ module _ (d : Description) (some : nat_eq d.slots 0 ≡ false) (slot : ℤ) (cod
             stays true h = refl
             stays false h = let bad : true ≡ false = h in absurd cc
 
-        by : (a : Bool) → nat_eq c code ≡ a → (b : Bool) → int_eq (staged d r) slot ≡ b → was ≡ cell d (event EV_ABS c value ∷ r) slot code
+        by : (a : Bool) → nat_eq c code ≡ a → (b : Bool) → int_eq (staged d r) slot ≡ b → was ≡ cell d (Occurred (event EV_ABS c value) ∷ r) slot code
         by true k true l = same k l (supports d EV_ABS c) refl
         by true k false l = sym (cell_other (and_right (supports d EV_ABS c) _ (and_right (nat_eq c code) _ l)))
         by false k b l = sym (cell_other (and_right (supports d EV_ABS c) _ (ap (λ (x : Bool). x && int_eq (staged d r) slot) k)))
 
-    value-passes : over (cell_then slot code) (cell_now r) (passed d r (event EV_ABS c value)) ≡ cell_now (event EV_ABS c value ∷ r)
+    value-passes : over (cell_then slot code) (cell_now r) (passed d r (event EV_ABS c value)) ≡ cell_now (Occurred (event EV_ABS c value) ∷ r)
     value-passes = ap (over (cell_then slot code) (cell_now r)) passed_is ∙ by moves refl
       where
         what : Bool → List Event
         what b = named b ++ option_to_list (option_map (λ v. event EV_ABS c v) (if b then Some new else None))
 
-        by : (b : Bool) → moves ≡ b → over (cell_then slot code) (cell_now r) (what moves) ≡ cell_now (event EV_ABS c value ∷ r)
+        by : (b : Bool) → moves ≡ b → over (cell_then slot code) (cell_now r) (what moves) ≡ cell_now (Occurred (event EV_ABS c value) ∷ r)
         by true m =
             ap (λ (b : Bool). over (cell_then slot code) (cell_now r) (what b)) m
             ∙ over-append (cell_then slot code) (cell_now r) (named true) (event EV_ABS c new ∷ [])
@@ -276,12 +277,12 @@ module _ (d : Description) (some : nat_eq d.slots 0 ≡ false) (slot : ℤ) (cod
             ∙ moved m
         by false m = ap (λ (b : Bool). over (cell_then slot code) (cell_now r) (what b)) m ∙ unmoved m
 
-  pub cell-passes : (r : List Event) (e : Event) → over (cell_then slot code) (cell_now r) (passed d r e) ≡ cell_now (e ∷ r)
+  pub cell-passes : (r : List RawItem) (e : Event) → over (cell_then slot code) (cell_now r) (passed d r e) ≡ cell_now (Occurred e ∷ r)
   cell-passes r e = by (is_slot_value e) refl
     where
-      by : (b : Bool) → is_slot_value e ≡ b → over (cell_then slot code) (cell_now r) (passed d r e) ≡ cell_now (e ∷ r)
+      by : (b : Bool) → is_slot_value e ≡ b → over (cell_then slot code) (cell_now r) (passed d r e) ≡ cell_now (Occurred e ∷ r)
       by true h =
           let is : e ≡ event EV_ABS e.code e.value = is_event e EV_ABS e.code (eqb-true e.kind EV_ABS (and-left _ _ h)) refl in
-          subst (λ (x : Event). over (cell_then slot code) (cell_now r) (passed d r x) ≡ cell_now (x ∷ r)) (sym is)
+          subst (λ (x : Event). over (cell_then slot code) (cell_now r) (passed d r x) ≡ cell_now (Occurred x ∷ r)) (sym is)
           (value-passes r e.code e.value (and-right (nat_eq e.kind EV_ABS) (is_slot_code e.code) h))
       by false h = other-passes r e h

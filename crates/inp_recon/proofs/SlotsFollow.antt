@@ -14,13 +14,14 @@ use Rattle.inp_model.specs.Step.{Codes, Slots, client_of, is_same, query_of, is_
 use Rattle.inp_model.specs.State.{cell}
 use Rattle.inp_model.specs.Cut.{pending, at_frame}
 use Rattle.inp_model.specs.Raw.{raw}
-use Rattle.inp_model.specs.Queue.{Entry, event_of, flush, queue}
-use Rattle.inp_model.specs.Reply.{accepted, rows}
+use Rattle.inp_model.specs.Left.{Eats}
+use Rattle.inp_model.specs.Queue.{Entry, event_of, flush, queue_with}
+use Rattle.inp_model.specs.Reply.{accepted_with, rows}
 use Rattle.inp_recon.specs.declared.view.View.{View}
 use Rattle.inp_recon.specs.Cells.{cell_index, with_cell}
 use Rattle.inp_recon.specs.View.{IsSizedFor, slot_after_event, view_after_event, view_after_events, view_after_answer}
-use Rattle.inp_recon.specs.ClientView.{client_view}
-use Rattle.inp_recon.specs.Synchronised.{AllSlots, asks_for, has_asked, taken_since_start, has_no_loss}
+use Rattle.inp_recon.specs.ClientView.{client_view_with}
+use Rattle.inp_recon.specs.Synchronised.{AllSlots, asks_for, has_asked, taken_since_start_with, has_no_loss}
 use Rattle.inp_recon.proofs.Each.{and-left, and-right}
 use Rattle.inp_recon.proofs.Over.{over, IsIdle}
 use Rattle.inp_recon.proofs.Queueing.{ReportsIdle, flush-idle}
@@ -40,11 +41,11 @@ unfolding kind_asked
 slots_only client (SyncSlots named) asks own e = let bad : true ≡ false = sym own ∙ asks in cc
 slots_only client x asks own e = omega (arith, ap kind_asked e)
 
-slots_asked : (d : Description) (client : ℕ) (past : List Step) (x : Step) → asks_for AllSlots client x ≡ true → left_in_queue d past client x ≡ flush event_of (is_part_of Slots) (queue d past client)
-slots_asked d client past (SyncSlots named) h = ap (λ (b : Bool). if b then flush event_of (is_part_of Slots) (queue d past client) else queue d past client) h
-slots_asked d client past x h = let bad : false ≡ true = h in absurd cc
+slots_asked : (eats : Eats) (d : Description) (client : ℕ) (past : List Step) (x : Step) → asks_for AllSlots client x ≡ true → left_in_queue eats d past client x ≡ flush event_of (is_part_of Slots) (queue_with eats d past client)
+slots_asked eats d client past (SyncSlots named) h = ap (λ (b : Bool). if b then flush event_of (is_part_of Slots) (queue_with eats d past client) else queue_with eats d past client) h
+slots_asked eats d client past x h = let bad : false ≡ true = h in absurd cc
 
-module _ (d : Description) (client : ℕ) (some : nat_eq d.slots 0 ≡ false) (slot code : ℕ) (within : slot < d.slots) (is_cell : is_slot_code code ≡ true) where
+module _ (eats : Eats) (d : Description) (client : ℕ) (some : nat_eq d.slots 0 ≡ false) (slot code : ℕ) (within : slot < d.slots) (is_cell : is_slot_code code ≡ true) where
   abbrev pub slot_cell_of : View → SlotCell
   slot_cell_of v = pair v.slot (get_or v.cells (cell_index (pos slot) code) (pos 0))
 
@@ -80,7 +81,7 @@ module _ (d : Description) (client : ℕ) (some : nat_eq d.slots 0 ≡ false) (s
           ∙ ap (λ (b : Bool). if b && (nat_eq e.code code && int_eq v.slot (pos slot)) then e.value else get_or v.cells index (pos 0)) (sym k)
 
   cell_answered : (past : List Step) (x : Step) (v : View) → IsSizedFor d.slots v → is_same (client_of x) client ≡ true
-      → slot_cell_of (view_after_answer v x (accepted d past x).reply (accepted d past x).cells) ≡ cond (asks_for AllSlots client x) (cell_told d some (pos slot) code is_cell (raw d past)) (slot_cell_of v)
+      → slot_cell_of (view_after_answer v x (accepted_with eats d past x).reply (accepted_with eats d past x).cells) ≡ cond (asks_for AllSlots client x) (cell_told d some (pos slot) code is_cell (raw d past)) (slot_cell_of v)
   unfolding view_after_answer
   cell_answered past (SyncSlots named) v h own =
       let index : ℕ = cell_index (pos slot) code in
@@ -92,21 +93,21 @@ module _ (d : Description) (client : ℕ) (some : nat_eq d.slots 0 ≡ false) (s
   cell_answered past x v h own = refl
 
   pub cell-after_events : (v : View) (es : List Event) → IsSizedFor d.slots v → slot_cell_of (view_after_events v es) ≡ over t (slot_cell_of v) es
-  cell-after_events = get-after_events d client t AllSlots (cell_told d some (pos slot) code is_cell) slot_cell_of cell_event cell_answered
+  cell-after_events = get-after_events eats d client t AllSlots (cell_told d some (pos slot) code is_cell) slot_cell_of cell_event cell_answered
 
   fresh : (past : List Step) (x : Step) → asks_for AllSlots client x ≡ true
-      → over t (over t (cell_told d some (pos slot) code is_cell (raw d past)) (map event_of (left_in_queue d past client x))) (pending d (raw d past)) ≡ cell_now d some (pos slot) code is_cell (raw d past)
+      → over t (over t (cell_told d some (pos slot) code is_cell (raw d past)) (map event_of (left_in_queue eats d past client x))) (pending d (raw d past)) ≡ cell_now d some (pos slot) code is_cell (raw d past)
   fresh past x asks =
       let v : SlotCell = cell_told d some (pos slot) code is_cell (raw d past) in
-      ap (λ (l : List Entry). over t (over t v (map event_of l)) (pending d (raw d past))) (slots_asked d client past x asks)
-      ∙ ap (λ (u : SlotCell). over t u (pending d (raw d past))) (flush-idle t reports_idle (is_part_of Slots) (λ e h. single_touch-idle (pos slot) code e h) (queue d past client) v)
+      ap (λ (l : List Entry). over t (over t v (map event_of l)) (pending d (raw d past))) (slots_asked eats d client past x asks)
+      ∙ ap (λ (u : SlotCell). over t u (pending d (raw d past))) (flush-idle t reports_idle (is_part_of Slots) (λ e h. single_touch-idle (pos slot) code e h) (queue_with eats d past client) v)
       ∙ cell-pending d some (pos slot) code is_cell (raw d past)
 
   -- the slots, once they were asked for
-  pub cell-stands : (past : List Step) → Receives past client → has_no_loss (taken_since_start d past client) ≡ true → has_asked AllSlots past client ≡ true
-      → Stands d client t (cell-unviewed (pos slot) code) (cell_now d some (pos slot) code is_cell) (cell-passes d some (pos slot) code is_cell) (λ past. slot_cell_of (client_view d past client)) past
+  pub cell-stands : (past : List Step) → Receives past client → has_no_loss (taken_since_start_with eats d past client) ≡ true → has_asked AllSlots past client ≡ true
+      → Stands eats d client t (cell-unviewed (pos slot) code) (cell_now d some (pos slot) code is_cell) (cell-passes d some (pos slot) code is_cell) (λ past. slot_cell_of (client_view_with eats d past client)) past
   cell-stands =
-      stands d client t (cell-unviewed (pos slot) code) (cell_now d some (pos slot) code is_cell) (cell-passes d some (pos slot) code is_cell) AllSlots spares
-      (cell_told d some (pos slot) code is_cell) (λ past. slot_cell_of (client_view d past client))
-      (get-follows d client t AllSlots (cell_told d some (pos slot) code is_cell) slot_cell_of cell_event cell_answered)
-      (λ past x start asks receives none whole kept. fresh past x asks)
+      stands eats d client t (cell-unviewed (pos slot) code) (cell_now d some (pos slot) code is_cell) (cell-passes d some (pos slot) code is_cell) AllSlots spares
+      (cell_told d some (pos slot) code is_cell) (λ past. slot_cell_of (client_view_with eats d past client))
+      (get-follows eats d client t AllSlots (cell_told d some (pos slot) code is_cell) slot_cell_of cell_event cell_answered)
+      (λ past x start asks receives none clear kept. fresh past x asks)

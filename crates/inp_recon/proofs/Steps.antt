@@ -3,13 +3,15 @@ use Rattle.std.proofs.Common.{◌≡◌, ◌⊎◌, ◌<◌, ◌≤◌, ℕ, suc
 use Rattle.inp_model.specs.declared.event.Event.{Event}
 use Rattle.inp_model.specs.declared.step.Step.{Step}
 use Rattle.inp_model.specs.declared.step.Step.TheVariants.{Open, Discard}
+use Rattle.inp_model.specs.RawItem.{RawItem, Cut, Frame}
 use Rattle.inp_model.specs.Description.{Description, ring}
-use Rattle.inp_model.specs.Step.{moment_of, is_close_of, is_revoke_of, is_part_of}
+use Rattle.inp_model.specs.Step.{is_close_of, is_revoke_of, is_part_of}
 use Rattle.inp_model.specs.Past.{opens, is_opening, is_open, is_revoked}
-use Rattle.inp_model.specs.Cut.{Cut, raw_after, cut, cuts}
+use Rattle.inp_model.specs.Cut.{raw_after, cut_for, cuts}
 use Rattle.inp_model.specs.Raw.{raw, raw_and_timer, raw_of_step}
-use Rattle.inp_model.specs.Frame.{Frame, place, frame_of, frames_of_step, frames}
-use Rattle.inp_model.specs.Queue.{Entry, event_of, visible, entry, entries_of, entries, queue, is_offered}
+use Rattle.inp_model.specs.Frame.{place, frame_of, frames_of_step, frames}
+use Rattle.inp_model.specs.Left.{Eats, left}
+use Rattle.inp_model.specs.Queue.{Entry, event_of, visible, entry, entries_of_with, entries_with, queue_with, is_offered}
 use Rattle.inp_recon.specs.Synchronised.{is_dropped, is_start, is_query_of, start_place, sync_place}
 use Rattle.inp_recon.proofs.Each.{Each, Each-append, Each-weaker, Each-drop}
 use Rattle.inp_recon.proofs.Queueing.{put_all-each, flush-each}
@@ -22,11 +24,11 @@ pub raw-step : (d : Description) (past : List Step) (x : Step) → raw d (x ∷ 
 unfolding raw raw_and_timer raw_of_step
 raw-step d past x = refl
 
-pub queue-step : (d : Description) (past : List Step) (client : ℕ) (x : Step) → queue d (x ∷ past) client ≡ offered_to d client (left_in_queue d past client x) (frames_by d past (moment_of x) (raw d past) (raw_of_step d past x))
-unfolding queue
-queue-step d past client x = refl
+pub queue-step : (eats : Eats) (d : Description) (past : List Step) (client : ℕ) (x : Step) → queue_with eats d (x ∷ past) client ≡ offered_to eats d client (left_in_queue eats d past client x) (frames_by d past x (raw d past) (raw_of_step d past x))
+unfolding queue_with
+queue-step eats d past client x = refl
 
-pub frames-step : (d : Description) (past : List Step) (x : Step) → frames d (x ∷ past) ≡ frames d past ++ frames_by d past (moment_of x) (raw d past) (raw_of_step d past x)
+pub frames-step : (d : Description) (past : List Step) (x : Step) → frames d (x ∷ past) ≡ frames d past ++ frames_by d past x (raw d past) (raw_of_step d past x)
 unfolding frames
 frames-step d past x = refl
 
@@ -99,47 +101,47 @@ receives-before past client x start h = record {
 
 -- ---- what a start leaves in the queue
 
-pub start_left : (d : Description) (past : List Step) (client : ℕ) (x : Step) → is_start past client x ≡ true → (left_in_queue d past client x ≡ []) ⊎ (left_in_queue d past client x ≡ drop (visible event_of (queue d past client)) (queue d past client))
-start_left d past client Open h =
-    let q : List Entry = queue d past client in
+pub start_left : (eats : Eats) (d : Description) (past : List Step) (client : ℕ) (x : Step) → is_start past client x ≡ true → (left_in_queue eats d past client x ≡ []) ⊎ (left_in_queue eats d past client x ≡ drop (visible event_of (queue_with eats d past client)) (queue_with eats d past client))
+start_left eats d past client Open h =
+    let q : List Entry = queue_with eats d past client in
     inl (ap (λ (b : Bool). if (if b then true else false) then [] else q) (opening (nat_eq (opens past) client) h))
   where
     opening : (b : Bool) → (b || false) ≡ true → b ≡ true
     opening true h = refl
     opening false h = h
-start_left d past client (Discard reader) h =
-    let q : List Entry = queue d past client in
+start_left eats d past client (Discard reader) h =
+    let q : List Entry = queue_with eats d past client in
     inr (ap (λ (b : Bool). if b then drop (visible event_of q) q else q) h)
-start_left d past client x h = absurd (let e : false ≡ true = h in cc)
+start_left eats d past client x h = absurd (let e : false ≡ true = h in cc)
 
 -- what holds of each entry of a queue holds of those that a step leaves there
-pub left-each : (G : Entry → Type 0) → ((e : Entry) → is_dropped (event_of e) ≡ true → e.frame ≡ None → G e) → (d : Description) (past : List Step) (client : ℕ) (x : Step) → Each G (queue d past client) → Each G (left_in_queue d past client x)
-left-each G loss d past client x h = by (is_start past client x) refl
+pub left-each : (G : Entry → Type 0) → ((e : Entry) → is_dropped (event_of e) ≡ true → e.frame ≡ None → G e) → (eats : Eats) (d : Description) (past : List Step) (client : ℕ) (x : Step) → Each G (queue_with eats d past client) → Each G (left_in_queue eats d past client x)
+left-each G loss eats d past client x h = by (is_start past client x) refl
   where
     q : List Entry
-    q = queue d past client
+    q = queue_with eats d past client
 
-    at_start : (left_in_queue d past client x ≡ []) ⊎ (left_in_queue d past client x ≡ drop (visible event_of q) q) → Each G (left_in_queue d past client x)
+    at_start : (left_in_queue eats d past client x ≡ []) ⊎ (left_in_queue eats d past client x ≡ drop (visible event_of q) q) → Each G (left_in_queue eats d past client x)
     at_start (inl e) = subst (Each G) (sym e) tt
     at_start (inr e) = subst (Each G) (sym e) (Each-drop G (visible event_of q) q h)
 
-    at_call : (taken : List Entry) → LeftBy x client q taken (left_in_queue d past client x) → Each G (left_in_queue d past client x)
+    at_call : (taken : List Entry) → LeftBy x client q taken (left_in_queue eats d past client x) → Each G (left_in_queue eats d past client x)
     at_call taken (ByRead n t e) = subst (Each G) (sym e) (Each-drop G n q h)
     at_call taken (ByLoss lost is frame t e) = subst (Each G) (sym e) (loss lost is frame, tt)
     at_call taken (ByFlush query asked own kind keeps t e) = subst (Each G) (sym e) (flush-each G (is_part_of query) q h)
     at_call taken (ByNone t e) = subst (Each G) (sym e) h
 
-    by : (b : Bool) → is_start past client x ≡ b → Each G (left_in_queue d past client x)
-    by true e = at_start (start_left d past client x e)
-    by false e = at_call _ (left_by d past client x e)
+    by : (b : Bool) → is_start past client x ≡ b → Each G (left_in_queue eats d past client x)
+    by true e = at_start (start_left eats d past client x e)
+    by false e = at_call _ (left_by eats d past client x e)
 
 -- ---- each queued entry was entered before the past's end
 
 abbrev pub IsPlacedBelow : ℕ → Entry → Type 0
 IsPlacedBelow n x = (f : Frame) → x.frame ≡ Some f → place f < n
 
-entries_of-each : (G : Entry → Type 0) (d : Description) (client : ℕ) (f : Frame) → ((e : Event) → G (entry d client f e)) → Each G (entries_of d client f)
-entries_of-each G d client f h = by (is_offered f.before client) _
+entries_of-each : (G : Entry → Type 0) (eats : Eats) (d : Description) (client : ℕ) (f : Frame) → ((e : Event) → G (entry d client f e)) → Each G (entries_of_with eats d client f)
+entries_of-each G eats d client f h = by (is_offered f.before client) _
   where
     each : (es : List Event) → Each G (map (entry d client f) es)
     each [] = tt
@@ -149,16 +151,16 @@ entries_of-each G d client f h = by (is_offered f.before client) _
     by true es = each es
     by false es = tt
 
-pub entries-each : (G : Entry → Type 0) (d : Description) (client : ℕ) (past : List Step) (now : ℕ) → ((c : Cut) (e : Event) → G (entry d client (frame_of past now c) e)) → (cs : List Cut) → Each G (entries d client (map (frame_of past now) cs))
-entries-each G d client past now h [] = tt
-entries-each G d client past now h (c ∷ cs) =
-    Each-append G (entries_of d client (frame_of past now c)) (entries d client (map (frame_of past now) cs))
-    (entries_of-each G d client (frame_of past now c) (h c)) (entries-each G d client past now h cs)
+pub entries-each : (G : Entry → Type 0) (eats : Eats) (d : Description) (client : ℕ) (past : List Step) (s : Step) → ((c : Cut) (e : Event) → G (entry d client (frame_of past s c) e)) → (cs : List Cut) → Each G (entries_with eats d client (map (frame_of past s) cs))
+entries-each G eats d client past s h [] = tt
+entries-each G eats d client past s h (c ∷ cs) =
+    Each-append G (entries_of_with eats d client (frame_of past s c)) (entries_with eats d client (map (frame_of past s) cs))
+    (entries_of-each G eats d client (frame_of past s c) (h c)) (entries-each G eats d client past s h cs)
 
-pub queue-placed : (d : Description) (past : List Step) (client : ℕ) → Each (IsPlacedBelow (length past)) (queue d past client)
-unfolding queue
-queue-placed d [] client = tt
-queue-placed d (x ∷ past) client = more (queue-placed d past client)
+pub queue-placed : (eats : Eats) (d : Description) (past : List Step) (client : ℕ) → Each (IsPlacedBelow (length past)) (queue_with eats d past client)
+unfolding queue_with
+queue-placed eats d [] client = tt
+queue-placed eats d (x ∷ past) client = more (queue-placed eats d past client)
   where
     n : ℕ
     n = suc (length past)
@@ -166,57 +168,57 @@ queue-placed d (x ∷ past) client = more (queue-placed d past client)
     none : (e : Entry) → e.frame ≡ None → IsPlacedBelow n e
     none e h = λ f k. let bad : None ≡ Some f = sym h ∙ k in cc
 
-    here : (c : Cut) (e : Event) → IsPlacedBelow n (entry d client (frame_of past (moment_of x) c) e)
-    here c e = λ f k. let is : frame_of past (moment_of x) c ≡ f = cc in subst (λ (g : Frame). place g < n) is (omega arith)
+    here : (c : Cut) (e : Event) → IsPlacedBelow n (entry d client (frame_of past x c) e)
+    here c e = λ f k. let is : frame_of past x c ≡ f = cc in subst (λ (g : Frame). place g < n) is (omega arith)
 
-    more : Each (IsPlacedBelow (length past)) (queue d past client) → Each (IsPlacedBelow n) (queue d (x ∷ past) client)
+    more : Each (IsPlacedBelow (length past)) (queue_with eats d past client) → Each (IsPlacedBelow n) (queue_with eats d (x ∷ past) client)
     more h =
-        let old : Each (IsPlacedBelow n) (queue d past client) =
-        Each-weaker (IsPlacedBelow (length past)) (IsPlacedBelow n) (λ e k f i. (let m : place f < length past = k f i in omega (arith, m))) (queue d past client) h in
-        subst (Each (IsPlacedBelow n)) (sym (queue-step d past client x))
-        (put_all-each (IsPlacedBelow n) (λ e k. k) (ring d) (left_in_queue d past client x) _
-        (left-each (IsPlacedBelow n) (λ e loss k. none e k) d past client x old)
-        (entries-each (IsPlacedBelow n) d client past (moment_of x) here (cuts d (raw d past) (raw_of_step d past x))))
+        let old : Each (IsPlacedBelow n) (queue_with eats d past client) =
+        Each-weaker (IsPlacedBelow (length past)) (IsPlacedBelow n) (λ e k f i. (let m : place f < length past = k f i in omega (arith, m))) (queue_with eats d past client) h in
+        subst (Each (IsPlacedBelow n)) (sym (queue-step eats d past client x))
+        (put_all-each (IsPlacedBelow n) (λ e k. k) (ring d) (left_in_queue eats d past client x) _
+        (left-each (IsPlacedBelow n) (λ e loss k. none e k) eats d past client x old)
+        (entries-each (IsPlacedBelow n) eats d client past x here (cuts d (raw d past) (raw_of_step d past x))))
 
 -- ---- frames in order
 
 abbrev pub IsEndedWithin : ℕ → Frame → Type 0
 IsEndedWithin n f = length f.cut.until ≤ n
 
-pub raw_after-longer : (r es : List Event) → length r ≤ length (raw_after r es)
+pub raw_after-longer : (r xs : List RawItem) → length r ≤ length (raw_after r xs)
 raw_after-longer r [] = omega arith
-raw_after-longer r (e ∷ es) = let k : length (e ∷ r) ≤ length (raw_after (e ∷ r) es) = raw_after-longer (e ∷ r) es in omega (arith, k)
+raw_after-longer r (x ∷ xs) = let k : length (x ∷ r) ≤ length (raw_after (x ∷ r) xs) = raw_after-longer (x ∷ r) xs in omega (arith, k)
 
-frames_by-within : (d : Description) (past : List Step) (now : ℕ) (es r : List Event) → Each (IsEndedWithin (length (raw_after r es))) (frames_by d past now r es)
+frames_by-within : (d : Description) (past : List Step) (s : Step) (xs r : List RawItem) → Each (IsEndedWithin (length (raw_after r xs))) (frames_by d past s r xs)
 unfolding cuts
-frames_by-within d past now [] r = tt
-frames_by-within d past now (e ∷ es) r = by (cut_cases d r e) (frames_by-within d past now es (e ∷ r))
+frames_by-within d past s [] r = tt
+frames_by-within d past s (x ∷ xs) r = by (cut_cases d r x) (frames_by-within d past s xs (x ∷ r))
   where
     n : ℕ
-    n = length (raw_after (e ∷ r) es)
+    n = length (raw_after (x ∷ r) xs)
 
     rest : List Cut
-    rest = cuts d (e ∷ r) es
+    rest = cuts d (x ∷ r) xs
 
-    by : NoCut d r e ⊎ OneCut d r e → Each (IsEndedWithin n) (map (frame_of past now) rest) → Each (IsEndedWithin n) (map (frame_of past now) (cut d r e ++ rest))
-    by (inl h) ih = subst (λ (cs : List Cut). Each (IsEndedWithin n) (map (frame_of past now) (cs ++ rest))) (sym h.none) ih
-    by (inr h) ih = subst (λ (cs : List Cut). Each (IsEndedWithin n) (map (frame_of past now) (cs ++ rest))) (sym h.one) (raw_after-longer (e ∷ r) es, ih)
+    by : NoCut d r x ⊎ OneCut d r x → Each (IsEndedWithin n) (map (frame_of past s) rest) → Each (IsEndedWithin n) (map (frame_of past s) (cut_for d r x ++ rest))
+    by (inl h) ih = subst (λ (cs : List Cut). Each (IsEndedWithin n) (map (frame_of past s) (cs ++ rest))) (sym h.none) ih
+    by (inr h) ih = subst (λ (cs : List Cut). Each (IsEndedWithin n) (map (frame_of past s) (cs ++ rest))) (sym h.one) (raw_after-longer (x ∷ r) xs, ih)
 
 pub frames-within : (d : Description) (past : List Step) → Each (IsEndedWithin (length (raw d past))) (frames d past)
 unfolding frames
 frames-within d [] = tt
 frames-within d (x ∷ past) = more (frames-within d past)
   where
-    r : List Event
+    r : List RawItem
     r = raw d past
 
-    es : List Event
-    es = raw_of_step d past x
+    xs : List RawItem
+    xs = raw_of_step d past x
 
     more : Each (IsEndedWithin (length r)) (frames d past) → Each (IsEndedWithin (length (raw d (x ∷ past)))) (frames d past ++ frames_of_step d past x)
     more h =
-        let longer : length r ≤ length (raw_after r es) = raw_after-longer r es in
-        subst (λ (l : List Event). Each (IsEndedWithin (length l)) (frames d past ++ frames_of_step d past x)) (sym (raw-step d past x))
-        (Each-append (IsEndedWithin (length (raw_after r es))) (frames d past) (frames_of_step d past x)
-        (Each-weaker (IsEndedWithin (length r)) (IsEndedWithin (length (raw_after r es))) (λ f k. omega (arith, k, longer)) (frames d past) h)
-        (frames_by-within d past (moment_of x) es r))
+        let longer : length r ≤ length (raw_after r xs) = raw_after-longer r xs in
+        subst (λ (l : List RawItem). Each (IsEndedWithin (length l)) (frames d past ++ frames_of_step d past x)) (sym (raw-step d past x))
+        (Each-append (IsEndedWithin (length (raw_after r xs))) (frames d past) (frames_of_step d past x)
+        (Each-weaker (IsEndedWithin (length r)) (IsEndedWithin (length (raw_after r xs))) (λ f k. omega (arith, k, longer)) (frames d past) h)
+        (frames_by-within d past x xs r))

@@ -9,14 +9,16 @@ use Rattle.inp_model.specs.declared.event.Event.{Event}
 use Rattle.inp_model.specs.declared.step.Step.{Step}
 use Rattle.inp_model.specs.declared.step.Step.TheVariants.{GetKeys, GetSwitches, GetLeds, GetAxis, SyncSlots}
 use Rattle.inp_model.specs.Description.{Description}
+use Rattle.inp_model.specs.RawItem.{RawItem}
 use Rattle.inp_model.specs.State.{cell}
 use Rattle.inp_model.specs.Step.{client_of, is_same}
-use Rattle.inp_model.specs.Queue.{Entry, event_of, taken_by}
+use Rattle.inp_model.specs.Left.{Eats, eaten}
+use Rattle.inp_model.specs.Queue.{Entry, event_of, taken_by_with}
 use Rattle.inp_model.specs.Raw.{raw}
-use Rattle.inp_model.specs.Reply.{accepted, row, rows}
+use Rattle.inp_model.specs.Reply.{accepted_with, row, rows}
 use Rattle.inp_recon.specs.declared.view.View.{View}
 use Rattle.inp_recon.specs.View.{IsSizedFor, HasCells, with_value_at, view_after_event, view_after_events, view_after_answer}
-use Rattle.inp_recon.specs.ClientView.{view_after_step, client_view}
+use Rattle.inp_recon.specs.ClientView.{view_after_step_with, client_view_with, client_view}
 use Rattle.inp_recon.specs.Synchronised.{Part, AllKeys, AllSwitches, AllLeds, OneAxis, AllSlots, asks_for}
 use Rattle.inp_recon.proofs.Each.{and-left}
 use Rattle.inp_recon.proofs.Over.{over}
@@ -25,7 +27,7 @@ use Rattle.inp_recon.proofs.CallsLeft.{not_taken}
 
 -- ---- sizes
 
-length-rows_of : (d : Description) (r : List Event) (slots : List ℕ) → length (flat_map (row d r) slots) ≡ 14 * length slots
+length-rows_of : (d : Description) (r : List RawItem) (slots : List ℕ) → length (flat_map (row d r) slots) ≡ 14 * length slots
 length-rows_of d r [] = refl
 length-rows_of d r (slot ∷ slots) =
     let one : length (row d r slot) ≡ 14 = length-map-range_with_len (λ code. cell d r (pos slot) code) ABS_MT_TOUCH_MAJOR 14 in
@@ -35,34 +37,37 @@ length-range : (a n : ℕ) → length (range_with_len a n) ≡ n
 length-range a zero = refl
 length-range a (suc n) = ap suc (length-range (a + 1) n)
 
-pub length-rows : (d : Description) (r : List Event) → length (rows d r) ≡ 14 * d.slots
+pub length-rows : (d : Description) (r : List RawItem) → length (rows d r) ≡ 14 * d.slots
 length-rows d r = length-rows_of d r (range_with_len 0 d.slots) ∙ ap (λ (n : ℕ). 14 * n) (length-range 0 d.slots)
 
 -- the cells that are told are as many as the view has
-room : (d : Description) (past : List Step) (client : ℕ) (x : Step) (cells : List ℤ) → length cells ≡ 14 * d.slots → HasCells x (accepted d past x).reply cells (accepted d past x).cells
-room d past client (SyncSlots named) cells h = omega (arith, h, length-rows d (raw d past))
-room d past client x cells h = tt
+room : (eats : Eats) (d : Description) (past : List Step) (client : ℕ) (x : Step) (cells : List ℤ) → length cells ≡ 14 * d.slots → HasCells x (accepted_with eats d past x).reply cells (accepted_with eats d past x).cells
+room eats d past client (SyncSlots named) cells h = omega (arith, h, length-rows d (raw d past))
+room eats d past client x cells h = tt
 
 sized_if : (slots : ℕ) (b : Bool) (v w : View) → IsSizedFor slots v → IsSizedFor slots w → IsSizedFor slots (if b then v else w)
 sized_if slots true v w h k = h
 sized_if slots false v w h k = k
 
-pub client_view-sized : (d : Description) (past : List Step) (client : ℕ) → IsSizedFor d.slots (client_view d past client)
-unfolding client_view
-client_view-sized d [] client = IsSizedFor-first_view d
-client_view-sized d (x ∷ past) client = more (client_view-sized d past client)
+pub client_view_with-sized : (eats : Eats) (d : Description) (past : List Step) (client : ℕ) → IsSizedFor d.slots (client_view_with eats d past client)
+unfolding client_view_with
+client_view_with-sized eats d [] client = IsSizedFor-first_view d
+client_view_with-sized eats d (x ∷ past) client = more (client_view_with-sized eats d past client)
   where
     v : View
-    v = client_view d past client
+    v = client_view_with eats d past client
 
     es : List Event
-    es = map event_of (taken_by d past client x)
+    es = map event_of (taken_by_with eats d past client x)
 
-    more : IsSizedFor d.slots v → IsSizedFor d.slots (view_after_step d past client x v)
+    more : IsSizedFor d.slots v → IsSizedFor d.slots (view_after_step_with eats d past client x v)
     more h =
         let k : IsSizedFor d.slots (view_after_events v es) = IsSizedFor-after_events d.slots v es h in
         sized_if d.slots (is_same (client_of x) client) _ v
-        (IsSizedFor-after_answer d.slots (view_after_events v es) x (accepted d past x).reply (accepted d past x).cells (room d past client x (view_after_events v es).cells k.cells) k) h
+        (IsSizedFor-after_answer d.slots (view_after_events v es) x (accepted_with eats d past x).reply (accepted_with eats d past x).cells (room eats d past client x (view_after_events v es).cells k.cells) k) h
+
+pub client_view-sized : (d : Description) (past : List Step) (client : ℕ) → IsSizedFor d.slots (client_view d past client)
+client_view-sized d = client_view_with-sized (eaten d) d
 
 -- ---- one value of a view
 
@@ -76,10 +81,10 @@ asks-own AllSlots client (SyncSlots named) h = h
 asks-own part client _ h = absurd (let e : false ≡ true = h in cc)
 
 -- A value of the view follows the client's steps, where events change it by t and an answer tells it whole.
-module _ (d : Description) (client : ℕ) {V : Type 0} (t : V → Event → V) (part : Part) (told : List Event → V) (get : View → V)
+module _ (eats : Eats) (d : Description) (client : ℕ) {V : Type 0} (t : V → Event → V) (part : Part) (told : List RawItem → V) (get : View → V)
     (events : (v : View) (e : Event) → IsSizedFor d.slots v → get (view_after_event v e) ≡ t (get v) e)
     (answers : (past : List Step) (x : Step) (v : View) → IsSizedFor d.slots v → is_same (client_of x) client ≡ true
-    → get (view_after_answer v x (accepted d past x).reply (accepted d past x).cells) ≡ cond (asks_for part client x) (told (raw d past)) (get v)) where
+    → get (view_after_answer v x (accepted_with eats d past x).reply (accepted_with eats d past x).cells) ≡ cond (asks_for part client x) (told (raw d past)) (get v)) where
   pub get-after_events : (v : View) (es : List Event) → IsSizedFor d.slots v → get (view_after_events v es) ≡ over t (get v) es
   unfolding view_after_events
   get-after_events v [] h = refl
@@ -92,27 +97,27 @@ module _ (d : Description) (client : ℕ) {V : Type 0} (t : V → Event → V) (
       by true e = absurd (let bad : true ≡ false = sym (asks-own part client x e) ∙ h in cc)
       by false e = refl
 
-  pub get-follows : (past : List Step) (x : Step) → get (client_view d (x ∷ past) client) ≡ cond (asks_for part client x) (told (raw d past)) (over t (get (client_view d past client)) (map event_of (taken_by d past client x)))
-  unfolding client_view
+  pub get-follows : (past : List Step) (x : Step) → get (client_view_with eats d (x ∷ past) client) ≡ cond (asks_for part client x) (told (raw d past)) (over t (get (client_view_with eats d past client)) (map event_of (taken_by_with eats d past client x)))
+  unfolding client_view_with
   get-follows past x = by (is_same (client_of x) client) refl
     where
       v : View
-      v = client_view d past client
+      v = client_view_with eats d past client
 
       taken : List Entry
-      taken = taken_by d past client x
+      taken = taken_by_with eats d past client x
 
       next : View
-      next = view_after_answer (view_after_events v (map event_of taken)) x (accepted d past x).reply (accepted d past x).cells
+      next = view_after_answer (view_after_events v (map event_of taken)) x (accepted_with eats d past x).reply (accepted_with eats d past x).cells
 
       by : (b : Bool) → is_same (client_of x) client ≡ b → get (if is_same (client_of x) client then next else v) ≡ cond (asks_for part client x) (told (raw d past)) (over t (get v) (map event_of taken))
       by true own =
           ap (λ (b : Bool). get (if b then next else v)) own
-          ∙ answers past x (view_after_events v (map event_of taken)) (IsSizedFor-after_events d.slots v (map event_of taken) (client_view-sized d past client)) own
-          ∙ ap (λ w. cond (asks_for part client x) (told (raw d past)) w) (get-after_events v (map event_of taken) (client_view-sized d past client))
+          ∙ answers past x (view_after_events v (map event_of taken)) (IsSizedFor-after_events d.slots v (map event_of taken) (client_view_with-sized eats d past client)) own
+          ∙ ap (λ w. cond (asks_for part client x) (told (raw d past)) w) (get-after_events v (map event_of taken) (client_view_with-sized eats d past client))
       by false other =
           ap (λ (b : Bool). get (if b then next else v)) other
-          ∙ ap (λ (l : List Entry). over t (get v) (map event_of l)) (sym (not_taken d past client x other))
+          ∙ ap (λ (l : List Entry). over t (get v) (map event_of l)) (sym (not_taken eats d past client x other))
           ∙ ap (λ (b : Bool). cond b (told (raw d past)) (over t (get v) (map event_of taken))) (sym (not_asked x other))
 
 -- ---- a list with another value at an index

@@ -1,24 +1,25 @@
 -- When a client's view is the device's state (docs/RULES.md, "Faithful views").
 use Rattle.std.specs.Prelude.{ℕ, suc, ◌≡◌, ◌<◌, pos, true, false, List, [], ◌∷◌, map, take, slice_get, slice_index_or, Some, None}
-use Rattle.inp_model.specs.declared.event.Event.{Event}
 use Rattle.inp_model.specs.declared.step.Step.{Step}
 use Rattle.inp_model.specs.declared.step.Step.TheVariants.{Read}
+use Rattle.inp_model.specs.RawItem.{RawItem, Frame}
 use Rattle.inp_model.specs.Description.{Description, IsDescription}
 use Rattle.inp_model.specs.Event.{is_report}
 use Rattle.inp_model.specs.State.{key_down, switch_on, led_on, axis_value}
 use Rattle.inp_model.specs.Passed.{announced}
-use Rattle.inp_model.specs.Frame.{Frame, place}
-use Rattle.inp_model.specs.Queue.{Entry, event_of, taken_by, took}
-use Rattle.inp_model.specs.History.{IsHistory}
+use Rattle.inp_model.specs.Frame.{place}
+use Rattle.inp_model.specs.Left.{Eats, eaten}
+use Rattle.inp_model.specs.Queue.{Entry, event_of, taken_by_with, took_with}
+use Rattle.inp_model.specs.History.{IsHistoryWith}
 use Rattle.inp_model.specs.Reply.{rows}
 use Rattle.inp_recon.specs.declared.view.View.{View}
 use Rattle.inp_recon.specs.View.{view_after_events}
-use Rattle.inp_recon.specs.ClientView.{client_view, past_before_read, read_up_to, view_at}
-use Rattle.inp_recon.specs.Synchronised.{has_axis, sync_place, is_synchronised}
-use Rattle.inp_recon.specs.Undisturbed.{is_undisturbed}
+use Rattle.inp_recon.specs.ClientView.{client_view_with, past_before_read_with, read_up_to_with, view_at_with}
+use Rattle.inp_recon.specs.Synchronised.{has_axis, sync_place, is_synchronised_with}
+use Rattle.inp_recon.specs.Undisturbed.{is_undisturbed_with}
 
--- the view shows the device's state after the raw events r
-pub record IsDeviceState (d : Description) (r : List Event) (v : View) : Type 0 where
+-- the view shows the device's state after the items r
+pub record IsDeviceState (d : Description) (r : List RawItem) (v : View) : Type 0 where
   pub keys : (code : ℕ) → slice_index_or v.keys code false ≡ key_down d r code
   pub switches : (code : ℕ) → slice_index_or v.switches code false ≡ switch_on d r code
   pub leds : (code : ℕ) → slice_index_or v.leds code false ≡ led_on d r code
@@ -37,34 +38,42 @@ pub record IsReportAt (entries : List Entry) (j : ℕ) (f : Frame) : Type 0 wher
   pub frame : entry.frame ≡ Some f
 
 -- After this past a client that has taken these entries of its queue is synchronised, the frame was passed behind its
--- last query, and nothing was kept from the client up to the frame.
-pub record IsFollowed (d : Description) (past : List Step) (client : ℕ) (taken : List Entry) (f : Frame) : Type 0 where
-  pub synchronised : is_synchronised d past client taken ≡ true
+-- last query, nothing was kept from the client up to the frame, and no axis was described anew.
+pub record IsFollowedWith (eats : Eats) (d : Description) (past : List Step) (client : ℕ) (taken : List Entry) (f : Frame) : Type 0 where
+  pub synchronised : is_synchronised_with eats d past client taken ≡ true
   pub behind : sync_place past client < place f
-  pub undisturbed : is_undisturbed d past client f ≡ true
+  pub undisturbed : is_undisturbed_with eats d past client f ≡ true
 
 -- The view at each report that a client took is the device's state at the end of its frame, where it is followed.
-abbrev pub IsFaithful : Description → List Step → ℕ → Type 0
-IsFaithful d past client =
-    (i : ℕ) (f : Frame) → IsReportAt (took d past client) i f
-    → IsFollowed d (past_before_read d past client i) client (read_up_to d past client i) f
-    → IsDeviceState d f.cut.until (view_at d past client i)
+abbrev pub IsFaithfulWith : Eats → Description → List Step → ℕ → Type 0
+IsFaithfulWith eats d past client =
+    (i : ℕ) (f : Frame) → IsReportAt (took_with eats d past client) i f
+    → IsFollowedWith eats d (past_before_read_with eats d past client i) client (read_up_to_with eats d past client i) f
+    → IsDeviceState d f.cut.until (view_at_with eats d past client i)
 
 -- the same of a read after this past, at item j of what it takes
-abbrev pub IsFaithfulRead : Description → List Step → ℕ → ℕ → Type 0
-IsFaithfulRead d past client count =
-    let taken = taken_by d past client (Read client count) in
+abbrev pub IsFaithfulReadWith : Eats → Description → List Step → ℕ → ℕ → Type 0
+IsFaithfulReadWith eats d past client count =
+    let taken = taken_by_with eats d past client (Read client count) in
     (j : ℕ) (f : Frame) → IsReportAt taken j f
-    → IsFollowed d past client (take (suc j) taken) f
-    → IsDeviceState d f.cut.until (view_after_events (client_view d past client) (map event_of (take (suc j) taken)))
+    → IsFollowedWith eats d past client (take (suc j) taken) f
+    → IsDeviceState d f.cut.until (view_after_events (client_view_with eats d past client) (map event_of (take (suc j) taken)))
 
--- every history is faithful to every client
+-- every history is faithful to every client, whatever is left of its frames
 abbrev pub AreFaithful : Type 0
 AreFaithful =
-    (d : Description) (past : List Step) (client : ℕ) → IsDescription d → IsHistory d past → IsFaithful d past client
+    (eats : Eats) (d : Description) (past : List Step) (client : ℕ) → IsDescription d → IsHistoryWith eats d past → IsFaithfulWith eats d past client
 
 -- every accepted read is faithful
 abbrev pub AreReadsFaithful : Type 0
 AreReadsFaithful =
-    (d : Description) (past : List Step) (client count : ℕ) → IsDescription d → IsHistory d (Read client count ∷ past)
-    → IsFaithfulRead d past client count
+    (eats : Eats) (d : Description) (past : List Step) (client count : ℕ) → IsDescription d → IsHistoryWith eats d (Read client count ∷ past)
+    → IsFaithfulReadWith eats d past client count
+
+-- of the device's own choice of what is left
+
+abbrev pub IsFollowed : Description → List Step → ℕ → List Entry → Frame → Type 0
+IsFollowed d past client taken f = IsFollowedWith (eaten d) d past client taken f
+
+abbrev pub IsFaithful : Description → List Step → ℕ → Type 0
+IsFaithful d past client = IsFaithfulWith (eaten d) d past client

@@ -3,16 +3,19 @@ use Rattle.std.specs.Prelude.{◌≡◌, ℕ, ℤ, pos, Bool, true, false, nat_l
 use Rattle.inp_model.specs.declared.event.TheConstants.{EV_KEY, EV_REL}
 use Rattle.inp_model.specs.declared.event.Event.{Event}
 use Rattle.inp_model.specs.declared.step.Step.{Step}
-use Rattle.inp_model.specs.declared.step.Step.TheVariants.{Open, Read, Discard, GetKeys, GetAxis, SyncSlots, Grab, Ungrab, Mask, Clock as ToClock}
+use Rattle.inp_model.specs.declared.step.Step.TheVariants.{Open, Read, Discard, GetKeys, GetAxis, SyncSlots, Grab, Ungrab, Mask, Clock as ToClock, SetAxis, End}
 use Rattle.inp_model.specs.declared.clock.Clock.TheVariants.{Monotonic}
-use Rattle.inp_model.specs.Description.{Description, IsDescription, one_key}
+use Rattle.inp_model.specs.declared.axis_info.AxisInfo.{AxisInfo}
+use Rattle.inp_model.specs.declared.reply.Reply.TheVariants.{Axis}
+use Rattle.inp_model.specs.RawItem.{Frame}
+use Rattle.inp_model.specs.Description.{Description, IsDescription, one_key, no_info}
 use Rattle.inp_model.specs.State.{key_down, axis_value}
 use Rattle.inp_model.specs.Passed.{announced}
-use Rattle.inp_model.specs.Frame.{Frame, place}
+use Rattle.inp_model.specs.Frame.{place}
 use Rattle.inp_model.specs.Queue.{Entry, event_of, taken_by}
-use Rattle.inp_model.specs.Reply.{refused, rows}
+use Rattle.inp_model.specs.Reply.{refused, rows, alone}
 use Rattle.inp_model.specs.Examples.{key, report, of_kind}
-use Rattle.inp_model.specs.QueryExamples.{key_b, move, inject}
+use Rattle.inp_model.specs.QueryExamples.{key_b, move, inject, GivesOn}
 use Rattle.inp_model.specs.ClientExamples.{without_a}
 use Rattle.inp_model.specs.SlotExamples.{touchpad, slot, x, y, id}
 use Rattle.inp_recon.specs.declared.view.View.{View}
@@ -44,7 +47,7 @@ last_frame (x ∷ []) = x.frame
 last_frame (x ∷ y ∷ q) = last_frame (y ∷ q)
 
 abbrev pub or_none : Option Frame → Frame
-or_none None = record { cut = record { events = []; until = [] }; before = []; moment = 0 }
+or_none None = record { cut = record { events = []; until = [] }; before = []; step = End }
 or_none (Some f) = f
 
 -- after these steps, oldest first, client 0 takes all that it can read; the last of it is a report
@@ -201,3 +204,46 @@ NeedsNoGrabOfKeys =
     let steps : List Step =
     Open ∷ Open ∷ GetKeys 0 ∷ GetAxis 0 0 ∷ Grab 1 ∷ inject_all (key (pos 1) ∷ report ∷ []) ++ Ungrab 1 ∷ inject_all (key_b ∷ report ∷ []) in
     Judges board steps true true false × ShowsKey board steps 30 false true × ShowsKey board steps 48 true true
+
+-- the axis X at 9, and a motion, which moves no axis
+abbrev pub nine : AxisInfo
+nine = record no_info { value = pos 9 }
+
+abbrev pub motion : List Step
+motion = inject_all (of_kind EV_REL (pos 1) ∷ report ∷ [])
+
+-- X 5 waits in the batch while X is described anew with 9, and the client discards and asks for it only then. The event is
+-- read behind the answer, and sets the view back.
+abbrev pub described_in_the_batch : List Step
+described_in_the_batch = Open ∷ inject move ∷ SetAxis 0 0 nine ∷ Discard 0 ∷ []
+
+abbrev pub NeedsNoDescriptionInTheBatch : Type 0
+NeedsNoDescriptionInTheBatch =
+    let steps : List Step = described_in_the_batch ++ GetAxis 0 0 ∷ inject report ∷ [] in
+    GivesOn stick described_in_the_batch (GetAxis 0 0) (alone (Axis 4 nine))
+    × (map event_of (taken_after stick steps) ≡ move ∷ report ∷ [])
+    × Judges stick steps true true false × ShowsX stick steps (pos 5) (pos 9)
+
+-- a description behind the last query is not told
+abbrev pub NeedsNoDescriptionSince : Type 0
+NeedsNoDescriptionSince =
+    let steps : List Step = Open ∷ GetAxis 0 0 ∷ SetAxis 0 0 nine ∷ motion in
+    Judges stick steps true true false × ShowsX stick steps (pos 0) (pos 9)
+
+-- one behind the frame changes nothing of what the device was at its end
+abbrev pub FollowsUpToADescription : Type 0
+FollowsUpToADescription =
+    let steps : List Step = Open ∷ GetAxis 0 0 ∷ inject_all (move ∷ report ∷ []) ++ SetAxis 0 0 nine ∷ [] in
+    Judges stick steps true true true × ShowsX stick steps (pos 5) (pos 5)
+
+-- One that a frame followed before the client discarded is told, and nothing waits that could undo it.
+abbrev pub FollowsFromADescriptionOn : Type 0
+FollowsFromADescriptionOn =
+    let steps : List Step = Open ∷ SetAxis 0 0 nine ∷ motion ++ Discard 0 ∷ GetAxis 0 0 ∷ motion in
+    Judges stick steps true true true × ShowsX stick steps (pos 9) (pos 9)
+
+-- Where no frame came between a description and the start nothing is promised, though here the view is right.
+abbrev pub PromisesNothingWithoutAFrame : Type 0
+PromisesNothingWithoutAFrame =
+    let steps : List Step = Open ∷ SetAxis 0 0 nine ∷ Discard 0 ∷ GetAxis 0 0 ∷ motion in
+    Judges stick steps true true false × ShowsX stick steps (pos 9) (pos 9)

@@ -8,7 +8,8 @@ use Rattle.inp_model.specs.declared.step.Step.{Step}
 use Rattle.inp_model.specs.declared.step.Step.TheVariants.{Discard, GetKeys, GetSwitches, GetLeds, GetAxis, SyncSlots}
 use Rattle.inp_model.specs.Description.{Description, has_kind, supports, is_multi_touch_code}
 use Rattle.inp_model.specs.Past.{is_opening}
-use Rattle.inp_model.specs.Queue.{Entry, event_of, taken_by}
+use Rattle.inp_model.specs.Left.{Eats, eaten}
+use Rattle.inp_model.specs.Queue.{Entry, event_of, taken_by_with}
 
 -- what a client may ask for, to bring its view up to date
 pub data Part : Type 0 where
@@ -67,11 +68,14 @@ has_asked part (x ∷ past) client =
     if is_start past client x then false else asks_for part client x || before
 
 -- the entries that the client took since its start
-unfoldable pub taken_since_start : Description → List Step → ℕ → List Entry
-taken_since_start d [] client = []
-taken_since_start d (x ∷ past) client =
-    let before = taken_since_start d past client in
-    if is_start past client x then [] else before ++ taken_by d past client x
+unfoldable pub taken_since_start_with : Eats → Description → List Step → ℕ → List Entry
+taken_since_start_with eats d [] client = []
+taken_since_start_with eats d (x ∷ past) client =
+    let before = taken_since_start_with eats d past client in
+    if is_start past client x then [] else before ++ taken_by_with eats d past client x
+
+abbrev pub taken_since_start : Description → List Step → ℕ → List Entry
+taken_since_start d past client = taken_since_start_with (eaten d) d past client
 
 -- it tells a client that it lost events
 abbrev pub is_dropped : Event → Bool
@@ -91,11 +95,14 @@ has_asked_where has_it part past client = not has_it || has_asked part past clie
 
 -- Since its start the client asked for everything that the device has and a view keeps, and took no loss; `taken` is
 -- what it takes now.
-unfoldable pub is_synchronised : Description → List Step → ℕ → List Entry → Bool
-is_synchronised d past client taken =
+unfoldable pub is_synchronised_with : Eats → Description → List Step → ℕ → List Entry → Bool
+is_synchronised_with eats d past client taken =
     has_asked_where (has_kind d EV_KEY) AllKeys past client
     && has_asked_where (has_kind d EV_SW) AllSwitches past client
     && has_asked_where (has_kind d EV_LED) AllLeds past client
     && list_all (λ code. has_asked_where (has_axis d code) (OneAxis code) past client) (range_with_len 0 (ABS_MAX + 1))
     && has_asked_where (nat_lt 0 d.slots) AllSlots past client
-    && has_no_loss (taken_since_start d past client ++ taken)
+    && has_no_loss (taken_since_start_with eats d past client ++ taken)
+
+abbrev pub is_synchronised : Description → List Step → ℕ → List Entry → Bool
+is_synchronised d past client taken = is_synchronised_with (eaten d) d past client taken

@@ -56,3 +56,23 @@ returns-clause-law c = (
   record { entry = _; at = refl; report = refl; frame = refl },
   record { synchronised = refl; behind = omega arith; undisturbed = refl },
 )
+
+pub returns-clause-described : goal.returns-clause-described
+unfolding computing
+returns-clause-described c = (refl, refl, (refl, refl, refl, refl), (refl, refl))
+
+pub returns-clause-described_since : goal.returns-clause-described_since
+unfolding computing
+returns-clause-described_since c = ((refl, refl, refl, refl), (refl, refl))
+
+pub returns-clause-described_later : goal.returns-clause-described_later
+unfolding computing
+returns-clause-described_later c = ((refl, refl, refl, refl), (refl, refl))
+
+pub returns-clause-described_before : goal.returns-clause-described_before
+unfolding computing
+returns-clause-described_before c = ((refl, refl, refl, refl), (refl, refl))
+
+pub returns-clause-described_unframed : goal.returns-clause-described_unframed
+unfolding computing
+returns-clause-described_unframed c = ((refl, refl, refl, refl), (refl, refl))
