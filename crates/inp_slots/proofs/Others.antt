@@ -1,13 +1,17 @@
--- Neither an event that is not multi-touch nor a frame changes a slot. For whoever keeps slots beside a state.
+-- Neither an event that is not multi-touch, nor a description of an axis, nor a frame changes a slot. For whoever keeps
+-- slots beside a state.
 use Rattle.std.proofs.Common.{◌≡◌, ℕ, true, false, ℤ, pos, List, ◌∷◌, refl, sym, ◌∙◌, arith}
 use Rattle.std.proofs.lemmas.Bool.Decides.{nat_tests}
 use Rattle.std.specs.Prelude.{is_some}
 use Rattle.inp_model.specs.declared.event.TheConstants.{EV_ABS}
 use Rattle.inp_model.specs.declared.multi_touch.TheConstants.{ABS_MT_SLOT}
 use Rattle.inp_model.specs.declared.event.Event.{Event}
+use Rattle.inp_model.specs.declared.axis_info.AxisInfo.{AxisInfo}
+use Rattle.inp_model.specs.RawItem.{RawItem, Occurred, Described}
 use Rattle.inp_model.specs.Description.{Description, is_slot_code, is_multi_touch_code}
 use Rattle.inp_model.specs.Event.{is_on, is_multi_touch, is_slot_value}
-use Rattle.inp_model.specs.Passed.{passes_as}
+use Rattle.inp_model.specs.State.{staged, cell}
+use Rattle.inp_model.specs.Passed.{passes_as, announced}
 use Rattle.inp_slots.specs.Slots.{SlotValues, SlotsStandFor}
 use Rattle.inp_slots.proofs.Steps.{no_and, staged-stays, announced-stays, cell-stays}
 
@@ -23,7 +27,7 @@ multi_touch-slot : (code : ℕ) → is_slot_code code ≡ true → is_multi_touc
 multi_touch-slot code h = grind (arith, nat_tests)
 
 -- what stood for the events before it stands for them with it
-pub SlotsStandFor-other : (d : Description) (r : List Event) (s : SlotValues) (e : Event) → is_multi_touch e ≡ false → SlotsStandFor d r s → SlotsStandFor d (e ∷ r) s
+pub SlotsStandFor-other : (d : Description) (r : List RawItem) (s : SlotValues) (e : Event) → is_multi_touch e ≡ false → SlotsStandFor d r s → SlotsStandFor d (Occurred e ∷ r) s
 SlotsStandFor-other d r s e m h = record {
   count = h.count;
   staged = h.staged ∙ sym (staged-stays d r e (off_multi_touch d ABS_MT_SLOT e m refl));
@@ -31,6 +35,11 @@ SlotsStandFor-other d r s e m h = record {
   values = λ slot code l k. h.values slot code l k ∙ sym (cell-stays d r e (pos slot) code (off_multi_touch d code e m (multi_touch-slot code k)));
 }
 
+-- the same of an axis that is described anew
+pub SlotsStandFor-described : (d : Description) (r : List RawItem) (s : SlotValues) (code : ℕ) (i : AxisInfo) → SlotsStandFor d r s → SlotsStandFor d (Described code i ∷ r) s
+unfolding staged announced cell
+SlotsStandFor-described d r s code i h = record { count = h.count; staged = h.staged; announced = h.announced; values = h.values }
+
 -- a frame changes no slot: what stood for the events stands for them with another slot at the frame's end
-pub SlotsStandFor-frame : (d : Description) (r : List Event) (s : SlotValues) (slot : ℤ) → SlotsStandFor d r s → SlotsStandFor d r (record s { at_frame = slot })
+pub SlotsStandFor-frame : (d : Description) (r : List RawItem) (s : SlotValues) (slot : ℤ) → SlotsStandFor d r s → SlotsStandFor d r (record s { at_frame = slot })
 SlotsStandFor-frame d r s slot h = record { count = h.count; staged = h.staged; announced = h.announced; values = h.values }

@@ -7,6 +7,7 @@ use Rattle.std.specs.Ordering.{int_eq}
 use Rattle.inp_model.specs.declared.event.TheConstants.{EV_ABS}
 use Rattle.inp_model.specs.declared.multi_touch.TheConstants.{ABS_MT_SLOT}
 use Rattle.inp_model.specs.declared.event.Event.{Event}
+use Rattle.inp_model.specs.RawItem.{RawItem, Occurred}
 use Rattle.inp_model.specs.Description.{Description, supports, info}
 use Rattle.inp_model.specs.Event.{is_on, is_slot_value}
 use Rattle.inp_model.specs.Defuzz.{defuzz}
@@ -76,38 +77,38 @@ off_all d code value other h =
 
 -- ---- the staged slot
 
-pub staged-stays : (d : Description) (r : List Event) (e : Event) → is_on d EV_ABS ABS_MT_SLOT e ≡ false → staged d (e ∷ r) ≡ staged d r
+pub staged-stays : (d : Description) (r : List RawItem) (e : Event) → is_on d EV_ABS ABS_MT_SLOT e ≡ false → staged d (Occurred e ∷ r) ≡ staged d r
 unfolding staged
 staged-stays d r e h = no_first (is_on d EV_ABS ABS_MT_SLOT e) (is_slot d e.value) e.value (staged d r) h
 
-pub staged-named : (d : Description) (r : List Event) (e : Event) → is_on d EV_ABS ABS_MT_SLOT e ≡ true → staged d (e ∷ r) ≡ (if is_slot d e.value then e.value else staged d r)
+pub staged-named : (d : Description) (r : List RawItem) (e : Event) → is_on d EV_ABS ABS_MT_SLOT e ≡ true → staged d (Occurred e ∷ r) ≡ (if is_slot d e.value then e.value else staged d r)
 unfolding staged
 staged-named d r e h = yes_first (is_on d EV_ABS ABS_MT_SLOT e) (is_slot d e.value) e.value (staged d r) h
 
 -- ---- the values
 
-pub cell-stays : (d : Description) (r : List Event) (e : Event) (slot : ℤ) (code : ℕ) → is_on d EV_ABS code e ≡ false → cell d (e ∷ r) slot code ≡ cell d r slot code
+pub cell-stays : (d : Description) (r : List RawItem) (e : Event) (slot : ℤ) (code : ℕ) → is_on d EV_ABS code e ≡ false → cell d (Occurred e ∷ r) slot code ≡ cell d r slot code
 unfolding cell
 cell-stays d r e slot code h =
     no_first (is_on d EV_ABS code e) (int_eq (staged d r) slot) (defuzz e.value (cell d r slot code) (info d code).fuzz) (cell d r slot code) h
 
-pub cell-not_staged : (d : Description) (r : List Event) (e : Event) (slot : ℤ) (code : ℕ) → (staged d r ≡ slot → ⊥) → cell d (e ∷ r) slot code ≡ cell d r slot code
+pub cell-not_staged : (d : Description) (r : List RawItem) (e : Event) (slot : ℤ) (code : ℕ) → (staged d r ≡ slot → ⊥) → cell d (Occurred e ∷ r) slot code ≡ cell d r slot code
 unfolding cell
 cell-not_staged d r e slot code h =
     no_second (is_on d EV_ABS code e) (int_eq (staged d r) slot) (defuzz e.value (cell d r slot code) (info d code).fuzz) (cell d r slot code) (int_other (staged d r) slot h)
 
-pub cell-moves : (d : Description) (r : List Event) (e : Event) (slot : ℤ) (code : ℕ) → is_on d EV_ABS code e ≡ true → staged d r ≡ slot → cell d (e ∷ r) slot code ≡ defuzz e.value (cell d r slot code) (info d code).fuzz
+pub cell-moves : (d : Description) (r : List RawItem) (e : Event) (slot : ℤ) (code : ℕ) → is_on d EV_ABS code e ≡ true → staged d r ≡ slot → cell d (Occurred e ∷ r) slot code ≡ defuzz e.value (cell d r slot code) (info d code).fuzz
 unfolding cell
 cell-moves d r e slot code h k =
     yes_both (is_on d EV_ABS code e) (int_eq (staged d r) slot) (defuzz e.value (cell d r slot code) (info d code).fuzz) (cell d r slot code) h (int_same (staged d r) slot k)
 
 -- ---- the announced slot
 
-pub announced-stays : (d : Description) (r : List Event) (e : Event) → passes_slot_value d r e ≡ false → announced d (e ∷ r) ≡ announced d r
+pub announced-stays : (d : Description) (r : List RawItem) (e : Event) → passes_slot_value d r e ≡ false → announced d (Occurred e ∷ r) ≡ announced d r
 unfolding announced
 announced-stays d r e h = no_only (passes_slot_value d r e) (staged d r) (announced d r) h
 
-pub announced-tells : (d : Description) (r : List Event) (e : Event) → passes_slot_value d r e ≡ true → announced d (e ∷ r) ≡ staged d r
+pub announced-tells : (d : Description) (r : List RawItem) (e : Event) → passes_slot_value d r e ≡ true → announced d (Occurred e ∷ r) ≡ staged d r
 unfolding announced
 announced-tells d r e h = yes_only (passes_slot_value d r e) (staged d r) (announced d r) h
 
@@ -117,7 +118,7 @@ tells_nothing true None h = refl
 tells_nothing false None h = refl
 
 -- an event that is not passed tells no slot
-pub announced-not_passed : (d : Description) (r : List Event) (e : Event) → passes_as d r e ≡ None → announced d (e ∷ r) ≡ announced d r
+pub announced-not_passed : (d : Description) (r : List RawItem) (e : Event) → passes_as d r e ≡ None → announced d (Occurred e ∷ r) ≡ announced d r
 announced-not_passed d r e h = announced-stays d r e (tells_nothing (is_slot_value e) (passes_as d r e) h)
 
 tells : (b : Bool) (given : Option ℤ) (v : ℤ) → b ≡ true → given ≡ Some v → (b && is_some given) ≡ true
@@ -126,5 +127,5 @@ tells true None v h k = absurd (cc k)
 tells false given v h k = absurd (cc h)
 
 -- a value of a slot that is passed tells the staged one
-pub announced-passed : (d : Description) (r : List Event) (e : Event) (value : ℤ) → is_slot_value e ≡ true → passes_as d r e ≡ Some value → announced d (e ∷ r) ≡ staged d r
+pub announced-passed : (d : Description) (r : List RawItem) (e : Event) (value : ℤ) → is_slot_value e ≡ true → passes_as d r e ≡ Some value → announced d (Occurred e ∷ r) ≡ staged d r
 announced-passed d r e value h k = announced-tells d r e (tells (is_slot_value e) (passes_as d r e) value h k)

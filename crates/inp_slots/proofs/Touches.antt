@@ -8,6 +8,7 @@ use Rattle.std.specs.Ordering.{int_eq}
 use Rattle.inp_model.specs.declared.event.TheConstants.{EV_ABS}
 use Rattle.inp_model.specs.declared.multi_touch.TheConstants.{ABS_MT_SLOT, ABS_MT_TOUCH_MAJOR}
 use Rattle.inp_model.specs.declared.event.Event.{Event}
+use Rattle.inp_model.specs.RawItem.{RawItem, Occurred}
 use Rattle.inp_model.specs.Description.{Description, supports, info, is_slot_code}
 use Rattle.inp_model.specs.Defuzz.{defuzz}
 use Rattle.inp_model.specs.State.{staged, cell, is_slot}
@@ -20,7 +21,7 @@ use Rattle.inp_slots.proofs.Passes.{passes-unsupported, passes-name, passes-with
 
 -- ---- a code that is not supported
 
-pub unsupported-stands : (d : Description) (r : List Event) (s : SlotValues) (code : ℕ) (value : ℤ) → supports d EV_ABS code ≡ false → SlotsStandFor d r s → SlotsStandFor d (touch code value ∷ r) s
+pub unsupported-stands : (d : Description) (r : List RawItem) (s : SlotValues) (code : ℕ) (value : ℤ) → supports d EV_ABS code ≡ false → SlotsStandFor d r s → SlotsStandFor d (Occurred (touch code value) ∷ r) s
 unsupported-stands d r s code value u h =
     let e : Event = touch code value in
     record {
@@ -39,14 +40,14 @@ record_if : (b : Bool) (s : SlotValues) (slot : ℤ) → (if b then record s { s
 record_if true s slot = refl
 record_if false s slot = refl
 
-pub name-stands : (d : Description) (r : List Event) (s : SlotValues) (value : ℤ) → supports d EV_ABS ABS_MT_SLOT ≡ true → SlotsStandFor d r s → SlotsStandFor d (touch ABS_MT_SLOT value ∷ r) (named s value)
+pub name-stands : (d : Description) (r : List RawItem) (s : SlotValues) (value : ℤ) → supports d EV_ABS ABS_MT_SLOT ≡ true → SlotsStandFor d r s → SlotsStandFor d (Occurred (touch ABS_MT_SLOT value) ∷ r) (named s value)
 name-stands d r s value u h =
     let e : Event = touch ABS_MT_SLOT value in
     let there : has_slot s value ≡ is_slot d value = ap (λ (n : ℕ). not (int_lt value (pos 0)) && int_lt value (pos n)) h.count in
-    let after : (if has_slot s value then value else s.staged) ≡ staged d (e ∷ r) =
+    let after : (if has_slot s value then value else s.staged) ≡ staged d (Occurred e ∷ r) =
     ap (λ (b : Bool). if b then value else s.staged) there ∙ ap (λ (z : ℤ). if is_slot d value then value else z) h.staged
     ∙ sym (staged-named d r e (on_code d ABS_MT_SLOT value u)) in
-    subst (SlotsStandFor d (e ∷ r)) (sym (record_if (has_slot s value) s value))
+    subst (SlotsStandFor d (Occurred e ∷ r)) (sym (record_if (has_slot s value) s value))
     (record {
       count = h.count;
       staged = after;
@@ -59,7 +60,7 @@ name-stands d r s value u h =
 none_below : (n k : ℕ) → nat_eq n 0 ≡ true → k < n → ⊥
 none_below n k h l = absurd (grind (arith, nat_tests))
 
-pub value-stands-without_slots : (d : Description) (r : List Event) (s : SlotValues) (code : ℕ) (value : ℤ) → nat_eq d.slots 0 ≡ true → is_slot_code code ≡ true → supports d EV_ABS code ≡ true → s.staged ≡ s.announced → SlotsStandFor d r s → SlotsStandFor d (touch code value ∷ r) s
+pub value-stands-without_slots : (d : Description) (r : List RawItem) (s : SlotValues) (code : ℕ) (value : ℤ) → nat_eq d.slots 0 ≡ true → is_slot_code code ≡ true → supports d EV_ABS code ≡ true → s.staged ≡ s.announced → SlotsStandFor d r s → SlotsStandFor d (Occurred (touch code value) ∷ r) s
 value-stands-without_slots d r s code value z k u same h =
     let e : Event = touch code value in
     record {
@@ -76,7 +77,7 @@ place_by (pos k) n h = (refl, grind (arith, nat_tests))
 place_by (negsuc k) n h = absurd (cc h)
 
 -- what stands beside the move of the staged slot
-pub record Before (d : Description) (r : List Event) (s : SlotValues) (code : ℕ) : Type 0 where
+pub record Before (d : Description) (r : List RawItem) (s : SlotValues) (code : ℕ) : Type 0 where
   pub supported : supports d EV_ABS code ≡ true
   pub slot_code : is_slot_code code ≡ true
   pub there : has_slot s s.staged ≡ true
@@ -84,14 +85,14 @@ pub record Before (d : Description) (r : List Event) (s : SlotValues) (code : �
   pub stands : SlotsStandFor d r s
 
 -- the value that the staged slot has
-before_is : (d : Description) (r : List Event) (s : SlotValues) (code : ℕ) → Before d r s code → on_axis (staged_slot s) code ≡ cell d r (staged d r) code
+before_is : (d : Description) (r : List RawItem) (s : SlotValues) (code : ℕ) → Before d r s code → on_axis (staged_slot s) code ≡ cell d r (staged d r) code
 before_is d r s code b =
     let p = place_by s.staged (length s.slots) b.there in
     let l : unsigned_abs s.staged < d.slots = omega (arith, p, b.stands.count) in
     b.stands.values (unsigned_abs s.staged) code l b.slot_code ∙ ap (λ (z : ℤ). cell d r z code) (p.0 ∙ b.stands.staged)
 
 -- the value that it takes
-after_is : (d : Description) (r : List Event) (s : SlotValues) (code : ℕ) (value : ℤ) → Before d r s code → taken (staged_slot s) code value (info d code).fuzz ≡ cell_after d r (touch code value)
+after_is : (d : Description) (r : List RawItem) (s : SlotValues) (code : ℕ) (value : ℤ) → Before d r s code → taken (staged_slot s) code value (info d code).fuzz ≡ cell_after d r (touch code value)
 after_is d r s code value b =
     ap (λ (z : ℤ). defuzz value z (info d code).fuzz) (before_is d r s code b)
     ∙ sym (cell-moves d r (touch code value) (staged d r) code (on_code d code value b.supported) refl)
@@ -103,7 +104,7 @@ some_slots : (n k : ℕ) → k < n → nat_eq n 0 ≡ false
 some_slots n k h = grind (arith, nat_tests)
 
 -- the value under which it is passed
-change-passes : (d : Description) (r : List Event) (s : SlotValues) (code : ℕ) (value : ℤ) → Before d r s code → change (staged_slot s) code value (info d code).fuzz ≡ passes_as d r (touch code value)
+change-passes : (d : Description) (r : List RawItem) (s : SlotValues) (code : ℕ) (value : ℤ) → Before d r s code → change (staged_slot s) code value (info d code).fuzz ≡ passes_as d r (touch code value)
 change-passes d r s code value b =
     let p = place_by s.staged (length s.slots) b.there in
     let l : unsigned_abs s.staged < d.slots = omega (arith, p, b.stands.count) in
@@ -117,7 +118,7 @@ axes_differ : (code other : ℕ) → is_slot_code code ≡ true → is_slot_code
 axes_differ code other h k n p = absurd (grind (arith, nat_tests))
 
 -- the values of all slots after the move
-values_after : (d : Description) (r : List Event) (s : SlotValues) (code : ℕ) (value : ℤ) → Before d r s code → (slot other : ℕ) → slot < d.slots → is_slot_code other ≡ true → value_at (moved s code value (info d code).fuzz) slot other ≡ cell d (touch code value ∷ r) (pos slot) other
+values_after : (d : Description) (r : List RawItem) (s : SlotValues) (code : ℕ) (value : ℤ) → Before d r s code → (slot other : ℕ) → slot < d.slots → is_slot_code other ≡ true → value_at (moved s code value (info d code).fuzz) slot other ≡ cell d (Occurred (touch code value) ∷ r) (pos slot) other
 values_after d r s code value b slot other l q =
     let e : Event = touch code value in
     let k : ℕ = unsigned_abs s.staged in
@@ -126,12 +127,12 @@ values_after d r s code value b slot other l q =
     let after : ℤ = taken (staged_slot s) code value (info d code).fuzz in
     let new : List ℤ = with_value (staged_slot s) code after in
     elim (cases_eq slot k) [
-      | inl same ↦ subst (λ (n : ℕ). get_or (get_or (set s.slots k new) n []) (other - ABS_MT_TOUCH_MAJOR) (pos 0) ≡ cell d (e ∷ r) (pos n) other) (sym same)
+      | inl same ↦ subst (λ (n : ℕ). get_or (get_or (set s.slots k new) n []) (other - ABS_MT_TOUCH_MAJOR) (pos 0) ≡ cell d (Occurred e ∷ r) (pos n) other) (sym same)
           (ap (λ (xs : List ℤ). get_or xs (other - ABS_MT_TOUCH_MAJOR) (pos 0)) (get_or-set_same s.slots k new [] p.1)
           ∙ elim (cases_eq other code) [
-            | inl alike ↦ subst (λ (n : ℕ). get_or new (n - ABS_MT_TOUCH_MAJOR) (pos 0) ≡ cell d (e ∷ r) (pos k) n) (sym alike)
+            | inl alike ↦ subst (λ (n : ℕ). get_or new (n - ABS_MT_TOUCH_MAJOR) (pos 0) ≡ cell d (Occurred e ∷ r) (pos k) n) (sym alike)
                 (get_or-set_same (staged_slot s) (code - ABS_MT_TOUCH_MAJOR) after (pos 0) (subst (λ (n : ℕ). code - ABS_MT_TOUCH_MAJOR < n) (sym b.len) (axis_place code b.slot_code))
-                ∙ after_is d r s code value b ∙ ap (λ (z : ℤ). cell d (e ∷ r) z code) now)
+                ∙ after_is d r s code value b ∙ ap (λ (z : ℤ). cell d (Occurred e ∷ r) z code) now)
             | inr differs ↦ get_or-set_other (staged_slot s) (code - ABS_MT_TOUCH_MAJOR) (other - ABS_MT_TOUCH_MAJOR) after (pos 0) (axes_differ code other b.slot_code q differs)
                 ∙ b.stands.values k other (subst (λ (n : ℕ). k < n) b.stands.count p.1) q
                 ∙ sym (cell-stays d r e (pos k) other (off_code d code value other differs))
@@ -142,7 +143,7 @@ values_after d r s code value b slot other l q =
     ]
 
 -- the whole, by the slot announced after it
-moved-stands : (d : Description) (r : List Event) (s : SlotValues) (code : ℕ) (value told : ℤ) → Before d r s code → told ≡ announced d (touch code value ∷ r) → SlotsStandFor d (touch code value ∷ r) (record (moved s code value (info d code).fuzz) { announced = told })
+moved-stands : (d : Description) (r : List RawItem) (s : SlotValues) (code : ℕ) (value told : ℤ) → Before d r s code → told ≡ announced d (Occurred (touch code value) ∷ r) → SlotsStandFor d (Occurred (touch code value) ∷ r) (record (moved s code value (info d code).fuzz) { announced = told })
 moved-stands d r s code value told b t =
     let e : Event = touch code value in
     record {
@@ -160,24 +161,24 @@ same_change slot code v w f g p q = ap (λ (z : ℤ). change slot code z f) p �
 same_moved : (s : SlotValues) (code : ℕ) (v w f g : ℤ) → v ≡ w → f ≡ g → moved s code v f ≡ moved s code w g
 same_moved s code v w f g p q = ap (λ (z : ℤ). moved s code z f) p ∙ ap (λ (z : ℤ). moved s code w z) q
 
-pub given-passes : (d : Description) (r : List Event) (s : SlotValues) (code : ℕ) (value v f : ℤ) (given : Option ℤ) → v ≡ value → f ≡ (info d code).fuzz → given ≡ change (staged_slot s) code v f → Before d r s code → passes_as d r (touch code value) ≡ given
+pub given-passes : (d : Description) (r : List RawItem) (s : SlotValues) (code : ℕ) (value v f : ℤ) (given : Option ℤ) → v ≡ value → f ≡ (info d code).fuzz → given ≡ change (staged_slot s) code v f → Before d r s code → passes_as d r (touch code value) ≡ given
 given-passes d r s code value v f given p q g b =
     sym (g ∙ same_change (staged_slot s) code v value f (info d code).fuzz p q ∙ change-passes d r s code value b)
 
 -- it is passed, and the staged slot is announced
-pub passed-stands : (d : Description) (r : List Event) (s : SlotValues) (code : ℕ) (value v f given : ℤ) (m n : SlotValues) → v ≡ value → f ≡ (info d code).fuzz → m ≡ moved s code v f → n ≡ record m { announced = m.staged } → passes_as d r (touch code value) ≡ Some given → Before d r s code → SlotsStandFor d (touch code value ∷ r) n
+pub passed-stands : (d : Description) (r : List RawItem) (s : SlotValues) (code : ℕ) (value v f given : ℤ) (m n : SlotValues) → v ≡ value → f ≡ (info d code).fuzz → m ≡ moved s code v f → n ≡ record m { announced = m.staged } → passes_as d r (touch code value) ≡ Some given → Before d r s code → SlotsStandFor d (Occurred (touch code value) ∷ r) n
 passed-stands d r s code value v f given m n p q w z g b =
     let e : Event = touch code value in
     let to : n ≡ record (moved s code value (info d code).fuzz) { announced = s.staged } =
     z ∙ ap (λ (x : SlotValues). record x { announced = x.staged }) (w ∙ same_moved s code v value f (info d code).fuzz p q) in
-    subst (SlotsStandFor d (e ∷ r)) (sym to)
+    subst (SlotsStandFor d (Occurred e ∷ r)) (sym to)
     (moved-stands d r s code value s.staged b (b.stands.staged ∙ sym (announced-passed d r e given b.slot_code g)))
 
 -- it is not passed
-pub kept-stands : (d : Description) (r : List Event) (s : SlotValues) (code : ℕ) (value v f : ℤ) (m : SlotValues) → v ≡ value → f ≡ (info d code).fuzz → m ≡ moved s code v f → passes_as d r (touch code value) ≡ None → Before d r s code → SlotsStandFor d (touch code value ∷ r) m
+pub kept-stands : (d : Description) (r : List RawItem) (s : SlotValues) (code : ℕ) (value v f : ℤ) (m : SlotValues) → v ≡ value → f ≡ (info d code).fuzz → m ≡ moved s code v f → passes_as d r (touch code value) ≡ None → Before d r s code → SlotsStandFor d (Occurred (touch code value) ∷ r) m
 kept-stands d r s code value v f m p q w g b =
     let e : Event = touch code value in
-    subst (SlotsStandFor d (e ∷ r)) (sym (w ∙ same_moved s code v value f (info d code).fuzz p q))
+    subst (SlotsStandFor d (Occurred e ∷ r)) (sym (w ∙ same_moved s code v value f (info d code).fuzz p q))
     (moved-stands d r s code value s.announced b (b.stands.announced ∙ sym (announced-not_passed d r e g)))
 
 abbrev told_flags : Bool → ℕ
@@ -186,11 +187,11 @@ told_flags same = if same then 1 else 5
 same_flags : (a b x y : ℤ) → a ≡ x → b ≡ y → told_flags (int_eq a b) ≡ told_flags (int_eq x y)
 same_flags a b x y p q = ap (λ (z : ℤ). told_flags (int_eq z b)) p ∙ ap (λ (z : ℤ). told_flags (int_eq x z)) q
 
-pub passed-flags : (d : Description) (r : List Event) (s : SlotValues) (code : ℕ) (value v f given : ℤ) (m : SlotValues) (flags : ℕ) → m ≡ moved s code v f → flags ≡ (if is_announced m then 1 else 5) → passes_as d r (touch code value) ≡ Some given → Before d r s code → flags ≡ flags_after d r (touch code value)
+pub passed-flags : (d : Description) (r : List RawItem) (s : SlotValues) (code : ℕ) (value v f given : ℤ) (m : SlotValues) (flags : ℕ) → m ≡ moved s code v f → flags ≡ (if is_announced m then 1 else 5) → passes_as d r (touch code value) ≡ Some given → Before d r s code → flags ≡ flags_after d r (touch code value)
 passed-flags d r s code value v f given m flags w z g b =
     z ∙ ap (λ (x : SlotValues). told_flags (is_announced x)) w
     ∙ same_flags s.staged s.announced (staged d r) (announced d r) b.stands.staged b.stands.announced
     ∙ sym (flags-value d r code value (Some given) b.slot_code g)
 
-pub kept-flags : (d : Description) (r : List Event) (s : SlotValues) (code : ℕ) (value : ℤ) → passes_as d r (touch code value) ≡ None → Before d r s code → 0 ≡ flags_after d r (touch code value)
+pub kept-flags : (d : Description) (r : List RawItem) (s : SlotValues) (code : ℕ) (value : ℤ) → passes_as d r (touch code value) ≡ None → Before d r s code → 0 ≡ flags_after d r (touch code value)
 kept-flags d r s code value g b = sym (flags-value d r code value None b.slot_code g)

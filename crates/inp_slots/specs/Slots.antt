@@ -3,6 +3,7 @@ use Rattle.std.specs.Prelude.{◌≡◌, ◌<◌, ℕ, ◌-◌, ℤ, pos, true, 
 use Rattle.inp_model.specs.declared.event.TheConstants.{EV_ABS}
 use Rattle.inp_model.specs.declared.multi_touch.TheConstants.{ABS_MT_TOUCH_MAJOR}
 use Rattle.inp_model.specs.declared.event.Event.{Event}
+use Rattle.inp_model.specs.RawItem.{RawItem}
 use Rattle.inp_model.specs.Description.{Description, is_slot_code}
 use Rattle.inp_model.specs.State.{staged, cell}
 use Rattle.inp_model.specs.Passed.{announced}
@@ -22,7 +23,7 @@ abbrev pub value_at : SlotValues → ℕ → ℕ → ℤ
 value_at s slot code = slice_index_or (slice_index_or s.slots slot []) (code - ABS_MT_TOUCH_MAJOR) (pos 0)
 
 -- on a device with this description these are the values after the raw events r, newest first
-pub record SlotsStandFor (d : Description) (r : List Event) (s : SlotValues) : Type 0 where
+pub record SlotsStandFor (d : Description) (r : List RawItem) (s : SlotValues) : Type 0 where
   pub count : length s.slots ≡ d.slots
   pub staged : s.staged ≡ staged d r
   pub announced : s.announced ≡ announced d r

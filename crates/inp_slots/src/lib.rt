@@ -5,15 +5,16 @@
 //! [`Disposition`](inp_caps::Disposition) and for `defuzz`.
 //!
 //! Its contract: `inp_model` says what the staged slot, the announced slot and each slot's values are after a list of raw
-//! events, by the last writes while that slot was staged. A [`Slots`] keeps no list; `SlotsStandFor`
-//! (`specs/Slots.antt`) says for which lists it stands. A new one stands for the empty list, and after [`Slots::apply`]
-//! it stands for the list with one event more, for each list that it stood for. What becomes of an event, and what the
+//! events and descriptions of axes, by the last writes while that slot was staged. A [`Slots`] keeps no list;
+//! `SlotsStandFor` (`specs/Slots.antt`) says for which lists it stands. A new one stands for the empty list, and after
+//! [`Slots::apply`] it stands for the list with one event more, for each list that it stood for. What becomes of an event, and what the
 //! calls answer, are the model's for each such list. An event takes the same time whatever came before, and memory is
 //! taken when the slots are made and never again.
 //!
 //! A slot keeps its fourteen values in fields with the axes' names, and a contract sees the list of them by ascending
-//! codes. `proofs/Others.antt` is for whoever keeps slots beside a state: an event that is not multi-touch changes no
-//! slot, and neither does a frame.
+//! codes. `proofs/Others.antt` is for whoever keeps slots beside a state: neither an event that is not multi-touch nor a
+//! description of an axis changes a slot, and neither does a frame. The axes whose values belong to slots are never
+//! described anew, so their fuzz is the one that `Caps` has.
 #![tactic(auto)]
 
 mod slot;

@@ -2,6 +2,7 @@
 ghost use Rattle.std.specs.Prelude.{◌≡◌, ◌≤◌, ◌<◌, ℕ, pos, true, if◌then◌else◌, List, [], ◌∷◌, length, unwrap_or, IfOk};
 ghost use Rattle.inp_model.specs.declared.event.TheConstants.{EV_ABS};
 ghost use Rattle.inp_model.specs.declared.event.Event.{Event};
+ghost use Rattle.inp_model.specs.RawItem.{RawItem, Occurred};
 ghost use Rattle.inp_model.specs.Description.{Description, is_multi_touch_code, is_slot_code};
 ghost use Rattle.inp_model.specs.State.{staged, cell};
 ghost use Rattle.inp_model.specs.Passed.{passes_as, announced};
@@ -72,11 +73,11 @@ impl Slots {
     pub fn apply(&mut self, caps: &Caps, code: u16, value: i32) -> (Disposition, i32)
         requires multi_touch { is_multi_touch_code code ≡ true }
         requires count { length self.old.slots ≡ caps.now.slots }
-        ensures stands { (r : List Event) → SlotsStandFor caps.now r self.old
-            → SlotsStandFor caps.now (touch code value ∷ r) self.new }
-        ensures disposition { (r : List Event) → SlotsStandFor caps.now r self.old
+        ensures stands { (r : List RawItem) → SlotsStandFor caps.now r self.old
+            → SlotsStandFor caps.now (Occurred (touch code value) ∷ r) self.new }
+        ensures disposition { (r : List RawItem) → SlotsStandFor caps.now r self.old
             → flags_of result.0 ≡ flags_after caps.now r (touch code value) }
-        ensures value { (r : List Event) → SlotsStandFor caps.now r self.old
+        ensures value { (r : List RawItem) → SlotsStandFor caps.now r self.old
             → result.1 ≡ unwrap_or (passes_as caps.now r (touch code value)) value }
         ensures count { length self.new.slots ≡ length self.old.slots }
         ensures at_frame { self.new.at_frame ≡ self.old.at_frame }
@@ -145,7 +146,7 @@ impl Slots {
     /// The slot that the next values belong to.
     pub fn staged(&self) -> i32
         ensures value { result ≡ self.now.staged }
-        ensures staged { (d : Description) (r : List Event) → SlotsStandFor d r self.now
+        ensures staged { (d : Description) (r : List RawItem) → SlotsStandFor d r self.now
             → result ≡ staged d r }
     {
         self.staged as i32
@@ -154,7 +155,7 @@ impl Slots {
     /// The slot that was announced last.
     pub fn announced(&self) -> i32
         ensures value { result ≡ self.now.announced }
-        ensures announced { (d : Description) (r : List Event) → SlotsStandFor d r self.now
+        ensures announced { (d : Description) (r : List RawItem) → SlotsStandFor d r self.now
             → result ≡ announced d r }
     {
         self.announced as i32
@@ -172,7 +173,7 @@ impl Slots {
         requires slot { slot < length self.now.slots }
         requires code { is_slot_code code ≡ true }
         ensures value { result ≡ value_at self.now slot code }
-        ensures cell { (d : Description) (r : List Event) → SlotsStandFor d r self.now
+        ensures cell { (d : Description) (r : List RawItem) → SlotsStandFor d r self.now
             → result ≡ cell d r (pos slot) code }
     {
         self.slots[slot as usize].value(code)
