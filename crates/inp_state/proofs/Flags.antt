@@ -3,6 +3,7 @@ use Rattle.std.proofs.Common.{◌≡◌, Bool, true, false, ◌&&◌, not, refl,
 use Rattle.std.specs.Ordering.{int_eq}
 use Rattle.std.proofs.lemmas.Bool.Decides.{nat_tests}
 use Rattle.inp_model.specs.declared.event.Event.{Event}
+use Rattle.inp_model.specs.RawItem.{RawItem}
 use Rattle.inp_model.specs.Description.{Description}
 use Rattle.inp_model.specs.Event.{is_report, is_multi_touch, is_slot_value}
 use Rattle.inp_model.specs.State.{staged}
@@ -18,7 +19,7 @@ none_of true b c h = absurd (cc h)
 none_of false b c h = refl
 
 -- no slot is announced before it
-pub announces-other : (d : Description) (r : List Event) (e : Event) → is_multi_touch e ≡ false → announces d r e ≡ false
+pub announces-other : (d : Description) (r : List RawItem) (e : Event) → is_multi_touch e ≡ false → announces d r e ≡ false
 announces-other d r e h = none_of (is_slot_value e) (is_some (passes_as d r e)) (not (int_eq (staged d r) (announced d r))) (no_slot_value e h)
 
 either_order : (a b : Bool) → (a && b) ≡ (b && a)
@@ -27,7 +28,7 @@ either_order true false = refl
 either_order false true = refl
 either_order false false = refl
 
-pub flags-other : (d : Description) (r : List Event) (e : Event) → is_multi_touch e ≡ false → flags_by (is_some (passes_as d r e)) e ≡ flags_after d r e
+pub flags-other : (d : Description) (r : List RawItem) (e : Event) → is_multi_touch e ≡ false → flags_by (is_some (passes_as d r e)) e ≡ flags_after d r e
 flags-other d r e h =
     let passed = is_some (passes_as d r e) in
     ap (λ (b : Bool). flags passed b false (passed && is_report e)) (either_order passed (is_output e))

@@ -5,10 +5,12 @@ use Rattle.std.proofs.lemmas.Bool.{cases_eq}
 use Rattle.std.proofs.lemmas.Bool.Decides.{nat_tests}
 use Rattle.inp_model.specs.declared.event.TheConstants.{EV_KEY, EV_ABS, EV_SW, EV_LED, EV_SND, EV_REP, REP_DELAY, REP_PERIOD, ABS_MAX}
 use Rattle.inp_model.specs.declared.event.Event.{Event}
-use Rattle.inp_model.specs.Description.{Description, supports, info, is_multi_touch_code}
+use Rattle.inp_model.specs.declared.axis_info.AxisInfo.{AxisInfo}
+use Rattle.inp_model.specs.RawItem.{RawItem, Occurred, Described}
+use Rattle.inp_model.specs.Description.{Description, supports, no_info, is_multi_touch_code}
 use Rattle.inp_model.specs.Event.{is_on, is_repeat, is_set, is_negative, is_multi_touch}
 use Rattle.inp_model.specs.Defuzz.{defuzz}
-use Rattle.inp_model.specs.State.{key_down, turned_on, repeat_setting, axis_value}
+use Rattle.inp_model.specs.State.{key_down, turned_on, repeat_setting, axis_info, axis_value}
 use Rattle.inp_state.specs.State.{Values, StandsFor}
 
 abbrev pub event : ℕ → ℕ → ℤ → Event
@@ -85,109 +87,114 @@ not_so : (b : Bool) → b ≡ true → not b ≡ false
 not_so true h = refl
 not_so false h = absurd (cc h)
 
-pub key_down-stays : (d : Description) (r : List Event) (e : Event) (code : ℕ) → is_on d EV_KEY code e ≡ false → key_down d (e ∷ r) code ≡ key_down d r code
+pub key_down-stays : (d : Description) (r : List RawItem) (e : Event) (code : ℕ) → is_on d EV_KEY code e ≡ false → key_down d (Occurred e ∷ r) code ≡ key_down d r code
 unfolding key_down
 key_down-stays d r e code h = no_first (is_on d EV_KEY code e) (not (is_repeat e)) (is_set e) (key_down d r code) h
 
-pub key_down-repeat : (d : Description) (r : List Event) (e : Event) (code : ℕ) → is_repeat e ≡ true → key_down d (e ∷ r) code ≡ key_down d r code
+pub key_down-repeat : (d : Description) (r : List RawItem) (e : Event) (code : ℕ) → is_repeat e ≡ true → key_down d (Occurred e ∷ r) code ≡ key_down d r code
 unfolding key_down
 key_down-repeat d r e code h = no_second (is_on d EV_KEY code e) (not (is_repeat e)) (is_set e) (key_down d r code) (not_so (is_repeat e) h)
 
-pub key_down-set : (d : Description) (r : List Event) (e : Event) (code : ℕ) → is_on d EV_KEY code e ≡ true → is_repeat e ≡ false → key_down d (e ∷ r) code ≡ is_set e
+pub key_down-set : (d : Description) (r : List RawItem) (e : Event) (code : ℕ) → is_on d EV_KEY code e ≡ true → is_repeat e ≡ false → key_down d (Occurred e ∷ r) code ≡ is_set e
 unfolding key_down
 key_down-set d r e code h k = yes_both (is_on d EV_KEY code e) (not (is_repeat e)) (is_set e) (key_down d r code) h (not_of (is_repeat e) k)
 
-pub turned_on-stays : (d : Description) (r : List Event) (e : Event) (kind code : ℕ) → is_on d kind code e ≡ false → turned_on d (e ∷ r) kind code ≡ turned_on d r kind code
+pub turned_on-stays : (d : Description) (r : List RawItem) (e : Event) (kind code : ℕ) → is_on d kind code e ≡ false → turned_on d (Occurred e ∷ r) kind code ≡ turned_on d r kind code
 unfolding turned_on
 turned_on-stays d r e kind code h = no_only (is_on d kind code e) (is_set e) (turned_on d r kind code) h
 
-pub turned_on-set : (d : Description) (r : List Event) (e : Event) (kind code : ℕ) → is_on d kind code e ≡ true → turned_on d (e ∷ r) kind code ≡ is_set e
+pub turned_on-set : (d : Description) (r : List RawItem) (e : Event) (kind code : ℕ) → is_on d kind code e ≡ true → turned_on d (Occurred e ∷ r) kind code ≡ is_set e
 unfolding turned_on
 turned_on-set d r e kind code h = yes_only (is_on d kind code e) (is_set e) (turned_on d r kind code) h
 
-pub repeat_setting-stays : (d : Description) (r : List Event) (e : Event) (code : ℕ) → is_on d EV_REP code e ≡ false → repeat_setting d (e ∷ r) code ≡ repeat_setting d r code
+pub repeat_setting-stays : (d : Description) (r : List RawItem) (e : Event) (code : ℕ) → is_on d EV_REP code e ≡ false → repeat_setting d (Occurred e ∷ r) code ≡ repeat_setting d r code
 unfolding repeat_setting
 repeat_setting-stays d r e code h = no_first (is_on d EV_REP code e) (not (is_negative e)) e.value (repeat_setting d r code) h
 
-pub repeat_setting-negative : (d : Description) (r : List Event) (e : Event) (code : ℕ) → is_negative e ≡ true → repeat_setting d (e ∷ r) code ≡ repeat_setting d r code
+pub repeat_setting-negative : (d : Description) (r : List RawItem) (e : Event) (code : ℕ) → is_negative e ≡ true → repeat_setting d (Occurred e ∷ r) code ≡ repeat_setting d r code
 unfolding repeat_setting
 repeat_setting-negative d r e code h = no_second (is_on d EV_REP code e) (not (is_negative e)) e.value (repeat_setting d r code) (not_so (is_negative e) h)
 
-pub repeat_setting-set : (d : Description) (r : List Event) (e : Event) (code : ℕ) → is_on d EV_REP code e ≡ true → is_negative e ≡ false → repeat_setting d (e ∷ r) code ≡ e.value
+pub repeat_setting-set : (d : Description) (r : List RawItem) (e : Event) (code : ℕ) → is_on d EV_REP code e ≡ true → is_negative e ≡ false → repeat_setting d (Occurred e ∷ r) code ≡ e.value
 unfolding repeat_setting
 repeat_setting-set d r e code h k = yes_both (is_on d EV_REP code e) (not (is_negative e)) e.value (repeat_setting d r code) h (not_of (is_negative e) k)
 
-pub axis_value-stays : (d : Description) (r : List Event) (e : Event) (code : ℕ) → is_on d EV_ABS code e ≡ false → axis_value d (e ∷ r) code ≡ axis_value d r code
+pub axis_value-stays : (d : Description) (r : List RawItem) (e : Event) (code : ℕ) → is_on d EV_ABS code e ≡ false → axis_value d (Occurred e ∷ r) code ≡ axis_value d r code
 unfolding axis_value
-axis_value-stays d r e code h = no_first (is_on d EV_ABS code e) (not (is_multi_touch e)) (defuzz e.value (axis_value d r code) (info d code).fuzz) (axis_value d r code) h
+axis_value-stays d r e code h = no_first (is_on d EV_ABS code e) (not (is_multi_touch e)) (defuzz e.value (axis_value d r code) (axis_info d r code).fuzz) (axis_value d r code) h
 
-pub axis_value-moves : (d : Description) (r : List Event) (e : Event) (code : ℕ) → is_on d EV_ABS code e ≡ true → is_multi_touch e ≡ false → axis_value d (e ∷ r) code ≡ defuzz e.value (axis_value d r code) (info d code).fuzz
+pub axis_value-moves : (d : Description) (r : List RawItem) (e : Event) (code : ℕ) → is_on d EV_ABS code e ≡ true → is_multi_touch e ≡ false → axis_value d (Occurred e ∷ r) code ≡ defuzz e.value (axis_value d r code) (axis_info d r code).fuzz
 unfolding axis_value
-axis_value-moves d r e code h k = yes_both (is_on d EV_ABS code e) (not (is_multi_touch e)) (defuzz e.value (axis_value d r code) (info d code).fuzz) (axis_value d r code) h (not_of (is_multi_touch e) k)
+axis_value-moves d r e code h k = yes_both (is_on d EV_ABS code e) (not (is_multi_touch e)) (defuzz e.value (axis_value d r code) (axis_info d r code).fuzz) (axis_value d r code) h (not_of (is_multi_touch e) k)
+
+pub infos_kept : (d : Description) (r : List RawItem) (s : Values) (e : Event) → ((k : ℕ) → k ≤ ABS_MAX → get_or s.infos k no_info ≡ axis_info d r k) → (k : ℕ) → k ≤ ABS_MAX → get_or s.infos k no_info ≡ axis_info d (Occurred e ∷ r) k
+unfolding axis_info
+infos_kept d r s e h k b = h k b
 
 -- ---- one part, at an event on a code of it
 
-keys_by : (d : Description) (r : List Event) (keys : List Bool) (code : ℕ) (value : ℤ) (repeat : Bool) → is_repeat (event EV_KEY code value) ≡ repeat → ((k : ℕ) → get_or keys k false ≡ key_down d r k) → supports d EV_KEY code ≡ true → code < length keys → (k : ℕ) → get_or (if repeat then keys else set keys code (is_set (event EV_KEY code value))) k false ≡ key_down d (event EV_KEY code value ∷ r) k
+keys_by : (d : Description) (r : List RawItem) (keys : List Bool) (code : ℕ) (value : ℤ) (repeat : Bool) → is_repeat (event EV_KEY code value) ≡ repeat → ((k : ℕ) → get_or keys k false ≡ key_down d r k) → supports d EV_KEY code ≡ true → code < length keys → (k : ℕ) → get_or (if repeat then keys else set keys code (is_set (event EV_KEY code value))) k false ≡ key_down d (Occurred (event EV_KEY code value) ∷ r) k
 keys_by d r keys code value true p h s l k = h k ∙ sym (key_down-repeat d r (event EV_KEY code value) k p)
 keys_by d r keys code value false p h s l k =
     let e : Event = event EV_KEY code value in
     elim (cases_eq k code) [
-      | inl same ↦ ap (λ (n : ℕ). get_or (set keys code (is_set e)) n false) same ∙ get_or-set_same keys code (is_set e) false l ∙ sym (key_down-set d r e code (on_code d EV_KEY code value s) p) ∙ ap (key_down d (e ∷ r)) (sym same)
+      | inl same ↦ ap (λ (n : ℕ). get_or (set keys code (is_set e)) n false) same ∙ get_or-set_same keys code (is_set e) false l ∙ sym (key_down-set d r e code (on_code d EV_KEY code value s) p) ∙ ap (key_down d (Occurred e ∷ r)) (sym same)
       | inr other ↦ get_or-set_other keys code k (is_set e) false other ∙ h k ∙ sym (key_down-stays d r e k (off_code d EV_KEY k e other))
     ]
 
-pub keys_after : (d : Description) (r : List Event) (keys : List Bool) (code : ℕ) (value : ℤ) → ((k : ℕ) → get_or keys k false ≡ key_down d r k) → supports d EV_KEY code ≡ true → code < length keys → (k : ℕ) → get_or (if is_repeat (event EV_KEY code value) then keys else set keys code (is_set (event EV_KEY code value))) k false ≡ key_down d (event EV_KEY code value ∷ r) k
+pub keys_after : (d : Description) (r : List RawItem) (keys : List Bool) (code : ℕ) (value : ℤ) → ((k : ℕ) → get_or keys k false ≡ key_down d r k) → supports d EV_KEY code ≡ true → code < length keys → (k : ℕ) → get_or (if is_repeat (event EV_KEY code value) then keys else set keys code (is_set (event EV_KEY code value))) k false ≡ key_down d (Occurred (event EV_KEY code value) ∷ r) k
 keys_after d r keys code value h s l k = keys_by d r keys code value (is_repeat (event EV_KEY code value)) refl h s l k
 
-pub bits_after : (d : Description) (r : List Event) (bits : List Bool) (kind code : ℕ) (value : ℤ) → ((k : ℕ) → get_or bits k false ≡ turned_on d r kind k) → supports d kind code ≡ true → code < length bits → (k : ℕ) → get_or (set bits code (is_set (event kind code value))) k false ≡ turned_on d (event kind code value ∷ r) kind k
+pub bits_after : (d : Description) (r : List RawItem) (bits : List Bool) (kind code : ℕ) (value : ℤ) → ((k : ℕ) → get_or bits k false ≡ turned_on d r kind k) → supports d kind code ≡ true → code < length bits → (k : ℕ) → get_or (set bits code (is_set (event kind code value))) k false ≡ turned_on d (Occurred (event kind code value) ∷ r) kind k
 bits_after d r bits kind code value h s l k =
     let e : Event = event kind code value in
     elim (cases_eq k code) [
-      | inl same ↦ ap (λ (n : ℕ). get_or (set bits code (is_set e)) n false) same ∙ get_or-set_same bits code (is_set e) false l ∙ sym (turned_on-set d r e kind code (on_code d kind code value s)) ∙ ap (turned_on d (e ∷ r) kind) (sym same)
+      | inl same ↦ ap (λ (n : ℕ). get_or (set bits code (is_set e)) n false) same ∙ get_or-set_same bits code (is_set e) false l ∙ sym (turned_on-set d r e kind code (on_code d kind code value s)) ∙ ap (turned_on d (Occurred e ∷ r) kind) (sym same)
       | inr other ↦ get_or-set_other bits code k (is_set e) false other ∙ h k ∙ sym (turned_on-stays d r e kind k (off_code d kind k e other))
     ]
 
-pub axes_after : (d : Description) (r : List Event) (axes : List ℤ) (code : ℕ) (value : ℤ) → ((k : ℕ) → k ≤ ABS_MAX → get_or axes k (pos 0) ≡ axis_value d r k) → supports d EV_ABS code ≡ true → is_multi_touch (event EV_ABS code value) ≡ false → code ≤ ABS_MAX → code < length axes → (k : ℕ) → k ≤ ABS_MAX → get_or (set axes code (defuzz value (get_or axes code (pos 0)) (info d code).fuzz)) k (pos 0) ≡ axis_value d (event EV_ABS code value ∷ r) k
+pub axes_after : (d : Description) (r : List RawItem) (axes : List ℤ) (code : ℕ) (value : ℤ) → ((k : ℕ) → k ≤ ABS_MAX → get_or axes k (pos 0) ≡ axis_value d r k) → supports d EV_ABS code ≡ true → is_multi_touch (event EV_ABS code value) ≡ false → code ≤ ABS_MAX → code < length axes → (k : ℕ) → k ≤ ABS_MAX → get_or (set axes code (defuzz value (get_or axes code (pos 0)) (axis_info d r code).fuzz)) k (pos 0) ≡ axis_value d (Occurred (event EV_ABS code value) ∷ r) k
 axes_after d r axes code value h s m w l k b =
     let e : Event = event EV_ABS code value in
-    let after : ℤ = defuzz value (get_or axes code (pos 0)) (info d code).fuzz in
+    let after : ℤ = defuzz value (get_or axes code (pos 0)) (axis_info d r code).fuzz in
     elim (cases_eq k code) [
-      | inl same ↦ ap (λ (n : ℕ). get_or (set axes code after) n (pos 0)) same ∙ get_or-set_same axes code after (pos 0) l ∙ ap (λ (o : ℤ). defuzz value o (info d code).fuzz) (h code w) ∙ sym (axis_value-moves d r e code (on_code d EV_ABS code value s) m) ∙ ap (axis_value d (e ∷ r)) (sym same)
+      | inl same ↦ ap (λ (n : ℕ). get_or (set axes code after) n (pos 0)) same ∙ get_or-set_same axes code after (pos 0) l ∙ ap (λ (o : ℤ). defuzz value o (axis_info d r code).fuzz) (h code w) ∙ sym (axis_value-moves d r e code (on_code d EV_ABS code value s) m) ∙ ap (axis_value d (Occurred e ∷ r)) (sym same)
       | inr other ↦ get_or-set_other axes code k after (pos 0) other ∙ h k b ∙ sym (axis_value-stays d r e k (off_code d EV_ABS k e other))
     ]
 
-setting_by : (d : Description) (r : List Event) (setting : ℤ) (code : ℕ) (value : ℤ) (negative : Bool) → is_negative (event EV_REP code value) ≡ negative → setting ≡ repeat_setting d r code → supports d EV_REP code ≡ true → (if negative then setting else value) ≡ repeat_setting d (event EV_REP code value ∷ r) code
+setting_by : (d : Description) (r : List RawItem) (setting : ℤ) (code : ℕ) (value : ℤ) (negative : Bool) → is_negative (event EV_REP code value) ≡ negative → setting ≡ repeat_setting d r code → supports d EV_REP code ≡ true → (if negative then setting else value) ≡ repeat_setting d (Occurred (event EV_REP code value) ∷ r) code
 setting_by d r setting code value true p h s = h ∙ sym (repeat_setting-negative d r (event EV_REP code value) code p)
 setting_by d r setting code value false p h s = sym (repeat_setting-set d r (event EV_REP code value) code (on_code d EV_REP code value s) p)
 
-pub setting_after : (d : Description) (r : List Event) (setting : ℤ) (code : ℕ) (value : ℤ) → setting ≡ repeat_setting d r code → supports d EV_REP code ≡ true → (if is_negative (event EV_REP code value) then setting else value) ≡ repeat_setting d (event EV_REP code value ∷ r) code
+pub setting_after : (d : Description) (r : List RawItem) (setting : ℤ) (code : ℕ) (value : ℤ) → setting ≡ repeat_setting d r code → supports d EV_REP code ≡ true → (if is_negative (event EV_REP code value) then setting else value) ≡ repeat_setting d (Occurred (event EV_REP code value) ∷ r) code
 setting_after d r setting code value h s = setting_by d r setting code value (is_negative (event EV_REP code value)) refl h s
 
 -- ---- the whole state
 
 -- at an event that is on no code of any part
-pub StandsFor-still : (d : Description) (r : List Event) (s : Values) (e : Event) → ((code : ℕ) → is_on d EV_KEY code e ≡ false) → ((code : ℕ) → is_on d EV_SW code e ≡ false) → ((code : ℕ) → is_on d EV_LED code e ≡ false) → ((code : ℕ) → is_on d EV_SND code e ≡ false) → ((code : ℕ) → is_on d EV_ABS code e ≡ false) → ((code : ℕ) → is_on d EV_REP code e ≡ false) → StandsFor d r s → StandsFor d (e ∷ r) s
+pub StandsFor-still : (d : Description) (r : List RawItem) (s : Values) (e : Event) → ((code : ℕ) → is_on d EV_KEY code e ≡ false) → ((code : ℕ) → is_on d EV_SW code e ≡ false) → ((code : ℕ) → is_on d EV_LED code e ≡ false) → ((code : ℕ) → is_on d EV_SND code e ≡ false) → ((code : ℕ) → is_on d EV_ABS code e ≡ false) → ((code : ℕ) → is_on d EV_REP code e ≡ false) → StandsFor d r s → StandsFor d (Occurred e ∷ r) s
 StandsFor-still d r s e key sw led snd abs rep h = record {
   keys = λ k. h.keys k ∙ sym (key_down-stays d r e k (key k));
   switches = λ k. h.switches k ∙ sym (turned_on-stays d r e EV_SW k (sw k));
   leds = λ k. h.leds k ∙ sym (turned_on-stays d r e EV_LED k (led k));
   sounds = λ k. h.sounds k ∙ sym (turned_on-stays d r e EV_SND k (snd k));
   axes = λ k b. h.axes k b ∙ sym (axis_value-stays d r e k (abs k));
+  infos = infos_kept d r s e h.infos;
   delay = h.delay ∙ sym (repeat_setting-stays d r e REP_DELAY (rep REP_DELAY));
   period = h.period ∙ sym (repeat_setting-stays d r e REP_PERIOD (rep REP_PERIOD));
 }
 
 -- at an event that is not supported
-pub StandsFor-unsupported : (d : Description) (r : List Event) (s : Values) (e : Event) → supports d e.kind e.code ≡ false → StandsFor d r s → StandsFor d (e ∷ r) s
+pub StandsFor-unsupported : (d : Description) (r : List RawItem) (s : Values) (e : Event) → supports d e.kind e.code ≡ false → StandsFor d r s → StandsFor d (Occurred e ∷ r) s
 StandsFor-unsupported d r s e u h =
     StandsFor-still d r s e (λ k. off_all d EV_KEY k e u) (λ k. off_all d EV_SW k e u) (λ k. off_all d EV_LED k e u) (λ k. off_all d EV_SND k e u) (λ k. off_all d EV_ABS k e u) (λ k. off_all d EV_REP k e u) h
 
 -- at an event of a type without state
-pub StandsFor-stateless : (d : Description) (r : List Event) (s : Values) (e : Event) → nat_eq e.kind EV_KEY ≡ false → nat_eq e.kind EV_SW ≡ false → nat_eq e.kind EV_LED ≡ false → nat_eq e.kind EV_SND ≡ false → nat_eq e.kind EV_ABS ≡ false → nat_eq e.kind EV_REP ≡ false → StandsFor d r s → StandsFor d (e ∷ r) s
+pub StandsFor-stateless : (d : Description) (r : List RawItem) (s : Values) (e : Event) → nat_eq e.kind EV_KEY ≡ false → nat_eq e.kind EV_SW ≡ false → nat_eq e.kind EV_LED ≡ false → nat_eq e.kind EV_SND ≡ false → nat_eq e.kind EV_ABS ≡ false → nat_eq e.kind EV_REP ≡ false → StandsFor d r s → StandsFor d (Occurred e ∷ r) s
 StandsFor-stateless d r s e key sw led snd abs rep h =
     StandsFor-still d r s e (λ k. off_kind d EV_KEY k e key) (λ k. off_kind d EV_SW k e sw) (λ k. off_kind d EV_LED k e led) (λ k. off_kind d EV_SND k e snd) (λ k. off_kind d EV_ABS k e abs) (λ k. off_kind d EV_REP k e rep) h
 
-pub StandsFor-key : (d : Description) (r : List Event) (s : Values) (code : ℕ) (value : ℤ) → supports d EV_KEY code ≡ true → code < length s.keys → StandsFor d r s → StandsFor d (event EV_KEY code value ∷ r) (record s { keys = if is_repeat (event EV_KEY code value) then s.keys else set s.keys code (is_set (event EV_KEY code value)) })
+pub StandsFor-key : (d : Description) (r : List RawItem) (s : Values) (code : ℕ) (value : ℤ) → supports d EV_KEY code ≡ true → code < length s.keys → StandsFor d r s → StandsFor d (Occurred (event EV_KEY code value) ∷ r) (record s { keys = if is_repeat (event EV_KEY code value) then s.keys else set s.keys code (is_set (event EV_KEY code value)) })
 StandsFor-key d r s code value u l h =
     let e : Event = event EV_KEY code value in
     record {
@@ -196,11 +203,12 @@ StandsFor-key d r s code value u l h =
       leds = λ k. h.leds k ∙ sym (turned_on-stays d r e EV_LED k (off_kind d EV_LED k e refl));
       sounds = λ k. h.sounds k ∙ sym (turned_on-stays d r e EV_SND k (off_kind d EV_SND k e refl));
       axes = λ k b. h.axes k b ∙ sym (axis_value-stays d r e k (off_kind d EV_ABS k e refl));
+      infos = infos_kept d r s e h.infos;
       delay = h.delay ∙ sym (repeat_setting-stays d r e REP_DELAY (off_kind d EV_REP REP_DELAY e refl));
       period = h.period ∙ sym (repeat_setting-stays d r e REP_PERIOD (off_kind d EV_REP REP_PERIOD e refl));
     }
 
-pub StandsFor-switch : (d : Description) (r : List Event) (s : Values) (code : ℕ) (value : ℤ) → supports d EV_SW code ≡ true → code < length s.switches → StandsFor d r s → StandsFor d (event EV_SW code value ∷ r) (record s { switches = set s.switches code (is_set (event EV_SW code value)) })
+pub StandsFor-switch : (d : Description) (r : List RawItem) (s : Values) (code : ℕ) (value : ℤ) → supports d EV_SW code ≡ true → code < length s.switches → StandsFor d r s → StandsFor d (Occurred (event EV_SW code value) ∷ r) (record s { switches = set s.switches code (is_set (event EV_SW code value)) })
 StandsFor-switch d r s code value u l h =
     let e : Event = event EV_SW code value in
     record {
@@ -209,11 +217,12 @@ StandsFor-switch d r s code value u l h =
       leds = λ k. h.leds k ∙ sym (turned_on-stays d r e EV_LED k (off_kind d EV_LED k e refl));
       sounds = λ k. h.sounds k ∙ sym (turned_on-stays d r e EV_SND k (off_kind d EV_SND k e refl));
       axes = λ k b. h.axes k b ∙ sym (axis_value-stays d r e k (off_kind d EV_ABS k e refl));
+      infos = infos_kept d r s e h.infos;
       delay = h.delay ∙ sym (repeat_setting-stays d r e REP_DELAY (off_kind d EV_REP REP_DELAY e refl));
       period = h.period ∙ sym (repeat_setting-stays d r e REP_PERIOD (off_kind d EV_REP REP_PERIOD e refl));
     }
 
-pub StandsFor-led : (d : Description) (r : List Event) (s : Values) (code : ℕ) (value : ℤ) → supports d EV_LED code ≡ true → code < length s.leds → StandsFor d r s → StandsFor d (event EV_LED code value ∷ r) (record s { leds = set s.leds code (is_set (event EV_LED code value)) })
+pub StandsFor-led : (d : Description) (r : List RawItem) (s : Values) (code : ℕ) (value : ℤ) → supports d EV_LED code ≡ true → code < length s.leds → StandsFor d r s → StandsFor d (Occurred (event EV_LED code value) ∷ r) (record s { leds = set s.leds code (is_set (event EV_LED code value)) })
 StandsFor-led d r s code value u l h =
     let e : Event = event EV_LED code value in
     record {
@@ -222,11 +231,12 @@ StandsFor-led d r s code value u l h =
       leds = bits_after d r s.leds EV_LED code value h.leds u l;
       sounds = λ k. h.sounds k ∙ sym (turned_on-stays d r e EV_SND k (off_kind d EV_SND k e refl));
       axes = λ k b. h.axes k b ∙ sym (axis_value-stays d r e k (off_kind d EV_ABS k e refl));
+      infos = infos_kept d r s e h.infos;
       delay = h.delay ∙ sym (repeat_setting-stays d r e REP_DELAY (off_kind d EV_REP REP_DELAY e refl));
       period = h.period ∙ sym (repeat_setting-stays d r e REP_PERIOD (off_kind d EV_REP REP_PERIOD e refl));
     }
 
-pub StandsFor-sound : (d : Description) (r : List Event) (s : Values) (code : ℕ) (value : ℤ) → supports d EV_SND code ≡ true → code < length s.sounds → StandsFor d r s → StandsFor d (event EV_SND code value ∷ r) (record s { sounds = set s.sounds code (is_set (event EV_SND code value)) })
+pub StandsFor-sound : (d : Description) (r : List RawItem) (s : Values) (code : ℕ) (value : ℤ) → supports d EV_SND code ≡ true → code < length s.sounds → StandsFor d r s → StandsFor d (Occurred (event EV_SND code value) ∷ r) (record s { sounds = set s.sounds code (is_set (event EV_SND code value)) })
 StandsFor-sound d r s code value u l h =
     let e : Event = event EV_SND code value in
     record {
@@ -235,11 +245,12 @@ StandsFor-sound d r s code value u l h =
       leds = λ k. h.leds k ∙ sym (turned_on-stays d r e EV_LED k (off_kind d EV_LED k e refl));
       sounds = bits_after d r s.sounds EV_SND code value h.sounds u l;
       axes = λ k b. h.axes k b ∙ sym (axis_value-stays d r e k (off_kind d EV_ABS k e refl));
+      infos = infos_kept d r s e h.infos;
       delay = h.delay ∙ sym (repeat_setting-stays d r e REP_DELAY (off_kind d EV_REP REP_DELAY e refl));
       period = h.period ∙ sym (repeat_setting-stays d r e REP_PERIOD (off_kind d EV_REP REP_PERIOD e refl));
     }
 
-pub StandsFor-axis : (d : Description) (r : List Event) (s : Values) (code : ℕ) (value : ℤ) → supports d EV_ABS code ≡ true → is_multi_touch (event EV_ABS code value) ≡ false → code ≤ ABS_MAX → code < length s.axes → StandsFor d r s → StandsFor d (event EV_ABS code value ∷ r) (record s { axes = set s.axes code (defuzz value (get_or s.axes code (pos 0)) (info d code).fuzz) })
+pub StandsFor-axis : (d : Description) (r : List RawItem) (s : Values) (code : ℕ) (value : ℤ) → supports d EV_ABS code ≡ true → is_multi_touch (event EV_ABS code value) ≡ false → code ≤ ABS_MAX → code < length s.axes → StandsFor d r s → StandsFor d (Occurred (event EV_ABS code value) ∷ r) (record s { axes = set s.axes code (defuzz value (get_or s.axes code (pos 0)) (axis_info d r code).fuzz) })
 StandsFor-axis d r s code value u m w l h =
     let e : Event = event EV_ABS code value in
     record {
@@ -248,11 +259,12 @@ StandsFor-axis d r s code value u m w l h =
       leds = λ k. h.leds k ∙ sym (turned_on-stays d r e EV_LED k (off_kind d EV_LED k e refl));
       sounds = λ k. h.sounds k ∙ sym (turned_on-stays d r e EV_SND k (off_kind d EV_SND k e refl));
       axes = axes_after d r s.axes code value h.axes u m w l;
+      infos = infos_kept d r s e h.infos;
       delay = h.delay ∙ sym (repeat_setting-stays d r e REP_DELAY (off_kind d EV_REP REP_DELAY e refl));
       period = h.period ∙ sym (repeat_setting-stays d r e REP_PERIOD (off_kind d EV_REP REP_PERIOD e refl));
     }
 
-pub StandsFor-delay : (d : Description) (r : List Event) (s : Values) (value : ℤ) → supports d EV_REP REP_DELAY ≡ true → StandsFor d r s → StandsFor d (event EV_REP REP_DELAY value ∷ r) (record s { delay = if is_negative (event EV_REP REP_DELAY value) then s.delay else value })
+pub StandsFor-delay : (d : Description) (r : List RawItem) (s : Values) (value : ℤ) → supports d EV_REP REP_DELAY ≡ true → StandsFor d r s → StandsFor d (Occurred (event EV_REP REP_DELAY value) ∷ r) (record s { delay = if is_negative (event EV_REP REP_DELAY value) then s.delay else value })
 StandsFor-delay d r s value u h =
     let e : Event = event EV_REP REP_DELAY value in
     record {
@@ -261,11 +273,12 @@ StandsFor-delay d r s value u h =
       leds = λ k. h.leds k ∙ sym (turned_on-stays d r e EV_LED k (off_kind d EV_LED k e refl));
       sounds = λ k. h.sounds k ∙ sym (turned_on-stays d r e EV_SND k (off_kind d EV_SND k e refl));
       axes = λ k b. h.axes k b ∙ sym (axis_value-stays d r e k (off_kind d EV_ABS k e refl));
+      infos = infos_kept d r s e h.infos;
       delay = setting_after d r s.delay REP_DELAY value h.delay u;
       period = h.period ∙ sym (repeat_setting-stays d r e REP_PERIOD (off_code d EV_REP REP_PERIOD e (λ x. absurd (omega arith))));
     }
 
-pub StandsFor-period : (d : Description) (r : List Event) (s : Values) (value : ℤ) → supports d EV_REP REP_PERIOD ≡ true → StandsFor d r s → StandsFor d (event EV_REP REP_PERIOD value ∷ r) (record s { period = if is_negative (event EV_REP REP_PERIOD value) then s.period else value })
+pub StandsFor-period : (d : Description) (r : List RawItem) (s : Values) (value : ℤ) → supports d EV_REP REP_PERIOD ≡ true → StandsFor d r s → StandsFor d (Occurred (event EV_REP REP_PERIOD value) ∷ r) (record s { period = if is_negative (event EV_REP REP_PERIOD value) then s.period else value })
 StandsFor-period d r s value u h =
     let e : Event = event EV_REP REP_PERIOD value in
     record {
@@ -274,6 +287,7 @@ StandsFor-period d r s value u h =
       leds = λ k. h.leds k ∙ sym (turned_on-stays d r e EV_LED k (off_kind d EV_LED k e refl));
       sounds = λ k. h.sounds k ∙ sym (turned_on-stays d r e EV_SND k (off_kind d EV_SND k e refl));
       axes = λ k b. h.axes k b ∙ sym (axis_value-stays d r e k (off_kind d EV_ABS k e refl));
+      infos = infos_kept d r s e h.infos;
       delay = h.delay ∙ sym (repeat_setting-stays d r e REP_DELAY (off_code d EV_REP REP_DELAY e (λ x. absurd (omega arith))));
       period = setting_after d r s.period REP_PERIOD value h.period u;
     }
@@ -287,12 +301,12 @@ first false b h = absurd (cc h)
 same_kind : (n k : ℕ) → nat_eq n k ≡ true → n ≡ k
 same_kind n k h = grind (arith, nat_tests)
 
-axis_value-multi_touch : (d : Description) (r : List Event) (e : Event) (code : ℕ) → is_multi_touch e ≡ true → axis_value d (e ∷ r) code ≡ axis_value d r code
+axis_value-multi_touch : (d : Description) (r : List RawItem) (e : Event) (code : ℕ) → is_multi_touch e ≡ true → axis_value d (Occurred e ∷ r) code ≡ axis_value d r code
 unfolding axis_value
-axis_value-multi_touch d r e code h = no_second (is_on d EV_ABS code e) (not (is_multi_touch e)) (defuzz e.value (axis_value d r code) (info d code).fuzz) (axis_value d r code) (not_so (is_multi_touch e) h)
+axis_value-multi_touch d r e code h = no_second (is_on d EV_ABS code e) (not (is_multi_touch e)) (defuzz e.value (axis_value d r code) (axis_info d r code).fuzz) (axis_value d r code) (not_so (is_multi_touch e) h)
 
 -- it changes nothing here; for whoever keeps slots beside a state
-pub StandsFor-multi_touch : (d : Description) (r : List Event) (s : Values) (e : Event) → is_multi_touch e ≡ true → StandsFor d r s → StandsFor d (e ∷ r) s
+pub StandsFor-multi_touch : (d : Description) (r : List RawItem) (s : Values) (e : Event) → is_multi_touch e ≡ true → StandsFor d r s → StandsFor d (Occurred e ∷ r) s
 StandsFor-multi_touch d r s e m h =
     let axis : e.kind ≡ EV_ABS = same_kind e.kind EV_ABS (first (nat_eq e.kind EV_ABS) (is_multi_touch_code e.code) m) in
     let other : (kind code : ℕ) → nat_eq EV_ABS kind ≡ false → is_on d kind code e ≡ false = λ kind code n. off_kind d kind code e (ap (λ (k : ℕ). nat_eq k kind) axis ∙ n) in
@@ -302,6 +316,46 @@ StandsFor-multi_touch d r s e m h =
       leds = λ k. h.leds k ∙ sym (turned_on-stays d r e EV_LED k (other EV_LED k refl));
       sounds = λ k. h.sounds k ∙ sym (turned_on-stays d r e EV_SND k (other EV_SND k refl));
       axes = λ k b. h.axes k b ∙ sym (axis_value-multi_touch d r e k m);
+      infos = infos_kept d r s e h.infos;
       delay = h.delay ∙ sym (repeat_setting-stays d r e REP_DELAY (other EV_REP REP_DELAY refl));
       period = h.period ∙ sym (repeat_setting-stays d r e REP_PERIOD (other EV_REP REP_PERIOD refl));
     }
+
+-- ---- an axis that is described anew
+
+at_axis : {X : Type 0} → (a c : ℕ) (x y : X) → c ≡ a → (if nat_eq a c then x else y) ≡ x
+at_axis a c x y h = ap (λ (b : Bool). if b then x else y) (ap (nat_eq a) h ∙ eq_self a)
+
+not_eq : (a c : ℕ) → (c ≡ a → ⊥) → nat_eq a c ≡ false
+not_eq a c h = grind (arith, nat_tests)
+
+at_other : {X : Type 0} → (a c : ℕ) (x y : X) → (c ≡ a → ⊥) → (if nat_eq a c then x else y) ≡ y
+at_other a c x y h = ap (λ (b : Bool). if b then x else y) (not_eq a c h)
+
+axis_value-described : (d : Description) (r : List RawItem) (code : ℕ) (i : AxisInfo) (k : ℕ) → axis_value d (Described code i ∷ r) k ≡ (if nat_eq code k then i.value else axis_value d r k)
+unfolding axis_value
+axis_value-described d r code i k = refl
+
+axis_info-described : (d : Description) (r : List RawItem) (code : ℕ) (i : AxisInfo) (k : ℕ) → axis_info d (Described code i ∷ r) k ≡ (if nat_eq code k then i else axis_info d r k)
+unfolding axis_info
+axis_info-described d r code i k = refl
+
+-- its value and its description are those that it was given
+pub StandsFor-described : (d : Description) (r : List RawItem) (s : Values) (code : ℕ) (i : AxisInfo) → code < length s.axes → code < length s.infos → StandsFor d r s → StandsFor d (Described code i ∷ r) (record s { axes = set s.axes code i.value; infos = set s.infos code i })
+unfolding key_down turned_on repeat_setting
+StandsFor-described d r s code i within there h = record {
+  keys = h.keys;
+  switches = h.switches;
+  leds = h.leds;
+  sounds = h.sounds;
+  axes = λ k b. elim (cases_eq k code) [
+    | inl same ↦ ap (λ (n : ℕ). get_or (set s.axes code i.value) n (pos 0)) same ∙ get_or-set_same s.axes code i.value (pos 0) within ∙ sym (axis_value-described d r code i k ∙ at_axis code k i.value (axis_value d r k) same)
+    | inr other ↦ get_or-set_other s.axes code k i.value (pos 0) other ∙ h.axes k b ∙ sym (axis_value-described d r code i k ∙ at_other code k i.value (axis_value d r k) other)
+  ];
+  infos = λ k b. elim (cases_eq k code) [
+    | inl same ↦ ap (λ (n : ℕ). get_or (set s.infos code i) n no_info) same ∙ get_or-set_same s.infos code i no_info there ∙ sym (axis_info-described d r code i k ∙ at_axis code k i (axis_info d r k) same)
+    | inr other ↦ get_or-set_other s.infos code k i no_info other ∙ h.infos k b ∙ sym (axis_info-described d r code i k ∙ at_other code k i (axis_info d r k) other)
+  ];
+  delay = h.delay;
+  period = h.period;
+}

@@ -1,9 +1,10 @@
 //! The present state.
 ghost use Rattle.std.specs.Prelude.{◌≡◌, ◌≤◌, ℕ, pos, List, [], ◌∷◌, false, slice_index_or, unwrap_or};
 ghost use Rattle.inp_model.specs.declared.event.Event.{Event};
-ghost use Rattle.inp_model.specs.Description.{Description, info};
+ghost use Rattle.inp_model.specs.RawItem.{RawItem, Occurred, Described};
+ghost use Rattle.inp_model.specs.Description.{Description, info, no_info};
 ghost use Rattle.inp_model.specs.Event.{is_multi_touch};
-ghost use Rattle.inp_model.specs.State.{key_down, switch_on, led_on, sound_on, axis_value, repeat_setting};
+ghost use Rattle.inp_model.specs.State.{key_down, switch_on, led_on, sound_on, axis_info, axis_value, repeat_setting};
 ghost use Rattle.inp_model.specs.Passed.{passes_as};
 ghost use Rattle.inp_caps.specs.Disposition.{flags_of, flags_after};
 ghost use Rattle.inp_state.specs.State.{StandsFor, flags_by};
@@ -13,8 +14,8 @@ use bitflags::Flags;
 use inp_bits::Bits;
 use inp_caps::{Caps, Disposition};
 use inp_model::{
-    ABS_MAX, EV_ABS, EV_KEY, EV_LED, EV_MSC, EV_REL, EV_REP, EV_SND, EV_SW, EV_SYN, Event,
-    REP_DELAY, REP_PERIOD, SYN_CONFIG, SYN_DROPPED,
+    ABS_MAX, AxisInfo, EV_ABS, EV_KEY, EV_LED, EV_MSC, EV_REL, EV_REP, EV_SND, EV_SW, EV_SYN,
+    Event, REP_DELAY, REP_PERIOD, SYN_CONFIG, SYN_DROPPED,
 };
 use std::marker::Model;
 
@@ -26,7 +27,7 @@ const FIRST_PERIOD: i32 = 33;
 
 /// The present state of a device's keys, switches, LEDs, sounds, axes and autorepeat.
 ///
-/// It keeps the last value of each and no list of events, in about 400 bytes. It belongs to the description that
+/// It keeps the last value of each and no list of events, in about 1,900 bytes. It belongs to the description that
 /// [`State::new`] was given; with another one no clause says anything.
 #[derive(Debug, Drop)]
 pub struct State {
@@ -35,6 +36,8 @@ pub struct State {
     leds: Bits<1>,
     sounds: Bits<1>,
     axes: [i32; 64],
+    // The value in one is the one that it was described with.
+    infos: [AxisInfo; 64],
     delay: i32,
     period: i32,
 }
@@ -50,6 +53,7 @@ impl Model for State {
       leds = s.leds;
       sounds = s.sounds;
       axes = s.axes;
+      infos = s.infos;
       delay = s.delay;
       period = s.period;
     } };
@@ -66,6 +70,7 @@ impl State {
             leds: Bits::new(),
             sounds: Bits::new(),
             axes: described_values(caps),
+            infos: descriptions(caps),
             delay: FIRST_DELAY,
             period: FIRST_PERIOD,
         }
@@ -78,11 +83,11 @@ impl State {
     /// not passed is its own. Multi-touch events are not for this call, so `SLOT` is never set.
     pub fn apply(&mut self, caps: &Caps, event: Event) -> (Disposition, i32)
         requires no_slot { is_multi_touch event ≡ false }
-        ensures stands { (r : List Event) → StandsFor caps.now r self.old
-            → StandsFor caps.now (event ∷ r) self.new }
-        ensures disposition { (r : List Event) → StandsFor caps.now r self.old
+        ensures stands { (r : List RawItem) → StandsFor caps.now r self.old
+            → StandsFor caps.now (Occurred event ∷ r) self.new }
+        ensures disposition { (r : List RawItem) → StandsFor caps.now r self.old
             → flags_of result.0 ≡ flags_after caps.now r event }
-        ensures value { (r : List Event) → StandsFor caps.now r self.old
+        ensures value { (r : List RawItem) → StandsFor caps.now r self.old
             → result.1 ≡ unwrap_or (passes_as caps.now r event) event.value }
     {
         let passed = self.change(caps, event);
@@ -95,9 +100,9 @@ impl State {
     // Takes a raw event, and gives the value under which it is passed, if it is.
     fn change(&mut self, caps: &Caps, event: Event) -> Option<i32>
         requires no_slot { is_multi_touch event ≡ false }
-        ensures stands { (r : List Event) → StandsFor caps.now r self.old
-            → StandsFor caps.now (event ∷ r) self.new }
-        ensures passes { (r : List Event) → StandsFor caps.now r self.old
+        ensures stands { (r : List RawItem) → StandsFor caps.now r self.old
+            → StandsFor caps.now (Occurred event ∷ r) self.new }
+        ensures passes { (r : List RawItem) → StandsFor caps.now r self.old
             → result ≡ passes_as caps.now r event }
     {
         if event.kind == EV_SYN {
@@ -109,7 +114,10 @@ impl State {
         match event.kind {
             EV_KEY => set_key(&mut self.keys, event),
             EV_REL => passed_if(event.is_set(), event),
-            EV_ABS => move_axis(&mut self.axes, caps.axis(event.code).fuzz, event),
+            EV_ABS => {
+                let fuzz = self.infos[usize::from(event.code)].fuzz;
+                move_axis(&mut self.axes, fuzz, event)
+            }
             EV_SW => set_bit(&mut self.switches, event),
             EV_LED => set_bit(&mut self.leds, event),
             EV_SND => {
@@ -122,10 +130,24 @@ impl State {
         }
     }
 
+    /// Describes the axis with this code anew, which is at most `ABS_MAX` (evdev's `EVIOCSABS`).
+    ///
+    /// The axis has the value of the description from now on, and moves by its fuzz. Nothing else changes, and nothing is
+    /// passed. The value may be outside of minimum and maximum. It is not for a multi-touch axis, whose values belong to
+    /// slots; the caller sees to that.
+    pub fn describe(&mut self, code: u16, info: AxisInfo)
+        requires within { code ≤ ABS_MAX }
+        ensures stands { (d : Description) (r : List RawItem) → StandsFor d r self.old
+            → StandsFor d (Described code info ∷ r) self.new }
+    {
+        self.axes[usize::from(code)] = info.value;
+        self.infos[usize::from(code)] = info;
+    }
+
     /// Which keys are down, by their codes.
     pub fn keys(&self) -> &Bits<12>
         ensures value { result.now ≡ self.now.keys }
-        ensures keys { (d : Description) (r : List Event) → StandsFor d r self.now → (code : ℕ)
+        ensures keys { (d : Description) (r : List RawItem) → StandsFor d r self.now → (code : ℕ)
             → slice_index_or result.now code false ≡ key_down d r code }
     {
         &self.keys
@@ -134,7 +156,7 @@ impl State {
     /// Which switches are on, by their codes.
     pub fn switches(&self) -> &Bits<1>
         ensures value { result.now ≡ self.now.switches }
-        ensures switches { (d : Description) (r : List Event) → StandsFor d r self.now
+        ensures switches { (d : Description) (r : List RawItem) → StandsFor d r self.now
             → (code : ℕ) → slice_index_or result.now code false ≡ switch_on d r code }
     {
         &self.switches
@@ -143,7 +165,7 @@ impl State {
     /// Which LEDs are on, by their codes.
     pub fn leds(&self) -> &Bits<1>
         ensures value { result.now ≡ self.now.leds }
-        ensures leds { (d : Description) (r : List Event) → StandsFor d r self.now → (code : ℕ)
+        ensures leds { (d : Description) (r : List RawItem) → StandsFor d r self.now → (code : ℕ)
             → slice_index_or result.now code false ≡ led_on d r code }
     {
         &self.leds
@@ -152,7 +174,7 @@ impl State {
     /// Which sounds are on, by their codes.
     pub fn sounds(&self) -> &Bits<1>
         ensures value { result.now ≡ self.now.sounds }
-        ensures sounds { (d : Description) (r : List Event) → StandsFor d r self.now → (code : ℕ)
+        ensures sounds { (d : Description) (r : List RawItem) → StandsFor d r self.now → (code : ℕ)
             → slice_index_or result.now code false ≡ sound_on d r code }
     {
         &self.sounds
@@ -162,16 +184,31 @@ impl State {
     pub fn axis(&self, code: u16) -> i32
         requires within { code ≤ ABS_MAX }
         ensures value { result ≡ slice_index_or self.now.axes code (pos 0) }
-        ensures axis { (d : Description) (r : List Event) → StandsFor d r self.now
+        ensures axis { (d : Description) (r : List RawItem) → StandsFor d r self.now
             → result ≡ axis_value d r code }
     {
         self.axes[usize::from(code)]
     }
 
+    /// The description of the axis with this code, which is at most `ABS_MAX`, with its present value.
+    pub fn info(&self, code: u16) -> AxisInfo
+        requires within { code ≤ ABS_MAX }
+        ensures value { result ≡ record (slice_index_or self.now.infos code no_info) {
+          value = slice_index_or self.now.axes code (pos 0);
+        } }
+        ensures info { (d : Description) (r : List RawItem) → StandsFor d r self.now
+            → result ≡ record (axis_info d r code) { value = axis_value d r code } }
+    {
+        AxisInfo {
+            value: self.axes[usize::from(code)],
+            ..self.infos[usize::from(code)]
+        }
+    }
+
     /// The time before a key's first repeat, in milliseconds.
     pub fn delay(&self) -> i32
         ensures value { result ≡ self.now.delay }
-        ensures delay { (d : Description) (r : List Event) → StandsFor d r self.now
+        ensures delay { (d : Description) (r : List RawItem) → StandsFor d r self.now
             → result ≡ repeat_setting d r REP_DELAY }
     {
         self.delay
@@ -180,7 +217,7 @@ impl State {
     /// The time between repeats, in milliseconds.
     pub fn period(&self) -> i32
         ensures value { result ≡ self.now.period }
-        ensures period { (d : Description) (r : List Event) → StandsFor d r self.now
+        ensures period { (d : Description) (r : List RawItem) → StandsFor d r self.now
             → result ≡ repeat_setting d r REP_PERIOD }
     {
         self.period
@@ -197,6 +234,17 @@ fn described_values(caps: &Caps) -> [i32; 64]
         values[usize::from(code)] = caps.axis(code).value;
     }
     values
+}
+
+// The descriptions of all axes.
+fn descriptions(caps: &Caps) -> [AxisInfo; 64]
+    ensures { (code : ℕ) → code ≤ ABS_MAX → slice_index_or result code no_info ≡ info caps.now code }
+{
+    let mut infos = [caps.axis(0); 64];
+    for code in 0..64u16 {
+        infos[usize::from(code)] = caps.axis(code);
+    }
+    infos
 }
 
 // What becomes of an event, by whether it is passed.

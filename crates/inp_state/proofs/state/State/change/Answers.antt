@@ -1,8 +1,8 @@
-use Rattle.std.proofs.Common.{◌≡◌, ◌<◌, true, false, length, sym, subst, ap, ◌∙◌, arith, rules, to_z, of_z, w32, FitsSigned}
+use Rattle.std.proofs.Common.{◌≡◌, ◌<◌, true, false, ℕ, ℤ, get_or, length, sym, subst, ap, ◌∙◌, arith, rules, to_z, of_z, w32, FitsSigned}
 use Rattle.std.proofs.lemmas.Bool.Decides.{nat_tests}
 use Rattle.std.proofs.lemmas.Int.{to_z-of_z}
 use Rattle.inp_model.specs.declared.axis_info.AxisInfo.{AxisInfo}
-use Rattle.inp_model.specs.Description.{supports}
+use Rattle.inp_model.specs.Description.{supports, no_info}
 use Rattle.inp_caps.proofs.Supported.{key-within, axis-within, switch-within, led-within, sound-within}
 use Rattle.inp_state.specs.State.{StandsFor}
 use Rattle.inp_state.specs.contracts.state.State.{the_view}
@@ -36,17 +36,25 @@ returns-in-2-clause-stands c = λ r h. motion-stands c.args.caps.now r c.args.se
 pub returns-in-3-clause-stands : goal.returns-in-3-clause-stands
 returns-in-3-clause-stands c =
     let u : supports c.args.caps.now c.args.event.kind c.args.event.code ≡ true = sym c.supports.ensures.supported ∙ c.if-not-supports.false in
-    let fits : FitsSigned w32 c.axis.result.fuzz = search rules in
+    let fuzz : ℤ = (get_or c.self.inside.infos c.from.result no_info).fuzz in
+    let fits : FitsSigned w32 fuzz = search rules in
     let w = axis-within c.args.caps.now c.args.event.kind c.args.event.code c.in-3.is c.supports.ensures.description u in
     let l : c.args.event.code < length c.self.inside.axes = omega (arith, w) in
-    λ r h. axis-stands c.args.caps.now r (the_view c.self.inside) c.args.event c.move_axis.new.axes (to_z w32 (of_z w32 c.axis.result.fuzz)) c.in-3.is u c.requires.no_slot w l (to_z-of_z w32 c.axis.result.fuzz fits ∙ ap (λ (i : AxisInfo). i.fuzz) c.axis.ensures.axis) c.move_axis.ensures.axes (subst (StandsFor c.args.caps.now r) (sym c.self.view_is) h)
+    λ r h.
+    let at : StandsFor c.args.caps.now r (the_view c.self.inside) = subst (StandsFor c.args.caps.now r) (sym c.self.view_is) h in
+    axis-stands c.args.caps.now r (the_view c.self.inside) c.args.event c.move_axis.new.axes (to_z w32 (of_z w32 fuzz)) c.in-3.is u c.requires.no_slot w l
+    (to_z-of_z w32 fuzz fits ∙ ap (λ (k : ℕ). (get_or c.self.inside.infos k no_info).fuzz) c.from.ensures ∙ ap (λ (i : AxisInfo). i.fuzz) (at.infos c.args.event.code w)) c.move_axis.ensures.axes at
 
 pub returns-in-3-clause-passes : goal.returns-in-3-clause-passes
 returns-in-3-clause-passes c =
     let u : supports c.args.caps.now c.args.event.kind c.args.event.code ≡ true = sym c.supports.ensures.supported ∙ c.if-not-supports.false in
-    let fits : FitsSigned w32 c.axis.result.fuzz = search rules in
+    let fuzz : ℤ = (get_or c.self.inside.infos c.from.result no_info).fuzz in
+    let fits : FitsSigned w32 fuzz = search rules in
     let w = axis-within c.args.caps.now c.args.event.kind c.args.event.code c.in-3.is c.supports.ensures.description u in
-    λ r h. axis-passes c.args.caps.now r (the_view c.self.inside) c.args.event c.move_axis.result (to_z w32 (of_z w32 c.axis.result.fuzz)) c.in-3.is u c.requires.no_slot w (to_z-of_z w32 c.axis.result.fuzz fits ∙ ap (λ (i : AxisInfo). i.fuzz) c.axis.ensures.axis) c.move_axis.ensures.passed (subst (StandsFor c.args.caps.now r) (sym c.self.view_is) h)
+    λ r h.
+    let at : StandsFor c.args.caps.now r (the_view c.self.inside) = subst (StandsFor c.args.caps.now r) (sym c.self.view_is) h in
+    axis-passes c.args.caps.now r (the_view c.self.inside) c.args.event c.move_axis.result (to_z w32 (of_z w32 fuzz)) c.in-3.is u c.requires.no_slot w
+    (to_z-of_z w32 fuzz fits ∙ ap (λ (k : ℕ). (get_or c.self.inside.infos k no_info).fuzz) c.from.ensures ∙ ap (λ (i : AxisInfo). i.fuzz) (at.infos c.args.event.code w)) c.move_axis.ensures.passed at
 
 pub returns-in-5-clause-stands : goal.returns-in-5-clause-stands
 returns-in-5-clause-stands c =
