@@ -3,11 +3,12 @@ use Rattle.std.proofs.Common.{◌≡◌, ℕ, ◌*◌, ℤ, pos, unsigned_abs, B
 use Rattle.inp_model.specs.declared.event.TheConstants.{REP_DELAY, REP_PERIOD}
 use Rattle.inp_model.specs.declared.event.Event.{Event}
 use Rattle.inp_model.specs.declared.timer.Timer.{Timer}
+use Rattle.inp_model.specs.RawItem.{RawItem, Occurred, Cut}
 use Rattle.inp_model.specs.Description.{Description}
 use Rattle.inp_model.specs.Event.{is_report, core_report}
 use Rattle.inp_model.specs.Passed.{passed, announced}
 use Rattle.inp_model.specs.Past.{is_inhibited}
-use Rattle.inp_model.specs.Cut.{Cut, pending, cut_events, cuts, at_frame}
+use Rattle.inp_model.specs.Cut.{pending, cut_events, cuts, at_frame}
 use Rattle.inp_model.specs.Timer.{repeats_keys, first_timer, setting, timer_at_events}
 use Rattle.inp_model.specs.Raw.{raw, timer, raw_and_timer}
 use Rattle.inp_state.specs.State.{Values, StandsFor}
@@ -20,18 +21,18 @@ use Rattle.inp_frames.specs.Handling.{Handles, timer_at_frame, timer_after_cuts}
 use Rattle.inp_frames.proofs.Handling.{either}
 
 -- the frame with these events that e ends after the raw events r
-abbrev cut_of : Event → List Event → List Event → Cut
-cut_of e r events = record { events = events; until = e ∷ r }
+abbrev cut_of : Event → List RawItem → List Event → Cut
+cut_of e r events = record { events = events; until = Occurred e ∷ r }
 
-abbrev waiting : Description → List Event → Event → Waiting
+abbrev waiting : Description → List RawItem → Event → Waiting
 waiting d r e = record { events = pending d r ++ passed d r e; hint = d.hint }
 
 -- the events that wait behind what e passes, on a device with this description
-pub record WaitsBehind (d : Description) (r : List Event) (e : Event) (w : Waiting) : Type 0 where
+pub record WaitsBehind (d : Description) (r : List RawItem) (e : Event) (w : Waiting) : Type 0 where
   pub events : w.events ≡ pending d r ++ passed d r e
   pub hint : w.hint ≡ d.hint
 
-is_waiting : (d : Description) (r : List Event) (e : Event) (w : Waiting) → WaitsBehind d r e w → w ≡ waiting d r e
+is_waiting : (d : Description) (r : List RawItem) (e : Event) (w : Waiting) → WaitsBehind d r e w → w ≡ waiting d r e
 is_waiting d r e w h =
     ap (λ (events : List Event). record { events = events; hint = w.hint }) h.events
     ∙ ap (λ (hint : ℕ). record { events = pending d r ++ passed d r e; hint = hint }) h.hint
@@ -46,20 +47,20 @@ left_none : (report more full : Bool) (batch : List Event) → (if report then m
 left_none true more full batch h = refl
 left_none false more full batch h = ap (λ b. if b then [] else batch) h
 
-no_cut : (d : Description) (r : List Event) (e : Event) → are_frame (is_report e) (waiting d r e) ≡ false → cut_events d r e ≡ None
+no_cut : (d : Description) (r : List RawItem) (e : Event) → are_frame (is_report e) (waiting d r e) ≡ false → cut_events d r e ≡ None
 no_cut d r e h =
     let batch : List Event = pending d r ++ passed d r e in
     cut_none (is_report e) (nat_lt 1 (length batch)) (nat_le d.hint (length batch)) batch (batch ++ core_report ∷ []) h
 
-pending-more : (d : Description) (r : List Event) (e : Event) → are_frame (is_report e) (waiting d r e) ≡ false → pending d (e ∷ r) ≡ (if is_report e then [] else pending d r ++ passed d r e)
+pending-more : (d : Description) (r : List RawItem) (e : Event) → are_frame (is_report e) (waiting d r e) ≡ false → pending d (Occurred e ∷ r) ≡ (if is_report e then [] else pending d r ++ passed d r e)
 unfolding pending
 pending-more d r e h =
     let batch : List Event = pending d r ++ passed d r e in
     left_none (is_report e) (nat_lt 1 (length batch)) (nat_le d.hint (length batch)) batch h
 
-at_frame-more : (d : Description) (r : List Event) (e : Event) → are_frame (is_report e) (waiting d r e) ≡ false → at_frame d (e ∷ r) ≡ at_frame d r
+at_frame-more : (d : Description) (r : List RawItem) (e : Event) → are_frame (is_report e) (waiting d r e) ≡ false → at_frame d (Occurred e ∷ r) ≡ at_frame d r
 unfolding at_frame
-at_frame-more d r e h = ap (λ (o : Option (List Event)). if is_some o then announced d (e ∷ r) else at_frame d r) (no_cut d r e h)
+at_frame-more d r e h = ap (λ (o : Option (List Event)). if is_some o then announced d (Occurred e ∷ r) else at_frame d r) (no_cut d r e h)
 
 -- a frame
 
@@ -71,21 +72,21 @@ left_some : (report more full : Bool) (batch : List Event) → (if report then m
 left_some true more full batch h = refl
 left_some false more full batch h = ap (λ b. if b then [] else batch) h
 
-pending-cut : (d : Description) (r : List Event) (e : Event) → are_frame (is_report e) (waiting d r e) ≡ true → pending d (e ∷ r) ≡ []
+pending-cut : (d : Description) (r : List RawItem) (e : Event) → are_frame (is_report e) (waiting d r e) ≡ true → pending d (Occurred e ∷ r) ≡ []
 unfolding pending
 pending-cut d r e h =
     let batch : List Event = pending d r ++ passed d r e in
     left_some (is_report e) (nat_lt 1 (length batch)) (nat_le d.hint (length batch)) batch h
 
-at_frame-cut : (d : Description) (r : List Event) (e : Event) → are_frame (is_report e) (waiting d r e) ≡ true → at_frame d (e ∷ r) ≡ announced d (e ∷ r)
+at_frame-cut : (d : Description) (r : List RawItem) (e : Event) → are_frame (is_report e) (waiting d r e) ≡ true → at_frame d (Occurred e ∷ r) ≡ announced d (Occurred e ∷ r)
 unfolding at_frame
 at_frame-cut d r e h =
     let batch : List Event = pending d r ++ passed d r e in
-    ap (λ b. if b then announced d (e ∷ r) else at_frame d r) (cut_some (is_report e) (nat_lt 1 (length batch)) (nat_le d.hint (length batch)) batch (batch ++ core_report ∷ []) h)
+    ap (λ b. if b then announced d (Occurred e ∷ r) else at_frame d r) (cut_some (is_report e) (nat_lt 1 (length batch)) (nat_le d.hint (length batch)) batch (batch ++ core_report ∷ []) h)
 
 -- the frames
 
-cut-more : (d : Description) (r : List Event) (e : Event) → are_frame (is_report e) (waiting d r e) ≡ false → cuts d r (e ∷ []) ≡ []
+cut-more : (d : Description) (r : List RawItem) (e : Event) → are_frame (is_report e) (waiting d r e) ≡ false → cuts d r (Occurred e ∷ []) ≡ []
 unfolding cuts
 cut-more d r e h = ap (λ (o : Option (List Event)). option_to_list (option_map (cut_of e r) o) ++ []) (no_cut d r e h)
 
@@ -94,10 +95,10 @@ some_frame true more full batch frame h = ap (λ b. if b then Some batch else No
 some_frame false more full batch frame h = ap (λ b. if b then Some frame else None) h
 
 -- the events of the frame that e ends
-abbrev frame_events : Description → List Event → Event → List Event
+abbrev frame_events : Description → List RawItem → Event → List Event
 frame_events d r e = if is_report e then pending d r ++ passed d r e else (pending d r ++ passed d r e) ++ core_report ∷ []
 
-cut-ends : (d : Description) (r : List Event) (e : Event) → are_frame (is_report e) (waiting d r e) ≡ true → cuts d r (e ∷ []) ≡ cut_of e r (frame_events d r e) ∷ []
+cut-ends : (d : Description) (r : List RawItem) (e : Event) → are_frame (is_report e) (waiting d r e) ≡ true → cuts d r (Occurred e ∷ []) ≡ cut_of e r (frame_events d r e) ∷ []
 unfolding cuts
 cut-ends d r e h =
     let batch : List Event = pending d r ++ passed d r e in
@@ -122,16 +123,16 @@ stands-first d state slots w t s k f e h first = record {
 }
 
 -- what the code knows once what e passes is put behind the events that waited
-pub record Adds (d : Description) (r : List Event) (e : Event) (new : Values) (touched : SlotValues) (w : Waiting) : Type 0 where
-  pub state : StandsFor d (e ∷ r) new
-  pub slots : SlotsStandFor d (e ∷ r) touched
+pub record Adds (d : Description) (r : List RawItem) (e : Event) (new : Values) (touched : SlotValues) (w : Waiting) : Type 0 where
+  pub state : StandsFor d (Occurred e ∷ r) new
+  pub slots : SlotsStandFor d (Occurred e ∷ r) touched
   pub at_frame : touched.at_frame ≡ at_frame d r
   pub waits : WaitsBehind d r e w
 
-pub adds : (d : Description) (r : List Event) (e : Event) (old : CoreValues) (state : Values) (slots : SlotValues) (given : Passed) (w : Waiting) → StandsAfter d r old
-    → ((q : List Event) → StandsFor d q old.state → StandsFor d (e ∷ q) state)
-    → ((q : List Event) → SlotsStandFor d q old.slots → SlotsStandFor d (e ∷ q) slots)
-    → ((q : List Event) → StandsFor d q old.state → SlotsStandFor d q old.slots → events_of given ≡ passed d q e)
+pub adds : (d : Description) (r : List RawItem) (e : Event) (old : CoreValues) (state : Values) (slots : SlotValues) (given : Passed) (w : Waiting) → StandsAfter d r old
+    → ((q : List RawItem) → StandsFor d q old.state → StandsFor d (Occurred e ∷ q) state)
+    → ((q : List RawItem) → SlotsStandFor d q old.slots → SlotsStandFor d (Occurred e ∷ q) slots)
+    → ((q : List RawItem) → StandsFor d q old.state → SlotsStandFor d q old.slots → events_of given ≡ passed d q e)
     → slots.at_frame ≡ old.slots.at_frame
     → w.events ≡ old.batch ++ events_of given → w.hint ≡ old.hint
     → Adds d r e state slots w
@@ -145,11 +146,11 @@ adds d r e old state slots given w h moves touches passes same added hint = reco
   };
 }
 
-frame_is : (d : Description) (r : List Event) (e : Event) (w : Waiting) (report frame : Bool) → WaitsBehind d r e w → report ≡ is_report e → frame ≡ are_frame report w → are_frame (is_report e) (waiting d r e) ≡ frame
+frame_is : (d : Description) (r : List RawItem) (e : Event) (w : Waiting) (report frame : Bool) → WaitsBehind d r e w → report ≡ is_report e → frame ≡ are_frame report w → are_frame (is_report e) (waiting d r e) ≡ frame
 frame_is d r e w report frame h p f = sym (f ∙ ap (λ b. are_frame b w) p ∙ ap (are_frame (is_report e)) (is_waiting d r e w h))
 
 -- the core waits for more
-pub handles-more : {T : Type 0} (d : Description) (r : List Event) (e : Event) (now : ℕ) (takes : T → List Event → ℕ → T → Type 0) (old : CoreValues) (to : T) (state : Values) (slots : SlotValues) (w left : Waiting) (report frame : Bool) → Adds d r e state slots w → report ≡ is_report e → frame ≡ are_frame report w → frame ≡ false → left.events ≡ (if report then [] else w.events) → left.hint ≡ w.hint
+pub handles-more : {T : Type 0} (d : Description) (r : List RawItem) (e : Event) (now : ℕ) (takes : T → List Event → ℕ → T → Type 0) (old : CoreValues) (to : T) (state : Values) (slots : SlotValues) (w left : Waiting) (report frame : Bool) → Adds d r e state slots w → report ≡ is_report e → frame ≡ are_frame report w → frame ≡ false → left.events ≡ (if report then [] else w.events) → left.hint ≡ w.hint
     → Handles d r (e ∷ []) now takes old (record { state = state; slots = slots; batch = left.events; hint = left.hint; timer = old.timer; inhibited = old.inhibited }) to to
 handles-more d r e now takes old to state slots w left report frame h p f off events hint =
     let none : are_frame (is_report e) (waiting d r e) ≡ false = frame_is d r e w report frame h.waits p f ∙ off in
@@ -167,21 +168,21 @@ handles-more d r e now takes old to state slots w left report frame h p f off ev
     }
 
 -- the events of the frame, as the code has them
-framed : (d : Description) (r : List Event) (e : Event) (w : Waiting) (report : Bool) (given : List Event) → WaitsBehind d r e w → report ≡ is_report e → given ≡ (if report then w.events else w.events ++ core_report ∷ []) → given ≡ frame_events d r e
+framed : (d : Description) (r : List RawItem) (e : Event) (w : Waiting) (report : Bool) (given : List Event) → WaitsBehind d r e w → report ≡ is_report e → given ≡ (if report then w.events else w.events ++ core_report ∷ []) → given ≡ frame_events d r e
 framed d r e w report given h p q =
     q ∙ ap (λ b. if b then w.events else w.events ++ core_report ∷ []) p
     ∙ ap (λ (x : List Event). if is_report e then x else x ++ core_report ∷ []) h.events
 
 -- the timer after the frame, by the settings of the state at its end
-timer-ends : (d : Description) (r : List Event) (e : Event) (now : ℕ) (s : Values) (given : List Event) (t : Timer) → StandsFor d (e ∷ r) s → given ≡ frame_events d r e → cuts d r (e ∷ []) ≡ cut_of e r (frame_events d r e) ∷ [] → timer_at_frame d now s given t ≡ timer_after_cuts d now (cuts d r (e ∷ [])) t
+timer-ends : (d : Description) (r : List RawItem) (e : Event) (now : ℕ) (s : Values) (given : List Event) (t : Timer) → StandsFor d (Occurred e ∷ r) s → given ≡ frame_events d r e → cuts d r (Occurred e ∷ []) ≡ cut_of e r (frame_events d r e) ∷ [] → timer_at_frame d now s given t ≡ timer_after_cuts d now (cuts d r (Occurred e ∷ [])) t
 timer-ends d r e now s given t h g c =
     ap (λ (x : ℤ). if repeats_keys d then timer_at_events now (1000 * unsigned_abs x) (1000 * unsigned_abs s.period) given t else t) h.delay
-    ∙ ap (λ (x : ℤ). if repeats_keys d then timer_at_events now (setting d (e ∷ r) REP_DELAY) (1000 * unsigned_abs x) given t else t) h.period
-    ∙ ap (λ (x : List Event). if repeats_keys d then timer_at_events now (setting d (e ∷ r) REP_DELAY) (setting d (e ∷ r) REP_PERIOD) x t else t) g
+    ∙ ap (λ (x : ℤ). if repeats_keys d then timer_at_events now (setting d (Occurred e ∷ r) REP_DELAY) (1000 * unsigned_abs x) given t else t) h.period
+    ∙ ap (λ (x : List Event). if repeats_keys d then timer_at_events now (setting d (Occurred e ∷ r) REP_DELAY) (setting d (Occurred e ∷ r) REP_PERIOD) x t else t) g
     ∙ ap (λ (cs : List Cut). timer_after_cuts d now cs t) (sym c)
 
 -- the frame was passed on, and nothing waits
-pub handles-cut : {T : Type 0} (d : Description) (r : List Event) (e : Event) (now : ℕ) (takes : T → List Event → ℕ → T → Type 0) (old : CoreValues) (to_old to_new : T) (state : Values) (slots after : SlotValues) (w passed_on left : Waiting) (timer : Timer) (report frame : Bool) → Adds d r e state slots w → report ≡ is_report e → frame ≡ are_frame report w → frame ≡ true
+pub handles-cut : {T : Type 0} (d : Description) (r : List RawItem) (e : Event) (now : ℕ) (takes : T → List Event → ℕ → T → Type 0) (old : CoreValues) (to_old to_new : T) (state : Values) (slots after : SlotValues) (w passed_on left : Waiting) (timer : Timer) (report frame : Bool) → Adds d r e state slots w → report ≡ is_report e → frame ≡ are_frame report w → frame ≡ true
     → passed_on.events ≡ (if report then w.events else w.events ++ core_report ∷ [])
     → timer ≡ timer_at_frame d now state passed_on.events old.timer
     → takes to_old passed_on.events now to_new
@@ -189,9 +190,9 @@ pub handles-cut : {T : Type 0} (d : Description) (r : List Event) (e : Event) (n
     → Handles d r (e ∷ []) now takes old (record { state = state; slots = after; batch = left.events; hint = left.hint; timer = timer; inhibited = old.inhibited }) to_old to_new
 handles-cut d r e now takes old to_old to_new state slots after w passed_on left timer report frame h p f on given armed took events hint told =
     let some : are_frame (is_report e) (waiting d r e) ≡ true = frame_is d r e w report frame h.waits p f ∙ on in
-    let ends : cuts d r (e ∷ []) ≡ cut_of e r (frame_events d r e) ∷ [] = cut-ends d r e some in
+    let ends : cuts d r (Occurred e ∷ []) ≡ cut_of e r (frame_events d r e) ∷ [] = cut-ends d r e some in
     let same : passed_on.events ≡ frame_events d r e = framed d r e w report passed_on.events h.waits p given in
-    let frames_at : SlotsStandFor d (e ∷ r) after = subst (SlotsStandFor d (e ∷ r)) (sym told) (record { count = h.slots.count; staged = h.slots.staged; announced = h.slots.announced; values = h.slots.values }) in
+    let frames_at : SlotsStandFor d (Occurred e ∷ r) after = subst (SlotsStandFor d (Occurred e ∷ r)) (sym told) (record { count = h.slots.count; staged = h.slots.staged; announced = h.slots.announced; values = h.slots.values }) in
     record {
       stands_after = record {
         made = record { hint = hint ∙ h.waits.hint; slots = frames_at.count };

@@ -1,10 +1,11 @@
 -- What the core stands for behind a step that it made.
-use Rattle.std.proofs.Common.{◌≡◌, ℕ, ◌*◌, Bool, true, false, ◌&&◌, not, if◌then◌else◌, ℤ, List, [], ◌∷◌, get_or, unsigned_abs, refl, sym, ap, subst, ◌∙◌}
+use Rattle.std.proofs.Common.{◌≡◌, ℕ, ◌*◌, Bool, true, false, ◌&&◌, not, if◌then◌else◌, ℤ, List, [], ◌∷◌, get_or, unsigned_abs, refl, sym, ap, subst, ◌∙◌, map}
 use Rattle.inp_model.specs.declared.event.TheConstants.{REP_PERIOD}
 use Rattle.inp_model.specs.declared.event.Event.{Event}
 use Rattle.inp_model.specs.declared.step.Step.{Step}
 use Rattle.inp_model.specs.declared.step.Step.TheVariants.{Inject, Tick, Write, Inhibit}
 use Rattle.inp_model.specs.declared.timer.Timer.{Timer}
+use Rattle.inp_model.specs.RawItem.{RawItem, Occurred}
 use Rattle.inp_model.specs.Description.{Description}
 use Rattle.inp_model.specs.State.{key_down}
 use Rattle.inp_model.specs.Step.{moment_of}
@@ -24,19 +25,19 @@ raw-step : (d : Description) (past : List Step) (x : Step) → raw d (x ∷ past
 unfolding raw raw_of_step raw_and_timer
 raw-step d past x = refl
 
--- by the raw events that the step stands for, the timer and the inhibition after it
-entered : {T : Type 0} (d : Description) (past : List Step) (x : Step) (es : List Event) (takes : T → List Event → ℕ → T → Type 0) (new : CoreValues) (to_old to_new : T) → raw_of_step d past x ≡ es → StandsAfter d (raw_after (raw d past) es) new → TakesAll takes (moment_of x) (cuts d (raw d past) es) to_old to_new → new.timer ≡ timer d (x ∷ past) → new.inhibited ≡ is_inhibited (x ∷ past) → IsEntered d past x new takes to_old to_new
-entered d past x es takes new to_old to_new e s f t i = record {
+-- by what the step stands for, the timer and the inhibition after it
+entered : {T : Type 0} (d : Description) (past : List Step) (x : Step) (items : List RawItem) (takes : T → List Event → ℕ → T → Type 0) (new : CoreValues) (to_old to_new : T) → raw_of_step d past x ≡ items → StandsAfter d (raw_after (raw d past) items) new → TakesAll takes (moment_of x) (cuts d (raw d past) items) to_old to_new → new.timer ≡ timer d (x ∷ past) → new.inhibited ≡ is_inhibited (x ∷ past) → IsEntered d past x new takes to_old to_new
+entered d past x items takes new to_old to_new e s f t i = record {
   stands_for = record {
-    raw_events = subst (λ (r : List Event). StandsAfter d r new) (sym (raw-step d past x ∙ ap (raw_after (raw d past)) e)) s;
+    raw_events = subst (λ (r : List RawItem). StandsAfter d r new) (sym (raw-step d past x ∙ ap (raw_after (raw d past)) e)) s;
     timer = t;
     inhibited = i;
   };
-  takes_all = subst (λ (ys : List Event). TakesAll takes (moment_of x) (cuts d (raw d past) ys) to_old to_new) (sym e) f;
+  takes_all = subst (λ (ys : List RawItem). TakesAll takes (moment_of x) (cuts d (raw d past) ys) to_old to_new) (sym e) f;
 }
 
 -- the timer and the flag are no part of it
-StandsAfter-timer : (d : Description) (r : List Event) (core : CoreValues) (t : Timer) → StandsAfter d r core → StandsAfter d r (record core { timer = t })
+StandsAfter-timer : (d : Description) (r : List RawItem) (core : CoreValues) (t : Timer) → StandsAfter d r core → StandsAfter d r (record core { timer = t })
 StandsAfter-timer d r core t s = record {
   made = record { hint = s.made.hint; slots = s.made.slots };
   state = s.state;
@@ -45,7 +46,7 @@ StandsAfter-timer d r core t s = record {
   batch = s.batch;
 }
 
-StandsAfter-flag : (d : Description) (r : List Event) (core : CoreValues) (flag : Bool) → StandsAfter d r core → StandsAfter d r (record core { inhibited = flag })
+StandsAfter-flag : (d : Description) (r : List RawItem) (core : CoreValues) (flag : Bool) → StandsAfter d r core → StandsAfter d r (record core { inhibited = flag })
 StandsAfter-flag d r core flag s = record {
   made = record { hint = s.made.hint; slots = s.made.slots };
   state = s.state;
@@ -64,14 +65,14 @@ timer_of d past x = timer_after_cuts d (moment_of x) (cuts_of_step d past x) (ti
 abbrev flagged : Bool → CoreValues → CoreValues
 flagged flag core = record core { inhibited = flag }
 
-by_events : {T : Type 0} (d : Description) (past : List Step) (x : Step) (es : List Event) (takes : T → List Event → ℕ → T → Type 0) (old new : CoreValues) (flag : Bool) (to_old to_new : T) → CoreStandsFor d past old → raw_of_step d past x ≡ es → timer d (x ∷ past) ≡ timer_of d past x → flag ≡ is_inhibited (x ∷ past) → Handles d (raw d past) es (moment_of x) takes old new to_old to_new → IsEntered d past x (flagged flag new) takes to_old to_new
+by_events : {T : Type 0} (d : Description) (past : List Step) (x : Step) (es : List Event) (takes : T → List Event → ℕ → T → Type 0) (old new : CoreValues) (flag : Bool) (to_old to_new : T) → CoreStandsFor d past old → raw_of_step d past x ≡ map Occurred es → timer d (x ∷ past) ≡ timer_of d past x → flag ≡ is_inhibited (x ∷ past) → Handles d (raw d past) es (moment_of x) takes old new to_old to_new → IsEntered d past x (flagged flag new) takes to_old to_new
 by_events d past x es takes old new flag to_old to_new h e t i k =
-    entered d past x es takes (flagged flag new) to_old to_new e
-    (StandsAfter-flag d (raw_after (raw d past) es) new flag k.stands_after)
+    entered d past x (map Occurred es) takes (flagged flag new) to_old to_new e
+    (StandsAfter-flag d (raw_after (raw d past) (map Occurred es)) new flag k.stands_after)
     k.takes_all
     (k.timer
-    ∙ ap (timer_after_cuts d (moment_of x) (cuts d (raw d past) es)) h.timer
-    ∙ ap (λ (ys : List Event). timer_after_cuts d (moment_of x) (cuts d (raw d past) ys) (timer d past)) (sym e)
+    ∙ ap (timer_after_cuts d (moment_of x) (cuts d (raw d past) (map Occurred es))) h.timer
+    ∙ ap (λ (ys : List RawItem). timer_after_cuts d (moment_of x) (cuts d (raw d past) ys) (timer d past)) (sym e)
     ∙ sym t)
     i
 
@@ -85,7 +86,7 @@ timer-inject d past e now = refl
 pub enters-inject : {T : Type 0} (d : Description) (past : List Step) (e : Event) (now : ℕ) (es : List Event) (takes : T → List Event → ℕ → T → Type 0) (old new : CoreValues) (to_old to_new : T) → CoreStandsFor d past old → (if old.inhibited then [] else e ∷ []) ≡ es → Handles d (raw d past) es now takes old new to_old to_new → IsEntered d past (Inject e now) new takes to_old to_new
 unfolding raw_of_step is_inhibited
 enters-inject d past e now es takes old new to_old to_new h i k =
-    by_events d past (Inject e now) es takes old new new.inhibited to_old to_new h (unless (e ∷ []) es h i) (timer-inject d past e now) (k.inhibited ∙ h.inhibited) k
+    by_events d past (Inject e now) es takes old new new.inhibited to_old to_new h (ap (map Occurred) (unless (e ∷ []) es h i)) (timer-inject d past e now) (k.inhibited ∙ h.inhibited) k
 
 timer-write : (d : Description) (past : List Step) (client : ℕ) (e : Event) (now : ℕ) → timer d (Write client e now ∷ past) ≡ timer_of d past (Write client e now)
 unfolding timer raw raw_of_step raw_and_timer
@@ -94,20 +95,20 @@ timer-write d past client e now = refl
 pub enters-write : {T : Type 0} (d : Description) (past : List Step) (client : ℕ) (e : Event) (now : ℕ) (es : List Event) (takes : T → List Event → ℕ → T → Type 0) (old new : CoreValues) (to_old to_new : T) → CoreStandsFor d past old → (if old.inhibited then [] else e ∷ []) ≡ es → Handles d (raw d past) es now takes old new to_old to_new → IsEntered d past (Write client e now) new takes to_old to_new
 unfolding raw_of_step is_inhibited
 enters-write d past client e now es takes old new to_old to_new h i k =
-    by_events d past (Write client e now) es takes old new new.inhibited to_old to_new h (unless (e ∷ []) es h i) (timer-write d past client e now) (k.inhibited ∙ h.inhibited) k
+    by_events d past (Write client e now) es takes old new new.inhibited to_old to_new h (ap (map Occurred) (unless (e ∷ []) es h i)) (timer-write d past client e now) (k.inhibited ∙ h.inhibited) k
 
 timer-inhibit : (d : Description) (past : List Step) (now : ℕ) → timer d (Inhibit now ∷ past) ≡ timer_of d past (Inhibit now)
 unfolding timer raw raw_of_step raw_and_timer
 timer-inhibit d past now = refl
 
-raw_of_step-inhibit : (d : Description) (past : List Step) (now : ℕ) → raw_of_step d past (Inhibit now) ≡ (if is_inhibited past then [] else releases d (raw d past))
+raw_of_step-inhibit : (d : Description) (past : List Step) (now : ℕ) → raw_of_step d past (Inhibit now) ≡ map Occurred (if is_inhibited past then [] else releases d (raw d past))
 unfolding raw_of_step raw
 raw_of_step-inhibit d past now = refl
 
 pub enters-inhibit : {T : Type 0} (d : Description) (past : List Step) (now : ℕ) (es : List Event) (takes : T → List Event → ℕ → T → Type 0) (old new : CoreValues) (to_old to_new : T) → CoreStandsFor d past old → (if old.inhibited then [] else releases d (raw d past)) ≡ es → Handles d (raw d past) es now takes old new to_old to_new → IsEntered d past (Inhibit now) (flagged true new) takes to_old to_new
 unfolding is_inhibited
 enters-inhibit d past now es takes old new to_old to_new h i k =
-    by_events d past (Inhibit now) es takes old new true to_old to_new h (raw_of_step-inhibit d past now ∙ unless (releases d (raw d past)) es h i) (timer-inhibit d past now) refl k
+    by_events d past (Inhibit now) es takes old new true to_old to_new h (raw_of_step-inhibit d past now ∙ ap (map Occurred) (unless (releases d (raw d past)) es h i)) (timer-inhibit d past now) refl k
 
 -- an inhibited core stays as it is
 pub stays-inhibited : {T : Type 0} (d : Description) (past : List Step) (now : ℕ) (takes : T → List Event → ℕ → T → Type 0) (core : CoreValues) (to : T) → core.inhibited ≡ true → CoreStandsFor d past core → IsEntered d past (Inhibit now) core takes to to
@@ -117,27 +118,27 @@ stays-inhibited d past now takes core to i h =
 
 -- ---- a tick
 
--- the timer after a tick, by whether it was due and fired and by the raw events that it stands for
-abbrev ticked : Description → ℕ → List Event → Timer → Bool → Bool → List Event → Timer
-ticked d now r t due fired es =
-    let armed : Timer = timer_at_cuts d now (cuts d r es) (if due then timer_disarmed t else t) in
-    let after : Timer = if fired then timer_rearmed now (setting d (raw_after r es) REP_PERIOD) armed else armed in
+-- the timer after a tick, by whether it was due and fired and by what it stands for
+abbrev ticked : Description → ℕ → List RawItem → Timer → Bool → Bool → List RawItem → Timer
+ticked d now r t due fired items =
+    let armed : Timer = timer_at_cuts d now (cuts d r items) (if due then timer_disarmed t else t) in
+    let after : Timer = if fired then timer_rearmed now (setting d (raw_after r items) REP_PERIOD) armed else armed in
     if repeats_keys d then after else t
 
 timer-tick : (d : Description) (past : List Step) (now : ℕ) → timer d (Tick now ∷ past) ≡ ticked d now (raw d past) (timer d past) (is_due (timer d past) now) (fires d past (raw_and_timer d past) now) (raw_of_step d past (Tick now))
 unfolding timer raw raw_of_step raw_and_timer
 timer-tick d past now = refl
 
-timer-tick-by : (d : Description) (past : List Step) (now : ℕ) (due fired : Bool) (es : List Event) → is_due (timer d past) now ≡ due → fires d past (raw_and_timer d past) now ≡ fired → raw_of_step d past (Tick now) ≡ es → timer d (Tick now ∷ past) ≡ ticked d now (raw d past) (timer d past) due fired es
-timer-tick-by d past now due fired es u f e =
+timer-tick-by : (d : Description) (past : List Step) (now : ℕ) (due fired : Bool) (items : List RawItem) → is_due (timer d past) now ≡ due → fires d past (raw_and_timer d past) now ≡ fired → raw_of_step d past (Tick now) ≡ items → timer d (Tick now ∷ past) ≡ ticked d now (raw d past) (timer d past) due fired items
+timer-tick-by d past now due fired items u f e =
     timer-tick d past now
     ∙ ap (λ (b : Bool). ticked d now (raw d past) (timer d past) b (fires d past (raw_and_timer d past) now) (raw_of_step d past (Tick now))) u
     ∙ ap (λ (b : Bool). ticked d now (raw d past) (timer d past) due b (raw_of_step d past (Tick now))) f
     ∙ ap (ticked d now (raw d past) (timer d past) due fired) e
 
-raw_of_step-tick : (d : Description) (past : List Step) (now : ℕ) (fired : Bool) → fires d past (raw_and_timer d past) now ≡ fired → raw_of_step d past (Tick now) ≡ (if fired then repeat_of (timer d past).key else [])
+raw_of_step-tick : (d : Description) (past : List Step) (now : ℕ) (fired : Bool) → fires d past (raw_and_timer d past) now ≡ fired → raw_of_step d past (Tick now) ≡ map Occurred (if fired then repeat_of (timer d past).key else [])
 unfolding raw_of_step timer
-raw_of_step-tick d past now fired f = ap (λ b. if b then repeat_of (raw_and_timer d past).timer.key else []) f
+raw_of_step-tick d past now fired f = ap (λ b. map Occurred (if b then repeat_of (raw_and_timer d past).timer.key else [])) f
 
 all_of : (a b c : Bool) → ((a && b) && c) ≡ (a && (b && c))
 all_of true b c = refl
@@ -157,7 +158,6 @@ timer-idle : (d : Description) (past : List Step) → repeats_keys d ≡ false �
 unfolding timer raw_and_timer
 timer-idle d [] h = refl
 timer-idle d (x ∷ past) h =
-    let es : List Event = raw_of_step d past x in
     otherwise (repeats_keys d) _ (timer d past) h ∙ timer-idle d past h
   where
     otherwise : (b : Bool) (u v : Timer) → b ≡ false → (if b then u else v) ≡ v
@@ -208,24 +208,24 @@ fires_on : {T : Type 0} (d : Description) (past : List Step) (now : ℕ) (takes 
     → IsEntered d past (Tick now) (record new { timer = timer_rearmed now (1000 * unsigned_abs new.state.period) new.timer }) takes to_old to_new
 unfolding is_inhibited
 fires_on d past now takes core new to_old to_new u m h k =
-    let es : List Event = repeat_of core.timer.key in
+    let items : List RawItem = map Occurred (repeat_of core.timer.key) in
     let fired : fires d past (raw_and_timer d past) now ≡ true =
     fires-by d past now core h ∙ ap (λ (b : Bool). b && may_repeat core) u ∙ m in
     let due : is_due (timer d past) now ≡ true = ap (λ (t : Timer). is_due t now) (sym h.timer) ∙ u in
-    let some : raw_of_step d past (Tick now) ≡ es =
-    raw_of_step-tick d past now true fired ∙ ap (λ (t : Timer). repeat_of t.key) (sym h.timer) in
+    let some : raw_of_step d past (Tick now) ≡ items =
+    raw_of_step-tick d past now true fired ∙ ap (λ (t : Timer). map Occurred (repeat_of t.key)) (sym h.timer) in
     let on : repeats_keys d ≡ true = repeats d past now core h u in
-    let armed : Timer = timer_at_cuts d now (cuts d (raw d past) es) (timer_disarmed (timer d past)) in
+    let armed : Timer = timer_at_cuts d now (cuts d (raw d past) items) (timer_disarmed (timer d past)) in
     let timer_is : new.timer ≡ armed =
     k.timer
-    ∙ ap (λ (b : Bool). if b then timer_at_cuts d now (cuts d (raw d past) es) (timer_disarmed core.timer) else timer_disarmed core.timer) on
-    ∙ ap (λ (t : Timer). timer_at_cuts d now (cuts d (raw d past) es) (timer_disarmed t)) h.timer in
-    entered d past (Tick now) es takes (record new { timer = timer_rearmed now (1000 * unsigned_abs new.state.period) new.timer }) to_old to_new some
-    (StandsAfter-timer d (raw_after (raw d past) es) new (timer_rearmed now (1000 * unsigned_abs new.state.period) new.timer) k.stands_after)
+    ∙ ap (λ (b : Bool). if b then timer_at_cuts d now (cuts d (raw d past) items) (timer_disarmed core.timer) else timer_disarmed core.timer) on
+    ∙ ap (λ (t : Timer). timer_at_cuts d now (cuts d (raw d past) items) (timer_disarmed t)) h.timer in
+    entered d past (Tick now) items takes (record new { timer = timer_rearmed now (1000 * unsigned_abs new.state.period) new.timer }) to_old to_new some
+    (StandsAfter-timer d (raw_after (raw d past) items) new (timer_rearmed now (1000 * unsigned_abs new.state.period) new.timer) k.stands_after)
     k.takes_all
     (ap (timer_rearmed now (1000 * unsigned_abs new.state.period)) timer_is
     ∙ ap (λ (x : ℤ). timer_rearmed now (1000 * unsigned_abs x) armed) k.stands_after.state.period
-    ∙ sym (timer-tick-by d past now true true es due fired some ∙ ap (λ (b : Bool). if b then timer_rearmed now (setting d (raw_after (raw d past) es) REP_PERIOD) armed else timer d past) on))
+    ∙ sym (timer-tick-by d past now true true items due fired some ∙ ap (λ (b : Bool). if b then timer_rearmed now (setting d (raw_after (raw d past) items) REP_PERIOD) armed else timer d past) on))
     (k.inhibited ∙ h.inhibited)
 
 -- the same, of the core that began with the timer timer_disarmed

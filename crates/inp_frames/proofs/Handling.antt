@@ -1,24 +1,33 @@
 -- Raw events that come one after another: what the core makes of none, and of some behind others.
-use Rattle.std.proofs.Common.{◌≡◌, ℕ, Bool, true, false, if◌then◌else◌, List, [], ◌∷◌, ◌++◌, refl, sym, ap, subst, ◌∙◌, append_assoc}
+use Rattle.std.proofs.Common.{◌≡◌, ℕ, Bool, true, false, if◌then◌else◌, List, [], ◌∷◌, ◌++◌, refl, sym, ap, subst, ◌∙◌, append_assoc, map}
 use Rattle.inp_model.specs.declared.event.Event.{Event}
+use Rattle.std.proofs.lemmas.List.{map-append}
 use Rattle.inp_model.specs.declared.timer.Timer.{Timer}
+use Rattle.inp_model.specs.RawItem.{RawItem, Occurred, Cut}
 use Rattle.inp_model.specs.Description.{Description}
-use Rattle.inp_model.specs.Cut.{Cut, raw_after, cut, cuts}
+use Rattle.inp_model.specs.Cut.{raw_after, cut_for, cuts}
 use Rattle.inp_model.specs.Timer.{repeats_keys, timer_at_cuts, timer_at_events, setting}
 use Rattle.inp_frames.specs.Core.{CoreValues, StandsAfter}
 use Rattle.inp_frames.specs.Frames.{TakesAll}
 use Rattle.inp_frames.specs.Handling.{Handles, timer_after_cuts}
 
-raw_after-append : (r xs ys : List Event) → raw_after r (xs ++ ys) ≡ raw_after (raw_after r xs) ys
+raw_after-append : (r xs ys : List RawItem) → raw_after r (xs ++ ys) ≡ raw_after (raw_after r xs) ys
 raw_after-append r [] ys = refl
 raw_after-append r (x ∷ xs) ys = raw_after-append (x ∷ r) xs ys
 
-cuts-append : (d : Description) (r xs ys : List Event) → cuts d r (xs ++ ys) ≡ cuts d r xs ++ cuts d (raw_after r xs) ys
+cuts-append : (d : Description) (r xs ys : List RawItem) → cuts d r (xs ++ ys) ≡ cuts d r xs ++ cuts d (raw_after r xs) ys
 unfolding cuts
 cuts-append d r [] ys = refl
 cuts-append d r (x ∷ xs) ys =
-    ap (λ (cs : List Cut). cut d r x ++ cs) (cuts-append d (x ∷ r) xs ys)
-    ∙ sym (append_assoc (cut d r x) (cuts d (x ∷ r) xs) (cuts d (raw_after (x ∷ r) xs) ys))
+    ap (λ (cs : List Cut). cut_for d r x ++ cs) (cuts-append d (x ∷ r) xs ys)
+    ∙ sym (append_assoc (cut_for d r x) (cuts d (x ∷ r) xs) (cuts d (raw_after (x ∷ r) xs) ys))
+
+-- the same of raw events
+raw_after-events : (r : List RawItem) (xs ys : List Event) → raw_after r (map Occurred (xs ++ ys)) ≡ raw_after (raw_after r (map Occurred xs)) (map Occurred ys)
+raw_after-events r xs ys = ap (raw_after r) (map-append Occurred xs ys) ∙ raw_after-append r (map Occurred xs) (map Occurred ys)
+
+cuts-events : (d : Description) (r : List RawItem) (xs ys : List Event) → cuts d r (map Occurred (xs ++ ys)) ≡ cuts d r (map Occurred xs) ++ cuts d (raw_after r (map Occurred xs)) (map Occurred ys)
+cuts-events d r xs ys = ap (cuts d r) (map-append Occurred xs ys) ∙ cuts-append d r (map Occurred xs) (map Occurred ys)
 
 TakesAll-append : {T : Type 0} (takes : T → List Event → ℕ → T → Type 0) (now : ℕ) (xs ys : List Cut) (a b c : T) → TakesAll takes now xs a b → TakesAll takes now ys b c → TakesAll takes now (xs ++ ys) a c
 TakesAll-append {T} takes now [] ys a b c h k = subst (λ (t : T). TakesAll takes now ys t c) h k
@@ -42,7 +51,7 @@ timer_after_cuts-append d now xs ys t =
     ∙ twice (repeats_keys d) (timer_at_cuts d now xs) (timer_at_cuts d now ys) t
 
 -- none
-pub Handles-none : {T : Type 0} (d : Description) (r : List Event) (now : ℕ) (takes : T → List Event → ℕ → T → Type 0) (core : CoreValues) (to : T) → StandsAfter d r core → Handles d r [] now takes core core to to
+pub Handles-none : {T : Type 0} (d : Description) (r : List RawItem) (now : ℕ) (takes : T → List Event → ℕ → T → Type 0) (core : CoreValues) (to : T) → StandsAfter d r core → Handles d r [] now takes core core to to
 unfolding cuts
 Handles-none d r now takes core to h = record {
   stands_after = h;
@@ -52,17 +61,17 @@ Handles-none d r now takes core to h = record {
 }
 
 -- some behind others
-pub Handles-append : {T : Type 0} (d : Description) (r xs ys : List Event) (now : ℕ) (takes : T → List Event → ℕ → T → Type 0) (old mid new : CoreValues) (to_old to_mid to_new : T) → Handles d r xs now takes old mid to_old to_mid → Handles d (raw_after r xs) ys now takes mid new to_mid to_new → Handles d r (xs ++ ys) now takes old new to_old to_new
+pub Handles-append : {T : Type 0} (d : Description) (r : List RawItem) (xs ys : List Event) (now : ℕ) (takes : T → List Event → ℕ → T → Type 0) (old mid new : CoreValues) (to_old to_mid to_new : T) → Handles d r xs now takes old mid to_old to_mid → Handles d (raw_after r (map Occurred xs)) ys now takes mid new to_mid to_new → Handles d r (xs ++ ys) now takes old new to_old to_new
 Handles-append d r xs ys now takes old mid new to_old to_mid to_new h k = record {
-  stands_after = subst (λ (q : List Event). StandsAfter d q new) (sym (raw_after-append r xs ys)) k.stands_after;
-  takes_all = subst (λ (cs : List Cut). TakesAll takes now cs to_old to_new) (sym (cuts-append d r xs ys)) (TakesAll-append takes now (cuts d r xs) (cuts d (raw_after r xs) ys) to_old to_mid to_new h.takes_all k.takes_all);
+  stands_after = subst (λ (q : List RawItem). StandsAfter d q new) (sym (raw_after-events r xs ys)) k.stands_after;
+  takes_all = subst (λ (cs : List Cut). TakesAll takes now cs to_old to_new) (sym (cuts-events d r xs ys)) (TakesAll-append takes now (cuts d r (map Occurred xs)) (cuts d (raw_after r (map Occurred xs)) (map Occurred ys)) to_old to_mid to_new h.takes_all k.takes_all);
   timer = k.timer
-      ∙ ap (timer_after_cuts d now (cuts d (raw_after r xs) ys)) h.timer
-      ∙ sym (timer_after_cuts-append d now (cuts d r xs) (cuts d (raw_after r xs) ys) old.timer)
-      ∙ ap (λ (cs : List Cut). timer_after_cuts d now cs old.timer) (sym (cuts-append d r xs ys));
+      ∙ ap (timer_after_cuts d now (cuts d (raw_after r (map Occurred xs)) (map Occurred ys))) h.timer
+      ∙ sym (timer_after_cuts-append d now (cuts d r (map Occurred xs)) (cuts d (raw_after r (map Occurred xs)) (map Occurred ys)) old.timer)
+      ∙ ap (λ (cs : List Cut). timer_after_cuts d now cs old.timer) (sym (cuts-events d r xs ys));
   inhibited = k.inhibited ∙ h.inhibited;
 }
 
 -- from the same core
-pub Handles-from : {T : Type 0} {d : Description} {r es : List Event} {now : ℕ} {takes : T → List Event → ℕ → T → Type 0} {old before new : CoreValues} {to_old to_new : T} → old ≡ before → Handles d r es now takes old new to_old to_new → Handles d r es now takes before new to_old to_new
+pub Handles-from : {T : Type 0} {d : Description} {r : List RawItem} {es : List Event} {now : ℕ} {takes : T → List Event → ℕ → T → Type 0} {old before new : CoreValues} {to_old to_new : T} → old ≡ before → Handles d r es now takes old new to_old to_new → Handles d r es now takes before new to_old to_new
 Handles-from {d} {r} {es} {now} {takes} {new} {to_old} {to_new} same h = subst (λ (core : CoreValues). Handles d r es now takes core new to_old to_new) same h

@@ -6,6 +6,7 @@ use Rattle.std.specs.Ordering.{int_eq}
 use Rattle.std.proofs.lemmas.Bool.Decides.{nat_tests}
 use Rattle.inp_model.specs.declared.event.TheConstants.{EV_ABS}
 use Rattle.inp_model.specs.declared.event.Event.{Event}
+use Rattle.inp_model.specs.RawItem.{RawItem, Occurred}
 use Rattle.inp_model.specs.Description.{Description}
 use Rattle.inp_model.specs.Event.{is_multi_touch, is_report, slot_event}
 use Rattle.inp_model.specs.State.{staged}
@@ -69,7 +70,7 @@ event_by (Some w) e v is = ap (λ (x : ℤ). record e { value = x } ∷ []) is
 
 -- the slot before it
 
-announced-staged : (d : Description) (r : List Event) (e : Event) → passes_slot_value d r e ≡ true → announced d (e ∷ r) ≡ staged d r
+announced-staged : (d : Description) (r : List RawItem) (e : Event) → passes_slot_value d r e ≡ true → announced d (Occurred e ∷ r) ≡ staged d r
 unfolding announced
 announced-staged d r e h = ap (λ b. if b then staged d r else announced d r) h
 
@@ -82,7 +83,7 @@ slot_by slot told true h = ap (λ (x : ℤ). slot_event x ∷ []) (h refl)
 slot_by slot told false h = refl
 
 -- what is passed by the flags, the value and the slot announced after the event is what the model passes
-pub passed-by : (d : Description) (r : List Event) (e : Event) (given : Passed) (n : ℕ) (v slot : ℤ) → n ≡ flags_after d r e → v ≡ unwrap_or (passes_as d r e) e.value → slot ≡ announced d (e ∷ r)
+pub passed-by : (d : Description) (r : List RawItem) (e : Event) (given : Passed) (n : ℕ) (v slot : ℤ) → n ≡ flags_after d r e → v ≡ unwrap_or (passes_as d r e) e.value → slot ≡ announced d (Occurred e ∷ r)
     → given.announcement ≡ (if bit_and n 4 == 4 then Some (slot_event slot) else None)
     → (let new : Event = record e { value = v } in given.event ≡ (if bit_and n 1 == 1 then Some new else None))
     → events_of given ≡ passed d r e

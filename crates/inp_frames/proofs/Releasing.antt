@@ -4,6 +4,7 @@ use Rattle.std.specs.Prelude.{filter, flat_map}
 use Rattle.std.specs.List.{range_with_len, All}
 use Rattle.std.proofs.lemmas.List.Elements.{All-tail}
 use Rattle.inp_model.specs.declared.event.Event.{Event}
+use Rattle.inp_model.specs.RawItem.{RawItem}
 use Rattle.inp_model.specs.Description.{Description}
 use Rattle.inp_model.specs.Event.{core_report}
 use Rattle.inp_model.specs.State.{key_down}
@@ -53,7 +54,7 @@ only_if : (x y : Bool) (es : List Event) → x ≡ y → (if x then es else []) 
 only_if x y es h = ap (λ b. if b then es else []) h
 
 -- the contacts, of a list that is true at just the slots that have one
-lifts : (d : Description) (r : List Event) (contacts : List Bool) → length contacts ≡ 64 → d.slots ≤ 64 → ((slot : ℕ) → slot < d.slots → is_set contacts slot ≡ has_contact d r slot) → ((slot : ℕ) → d.slots ≤ slot → is_set contacts slot ≡ false) → flat_map lift_events (true_indices contacts) ≡ slot_releases d r 0 d.slots
+lifts : (d : Description) (r : List RawItem) (contacts : List Bool) → length contacts ≡ 64 → d.slots ≤ 64 → ((slot : ℕ) → slot < d.slots → is_set contacts slot ≡ has_contact d r slot) → ((slot : ℕ) → d.slots ≤ slot → is_set contacts slot ≡ false) → flat_map lift_events (true_indices contacts) ≡ slot_releases d r 0 d.slots
 unfolding true_indices
 lifts d r contacts len few there past =
     let f : ℕ → List Event = λ slot. if is_set contacts slot then lift_events slot else [] in
@@ -71,7 +72,7 @@ lifts d r contacts len few there past =
     ∙ before
 
 -- the keys, of a list that is true at just those that are down
-key_lifts : (d : Description) (r : List Event) (keys : List Bool) → length keys ≡ 768 → ((key : ℕ) → is_set keys key ≡ key_down d r key) → flat_map release_events (true_indices keys) ≡ key_releases d r 0 (KEY_MAX + 1)
+key_lifts : (d : Description) (r : List RawItem) (keys : List Bool) → length keys ≡ 768 → ((key : ℕ) → is_set keys key ≡ key_down d r key) → flat_map release_events (true_indices keys) ≡ key_releases d r 0 (KEY_MAX + 1)
 unfolding true_indices
 key_lifts d r keys len down =
     let f : ℕ → List Event = λ key. if is_set keys key then release_events key else [] in
@@ -80,7 +81,7 @@ key_lifts d r keys len down =
     ∙ flat_map-range f (key_release d r) 0 768 (λ key l u. only_if (is_set keys key) (key_down d r key) (release_events key) (down key))
 
 -- all that an inhibition stands for
-pub releases-by : (d : Description) (r : List Event) (contacts keys : List Bool) → length contacts ≡ 64 → d.slots ≤ 64 → ((slot : ℕ) → slot < d.slots → is_set contacts slot ≡ has_contact d r slot) → ((slot : ℕ) → d.slots ≤ slot → is_set contacts slot ≡ false) → length keys ≡ 768 → ((key : ℕ) → is_set keys key ≡ key_down d r key) → (flat_map lift_events (true_indices contacts) ++ flat_map release_events (true_indices keys)) ++ core_report ∷ [] ≡ releases d r
+pub releases-by : (d : Description) (r : List RawItem) (contacts keys : List Bool) → length contacts ≡ 64 → d.slots ≤ 64 → ((slot : ℕ) → slot < d.slots → is_set contacts slot ≡ has_contact d r slot) → ((slot : ℕ) → d.slots ≤ slot → is_set contacts slot ≡ false) → length keys ≡ 768 → ((key : ℕ) → is_set keys key ≡ key_down d r key) → (flat_map lift_events (true_indices contacts) ++ flat_map release_events (true_indices keys)) ++ core_report ∷ [] ≡ releases d r
 releases-by d r contacts keys len few there past count down =
     ap (λ (es : List Event). (es ++ flat_map release_events (true_indices keys)) ++ core_report ∷ []) (lifts d r contacts len few there past)
     ∙ ap (λ (es : List Event). (slot_releases d r 0 d.slots ++ es) ++ core_report ∷ []) (key_lifts d r keys count down)

@@ -3,6 +3,7 @@ use Rattle.std.specs.Prelude.{◌≡◌, ℕ, Bool, List, ◌∷◌, length}
 use Rattle.inp_model.specs.declared.event.Event.{Event}
 use Rattle.inp_model.specs.declared.step.Step.{Step}
 use Rattle.inp_model.specs.declared.timer.Timer.{Timer}
+use Rattle.inp_model.specs.RawItem.{RawItem}
 use Rattle.inp_model.specs.Description.{Description}
 use Rattle.inp_model.specs.Step.{moment_of}
 use Rattle.inp_model.specs.Past.{is_inhibited}
@@ -33,7 +34,7 @@ pub record IsFor (d : Description) (core : CoreValues) : Type 0 where
   pub slots : length core.slots.slots ≡ d.slots
 
 -- on a device with this description its state, slots and batch are those after the raw events r, newest first
-pub record StandsAfter (d : Description) (r : List Event) (core : CoreValues) : Type 0 where
+pub record StandsAfter (d : Description) (r : List RawItem) (core : CoreValues) : Type 0 where
   pub made : IsFor d core
   pub state : StandsFor d r core.state
   pub slots : SlotsStandFor d r core.slots

@@ -1,12 +1,13 @@
 -- What the core makes of raw events that come one after another at one moment.
-use Rattle.std.specs.Prelude.{◌≡◌, ℕ, pos, int_lt, ◌*◌, Bool, false, ◌&&◌, not, if◌then◌else◌, nat_eq, List, [], ◌∷◌, slice_index_or, unsigned_abs}
+use Rattle.std.specs.Prelude.{◌≡◌, ℕ, pos, int_lt, ◌*◌, Bool, false, ◌&&◌, not, if◌then◌else◌, nat_eq, List, [], ◌∷◌, slice_index_or, unsigned_abs, map}
 use Rattle.inp_model.specs.declared.event.TheConstants.{EV_KEY}
 use Rattle.inp_model.specs.declared.multi_touch.TheConstants.{ABS_MT_TRACKING_ID}
 use Rattle.inp_model.specs.declared.event.Event.{Event}
 use Rattle.inp_model.specs.declared.timer.Timer.{Timer}
+use Rattle.inp_model.specs.RawItem.{RawItem, Occurred, Cut}
 use Rattle.inp_model.specs.Description.{Description}
 use Rattle.inp_model.specs.Event.{is_repeat, slot_event}
-use Rattle.inp_model.specs.Cut.{Cut, cuts, raw_after}
+use Rattle.inp_model.specs.Cut.{cuts, raw_after}
 use Rattle.inp_model.specs.Timer.{repeats_keys, timer_at_key, timer_at_events, timer_at_cuts}
 use Rattle.inp_model.specs.Raw.{key_event, lift_event}
 use Rattle.inp_state.specs.State.{Values}
@@ -30,10 +31,10 @@ abbrev pub timer_after_cuts : Description → ℕ → List Cut → Timer → Tim
 timer_after_cuts d now cs timer = if repeats_keys d then timer_at_cuts d now cs timer else timer
 
 -- the core handled the raw events es after r, one after another at one moment
-pub record Handles {T : Type 0} (d : Description) (r es : List Event) (now : ℕ) (takes : T → List Event → ℕ → T → Type 0) (old new : CoreValues) (to_old to_new : T) : Type 0 where
-  pub stands_after : StandsAfter d (raw_after r es) new
-  pub takes_all : TakesAll takes now (cuts d r es) to_old to_new
-  pub timer : new.timer ≡ timer_after_cuts d now (cuts d r es) old.timer
+pub record Handles {T : Type 0} (d : Description) (r : List RawItem) (es : List Event) (now : ℕ) (takes : T → List Event → ℕ → T → Type 0) (old new : CoreValues) (to_old to_new : T) : Type 0 where
+  pub stands_after : StandsAfter d (raw_after r (map Occurred es)) new
+  pub takes_all : TakesAll takes now (cuts d r (map Occurred es)) to_old to_new
+  pub timer : new.timer ≡ timer_after_cuts d now (cuts d r (map Occurred es)) old.timer
   pub inhibited : new.inhibited ≡ old.inhibited
 
 -- the key of the timer may repeat: it is down, and the device is not inhibited

@@ -2,9 +2,10 @@
 ghost use Rattle.std.specs.Prelude.{◌≡◌, ◌≤◌, ◌<◌, ℕ, Bool, false, ◌&&◌, not, if◌then◌else◌, List, [], ◌∷◌, length, flat_map, slice_index_or, IfOk, ◌*◌, unsigned_abs};
 ghost use Rattle.inp_model.specs.declared.event.Event.{Event};
 ghost use Rattle.inp_model.specs.declared.step.Step.{Step};
-ghost use Rattle.inp_model.specs.declared.step.Step.TheVariants.{Inject, Tick, Write, Inhibit, Uninhibit};
+ghost use Rattle.inp_model.specs.declared.step.Step.TheVariants.{Inject, Tick, Write, Inhibit, Uninhibit, SetAxis};
 ghost use Rattle.inp_model.specs.declared.limits.TheConstants.{SLOTS_MAX};
 ghost use Rattle.inp_model.specs.declared.stamped.TheConstants.{MOMENT_MAX};
+ghost use Rattle.inp_model.specs.RawItem.{RawItem};
 ghost use Rattle.inp_model.specs.Description.{Description};
 ghost use Rattle.inp_model.specs.Timer.{is_due, timer_disarmed, timer_rearmed};
 ghost use Rattle.inp_model.specs.Raw.{releases, key_event};
@@ -22,7 +23,7 @@ use crate::passed::handle;
 use crate::raw_events::{core_report, key_release, key_repeat, lift_event, slot_event};
 use inp_bits::Bits;
 use inp_caps::Caps;
-use inp_model::{Event, KEY_MAX, NoMemory, Timer};
+use inp_model::{ABS_MAX, AxisInfo, Event, KEY_MAX, NoMemory, Timer};
 use inp_slots::Slots;
 use inp_state::State;
 use std::alloc::Global;
@@ -154,6 +155,20 @@ impl Core {
         self.inhibited = false;
     }
 
+    /// Describes the axis with this code anew, which is at most `ABS_MAX` (evdev's `EVIOCSABS`).
+    ///
+    /// No event is passed and no frame ends. What the batch holds stays there, as it was passed. A device that is inhibited
+    /// is described all the same.
+    pub fn describe(&mut self, code: u16, info: AxisInfo)
+        requires within { code ≤ ABS_MAX }
+        ensures stands { (d : Description) (past : List Step) (client : ℕ)
+            → CoreStandsFor d past self.old
+            → CoreStandsFor d (SetAxis client code info ∷ past) self.new }
+        ensures made { (d : Description) → IsFor d self.old → IsFor d self.new }
+    {
+        self.state.describe(code, info);
+    }
+
     /// Keys, switches, LEDs, sounds, axes and the settings of the autorepeat.
     pub fn state(&self) -> &State
         ensures state { result.now ≡ self.now.state }
@@ -172,7 +187,7 @@ impl Core {
     fn gather<F: Frames>(&mut self, caps: &Caps, event: Event, now: u64, to: &mut F)
         requires timely { now ≤ MOMENT_MAX }
         requires made { IsFor caps.now self.old }
-        ensures handled { (r : List Event) → StandsAfter caps.now r self.old
+        ensures handled { (r : List RawItem) → StandsAfter caps.now r self.old
             → Handles caps.now r (event ∷ []) now F.takes self.old self.new to.old to.new }
         ensures made { IsFor caps.now self.new }
     {
@@ -196,7 +211,7 @@ impl Core {
     )
         requires timely { now ≤ MOMENT_MAX }
         requires made { IsFor caps.now self.old }
-        ensures handled { (r : List Event) → StandsAfter caps.now r self.old
+        ensures handled { (r : List RawItem) → StandsAfter caps.now r self.old
             → Handles caps.now r (first ∷ second ∷ []) now F.takes self.old self.new to.old to.new }
         ensures made { IsFor caps.now self.new }
     {
@@ -208,7 +223,7 @@ impl Core {
     fn release_all<F: Frames>(&mut self, caps: &Caps, now: u64, to: &mut F)
         requires timely { now ≤ MOMENT_MAX }
         requires made { IsFor caps.now self.old }
-        ensures handled { (r : List Event) → StandsAfter caps.now r self.old
+        ensures handled { (r : List RawItem) → StandsAfter caps.now r self.old
             → Handles caps.now r (releases caps.now r) now F.takes self.old self.new to.old to.new }
         ensures made { IsFor caps.now self.new }
     {
@@ -223,7 +238,7 @@ impl Core {
     fn lift_contacts<F: Frames>(&mut self, caps: &Caps, contacts: &Bits<1>, now: u64, to: &mut F)
         requires timely { now ≤ MOMENT_MAX }
         requires made { IsFor caps.now self.old }
-        ensures handled { (r : List Event) → StandsAfter caps.now r self.old
+        ensures handled { (r : List RawItem) → StandsAfter caps.now r self.old
             → Handles caps.now r (flat_map lift_events (true_indices contacts.now)) now F.takes
             self.old self.new to.old to.new }
         ensures made { IsFor caps.now self.new }
@@ -238,7 +253,7 @@ impl Core {
     fn release_keys<F: Frames>(&mut self, caps: &Caps, keys: &Bits<12>, now: u64, to: &mut F)
         requires timely { now ≤ MOMENT_MAX }
         requires made { IsFor caps.now self.old }
-        ensures handled { (r : List Event) → StandsAfter caps.now r self.old
+        ensures handled { (r : List RawItem) → StandsAfter caps.now r self.old
             → Handles caps.now r (flat_map release_events (true_indices keys.now)) now F.takes
             self.old self.new to.old to.new }
         ensures made { IsFor caps.now self.new }

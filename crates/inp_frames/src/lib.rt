@@ -35,14 +35,24 @@
 //! *An inhibition* ([`Core::inhibit`]) lifts each contact and releases each key that is down, by ascending numbers,
 //! behind what the batch holds. From then on raw events are ignored, until [`Core::uninhibit`].
 //!
-//! Its contract: `inp_model` says which raw events a step stands for after a history, which frames they are cut into, and
-//! how they arm the timer. A [`Core`] keeps no history; `CoreStandsFor` (`specs/Core.antt`) says for which histories it
-//! stands. A new one stands for the empty history, and after each call it stands for the history with one step more, for
-//! each history that it stood for. The frames that the step ends are the model's, and each is passed on once, in order; a
-//! step that ends no frame leaves the taker as it was (`IsEntered`). `proofs/Keeping.antt` is for whoever keeps a core
-//! beside the clients of a device: a step that is none of the core's ends no frame, and the core stands for the history
-//! with it as it is. A raw event takes the same time whatever came before, an inhibition takes time for each slot and
-//! each key that is down, and memory is taken when the core is made and never again.
+//! *An axis described anew* ([`Core::describe`]) passes no event and ends no frame. On a device with the axis `ABS_X`, at 0
+//! with fuzz 0:
+//!
+//! | Steps | Frame |
+//! |---|---|
+//! | `ABS_X` 50, `SYN_REPORT` | the same |
+//! | `ABS_X` is described with the value 10 and the fuzz 8 | none |
+//! | `ABS_X` 13, `SYN_REPORT` | none: the move is within half the fuzz |
+//! | `ABS_X` 14, `SYN_REPORT` | `ABS_X` 11, `SYN_REPORT`: within the fuzz, the value moves a quarter of the way |
+//!
+//! Its contract: `inp_model` says which raw events and descriptions a step stands for after a history, which frames
+//! they are cut into, and how they arm the timer. A [`Core`] keeps no history; `CoreStandsFor` (`specs/Core.antt`) says
+//! for which histories it stands. A new one stands for the empty history, and after each call it stands for the history
+//! with one step more, for each history that it stood for. The frames that the step ends are the model's, and each is
+//! passed on once, in order; a step that ends no frame leaves the taker as it was (`IsEntered`). `proofs/Keeping.antt`
+//! is for whoever keeps a core beside the clients of a device: a step that is none of the core's ends no frame, and the
+//! core stands for the history with it as it is. A raw event takes the same time whatever came before, an inhibition
+//! takes time for each slot and each key that is down, and memory is taken when the core is made and never again.
 //!
 //! Inside: `passed` says what is passed for a raw event, `batch` keeps it until its frame ends, `autorepeat` says what a
 //! frame makes of the timer, `contacts` finds the contacts to lift, `raw_events` has the events that the core makes, and

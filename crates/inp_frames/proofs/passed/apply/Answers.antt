@@ -2,6 +2,7 @@ use Rattle.std.proofs.Common.{◌≡◌, sym, ◌∙◌, ap, subst, rules, ◌�
 use Rattle.std.specs.Prelude.{unwrap_or}
 use Rattle.std.proofs.lemmas.Int.{to_z-of_z}
 use Rattle.inp_model.specs.declared.event.Event.{Event}
+use Rattle.inp_model.specs.RawItem.{Occurred}
 use Rattle.inp_model.specs.Passed.{passes_as}
 use Rattle.inp_caps.specs.Disposition.{flags_after}
 use Rattle.inp_state.proofs.Steps.{StandsFor-multi_touch}
@@ -22,7 +23,7 @@ returns-then-is_multi_touch-clause-state c =
 
 pub returns-then-is_multi_touch-clause-slots : goal.returns-then-is_multi_touch-clause-slots
 returns-then-is_multi_touch-clause-slots c =
-    λ r h. subst (λ (e : Event). SlotsStandFor c.args.caps.now (e ∷ r) c.apply.new.self) (touched c) (c.apply.ensures.stands r h)
+    λ r h. subst (λ (e : Event). SlotsStandFor c.args.caps.now (Occurred e ∷ r) c.apply.new.self) (touched c) (c.apply.ensures.stands r h)
 
 pub returns-then-is_multi_touch-clause-disposition : goal.returns-then-is_multi_touch-clause-disposition
 returns-then-is_multi_touch-clause-disposition c =

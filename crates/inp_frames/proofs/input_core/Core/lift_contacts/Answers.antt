@@ -1,4 +1,5 @@
-use Rattle.std.proofs.Common.{pos, List, ◌++◌, [], ◌∷◌, sym, ap, subst, ◌∙◌, ℕ, ◌<◌}
+use Rattle.std.proofs.Common.{pos, List, ◌++◌, [], ◌∷◌, sym, ap, subst, ◌∙◌, ℕ, ◌<◌, map}
+use Rattle.inp_model.specs.RawItem.{Occurred}
 use Rattle.inp_model.specs.Event.{slot_event}
 use Rattle.std.specs.Prelude.{flat_map}
 use Rattle.std.specs.List.{All}
@@ -25,7 +26,7 @@ loop-slot-preserved g c = record {
   made = c.gather_two.ensures.made;
   handled = λ r h.
       let before = c.loop-slot.invariant.handled r h in
-      let more = Handles-append c.args.caps.now r (flat_map lift_events c.loop-slot.yielded) (c.slot_event.result ∷ c.lift_event.result ∷ []) c.args.now g.F.Frames.takes c.args.self.now c.loop-slot.self c.gather_two.new.self c.args.to.now c.loop-slot.to c.gather_two.new.to before (c.gather_two.ensures.handled (raw_after r (flat_map lift_events c.loop-slot.yielded)) before.stands_after) in
+      let more = Handles-append c.args.caps.now r (flat_map lift_events c.loop-slot.yielded) (c.slot_event.result ∷ c.lift_event.result ∷ []) c.args.now g.F.Frames.takes c.args.self.now c.loop-slot.self c.gather_two.new.self c.args.to.now c.loop-slot.to c.gather_two.new.to before (c.gather_two.ensures.handled (raw_after r (map Occurred (flat_map lift_events c.loop-slot.yielded))) before.stands_after) in
       subst (λ (es : List Event). Handles c.args.caps.now r es c.args.now g.F.Frames.takes c.args.self.now c.gather_two.new.self c.args.to.now c.gather_two.new.to)
       (ap (λ (e : Event). flat_map lift_events c.loop-slot.yielded ++ e ∷ c.lift_event.result ∷ []) c.slot_event.ensures
       ∙ ap (λ (e : Event). flat_map lift_events c.loop-slot.yielded ++ slot_event (pos c.in-Some.slot) ∷ e ∷ []) c.lift_event.ensures

@@ -1,7 +1,8 @@
-use Rattle.std.proofs.Common.{◌≡◌, ◌<◌, ◌≤◌, ℕ, ℤ, pos, int_lt, false, not, List, ◌++◌, [], ◌∷◌, refl, sym, ap, subst, ◌∙◌, arith}
+use Rattle.std.proofs.Common.{◌≡◌, ◌<◌, ◌≤◌, ℕ, ℤ, pos, int_lt, false, not, List, ◌++◌, [], ◌∷◌, refl, sym, ap, subst, ◌∙◌, arith, map}
 use Rattle.std.specs.Prelude.{flat_map}
 use Rattle.inp_model.specs.declared.multi_touch.TheConstants.{ABS_MT_TRACKING_ID}
 use Rattle.inp_model.specs.declared.event.Event.{Event}
+use Rattle.inp_model.specs.RawItem.{Occurred}
 use Rattle.inp_model.specs.Cut.{raw_after}
 use Rattle.inp_model.specs.Raw.{has_contact}
 use Rattle.inp_bits.specs.Bits.{is_set, true_indices}
@@ -23,9 +24,9 @@ returns-clause-handled g c = λ r h.
     let lifted : List Event = flat_map lift_events (true_indices c.contacts_of-contacts.result) in
     let released : List Event = flat_map release_events (true_indices c.keys.result.now) in
     let first = c.lift_contacts.ensures.handled r h in
-    let second = c.release_keys.ensures.handled (raw_after r lifted) first.stands_after in
+    let second = c.release_keys.ensures.handled (raw_after r (map Occurred lifted)) first.stands_after in
     let both = Handles-append c.args.caps.now r lifted released c.args.now g.F.Frames.takes c.args.self.now c.lift_contacts.new.self c.release_keys.new.self c.args.to.now c.lift_contacts.new.to c.release_keys.new.to first second in
-    let third = c.gather.ensures.handled (raw_after r (lifted ++ released)) both.stands_after in
+    let third = c.gather.ensures.handled (raw_after r (map Occurred (lifted ++ released))) both.stands_after in
     let all = Handles-append c.args.caps.now r (lifted ++ released) (c.core_report.result ∷ []) c.args.now g.F.Frames.takes c.args.self.now c.release_keys.new.self c.gather.new.self c.args.to.now c.release_keys.new.to c.gather.new.to both third in
     subst (λ (es : List Event). Handles c.args.caps.now r es c.args.now g.F.Frames.takes c.args.self.now c.gather.new.self c.args.to.now c.gather.new.to)
     (ap (λ (e : Event). (lifted ++ released) ++ e ∷ []) c.core_report.ensures

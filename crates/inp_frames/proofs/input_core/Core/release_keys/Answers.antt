@@ -1,7 +1,8 @@
-use Rattle.std.proofs.Common.{List, ◌++◌, [], ◌∷◌, sym, ap, subst, ◌∙◌, ℕ, ◌<◌}
+use Rattle.std.proofs.Common.{List, ◌++◌, [], ◌∷◌, sym, ap, subst, ◌∙◌, ℕ, ◌<◌, map}
 use Rattle.std.specs.Prelude.{flat_map}
 use Rattle.std.specs.List.{All}
 use Rattle.inp_model.specs.declared.event.Event.{Event}
+use Rattle.inp_model.specs.RawItem.{Occurred}
 use Rattle.inp_model.specs.Cut.{raw_after}
 use Rattle.inp_bits.specs.Bits.{true_indices}
 use Rattle.inp_frames.specs.Handling.{Handles, release_events}
@@ -24,7 +25,7 @@ loop-key-preserved g c = record {
   made = c.gather.ensures.made;
   handled = λ r h.
       let before = c.loop-key.invariant.handled r h in
-      let more = Handles-append c.args.caps.now r (flat_map release_events c.loop-key.yielded) (c.key_release.result ∷ []) c.args.now g.F.Frames.takes c.args.self.now c.loop-key.self c.gather.new.self c.args.to.now c.loop-key.to c.gather.new.to before (c.gather.ensures.handled (raw_after r (flat_map release_events c.loop-key.yielded)) before.stands_after) in
+      let more = Handles-append c.args.caps.now r (flat_map release_events c.loop-key.yielded) (c.key_release.result ∷ []) c.args.now g.F.Frames.takes c.args.self.now c.loop-key.self c.gather.new.self c.args.to.now c.loop-key.to c.gather.new.to before (c.gather.ensures.handled (raw_after r (map Occurred (flat_map release_events c.loop-key.yielded))) before.stands_after) in
       subst (λ (es : List Event). Handles c.args.caps.now r es c.args.now g.F.Frames.takes c.args.self.now c.gather.new.self c.args.to.now c.gather.new.to)
       (ap (λ (e : Event). flat_map release_events c.loop-key.yielded ++ e ∷ []) c.key_release.ensures
       ∙ flat_map-more release_events c.loop-key.yielded c.in-Some.key)
