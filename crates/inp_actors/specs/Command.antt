@@ -5,7 +5,7 @@ use Rattle.inp_actors.specs.declared.role.Role.{Role}
 use Rattle.inp_actors.specs.declared.role.Role.TheVariants.{Source, Client, Tap}
 use Rattle.inp_actors.specs.declared.command.TheConstants.{READ_MAX}
 use Rattle.inp_actors.specs.declared.command.Command.{Command}
-use Rattle.inp_actors.specs.declared.command.Command.TheVariants.{Event, Tick, Inhibit, Uninhibit, Stream, Open, Close, Grab, Ungrab, Revoke, Mask, Clock, Write, Read, Discard, Keys, Switches, Leds, Sounds, SyncSlots, Axis, Slots, Next, Skip, Follow, Force}
+use Rattle.inp_actors.specs.declared.command.Command.TheVariants.{Event, Tick, Inhibit, Uninhibit, Stream, Open, Close, Grab, Ungrab, Revoke, Mask, Clock, Write, SetAxis, Read, Discard, Keys, Switches, Leds, Sounds, SyncSlots, Axis, Slots, Next, Skip, Follow, Force}
 
 abbrev pub is_source : Role → Bool
 is_source Source = true
@@ -42,6 +42,7 @@ is_command_of role Revoke = is_reading role
 is_command_of role (Mask kind word bits) = is_reading role
 is_command_of role (Clock clock moment) = is_reading role
 is_command_of role (Write moment kind code value) = is_reading role
+is_command_of role (SetAxis code info) = is_reading role
 is_command_of role (Read count) = is_tap role
 is_command_of role Discard = is_tap role
 is_command_of role Keys = is_tap role

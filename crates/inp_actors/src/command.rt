@@ -3,7 +3,7 @@ ghost use Rattle.std.specs.Prelude.{◌≡◌};
 ghost use Rattle.inp_actors.specs.Command.{is_command_of};
 
 use crate::{FileName, Role};
-use inp_model::Clock;
+use inp_model::{AxisInfo, Clock};
 
 /// The greatest number of events that a tap may ask for at once (this project's choice).
 pub const READ_MAX: u32 = 4096;
@@ -63,6 +63,11 @@ pub enum Command {
         code: u16,
         value: i32,
     },
+    /// The client describes an axis anew.
+    SetAxis {
+        code: u16,
+        info: AxisInfo,
+    },
     /// A tap reads at most `count` events, of 0 to `READ_MAX`.
     Read {
         count: u32,
@@ -119,7 +124,8 @@ impl Command {
             | Command::Revoke
             | Command::Mask { .. }
             | Command::Clock { .. }
-            | Command::Write { .. } => role != Role::Source,
+            | Command::Write { .. }
+            | Command::SetAxis { .. } => role != Role::Source,
             Command::Read { .. }
             | Command::Discard
             | Command::Keys

@@ -3,9 +3,10 @@ use Rattle.std.specs.Prelude.{ℕ, ℤ, [], ◌∷◌, codes, decimal}
 use Rattle.std.specs.Fmt.{signed_decimal}
 use Rattle.inp_model.specs.declared.event.TheConstants.{EV_ABS}
 use Rattle.inp_actors.specs.declared.command.Command as command
-use Rattle.inp_actors.specs.declared.command.Command.TheVariants.{Event, Tick, Inhibit, Uninhibit, Stream, Open, Close, Grab, Ungrab, Revoke, Mask, Clock, Write, Read, Discard, Keys, Switches, Leds, Sounds, SyncSlots, Axis, Slots, Next, Skip, Follow, Force}
+use Rattle.inp_actors.specs.declared.command.Command.TheVariants.{Event, Tick, Inhibit, Uninhibit, Stream, Open, Close, Grab, Ungrab, Revoke, Mask, Clock, Write, SetAxis, Read, Discard, Keys, Switches, Leds, Sounds, SyncSlots, Axis, Slots, Next, Skip, Follow, Force}
 use Rattle.inp_texts.specs.Texts.{kind_text, code_text, bits_text, clock_text}
 use Rattle.inp_canon.specs.Words.{Words}
+use Rattle.inp_canon.specs.Device.{info_words}
 
 -- MOMENT KIND CODE VALUE
 abbrev pub event_words : ℕ → ℕ → ℕ → ℤ → Words
@@ -27,6 +28,7 @@ command_words Revoke = codes "revoke" ∷ []
 command_words (Mask kind word bits) = codes "mask" ∷ kind_text kind ∷ decimal word ∷ bits_text bits ∷ []
 command_words (Clock clock moment) = codes "clock" ∷ clock_text clock ∷ decimal moment ∷ []
 command_words (Write moment kind code value) = codes "write" ∷ event_words moment kind code value
+command_words (SetAxis code info) = codes "setaxis" ∷ code_text EV_ABS code ∷ info_words info
 command_words (Read count) = codes "read" ∷ decimal count ∷ []
 command_words Discard = codes "discard" ∷ []
 command_words Keys = codes "keys" ∷ []

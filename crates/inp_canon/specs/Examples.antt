@@ -141,6 +141,7 @@ pub record WritesCommands : Type 0 where
   pub monotonic : IsWritten (commands.Clock Monotonic 5) (codes "clock monotonic 5")
   pub boottime : IsWritten (commands.Clock Boottime 0) (codes "clock boottime 0")
   pub write : IsWritten (commands.Write 7 7 300 (pos 1)) (codes "write 7 7 300 1")
+  pub describe : IsWritten (commands.SetAxis 0 (record no_info { value = pos 10; maximum = pos 200; fuzz = pos 8; flat = negsuc 2 })) (codes "setaxis ABS_X 10 0 200 8 -3 0")
   pub read : IsWritten (commands.Read 0) (codes "read 0")
   pub discard : IsWritten commands.Discard (codes "discard")
   pub keys : IsWritten commands.Keys (codes "keys")

@@ -3,6 +3,7 @@ ghost use Rattle.std.specs.Prelude.{◌≡◌, ◌++◌, string_bytes, OnOk};
 ghost use Rattle.inp_canon.specs.Words.{further_text};
 ghost use Rattle.inp_canon.specs.Command.{command_words};
 
+use crate::info_text::InfoText;
 use inp_actors::Command;
 use inp_model::NoMemory;
 use inp_texts::{BitsText, ClockText, CodeText, KindText};
@@ -61,6 +62,10 @@ pub(crate) fn push_command(text: &mut String, command: &Command) -> Result<(), N
                 },
             );
             write!(text, " write {moment} {kind} {code} {value}\n")?;
+        }
+        Command::SetAxis { code, info } => {
+            let (code, info) = (CodeText::of_axis(*code), InfoText(*info));
+            write!(text, " setaxis {code}{info}")?;
         }
         Command::Read { count } => write!(text, " read {count}\n")?,
         Command::Discard => text.push_str(" discard\n")?,

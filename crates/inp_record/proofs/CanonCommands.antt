@@ -4,6 +4,7 @@ use Rattle.std.specs.Prelude.{option_and_then}
 use Rattle.std.specs.List.{list_all}
 use Rattle.std.proofs.lemmas.Bool.Decides.{nat_tests}
 use Rattle.inp_model.specs.declared.event.TheConstants.{EV_ABS}
+use Rattle.inp_model.specs.declared.axis_info.AxisInfo.{AxisInfo}
 use Rattle.inp_model.specs.declared.stamped.TheConstants.{MOMENT_MAX}
 use Rattle.inp_model.specs.declared.stamped.Stamped.{Stamped}
 use Rattle.inp_texts.specs.Texts.{kind_text, code_text}
@@ -21,10 +22,10 @@ use Rattle.inp_record.specs.declared.verb.Verb as verb
 use Rattle.inp_record.specs.declared.verb.Verb.TheVariants as verbs
 use Rattle.inp_record.specs.Keyword.{keyword_rows, keyword_of}
 use Rattle.inp_record.specs.Verb.{verb_rows, is_verb_of, argument_count, with_arguments, verb_of}
-use Rattle.inp_record.specs.Words.{word, moment_word, kind_and_code, stamped_words, plain_command, command_of, action_by, action_of}
+use Rattle.inp_record.specs.Words.{word, moment_word, kind_and_code, info_words, stamped_words, plain_command, command_of, action_by, action_of}
 use Rattle.inp_record.proofs.Sayable.{IsSayableEvent, IsSayableCommand}
 use Rattle.inp_record.proofs.CanonLines.{is_plain}
-use Rattle.inp_record.proofs.CanonWords.{decimal_read, decimal_plain, signed_read, signed_plain, bits_read, bits_plain, kind_read, kind_plain, code_read, code_plain, clock_read, clock_plain, is_plain-word}
+use Rattle.inp_record.proofs.CanonWords.{decimal_read, decimal_plain, signed_read, signed_plain, bits_read, bits_plain, kind_read, kind_plain, code_read, code_plain, clock_read, clock_plain, info_read_behind, info_plain, is_plain-word}
 
 -- the verb of a command
 abbrev verb_for : command.Command → verb.Verb
@@ -41,6 +42,7 @@ verb_for commands.Revoke = verbs.Revoke
 verb_for (commands.Mask kind place bits) = verbs.Mask
 verb_for (commands.Clock clock moment) = verbs.Clock
 verb_for (commands.Write moment kind code value) = verbs.Write
+verb_for (commands.SetAxis code info) = verbs.SetAxis
 verb_for (commands.Read count) = verbs.Read
 verb_for commands.Discard = verbs.Discard
 verb_for commands.Keys = verbs.Keys
@@ -76,6 +78,7 @@ module _ (name : List ℕ) where
   do_keyword (commands.Mask kind place bits) = refl
   do_keyword (commands.Clock clock moment) = refl
   do_keyword (commands.Write moment kind code value) = refl
+  do_keyword (commands.SetAxis code info) = refl
   do_keyword (commands.Read count) = refl
   do_keyword commands.Discard = refl
   do_keyword commands.Keys = refl
@@ -111,6 +114,7 @@ module _ (name : List ℕ) (r : role.Role) where
   verb_read (commands.Mask kind place bits) h = allowed r verbs.Mask 3 h refl
   verb_read (commands.Clock clock moment) h = allowed r verbs.Clock 2 h refl
   verb_read (commands.Write moment kind code value) h = allowed r verbs.Write 4 h refl
+  verb_read (commands.SetAxis code info) h = allowed r verbs.SetAxis 7 h refl
   verb_read (commands.Read count) h = allowed r verbs.Read 1 h refl
   verb_read commands.Discard h = allowed r verbs.Discard 0 h refl
   verb_read commands.Keys h = allowed r verbs.Keys 0 h refl
@@ -160,6 +164,9 @@ module _ (name : List ℕ) (stream : ℕ) where
   words_read (commands.Mask kind place bits) h s = rw (kind_read kind s.0, decimal_read 65535 place s.1 (omega (arith, s.1)), bits_read bits s.2) refl
   words_read (commands.Clock clock moment) h s = rw (clock_read clock, moment_read moment h) refl
   words_read (commands.Write moment kind code value) h s = ap (option_map (λ (s : Stamped). commands.Write s.now s.event.kind s.event.code s.event.value)) (event_read (codes "do") name (codes "write") moment kind code value h s)
+  words_read (commands.SetAxis code info) h s = 
+      ap (λ (o : Option ℕ). option_and_then (λ (n : ℕ). option_map (λ (i : AxisInfo). commands.SetAxis n i) (info_words 4 (do_words name (commands.SetAxis code info)))) o) (code_read EV_ABS code s.0)
+      ∙ ap (option_map (λ (i : AxisInfo). commands.SetAxis code i)) (info_read_behind (codes "do") name info s.1 (codes "setaxis") (code_text EV_ABS code))
   words_read (commands.Read count) h s = let within : count ≤ READ_MAX = grind (arith, nat_tests) in ap (option_map (λ (n : ℕ). commands.Read n)) (decimal_read READ_MAX count within (omega arith))
   words_read commands.Discard h s = refl
   words_read commands.Keys h s = refl
@@ -201,6 +208,7 @@ command_plain stream commands.Revoke h s = refl
 command_plain stream (commands.Mask kind place bits) h s = rw (kind_plain kind s.0, decimal_plain place (omega (arith, s.1)), bits_plain bits s.2) refl
 command_plain stream (commands.Clock clock moment) h s = rw (clock_plain clock, moment_plain moment h) refl
 command_plain stream (commands.Write moment kind code value) h s = event_plain (codes "write") moment kind code value refl h s
+command_plain stream (commands.SetAxis code info) h s = rw (code_plain EV_ABS code s.0, info_plain info s.1) refl
 command_plain stream (commands.Read count) h s = let within : count ≤ READ_MAX = grind (arith, nat_tests) in rw (decimal_plain count (omega arith)) refl
 command_plain stream commands.Discard h s = refl
 command_plain stream commands.Keys h s = refl

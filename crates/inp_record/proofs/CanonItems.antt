@@ -8,7 +8,7 @@ use Rattle.inp_model.specs.declared.clock.Clock as clock
 use Rattle.inp_model.specs.declared.clock.Clock.TheVariants as clocks
 use Rattle.inp_texts.specs.Texts.{kind_text, code_text, clock_text, role_text}
 use Rattle.inp_canon.specs.Words.{Words}
-use Rattle.inp_canon.specs.Device.{fuzz_words, axis_words, info_words as info_text}
+use Rattle.inp_canon.specs.Device.{axis_words}
 use Rattle.inp_canon.specs.Text.{name_of_actor}
 use Rattle.inp_actors.specs.declared.role.Role as role
 use Rattle.inp_actors.specs.declared.role.Role.TheVariants as roles
@@ -22,13 +22,13 @@ use Rattle.inp_record.specs.declared.keyword.Keyword as keyword
 use Rattle.inp_record.specs.declared.keyword.Keyword.TheVariants as keywords
 use Rattle.inp_record.specs.Keyword.{keyword_rows, keyword_of}
 use Rattle.inp_record.specs.Place.{is_start, is_out_of_place}
-use Rattle.inp_record.specs.Words.{word, is_header, three_numbers, info_words, offset_item, plain_item, action_with, or_bad_word, item_of}
+use Rattle.inp_record.specs.Words.{word, is_header, info_words, offset_item, plain_item, action_with, or_bad_word, item_of}
 use Rattle.inp_record.specs.Past.{Past, place_of, actors_of, stream_count, context_of}
 use Rattle.inp_record.specs.Meaning.{placed, item_of_words}
 use Rattle.inp_record.specs.Spelling.{item_words}
 use Rattle.inp_record.proofs.Sayable.{keyword_for_role, IsSayableInfo, IsSayableAction, IsSayable, IsInPlace}
 use Rattle.inp_record.proofs.CanonLines.{is_plain, IsPlainLine}
-use Rattle.inp_record.proofs.CanonWords.{decimal_read, decimal_plain, signed_read, signed_plain, kind_read, kind_plain, code_read, code_plain, clock_read, clock_plain, name_read, is_plain-name}
+use Rattle.inp_record.proofs.CanonWords.{decimal_read, decimal_plain, kind_read, kind_plain, code_read, code_plain, clock_read, clock_plain, name_read, is_plain-name, info_read, info_plain}
 use Rattle.inp_record.proofs.CanonCommands.{do_words, do_keyword, kind_and_code_read, command_read, command_plain}
 
 -- a line whose words are those of its keyword is read where it may stand
@@ -47,18 +47,6 @@ placed_read past k ws i is started within says =
     by_place : (out : Bool) → out ≡ false → (if out then Err OutOfPlace else item_of (actors_of past) (stream_count past) k ws) ≡ Ok i
     by_place true h = absurd (cc h)
     by_place false h = says
-
--- the data of an axis
-
-info_read : (first second : List ℕ) (i : AxisInfo) → IsSayableInfo i → info_words (first ∷ second ∷ info_text i) ≡ Some i
-unfolding info_words three_numbers info_text fuzz_words
-info_read first second i s =
-    rw (signed_read i.value s.value, signed_read i.minimum s.minimum, signed_read i.maximum s.maximum, signed_read i.fuzz s.fuzz, signed_read i.flat s.flat, signed_read i.resolution s.resolution) refl
-
-info_plain : (i : AxisInfo) → IsSayableInfo i → list_all is_plain (info_text i) ≡ true
-unfolding info_text fuzz_words
-info_plain i s =
-    rw (signed_plain i.value s.value, signed_plain i.minimum s.minimum, signed_plain i.maximum s.maximum, signed_plain i.fuzz s.fuzz, signed_plain i.flat s.flat, signed_plain i.resolution s.resolution) refl
 
 -- what the words of each line are
 
@@ -94,7 +82,7 @@ module _ (actors : List ActorText) (streams : ℕ) where
   axis_read : (code : ℕ) (i : AxisInfo) → code ≤ 65535 → IsSayableInfo i → item_of actors streams keywords.Axis (axis_words code i) ≡ Ok (Axis code i)
   unfolding item_of plain_item
   axis_read code i h s =
-      ap (λ (o : Option ℕ). or_bad_word (option_and_then (λ n. option_map (λ info. Axis n info) (info_words (axis_words code i))) o)) (code_read EV_ABS code h)
+      ap (λ (o : Option ℕ). or_bad_word (option_and_then (λ n. option_map (λ info. Axis n info) (info_words 2 (axis_words code i))) o)) (code_read EV_ABS code h)
       ∙ ap (λ (o : Option AxisInfo). or_bad_word (option_map (λ info. Axis code info) o)) (info_read (codes "axis") (code_text EV_ABS code) i s)
 
   actor_read : (r : role.Role) (first name : List ℕ) → is_name name ≡ true → item_of actors streams (keyword_for_role r) (first ∷ name ∷ []) ≡ Ok (Actor r name)

@@ -134,8 +134,8 @@ plain_keyword keywords.Slots ws i e = ap keyword_for (map_is (λ count. items.Sl
 plain_keyword keywords.Kind ws i e = ap keyword_for (map_is (λ kind. items.Kind kind) (kind_word (word 1 ws)) i e).2
 plain_keyword keywords.Code ws i e = ap keyword_for (map_is (λ (n : ℕ × ℕ). items.Code n.0 n.1) (kind_and_code (word 1 ws) (word 2 ws)) i e).2
 plain_keyword keywords.Axis ws i e =
-    let h = and_then_is (λ code. option_map (λ info. items.Axis code info) (info_words ws)) (code_word EV_ABS (word 1 ws)) i e in
-    ap keyword_for (map_is (λ info. items.Axis h.0 info) (info_words ws) i h.2).2
+    let h = and_then_is (λ code. option_map (λ info. items.Axis code info) (info_words 2 ws)) (code_word EV_ABS (word 1 ws)) i e in
+    ap keyword_for (map_is (λ info. items.Axis h.0 info) (info_words 2 ws) i h.2).2
 plain_keyword keywords.Source ws i e = actor_keyword roles.Source (word 1 ws) i e
 plain_keyword keywords.Client ws i e = actor_keyword roles.Client (word 1 ws) i e
 plain_keyword keywords.Tap ws i e = actor_keyword roles.Tap (word 1 ws) i e
@@ -191,6 +191,10 @@ command_is verbs.Clock ws c e =
 command_is verbs.Write ws c e =
     let h = map_is (λ (s : Stamped). commands.Write s.now s.event.kind s.event.code s.event.value) (stamped_words ws) c e in
     of_verb verbs.Write c (commands.Write h.0.now h.0.event.kind h.0.event.code h.0.event.value) h.2 (record { role = λ r. refl; range = moment_within ws h.0 h.1; stream = λ s. refl })
+command_is verbs.SetAxis ws c e =
+    let h = and_then_is (λ code. option_map (λ info. commands.SetAxis code info) (info_words 4 ws)) (code_word EV_ABS (word 3 ws)) c e in
+    let g = map_is (λ info. commands.SetAxis h.0 info) (info_words 4 ws) c h.2 in
+    of_verb verbs.SetAxis c (commands.SetAxis h.0 g.0) g.2 (record { role = λ r. refl; range = refl; stream = λ s. refl })
 command_is verbs.Read ws c e =
     let h = map_is (λ count. commands.Read count) (number READ_MAX (word 3 ws)) c e in
     of_verb verbs.Read c (commands.Read h.0) h.2 (record { role = λ r. refl; range = number_within READ_MAX (word 3 ws) h.0 h.1; stream = λ s. refl })
@@ -229,6 +233,7 @@ streaming verbs.Revoke e = absurd (cc e)
 streaming verbs.Mask e = absurd (cc e)
 streaming verbs.Clock e = absurd (cc e)
 streaming verbs.Write e = absurd (cc e)
+streaming verbs.SetAxis e = absurd (cc e)
 streaming verbs.Read e = absurd (cc e)
 streaming verbs.Discard e = absurd (cc e)
 streaming verbs.Keys e = absurd (cc e)

@@ -67,6 +67,7 @@ IsSayableCommand stream (commands.Event moment kind code value) = IsSayableEvent
 IsSayableCommand stream (commands.Write moment kind code value) = IsSayableEvent kind code value
 IsSayableCommand stream (commands.Stream file index) = IsPlainWord file × (index ≡ stream)
 IsSayableCommand stream (commands.Mask kind place bits) = (kind ≤ 65535) × (place ≤ 65535) × (bits < 2 ^ 64)
+IsSayableCommand stream (commands.SetAxis code info) = (code ≤ 65535) × IsSayableInfo info
 IsSayableCommand stream (commands.Axis code) = code ≤ 65535
 IsSayableCommand stream (commands.Slots code) = code ≤ 65535
 IsSayableCommand stream (commands.Next count) = count < 2 ^ 32

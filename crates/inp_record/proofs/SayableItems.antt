@@ -152,9 +152,9 @@ plain_said actors s keywords.Code ws i e =
     let h = map_is (λ (n : ℕ × ℕ). items.Code n.0 n.1) (kind_and_code (word 1 ws) (word 2 ws)) i e in
     say actors s i (items.Code h.0.0 h.0.1) h.2 (pair_fits (word 1 ws) (word 2 ws) h.0 h.1)
 plain_said actors s keywords.Axis ws i e =
-    let h = and_then_is (λ code. option_map (λ info. items.Axis code info) (info_words ws)) (code_word EV_ABS (word 1 ws)) i e in
-    let g = map_is (λ info. items.Axis h.0 info) (info_words ws) i h.2 in
-    say actors s i (items.Axis h.0 g.0) g.2 (code_fits EV_ABS (word 1 ws) h.0 h.1, info_fits ws g.0 g.1)
+    let h = and_then_is (λ code. option_map (λ info. items.Axis code info) (info_words 2 ws)) (code_word EV_ABS (word 1 ws)) i e in
+    let g = map_is (λ info. items.Axis h.0 info) (info_words 2 ws) i h.2 in
+    say actors s i (items.Axis h.0 g.0) g.2 (code_fits EV_ABS (word 1 ws) h.0 h.1, info_fits 2 ws g.0 g.1)
 plain_said actors s keywords.Source ws i e = actor_said actors s roles.Source (word 1 ws) i e
 plain_said actors s keywords.Client ws i e = actor_said actors s roles.Client (word 1 ws) i e
 plain_said actors s keywords.Tap ws i e = actor_said actors s roles.Tap (word 1 ws) i e
@@ -195,6 +195,10 @@ command_said s verbs.Clock ws c e =
 command_said s verbs.Write ws c e =
     let h = map_is (λ (s : Stamped). commands.Write s.now s.event.kind s.event.code s.event.value) (stamped_words ws) c e in
     command_say s c (commands.Write h.0.now h.0.event.kind h.0.event.code h.0.event.value) h.2 (event_fits ws h.0 h.1)
+command_said s verbs.SetAxis ws c e =
+    let h = and_then_is (λ code. option_map (λ info. commands.SetAxis code info) (info_words 4 ws)) (code_word EV_ABS (word 3 ws)) c e in
+    let g = map_is (λ info. commands.SetAxis h.0 info) (info_words 4 ws) c h.2 in
+    command_say s c (commands.SetAxis h.0 g.0) g.2 (code_fits EV_ABS (word 3 ws) h.0 h.1, info_fits 4 ws g.0 g.1)
 command_said s verbs.Read ws c e =
     let h = map_is (λ count. commands.Read count) (number READ_MAX (word 3 ws)) c e in
     command_say s c (commands.Read h.0) h.2 tt

@@ -110,13 +110,13 @@ three_fit i ws t e =
       third = signed_fits (word (suc (suc i)) ws) h.0 h.1;
     })
 
-pub info_fits : (ws : List (List ℕ)) (i : AxisInfo) → info_words ws ≡ Some i → IsSayableInfo i
+pub info_fits : (n : ℕ) (ws : List (List ℕ)) (i : AxisInfo) → info_words n ws ≡ Some i → IsSayableInfo i
 unfolding info_words
-info_fits ws i e =
-    let f = and_then_is (λ a. option_map (λ b. record { value = a.0; minimum = a.1; maximum = a.2; fuzz = b.0; flat = b.1; resolution = b.2 }) (three_numbers 5 ws)) (three_numbers 2 ws) i e in
-    let g = map_is (λ (b : ℤ × ℤ × ℤ). record { value = f.0.0; minimum = f.0.1; maximum = f.0.2; fuzz = b.0; flat = b.1; resolution = b.2 }) (three_numbers 5 ws) i f.2 in
-    let a = three_fit 2 ws f.0 f.1 in
-    let b = three_fit 5 ws g.0 g.1 in
+info_fits n ws i e =
+    let f = and_then_is (λ a. option_map (λ b. record { value = a.0; minimum = a.1; maximum = a.2; fuzz = b.0; flat = b.1; resolution = b.2 }) (three_numbers (n + 3) ws)) (three_numbers n ws) i e in
+    let g = map_is (λ (b : ℤ × ℤ × ℤ). record { value = f.0.0; minimum = f.0.1; maximum = f.0.2; fuzz = b.0; flat = b.1; resolution = b.2 }) (three_numbers (n + 3) ws) i f.2 in
+    let a = three_fit n ws f.0 f.1 in
+    let b = three_fit (n + 3) ws g.0 g.1 in
     subst (λ (x : AxisInfo). IsSayableInfo x) (sym g.2) (record {
       value = a.first;
       minimum = a.second;

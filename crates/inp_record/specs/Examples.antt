@@ -2,7 +2,7 @@
 use Rattle.std.specs.Prelude.{◌≡◌, ℕ, pos, true, List, [], ◌∷◌, ◌++◌, codes, replicate, map, sum_by, negsuc, Ok, Err, is_ok}
 use Rattle.std.specs.List.{flat_map}
 use Rattle.inp_model.specs.declared.clock.Clock.TheVariants.{Monotonic, Boottime}
-use Rattle.inp_model.specs.Description.{one_key as keyboard}
+use Rattle.inp_model.specs.Description.{one_key as keyboard, no_info}
 use Rattle.inp_caps.specs.declared.caps_refused.CapsRefused.TheVariants.{BadCode, BadAxis, BadSlots, BadHint, BadLog, BadOffset}
 use Rattle.inp_caps.specs.Builder.{syn_alone}
 use Rattle.inp_actors.specs.declared.command.Command as command
@@ -108,6 +108,8 @@ pub record RefusesCommands : Type 0 where
   pub client : IsRefused 6 BadCommand (actor_lines ++ codes "do c read 1" ∷ [])
   pub tap : IsRefused 6 BadCommand (actor_lines ++ codes "do t follow" ∷ [])
   pub tap_source : IsRefused 6 BadCommand (actor_lines ++ codes "do t tick 1" ∷ [])
+  pub source_describes : IsRefused 6 BadCommand (actor_lines ++ codes "do s setaxis ABS_X 0 0 0 0 0 0" ∷ [])
+  pub less_of_an_axis : IsRefused 6 BadCommand (actor_lines ++ codes "do t setaxis ABS_X 0 0 0 0 0" ∷ [])
   pub less : IsRefused 6 BadCommand (actor_lines ++ codes "do t read" ∷ [])
   pub more : IsRefused 6 BadCommand (actor_lines ++ codes "do t open 1" ∷ [])
   pub before_word : IsRefused 6 BadCommand (actor_lines ++ codes "do t read x x" ∷ [])
@@ -133,6 +135,8 @@ pub record RefusesWords : Type 0 where
   pub value : IsRefused 6 BadWord (actor_lines ++ codes "do s event 0 EV_KEY KEY_A 1.0" ∷ [])
   pub count : IsRefused 6 BadWord (actor_lines ++ codes "do t read 4097" ∷ [])
   pub mask : IsRefused 6 BadWord (actor_lines ++ codes "do t mask EV_KEY 65536 0" ∷ [])
+  pub described_code : IsRefused 6 BadWord (actor_lines ++ codes "do c setaxis KEY_A 0 0 0 0 0 0" ∷ [])
+  pub described_number : IsRefused 6 BadWord (actor_lines ++ codes "do c setaxis ABS_X 0 0 0 0 0 2147483648" ∷ [])
   pub clock_moment : IsRefused 6 BadWord (actor_lines ++ codes "do t clock utc 0" ∷ [])
   pub before_twice : IsRefused 4 BadWord (device_lines ++ codes "hint 16" ∷ codes "hint x" ∷ [])
 
@@ -247,8 +251,8 @@ pub record MeansActions : Type 0 where
       (codes "do c open" ∷ codes "do c next 4294967295" ∷ codes "do c skip 0" ∷ codes "do c follow" ∷ codes "do c force" ∷ codes "do c clock boottime 7" ∷ [])
       ((1, commands.Open) ∷ (1, commands.Next 4294967295) ∷ (1, commands.Skip 0) ∷ (1, commands.Follow) ∷ (1, commands.Force) ∷ (1, commands.Clock Boottime 7) ∷ [])
   pub reading : AreActions
-      (codes "do t grab" ∷ codes "do t ungrab" ∷ codes "do c mask 1 11 0xffffffffffffffff" ∷ codes "do t clock monotonic 1" ∷ codes "do c write 5 EV_LED LED_CAPSL 1" ∷ codes "do t revoke" ∷ codes "do c close" ∷ [])
-      ((2, commands.Grab) ∷ (2, commands.Ungrab) ∷ (1, commands.Mask 1 11 18446744073709551615) ∷ (2, commands.Clock Monotonic 1) ∷ (1, commands.Write 5 17 1 (pos 1)) ∷ (2, commands.Revoke) ∷ (1, commands.Close) ∷ [])
+      (codes "do t grab" ∷ codes "do t ungrab" ∷ codes "do c mask 1 11 0xffffffffffffffff" ∷ codes "do t clock monotonic 1" ∷ codes "do c write 5 EV_LED LED_CAPSL 1" ∷ codes "do t setaxis ABS_X 10 -1 200 8 0 0x2" ∷ codes "do c setaxis 40 0 0 0 -1 0 0" ∷ codes "do t revoke" ∷ codes "do c close" ∷ [])
+      ((2, commands.Grab) ∷ (2, commands.Ungrab) ∷ (1, commands.Mask 1 11 18446744073709551615) ∷ (2, commands.Clock Monotonic 1) ∷ (1, commands.Write 5 17 1 (pos 1)) ∷ (2, commands.SetAxis 0 (record no_info { value = pos 10; minimum = negsuc 0; maximum = pos 200; fuzz = pos 8; resolution = pos 2 })) ∷ (1, commands.SetAxis 40 (record no_info { fuzz = negsuc 0 })) ∷ (2, commands.Revoke) ∷ (1, commands.Close) ∷ [])
   pub tap : AreActions
       (codes "do t read 4096" ∷ codes "do t discard" ∷ codes "do t keys" ∷ codes "do t switches" ∷ codes "do t leds" ∷ codes "do t sounds" ∷ codes "do t syncslots" ∷ codes "do t axis ABS_X" ∷ codes "do t slots 0x35" ∷ [])
       ((2, commands.Read 4096) ∷ (2, commands.Discard) ∷ (2, commands.Keys) ∷ (2, commands.Switches) ∷ (2, commands.Leds) ∷ (2, commands.Sounds) ∷ (2, commands.SyncSlots) ∷ (2, commands.Axis 0) ∷ (2, commands.Slots 53) ∷ [])

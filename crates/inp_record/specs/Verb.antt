@@ -6,7 +6,7 @@ use Rattle.inp_actors.specs.declared.role.Role.{Role}
 use Rattle.inp_actors.specs.Command.{is_source, is_client, is_tap, is_reading}
 use Rattle.inp_words.specs.Table.{named}
 use Rattle.inp_record.specs.declared.verb.Verb.{Verb}
-use Rattle.inp_record.specs.declared.verb.Verb.TheVariants.{Event, Tick, Inhibit, Uninhibit, Stream, Open, Close, Grab, Ungrab, Revoke, Mask, Clock, Write, Read, Discard, Keys, Switches, Leds, Sounds, SyncSlots, Axis, Slots, Next, Skip, Follow, Force}
+use Rattle.inp_record.specs.declared.verb.Verb.TheVariants.{Event, Tick, Inhibit, Uninhibit, Stream, Open, Close, Grab, Ungrab, Revoke, Mask, Clock, Write, SetAxis, Read, Discard, Keys, Switches, Leds, Sounds, SyncSlots, Axis, Slots, Next, Skip, Follow, Force}
 
 unfoldable pub verb_rows : List (List ℕ × Verb)
 verb_rows =
@@ -23,6 +23,7 @@ verb_rows =
     ∷ (codes "mask", Mask)
     ∷ (codes "clock", Clock)
     ∷ (codes "write", Write)
+    ∷ (codes "setaxis", SetAxis)
     ∷ (codes "read", Read)
     ∷ (codes "discard", Discard)
     ∷ (codes "keys", Keys)
@@ -53,6 +54,7 @@ is_verb_of role Revoke = is_reading role
 is_verb_of role Mask = is_reading role
 is_verb_of role Clock = is_reading role
 is_verb_of role Write = is_reading role
+is_verb_of role SetAxis = is_reading role
 is_verb_of role Next = is_client role
 is_verb_of role Skip = is_client role
 is_verb_of role Follow = is_client role
@@ -61,6 +63,7 @@ is_verb_of role _ = is_tap role
 
 -- how many words a command is given
 abbrev pub argument_count : Verb → ℕ
+argument_count SetAxis = 7
 argument_count Event = 4
 argument_count Write = 4
 argument_count Mask = 3

@@ -1,6 +1,6 @@
 -- What the words of a line mean (docs/FORMATS.md, "The lines").
 use Rattle.std.specs.Borrow.{Bor}
-use Rattle.std.specs.Prelude.{ℕ, suc, ◌-◌, ◌^◌, ℤ, map, Bool, true, false, ◌&&◌, if◌then◌else◌, nat_eq, List, [], ◌∷◌, codes, bytes_eq, length, slice_index_or, Option, Some, None, option_map, option_and_then, Result, Ok, Err}
+use Rattle.std.specs.Prelude.{ℕ, suc, ◌+◌, ◌-◌, ◌^◌, ℤ, map, Bool, true, false, ◌&&◌, if◌then◌else◌, nat_eq, List, [], ◌∷◌, codes, bytes_eq, length, slice_index_or, Option, Some, None, option_map, option_and_then, Result, Ok, Err}
 use Rattle.inp_model.specs.declared.event.TheConstants.{EV_ABS}
 use Rattle.inp_model.specs.declared.stamped.TheConstants.{MOMENT_MAX}
 use Rattle.inp_model.specs.declared.stamped.Stamped.{Stamped}
@@ -65,12 +65,12 @@ three_numbers i ws =
     option_and_then (λ a. option_and_then (λ b. option_map (λ c. (a, b, c))
     (signed_number (word (suc (suc i)) ws))) (signed_number (word (suc i) ws))) (signed_number (word i ws))
 
--- the data of an axis: value, minimum, maximum, fuzz, flat, resolution
-unfoldable pub info_words : List (List ℕ) → Option AxisInfo
-info_words ws =
+-- the data of an axis from this word on: value, minimum, maximum, fuzz, flat, resolution
+unfoldable pub info_words : ℕ → List (List ℕ) → Option AxisInfo
+info_words i ws =
     option_and_then (λ a. option_map (λ b.
     record { value = a.0; minimum = a.1; maximum = a.2; fuzz = b.0; flat = b.1; resolution = b.2 })
-    (three_numbers 5 ws)) (three_numbers 2 ws)
+    (three_numbers (i + 3) ws)) (three_numbers i ws)
 
 -- an event and its moment: moment, type, code, value
 unfoldable pub stamped_words : List (List ℕ) → Option Stamped
@@ -100,7 +100,7 @@ plain_item keywords.Slots ws = option_map (λ count. items.Slots count) (count_w
 plain_item keywords.Kind ws = option_map (λ kind. items.Kind kind) (kind_word (word 1 ws))
 plain_item keywords.Code ws = option_map (λ named. items.Code named.0 named.1) (kind_and_code (word 1 ws) (word 2 ws))
 plain_item keywords.Axis ws =
-    option_and_then (λ code. option_map (λ info. items.Axis code info) (info_words ws)) (code_word EV_ABS (word 1 ws))
+    option_and_then (λ code. option_map (λ info. items.Axis code info) (info_words 2 ws)) (code_word EV_ABS (word 1 ws))
 plain_item keywords.Source ws = actor_item roles.Source (word 1 ws)
 plain_item keywords.Client ws = actor_item roles.Client (word 1 ws)
 plain_item keywords.Tap ws = actor_item roles.Tap (word 1 ws)
@@ -119,6 +119,10 @@ clock_words ws =
 abbrev pub read_word : List ℕ → Option command.Command
 read_word w = option_map (λ count. commands.Read count) (number READ_MAX w)
 
+abbrev pub set_axis_words : List (List ℕ) → Option command.Command
+set_axis_words ws =
+    option_and_then (λ code. option_map (λ info. commands.SetAxis code info) (info_words 4 ws)) (code_word EV_ABS (word 3 ws))
+
 -- a command other than a stream with its words, if these have their forms
 unfoldable pub plain_command : verb.Verb → List (List ℕ) → Option command.Command
 plain_command verbs.Event ws = option_map (λ s. commands.Event s.now s.event.kind s.event.code s.event.value) (stamped_words ws)
@@ -134,6 +138,7 @@ plain_command verbs.Revoke ws = Some commands.Revoke
 plain_command verbs.Mask ws = mask_words ws
 plain_command verbs.Clock ws = clock_words ws
 plain_command verbs.Write ws = option_map (λ s. commands.Write s.now s.event.kind s.event.code s.event.value) (stamped_words ws)
+plain_command verbs.SetAxis ws = set_axis_words ws
 plain_command verbs.Read ws = read_word (word 3 ws)
 plain_command verbs.Discard ws = Some commands.Discard
 plain_command verbs.Keys ws = Some commands.Keys

@@ -3,11 +3,11 @@ ghost use Rattle.std.specs.Prelude.{◌≡◌, ◌+◌, ◌<◌, ◌≤◌, ◌^
 ghost use Rattle.inp_words.specs.Line.{AreText, is_text};
 ghost use Rattle.inp_record.specs.Fault.{IsReading};
 ghost use Rattle.inp_record.specs.Verb.{argument_count};
-ghost use Rattle.inp_record.specs.Words.{texts, moment_word, stamped_words, mask_words, clock_words, read_word, plain_command, command_of, actor_from, action_item};
+ghost use Rattle.inp_record.specs.Words.{texts, moment_word, stamped_words, mask_words, clock_words, set_axis_words, read_word, plain_command, command_of, actor_from, action_item};
 
 use crate::Cause;
 use crate::item::Item;
-use crate::item_reader::{count_word, kind_and_code, word};
+use crate::item_reader::{count_word, info_words, kind_and_code, word};
 use crate::line_fault::LineFault;
 use crate::verb::{Verb, clock_word, verb_of};
 use inp_actors::{ActorText, Command, FileName, READ_MAX, Role};
@@ -58,6 +58,16 @@ fn clock_words(words: &[&[u8]]) -> Option<Command>
     let clock = clock_word(word(words, 3))?;
     let moment = moment_word(word(words, 4))?;
     Some(Command::Clock { clock, moment })
+}
+
+/// An axis with what describes it anew.
+fn set_axis_words(words: &[&[u8]]) -> Option<Command>
+    requires { 10 ≤ length words.now }
+    ensures { result ≡ set_axis_words (texts words.now) }
+{
+    let code = code_word(EV_ABS, word(words, 3))?;
+    let info = info_words(words, 4)?;
+    Some(Command::SetAxis { code, info })
 }
 
 /// How many events a tap reads.
@@ -112,6 +122,7 @@ fn plain_command(verb: Verb, words: &[&[u8]]) -> Option<Command>
                 value: stamped.event.value,
             })
         }
+        Verb::SetAxis => set_axis_words(words),
         Verb::Read => read_word(word(words, 3)),
         Verb::Discard => Some(Command::Discard),
         Verb::Keys => Some(Command::Keys),

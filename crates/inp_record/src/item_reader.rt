@@ -70,14 +70,14 @@ fn three_numbers(words: &[&[u8]], place: usize) -> Option<(i32, i32, i32)>
     Some((first, second, third))
 }
 
-/// The data of an axis: value, minimum, maximum, fuzz, flat, resolution.
+/// The data of an axis from this word on: value, minimum, maximum, fuzz, flat, resolution.
 #[tactic(auto, unfolding(crate::specs::Words::info_words))]
-fn info_words(words: &[&[u8]]) -> Option<AxisInfo>
-    requires { 8 ≤ length words.now }
-    ensures { result ≡ info_words (texts words.now) }
+pub(crate) fn info_words(words: &[&[u8]], place: usize) -> Option<AxisInfo>
+    requires { place + 5 < length words.now }
+    ensures { result ≡ info_words place (texts words.now) }
 {
-    let (value, minimum, maximum) = three_numbers(words, 2)?;
-    let (fuzz, flat, resolution) = three_numbers(words, 5)?;
+    let (value, minimum, maximum) = three_numbers(words, place)?;
+    let (fuzz, flat, resolution) = three_numbers(words, place + 3)?;
     Some(AxisInfo {
         value,
         minimum,
@@ -138,7 +138,7 @@ pub(crate) fn plain_item(keyword: Keyword, words: &[&[u8]]) -> Option<Item>
         }
         Keyword::Axis => {
             let code = code_word(EV_ABS, word(words, 1))?;
-            let info = info_words(words)?;
+            let info = info_words(words, 2)?;
             Some(Item::Axis { code, info })
         }
         Keyword::Source => actor_item(Role::Source, word(words, 1)),

@@ -23,6 +23,7 @@ pub(crate) enum Verb {
     Mask,
     Clock,
     Write,
+    SetAxis,
     Read,
     Discard,
     Keys,
@@ -43,7 +44,7 @@ pub(crate) enum Verb {
 fn verb_rows() -> &'static [(&'static str, Verb)]
     ensures { rows_of result.now ≡ verb_rows }
 {
-    static ROWS: [(&str, Verb); 26] = [
+    static ROWS: [(&str, Verb); 27] = [
         ("event", Verb::Event),
         ("tick", Verb::Tick),
         ("inhibit", Verb::Inhibit),
@@ -57,6 +58,7 @@ fn verb_rows() -> &'static [(&'static str, Verb)]
         ("mask", Verb::Mask),
         ("clock", Verb::Clock),
         ("write", Verb::Write),
+        ("setaxis", Verb::SetAxis),
         ("read", Verb::Read),
         ("discard", Verb::Discard),
         ("keys", Verb::Keys),
@@ -103,7 +105,8 @@ fn is_verb_of(role: Role, verb: Verb) -> bool
         | Verb::Revoke
         | Verb::Mask
         | Verb::Clock
-        | Verb::Write => role != Role::Source,
+        | Verb::Write
+        | Verb::SetAxis => role != Role::Source,
         Verb::Next | Verb::Skip | Verb::Follow | Verb::Force => role == Role::Client,
         _ => role == Role::Tap,
     }
@@ -114,6 +117,7 @@ fn argument_count(verb: Verb) -> usize
     ensures { result ≡ argument_count verb }
 {
     match verb {
+        Verb::SetAxis => 7,
         Verb::Event | Verb::Write => 4,
         Verb::Mask => 3,
         Verb::Clock => 2,

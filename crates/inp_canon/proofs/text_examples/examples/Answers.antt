@@ -39,6 +39,7 @@ returns-clause-commands c =
       monotonic = refl;
       boottime = refl;
       write = refl;
+      describe = refl;
       read = refl;
       discard = refl;
       keys = refl;

@@ -25,11 +25,11 @@ returns-clause-actors c = record { no_device = refl; other = refl; no_name = ref
 
 pub returns-clause-commands : goal.returns-clause-commands
 unfolding record_computing
-returns-clause-commands c = record { none = refl; source = refl; client = refl; tap = refl; tap_source = refl; less = refl; more = refl; before_word = refl }
+returns-clause-commands c = record { none = refl; source = refl; client = refl; tap = refl; tap_source = refl; source_describes = refl; less_of_an_axis = refl; less = refl; more = refl; before_word = refl }
 
 pub returns-clause-words : goal.returns-clause-words
 unfolding record_computing
-returns-clause-words c = record { device = refl; long_name = refl; hint = refl; wide_hint = refl; log = refl; clock = refl; offset = refl; slots = refl; type_line = refl; cap = refl; axis_code = refl; axis_number = refl; actor = refl; moment = refl; kind = refl; code = refl; value = refl; count = refl; mask = refl; clock_moment = refl; before_twice = refl }
+returns-clause-words c = record { device = refl; long_name = refl; hint = refl; wide_hint = refl; log = refl; clock = refl; offset = refl; slots = refl; type_line = refl; cap = refl; axis_code = refl; axis_number = refl; actor = refl; moment = refl; kind = refl; code = refl; value = refl; count = refl; mask = refl; described_code = refl; described_number = refl; clock_moment = refl; before_twice = refl }
 
 pub returns-clause-repeats : goal.returns-clause-repeats
 unfolding record_computing
