@@ -57,6 +57,7 @@ class SecondProgram(FolderCase):
             b"\nagain ",
             b" no-device\n",
             b" bad-client\n",
+            b" bad-info\n",
             b" busy\n",
             b" log-full\n",
             b"\nstop full ",

@@ -4,6 +4,7 @@ from names import ABS, KEY, LED, MSC, REL, REP, SND, SW, SYN
 
 SLOT, FIRST, ID, LAST = 0x2F, 0x30, 0x39, 0x3D
 REPORT, DROPPED = 0, 3
+FUZZ_MAX = 2**30
 MASK_WORDS = {SYN: 1, KEY: 12, REL: 1, ABS: 1, MSC: 1, SW: 1, LED: 1, SND: 1}
 
 
@@ -107,6 +108,7 @@ class Device:
         self.name, self.caps, self.history = name, caps, []
         self.on = {KEY: set(), SW: set(), LED: set(), SND: set()}
         self.repeat = [250, 33]
+        self.infos = dict(caps.axes)
         self.axes = {code: info[0] for code, info in caps.axes.items()}
         self.cells = [new_slot() for _ in range(caps.slots)]
         self.staged = self.announced = self.at_frame = 0
@@ -153,7 +155,7 @@ class Device:
         if is_slot_value(code) and not self.caps.slots:
             return [(ABS, code, value)]
         values, index = (self.cells[self.staged], code - FIRST) if is_slot_value(code) else (self.axes, code)
-        value = defuzz(value, values[index], self.caps.axes[code][3])
+        value = defuzz(value, values[index], self.infos[code][3])
         if value == values[index]:
             return []
         values[index] = value
@@ -220,7 +222,7 @@ class Device:
                 return "bad-client"
             if client.revoked and op != "close":
                 return "no-device"
-        if op == "getaxis" and ABS not in self.caps.kinds:
+        if op in ("getaxis", "setaxis") and ABS not in self.caps.kinds:
             return "bad-kind"
         if op in ("getslots", "syncslots") and not self.caps.slots:
             return "bad-kind"
@@ -230,6 +232,10 @@ class Device:
             return "bad-code"
         if op == "mask" and words[2] >= MASK_WORDS[words[1]]:
             return "bad-code"
+        if op == "setaxis" and (SLOT <= words[1] <= LAST or words[1] not in self.caps.axes):
+            return "bad-code"
+        if op == "setaxis" and not 0 <= words[5] <= FUZZ_MAX:
+            return "bad-info"
         if op == "read" and self.clients[words[0]].visible() == 0:
             return "again"
         if op == "grab" and self.holder is not None:
@@ -314,7 +320,12 @@ class Device:
             value = self.announced
         elif is_slot_value(code):
             value = 0
-        return ("axis", place, value) + tuple(self.caps.axes[code][1:]), None
+        return ("axis", place, value) + tuple(self.infos[code][1:]), None
+
+    def do_setaxis(self, _, words, place):
+        code, *info = words[1:]
+        self.infos[code], self.axes[code] = info, info[0]
+        return ("done", place), None
 
     def do_getslots(self, _, words, place):
         return ("cells", place, self.caps.slots, self.at_frame), [values[words[1] - FIRST] for values in self.cells]

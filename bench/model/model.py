@@ -44,6 +44,8 @@ def step_text(step):
         return " ".join([op] + [str(word) for word in words[:-1]] + [event_text(words[-1])])
     if op in ("getaxis", "getslots"):
         return f"{op} {words[0]} {code_text(ABS, words[1])}"
+    if op == "setaxis":
+        return " ".join([op, str(words[0]), code_text(ABS, words[1])] + [str(word) for word in words[2:]])
     if op == "mask":
         return f"mask {words[0]} {kind_text(words[1])} {words[2]} 0x{words[3]:016x}"
     return " ".join(str(word) for word in step)
@@ -107,6 +109,8 @@ class Actor:
             return ("clock", client, words[0], number(words[1]))
         if command == "write":
             return ("write", client, number(words[0]), event_of(words[1:]))
+        if command == "setaxis":
+            return ("setaxis", client, code_of(ABS, words[0]), *map(number, words[1:]))
         return None
 
     def do_tap(self, words, _):

@@ -133,6 +133,15 @@ class Generator:
             return [f"tick {self.moment() + r.choice([0, 40000, 300000])}"]
         return [f"inhibit {self.moment()}"] if x < 0.97 else ["uninhibit"]
 
+    def new_description(self, codes):
+        """A command that describes an axis anew, mostly one that the device has."""
+        r = self.r
+        axes = [code for kind, code in codes if kind == ABS]
+        code = r.choice(axes) if axes and r.random() < 0.9 else r.choice([0, 1, 0x2F, 0x35, 0x3F, 0x40])
+        fuzz = r.choice([0, 0, 1, 4, 8, 16, 300, 2**30] * 3 + [-1, 2**30 + 1])
+        numbers = [r.randint(-600, 600), r.randint(-500, 0), r.randint(0, 4096), fuzz, r.randint(-1, 9), r.choice([0, 12])]
+        return f"setaxis {code_text(ABS, code)} " + " ".join(map(str, numbers))
+
     def client_action(self, role, codes, slots, _):
         r, x = self.r, self.r.random()
         if x < 0.5 and role == "client":
@@ -150,15 +159,17 @@ class Generator:
             event = f"{kind_text(kind)} {code_text(kind, code)} {self.value(kind, code, slots)}"
             report = [f"write {self.moment()} EV_SYN SYN_REPORT 0"] if r.random() < 0.6 else []
             return [f"write {self.moment()} {event}"] + report
-        if x < 0.76:
+        if x < 0.75:
+            return [self.new_description(codes)]
+        if x < 0.8:
             return [f"clock {r.choice(CLOCKS)} {self.moment()}"]
-        if x < 0.86:
+        if x < 0.88:
             kind = r.choice([0, 0, 1, 2, 3, 4, 5, 17, 18, 20, 7])
             word = r.choice([0, 0, 0, 1, 5, 11, 12])
             bits = r.choice([0, FULL, r.getrandbits(64), r.getrandbits(64) | r.getrandbits(64), FULL])
             return [f"mask {kind_text(kind)} {word} {hex(bits)}"]
         if x < 0.96:
-            return ["grab"] if x < 0.9 else ["ungrab"]
+            return ["grab"] if x < 0.915 else ["ungrab"]
         return ["close"] if x < 0.98 else ["revoke"]
 
 

@@ -32,6 +32,8 @@ def step_of(text):
         return (op, *map(number, words[:-3]), event_of(words[-3:]))
     if op in ("getaxis", "getslots"):
         return (op, number(words[0]), code_of(ABS, words[1]))
+    if op == "setaxis":
+        return (op, number(words[0]), code_of(ABS, words[1]), *map(number, words[2:]))
     if op == "mask":
         return (op, number(words[0]), kind_of(words[1]), number(words[2]), number(words[3]))
     if op == "clock":

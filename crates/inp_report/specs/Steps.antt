@@ -2,9 +2,9 @@
 use Rattle.std.specs.Prelude.{ℕ, List, ◌++◌, codes, decimal}
 use Rattle.inp_model.specs.declared.event.TheConstants.{EV_ABS}
 use Rattle.inp_model.specs.declared.step.Step.{Step}
-use Rattle.inp_model.specs.declared.step.Step.TheVariants.{Inject, Tick, Open, Close, Read, Discard, GetKeys, GetSwitches, GetLeds, GetSounds, GetAxis, GetSlots, SyncSlots, Write, Grab, Ungrab, Mask, Clock as ToClock, Revoke, Inhibit, Uninhibit, End}
+use Rattle.inp_model.specs.declared.step.Step.TheVariants.{Inject, Tick, Open, Close, Read, Discard, GetKeys, GetSwitches, GetLeds, GetSounds, GetAxis, SetAxis, GetSlots, SyncSlots, Write, Grab, Ungrab, Mask, Clock as ToClock, Revoke, Inhibit, Uninhibit, End}
 use Rattle.inp_texts.specs.Texts.{code_text, clock_text}
-use Rattle.inp_report.specs.Words.{event_text, mask_text}
+use Rattle.inp_report.specs.Words.{event_text, mask_text, axis_text}
 
 unfoldable pub step_text : Step → List ℕ
 step_text (Inject e now) = codes "inject " ++ (decimal now ++ (codes " " ++ event_text e))
@@ -18,6 +18,8 @@ step_text (GetSwitches client) = codes "getswitches " ++ decimal client
 step_text (GetLeds client) = codes "getleds " ++ decimal client
 step_text (GetSounds client) = codes "getsounds " ++ decimal client
 step_text (GetAxis client code) = codes "getaxis " ++ (decimal client ++ (codes " " ++ code_text EV_ABS code))
+step_text (SetAxis client code info) =
+    codes "setaxis " ++ (decimal client ++ (codes " " ++ (code_text EV_ABS code ++ (codes " " ++ axis_text info))))
 step_text (GetSlots client code) = codes "getslots " ++ (decimal client ++ (codes " " ++ code_text EV_ABS code))
 step_text (SyncSlots client) = codes "syncslots " ++ decimal client
 step_text (Write client e now) = codes "write " ++ (decimal client ++ (codes " " ++ (decimal now ++ (codes " " ++ event_text e))))

@@ -5,7 +5,7 @@ use Rattle.inp_model.specs.declared.event.TheConstants.{EV_ABS}
 use Rattle.inp_model.specs.declared.axis_info.AxisInfo.{AxisInfo}
 use Rattle.inp_model.specs.declared.event.Event.{Event}
 use Rattle.inp_model.specs.declared.reply.Refusal.{Refusal}
-use Rattle.inp_model.specs.declared.reply.Refusal.TheVariants.{BadClient, NoDevice, BadKind, BadCode, Busy, NotGrabber, TooMany, LogFull, NoMemory}
+use Rattle.inp_model.specs.declared.reply.Refusal.TheVariants.{BadClient, NoDevice, BadKind, BadCode, BadInfo, Busy, NotGrabber, TooMany, LogFull, NoMemory}
 use Rattle.inp_bits.specs.Bits.{true_indices}
 use Rattle.inp_texts.specs.Texts.{kind_text, code_text, bits_text}
 use Rattle.inp_script.specs.declared.stop.Stop.{Stop}
@@ -46,6 +46,7 @@ refusal_text BadClient = codes "bad-client"
 refusal_text NoDevice = codes "no-device"
 refusal_text BadKind = codes "bad-kind"
 refusal_text BadCode = codes "bad-code"
+refusal_text BadInfo = codes "bad-info"
 refusal_text Busy = codes "busy"
 refusal_text NotGrabber = codes "not-grabber"
 refusal_text TooMany = codes "too-many"

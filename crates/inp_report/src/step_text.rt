@@ -5,7 +5,7 @@ ghost use Rattle.inp_texts.specs.Texts.{code_text, clock_text};
 ghost use Rattle.inp_report.specs.Words.{event_text, mask_text};
 ghost use Rattle.inp_report.specs.Steps.{step_text};
 
-use crate::words::{push_event, push_mask, push_numbered};
+use crate::words::{push_axis, push_event, push_mask, push_numbered};
 use inp_model::{Clock, EV_ABS, Event, NoMemory, Step};
 use inp_texts::{ClockText, push_code};
 use std::fmt::Write;
@@ -30,6 +30,11 @@ pub(crate) fn push_step_text(text: &mut String, step: Step) -> Result<(), NoMemo
         Step::GetLeds { client } => push_numbered(text, "getleds ", u64::from(client)),
         Step::GetSounds { client } => push_numbered(text, "getsounds ", u64::from(client)),
         Step::GetAxis { client, code } => push_of_axis(text, "getaxis ", client, code),
+        Step::SetAxis { client, code, info } => {
+            push_of_axis(text, "setaxis ", client, code)?;
+            text.push_str(" ")?;
+            push_axis(text, info)
+        }
         Step::GetSlots { client, code } => push_of_axis(text, "getslots ", client, code),
         Step::SyncSlots { client } => push_numbered(text, "syncslots ", u64::from(client)),
         Step::Write { client, event, now } => {

@@ -71,6 +71,7 @@ fn refusal_word(why: Refusal) -> &'static str
         Refusal::NoDevice => "no-device",
         Refusal::BadKind => "bad-kind",
         Refusal::BadCode => "bad-code",
+        Refusal::BadInfo => "bad-info",
         Refusal::Busy => "busy",
         Refusal::NotGrabber => "not-grabber",
         Refusal::TooMany => "too-many",

@@ -90,7 +90,7 @@ accepted-exact d past x given (inr l) h = absurd (false≢true (ap (λ (a : Answ
 
 -- what it took stays in front
 took-front : (d : Description) (more past : List Step) (client : ℕ) → (rest : List Entry) × (took d (more ++ past) client ≡ took d past client ++ rest)
-unfolding took
+unfolding took_with
 took-front d [] past client = ([], sym (append-nil (took d past client)))
 took-front d (x ∷ more) past client =
     let r : (rest : List Entry) × (took d (more ++ past) client ≡ took d past client ++ rest) = took-front d more past client in
@@ -108,7 +108,7 @@ taken-later d h at client i taken is =
 
 -- steps of others take nothing from it
 quiet-took : (d : Description) (client : ℕ) (others past : List Step) → AreQuiet client others → took d (others ++ past) client ≡ took d past client
-unfolding took AreQuiet
+unfolding took_with AreQuiet
 quiet-took d client [] past quiet = refl
 quiet-took d client (x ∷ others) past quiet =
     ap (λ (es : List Entry). took d (others ++ past) client ++ es) (idle-taken d (others ++ past) client x quiet.0)
@@ -116,7 +116,7 @@ quiet-took d client (x ∷ others) past quiet =
     ∙ quiet-took d client others past quiet.1
 
 entered-took : (d : Description) (client : ℕ) (b : Bool) (x : Step) (past : List Step) → is_use_of client x ≡ false → took d (if b then x ∷ past else past) client ≡ took d past client
-unfolding took
+unfolding took_with
 entered-took d client true x past unused = ap (λ (es : List Entry). took d past client ++ es) (idle-taken d past client x unused) ∙ append-nil (took d past client)
 entered-took d client false x past unused = refl
 
@@ -208,7 +208,7 @@ module _ (d : Description) (h : List Step) (Q : ℕ → Type 0) where
   -- an accepted read, of which nothing is handed out yet
   read-rest : (least client : ℕ) (last : Option LastRead) (read : Call) (events : List Taken) → HasPlace d h read → read.step ≡ Read client 64 → (read.answer ≡ answer d (past_at h (place_of read.answer.reply)) read.step) × (refused d (past_at h (place_of read.answer.reply)) read.step ≡ None)
       → is_accepted read.answer.reply ≡ true → read.answer.events ≡ events → last ≡ Some (record { place = place_of read.answer.reply; events = 0 }) → least ≡ next_place read.answer.reply → IsRest d h least client last events
-  unfolding took
+  unfolding took_with
   read-rest least client last read events placed step exact good given is at =
       let past : List Step = past_at h (place_of read.answer.reply) in
       let x : Step = Read client 64 in

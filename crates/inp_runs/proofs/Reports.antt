@@ -98,7 +98,7 @@ get-front (y ∷ xs) ys zero x h = h
 get-front (y ∷ xs) ys (suc i) x h = get-front xs ys i x h
 
 shows-one : (d : Description) (past : List Step) (client : ℕ) (own : Option ℕ) (taken : Taken) (view : View) (x : Step) → ShowsAt d past client own taken view → ShowsAt d (x ∷ past) client own taken view
-unfolding took past_before_read
+unfolding took_with past_before_read_with
 shows-one d past client own taken view x s =
     let T : List Entry = took d past client in
     let E : List Entry = taken_by d past client x in
@@ -207,7 +207,7 @@ no-others-answer d past v x cells s = record {
 }
 
 no-others-client : (d : Description) (past : List Step) (client : ℕ) → IsHistory d past → HasNoOthers d (client_view d past client)
-unfolding client_view
+unfolding client_view_with
 no-others-client d [] client h = no-others-first d
 no-others-client d (x ∷ past) client h = by (is_use_of client x) refl (no-others-client d past client h.0)
   where
@@ -228,7 +228,7 @@ take-none (suc n) (e ∷ es) h = absurd cc
 
 -- the view at an event
 pub no-others-at : (d : Description) (past : List Step) (client i : ℕ) → IsHistory d past → i < length (took d past client) → HasNoOthers d (view_at d past client i)
-unfolding took
+unfolding took_with
 no-others-at d [] client i h within = absurd (omega (arith, within))
 no-others-at d (x ∷ past) client i h within = elim (cases_lt i (length (took d past client))) [
   | inl before ↦ subst (HasNoOthers d) (sym (at-earlier d past client i x before)) (no-others-at d past client i h.0 before)

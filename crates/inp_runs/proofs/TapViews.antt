@@ -112,7 +112,7 @@ and-first true b c f h = ap (λ (x : Bool). x && b) (f refl) ∙ h
 and-first false b c f h = absurd (false≢true h)
 
 asked-idle : (d : Description) (past : List Step) (client : ℕ) (x : Step) (v : View) → is_use_of client x ≡ false → IsAsked d past client v → IsAsked d (x ∷ past) client v
-unfolding client_view
+unfolding client_view_with
 asked-idle d past client x v idle a =
     let had : (part : Part) → has_asked part (x ∷ past) client ≡ true → has_asked part past client ≡ true = λ part. had-before part past client x (idle-asks part client x idle) in
     record {
@@ -185,7 +185,7 @@ abbrev view_made : View → Step → Answer → View
 view_made v x given = view_after_answer (view_after_events v (events_of given.events)) x given.reply given.cells
 
 asked-own : (d : Description) (past : List Step) (client : ℕ) (x : Step) (v : View) → refused d past x ≡ None → is_use_of client x ≡ true → IsSizedFor d.slots v → IsAsked d past client v → IsAsked d (x ∷ past) client (view_made v x (answer d past x))
-unfolding client_view
+unfolding client_view_with
 asked-own d past client x v accepts used sized a =
     let given : Answer = answer d past x in
     let es : List Event = events_of given.events in
@@ -255,7 +255,7 @@ front-of done rest es t h =
 
 read-shows : (d : Description) (past : List Step) (client : ℕ) (x : Step) (v : View) (done rest : List Taken) (t : Taken) → IsHistory d (x ∷ past) → is_use_of client x ≡ true → (answer d past x).events ≡ done ++ t ∷ rest → HasNoOthers d v → IsSizedFor d.slots v → IsAsked d past client v
     → ShowsAt d (x ∷ past) client (Some (length (took d past client) + length done)) t (view_after_events v (events_of (done ++ t ∷ [])))
-unfolding took past_before_read
+unfolding took_with past_before_read_with
 read-shows d past client x v done rest t history used is bare sized a =
     let T : List Entry = took d past client in
     let E : List Entry = taken_by d past client x in

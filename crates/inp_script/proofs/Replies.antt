@@ -6,7 +6,7 @@ use Rattle.inp_model.specs.declared.step.Step.TheVariants.{Open, Read}
 use Rattle.inp_model.specs.declared.reply.Reply.{Reply}
 use Rattle.inp_model.specs.declared.reply.Reply.TheVariants.{Again, Refused}
 use Rattle.inp_model.specs.declared.reply.Refusal.{Refusal}
-use Rattle.inp_model.specs.declared.reply.Refusal.TheVariants.{BadClient, NoDevice, BadKind, BadCode, Busy, NotGrabber, TooMany, LogFull}
+use Rattle.inp_model.specs.declared.reply.Refusal.TheVariants.{BadClient, NoDevice, BadKind, BadCode, BadInfo, Busy, NotGrabber, TooMany, LogFull}
 use Rattle.inp_model.specs.Description.{Description}
 use Rattle.inp_model.specs.Past.{ends}
 use Rattle.inp_model.specs.Queue.{taken_by}
@@ -43,6 +43,7 @@ are_refusals d past x =
     ▸ refused_as at NoDevice refl
     ▸ refused_as at BadKind refl
     ▸ refused_as at BadCode refl
+    ▸ refused_as at BadInfo refl
     ▸ again_as at (ends past)
     ▸ refused_as at Busy refl
     ▸ refused_as at NotGrabber refl

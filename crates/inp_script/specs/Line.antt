@@ -4,12 +4,12 @@ use Rattle.inp_model.specs.declared.stamped.Stamped.{Stamped}
 use Rattle.inp_model.specs.declared.event.Event.{Event}
 use Rattle.inp_model.specs.declared.taken.Taken.{Taken}
 use Rattle.inp_model.specs.declared.step.Step.{Step}
-use Rattle.inp_model.specs.declared.step.Step.TheVariants.{Inject, Tick as ToTick, Inhibit as ToInhibit, Uninhibit as ToUninhibit, Open as ToOpen, Close as ToClose, Read as ToRead, Discard as ToDiscard, GetKeys, GetSwitches, GetLeds, GetSounds, GetAxis, GetSlots, SyncSlots as ToSyncSlots, Write as ToWrite, Grab as ToGrab, Ungrab as ToUngrab, Mask as ToMask, Clock as ToClock, Revoke as ToRevoke, End}
+use Rattle.inp_model.specs.declared.step.Step.TheVariants.{Inject, Tick as ToTick, Inhibit as ToInhibit, Uninhibit as ToUninhibit, Open as ToOpen, Close as ToClose, Read as ToRead, Discard as ToDiscard, GetKeys, GetSwitches, GetLeds, GetSounds, GetAxis, SetAxis as ToSetAxis, GetSlots, SyncSlots as ToSyncSlots, Write as ToWrite, Grab as ToGrab, Ungrab as ToUngrab, Mask as ToMask, Clock as ToClock, Revoke as ToRevoke, End}
 use Rattle.inp_model.specs.declared.reply.Reply.{Reply}
 use Rattle.inp_model.specs.declared.reply.Reply.TheVariants.{Opened}
 use Rattle.inp_model.specs.Reply.{Answer, is_accepted}
 use Rattle.inp_actors.specs.declared.command.Command.{Command}
-use Rattle.inp_actors.specs.declared.command.Command.TheVariants.{Event as ToEvent, Tick, Inhibit, Uninhibit, Stream, Open, Close, Grab, Ungrab, Revoke, Mask, Clock, Write, Read, Discard, Keys, Switches, Leds, Sounds, SyncSlots, Axis, Slots}
+use Rattle.inp_actors.specs.declared.command.Command.TheVariants.{Event as ToEvent, Tick, Inhibit, Uninhibit, Stream, Open, Close, Grab, Ungrab, Revoke, Mask, Clock, Write, SetAxis, Read, Discard, Keys, Switches, Leds, Sounds, SyncSlots, Axis, Slots}
 use Rattle.inp_recon.specs.declared.view.View.{View}
 use Rattle.inp_recon.specs.View.{view_after_answer, view_after_events}
 use Rattle.inp_reader.specs.declared.reader.TheConstants.{NO_CLIENT}
@@ -33,6 +33,7 @@ step_of client Revoke = Some (ToRevoke client)
 step_of client (Mask kind word bits) = Some (ToMask client kind word bits)
 step_of client (Clock clock moment) = Some (ToClock client clock moment)
 step_of client (Write moment kind code value) = Some (ToWrite client (record { kind = kind; code = code; value = value }) moment)
+step_of client (SetAxis code info) = Some (ToSetAxis client code info)
 step_of client (Read count) = Some (ToRead client count)
 step_of client Discard = Some (ToDiscard client)
 step_of client Keys = Some (GetKeys client)

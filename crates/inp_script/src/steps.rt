@@ -48,6 +48,7 @@ pub(crate) fn step_of(client: u32, command: &Command) -> Option<Step>
             event: Event { kind, code, value },
             now: moment,
         },
+        Command::SetAxis { code, info } => Step::SetAxis { client, code, info },
         Command::Read { count } => Step::Read { client, count },
         Command::Discard => Step::Discard { client },
         Command::Keys => Step::GetKeys { client },
