@@ -101,6 +101,47 @@ the device at the end
         self.says(text, "c", "at the end: as the device")
 
 
+class Descriptions(StuckCase):
+    opened = "inputrecord 1\ndevice slider\naxis ABS_X 0 0 100 0 0 0\nsource s\nclient c\ntap g\ndo c open\ndo g open\n"
+    anew = "do g setaxis ABS_X 9 0 200 8 0 0\n"
+
+    def test_an_axis_described_anew(self):
+        text = self.opened + frame(1, "EV_ABS ABS_X 5") + "do c follow\n" + self.anew
+        self.says(
+            text + frame(2, "EV_ABS ABS_X 10", "EV_ABS ABS_X 40") + "do c follow\n",
+            "c",
+            "at the end: as the device",
+        )
+        self.says(
+            text + "do c follow\n",
+            "c",
+            "ABS_X: 5 for it, 9 on the device",
+            "  since place 6: g described the axis anew at place 6, which no event tells",
+            "  seen at: the end",
+            "at the end: not as the device in ABS_X",
+        )
+
+    def test_an_event_that_waited_meanwhile(self):
+        text = self.opened + "do s event 1 EV_ABS ABS_X 5\n" + self.anew + frame(2) + "do c follow\n"
+        self.says(
+            text,
+            "c",
+            "ABS_X: 5 for it, 9 on the device",
+            "  since place 4: g described the axis anew at place 4, which no event tells",
+            "  seen at: the report of place 5; nothing left to read at place 7; the end",
+            "at the end: not as the device in ABS_X",
+        )
+
+    def test_a_client_that_asks_again(self):
+        text = self.opened + frame(1, "EV_ABS ABS_X 5") + "do c follow\n" + self.anew
+        self.says(text + "do c force\ndo c follow\n", "c", "at the end: as the device")
+
+    def test_the_client_that_described_it(self):
+        text = self.opened + "do c setaxis ABS_X 9 0 200 8 0 0\ndo c follow\n"
+        said = self.part(text, "c")
+        self.assertIn("since place 3: c described the axis anew at place 3, which no event tells\n", said)
+
+
 class Losses(StuckCase):
     lost = KEYBOARD + "client c\ntap t\ndo c open\ndo t open\n" + frame(1, press("KEY_A"))
     lost += "do c follow\ndo t read 64\n"

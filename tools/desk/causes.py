@@ -6,6 +6,7 @@ discard), and read.
 """
 
 from desk.belief import CURRENT, SLOT
+from desk.devicestate import DESCRIPTION
 
 
 def span_text(begin, end):
@@ -36,6 +37,9 @@ class Causes:
         value, origin = walk.belief.value(thing), walk.belief.origin(thing)
         if point.kind == "end" and self.state.value(thing, point.frame) == value:
             return self.in_open_frame(thing, origin)
+        described = self.description_behind(thing, self.state.last_change(thing, point.frame))
+        if described is not None and (origin is None or origin[2] <= self.state.place_of(point.frame)):
+            return described, self.description_text(described)
         frame = self.state.other_since(thing, point.frame, value)
         place = self.state.place_of(frame)
         if origin is not None and (place is None or origin[2] > place):
@@ -47,6 +51,9 @@ class Causes:
     def in_open_frame(self, thing, origin):
         """The device's value changed behind the last frame: the events wait for a report."""
         ended = self.state.frame_places[-1] if self.state.frames else -1
+        described = self.last_description(thing, len(self.state.history))
+        if described is not None and described > ended:
+            return described, self.description_text(described)
         if origin is not None and origin[2] > ended:
             ended = origin[2]
         behind = (place for place in self.state.places if place > ended)
@@ -56,6 +63,28 @@ class Causes:
     def sets(self, step, thing):
         """Does a step inject or write an event for this thing?"""
         return step[-3:-1] == list(event_of_thing(thing))
+
+    def last_description(self, thing, end):
+        """The place before `end` at which the axis was described anew last, or None."""
+        places = [place for place in self.state.places if place < end]
+        described = (place for place in reversed(places) if self.describes(self.state.history[place], thing))
+        return next(described, None)
+
+    def describes(self, step, thing):
+        return step[0] == DESCRIPTION and thing == ("EV_ABS", step[2])
+
+    def description_text(self, place):
+        client = int(self.state.history[place][1])
+        return f"{self.owners.get(client, client)} described the axis anew at place {place}, which no event tells"
+
+    def description_behind(self, thing, frame):
+        """The place of the description that gave the axis its value at the end of a frame which has no event
+        with that value, or None."""
+        if frame < 0:
+            return None
+        events = [event for event in self.state.frames[frame].events if event[:2] == event_of_thing(thing)]
+        is_told = bool(events) and events[-1][2] == self.state.value(thing, frame)
+        return None if is_told else self.last_description(thing, self.state.place_of(frame))
 
     def of_later_belief(self, thing, origin, point):
         """The cause where the belief was told later than the device took its value."""

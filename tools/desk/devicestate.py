@@ -2,16 +2,19 @@
 
 A second record is made of the history of the first one, and played by the same program. It has the same
 device and all steps that a device's state comes of: what was injected and written, ticks and inhibitions,
-in order. Nobody else is there, so there is no grab and no mask, and the log limit is the greatest one. Two
-clients watch:
+and axes that were described anew, in order. Nobody else is there, so there is no grab and no mask, and the
+log limit is the greatest one. Two clients watch:
 
 - `frames` reads whatever each step ended. So its events are the frames that were passed, and its belief at
 each report is the device's state at that frame's end.
 - `state` synchronises where the state is wanted as it is at a place, in the midst of a frame too: at each
   synchronisation of slots, whose answer no report writes, and at the end.
 
-Their own steps are taken out again: the steps of the source stand for those of the first history, one for
-one.
+Where axes were described anew, a tap `axes` describes them, which no event tells, and asks for these axes
+behind each step.
+
+Their own steps are taken out again: those of the source, and the descriptions, stand for those of the first
+history, one for one.
 """
 
 import bisect
@@ -26,6 +29,8 @@ from desk.report import read_report
 GREATEST_LOG = 8388608
 TEXT_LIMIT = 16777216
 SOURCE_STEPS = ("inject", "tick", "inhibit", "uninhibit", "write")
+DESCRIPTION = "setaxis"
+STATE_STEPS = SOURCE_STEPS + (DESCRIPTION,)
 
 
 class Frame:
@@ -74,8 +79,9 @@ class DeviceState:
         self.description, self.history, self.name = description, history, description.name
         self.frames, self.changes, self.changed = [], {}, []
         self.sync_states, self.end, self.view = {}, {}, []
-        self.places = [place for place, step in enumerate(history) if step[0] in SOURCE_STEPS]
+        self.places = [place for place, step in enumerate(history) if step[0] in STATE_STEPS]
         self.frame_places = []
+        self.described = sorted({step[2] for step in history if step[0] == DESCRIPTION})
 
     def value(self, thing, frame):
         """The value of a thing at the end of a frame; number -1 stands for the start."""
@@ -135,23 +141,28 @@ def is_read_behind(step, waiting, hint):
     return not is_event or step[-3:-1] == ["EV_SYN", "SYN_REPORT"] or waiting >= hint
 
 
-def device_lines(number, description):
-    """The lines of a device and its actors: a source `s`, and the clients `frames` and `state`."""
-    lines = [f"device d{number}", f"log {GREATEST_LOG}"] + description.lines
-    return lines + [f"source s{number}", f"client frames{number}", f"client state{number}"]
+def device_lines(number, state):
+    """The lines of a device and its actors: a source `s`, the clients `frames` and `state`, and a tap where
+    axes are described."""
+    lines = [f"device d{number}", f"log {GREATEST_LOG}"] + state.description.lines
+    lines += [f"source s{number}", f"client frames{number}", f"client state{number}"]
+    return lines + ([f"tap axes{number}"] if state.described else [])
 
 
 def action_lines(number, state):
     """What the source and both clients of a device do."""
-    read = [f"do frames{number} follow"]
+    read, tap = [f"do frames{number} follow"], f"do axes{number}"
     ask = [f"do state{number} force", f"do state{number} follow"]
     points = sync_points(state.history, state.places)
     lines = [f"do frames{number} open", f"do frames{number} clock monotonic 0", f"do state{number} open"]
+    lines += [f"{tap} open"] if state.described else []
     lines += ask if 0 in points else []
     waiting = 0
     for index, place in enumerate(state.places, 1):
         step = state.history[place]
-        lines.append(" ".join([f"do s{number}"] + action_of(step)))
+        is_description = step[0] == DESCRIPTION
+        words = [tap, DESCRIPTION] + step[2:] if is_description else [f"do s{number}"] + action_of(step)
+        lines += [" ".join(words)] + [f"{tap} axis {code}" for code in state.described]
         waiting += 1
         if is_read_behind(step, waiting, state.description.hint):
             lines += read
@@ -164,7 +175,7 @@ def second_record(states):
     """The text of the second record."""
     lines = ["inputrecord 1"]
     for number, state in enumerate(states):
-        lines += device_lines(number, state.description)
+        lines += device_lines(number, state)
     for number, state in enumerate(states):
         lines += action_lines(number, state)
     text = "\n".join(lines) + "\n"
@@ -177,14 +188,14 @@ def second_record(states):
 
 
 def own_places(part):
-    """The places of a client's accepted calls."""
-    calls = [entry for entry in part.sight if entry[0] == "call"]
+    """The places of a client's accepted calls, but for the descriptions that it made."""
+    calls = [entry for entry in part.sight if entry[0] == "call" and entry[1][0] != DESCRIPTION]
     return {int(reply[1]) for _, _, reply in calls if reply[0] != "refused"}
 
 
 def source_places(device, state):
     """For each place of the second history that is the source's, the place of the first one."""
-    taken = own_places(device.parts[1]) | own_places(device.parts[2])
+    taken = set().union(*(own_places(part) for part in device.parts[1:]))
     places = [place for place in range(device.steps) if place not in taken]
     if len(places) != len(state.places):
         raise Wrong(f"{state.name}: the second history does not have the steps of the first one")
@@ -248,6 +259,21 @@ def read_frames(state, part, places):
     is_told_by(part, belief, state)
 
 
+def read_described(state, part, places):
+    """The axes that were described anew, at the end of each frame, as the tap was told behind its step."""
+    told = {}
+    for entry in part.sight:
+        if entry[0] == "call" and entry[1][0] == "getaxis":
+            told[last_before(places, int(entry[2][1])), ("EV_ABS", entry[1][2])] = int(entry[2][2])
+    for thing in {thing for _, thing in told}:
+        start = state.changes[thing].values[0] if thing in state.changes else first_value(thing)
+        state.changes[thing] = changes = Changes(start)
+        for number, frame in enumerate(state.frames):
+            if changes.values[-1] != told[frame.place, thing]:
+                changes.add(number, told[frame.place, thing])
+                state.changed[number].add(thing)
+
+
 def read_synchronisations(state, part):
     """The slots at each synchronisation, and the state at the end."""
     belief = Belief(state.description.slots)
@@ -285,4 +311,6 @@ def ask(states, player):
     for device, state in zip(read_report(written), states):
         places = source_places(device, state)
         read_frames(state, device.parts[1], places)
+        if state.described:
+            read_described(state, device.parts[3], places)
         read_synchronisations(state, device.parts[2])

@@ -60,7 +60,7 @@ not_full d past reply room h = absurd (grind (arith, nat_tests, h, room))
 answer-room : (d : Description) (past : List Step) (x : Step) → length past < d.log_limit → is_log_full (answer d past x).reply ≡ false
 answer-room d past x room =
     by_cases (refusals d past x) (accepted d past x)
-    (λ e. refl, (λ e. refl, (λ e. refl, (λ e. refl, (λ e. refl, (λ e. refl, (λ e. refl, (λ e. refl, (λ e. not_full d past (StepRefused (length past) LogFull) room e, tt)))))))))
+    (λ e. refl, (λ e. refl, (λ e. refl, (λ e. refl, (λ e. refl, (λ e. refl, (λ e. refl, (λ e. refl, (λ e. refl, (λ e. not_full d past (StepRefused (length past) LogFull) room e, tt))))))))))
     (room_when_accepted d past x)
 
 -- Talks

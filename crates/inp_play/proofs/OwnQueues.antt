@@ -6,12 +6,13 @@ use Rattle.inp_model.specs.declared.step.Step.{Step}
 use Rattle.inp_model.specs.declared.step.Step.TheVariants.{Read, Discard, GetKeys, SyncSlots}
 use Rattle.inp_model.specs.Description.{Description, ring}
 use Rattle.inp_model.specs.Event.{is_report}
-use Rattle.inp_model.specs.Step.{Query, client_of, is_open_step, is_same, moment_of, is_part_of, query_of}
+use Rattle.inp_model.specs.Step.{Query, client_of, is_open_step, is_same, is_part_of, query_of}
 use Rattle.inp_model.specs.Past.{opens, is_call_of}
-use Rattle.inp_model.specs.Cut.{Cut, cuts}
+use Rattle.inp_model.specs.RawItem.{Cut}
+use Rattle.inp_model.specs.Cut.{cuts}
 use Rattle.inp_model.specs.Raw.{raw_of_step}
 use Rattle.inp_model.specs.Frame.{cuts_of_step, frame_of, frames_of_step}
-use Rattle.inp_model.specs.Queue.{Entry, event_of, entry_dropped_at, put_all, entries, visible, stays, flush_behind, flush_for, left_by_call, queue}
+use Rattle.inp_model.specs.Queue.{Entry, event_of, entry_dropped_at, put_all, entries, visible, stays, flush_behind, flush_for, left_by_call, queue, queue_with}
 
 -- how many are visible, with one event more in front
 abbrev with_first : Bool → ℕ → ℕ
@@ -69,14 +70,14 @@ same_client client = grind (arith, nat_tests)
 
 -- the queue behind a client's own call that ends no frame
 own_left : (d : Description) (past : List Step) (client : ℕ) (x : Step) → client_of x ≡ Some client → is_open_step x ≡ false → cuts_of_step d past x ≡ [] → queue d (x ∷ past) client ≡ left_by_call d past x (queue d past client)
-unfolding queue
+unfolding queue_with
 own_left d past client x named unopened none =
     let q : List Entry = queue d past client in
     let called : is_call_of past client x ≡ true =
     ap (λ (b : Bool). if b && nat_eq (opens past) client then true else is_same (client_of x) client) unopened
     ∙ ap (λ (o : Option ℕ). is_same o client) named ∙ same_client client in
     ap (λ (b : Bool). put_all event_of entry_dropped_at (ring d) (if b then left_by_call d past x q else q) (entries d client (frames_of_step d past x))) called
-    ∙ ap (λ (cs : List Cut). put_all event_of entry_dropped_at (ring d) (left_by_call d past x q) (entries d client (map (frame_of past (moment_of x)) cs))) none
+    ∙ ap (λ (cs : List Cut). put_all event_of entry_dropped_at (ring d) (left_by_call d past x q) (entries d client (map (frame_of past x) cs))) none
 
 no_cuts-read : (d : Description) (past : List Step) (client count : ℕ) → cuts_of_step d past (Read client count) ≡ []
 unfolding raw_of_step cuts

@@ -9,7 +9,7 @@ use Rattle.inp_model.specs.declared.step.Step.TheVariants.{Read}
 use Rattle.inp_model.specs.declared.reply.Reply.{Reply}
 use Rattle.inp_model.specs.Description.{Description}
 use Rattle.inp_model.specs.Past.{past_at}
-use Rattle.inp_model.specs.Queue.{Entry, taken_by, took}
+use Rattle.inp_model.specs.Queue.{Entry, taken_by, took, took_with}
 use Rattle.inp_model.specs.Reply.{Answer, IsAnswer, answer, answer_by, accepted, refused, is_accepted, taken_of}
 use Rattle.inp_model.specs.Run.{Call, HasPlace, place_of, next_place}
 use Rattle.inp_recon.specs.declared.view.View.{View}

@@ -8,6 +8,7 @@ use Rattle.std.proofs.lemmas.List.Sums.{sum_by-cons}
 use Rattle.std.proofs.lemmas.Option.{same_Some, slice_get-map, slice_get_within}
 use Rattle.inp_model.specs.declared.step.Step.{Step}
 use Rattle.inp_model.specs.Description.{Description, IsDescription}
+use Rattle.inp_model.specs.Left.{eaten}
 use Rattle.inp_model.specs.History.{IsHistory}
 use Rattle.inp_model.specs.Past.{past_at}
 use Rattle.inp_model.specs.Run.{Call, HasPlace, IsLegalFrom, place_of, next_place}
@@ -206,7 +207,7 @@ is_run idle r i d history actors is_record described s =
           (subst (λ (j : JobView). IsJob r d wait history its.text.role j) e.same
           (is_job r d wait history e.actor its.text is_record its.is_text its.followed (shown-of r i d wait history jobs k job is_record owners h e)));
       accepted = past;
-      faithful = λ client. faithful_by_reads reads-faithful d (reverse history) client described past;
+      faithful = λ client. faithful_by_reads reads-faithful (eaten d) d (reverse history) client described past;
       seen = λ k job text h is_text.
           let e : IsEndOf r i d wait history job = end_of idle r i d history actors k job s h in
           let its : IsActorOf r i d wait history e.actor = e.of_device in

@@ -18,13 +18,13 @@ use Rattle.inp_model.specs.Description.{Description, has_kind}
 use Rattle.inp_model.specs.Evdev.{is_again}
 use Rattle.inp_model.specs.Event.{is_repeat}
 use Rattle.inp_model.specs.Past.{past_at}
-use Rattle.inp_model.specs.Queue.{Entry, event_of, taken_by, took}
+use Rattle.inp_model.specs.Queue.{Entry, event_of, taken_by, took, took_with}
 use Rattle.inp_model.specs.Raw.{raw}
 use Rattle.inp_model.specs.Reply.{Answer, IsAnswer, answer, answer_by, accepted, refused, is_accepted, past_after, taken_of, words_of, code_on}
 use Rattle.inp_model.specs.Run.{Call, IsLegalFrom, HasPlace, place_of, next_place}
 use Rattle.inp_recon.specs.declared.view.View.{View}
 use Rattle.inp_recon.specs.View.{IsSizedFor, key_count, code_count, with_flag, bits_in, flags_after_reply, keys_after_answer, switches_after_answer, leds_after_answer, first_view, view_after_event, view_after_events, view_after_answer}
-use Rattle.inp_recon.specs.ClientView.{view_after_step, client_view, past_before_read, read_up_to, view_at}
+use Rattle.inp_recon.specs.ClientView.{view_after_step, client_view, client_view_with, past_before_read, past_before_read_with, read_up_to, view_at}
 use Rattle.inp_model.specs.History.{IsHistory}
 use Rattle.inp_recon.specs.Synchronised.{is_synchronised}
 use Rattle.inp_recon.proofs.Each.{Each}

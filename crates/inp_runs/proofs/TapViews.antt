@@ -15,7 +15,7 @@ use Rattle.inp_model.specs.declared.reply.Reply.TheVariants.{Opened, Again as No
 use Rattle.inp_model.specs.declared.reply.Refusal.{Refusal}
 use Rattle.inp_model.specs.Description.{Description, has_kind, ring, supports, is_multi_touch_code}
 use Rattle.inp_model.specs.Past.{past_at, opens}
-use Rattle.inp_model.specs.Queue.{Entry, taken_by, took}
+use Rattle.inp_model.specs.Queue.{Entry, taken_by, took, took_with}
 use Rattle.inp_model.specs.Reply.{Answer, IsAnswer, answer, answer_by, accepted, refused, is_accepted, is_bad_client, past_after, taken_of}
 use Rattle.inp_model.specs.Run.{Call, HasPlace, place_of, next_place}
 use Rattle.inp_model.specs.Step.{client_of, is_open_step, is_same}
@@ -27,7 +27,7 @@ use Rattle.inp_actors.specs.declared.role.Role.TheVariants.{Tap}
 use Rattle.inp_actors.specs.Command.{is_command_of}
 use Rattle.inp_recon.specs.declared.view.View.{View}
 use Rattle.inp_recon.specs.View.{IsSizedFor, code_count, first_view, view_after_events, view_after_answer}
-use Rattle.inp_recon.specs.ClientView.{client_view, past_before_read, view_at}
+use Rattle.inp_recon.specs.ClientView.{client_view, client_view_with, past_before_read, past_before_read_with, view_at}
 use Rattle.inp_model.specs.History.{IsHistory}
 use Rattle.inp_recon.specs.Synchronised.{Part, AllKeys, AllSwitches, AllLeds, OneAxis, AllSlots, asks_for, has_asked, has_asked_where, has_axis, is_synchronised, is_start}
 use Rattle.inp_recon.proofs.Each.{and-left, and-right}

@@ -70,7 +70,7 @@ never_again d past x h =
     let nothing : finds_nothing d past x ≡ false = nothing_to_find d past x h in
     let no_case : finds_nothing d past x ≡ true → is_again (NothingVisible (length past) 0) ≡ false = λ e. absurd cc in
     first-not_again (refusals d past x) (accepted d past x)
-    ((λ e. refl), ((λ e. refl), ((λ e. refl), ((λ e. refl), ((λ e. absurd (let f : true ≡ false = sym e ∙ nothing in cc)), ((λ e. refl), ((λ e. refl), ((λ e. refl), ((λ e. refl), tt)))))))))
+    ((λ e. refl), ((λ e. refl), ((λ e. refl), ((λ e. refl), ((λ e. refl), ((λ e. absurd (let f : true ≡ false = sym e ∙ nothing in cc)), ((λ e. refl), ((λ e. refl), ((λ e. refl), ((λ e. refl), tt))))))))))
     (accepted-not_again d past x)
 
 pub not_again : (d : Description) (past : List Step) (x : Step) (given : Answer) → IsAnswer d past x given → is_read x ≡ false → is_again given.reply ≡ false

@@ -60,6 +60,7 @@ source s
 tap t
 do t mask 1 0 0xbeef
 do t clock boottime 5
+do t setaxis 0 0x10 -0 200 8 00 -2147483648
 do s stream keys.bin
 ";
 
@@ -73,6 +74,7 @@ source s
 tap t
 do t mask EV_KEY 0 0x000000000000beef
 do t clock boottime 5
+do t setaxis ABS_X 16 0 200 8 0 -2147483648
 do s stream keys.bin
 ";
 

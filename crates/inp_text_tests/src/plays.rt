@@ -1,6 +1,6 @@
 //! Records, and the reports of what comes of them, worked out by hand.
 
-/// A tap reads, discards, and makes each query. Some keys, switches and axes have no name.
+/// A tap reads, discards, makes each query, and describes an axis anew. Some keys, switches and axes have no name.
 pub const QUERIES: &str = "inputrecord 1
 device pad
 hint 32
@@ -44,9 +44,13 @@ do t slots ABS_MT_POSITION_X
 do t syncslots
 do t read 16
 do t mask EV_KEY 0 0xbeef
+do t setaxis ABS_MISC 7 -9 9 4 1 2
+do t setaxis ABS_MISC 0 0 0 -1 0 0
+do t setaxis ABS_MT_POSITION_X 0 0 0 -1 0 0
+do t axis ABS_MISC
 ";
 
-pub const QUERIES_REPORT: &str = "device pad steps 24
+pub const QUERIES_REPORT: &str = "device pad steps 26
 source s calls 11 stop finished
 tap t
 call open reply opened 0 0 256
@@ -65,10 +69,14 @@ call getslots 0 ABS_MT_POSITION_X reply cells 21 2 1
 call syncslots 0 reply cells 22 28 1
 again 23
 call mask 0 EV_KEY 0 0x000000000000beef reply done 23
+call setaxis 0 ABS_MISC 7 -9 9 4 1 2 reply done 24
+call setaxis 0 ABS_MISC 0 0 0 -1 0 0 reply refused 25 bad-info
+call setaxis 0 ABS_MT_POSITION_X 0 0 0 -1 0 0 reply refused 25 bad-code
+call getaxis 0 ABS_MISC reply axis 25 7 -9 9 4 1 2
 keys KEY_A 84 BTN_TOUCH
 switches SW_LID 16
 leds LED_CAPSL
-axes ABS_PRESSURE=-5 ABS_MISC=-3 62=0
+axes ABS_PRESSURE=-5 ABS_MISC=7 62=0
 current 1
 slot 0 ABS_MT_POSITION_X=0 ABS_MT_TRACKING_ID=-1
 slot 1 ABS_MT_POSITION_X=258 ABS_MT_TRACKING_ID=-1

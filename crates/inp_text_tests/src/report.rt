@@ -6,7 +6,7 @@ use crate::common::read;
 use crate::plays::{FORCED, FORCED_REPORT, QUERIES, QUERIES_REPORT, REFUSALS, REFUSALS_REPORT};
 use inp_actors::{Actors, DeviceText, Devices, Lines, Name, Record, Streams};
 use inp_caps::CapsBuilder;
-use inp_model::{Clock, EV_KEY, EV_LED, Event, History, KEY_A, NoMemory, Step};
+use inp_model::{AxisInfo, Clock, EV_KEY, EV_LED, Event, History, KEY_A, NoMemory, Step};
 use inp_play::play;
 use inp_report::{report, summary};
 use inp_script::{Jobs, Run, Runs};
@@ -32,8 +32,27 @@ const LIGHT: Event = Event {
     value: 0,
 };
 
+const WIDE: AxisInfo = AxisInfo {
+    value: 10,
+    minimum: -1,
+    maximum: 200,
+    fuzz: 8,
+    flat: -2,
+    resolution: 3,
+};
+
+/// What no axis may have.
+const NO_FUZZ: AxisInfo = AxisInfo {
+    value: 0,
+    minimum: 0,
+    maximum: 0,
+    fuzz: -1,
+    flat: 0,
+    resolution: 0,
+};
+
 /// Each step, with its text.
-const STEPS: [(Step, &str); 29] = [
+const STEPS: [(Step, &str); 31] = [
     (
         Step::Inject {
             event: KEY_DOWN,
@@ -70,6 +89,22 @@ const STEPS: [(Step, &str); 29] = [
             code: 0x3e,
         },
         "getaxis 1 62",
+    ),
+    (
+        Step::SetAxis {
+            client: 1,
+            code: 0,
+            info: WIDE,
+        },
+        "setaxis 1 ABS_X 10 -1 200 8 -2 3",
+    ),
+    (
+        Step::SetAxis {
+            client: 1,
+            code: 40000,
+            info: NO_FUZZ,
+        },
+        "setaxis 1 40000 0 0 0 -1 0 0",
     ),
     (
         Step::GetSlots {
@@ -189,7 +224,7 @@ fn all_steps(alloc: Global) -> Result<Runs, NoMemory>
 
 /// The line of the device, and one for each of its steps.
 fn lines_of_all_steps(alloc: Global) -> Result<String, NoMemory> {
-    let mut text = String::from_str(alloc, "device kbd steps 29\n")?;
+    let mut text = String::from_str(alloc, "device kbd steps 31\n")?;
     for (place, (_, want)) in STEPS.iter().enumerate() {
         text.push_str(format!(in alloc; "step {place} {want}\n")?.as_str())?;
     }
@@ -201,14 +236,14 @@ fn writes_a_device_with_its_history(rt: HostRuntime) -> Result<(), Fail> {
     let rec = unused_device(rt.alloc())?;
     let runs = all_steps(rt.alloc())?;
     let short = report(rt.alloc(), &rec, &runs, false)?;
-    assert_eq!(rt; short.as_slice(), b"device kbd steps 29\n".as_slice());
+    assert_eq!(rt; short.as_slice(), b"device kbd steps 31\n".as_slice());
     let long = report(rt.alloc(), &rec, &runs, true)?;
     let lines = lines_of_all_steps(rt.alloc())?;
     assert_eq!(rt; long.as_slice(), lines.as_bytes());
     let brief = summary(rt.alloc(), 7, 20, &rec, &runs)?;
     assert_eq!(rt;
         brief.as_slice(),
-        b"make 7 20\ndevice kbd steps 29\n".as_slice()
+        b"make 7 20\ndevice kbd steps 31\n".as_slice()
     );
     Ok(())
 }

@@ -8,7 +8,8 @@ use Rattle.inp_model.specs.declared.step.Step.{Step}
 use Rattle.inp_model.specs.declared.step.Step.TheVariants.{Inject, Open, Read, Discard, GetKeys, Grab, Ungrab, Mask, Clock as ToClock, Revoke, Inhibit, Uninhibit}
 use Rattle.inp_model.specs.Description.{Description, one_key}
 use Rattle.inp_model.specs.State.{key_down}
-use Rattle.inp_model.specs.Frame.{Frame, place}
+use Rattle.inp_model.specs.RawItem.{Frame}
+use Rattle.inp_model.specs.Frame.{place}
 use Rattle.inp_model.specs.Queue.{Entry, event_of, ends_in_report, taken_by}
 use Rattle.inp_model.specs.Examples.{report}
 use Rattle.inp_recon.specs.declared.view.View.{View}

@@ -1,7 +1,7 @@
 -- A job's view at a report is its client's there, and so the device's.
 use Rattle.std.proofs.Common.{ℕ, Bool, false, List, reverse, ap, ◌∙◌, Option}
 use Rattle.std.specs.Prelude.{slice_index_or}
-use Rattle.inp_model.specs.declared.event.Event.{Event}
+use Rattle.inp_model.specs.RawItem.{RawItem}
 use Rattle.inp_model.specs.declared.taken.Taken.{Taken}
 use Rattle.inp_model.specs.declared.step.Step.{Step}
 use Rattle.inp_model.specs.Description.{Description}
@@ -10,7 +10,7 @@ use Rattle.inp_recon.specs.Faithful.{IsFaithful, IsDeviceState}
 use Rattle.inp_runs.specs.JobViews.{AgreesIn, ShowsAt, ShowsTheState}
 use Rattle.inp_runs.proofs.laws.jobs_show_the_device.Goals as goal
 
-state-agrees : (d : Description) (r : List Event) (v w : View) → AgreesIn d v w → IsDeviceState d r w → IsDeviceState d r v
+state-agrees : (d : Description) (r : List RawItem) (v w : View) → AgreesIn d v w → IsDeviceState d r w → IsDeviceState d r v
 state-agrees d r v w a s = record {
   keys = λ code. ap (λ (xs : List Bool). slice_index_or xs code false) a.keys ∙ s.keys code;
   switches = λ code. ap (λ (xs : List Bool). slice_index_or xs code false) a.switches ∙ s.switches code;
