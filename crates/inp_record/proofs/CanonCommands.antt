@@ -9,6 +9,7 @@ use Rattle.inp_model.specs.declared.stamped.TheConstants.{MOMENT_MAX}
 use Rattle.inp_model.specs.declared.stamped.Stamped.{Stamped}
 use Rattle.inp_texts.specs.Texts.{kind_text, code_text}
 use Rattle.inp_canon.specs.Words.{Words}
+use Rattle.inp_canon.specs.Device.{fuzz_words, info_words as info_text}
 use Rattle.inp_canon.specs.Command.{event_words, command_words}
 use Rattle.inp_actors.specs.declared.role.Role as role
 use Rattle.inp_actors.specs.declared.command.TheConstants.{READ_MAX}
@@ -64,7 +65,7 @@ do_words name does = codes "do" ∷ name ∷ command_words does
 -- such a line is that of an action
 module _ (name : List ℕ) where
   pub do_keyword : (does : command.Command) → keyword_of (codes "do") (length (do_words name does)) ≡ Some keywords.Action
-  unfolding keyword_of keyword_rows command_words
+  unfolding keyword_of keyword_rows command_words info_text fuzz_words
   do_keyword (commands.Event moment kind code value) = refl
   do_keyword (commands.Tick moment) = refl
   do_keyword (commands.Inhibit moment) = refl
@@ -100,7 +101,7 @@ allowed r v count h k = rw (h, k) refl
 
 module _ (name : List ℕ) (r : role.Role) where
   verb_read : (does : command.Command) → is_command_of r does ≡ true → verb_of r (word 2 (do_words name does)) (length (do_words name does) - 3) ≡ Some (verb_for does)
-  unfolding verb_of verb_rows command_words
+  unfolding verb_of verb_rows command_words info_text fuzz_words
   verb_read (commands.Event moment kind code value) h = allowed r verbs.Event 4 h refl
   verb_read (commands.Tick moment) h = allowed r verbs.Tick 1 h refl
   verb_read (commands.Inhibit moment) h = allowed r verbs.Inhibit 1 h refl

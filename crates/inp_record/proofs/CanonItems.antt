@@ -8,7 +8,7 @@ use Rattle.inp_model.specs.declared.clock.Clock as clock
 use Rattle.inp_model.specs.declared.clock.Clock.TheVariants as clocks
 use Rattle.inp_texts.specs.Texts.{kind_text, code_text, clock_text, role_text}
 use Rattle.inp_canon.specs.Words.{Words}
-use Rattle.inp_canon.specs.Device.{axis_words}
+use Rattle.inp_canon.specs.Device.{fuzz_words, axis_words, info_words as info_text}
 use Rattle.inp_canon.specs.Text.{name_of_actor}
 use Rattle.inp_actors.specs.declared.role.Role as role
 use Rattle.inp_actors.specs.declared.role.Role.TheVariants as roles
