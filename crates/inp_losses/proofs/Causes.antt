@@ -10,11 +10,11 @@ use Rattle.inp_model.specs.declared.step.Step.{Step}
 use Rattle.inp_model.specs.declared.step.Step.TheVariants.{Open, Read, Discard, Clock as ToClock}
 use Rattle.inp_model.specs.Description.{Description, doubled, ring}
 use Rattle.inp_model.specs.Event.{is_report}
-use Rattle.inp_model.specs.Step.{Query, client_of, is_same, moment_of, query_of, is_part_of}
+use Rattle.inp_model.specs.Step.{Query, client_of, is_same, query_of, is_part_of}
 use Rattle.inp_model.specs.Past.{is_call_of, is_opening, clock_of}
 use Rattle.inp_model.specs.Raw.{raw, raw_of_step}
 use Rattle.inp_model.specs.Frame.{frames_of_step}
-use Rattle.inp_model.specs.Queue.{Entry, event_of, entry_dropped_at, is_empty, ends_in_report, put, put_all, entries, visible, stays, flush_behind, flush_for, is_same_clock, clock_entry, clock_changed, left_by_call, queue, taken_by, took}
+use Rattle.inp_model.specs.Queue.{Entry, event_of, entry_dropped_at, is_empty, ends_in_report, put, put_all, entries, visible, stays, flush_behind, flush_for, is_same_clock, clock_entry, clock_changed, left_by_call, queue, queue_with, taken_by, took, took_with}
 use Rattle.inp_recon.proofs.Each.{Each, Each-append, Each-weaker, Each-take, Each-drop}
 use Rattle.inp_recon.proofs.Queueing.{put_all-append, flush-each}
 use Rattle.inp_losses.specs.Losses.{queue_before_frames, MeetsFullRing, ChangesClock, HasCause, IsCaused, AreQueuedCaused, AreTakenCaused}
@@ -101,7 +101,7 @@ before-room d past client x room = by (is_call_of past client x)
     by false = room
 
 pub queue-room : (d : Description) (past : List Step) (client : ℕ) → length (queue d past client) < ring d
-unfolding queue
+unfolding queue_with
 queue-room d [] client = omega (arith, ring-places d)
 queue-room d (x ∷ past) client =
     put_all-room (ring d) (queue_before_frames d past client x) (entries d client (frames_of_step d past x)) (ring-places d)
@@ -199,13 +199,13 @@ module _ (d : Description) (past : List Step) (client : ℕ) (x : Step) where
       (put-caused before y behind q come is room at.0 h)
 
 pub queue-caused : (d : Description) (past : List Step) (client : ℕ) → AreCaused d past client (queue d past client)
-unfolding queue
+unfolding queue_with
 queue-caused d [] client = tt
 queue-caused d (x ∷ past) client =
     let older : AreCaused d (x ∷ past) client (queue d past client) = Each-weaker (IsCaused d past client) (IsCaused d (x ∷ past) client) (caused-later d past client x) (queue d past client) (queue-caused d past client) in
     put_all-caused d past client x [] (entries d client (frames_of_step d past x)) (queue_before_frames d past client x) refl refl
     (before-room d past client x (queue-room d past client))
-    (entries-come d client past (moment_of x) _ (cuts-no_loss d (raw_of_step d past x) (raw d past)))
+    (entries-come d client past x _ (cuts-no_loss d (raw_of_step d past x) (raw d past)))
     (before-caused d past client x older)
 
 taken-caused : (d : Description) (past : List Step) (client : ℕ) (x : Step) → AreCaused d (x ∷ past) client (queue d past client) → AreCaused d (x ∷ past) client (taken_by d past client x)
@@ -217,7 +217,7 @@ taken-caused d past client (Read named count) h = by (nat_eq named client)
 taken-caused d past client x h = tt
 
 pub took-caused : (d : Description) (past : List Step) (client : ℕ) → AreCaused d past client (took d past client)
-unfolding took
+unfolding took_with
 took-caused d [] client = tt
 took-caused d (x ∷ past) client =
     let queued : AreCaused d (x ∷ past) client (queue d past client) = Each-weaker (IsCaused d past client) (IsCaused d (x ∷ past) client) (caused-later d past client x) (queue d past client) (queue-caused d past client) in
