@@ -54,7 +54,7 @@ finds_something d past _ h k = false≢true k
 refused-not_again : (d : Description) (past : List Step) (x : Step) (reply : Reply) → is_read x ≡ false → refused d past x ≡ Some reply → is_again reply ≡ false
 refused-not_again d past x reply no_read h =
     first_reply-not_again (refusals d past x) reply
-    (λ k. refl, (λ k. refl, (λ k. refl, (λ k. refl, (λ k. absurd (finds_something d past x no_read k), (λ k. refl, (λ k. refl, (λ k. refl, (λ k. refl, tt))))))))) h
+    (λ k. refl, (λ k. refl, (λ k. refl, (λ k. refl, (λ k. refl, (λ k. absurd (finds_something d past x no_read k), (λ k. refl, (λ k. refl, (λ k. refl, (λ k. refl, tt)))))))))) h
 
 accepted-not_again : (d : Description) (past : List Step) (x : Step) → is_again (accepted d past x).reply ≡ false
 accepted-not_again d past Open = refl

@@ -3,7 +3,7 @@ use Rattle.std.proofs.Common.{◌≡◌, List, [], refl, sym, ap, subst, ◌∙�
 use Rattle.std.specs.Prelude.{flat_map}
 use Rattle.std.proofs.lemmas.List.{take-append-le}
 use Rattle.std.specs.List.{range_with_len}
-use Rattle.inp_model.specs.declared.event.Event.{Event}
+use Rattle.inp_model.specs.RawItem.{RawItem}
 use Rattle.inp_model.specs.declared.step.Step.{Step}
 use Rattle.inp_model.specs.declared.step.Step.TheVariants.{Open, SyncSlots}
 use Rattle.inp_model.specs.declared.reply.Reply.{Reply}
@@ -20,7 +20,7 @@ use Rattle.inp_recon.specs.View.{view_after_answer, slot_after_reply, cells_afte
 
 -- All values of all slots
 
-length-row : (d : Description) (r : List Event) (slot : ℕ) → length (row d r slot) ≡ 14
+length-row : (d : Description) (r : List RawItem) (slot : ℕ) → length (row d r slot) ≡ 14
 length-row d r slot = refl
 
 length-flat_map : (f : ℕ → List ℤ) (k first n : ℕ) → ((i : ℕ) → length (f i) ≡ k) → length (flat_map f (range_with_len first n)) ≡ k * n
@@ -28,7 +28,7 @@ length-flat_map f k first zero h = omega arith
 length-flat_map f k first (suc n) h =
     omega (arith, length-append (f first) (flat_map f (range_with_len (first + 1) n)), h first, length-flat_map f k (first + 1) n h)
 
-pub length-rows : (d : Description) (r : List Event) → length (rows d r) ≡ 14 * d.slots
+pub length-rows : (d : Description) (r : List RawItem) → length (rows d r) ≡ 14 * d.slots
 length-rows d r = length-flat_map (row d r) 14 0 d.slots (length-row d r)
 
 -- What an answer sets

@@ -9,13 +9,13 @@ use Rattle.inp_model.specs.declared.step.Step.{Step}
 use Rattle.inp_model.specs.declared.step.Step.TheVariants.{Open, Read, Discard, GetKeys, GetSwitches, GetLeds, GetAxis, SyncSlots}
 use Rattle.inp_model.specs.declared.reply.Reply.{Reply}
 use Rattle.inp_model.specs.Description.{Description}
-use Rattle.inp_model.specs.Queue.{Entry, event_of, taken_by, took}
+use Rattle.inp_model.specs.Queue.{Entry, event_of, taken_by, took, took_with}
 use Rattle.inp_model.specs.Reply.{Answer, IsAnswer, answer, answer_by, accepted, refused, is_accepted, taken_of}
 use Rattle.inp_model.specs.Run.{Call}
 use Rattle.inp_model.specs.Step.{client_of, is_same}
 use Rattle.inp_recon.specs.declared.view.View.{View}
 use Rattle.inp_recon.specs.View.{IsSizedFor, first_view, view_after_events, view_after_answer}
-use Rattle.inp_recon.specs.ClientView.{view_after_step, client_view, past_before_read, view_at}
+use Rattle.inp_recon.specs.ClientView.{view_after_step, client_view, client_view_with, past_before_read, past_before_read_with, view_at}
 use Rattle.inp_model.specs.History.{IsHistory}
 use Rattle.inp_recon.proofs.Folds.{view_after_events-append}
 use Rattle.inp_recon.proofs.Sizes.{IsSizedFor-first_view}
@@ -127,7 +127,7 @@ used-view d past client x v accepts used =
 
 -- the view is the one at the start, and what the calls since then make of it
 pub client_view-since : (d : Description) (past : List Step) (client : ℕ) → IsHistory d past → client_view d past client ≡ fold_calls (view_at_start d past client) (calls_since d past client)
-unfolding client_view calls_since view_at_start fold_calls
+unfolding client_view_with calls_since view_at_start fold_calls
 client_view-since d [] client h = refl
 client_view-since d (x ∷ past) client h = by (is_start past client x) (is_use_of client x) refl refl (client_view-since d past client h.0)
   where
@@ -159,7 +159,7 @@ used-taken d past client x accepts used = sym (taken-told d past client x used) 
 
 -- all that it took is what it had taken at its start, and what the calls since then took
 pub took-since : (d : Description) (past : List Step) (client : ℕ) → IsHistory d past → map taken_of (took d past client) ≡ map taken_of (taken_at_start d past client) ++ taken_by_calls (calls_since d past client)
-unfolding took calls_since taken_at_start
+unfolding took_with calls_since taken_at_start
 took-since d [] client h = refl
 took-since d (x ∷ past) client h = by (is_start past client x) (is_use_of client x) refl refl (took-since d past client h.0)
   where
@@ -240,7 +240,7 @@ upto-last v (c ∷ calls) call j h k =
 
 -- one more step leaves the view at an earlier event
 pub at-earlier : (d : Description) (past : List Step) (client i : ℕ) (x : Step) → i < length (took d past client) → view_at d (x ∷ past) client i ≡ view_at d past client i
-unfolding took past_before_read
+unfolding took_with past_before_read_with
 at-earlier d past client i x h =
     let T : List Entry = took d past client in
     let E : List Entry = taken_by d past client x in
@@ -259,7 +259,7 @@ take-behind (x ∷ xs) ys (suc n) h =
 
 -- the view at an event of the last step
 pub at-last : (d : Description) (past : List Step) (client i : ℕ) (x : Step) → length (took d past client) ≤ i → view_at d (x ∷ past) client i ≡ view_after_events (client_view d past client) (map event_of (take (suc i - length (took d past client)) (taken_by d past client x)))
-unfolding took past_before_read
+unfolding took_with past_before_read_with
 at-last d past client i x h =
     let T : List Entry = took d past client in
     let E : List Entry = taken_by d past client x in

@@ -18,6 +18,8 @@ use Rattle.inp_model.specs.Run.{Call}
 use Rattle.inp_recon.specs.declared.view.View.{View}
 use Rattle.inp_recon.specs.View.{IsSizedFor, with_value_at, first_view, view_after_event, view_after_events, keys_after_event, bits_after_event, slot_after_event, cells_after_event}
 use Rattle.inp_recon.specs.ClientView.{view_at}
+use Rattle.inp_model.specs.RawItem.{RawItem, Occurred, Described}
+use Rattle.inp_model.specs.Left.{eaten}
 use Rattle.inp_model.specs.History.{IsHistory}
 use Rattle.inp_recon.specs.Faithful.{IsDeviceState, AreFaithful}
 use Rattle.inp_recon.proofs.Sizes.{IsSizedFor-first_view, length-axes_after_event, length-cells_after_event}
@@ -151,16 +153,18 @@ off-if-on : (k c x : Bool) (s before : Bool) → k ≡ false → before ≡ fals
 off-if-on true c x s before h b = absurd (true≢false h)
 off-if-on false c x s before h b = b
 
-pub no-key-down : (d : Description) (r : List Event) (code : ℕ) → has_kind d EV_KEY ≡ false → key_down d r code ≡ false
+pub no-key-down : (d : Description) (r : List RawItem) (code : ℕ) → has_kind d EV_KEY ≡ false → key_down d r code ≡ false
 unfolding key_down
 no-key-down d [] code h = refl
-no-key-down d (e ∷ r) code h =
+no-key-down d (Described axis i ∷ r) code h = no-key-down d r code h
+no-key-down d (Occurred e ∷ r) code h =
     off-if (has_kind d EV_KEY) (has_code d EV_KEY code) (nat_eq e.kind EV_KEY && nat_eq e.code code) (not (is_repeat e)) (is_set e) (key_down d r code) h (no-key-down d r code h)
 
-pub nothing-on : (d : Description) (r : List Event) (kind code : ℕ) → has_kind d kind ≡ false → turned_on d r kind code ≡ false
+pub nothing-on : (d : Description) (r : List RawItem) (kind code : ℕ) → has_kind d kind ≡ false → turned_on d r kind code ≡ false
 unfolding turned_on
 nothing-on d [] kind code h = refl
-nothing-on d (e ∷ r) kind code h =
+nothing-on d (Described axis i ∷ r) kind code h = nothing-on d r kind code h
+nothing-on d (Occurred e ∷ r) kind code h =
     off-if-on (has_kind d kind) (has_code d kind code) (nat_eq e.kind kind && nat_eq e.code code) (is_set e) (turned_on d r kind code) h (nothing-on d r kind code h)
 
 all-off : (n code : ℕ) → slice_index_or (replicate n false) code false ≡ false
@@ -174,7 +178,7 @@ flag-shown false on v w n code same none off h = ap (λ (xs : List Bool). slice_
 
 -- All values
 
-state-shown : (d : Description) (r : List Event) (v w : View) → AgreeBut (what_is_had d) [] v w → IsSpare d w → IsDeviceState d r v → IsDeviceState d r w
+state-shown : (d : Description) (r : List RawItem) (v w : View) → AgreeBut (what_is_had d) [] v w → IsSpare d w → IsDeviceState d r v → IsDeviceState d r w
 state-shown d r v w a s h = record {
   keys = λ code. flag-shown (has_kind d EV_KEY) (key_down d r code) v.keys w.keys 768 code (λ is. a.keys is refl) s.keys (no-key-down d r code) (h.keys code);
   switches = λ code. flag-shown (has_kind d EV_SW) (turned_on d r EV_SW code) v.switches w.switches 64 code (λ is. a.switches is refl) s.switches (nothing-on d r EV_SW code) (h.switches code);
@@ -194,5 +198,5 @@ shows-device law d past r t is history spare h = record {
   is_taken = handed-is-taken d past r t h history;
   shows = λ f report followed.
       state-shown d f.cut.until (view_at d past r.client (index_handed_out d past r)) r.view (agree-then d past r t h history) spare
-      (law d past r.client is history (index_handed_out d past r) f report followed);
+      (law (eaten d) d past r.client is history (index_handed_out d past r) f report followed);
 }

@@ -13,17 +13,20 @@ use Rattle.inp_model.specs.declared.clock.Clock.{Clock}
 use Rattle.inp_model.specs.declared.step.Step.{Step}
 use Rattle.inp_model.specs.declared.step.Step.TheVariants.{Open, Read, Discard, Clock as ToClock}
 use Rattle.inp_model.specs.declared.reply.Reply.{Reply}
+use Rattle.inp_model.specs.RawItem.{RawItem, Occurred, Described, Cut, Frame}
 use Rattle.inp_model.specs.Description.{Description, supports, ring}
 use Rattle.inp_model.specs.Event.{is_report, is_on, core_report, slot_event}
 use Rattle.inp_model.specs.State.{staged, is_slot}
 use Rattle.inp_model.specs.Passed.{passed, passes_as, code_passes, value_passed, passes_slot_value, announced, announces, announcement}
-use Rattle.inp_model.specs.Cut.{Cut, pending, cut_events, cut, cuts}
-use Rattle.inp_model.specs.Frame.{Frame, frame_of, frames_of_step, cuts_of_step}
+use Rattle.inp_model.specs.Cut.{pending, cut_events, cut_for, cuts}
+use Rattle.inp_model.specs.Frame.{frame_of, frames_of_step, cuts_of_step}
 use Rattle.inp_model.specs.Raw.{raw, raw_of_step}
 use Rattle.inp_model.specs.Past.{is_call_of, admits, clock_of}
-use Rattle.inp_model.specs.Step.{moment_of, Query, query_of, is_part_of}
-use Rattle.inp_model.specs.Queue.{Entry, event_of, entry_dropped_at, put, put_all, visible, stays, flush_behind, flush_for, is_offered, entry, entries_of, entries, clock_entry, clock_changed, is_same_clock, left_by_call, queue, taken_by, is_empty, ends_in_report}
+use Rattle.inp_model.specs.Step.{Query, query_of, is_part_of}
+use Rattle.inp_model.specs.Left.{eaten, left}
+use Rattle.inp_model.specs.Queue.{Entry, event_of, entry_dropped_at, put, put_all, visible, stays, flush_behind, flush_for, is_offered, entry, entries_of, entries, clock_entry, clock_changed, is_same_clock, left_by_call, queue, queue_with, taken_by, is_empty, ends_in_report}
 use Rattle.inp_model.specs.Reply.{Answer, IsAnswer, answer_by, accepted, refused, taken_of}
+use Rattle.inp_model.proofs.Lefts.{left-all}
 use Rattle.inp_reader.specs.Spare.{is_event_of}
 
 abbrev IsOf : Description → Event → Type 0
@@ -50,17 +53,19 @@ never_staged true true x y h k = absurd (true≢false h)
 never_staged true false x y h k = k
 never_staged false c x y h k = k
 
-staged-none : (d : Description) (r : List Event) → d.slots ≡ 0 → staged d r ≡ pos 0
+staged-none : (d : Description) (r : List RawItem) → d.slots ≡ 0 → staged d r ≡ pos 0
 unfolding staged
 staged-none d [] h = refl
-staged-none d (e ∷ r) h = never_staged (is_on d EV_ABS ABS_MT_SLOT e) (is_slot d e.value) e.value (staged d r) (is_slot-none d e.value h) (staged-none d r h)
+staged-none d (Described code axis ∷ r) h = staged-none d r h
+staged-none d (Occurred e ∷ r) h = never_staged (is_on d EV_ABS ABS_MT_SLOT e) (is_slot d e.value) e.value (staged d r) (is_slot-none d e.value h) (staged-none d r h)
 
-announced-none : (d : Description) (r : List Event) → d.slots ≡ 0 → announced d r ≡ pos 0
+announced-none : (d : Description) (r : List RawItem) → d.slots ≡ 0 → announced d r ≡ pos 0
 unfolding announced
 announced-none d [] h = refl
-announced-none d (e ∷ r) h = both_zero (passes_slot_value d r e) (staged d r) (announced d r) (staged-none d r h) (announced-none d r h)
+announced-none d (Described code axis ∷ r) h = announced-none d r h
+announced-none d (Occurred e ∷ r) h = both_zero (passes_slot_value d r e) (staged d r) (announced d r) (staged-none d r h) (announced-none d r h)
 
-announces-none : (d : Description) (r : List Event) (e : Event) → d.slots ≡ 0 → announces d r e ≡ false
+announces-none : (d : Description) (r : List RawItem) (e : Event) → d.slots ≡ 0 → announces d r e ≡ false
 announces-none d r e h =
     ap (λ (s : ℤ). passes_slot_value d r e && not (int_eq s (announced d r))) (staged-none d r h)
     ∙ ap (λ (s : ℤ). passes_slot_value d r e && not (int_eq (pos 0) s)) (announced-none d r h)
@@ -77,7 +82,7 @@ has_slots d h = some (d.slots) h
     some zero k = absurd (k refl)
     some (suc n) k = lt-ltb 0 (suc n) (omega arith)
 
-announcement-of : (d : Description) (r : List Event) (e : Event) → All (IsOf d) (announcement d r e)
+announcement-of : (d : Description) (r : List RawItem) (e : Event) → All (IsOf d) (announcement d r e)
 announcement-of d r e = by (announces d r e) refl
   where
     by : (b : Bool) → announces d r e ≡ b → All (IsOf d) (if b then slot_event (staged d r) ∷ [] else [])
@@ -86,17 +91,17 @@ announcement-of d r e = by (announces d r e) refl
 
 -- What is passed
 
-slot-not-passed : (d : Description) (r : List Event) (v : ℤ) → code_passes d r (record { kind = EV_ABS; code = ABS_MT_SLOT; value = v }) ≡ false
+slot-not-passed : (d : Description) (r : List RawItem) (v : ℤ) → code_passes d r (record { kind = EV_ABS; code = ABS_MT_SLOT; value = v }) ≡ false
 slot-not-passed d r v = refl
 
-slot-code-not-passed : (d : Description) (r : List Event) (e : Event) → e.kind ≡ EV_ABS → e.code ≡ ABS_MT_SLOT → code_passes d r e ≡ false
+slot-code-not-passed : (d : Description) (r : List RawItem) (e : Event) → e.kind ≡ EV_ABS → e.code ≡ ABS_MT_SLOT → code_passes d r e ≡ false
 slot-code-not-passed d r e h k =
     let same : e ≡ record { kind = EV_ABS; code = ABS_MT_SLOT; value = e.value } =
     ap (λ (n : ℕ). record e { kind = n }) h ∙ ap (λ (n : ℕ). record { kind = EV_ABS; code = n; value = e.value }) k in
     ap (λ (x : Event). code_passes d r x) same ∙ slot-not-passed d r e.value
 
 -- the event is of the device where it is supported and passes
-supported-of : (d : Description) (r : List Event) (e : Event) → supports d e.kind e.code ≡ true → code_passes d r e ≡ true → (if nat_eq e.kind EV_ABS && nat_eq e.code ABS_MT_SLOT then nat_lt 0 d.slots else supports d e.kind e.code) ≡ true
+supported-of : (d : Description) (r : List RawItem) (e : Event) → supports d e.kind e.code ≡ true → code_passes d r e ≡ true → (if nat_eq e.kind EV_ABS && nat_eq e.code ABS_MT_SLOT then nat_lt 0 d.slots else supports d e.kind e.code) ≡ true
 supported-of d r e h k = by (nat_eq e.kind EV_ABS && nat_eq e.code ABS_MT_SLOT) refl
   where
     by : (b : Bool) → (nat_eq e.kind EV_ABS && nat_eq e.code ABS_MT_SLOT) ≡ b → (if b then nat_lt 0 d.slots else supports d e.kind e.code) ≡ true
@@ -105,7 +110,7 @@ supported-of d r e h k = by (nat_eq e.kind EV_ABS && nat_eq e.code ABS_MT_SLOT) 
         absurd (true≢false (sym k ∙ slot-code-not-passed d r e (eqb-true e.kind EV_ABS both.0) (eqb-true e.code ABS_MT_SLOT both.1)))
     by false is = h
 
-passes-of : (d : Description) (r : List Event) (e : Event) → is_some (passes_as d r e) ≡ true → is_event_of d e ≡ true
+passes-of : (d : Description) (r : List RawItem) (e : Event) → is_some (passes_as d r e) ≡ true → is_event_of d e ≡ true
 passes-of d r e = by (nat_eq e.kind EV_SYN)
   where
     slot_or : Bool
@@ -126,7 +131,7 @@ passed-value-of : (d : Description) (e : Event) (o : Option ℤ) → (is_some o 
 passed-value-of d e None h = All-nil (IsOf d)
 passed-value-of d e (Some v) h = All-cons (IsOf d) (record e { value = v }) [] (h refl) (All-nil (IsOf d))
 
-passed-of : (d : Description) (r : List Event) (e : Event) → All (IsOf d) (passed d r e)
+passed-of : (d : Description) (r : List RawItem) (e : Event) → All (IsOf d) (passed d r e)
 passed-of d r e =
     All-append (IsOf d) (announcement d r e) (option_to_list (option_map (λ v. record e { value = v }) (passes_as d r e))) (announcement-of d r e) (passed-value-of d e (passes_as d r e) (passes-of d r e))
 
@@ -140,10 +145,11 @@ if-some : {X : Type 0} (P : X → Type 0) (b : Bool) (xs : List X) → All P xs 
 if-some P true xs h = h
 if-some P false xs h = All-nil P
 
-pending-of : (d : Description) (r : List Event) → All (IsOf d) (pending d r)
+pending-of : (d : Description) (r : List RawItem) → All (IsOf d) (pending d r)
 unfolding pending
 pending-of d [] = All-nil (IsOf d)
-pending-of d (e ∷ r) =
+pending-of d (Described code axis ∷ r) = pending-of d r
+pending-of d (Occurred e ∷ r) =
     let batch : List Event = pending d r ++ passed d r e in
     let all : All (IsOf d) batch = All-append (IsOf d) (pending d r) (passed d r e) (pending-of d r) (passed-of d r e) in
     if-nil (IsOf d) (is_report e) (if nat_le d.hint (length batch) then [] else batch) (if-nil (IsOf d) (nat_le d.hint (length batch)) batch all)
@@ -152,7 +158,7 @@ abbrev AllSome : Description → Option (List Event) → Type 0
 AllSome d None = Unit {0}
 AllSome d (Some es) = All (IsOf d) es
 
-cut_events-of : (d : Description) (r : List Event) (e : Event) → AllSome d (cut_events d r e)
+cut_events-of : (d : Description) (r : List RawItem) (e : Event) → AllSome d (cut_events d r e)
 cut_events-of d r e = by (is_report e) (nat_lt 1 (length batch)) (nat_le d.hint (length batch))
   where
     batch : List Event
@@ -170,20 +176,24 @@ cut_events-of d r e = by (is_report e) (nat_lt 1 (length batch)) (nat_le d.hint 
 abbrev IsCutOf : Description → Cut → Type 0
 IsCutOf d c = All (IsOf d) c.events
 
-cut-of : (d : Description) (until : List Event) (o : Option (List Event)) → AllSome d o → All (IsCutOf d) (option_to_list (option_map (λ events. record { events = events; until = until }) o))
+cut-of : (d : Description) (until : List RawItem) (o : Option (List Event)) → AllSome d o → All (IsCutOf d) (option_to_list (option_map (λ events. record { events = events; until = until }) o))
 cut-of d until None h = All-nil (IsCutOf d)
 cut-of d until (Some es) h = All-cons (IsCutOf d) (record { events = es; until = until }) [] h (All-nil (IsCutOf d))
 
-cuts-of : (d : Description) (r es : List Event) → All (IsCutOf d) (cuts d r es)
+cut_for-of : (d : Description) (r : List RawItem) (x : RawItem) → All (IsCutOf d) (cut_for d r x)
+cut_for-of d r (Occurred e) = cut-of d (Occurred e ∷ r) (cut_events d r e) (cut_events-of d r e)
+cut_for-of d r (Described code axis) = All-nil (IsCutOf d)
+
+cuts-of : (d : Description) (r xs : List RawItem) → All (IsCutOf d) (cuts d r xs)
 unfolding cuts
 cuts-of d r [] = All-nil (IsCutOf d)
-cuts-of d r (e ∷ es) = All-append (IsCutOf d) (cut d r e) (cuts d (e ∷ r) es) (cut-of d (e ∷ r) (cut_events d r e) (cut_events-of d r e)) (cuts-of d (e ∷ r) es)
+cuts-of d r (x ∷ xs) = All-append (IsCutOf d) (cut_for d r x) (cuts d (x ∷ r) xs) (cut_for-of d r x) (cuts-of d (x ∷ r) xs)
 
 abbrev IsFrameOf : Description → Frame → Type 0
 IsFrameOf d f = All (IsOf d) f.cut.events
 
 frames-of : (d : Description) (past : List Step) (x : Step) → All (IsFrameOf d) (frames_of_step d past x)
-frames-of d past x = All-map (IsFrameOf d) (frame_of past (moment_of x)) (cuts_of_step d past x) (cuts-of d (raw d past) (raw_of_step d past x))
+frames-of d past x = All-map (IsFrameOf d) (frame_of past x) (cuts_of_step d past x) (cuts-of d (raw d past) (raw_of_step d past x))
 
 -- The queue
 
@@ -192,8 +202,10 @@ IsEntryOf d e = is_event_of d (event_of e) ≡ true
 
 entries_of-of : (d : Description) (client : ℕ) (f : Frame) → IsFrameOf d f → All (IsEntryOf d) (entries_of d client f)
 entries_of-of d client f h =
-    let some : List Event = filter (admits f.before client) f.cut.events in
-    if-some (IsEntryOf d) (is_offered f.before client) (map (entry d client f) some) (All-map (IsEntryOf d) (entry d client f) some (All-filter (admits f.before client) (IsOf d) f.cut.events h))
+    let all : List Event = left (eaten d) f in
+    let some : List Event = filter (admits f.before client) all in
+    if-some (IsEntryOf d) (is_offered f.before client) (map (entry d client f) some)
+    (All-map (IsEntryOf d) (entry d client f) some (All-filter (admits f.before client) (IsOf d) all (subst (All (IsOf d)) (sym (left-all d f)) h)))
 
 entries-of : (d : Description) (client : ℕ) (fs : List Frame) → All (IsFrameOf d) fs → All (IsEntryOf d) (entries d client fs)
 entries-of d client [] h = All-nil (IsEntryOf d)
@@ -242,7 +254,7 @@ one-of P true xs ys h k = h
 one-of P false xs ys h k = k
 
 queue-of : (d : Description) (past : List Step) (client : ℕ) → All (IsEntryOf d) (queue d past client)
-unfolding queue
+unfolding queue_with
 queue-of d [] client = All-nil (IsEntryOf d)
 queue-of d (x ∷ past) client =
     let q : List Entry = queue d past client in
