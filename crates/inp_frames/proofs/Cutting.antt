@@ -20,7 +20,7 @@ use Rattle.inp_frames.specs.Frames.{TakesAll}
 use Rattle.inp_frames.specs.Handling.{Handles, timer_at_frame, timer_after_cuts}
 use Rattle.inp_frames.proofs.Handling.{either}
 
--- the frame with these events that e ends after the raw events r
+-- the frame with these events that e ends after the items r
 abbrev cut_of : Event → List RawItem → List Event → Cut
 cut_of e r events = record { events = events; until = Occurred e ∷ r }
 

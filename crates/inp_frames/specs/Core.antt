@@ -33,7 +33,7 @@ pub record IsFor (d : Description) (core : CoreValues) : Type 0 where
   pub hint : core.hint ≡ d.hint
   pub slots : length core.slots.slots ≡ d.slots
 
--- on a device with this description its state, slots and batch are those after the raw events r, newest first
+-- on a device with this description its state, slots and batch are those after the items r, newest first
 pub record StandsAfter (d : Description) (r : List RawItem) (core : CoreValues) : Type 0 where
   pub made : IsFor d core
   pub state : StandsFor d r core.state

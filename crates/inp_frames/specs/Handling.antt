@@ -30,7 +30,7 @@ timer_at_frame d now s events timer =
 abbrev pub timer_after_cuts : Description → ℕ → List Cut → Timer → Timer
 timer_after_cuts d now cs timer = if repeats_keys d then timer_at_cuts d now cs timer else timer
 
--- the core handled the raw events es after r, one after another at one moment
+-- the core handled the raw events es after the items r, one after another at one moment
 pub record Handles {T : Type 0} (d : Description) (r : List RawItem) (es : List Event) (now : ℕ) (takes : T → List Event → ℕ → T → Type 0) (old new : CoreValues) (to_old to_new : T) : Type 0 where
   pub stands_after : StandsAfter d (raw_after r (map Occurred es)) new
   pub takes_all : TakesAll takes now (cuts d r (map Occurred es)) to_old to_new

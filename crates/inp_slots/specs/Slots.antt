@@ -1,4 +1,4 @@
--- The present values of the slots, and the lists of raw events that they stand for.
+-- The present values of the slots, and the lists of raw events and descriptions that they stand for.
 use Rattle.std.specs.Prelude.{◌≡◌, ◌<◌, ℕ, ◌-◌, ℤ, pos, true, List, [], length, slice_index_or}
 use Rattle.inp_model.specs.declared.event.TheConstants.{EV_ABS}
 use Rattle.inp_model.specs.declared.multi_touch.TheConstants.{ABS_MT_TOUCH_MAJOR}
@@ -22,7 +22,7 @@ pub record SlotValues : Type 0 where
 abbrev pub value_at : SlotValues → ℕ → ℕ → ℤ
 value_at s slot code = slice_index_or (slice_index_or s.slots slot []) (code - ABS_MT_TOUCH_MAJOR) (pos 0)
 
--- on a device with this description these are the values after the raw events r, newest first
+-- on a device with this description these are the values after the items r, newest first
 pub record SlotsStandFor (d : Description) (r : List RawItem) (s : SlotValues) : Type 0 where
   pub count : length s.slots ≡ d.slots
   pub staged : s.staged ≡ staged d r

@@ -1,4 +1,4 @@
--- The present state, and the lists of raw events that it stands for.
+-- The present state, and the lists of raw events and descriptions that it stands for.
 use Rattle.std.specs.Prelude.{◌≡◌, ◌≤◌, ℕ, ℤ, pos, Bool, false, ◌&&◌, List, slice_index_or}
 use Rattle.inp_model.specs.declared.event.TheConstants.{ABS_MAX, REP_DELAY, REP_PERIOD}
 use Rattle.inp_model.specs.declared.event.Event.{Event}
@@ -24,7 +24,7 @@ pub record Values : Type 0 where
   pub delay : ℤ
   pub period : ℤ
 
--- on a device with this description these are the values after the raw list r, newest first
+-- on a device with this description these are the values after the items r, newest first
 pub record StandsFor (d : Description) (r : List RawItem) (s : Values) : Type 0 where
   pub keys : (code : ℕ) → slice_index_or s.keys code false ≡ key_down d r code
   pub switches : (code : ℕ) → slice_index_or s.switches code false ≡ switch_on d r code
