@@ -9,7 +9,7 @@ use Rattle.std.proofs.lemmas.List.{map-append, drop-map}
 use Rattle.inp_model.specs.declared.taken.Taken.{Taken}
 use Rattle.inp_model.specs.declared.clock.Clock.{Clock}
 use Rattle.inp_model.specs.declared.step.Step.{Step}
-use Rattle.inp_model.specs.declared.step.Step.TheVariants.{Inject, Tick, Open, Close, Read, Discard, GetKeys, GetSwitches, GetLeds, GetSounds, GetAxis, GetSlots, SyncSlots, Write, Grab, Ungrab, Mask, Clock as ToClock, Revoke, Inhibit, Uninhibit, End}
+use Rattle.inp_model.specs.declared.step.Step.TheVariants.{Inject, Tick, Open, Close, Read, Discard, GetKeys, GetSwitches, GetLeds, GetSounds, GetAxis, SetAxis, GetSlots, SyncSlots, Write, Grab, Ungrab, Mask, Clock as ToClock, Revoke, Inhibit, Uninhibit, End}
 use Rattle.inp_model.specs.Description.{Description, ring}
 use Rattle.inp_model.specs.Step.{Query, Codes, Slots, client_of, query_of, is_part_of, moment_of}
 use Rattle.inp_model.specs.Past.{opens, is_open, open_clients, is_revoked, holder, clock_of, mask_bit, mask_words}
@@ -17,7 +17,7 @@ use Rattle.inp_model.specs.Cut.{cuts}
 use Rattle.inp_model.specs.Raw.{raw_of_step}
 use Rattle.inp_model.specs.Frame.{cuts_of_step, frames_of_step}
 use Rattle.inp_model.specs.Queue as model
-use Rattle.inp_model.specs.Queue.{Entry, entry_dropped_at, put_all, visible, flush, flush_for, is_same_clock, clock_changed, clock_entry, entries, left_by_call, queue}
+use Rattle.inp_model.specs.Queue.{Entry, entry_dropped_at, put_all, visible, flush, flush_for, is_same_clock, clock_changed, clock_entry, entries, left_by_call, queue, queue_with}
 use Rattle.inp_model.specs.Reply.{taken_of}
 use Rattle.inp_client.specs.Masks.{masks_with, full_masks}
 use Rattle.inp_client.specs.Client.{ClientView, new_client, with_events, after_take, after_flush, after_mask, after_revoke}
@@ -90,14 +90,14 @@ flush_of : (d : Description) (past : List Step) (n : ℕ) (query : Query) (q : L
 flush_of d past n query q = ap (λ (ts : List Taken). with_events ts (client_with d past n q)) (flush-map (is_part_of query) q)
 
 pub clients_after-read : (d : Description) (past : List Step) (n count taken : ℕ) → taken ≡ min count (visible model.event_of (queue d past n)) → clients_after d (Read n count ∷ past) ≡ map_client n (after_take taken) (clients_after d past)
-unfolding opens is_open is_revoked clock_of mask_bit queue raw_of_step cuts
+unfolding opens is_open is_revoked clock_of mask_bit queue_with raw_of_step cuts
 clients_after-read d past n count taken chosen =
     changed_by d past (Read n count) n (after_take taken) refl
     (λ opened. ap (client_with d past n) (at_name n (drop (min count (visible model.event_of (queue d past n))) (queue d past n)) (queue d past n) ∙ ap (λ (m : ℕ). drop m (queue d past n)) (sym chosen)) ∙ left_of d past n taken (queue d past n))
     (λ k other. ap (client_with d past k) (by_name n k (drop (min count (visible model.event_of (queue d past k))) (queue d past k)) (queue d past k) other))
 
 pub clients_after-discard : (d : Description) (past : List Step) (n removed : ℕ) → removed ≡ visible model.event_of (queue d past n) → clients_after d (Discard n ∷ past) ≡ map_client n (after_take removed) (clients_after d past)
-unfolding opens is_open is_revoked clock_of mask_bit queue raw_of_step cuts
+unfolding opens is_open is_revoked clock_of mask_bit queue_with raw_of_step cuts
 clients_after-discard d past n removed chosen =
     changed_by d past (Discard n) n (after_take removed) refl
     (λ opened. ap (client_with d past n) (at_name n (drop (visible model.event_of (queue d past n)) (queue d past n)) (queue d past n) ∙ ap (λ (m : ℕ). drop m (queue d past n)) (sym chosen)) ∙ left_of d past n removed (queue d past n))
@@ -117,7 +117,7 @@ some_same x y e = cc
 
 -- the queries of bits, and of all slots
 pub clients_after-query : (d : Description) (past : List Step) (x : Step) (n : ℕ) (query : Query) → client_of x ≡ Some n → query_of x ≡ Some query → clients_after d (x ∷ past) ≡ map_client n (after_flush taken_event query) (clients_after d past)
-unfolding opens is_open is_revoked clock_of mask_bit queue raw_of_step cuts
+unfolding opens is_open is_revoked clock_of mask_bit queue_with raw_of_step cuts
 clients_after-query d past (GetKeys m) n query named whole =
     let same : m ≡ n = some_same m n named in
     let asks : Codes 1 ≡ query = some_same (Codes 1) query whole in
@@ -141,7 +141,7 @@ clients_after-query d past (SyncSlots m) n query named whole =
 clients_after-query d past x n query named whole = absurd (cc whole)
 
 pub clients_after-revoke : (d : Description) (past : List Step) (n : ℕ) → clients_after d (Revoke n ∷ past) ≡ map_client n after_revoke (clients_after d past)
-unfolding opens is_open is_revoked clock_of mask_bit queue raw_of_step cuts
+unfolding opens is_open is_revoked clock_of mask_bit queue_with raw_of_step cuts
 clients_after-revoke d past n =
     changed_by d past (Revoke n) n after_revoke refl
     (λ opened. here (nat_eq n n) (nat_eq-same n))
@@ -172,7 +172,7 @@ mask_here d past n kind word bits true fits h = ap (λ m. record (client_after d
 mask_here d past n kind word bits false fits h = absurd (cc h)
 
 pub clients_after-mask : (d : Description) (past : List Step) (n kind word bits : ℕ) → word < mask_words kind → clients_after d (Mask n kind word bits ∷ past) ≡ map_client n (after_mask kind word bits) (clients_after d past)
-unfolding opens is_open is_revoked clock_of mask_bit queue raw_of_step cuts
+unfolding opens is_open is_revoked clock_of mask_bit queue_with raw_of_step cuts
 clients_after-mask d past n kind word bits fits =
     changed_by d past (Mask n kind word bits) n (after_mask kind word bits) refl
     (λ opened. mask_here d past n kind word bits (nat_eq n n) fits (nat_eq-same n))
@@ -196,7 +196,7 @@ clock_here d past n clock now true h =
 clock_here d past n clock now false h = absurd (cc h)
 
 pub clients_after-clock : (d : Description) (past : List Step) (n : ℕ) (clock : Clock) (now : ℕ) → clients_after d (ToClock n clock now ∷ past) ≡ map_client n (read_after_clock d clock now (length past)) (clients_after d past)
-unfolding opens is_open is_revoked clock_of mask_bit queue raw_of_step cuts
+unfolding opens is_open is_revoked clock_of mask_bit queue_with raw_of_step cuts
 clients_after-clock d past n clock now =
     changed_by d past (ToClock n clock now) n (read_after_clock d clock now (length past)) refl
     (λ opened. clock_here d past n clock now (nat_eq n n) (nat_eq-same n))
@@ -213,7 +213,7 @@ map_same f g [] same = refl
 map_same f g (n ∷ ns) same = ap (λ x. x ∷ map f ns) (same n) ∙ ap (λ xs. g n ∷ xs) (map_same f g ns same)
 
 pub clients_after-close : (d : Description) (past : List Step) (n : ℕ) → clients_after d (Close n ∷ past) ≡ without_client n (clients_after d past)
-unfolding is_revoked clock_of mask_bit queue raw_of_step cuts
+unfolding is_revoked clock_of mask_bit queue_with raw_of_step cuts
 clients_after-close d past n =
     ap (map (client_after d (Close n ∷ past))) (open_clients-close past n)
     ∙ map_same (client_after d (Close n ∷ past)) (client_after d past) (filter (λ k. not (nat_eq k n)) (open_clients past)) (λ k. ap (client_with d past k) (close_by (nat_eq n k) (queue d past k)))
@@ -242,7 +242,7 @@ opened_by true q h = refl
 opened_by false q h = absurd (cc h)
 
 pub clients_after-open : (d : Description) (past : List Step) → IsFresh past (opens past) → clients_after d (Open ∷ past) ≡ clients_after d past ++ new_client (opens past) (ring d) ∷ []
-unfolding is_revoked clock_of mask_bit queue raw_of_step cuts
+unfolding is_revoked clock_of mask_bit queue_with raw_of_step cuts
 clients_after-open d past fresh =
     let n = opens past in
     let f = client_after d (Open ∷ past) in
@@ -266,7 +266,7 @@ framed d past x ends same is =
     let offers = after_offers d (moment_of x) (length past) (holder past) (cuts_of_step d past x) in
     map_map offers (client_after d past) (open_clients past)
     ∙ map-filter_same (λ k. offers (client_after d past k)) (client_after d (x ∷ past)) (is_open past) (range_with_len 0 (opens past))
-    (λ k opened. after_offers-with d past k (moment_of x) (cuts_of_step d past x) (queue d past k) opened (ends k) ∙ sym (is k))
+    (λ k opened. after_offers-with d past k x (cuts_of_step d past x) (queue d past k) opened (ends k) ∙ sym (is k))
     ∙ ap (map (client_after d (x ∷ past))) (sym same)
 
 -- a step that stands for raw events
@@ -278,7 +278,7 @@ makes_events (Inhibit now) = true
 makes_events _ = false
 
 pub clients_after-frames : (d : Description) (past : List Step) (x : Step) → makes_events x ≡ true → MasksEnd past → map (after_offers d (moment_of x) (length past) (holder past) (cuts_of_step d past x)) (clients_after d past) ≡ clients_after d (x ∷ past)
-unfolding opens is_open is_revoked clock_of mask_bit queue
+unfolding opens is_open is_revoked clock_of mask_bit queue_with
 clients_after-frames d past (Inject e now) h ends = framed d past (Inject e now) ends refl (λ k. refl)
 clients_after-frames d past (Tick now) h ends = framed d past (Tick now) ends refl (λ k. refl)
 clients_after-frames d past (Inhibit now) h ends = framed d past (Inhibit now) ends refl (λ k. refl)
@@ -291,6 +291,7 @@ clients_after-frames d past _ h ends = absurd (cc h)
 
 abbrev pub leaves_clients : Step → Bool
 leaves_clients (GetAxis client code) = true
+leaves_clients (SetAxis client code axis) = true
 leaves_clients (GetSlots client code) = true
 leaves_clients (Grab client) = true
 leaves_clients (Ungrab client) = true
@@ -302,8 +303,9 @@ left : (d : Description) (past : List Step) (x : Step) → open_clients (x ∷ p
 left d past x same is = ap (map (client_after d (x ∷ past))) same ∙ map_same (client_after d (x ∷ past)) (client_after d past) (open_clients past) is
 
 pub clients_after-left : (d : Description) (past : List Step) (x : Step) → leaves_clients x ≡ true → clients_after d (x ∷ past) ≡ clients_after d past
-unfolding opens is_open is_revoked clock_of mask_bit queue raw_of_step cuts
+unfolding opens is_open is_revoked clock_of mask_bit queue_with raw_of_step cuts
 clients_after-left d past (GetAxis client code) h = left d past (GetAxis client code) refl (λ k. ap (client_with d past k) (close_by (nat_eq client k) (queue d past k)))
+clients_after-left d past (SetAxis client code axis) h = left d past (SetAxis client code axis) refl (λ k. ap (client_with d past k) (close_by (nat_eq client k) (queue d past k)))
 clients_after-left d past (GetSlots client code) h = left d past (GetSlots client code) refl (λ k. ap (client_with d past k) (close_by (nat_eq client k) (queue d past k)))
 clients_after-left d past (Grab client) h = left d past (Grab client) refl (λ k. ap (client_with d past k) (close_by (nat_eq client k) (queue d past k)))
 clients_after-left d past (Ungrab client) h = left d past (Ungrab client) refl (λ k. ap (client_with d past k) (close_by (nat_eq client k) (queue d past k)))

@@ -6,7 +6,7 @@ use Rattle.std.proofs.lemmas.List.{append_assoc, drop_more, ext_get_or, map-appe
 use Rattle.std.proofs.lemmas.List.FromFn.{length-map-range_with_len, get_or-map-range_with_len, map-range_with_len_more}
 use Rattle.std.proofs.lemmas.Bool.Decides.{nat_tests}
 use Rattle.inp_model.specs.declared.multi_touch.TheConstants.{ABS_MT_TOUCH_MAJOR}
-use Rattle.inp_model.specs.declared.event.Event.{Event}
+use Rattle.inp_model.specs.RawItem.{RawItem}
 use Rattle.inp_model.specs.Description.{Description, is_slot_code}
 use Rattle.inp_model.specs.State.{cell}
 use Rattle.inp_model.specs.Reply.{written, column, row, rows}
@@ -37,7 +37,7 @@ fill_more value n buffer h =
 abbrev pub kept_column : SlotValues → ℕ → ℕ → ℤ
 kept_column s code slot = value_at s slot code
 
-pub column-kept : (d : Description) (r : List Event) (s : SlotValues) (count code : ℕ) (buffer : List ℤ) → SlotsStandFor d r s → count ≡ length s.slots → is_slot_code code ≡ true → filled (kept_column s code) count buffer ≡ written (column d r code) buffer
+pub column-kept : (d : Description) (r : List RawItem) (s : SlotValues) (count code : ℕ) (buffer : List ℤ) → SlotsStandFor d r s → count ≡ length s.slots → is_slot_code code ≡ true → filled (kept_column s code) count buffer ≡ written (column d r code) buffer
 column-kept d r s count code buffer stands is good =
     ap (λ (n : ℕ). filled (kept_column s code) n buffer) (is ∙ stands.count)
     ∙ ap (λ (values : List ℤ). written values buffer) (map-same (pos 0) d.slots (kept_column s code) (λ slot. cell d r (pos slot) code) (λ slot within. stands.values slot code within good))
@@ -54,7 +54,7 @@ code_at k = ABS_MT_TOUCH_MAJOR + k % 14
 abbrev pub kept_row : SlotValues → ℕ → ℤ
 kept_row s k = value_at s (slot_at k) (code_at k)
 
-abbrev cell_at : Description → List Event → ℕ → ℤ
+abbrev cell_at : Description → List RawItem → ℕ → ℤ
 cell_at d r k = cell d r (pos (slot_at k)) (code_at k)
 
 pub range-append : (a m n : ℕ) → range_with_len a (m + n) ≡ range_with_len a m ++ range_with_len (a + m) n
@@ -69,7 +69,7 @@ range-append a (suc m) n =
     ∙ ap (λ (xs : List ℕ). a ∷ xs) (range-append (a + 1) m n)
     ∙ ap (λ (k : ℕ). a ∷ (range_with_len (a + 1) m ++ range_with_len k n)) start
 
-row-cells : (d : Description) (r : List Event) (q : ℕ) → row d r q ≡ map (cell_at d r) (range_with_len (14 * q) 14)
+row-cells : (d : Description) (r : List RawItem) (q : ℕ) → row d r q ≡ map (cell_at d r) (range_with_len (14 * q) 14)
 row-cells d r q =
     let one : ℕ → ℤ = λ code. cell d r (pos q) code in
     ext_get_or (pos 0) (row d r q) (map (cell_at d r) (range_with_len (14 * q) 14))
@@ -83,7 +83,7 @@ row-cells d r q =
     ∙ ap (λ (k : ℕ). cell d r (pos (slot_at (14 * q + i))) k) (sym code)
     ∙ sym (get_or-map-range_with_len (cell_at d r) (14 * q) 14 i (14 * q + i) (pos 0) within refl))
 
-rows-from : (d : Description) (r : List Event) (q n : ℕ) → flat_map (row d r) (range_with_len q n) ≡ map (cell_at d r) (range_with_len (14 * q) (14 * n))
+rows-from : (d : Description) (r : List RawItem) (q n : ℕ) → flat_map (row d r) (range_with_len q n) ≡ map (cell_at d r) (range_with_len (14 * q) (14 * n))
 rows-from d r q zero = refl
 rows-from d r q (suc n) =
     let f = cell_at d r in
@@ -100,7 +100,7 @@ rows-from d r q (suc n) =
 pub code_at-good : (k : ℕ) → is_slot_code (code_at k) ≡ true
 code_at-good k = grind (arith, nat_tests)
 
-pub rows-kept : (d : Description) (r : List Event) (s : SlotValues) (count : ℕ) (buffer : List ℤ) → SlotsStandFor d r s → count ≡ length s.slots → filled (kept_row s) (14 * count) buffer ≡ written (rows d r) buffer
+pub rows-kept : (d : Description) (r : List RawItem) (s : SlotValues) (count : ℕ) (buffer : List ℤ) → SlotsStandFor d r s → count ≡ length s.slots → filled (kept_row s) (14 * count) buffer ≡ written (rows d r) buffer
 rows-kept d r s count buffer stands is =
     ap (λ (n : ℕ). filled (kept_row s) (14 * n) buffer) (is ∙ stands.count)
     ∙ ap (λ (values : List ℤ). written values buffer)

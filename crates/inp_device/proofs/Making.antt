@@ -9,7 +9,7 @@ use Rattle.inp_model.specs.declared.step.Step.{Step}
 use Rattle.inp_model.specs.declared.reply.Reply.{Reply}
 use Rattle.inp_model.specs.declared.reply.Reply.TheVariants.{Done, Opened, Took, Discarded, Bits, Axis, Cells}
 use Rattle.inp_model.specs.declared.axis_info.AxisInfo.{AxisInfo}
-use Rattle.inp_model.specs.declared.step.Step.TheVariants.{Open, Close, Read, Discard, GetKeys, GetSwitches, GetLeds, GetSounds, Grab, Ungrab, Uninhibit, End}
+use Rattle.inp_model.specs.declared.step.Step.TheVariants.{Open, Close, Read, Discard, GetKeys, GetSwitches, GetLeds, GetSounds, Grab, Ungrab, End}
 use Rattle.inp_model.specs.declared.event.TheConstants.{EV_SYN, EV_KEY, EV_SW, EV_LED, EV_SND}
 use Rattle.inp_model.specs.declared.limits.TheConstants.{CLIENTS_MAX}
 use Rattle.inp_model.specs.Description.{Description, ring}
@@ -115,18 +115,20 @@ made_frames history x old new begun reply ready makes e r begins entered made ca
     (begins ∙ ap (λ (n : ℕ). record old.handler { place = n; holder = old.handles.holder }) (sym (length-reverse history)))
     entered made caps handles opened ended grab opening ending)
 
--- the inhibition ends
-pub stands_uninhibited : (history : List Step) (old new : Present) → IsReadyFor history Uninhibit old → new.caps ≡ old.caps → CoreStandsFor old.caps (Uninhibit ∷ reverse history) new.core → IsFor old.caps new.core → new.handler ≡ old.handler → new.handles.holder ≡ old.handles.holder → new.opens ≡ old.opens → new.ends ≡ old.ends → StandsFor old.caps (Uninhibit ∷ reverse history) new
-stands_uninhibited history old new ready caps core made handler grab opened ended =
+-- a step that changes the core alone, and ends no frame
+pub stands_in_core : (history : List Step) (x : Step) (old new : Present) → IsReadyFor history x old → leaves_clients x ≡ true → leaves_grab x ≡ true → is_open_step x ≡ false → is_end_step x ≡ false
+    → new.caps ≡ old.caps → CoreStandsFor old.caps (x ∷ reverse history) new.core → IsFor old.caps new.core → new.handler ≡ old.handler → new.handles.holder ≡ old.handles.holder → new.opens ≡ old.opens → new.ends ≡ old.ends
+    → StandsFor old.caps (x ∷ reverse history) new
+stands_in_core history x old new ready leaves free opening ending caps core made handler grab opened ended =
     let past : List Step = reverse history in
     record {
       caps = caps;
       core = core;
       made = made;
-      handler = handler_stands old.caps past Uninhibit old.handler new.handler (allowed old.caps past Uninhibit ready.allowed) ready.stands.handler (ap (λ (h : Handler). h.caps) handler) (ap (λ (h : Handler). clients_on old.caps h.clients.list) handler ∙ clients_same history Uninhibit old ready refl);
-      holder = grab ∙ holder_same history Uninhibit old ready refl;
-      opens = opened ∙ ready.stands.opens ∙ sym (opens-keeps past Uninhibit refl);
-      ends = ended ∙ ready.stands.ends ∙ sym (ends-keeps past Uninhibit refl);
+      handler = handler_stands old.caps past x old.handler new.handler (allowed old.caps past x ready.allowed) ready.stands.handler (ap (λ (h : Handler). h.caps) handler) (ap (λ (h : Handler). clients_on old.caps h.clients.list) handler ∙ clients_same history x old ready leaves);
+      holder = grab ∙ holder_same history x old ready free;
+      opens = opened ∙ ready.stands.opens ∙ sym (opens-keeps past x opening);
+      ends = ended ∙ ready.stands.ends ∙ sym (ends-keeps past x ending);
     }
 
 -- a source is done

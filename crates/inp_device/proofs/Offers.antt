@@ -7,8 +7,11 @@ use Rattle.inp_model.specs.declared.taken.Taken.{Taken}
 use Rattle.inp_model.specs.declared.step.Step.{Step}
 use Rattle.inp_model.specs.Description.{Description, ring, offset}
 use Rattle.inp_model.specs.Past.{is_open, is_revoked, holder, is_other, clock_of, mask_bit, admits}
-use Rattle.inp_model.specs.Cut.{Cut}
-use Rattle.inp_model.specs.Frame.{Frame, place, frame_of}
+use Rattle.inp_model.specs.RawItem.{Cut, Frame}
+use Rattle.inp_model.specs.Step.{moment_of}
+use Rattle.inp_model.specs.Frame.{place, moment, frame_of}
+use Rattle.inp_model.specs.Left.{eaten, left}
+use Rattle.inp_model.proofs.Lefts.{left-all}
 use Rattle.inp_model.specs.Queue as model
 use Rattle.inp_model.specs.Queue.{Entry, dropped_at, entry_dropped_at, put_all, is_offered, entry, entries_of, entries}
 use Rattle.inp_model.specs.Reply.{taken_of}
@@ -34,16 +37,17 @@ abbrev pub after_offers : Description → ℕ → ℕ → Option ℕ → List Cu
 after_offers d now at grabber [] c = c
 after_offers d now at grabber (k ∷ ks) c = after_offers d now at grabber ks (read_after_offer d k.events now at grabber c)
 
-map-entry : (d : Description) (client : ℕ) (f : Frame) (es : List Event) → map taken_of (map (entry d client f) es) ≡ map (taken_at (f.moment + offset d (clock_of f.before client)) (place f)) es
+map-entry : (d : Description) (client : ℕ) (f : Frame) (es : List Event) → map taken_of (map (entry d client f) es) ≡ map (taken_at (moment f + offset d (clock_of f.before client)) (place f)) es
 map-entry d client f [] = refl
-map-entry d client f (e ∷ es) = ap (λ (ts : List Taken). taken_at (f.moment + offset d (clock_of f.before client)) (place f) e ∷ ts) (map-entry d client f es)
+map-entry d client f (e ∷ es) = ap (λ (ts : List Taken). taken_at (moment f + offset d (clock_of f.before client)) (place f) e ∷ ts) (map-entry d client f es)
 
--- what is admitted by the bits is what the past admits
-admitted-entries : (d : Description) (past : List Step) (client now : ℕ) (k : Cut) (q : List Entry) → EndsSet (mask_bit past client)
-    → admitted_events d k.events now (length past) (client_with d past client q) ≡ map taken_of (map (entry d client (frame_of past now k)) (filter (admits past client) k.events))
-admitted-entries d past client now k q ends =
-    ap (map (taken_at (now + offset d (clock_of past client)) (length past))) (filter_agree (admits_of (masks_with (mask_bit past client))) (admits past client) (λ e. admits_of-with past client e ends) k.events)
-    ∙ sym (map-entry d client (frame_of past now k) (filter (admits past client) k.events))
+-- what is admitted by the bits is what the past admits, and all of a frame is left
+admitted-entries : (d : Description) (past : List Step) (client : ℕ) (x : Step) (k : Cut) (q : List Entry) → EndsSet (mask_bit past client)
+    → admitted_events d k.events (moment_of x) (length past) (client_with d past client q) ≡ map taken_of (map (entry d client (frame_of past x k)) (filter (admits past client) (left (eaten d) (frame_of past x k))))
+admitted-entries d past client x k q ends =
+    ap (map (taken_at (moment_of x + offset d (clock_of past client)) (length past))) (filter_agree (admits_of (masks_with (mask_bit past client))) (admits past client) (λ e. admits_of-with past client e ends) k.events)
+    ∙ sym (map-entry d client (frame_of past x k) (filter (admits past client) k.events))
+    ∙ ap (λ (es : List Event). map taken_of (map (entry d client (frame_of past x k)) (filter (admits past client) es))) (sym (left-all d (frame_of past x k)))
 
 offer_by : (d : Description) (past : List Step) (client : ℕ) (q es : List Entry) (ts : List Taken) (offered : Bool) → ts ≡ map taken_of es
     → (if offered then with_events (put_all event_of dropped_at (ring d) (map taken_of q) ts) (client_with d past client q) else client_with d past client q)
@@ -57,11 +61,11 @@ is_offered-open : (past : List Step) (client : ℕ) → is_open past client ≡ 
 is_offered-open past client is = ap (λ b. b && not (is_revoked past client) && not (is_other (holder past) client)) is
 
 -- one frame
-after_offer-with : (d : Description) (past : List Step) (client now : ℕ) (k : Cut) (q : List Entry) → is_open past client ≡ true → EndsSet (mask_bit past client)
-    → read_after_offer d k.events now (length past) (holder past) (client_with d past client q) ≡ client_with d past client (put_all model.event_of entry_dropped_at (ring d) q (entries_of d client (frame_of past now k)))
-after_offer-with d past client now k q is ends =
-    let es : List Entry = map (entry d client (frame_of past now k)) (filter (admits past client) k.events) in
-    offer_by d past client q es (admitted_events d k.events now (length past) (client_with d past client q)) (is_offered_to (holder past) (client_with d past client q)) (admitted-entries d past client now k q ends)
+after_offer-with : (d : Description) (past : List Step) (client : ℕ) (x : Step) (k : Cut) (q : List Entry) → is_open past client ≡ true → EndsSet (mask_bit past client)
+    → read_after_offer d k.events (moment_of x) (length past) (holder past) (client_with d past client q) ≡ client_with d past client (put_all model.event_of entry_dropped_at (ring d) q (entries_of d client (frame_of past x k)))
+after_offer-with d past client x k q is ends =
+    let es : List Entry = map (entry d client (frame_of past x k)) (filter (admits past client) (left (eaten d) (frame_of past x k))) in
+    offer_by d past client q es (admitted_events d k.events (moment_of x) (length past) (client_with d past client q)) (is_offered_to (holder past) (client_with d past client q)) (admitted-entries d past client x k q ends)
     ∙ ap (λ b. client_with d past client (put_all model.event_of entry_dropped_at (ring d) q (if b then es else []))) (sym (is_offered-open past client is))
 
 put_all-append : (n : ℕ) (q xs ys : List Entry) → put_all model.event_of entry_dropped_at n q (xs ++ ys) ≡ put_all model.event_of entry_dropped_at n (put_all model.event_of entry_dropped_at n q xs) ys
@@ -69,11 +73,11 @@ put_all-append n q [] ys = refl
 put_all-append n q (x ∷ xs) ys = put_all-append n (model.put model.event_of entry_dropped_at n q x) xs ys
 
 -- all frames of a step
-pub after_offers-with : (d : Description) (past : List Step) (client now : ℕ) (ks : List Cut) (q : List Entry) → is_open past client ≡ true → EndsSet (mask_bit past client)
-    → after_offers d now (length past) (holder past) ks (client_with d past client q) ≡ client_with d past client (put_all model.event_of entry_dropped_at (ring d) q (entries d client (map (frame_of past now) ks)))
-after_offers-with d past client now [] q is ends = refl
-after_offers-with d past client now (k ∷ ks) q is ends =
-    let first : List Entry = entries_of d client (frame_of past now k) in
-    ap (after_offers d now (length past) (holder past) ks) (after_offer-with d past client now k q is ends)
-    ∙ after_offers-with d past client now ks (put_all model.event_of entry_dropped_at (ring d) q first) is ends
-    ∙ ap (client_with d past client) (sym (put_all-append (ring d) q first (entries d client (map (frame_of past now) ks))))
+pub after_offers-with : (d : Description) (past : List Step) (client : ℕ) (x : Step) (ks : List Cut) (q : List Entry) → is_open past client ≡ true → EndsSet (mask_bit past client)
+    → after_offers d (moment_of x) (length past) (holder past) ks (client_with d past client q) ≡ client_with d past client (put_all model.event_of entry_dropped_at (ring d) q (entries d client (map (frame_of past x) ks)))
+after_offers-with d past client x [] q is ends = refl
+after_offers-with d past client x (k ∷ ks) q is ends =
+    let first : List Entry = entries_of d client (frame_of past x k) in
+    ap (after_offers d (moment_of x) (length past) (holder past) ks) (after_offer-with d past client x k q is ends)
+    ∙ after_offers-with d past client x ks (put_all model.event_of entry_dropped_at (ring d) q first) is ends
+    ∙ ap (client_with d past client) (sym (put_all-append (ring d) q first (entries d client (map (frame_of past x) ks))))

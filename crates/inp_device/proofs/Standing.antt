@@ -11,7 +11,7 @@ use Rattle.inp_model.specs.Description.{Description}
 use Rattle.inp_model.specs.Step.{is_open_step, is_end_step, ends_grab_of, is_same, moment_of}
 use Rattle.inp_model.specs.Past.{opens, is_revoked, holder, holder_kept, clock_of, mask_bit, ends}
 use Rattle.inp_model.specs.Reply.{is_busy, is_not_grabber}
-use Rattle.inp_model.specs.Cut.{Cut}
+use Rattle.inp_model.specs.RawItem.{Cut}
 use Rattle.inp_model.specs.Frame.{cuts_of_step}
 use Rattle.inp_model.proofs.Allowed.{IsAllowed, named_open, mask_kind, mask_word}
 use Rattle.inp_model.proofs.Opens.{is_open-lt}

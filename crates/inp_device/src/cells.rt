@@ -1,6 +1,6 @@
 //! The values of slots, written to a caller's buffer.
 ghost use Rattle.std.specs.Prelude.{◌≡◌, ◌≤◌, ◌*◌, true, List, length};
-ghost use Rattle.inp_model.specs.declared.event.Event.{Event};
+ghost use Rattle.inp_model.specs.RawItem.{RawItem};
 ghost use Rattle.inp_model.specs.Description.{Description, is_slot_code};
 ghost use Rattle.inp_model.specs.Reply.{column, rows, written};
 ghost use Rattle.inp_slots.specs.Slots.{SlotsStandFor};
@@ -16,7 +16,7 @@ pub fn write_column(slots: &Slots, count: u32, code: u16, cells: &mut [i32])
     requires count { count ≡ length slots.now.slots }
     requires code { is_slot_code code ≡ true }
     requires room { count ≤ length cells.old }
-    ensures written { (d : Description) (r : List Event) → SlotsStandFor d r slots.now
+    ensures written { (d : Description) (r : List RawItem) → SlotsStandFor d r slots.now
         → cells.new ≡ written (column d r code) cells.old }
 {
     for slot in 0..count {
@@ -29,7 +29,7 @@ pub fn write_rows(slots: &Slots, count: u32, cells: &mut [i32])
     requires count { count ≡ length slots.now.slots }
     requires range { count ≤ SLOTS_MAX }
     requires room { 14 * count ≤ length cells.old }
-    ensures written { (d : Description) (r : List Event) → SlotsStandFor d r slots.now
+    ensures written { (d : Description) (r : List RawItem) → SlotsStandFor d r slots.now
         → cells.new ≡ written (rows d r) cells.old }
 {
     for index in 0..VALUES * count {

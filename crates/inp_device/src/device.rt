@@ -17,8 +17,8 @@ use std::alloc::Global;
 use std::marker::Model;
 use std::mem::size_of;
 
-// A history has at most 32 bytes a step.
-const _: () = prove!(size_of::<Step>() <= 32);
+// A history has at most 40 bytes a step.
+const _: () = prove!(size_of::<Step>() <= 40);
 
 /// A device, seen as its description, its past (the steps that it accepted, newest first) and how many calls it answered
 /// `Again`.
@@ -83,8 +83,10 @@ impl Device {
     /// |---|---|
     /// | `BadClient` | the named client is not open |
     /// | `NoDevice` | the named client was revoked, and the step does not close it |
-    /// | `BadKind` | an axis is asked for and the device has none, or slots, or a mask is set of a type without one |
+    /// | `BadKind` | an axis is asked for or described, or slots are asked for, and the device has none; or a type has no mask |
     /// | `BadCode` | an axis above `ABS_MAX`, slots outside `ABS_MT_TOUCH_MAJOR` to `ABS_MT_TOOL_Y`, a word past its mask |
+    /// | `BadCode` | an axis is described anew that belongs to slots, or that the device lacks |
+    /// | `BadInfo` | an axis is described with a fuzz that is negative or above `FUZZ_MAX` |
     /// | `Again` | a read finds nothing visible |
     /// | `Busy` | the grab is taken while a client holds it |
     /// | `NotGrabber` | the grab is given up by a client that does not hold it |

@@ -1,12 +1,12 @@
-//! The steps that may end frames: what is injected, written or repeated, and inhibitions.
+//! The steps that come to the core: what is injected, written or repeated, inhibitions, and axes described anew.
 ghost use Rattle.std.specs.Prelude.{◌≤◌, []};
 ghost use Rattle.inp_model.specs.declared.stamped.TheConstants.{MOMENT_MAX};
-ghost use Rattle.inp_model.specs.declared.step.Step.TheVariants.{Inject, Tick, Write, Inhibit, Uninhibit};
+ghost use Rattle.inp_model.specs.declared.step.Step.TheVariants.{Inject, Tick, Write, Inhibit, Uninhibit, SetAxis};
 ghost use Rattle.inp_device.specs.Present.{IsReadyFor, IsMade};
 
 use crate::present::Present;
 use crate::replies::done;
-use inp_model::{Event, Reply, Step};
+use inp_model::{AxisInfo, Event, Reply, Step};
 
 impl Present {
     /// The driver injects an event.
@@ -64,6 +64,15 @@ impl Present {
         ensures made { IsMade history.now Uninhibit self.old result [] [] [] [] self.new }
     {
         self.core.uninhibit();
+        done(history)
+    }
+    /// A client describes an axis anew. No event is passed.
+    pub fn set_axis(&mut self, history: &[Step], client: u32, code: u16, info: AxisInfo) -> Reply
+        requires ready { IsReadyFor history.now (SetAxis client code info) self.old }
+        ensures made { IsMade history.now (SetAxis client code info) self.old result [] [] [] []
+            self.new }
+    {
+        self.core.describe(code, info);
         done(history)
     }
 }

@@ -69,6 +69,7 @@ impl Present {
             Step::GetLeds { client } => Ok(self.get_bits(history, step, client, EV_LED)),
             Step::GetSounds { client } => Ok(self.get_bits(history, step, client, EV_SND)),
             Step::GetAxis { client, code } => Ok(self.get_axis(history, client, code)),
+            Step::SetAxis { client, code, info } => Ok(self.set_axis(history, client, code, info)),
             Step::GetSlots { client, code } => Ok(self.get_slots(history, client, code, cells)),
             Step::SyncSlots { client } => Ok(self.sync_slots(history, client, cells)),
             Step::Write { client, event, now } => Ok(self.write(history, client, event, now)),

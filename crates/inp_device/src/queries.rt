@@ -41,7 +41,7 @@ pub fn bits(core: &Core, kind: u16) -> [u64; 12]
     words_of(state.sounds())
 }
 
-/// An axis with its present value. All numbers of an axis that is not supported are 0.
+/// An axis as it was described last, with its present value. All numbers of an axis that is not supported are 0.
 pub fn axis(core: &Core, caps: &Caps, code: u16) -> AxisInfo
     requires within { code ≤ ABS_MAX }
     ensures axis { (past : List Step) → CoreStandsFor caps.now past core.now
@@ -50,7 +50,7 @@ pub fn axis(core: &Core, caps: &Caps, code: u16) -> AxisInfo
     if !caps.supports(EV_ABS, code) {
         return NO_INFO;
     }
-    let mut info = caps.axis(code);
+    let mut info = core.state().info(code);
     info.value = present_value(core, code);
     info
 }

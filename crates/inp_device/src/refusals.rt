@@ -2,17 +2,18 @@
 ghost use Rattle.std.specs.Prelude.{◌≡◌, ◌≤◌, ℕ, false, List, length, reverse};
 ghost use Rattle.inp_model.specs.declared.step.Step.{Step};
 ghost use Rattle.inp_model.specs.declared.limits.TheConstants.{LOG_MAX};
-ghost use Rattle.inp_model.specs.Description.{Description, is_slot_code};
+ghost use Rattle.inp_model.specs.Description.{Description, is_slot_code, is_fixed_axis, is_bad_fuzz};
 ghost use Rattle.inp_model.specs.Step.{client_of, is_same};
 ghost use Rattle.inp_model.specs.Past.{has_mask, mask_words};
-ghost use Rattle.inp_model.specs.Reply.{refused, is_bad_client, is_no_device, is_bad_kind, is_bad_code, finds_nothing, is_busy, is_not_grabber, is_one_too_many, is_full};
+ghost use Rattle.inp_model.specs.Reply.{refused, is_bad_client, is_no_device, is_bad_kind, is_bad_code, is_bad_info, finds_nothing, is_busy, is_not_grabber, is_one_too_many, is_full};
 ghost use Rattle.inp_device.specs.Present.{StandsFor, NamesOpen};
 
 use crate::present::Present;
 use crate::replies::refuse;
+use inp_caps::Caps;
 use inp_model::{
-    ABS_MAX, ABS_MT_TOOL_Y, ABS_MT_TOUCH_MAJOR, CLIENTS_MAX, EV_ABS, EV_KEY, EV_LED, EV_SND, EV_SW,
-    Refusal, Reply, Step,
+    ABS_MAX, ABS_MT_SLOT, ABS_MT_TOOL_Y, ABS_MT_TOUCH_MAJOR, AxisInfo, CLIENTS_MAX, EV_ABS, EV_KEY,
+    EV_LED, EV_SND, EV_SW, FUZZ_MAX, Refusal, Reply, Step,
 };
 
 impl Present {
@@ -32,8 +33,11 @@ impl Present {
         if self.is_bad_kind(step) {
             return Some(refuse(history, Refusal::BadKind));
         }
-        if is_bad_code(step) {
+        if self.is_bad_code(step) {
             return Some(refuse(history, Refusal::BadCode));
+        }
+        if is_bad_info(step) {
+            return Some(refuse(history, Refusal::BadInfo));
         }
         if self.finds_nothing(step) {
             return Some(Reply::Again {
@@ -88,9 +92,23 @@ impl Present {
         ensures exact { result ≡ is_bad_kind self.now.caps step }
     {
         match step {
-            Step::GetAxis { .. } => !self.caps.has_kind(EV_ABS),
+            Step::GetAxis { .. } | Step::SetAxis { .. } => !self.caps.has_kind(EV_ABS),
             Step::GetSlots { .. } | Step::SyncSlots { .. } => self.caps.slots() == 0,
             Step::Mask { kind, .. } => !has_mask(kind),
+            _ => false,
+        }
+    }
+
+    // Whether the step is about a code that its type, or a word that its mask, does not have, or describes an axis anew
+    // that stays as it is described at first.
+    fn is_bad_code(&self, step: Step) -> bool
+        ensures exact { result ≡ is_bad_code self.now.caps step }
+    {
+        match step {
+            Step::GetAxis { code, .. } => code > ABS_MAX,
+            Step::SetAxis { code, .. } => is_fixed_axis(&self.caps, code),
+            Step::GetSlots { code, .. } => !is_slot_code(code),
+            Step::Mask { kind, word, .. } => word >= mask_words(kind),
             _ => false,
         }
     }
@@ -151,16 +169,31 @@ fn is_same(holder: Option<u32>, client: u32) -> bool
     }
 }
 
-// Whether the step is about a code that its type, or a word that its mask, does not have.
-fn is_bad_code(step: Step) -> bool
-    ensures exact { result ≡ is_bad_code step }
+// Whether an axis is described anew with a fuzz out of range.
+fn is_bad_info(step: Step) -> bool
+    ensures exact { result ≡ is_bad_info step }
 {
     match step {
-        Step::GetAxis { code, .. } => code > ABS_MAX,
-        Step::GetSlots { code, .. } => !is_slot_code(code),
-        Step::Mask { kind, word, .. } => word >= mask_words(kind),
+        Step::SetAxis { info, .. } => is_bad_fuzz(info),
         _ => false,
     }
+}
+
+// Whether the fuzz is out of range.
+fn is_bad_fuzz(info: AxisInfo) -> bool
+    ensures exact { result ≡ is_bad_fuzz info }
+{
+    info.fuzz < 0 || info.fuzz > FUZZ_MAX
+}
+
+// Whether the axis stays as it is described at first.
+fn is_fixed_axis(caps: &Caps, code: u16) -> bool
+    ensures exact { result ≡ is_fixed_axis caps.now code }
+{
+    if code > ABS_MAX || code >= ABS_MT_SLOT && code <= ABS_MT_TOOL_Y {
+        return true;
+    }
+    !caps.supports(EV_ABS, code)
 }
 
 // Whether values of the axis belong to slots.
