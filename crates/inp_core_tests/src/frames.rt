@@ -4,11 +4,11 @@ ghost use Rattle.std.specs.Prelude.{◌≡◌, ◌≤◌, ◌++◌, ◌∷◌, [
 ghost use Rattle.inp_model.specs.declared.stamped.TheConstants.{MOMENT_MAX};
 ghost use Rattle.inp_frames.specs.Core.{IsFor};
 
-use crate::common::{A, A_DOWN, REPORT, axis_info};
+use crate::common::{A, A_DOWN, REPORT, axis, axis_info};
 use inp_caps::{Caps, CapsBuilder, CapsRefused};
 use inp_frames::{Core, Frames};
 use inp_model::{
-    ABS_MT_POSITION_X, ABS_MT_SLOT, EV_ABS, EV_KEY, EV_REP, EV_SYN, Event, MOMENT_MAX, REP_DELAY,
+    ABS_MT_POSITION_X, ABS_MT_SLOT, AxisInfo, EV_ABS, EV_KEY, EV_REP, EV_SYN, Event, MOMENT_MAX, REP_DELAY,
     SYN_REPORT,
 };
 use std::alloc::{AllocError, Global};
@@ -44,16 +44,20 @@ fn no_frames(alloc: Global) -> FrameList {
     }
 }
 
-// A key, the autorepeat, two slots and the horizontal position of a contact.
+// A key, the autorepeat, an axis, two slots and the horizontal position of a contact.
 fn device() -> Result<Caps, CapsRefused> {
     let mut builder = CapsBuilder::new();
     builder.code(EV_KEY, A)?;
     builder.code(EV_REP, REP_DELAY)?;
+    builder.axis(X, axis_info(0, 255, 0))?;
     builder.axis(ABS_MT_POSITION_X, axis_info(0, 255, 0))?;
     builder.slots(2)?;
     builder.hint(8)?;
     Ok(builder.build())
 }
+
+// The axis `ABS_X`.
+const X: u16 = 0;
 
 // What a device is made to do, at a moment in microseconds.
 #[derive(Clone, Copy)]
@@ -63,6 +67,8 @@ enum Action {
     Tick(u64),
     Inhibit(u64),
     Uninhibit,
+    // The axis X is described anew.
+    Describe(AxisInfo),
 }
 
 // Plays on a core.
@@ -83,6 +89,7 @@ fn play_one(core: &mut Core, caps: &Caps, action: Action, to: &mut FrameList)
         Action::Tick(now) if now <= MOMENT_MAX => core.tick(caps, now, to),
         Action::Inhibit(now) if now <= MOMENT_MAX => core.inhibit(caps, now, to),
         Action::Uninhibit => core.uninhibit(),
+        Action::Describe(info) => core.describe(X, info),
         _ => {}
     }
 }
@@ -119,6 +126,24 @@ const X_5: Event = Event {
     kind: EV_ABS,
     code: ABS_MT_POSITION_X,
     value: 5,
+};
+
+const X_50: Event = Event {
+    kind: EV_ABS,
+    code: X,
+    value: 50,
+};
+
+const X_13: Event = Event {
+    kind: EV_ABS,
+    code: X,
+    value: 13,
+};
+
+const X_14: Event = Event {
+    kind: EV_ABS,
+    code: X,
+    value: 14,
 };
 
 // The report of the core itself.
@@ -165,5 +190,38 @@ fn keeps_the_state(rt: HostRuntime) -> Result<(), Fail> {
     assert!(rt; core.state().keys().get(u32::from(A)));
     assert_eq!(rt; core.slots().announced(), 1);
     assert!(rt; to.events.is_empty());
+    Ok(())
+}
+
+#[test]
+fn a_description_ends_no_frame(rt: HostRuntime) -> Result<(), Fail> {
+    let caps = device()?;
+    let mut core = Core::new(rt.alloc(), &caps)?;
+    let mut to = no_frames(rt.alloc());
+    play(
+        &mut core,
+        &caps,
+        &[
+            Action::Inject(0, &[X_50]),
+            Action::Describe(axis_info(10, 200, 8)),
+        ],
+        &mut to,
+    );
+    assert!(rt; to.events.is_empty());
+    assert_eq!(rt; core.state().info(X), axis_info(10, 200, 8));
+    play(
+        &mut core,
+        &caps,
+        &[
+            Action::Inject(1, &[REPORT]),
+            Action::Inject(2, &[X_13, REPORT]),
+            Action::Inject(3, &[X_14, REPORT]),
+        ],
+        &mut to,
+    );
+    assert!(rt; !to.failed);
+    let events = [X_50, REPORT, axis(X, 11), REPORT];
+    assert_eq!(rt; to.events.as_slice(), events.as_slice());
+    assert_eq!(rt; to.moments.as_slice(), [1, 3].as_slice());
     Ok(())
 }

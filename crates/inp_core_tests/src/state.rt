@@ -94,3 +94,21 @@ fn takes_events_one_by_one(rt: HostRuntime) -> Result<(), Fail> {
     assert_eq!(rt; defuzz(104, 100, 8), 101);
     Ok(())
 }
+
+#[test]
+fn goes_on_from_a_description(rt: HostRuntime) -> Result<(), Fail> {
+    let caps = panel()?;
+    let mut state = State::new(&caps);
+    assert_eq!(rt; state.info(0), axis_info(100, 255, 8));
+    state.describe(0, axis_info(10, 50, 0));
+    let event = Event {
+        kind: EV_ABS,
+        code: 0,
+        value: 11,
+    };
+    let (disposition, taken) = state.apply(&caps, event);
+    assert_eq!(rt; (disposition.bits(), taken), (HANDLERS, 11));
+    assert_eq!(rt; state.info(0), axis_info(11, 50, 0));
+    assert_eq!(rt; state.axis(1), 0, "another axis");
+    Ok(())
+}
