@@ -3,7 +3,7 @@ use Rattle.std.proofs.Common.{◌≡◌, ℕ, zero, suc, ◌+◌, ◌<◌, ◌�
 use Rattle.std.specs.List.{range_with_len, filter}
 use Rattle.std.proofs.lemmas.Bool.Decides.{nat_tests}
 use Rattle.std.proofs.lemmas.List.{map-append}
-use Rattle.inp_model.specs.declared.event.Event.{Event}
+use Rattle.inp_model.specs.RawItem.{RawItem}
 use Rattle.inp_model.specs.declared.event.TheConstants.{EV_ABS}
 use Rattle.inp_model.specs.Description.{Description, supports, is_multi_touch_code}
 use Rattle.inp_model.specs.State.{key_down, axis_value}
@@ -51,7 +51,7 @@ map-axes {X = X} d f g same =
     ∙ sym (map-append g low high)
     ∙ ap (λ (cs : List ℕ). map g cs) (sym (axes-are d))
 
-pub device-pictured : (d : Description) (r : List Event) (v : View) → IsDeviceState d r v → picture_of_view d v ≡ picture_of_device d r
+pub device-pictured : (d : Description) (r : List RawItem) (v : View) → IsDeviceState d r v → picture_of_view d v ≡ picture_of_device d r
 unfolding picture_by
 device-pictured d r v h =
     ap (λ (bs : List Bool). let p : PictureView = record { buttons = up_to_64 false bs; axes = up_to_64 (pos 0) (map (λ code. cut (value_in v code)) (axes d)) } in p) (map-all (is_down_in v) (key_down d r) (buttons d) h.keys)

@@ -1,6 +1,6 @@
 -- The laws of startups and pictures (docs/RULES.md, "Joystick clients").
 use Rattle.std.specs.Prelude.{◌≡◌, ◌≤◌, ◌+◌, List, length}
-use Rattle.inp_model.specs.declared.event.Event.{Event}
+use Rattle.inp_model.specs.RawItem.{RawItem}
 use Rattle.inp_model.specs.declared.taken.Taken.{Taken}
 use Rattle.inp_model.specs.Description.{Description}
 use Rattle.inp_recon.specs.declared.view.View.{View}
@@ -32,4 +32,4 @@ EventLeadsToItsView =
 -- the picture of a view that is the device's state is the device's
 abbrev pub ViewHasTheDevicesPicture : Type 0
 ViewHasTheDevicesPicture =
-    (d : Description) (r : List Event) (v : View) → IsDeviceState d r v → picture_of_view d v ≡ picture_of_device d r
+    (d : Description) (r : List RawItem) (v : View) → IsDeviceState d r v → picture_of_view d v ≡ picture_of_device d r

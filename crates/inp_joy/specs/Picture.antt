@@ -2,7 +2,7 @@
 use Rattle.std.specs.Prelude.{ℕ, ◌-◌, ℤ, pos, Bool, false, not, if◌then◌else◌, List, [], ◌∷◌, ◌++◌, length, map, replicate, slice_set, slice_index_or, Option, Some, None}
 use Rattle.std.specs.Ordering.{int_eq}
 use Rattle.inp_bits.specs.Bits.{word_bits}
-use Rattle.inp_model.specs.declared.event.Event.{Event}
+use Rattle.inp_model.specs.RawItem.{RawItem}
 use Rattle.inp_model.specs.Description.{Description}
 use Rattle.inp_model.specs.State.{key_down, axis_value}
 use Rattle.inp_recon.specs.declared.view.View.{View}
@@ -65,5 +65,5 @@ abbrev pub picture_of_view : Description → View → PictureView
 picture_of_view d v = picture_by d (is_down_in v) (value_in v)
 
 -- those of the device itself, after raw events
-abbrev pub picture_of_device : Description → List Event → PictureView
+abbrev pub picture_of_device : Description → List RawItem → PictureView
 picture_of_device d r = picture_by d (key_down d r) (axis_value d r)

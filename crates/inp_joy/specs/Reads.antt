@@ -4,7 +4,7 @@ use Rattle.inp_model.specs.declared.step.Step.{Step}
 use Rattle.inp_model.specs.declared.taken.Taken.{Taken}
 use Rattle.inp_model.specs.Description.{Description}
 use Rattle.inp_model.specs.Evdev.{EvdevView}
-use Rattle.inp_model.specs.Frame.{Frame as DeviceFrame}
+use Rattle.inp_model.specs.RawItem.{Frame as DeviceFrame}
 use Rattle.inp_model.specs.Queue.{took}
 use Rattle.inp_model.specs.Reply.{taken_of}
 use Rattle.inp_recon.specs.ClientView.{past_before_read, read_up_to}
