@@ -6,7 +6,7 @@ use Rattle.inp_model.specs.declared.event.Event.{Event}
 use Rattle.inp_model.specs.declared.event.TheConstants.{EV_SYN, SYN_DROPPED, SYN_REPORT}
 use Rattle.inp_model.specs.declared.taken.Taken.{Taken}
 use Rattle.inp_model.specs.declared.step.Step.{Step}
-use Rattle.inp_model.specs.declared.step.Step.TheVariants.{Close as ToClose, Grab as ToGrab, Ungrab as ToUngrab, Revoke as ToRevoke, Mask as ToMask, Clock as ToClock, Write as ToWrite}
+use Rattle.inp_model.specs.declared.step.Step.TheVariants.{Close as ToClose, Grab as ToGrab, Ungrab as ToUngrab, Revoke as ToRevoke, Mask as ToMask, Clock as ToClock, Write as ToWrite, SetAxis as ToSetAxis}
 use Rattle.inp_model.specs.declared.reply.Reply.{Reply}
 use Rattle.inp_model.specs.declared.reply.Reply.TheVariants.{Again as NothingVisible}
 use Rattle.inp_model.specs.Description.{Description}
@@ -17,7 +17,7 @@ use Rattle.inp_model.specs.Reply.{Answer, IsAnswer, accepted, taken_of}
 use Rattle.inp_model.specs.Run.{Call, HasPlace, place_of, next_place}
 use Rattle.inp_model.specs.Step.{client_of, is_same, is_open_step}
 use Rattle.inp_actors.specs.declared.command.Command.{Command}
-use Rattle.inp_actors.specs.declared.command.Command.TheVariants.{Open, Close, Grab, Ungrab, Revoke, Mask, Clock, Write, Next as ToNext, Skip, Follow, Force}
+use Rattle.inp_actors.specs.declared.command.Command.TheVariants.{Open, Close, Grab, Ungrab, Revoke, Mask, Clock, Write, SetAxis, Next as ToNext, Skip, Follow, Force}
 use Rattle.inp_actors.specs.declared.role.Role.TheVariants.{Client}
 use Rattle.inp_actors.specs.Command.{is_command_of}
 use Rattle.inp_recon.specs.declared.view.View.{View}
@@ -439,6 +439,7 @@ module _ (d : Description) (h : List Step) (Q : ℕ → Type 0) (history : IsHis
   client-line least wait n j k (Clock clock moment) calls more of_role c ends s = call-job least j k (ToClock j.reading.client clock moment) calls more (idle (λ view reply. refl) (λ past. refl) refl refl) c ends s
   client-line least wait n j k (Write moment kind code value) calls more of_role c ends s =
       call-job least j k (ToWrite j.reading.client (record { kind = kind; code = code; value = value }) moment) calls more (idle (λ view reply. refl) (λ past. refl) refl refl) c ends s
+  client-line least wait n j k (SetAxis code info) calls more of_role c ends s = call-job least j k (ToSetAxis j.reading.client code info) calls more (idle (λ view reply. refl) (λ past. refl) refl refl) c ends s
   client-line least wait n j k command calls more of_role c ends s = absurd cc
 
   -- before its first line

@@ -29,7 +29,7 @@ use Rattle.inp_recon.specs.declared.view.View.{View}
 use Rattle.inp_recon.specs.View.{IsSizedFor, code_count, first_view, view_after_events, view_after_answer}
 use Rattle.inp_recon.specs.ClientView.{client_view, client_view_with, past_before_read, past_before_read_with, view_at}
 use Rattle.inp_model.specs.History.{IsHistory}
-use Rattle.inp_recon.specs.Synchronised.{Part, AllKeys, AllSwitches, AllLeds, OneAxis, AllSlots, asks_for, has_asked, has_asked_where, has_axis, is_synchronised, is_start}
+use Rattle.inp_recon.specs.Synchronised.{Part, AllKeys, AllSwitches, AllLeds, OneAxis, AllSlots, asks_for, has_asked, has_asked_where, has_axis, is_synchronised, is_synchronised_with, is_start}
 use Rattle.inp_recon.proofs.Each.{and-left, and-right}
 use Rattle.inp_recon.proofs.Sizes.{IsSizedFor-after_events, IsSizedFor-after_answer, IsSizedFor-first_view}
 use Rattle.inp_recon.proofs.ViewSteps.{client_view-sized}
@@ -214,7 +214,7 @@ where-had true part past client h is = h
 where-had false part past client h is = absurd (false≢true is)
 
 pub all-asked : (d : Description) (past : List Step) (client : ℕ) (taken : List Entry) (v w : View) → is_synchronised d past client taken ≡ true → AgreeBut (asked_at past client) [] v w → AgreeBut (what_is_had d) [] v w
-unfolding is_synchronised
+unfolding is_synchronised_with
 all-asked d past client taken v w h a =
     let e5 = and-left _ _ h in
     let e4 = and-left _ _ e5 in

@@ -3,7 +3,7 @@ use Rattle.std.proofs.Common.{◌≡◌, ℕ, zero, suc, Bool, true, false, if�
 use Rattle.inp_model.specs.declared.stamped.Stamped.{Stamped}
 use Rattle.inp_model.specs.declared.taken.Taken.{Taken}
 use Rattle.inp_model.specs.declared.step.Step.{Step}
-use Rattle.inp_model.specs.declared.step.Step.TheVariants.{Inject, End, Close as ToClose, Grab as ToGrab, Ungrab as ToUngrab, Revoke as ToRevoke, Mask as ToMask, Clock as ToClock, Write as ToWrite}
+use Rattle.inp_model.specs.declared.step.Step.TheVariants.{Inject, End, Close as ToClose, Grab as ToGrab, Ungrab as ToUngrab, Revoke as ToRevoke, Mask as ToMask, Clock as ToClock, Write as ToWrite, SetAxis as ToSetAxis}
 use Rattle.inp_model.specs.declared.reply.Reply.{Reply}
 use Rattle.inp_model.specs.declared.reply.Reply.TheVariants.{Again as Nothing}
 use Rattle.inp_model.specs.Description.{Description}
@@ -12,7 +12,7 @@ use Rattle.inp_model.specs.Past.{past_at}
 use Rattle.inp_model.specs.Reply.{Answer, accepted, is_accepted, IsAnswer}
 use Rattle.inp_model.specs.Run.{Call, HasPlace, place_of}
 use Rattle.inp_actors.specs.declared.command.Command.{Command}
-use Rattle.inp_actors.specs.declared.command.Command.TheVariants.{Stream, Open as OpenLine, Close, Grab, Ungrab, Revoke, Mask, Clock, Write, Next as NextLine, Skip, Follow, Force}
+use Rattle.inp_actors.specs.declared.command.Command.TheVariants.{Stream, Open as OpenLine, Close, Grab, Ungrab, Revoke, Mask, Clock, Write, SetAxis, Next as NextLine, Skip, Follow, Force}
 use Rattle.inp_actors.specs.declared.role.Role.{Role}
 use Rattle.inp_actors.specs.declared.role.Role.TheVariants.{Source, Client, Tap}
 use Rattle.inp_actors.specs.Command.{is_command_of}
@@ -238,6 +238,7 @@ client-fold d h v wait n Revoke j k calls of_role placed ends fold = silent-fold
 client-fold d h v wait n (Mask kind word bits) j k calls of_role placed ends fold = silent-fold d h v j k (ToMask j.reading.client kind word bits) calls (record { alone = λ view reply. refl; unread = λ past. refl }) placed ends fold
 client-fold d h v wait n (Clock clock moment) j k calls of_role placed ends fold = silent-fold d h v j k (ToClock j.reading.client clock moment) calls (record { alone = λ view reply. refl; unread = λ past. refl }) placed ends fold
 client-fold d h v wait n (Write moment kind code value) j k calls of_role placed ends fold = silent-fold d h v j k (ToWrite j.reading.client (record { kind = kind; code = code; value = value }) moment) calls (record { alone = λ view reply. refl; unread = λ past. refl }) placed ends fold
+client-fold d h v wait n (SetAxis code info) j k calls of_role placed ends fold = silent-fold d h v j k (ToSetAxis j.reading.client code info) calls (record { alone = λ view reply. refl; unread = λ past. refl }) placed ends fold
 client-fold d h v wait n command j k calls of_role placed ends fold = absurd cc
 
 command-fold : (role : Role) (d : Description) (h : List Step) (streams : List (List Stamped)) (wait : Option Waiting) (n : ℕ) (command : Command) (j k : Job) (calls : List Call) → is_command_of role command ≡ true → ArePlaced d h calls → EndsWith (command_talk role d streams wait n command j) calls (Some k) → IsFolded role d h j → IsFolded role d h k
