@@ -1,9 +1,9 @@
 //! The present state of an input device: its keys, switches, LEDs, sounds, axes and autorepeat.
 //!
 //! This crate is for whoever turns raw events into frames. [`State`] takes raw events one by one, says of each what
-//! becomes of it, and answers what is down and on, how the axes are described and where they stand. Multi-touch values, which belong to slots,
-//! are kept elsewhere. The crate stands on `inp_caps` for the description, [`Disposition`] and [`defuzz`], and on
-//! `inp_bits` for the lists of codes.
+//! becomes of it, and answers what is down and on, how the axes are described and where they stand. Multi-touch values,
+//! which belong to slots, are kept elsewhere. The crate stands on `inp_caps` for the description, [`Disposition`] and
+//! [`defuzz`], and on `inp_bits` for the lists of codes.
 //!
 //! Its contract: `inp_model` says what the state is after a list of raw events and descriptions of axes, by the last write
 //! on each key and the like, and by the events on an axis since its last description. A [`State`] keeps no list;
