@@ -165,7 +165,7 @@ module _ (name : List ℕ) (stream : ℕ) where
   words_read (commands.Mask kind place bits) h s = rw (kind_read kind s.0, decimal_read 65535 place s.1 (omega (arith, s.1)), bits_read bits s.2) refl
   words_read (commands.Clock clock moment) h s = rw (clock_read clock, moment_read moment h) refl
   words_read (commands.Write moment kind code value) h s = ap (option_map (λ (s : Stamped). commands.Write s.now s.event.kind s.event.code s.event.value)) (event_read (codes "do") name (codes "write") moment kind code value h s)
-  words_read (commands.SetAxis code info) h s = 
+  words_read (commands.SetAxis code info) h s =
       ap (λ (o : Option ℕ). option_and_then (λ (n : ℕ). option_map (λ (i : AxisInfo). commands.SetAxis n i) (info_words 4 (do_words name (commands.SetAxis code info)))) o) (code_read EV_ABS code s.0)
       ∙ ap (option_map (λ (i : AxisInfo). commands.SetAxis code i)) (info_read_behind (codes "do") name info s.1 (codes "setaxis") (code_text EV_ABS code))
   words_read (commands.Read count) h s = let within : count ≤ READ_MAX = grind (arith, nat_tests) in ap (option_map (λ (n : ℕ). commands.Read n)) (decimal_read READ_MAX count within (omega arith))
