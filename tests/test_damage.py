@@ -204,7 +204,7 @@ class Damage(FolderCase):
                 self.assertIn(" that differ\n", done.stdout)
 
     def test_wrong_words(self):
-        (self.folder / "f").write_text("inputrecord 2\n")
+        (self.folder / "f").write_text("inputrecord 3\n")
         for words, said in (
             (["--every", "0"], "0 is not 1 or more"),
             (["--program", "none"], "is not there"),

@@ -28,6 +28,7 @@ FULL_REPORT = (
 STREAM = b"inputrecord 1\ndevice d\ncap EV_KEY KEY_A\nsource s\ndo s stream keys\n"
 
 DEVICE = "inputrecord 1\ndevice d\n"
+LATER_DEVICE = "inputrecord 2\ndevice d\n"
 SOURCE = DEVICE + "source s\n"
 
 # The cause, a text, and the line that has the cause. The first line that has one is told, by its first cause.
@@ -36,7 +37,7 @@ REFUSED = [
     ("bad-header", "", 1),
     ("bad-header", "device d\n", 1),
     ("bad-header", "# no line means anything\n\n", 3),
-    ("bad-header", "inputrecord 2\n", 1),
+    ("bad-header", "inputrecord 3\n", 1),
     ("bad-line", DEVICE + "devise e\n", 3),
     ("bad-line", DEVICE + "hint 8 8\n", 3),
     ("bad-line", SOURCE + "do s\n", 4),
@@ -61,6 +62,7 @@ REFUSED = [
     ("bad-code", DEVICE + "cap EV_KEY 0\n", 3),
     ("bad-axis", DEVICE + "axis ABS_X 0 0 9 -1 0 0\n", 3),
     ("bad-slots", DEVICE + "slots 65\n", 3),
+    ("bad-slots", LATER_DEVICE + "slots 257\n", 3),
     ("bad-hint", DEVICE + "hint 1\n", 3),
     ("bad-log", DEVICE + "log 8388609\n", 3),
     ("bad-offset", DEVICE + "clock boottime 9000000000000001\n", 3),
@@ -185,7 +187,7 @@ class Statuses(FolderCase):
 
     def test_4_an_output_that_takes_nothing(self):
         self.file("f", ONE_KEY)
-        self.file("refused", b"inputrecord 2\n")
+        self.file("refused", b"inputrecord 3\n")
         self.file("full", FULL)
         for words in (["f"], ["refused"], ["full"], ["missing"], ["--make", "7"]):
             with self.subTest(words=words), open("/dev/full", "wb") as full:

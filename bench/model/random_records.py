@@ -20,6 +20,7 @@ class Generator:
     def __init__(self, seed):
         self.r = random.Random(seed)
         self.now = 1000
+        self.version = self.r.choice([1, 2])
         self.devices = []
 
     def moment(self):
@@ -54,7 +55,7 @@ class Generator:
             lines.append(f"clock realtime {r.randint(0, 10**12)}")
         if r.random() < 0.5:
             lines.append(f"clock boottime {r.randint(0, 10**9)}")
-        slots = r.choice([0, 0, 1, 2, 3, 5])
+        slots = r.choice([0, 0, 1, 2, 3, 5] + ([70, 256] if self.version == 2 and r.random() < 0.2 else []))
         if slots:
             lines.append(f"slots {slots}")
         if r.random() < 0.5:
@@ -97,7 +98,7 @@ class Generator:
         return actors
 
     def record(self):
-        r, lines, actions = self.r, ["inputrecord 1"], []
+        r, lines, actions = self.r, [f"inputrecord {self.version}"], []
         for d in range(r.choice([1, 1, 1, 2])):
             description, codes, slots = self.description(d)
             lines += description

@@ -161,14 +161,18 @@ def is_line(first, rest):
 # The calls that describe a device
 
 
-def cause_of_call(first, values):
+# The greatest number of slots that each version of a text has.
+MOST_SLOTS = {"1": 64, "2": 256}
+
+
+def cause_of_call(version, first, values):
     """Why the call for a line of a description is refused, or None."""
     if first == "hint":
         return None if 2 <= values[0] <= 512 else "bad-hint"
     if first == "log":
         return None if 1 <= values[0] <= 8388608 else "bad-log"
     if first == "slots":
-        return None if 1 <= values[0] <= 64 else "bad-slots"
+        return None if 1 <= values[0] <= MOST_SLOTS[version] else "bad-slots"
     if first == "clock":
         return None if values[1] <= MOMENT_MAX else "bad-offset"
     if first == "type":
@@ -196,7 +200,7 @@ class Text:
     """The lines of a text so far, each of them accepted."""
 
     def __init__(self):
-        self.has_header, self.has_action = False, False
+        self.version, self.has_action = None, False
         self.devices, self.actors = set(), {}
         # Of the latest device: what was given that may be given once, and its actors' roles.
         self.given, self.roles = set(), []
@@ -205,10 +209,10 @@ class Text:
     def take(self, line, words):
         """Takes a line's words, or raises the cause."""
         first, *rest = words
-        if not self.has_header:
-            if words != ["inputrecord", "1"]:
+        if not self.version:
+            if len(words) != 2 or first != "inputrecord" or rest[0] not in MOST_SLOTS:
                 raise Cause("bad-header")
-            self.has_header = True
+            self.version = rest[0]
             return
         if not is_line(first, rest):
             raise Cause("bad-line")
@@ -244,7 +248,7 @@ class Text:
         what = (first, values[0]) if first in ("clock", "axis") else first
         if what in self.given:
             raise Cause("twice")
-        cause = cause_of_call(first, values)
+        cause = cause_of_call(self.version, first, values)
         if cause:
             raise Cause(cause)
         if first not in ("type", "cap"):
@@ -284,7 +288,7 @@ def streams_of_text(data):
                 text.take(line, words)
         except Cause as cause:
             raise Refused(line, str(cause)) from None
-    if not text.has_header:
+    if not text.version:
         raise Refused(len(lines), "bad-header")
     return text.streams
 

@@ -21,8 +21,8 @@ def report(moment, value=0):
     return events(moment, f"EV_SYN SYN_REPORT {value}")
 
 
-def record(description, actions):
-    return "\n".join(["inputrecord 1"] + description + actions) + "\n"
+def record(description, actions, version=1):
+    return "\n".join([f"inputrecord {version}"] + description + actions) + "\n"
 
 
 def clients():
@@ -45,9 +45,9 @@ def moments():
     return record(device + ["source s", "client c", "tap t"], actions)
 
 
-def fuzz():
+def fuzz(version=1, slots=64):
     """64 slots, and the greatest fuzz with values that are as far apart as they can be."""
-    device = ["device d", "slots 64", "hint 512", f"axis ABS_X {LEAST} {LEAST} {GREATEST} {2**30} 0 0"]
+    device = ["device d", f"slots {slots}", "hint 512", f"axis ABS_X {LEAST} {LEAST} {GREATEST} {2**30} 0 0"]
     device += [f"axis ABS_Y {GREATEST} 0 0 1 0 0", "axis ABS_Z -7 0 0 3 0 0", "axis 63 1 2 3 5 6 -7"]
     device += [f"axis ABS_MT_POSITION_X 0 0 0 {2**30} 0 0", "source s", "client c"]
     values = [LEAST, GREATEST, 0, 1, -1, 2**30 - 1, -(2**30), 2**29 - 1, 2**29, -(2**29) - 1, GREATEST - 1, LEAST + 1]
@@ -55,8 +55,13 @@ def fuzz():
     for i, value in enumerate(values * 3):
         for axis in ("ABS_X", "ABS_Y", "ABS_Z", "ABS_MT_POSITION_X", "63"):
             actions += events(1, f"EV_ABS ABS_MT_SLOT {i}", f"EV_ABS {axis} {value}")
-    actions += report(1) + events(2, "EV_ABS ABS_MT_SLOT 63", f"EV_ABS ABS_MT_TRACKING_ID {GREATEST}") + report(2)
-    return record(device, actions + ["do c follow", "do s inhibit 3", "do c follow"])
+    actions += report(1) + events(2, f"EV_ABS ABS_MT_SLOT {slots - 1}", f"EV_ABS ABS_MT_TRACKING_ID {GREATEST}") + report(2)
+    return record(device, actions + ["do c follow", "do s inhibit 3", "do c follow"], version)
+
+
+def slots():
+    """The same with 256 slots, under version 2; a reader whose ring was full makes up for all of them."""
+    return fuzz(2, 256)
 
 
 def counts():
@@ -107,7 +112,7 @@ def nothing():
 
 
 # Each record by its name.
-RECORDS = {make.__name__: make for make in (clients, moments, fuzz, counts, devices, full, full_start, blanks, nothing)}
+RECORDS = {make.__name__: make for make in (clients, moments, fuzz, slots, counts, devices, full, full_start, blanks, nothing)}
 
 
 def main():

@@ -9,9 +9,12 @@ use Rattle.inp_actors.specs.declared.device_text.DeviceText.{DeviceText}
 use Rattle.inp_actors.specs.declared.actor_text.TheConstants.{ACTORS_MAX}
 use Rattle.inp_actors.specs.declared.actor_text.ActorText.{ActorText}
 use Rattle.inp_actors.specs.declared.line.Line.{Line}
+use Rattle.inp_actors.specs.declared.record.TheConstants.{VERSION_MAX}
 use Rattle.inp_actors.specs.Command.{is_command_of, is_in_range}
 
 pub record RecordView : Type 0 where
+  -- the version of its text
+  pub version : ℕ
   pub devices : List DeviceText
   pub actors : List ActorText
   pub lines : List Line
@@ -33,6 +36,8 @@ AreInTime stamps = (i : ℕ) (s : Stamped) → slice_get stamps i ≡ Some s →
 
 -- What each record keeps.
 pub record IsRecord (r : RecordView) : Type 0 where
+  -- its version is one that there is
+  pub version : (1 ≤ r.version) × (r.version ≤ VERSION_MAX)
   -- each actor is one of a device, and each line one of an actor
   pub devices : (i : ℕ) (actor : ActorText) → slice_get r.actors i ≡ Some actor → actor.device < length r.devices
   pub actors : (i : ℕ) (line : Line) → slice_get r.lines i ≡ Some line → line.actor < length r.actors

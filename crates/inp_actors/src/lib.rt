@@ -5,9 +5,10 @@
 //! need to know nothing of one another. It stands on `inp_model` for events and clocks, and on `inp_caps` for
 //! descriptions.
 //!
-//! Its contract: a [`Record`] is seen as its four lists and keeps what `IsRecord` says (`specs/Record.antt`): its indices
-//! are in range, each line's command is one that its actor's role has, and each number is one that a line may have. So
-//! whoever plays a record has nothing to refuse. Nothing here takes memory but the lists' `push`.
+//! Its contract: a [`Record`] is seen as its version and its four lists and keeps what `IsRecord` says
+//! (`specs/Record.antt`): its indices are in range, each line's command is one that its actor's role has, and each number
+//! is one that a line may have. So whoever plays a record has nothing to refuse. Nothing here takes memory but the lists'
+//! `push`.
 #![tactic(auto)]
 
 mod actor_text;
@@ -25,5 +26,5 @@ pub use device_text::{DeviceText, Devices};
 pub use file_name::FileName;
 pub use line::{Line, Lines};
 pub use name::{NAME_MAX, Name, is_name};
-pub use record::{Record, Stamps, Streams};
+pub use record::{Record, Stamps, Streams, VERSION_MAX};
 pub use role::Role;

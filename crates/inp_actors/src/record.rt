@@ -8,19 +8,25 @@ use inp_model::{Items, Stamped};
 use std::alloc::Global;
 use std::marker::Model;
 
+/// The greatest version of a record's text (this project's choice).
+pub const VERSION_MAX: u32 = 2;
+
+const _: () = prove!(VERSION_MAX == 1 + 1);
+
 /// The events of a file, each with its moment.
 pub type Stamps = Items<Stamped>;
 
 /// The streams of a record, one for each stream command, in line order.
 pub type Streams = Items<Stamps>;
 
-/// A recorded device file. It keeps that its indices are in range, that each line's command is one that its actor's role
+/// A recorded device file. It keeps that its version is 1 or 2, that its indices are in range, that each line's command is one that its actor's role
 /// has, that each number is one that a line may have, that there is one stream for each stream command, and that it has at
 /// most [`ACTORS_MAX`](crate::ACTORS_MAX) actors.
 ///
-/// Contracts see it as its four lists.
+/// Contracts see it as its version and its four lists.
 #[derive(Drop)]
 pub struct Record {
+    version: u32,
     devices: Devices,
     actors: Actors,
     lines: Lines,
@@ -40,25 +46,42 @@ impl Model for Record {
 }
 
 impl Record {
-    /// The record of these lists. It takes no memory.
-    pub fn new(devices: Devices, actors: Actors, lines: Lines, streams: Streams) -> Record
+    /// The record of this version with these lists. It takes no memory.
+    pub fn new(
+        version: u32,
+        devices: Devices,
+        actors: Actors,
+        lines: Lines,
+        streams: Streams,
+    ) -> Record
         requires record { IsRecord (record {
+          version = version;
           devices = devices;
           actors = actors;
           lines = lines;
           streams = streams;
         }) }
+        ensures version { result.version ≡ version }
         ensures devices { result.devices ≡ devices }
         ensures actors { result.actors ≡ actors }
         ensures lines { result.lines ≡ lines }
         ensures streams { result.streams ≡ streams }
     {
         Record {
+            version,
             devices,
             actors,
             lines,
             streams: streams.into_vec(),
         }
+    }
+
+    /// The version of its text, 1 or 2.
+    pub fn version(&self) -> u32
+        ensures version { result ≡ self.now.version }
+        ensures range { (1 ≤ result) × (result ≤ VERSION_MAX) }
+    {
+        self.version
     }
 
     /// Its devices, in file order.
@@ -112,6 +135,7 @@ impl Record {
         requires within { index < length self.old.streams }
         requires in_time { AreInTime stamps }
         ensures streams { self.new.streams ≡ slice_set self.old.streams index stamps }
+        ensures version { self.new.version ≡ self.old.version }
         ensures devices { self.new.devices ≡ self.old.devices }
         ensures actors { self.new.actors ≡ self.old.actors }
         ensures lines { self.new.lines ≡ self.old.lines }

@@ -35,6 +35,7 @@ action actor command = record { actor = actor; command = command }
 -- a key goes down, and a tap reads it
 abbrev pub keyboard : RecordView
 keyboard = record {
+  version = 1;
   devices = device (codes "kbd") one_key ∷ [];
   actors = actor Source (codes "s") 0 ∷ actor Tap (codes "t") 0 ∷ [];
   lines =
@@ -64,6 +65,12 @@ WritesAKeyboard =
     ∷ codes "do s event 1000 EV_SYN SYN_REPORT 0"
     ∷ codes "do t read 16"
     ∷ [])
+
+-- the version stands in the header
+abbrev pub WritesAVersion : Type 0
+WritesAVersion =
+    record_text (record { version = 2; devices = []; actors = []; lines = []; streams = [] })
+    ≡ text_of (codes "inputrecord 2" ∷ [])
 
 -- two slots, and the place of a contact
 abbrev pub touchpad : Description

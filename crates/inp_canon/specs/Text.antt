@@ -1,5 +1,5 @@
 -- The text of a record (docs/FORMATS.md, "The text of a record").
-use Rattle.std.specs.Prelude.{ℕ, if◌then◌else◌, nat_eq, List, [], ◌∷◌, ◌++◌, codes, flat_map, map, slice_get, Option, Some, None}
+use Rattle.std.specs.Prelude.{ℕ, if◌then◌else◌, nat_eq, List, [], ◌∷◌, ◌++◌, codes, decimal, flat_map, map, slice_get, Option, Some, None}
 use Rattle.std.specs.List.{enumerate_from}
 use Rattle.inp_actors.specs.declared.device_text.DeviceText.{DeviceText}
 use Rattle.inp_actors.specs.declared.actor_text.ActorText.{ActorText}
@@ -41,7 +41,7 @@ action_words actors line =
 -- all lines: the header, the devices, the actions
 unfoldable pub record_lines : RecordView → List Words
 record_lines r =
-    (codes "inputrecord" ∷ codes "1" ∷ [])
+    (codes "inputrecord" ∷ decimal r.version ∷ [])
     ∷ (devices_lines r.actors r.devices ++ map (action_words r.actors) r.lines)
 
 unfoldable pub record_text : RecordView → List ℕ

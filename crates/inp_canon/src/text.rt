@@ -1,5 +1,5 @@
 //! The whole text.
-ghost use Rattle.std.specs.Prelude.{◌≡◌, ℕ, ◌<◌, [], ◌∷◌, ◌++◌, length, codes, string_bytes, IfOk, OnOk, map, slice_get, Some};
+ghost use Rattle.std.specs.Prelude.{◌≡◌, ℕ, ◌<◌, [], ◌∷◌, ◌++◌, length, codes, decimal, string_bytes, IfOk, OnOk, map, slice_get, Some};
 ghost use Rattle.inp_actors.specs.declared.line.Line.{Line as LineView};
 ghost use Rattle.inp_canon.specs.Words.{line_text, lines_text};
 ghost use Rattle.inp_canon.specs.Text.{actor_lines, actors_lines, device_lines, devices_lines, action_words, record_text};
@@ -12,7 +12,7 @@ use inp_texts::RoleText;
 use std::alloc::Global;
 use std::fmt::Write;
 
-/// The canonical text of a record: the header, the devices in order, each with its description and its actors, then the
+/// The canonical text of a record: the header with its version, the devices in order, each with its description and its actors, then the
 /// action lines. Types and codes are written by name where they have one. `docs/FORMATS.md` has the form, which is this
 /// project's choice. It takes time and memory in proportion to the text.
 ///
@@ -31,9 +31,20 @@ fn push_record(text: &mut String, rec: &Record) -> Result<(), NoMemory>
     ensures pushed { OnOk result
         (string_bytes text.new ≡ string_bytes text.old ++ record_text rec.now) }
 {
-    text.push_str("inputrecord 1\n")?;
+    push_header(text, rec.version())?;
     push_devices(text, rec.actors(), rec.devices().as_slice())?;
     push_actions(text, rec.actors(), rec.lines().as_slice())?;
+    Ok(())
+}
+
+// The header.
+fn push_header(text: &mut String, version: u32) -> Result<(), NoMemory>
+    ensures pushed { OnOk result
+        (string_bytes text.new
+        ≡ string_bytes text.old
+        ++ lines_text ((codes "inputrecord" ∷ decimal version ∷ []) ∷ [])) }
+{
+    write!(text, "inputrecord {version}\n")?;
     Ok(())
 }
 

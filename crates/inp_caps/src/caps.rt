@@ -111,7 +111,7 @@ impl Caps {
         self.infos[usize::from(code)]
     }
 
-    /// The number of multi-touch slots, 1 to 64, or 0 for none.
+    /// The number of multi-touch slots, 1 to 256, or 0 for none.
     pub fn slots(&self) -> u32
         ensures slots { result ≡ self.now.slots }
         ensures range { result ≤ SLOTS_MAX }

@@ -90,7 +90,7 @@ impl CapsBuilder {
         Ok(())
     }
 
-    /// Sets the number of multi-touch slots. `BadSlots` comes outside 1 to 64.
+    /// Sets the number of multi-touch slots. `BadSlots` comes outside 1 to 256.
     pub fn slots(&mut self, count: u32) -> Result<(), CapsRefused>
         ensures answer { result ≡ (if nat_le 1 count && nat_le count SLOTS_MAX then Ok tt
             else Err CapsRefused.BadSlots) }

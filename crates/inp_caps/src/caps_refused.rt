@@ -7,7 +7,7 @@ pub enum CapsRefused {
     BadCode,
     /// The fuzz is out of range, or a multi-touch axis has a value or a fuzz that it cannot have.
     BadAxis,
-    /// The number of slots is not 1 to 64.
+    /// The number of slots is not 1 to 256.
     BadSlots,
     /// The hint is not 2 to 512.
     BadHint,

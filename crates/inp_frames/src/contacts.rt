@@ -8,13 +8,13 @@ use inp_model::ABS_MT_TRACKING_ID;
 use inp_slots::Slots;
 
 // The slots that have a contact, of so many slots.
-pub(crate) fn contacts_of(slots: &Slots, count: u32) -> Bits<1>
+pub(crate) fn contacts_of(slots: &Slots, count: u32) -> Bits<4>
     requires count { length slots.now.slots ≡ count }
     requires range { count ≤ SLOTS_MAX }
     ensures there { (slot : ℕ) → slot < count
         → slice_index_or result slot false ≡ has_contact_at slots.now slot }
     ensures past { (slot : ℕ) → count ≤ slot → slice_index_or result slot false ≡ false }
-    ensures len { length result ≡ 64 }
+    ensures len { length result ≡ 256 }
 {
     let mut contacts = Bits::new();
     for slot in 0..count {

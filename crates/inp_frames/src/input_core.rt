@@ -235,14 +235,14 @@ impl Core {
     }
 
     // Lifts the contacts of these slots.
-    fn lift_contacts<F: Frames>(&mut self, caps: &Caps, contacts: &Bits<1>, now: u64, to: &mut F)
+    fn lift_contacts<F: Frames>(&mut self, caps: &Caps, contacts: &Bits<4>, now: u64, to: &mut F)
         requires timely { now ≤ MOMENT_MAX }
         requires made { IsFor caps.now self.old }
         ensures handled { (r : List RawItem) → StandsAfter caps.now r self.old
             → Handles caps.now r (flat_map lift_events (true_indices contacts.now)) now F.takes
             self.old self.new to.old to.new }
         ensures made { IsFor caps.now self.new }
-        ensures len { length contacts.now ≡ 64 }
+        ensures len { length contacts.now ≡ 256 }
     {
         for slot in contacts.ones() {
             self.gather_two(caps, slot_event(slot), lift_event(), now, to);

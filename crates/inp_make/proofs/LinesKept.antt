@@ -120,6 +120,7 @@ pub IsRecord-generated : (number count : ℕ) → count ≤ 10000 → IsRecord (
 IsRecord-generated number count few =
     let kept = lines_kept number count few in
     record {
+      version = (omega arith, omega arith);
       devices = at IsOfPad actors actors_kept;
       actors = λ i line is. (at IsKept (lines number count) kept i line is).actor;
       commands = λ i line actor is by. (at IsKept (lines number count) kept i line is).command actor by;

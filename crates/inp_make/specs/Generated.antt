@@ -120,4 +120,4 @@ lines number count = opens ++ flat_map (frame_lines number) (range_with_len 0 co
 
 -- the record of a number and a count of frames
 abbrev pub generated : ℕ → ℕ → RecordView
-generated number count = record { devices = devices; actors = actors; lines = lines number count; streams = [] }
+generated number count = record { version = 1; devices = devices; actors = actors; lines = lines number count; streams = [] }

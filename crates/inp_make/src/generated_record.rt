@@ -29,7 +29,7 @@ pub fn make(alloc: Global, number: u32, count: u32) -> Result<Record, NoMemory>
     let devices = devices(alloc)?;
     let actors = actors(alloc)?;
     let lines = lines(alloc, number, count)?;
-    Ok(Record::new(devices, actors, lines, Streams::new(alloc)))
+    Ok(Record::new(1, devices, actors, lines, Streams::new(alloc)))
 }
 
 // The touchpad.

@@ -4,9 +4,9 @@
 pub const CLIENTS_MAX: u32 = 64;
 
 /// The greatest number of multi-touch slots (this project's choice).
-pub const SLOTS_MAX: u32 = 64;
+pub const SLOTS_MAX: u32 = 256;
 
-const _: () = prove!(SLOTS_MAX == 64);
+const _: () = prove!(SLOTS_MAX == 4 * 64);
 
 /// The least hint of events per packet (this project's choice).
 pub const HINT_MIN: u32 = 2;

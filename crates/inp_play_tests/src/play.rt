@@ -54,7 +54,7 @@ fn record(alloc: Global) -> Result<Record, NoMemory> {
         actor: 0,
         command: Command::Read { count: 16 },
     })?;
-    Ok(Record::new(devices, actors, lines, Streams::new(alloc)))
+    Ok(Record::new(1, devices, actors, lines, Streams::new(alloc)))
 }
 
 #[test]

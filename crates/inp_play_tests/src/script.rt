@@ -98,7 +98,7 @@ fn record(alloc: Global) -> Result<Record, NoMemory>
         actor: 2,
         command: Command::Keys,
     })?;
-    Ok(Record::new(devices, actors, lines, Streams::new(alloc)))
+    Ok(Record::new(1, devices, actors, lines, Streams::new(alloc)))
 }
 
 /// What comes of an actor that does its lines on a full device.

@@ -47,7 +47,7 @@ pub(crate) fn axis_event(values: &[i32; 64], code: u16) -> Event
 pub(crate) fn cell_event(view: &View, slot: u32, k: u16) -> Event
     requires place { k < 14 }
     requires within { 14 * slot + 14 ≤ length view.now.cells }
-    requires few { length view.now.cells ≤ 14 * 64 }
+    requires few { length view.now.cells ≤ 14 * 256 }
     ensures { result ≡ axis_event view.now.cells (index_in_slot slot k) (48 + k) }
 {
     let index = 14 * slot as usize + usize::from(k);
@@ -71,7 +71,7 @@ pub(crate) fn lift() -> Event
 
 // How many slots there are.
 pub(crate) fn slots_of(view: &View) -> u32
-    requires { length view.now.cells ≤ 14 * 64 }
+    requires { length view.now.cells ≤ 14 * 256 }
     ensures slots { result ≡ slot_count view.now.cells }
     ensures whole { length view.now.cells ≡ 14 * result }
 {
@@ -82,7 +82,7 @@ pub(crate) fn slots_of(view: &View) -> u32
 pub(crate) fn is_replaced(old: &View, new: &View, slot: u32) -> bool
     requires within { 14 * slot + 14 ≤ length old.now.cells }
     requires cells { length old.now.cells ≡ length new.now.cells }
-    requires few { length old.now.cells ≤ 14 * 64 }
+    requires few { length old.now.cells ≤ 14 * 256 }
     ensures { result ≡ is_replaced old.now new.now slot }
 {
     let before = cell_event(old, slot, TRACKING_ID);
@@ -101,7 +101,7 @@ fn is_negative(event: Event) -> bool
 pub(crate) fn is_changed(old: &View, new: &View, slot: u32) -> bool
     requires within { 14 * slot + 14 ≤ length old.now.cells }
     requires cells { length old.now.cells ≡ length new.now.cells }
-    requires few { length old.now.cells ≤ 14 * 64 }
+    requires few { length old.now.cells ≤ 14 * 256 }
     ensures { result ≡ is_changed old.now new.now slot }
 {
     for k in 0..SLOT_VALUES {
@@ -114,7 +114,7 @@ pub(crate) fn is_changed(old: &View, new: &View, slot: u32) -> bool
 
 // The event that makes a slot the current one.
 pub(crate) fn event_of_slot(slot: u32) -> Event
-    requires { slot < 64 }
+    requires { slot < 256 }
     ensures { result ≡ slot_event (pos slot) }
 {
     Event {

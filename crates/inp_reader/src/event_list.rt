@@ -15,11 +15,11 @@ use inp_recon::View;
 use std::alloc::Global;
 use std::marker::Model;
 
-/// How many synthesised events there is room for: 1,024, and 20 a slot, for 64 slots. More than 948, and 17 a slot, there
+/// How many synthesised events there is room for: 1,024, and 20 a slot, for 256 slots. More than 948, and 17 a slot, there
 /// never are.
-const EVENTS_MAX: usize = 2304;
+const EVENTS_MAX: usize = 6144;
 
-const _: () = prove!(EVENTS_MAX == 1024 + 20 * 64);
+const _: () = prove!(EVENTS_MAX == 1024 + 20 * 256);
 
 /// How many values a slot has.
 const SLOT_VALUES: u16 = 14;
@@ -38,7 +38,7 @@ impl Model for EventList {
 
     ghost view = { λ list. list.events.items };
 
-    ghost invariant = { λ list. 2304 ≤ vec_capacity list.events };
+    ghost invariant = { λ list. 6144 ≤ vec_capacity list.events };
 }
 
 impl EventList {
@@ -74,7 +74,7 @@ impl EventList {
 
     // Adds an event.
     fn push(&mut self, event: Event)
-        requires { length self.old < 2304 }
+        requires { length self.old < 6144 }
         ensures pushed { self.new ≡ self.old ++ event ∷ [] }
         ensures few { length self.new ≤ length self.old + 1 }
     {
@@ -83,7 +83,7 @@ impl EventList {
 
     // Adds an event, if it is wanted.
     fn push_if(&mut self, wanted: bool, event: Event)
-        requires { length self.old < 2304 }
+        requires { length self.old < 6144 }
         ensures pushed { self.new ≡ self.old ++ (if wanted then event ∷ [] else []) }
         ensures few { length self.new ≤ length self.old + 1 }
     {
@@ -94,7 +94,7 @@ impl EventList {
 
     // Adds the report behind the events from an index on, if there are any.
     fn push_report(&mut self, start: usize)
-        requires { length self.old < 2304 }
+        requires { length self.old < 6144 }
         ensures reported { (front group : List Event) → self.old ≡ front ++ group → length front ≡ start
             → self.new ≡ front ++ with_report group }
         ensures few { length self.new ≤ length self.old + 1 }
@@ -110,7 +110,7 @@ impl EventList {
 
     // Adds the event that makes a slot the current one, if it is not.
     fn push_to_slot(&mut self, current: Event, slot: Event)
-        requires { length self.old < 2304 }
+        requires { length self.old < 6144 }
         ensures pushed { self.new ≡ self.old ++ unless_same current slot }
         ensures few { length self.new ≤ length self.old + 1 }
     {
@@ -122,7 +122,7 @@ impl EventList {
     // Adds the changes of a class of codes.
     fn push_bits<const W: usize>(&mut self, kind: u16, old: &Bits<W>, new: &Bits<W>)
         requires words { W ≤ 12 }
-        requires few { length self.old + 64 * W ≤ 2304 }
+        requires few { length self.old + 64 * W ≤ 6144 }
         ensures pushed { self.new ≡ self.old ++ bit_changes kind (64 * W) old.now new.now }
         ensures few { length self.new ≤ length self.old + 64 * W }
     {
@@ -133,7 +133,7 @@ impl EventList {
 
     // Adds the changes of axes.
     fn push_axes(&mut self, old: &[i32; 64], new: &[i32; 64])
-        requires few { length self.old + 64 ≤ 2304 }
+        requires few { length self.old + 64 ≤ 6144 }
         ensures pushed { self.new ≡ self.old ++ axis_changes old.now new.now }
         ensures few { length self.new ≤ length self.old + 64 }
     {
@@ -146,7 +146,7 @@ impl EventList {
 
     // Adds the changes of keys, LEDs, switches and axes.
     fn push_classes(&mut self, old: &View, new: &View)
-        requires few { length self.old + 960 ≤ 2304 }
+        requires few { length self.old + 960 ≤ 6144 }
         ensures pushed { self.new ≡ self.old ++ class_changes old.now new.now }
         ensures few { length self.new ≤ length self.old + 960 }
     {
@@ -159,10 +159,10 @@ impl EventList {
     // Adds the end of each contact that another one followed in its slot.
     fn push_lifts(&mut self, old: &View, new: &View)
         requires cells { length old.now.cells ≡ length new.now.cells }
-        requires slots { length old.now.cells ≤ 14 * 64 }
-        requires few { length self.old + 128 ≤ 2304 }
+        requires slots { length old.now.cells ≤ 14 * 256 }
+        requires few { length self.old + 512 ≤ 6144 }
         ensures pushed { self.new ≡ self.old ++ lifts old.now new.now }
-        ensures few { length self.new ≤ length self.old + 128 }
+        ensures few { length self.new ≤ length self.old + 512 }
     {
         let mut current = event_of_current(old);
         for slot in 0..slots_of(old) {
@@ -180,8 +180,8 @@ impl EventList {
     fn push_slot(&mut self, old: &View, new: &View, slot: u32)
         requires within { 14 * slot + 14 ≤ length old.now.cells }
         requires cells { length old.now.cells ≡ length new.now.cells }
-        requires slots { length old.now.cells ≤ 14 * 64 }
-        requires few { length self.old + 14 ≤ 2304 }
+        requires slots { length old.now.cells ≤ 14 * 256 }
+        requires few { length self.old + 14 ≤ 6144 }
         ensures pushed { self.new ≡ self.old ++ changes_in old.now new.now slot }
         ensures few { length self.new ≤ length self.old + 14 }
     {
@@ -195,10 +195,10 @@ impl EventList {
     // Adds the changes of all slots.
     fn push_cells(&mut self, old: &View, new: &View)
         requires cells { length old.now.cells ≡ length new.now.cells }
-        requires slots { length old.now.cells ≤ 14 * 64 }
-        requires few { length self.old + 960 ≤ 2304 }
+        requires slots { length old.now.cells ≤ 14 * 256 }
+        requires few { length self.old + 3840 ≤ 6144 }
         ensures pushed { self.new ≡ self.old ++ cell_changes old.now new.now }
-        ensures few { length self.new ≤ length self.old + 960 }
+        ensures few { length self.new ≤ length self.old + 3840 }
     {
         let mut current = event_of_current(old);
         for slot in 0..slots_of(old) {
@@ -227,7 +227,7 @@ impl EventList {
     // Makes the events that lead from the old view to the new one. The old view is used up.
     pub(crate) fn fill(&mut self, old: &mut View, new: &View)
         requires cells { length old.old.cells ≡ length new.now.cells }
-        requires few { length old.old.cells ≤ 14 * 64 }
+        requires few { length old.old.cells ≤ 14 * 256 }
         ensures synth { self.new ≡ synth old.old new.now }
         ensures cells { length old.new.cells ≡ length old.old.cells }
     {

@@ -1,6 +1,7 @@
 -- Items, written and read again.
-use Rattle.std.proofs.Common.{◌≡◌, ℕ, ◌-◌, ◌^◌, ◌≤◌, ◌<◌, Bool, true, false, ◌&&◌, not, if◌then◌else◌, List, [], ◌∷◌, length, codes, decimal, Option, Some, option_map, Ok, Err, refl, ap, ◌∙◌, arith}
-use Rattle.std.specs.Prelude.{option_and_then}
+use Rattle.std.proofs.Common.{◌≡◌, ℕ, zero, suc, ◌-◌, ◌^◌, ◌≤◌, ◌<◌, Bool, true, false, ◌&&◌, not, if◌then◌else◌, List, [], ◌∷◌, length, codes, decimal, Option, Some, option_map, Ok, Err, refl, ap, ◌∙◌, arith}
+use Rattle.std.specs.Prelude.{option_and_then, is_some}
+use Rattle.std.specs.Fmt.{digits}
 use Rattle.std.specs.List.{list_all}
 use Rattle.inp_model.specs.declared.event.TheConstants.{EV_ABS}
 use Rattle.inp_model.specs.declared.axis_info.AxisInfo.{AxisInfo}
@@ -14,6 +15,7 @@ use Rattle.inp_actors.specs.declared.role.Role as role
 use Rattle.inp_actors.specs.declared.role.Role.TheVariants as roles
 use Rattle.inp_actors.specs.declared.actor_text.ActorText.{ActorText}
 use Rattle.inp_actors.specs.declared.command.Command as command
+use Rattle.inp_actors.specs.declared.record.TheConstants.{VERSION_MAX}
 use Rattle.inp_actors.specs.Name.{is_name}
 use Rattle.inp_record.specs.declared.cause.Cause.TheVariants.{BadHeader, OutOfPlace}
 use Rattle.inp_record.specs.declared.item.Item.{Item}
@@ -22,7 +24,7 @@ use Rattle.inp_record.specs.declared.keyword.Keyword as keyword
 use Rattle.inp_record.specs.declared.keyword.Keyword.TheVariants as keywords
 use Rattle.inp_record.specs.Keyword.{keyword_rows, keyword_of}
 use Rattle.inp_record.specs.Place.{is_start, is_out_of_place}
-use Rattle.inp_record.specs.Words.{word, is_header, info_words, offset_item, plain_item, action_with, or_bad_word, item_of}
+use Rattle.inp_record.specs.Words.{word, version_word, is_header, info_words, offset_item, plain_item, action_with, or_bad_word, item_of}
 use Rattle.inp_record.specs.Past.{Past, place_of, actors_of, stream_count, context_of}
 use Rattle.inp_record.specs.Meaning.{placed, item_of_words}
 use Rattle.inp_record.specs.Spelling.{item_words}
@@ -112,18 +114,33 @@ action_said : (actors : List ActorText) (streams actor : ℕ) (does : command.Co
 action_said actors streams actor does s = ap (λ (o : Option ActorText). do_words (name_of_actor o) does) s.there
 
 -- a header is read where nothing stands before it
-header_read : (past : Past) → is_start (place_of past) ≡ true → item_of_words (context_of past) (codes "inputrecord" ∷ codes "1" ∷ []) ≡ Ok Header
+header_read : (past : Past) (version : ℕ) (w : List ℕ) → version_word w ≡ Some version → is_start (place_of past) ≡ true → item_of_words (context_of past) (codes "inputrecord" ∷ w ∷ []) ≡ Ok (Header version)
 unfolding item_of_words keyword_of keyword_rows item_of plain_item
-header_read past h = by_start (is_start (place_of past)) h
+header_read past version w is h = by_version (version_word w) is
   where
-    by_start : (start : Bool) → start ≡ true → (if start && false then Err BadHeader else if not start then Err OutOfPlace else Ok Header) ≡ Ok Header
+    by_start : (start : Bool) → start ≡ true → (if start && false then Err BadHeader else if not start then Err OutOfPlace else Ok (Header version)) ≡ Ok (Header version)
     by_start true h = refl
     by_start false h = absurd (cc h)
+
+    by_version : (o : Option ℕ) → o ≡ Some version
+        → (if is_start (place_of past) && not (is_some o) then Err BadHeader else if not (is_start (place_of past)) then Err OutOfPlace else or_bad_word (option_map (λ v. Header v) o)) ≡ Ok (Header version)
+    by_version o e = rw e (by_start (is_start (place_of past)) h)
+
+-- a version, written and read again
+version_read : (version : ℕ) → 1 ≤ version → version ≤ VERSION_MAX → version_word (decimal version) ≡ Some version
+unfolding digits
+version_read zero some few = absurd (omega arith)
+version_read (suc zero) some few = refl
+version_read (suc (suc zero)) some few = refl
+version_read (suc (suc (suc n))) some few = absurd (omega arith)
+
+version_plain : (version : ℕ) → 1 ≤ version → version ≤ VERSION_MAX → is_plain (decimal version) ≡ true
+version_plain version some few = decimal_plain version (omega arith)
 
 -- an item that can be said, and may stand there, is read again
 pub item_read : (past : Past) (i : Item) → IsSayable (actors_of past) (stream_count past) i → IsInPlace past i → item_of_words (context_of past) (item_words (actors_of past) i) ≡ Ok i
 unfolding keyword_of keyword_rows
-item_read past Header s p = header_read past p
+item_read past (Header version) s p = header_read past version (decimal version) (version_read version s.0 s.1) p
 item_read past (Device name) s p = placed_read past keywords.Device (codes "device" ∷ name ∷ []) (Device name) refl p.0 p.1 (device_read (actors_of past) (stream_count past) name s)
 item_read past (Hint count) s p = placed_read past keywords.Hint (codes "hint" ∷ decimal count ∷ []) (Hint count) refl p.0 p.1 (hint_read (actors_of past) (stream_count past) count s)
 item_read past (Log count) s p = placed_read past keywords.Log (codes "log" ∷ decimal count ∷ []) (Log count) refl p.0 p.1 (log_read (actors_of past) (stream_count past) count s)
@@ -147,7 +164,7 @@ role_first roles.Client ws h = record { first = refl; plain = h }
 role_first roles.Tap ws h = record { first = refl; plain = h }
 
 pub item_plain : (actors : List ActorText) (streams : ℕ) (i : Item) → IsSayable actors streams i → IsPlainLine (item_words actors i)
-item_plain actors streams Header s = record { first = refl; plain = refl }
+item_plain actors streams (Header version) s = record { first = refl; plain = rw (version_plain version s.0 s.1) refl }
 item_plain actors streams (Device name) s = record { first = refl; plain = rw (is_plain-name name s) refl }
 item_plain actors streams (Hint count) s = record { first = refl; plain = rw (decimal_plain count (omega arith)) refl }
 item_plain actors streams (Log count) s = record { first = refl; plain = rw (decimal_plain count (omega arith)) refl }

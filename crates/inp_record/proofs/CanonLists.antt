@@ -13,12 +13,12 @@ use Rattle.inp_record.specs.declared.item.Item.TheVariants.{Header, Device, Acto
 use Rattle.inp_record.specs.Spelling.{description_items, actor_items, device_items, action_item_of}
 
 -- the header and the lines of the devices, with their actors
-abbrev pub head_items : List ActorText → List DeviceText → List Item
-head_items actors devices = Header ∷ flat_map (device_items actors) (enumerate_from 0 devices)
+abbrev pub head_items : ℕ → List ActorText → List DeviceText → List Item
+head_items version actors devices = Header version ∷ flat_map (device_items actors) (enumerate_from 0 devices)
 
 -- all lines
-abbrev pub all_items : List ActorText → List DeviceText → List Line → List Item
-all_items actors devices lines = head_items actors devices ++ map action_item_of lines
+abbrev pub all_items : ℕ → List ActorText → List DeviceText → List Line → List Item
+all_items version actors devices lines = head_items version actors devices ++ map action_item_of lines
 
 -- each of these actors is of a device with a lesser number
 abbrev pub AreBelow : ℕ → List ActorText → Type 0
@@ -38,14 +38,14 @@ no_actors k (a ∷ actors) h =
     let other : nat_eq a.device k ≡ false = ne_eqb a.device k (λ e. absurd (omega arith)) in
     rw other (no_actors k actors (λ i b e. h (suc i) b e))
 
-pub head_device : (actors : List ActorText) (devices : List DeviceText) (d : DeviceText) → AreBelow (length devices) actors
-    → head_items actors (devices ++ d ∷ []) ≡ head_items actors devices ++ Device d.name ∷ description_items d.caps
+pub head_device : (version : ℕ) (actors : List ActorText) (devices : List DeviceText) (d : DeviceText) → AreBelow (length devices) actors
+    → head_items version actors (devices ++ d ∷ []) ≡ head_items version actors devices ++ Device d.name ∷ description_items d.caps
 unfolding device_items
-head_device actors devices d below =
+head_device version actors devices d below =
     let f = device_items actors in
     let k : 0 + length devices ≡ length devices = omega arith in
     let none : flat_map (actor_items (0 + length devices)) actors ≡ [] = rw k (no_actors (length devices) actors below) in
-    ap (λ (l : List Item). Header ∷ l)
+    ap (λ (l : List Item). Header version ∷ l)
     (ap (flat_map f) (enumerate_push 0 devices d)
     ∙ flat_map-append f (enumerate_from 0 devices) ((0 + length devices, d) ∷ [])
     ∙ ap (λ (l : List Item). flat_map f (enumerate_from 0 devices) ++ l)
@@ -79,9 +79,9 @@ device_push actors new k d e =
     (ap (λ (l : List Item). description_items d.caps ++ l) here
     ∙ sym (append_assoc (description_items d.caps) (flat_map (actor_items k) actors) (Actor new.role new.name ∷ [])))
 
-pub head_actor : (actors : List ActorText) (new : ActorText) (devices : List DeviceText) (d : DeviceText) → new.device ≡ length devices
-    → head_items (actors ++ new ∷ []) (devices ++ d ∷ []) ≡ head_items actors (devices ++ d ∷ []) ++ Actor new.role new.name ∷ []
-head_actor actors new devices d e =
+pub head_actor : (version : ℕ) (actors : List ActorText) (new : ActorText) (devices : List DeviceText) (d : DeviceText) → new.device ≡ length devices
+    → head_items version (actors ++ new ∷ []) (devices ++ d ∷ []) ≡ head_items version actors (devices ++ d ∷ []) ++ Actor new.role new.name ∷ []
+head_actor version actors new devices d e =
     let f = device_items actors in
     let g = device_items (actors ++ new ∷ []) in
     let at : new.device ≡ 0 + length devices = omega arith in
@@ -89,7 +89,7 @@ head_actor actors new devices d e =
     ap (flat_map f) (enumerate_push 0 devices d)
     ∙ flat_map-append f (enumerate_from 0 devices) ((0 + length devices, d) ∷ [])
     ∙ ap (λ (l : List Item). flat_map f (enumerate_from 0 devices) ++ l) (append-nil (f (0 + length devices, d))) in
-    ap (λ (l : List Item). Header ∷ l)
+    ap (λ (l : List Item). Header version ∷ l)
     (ap (flat_map g) (enumerate_push 0 devices d)
     ∙ flat_map-append g (enumerate_from 0 devices) ((0 + length devices, d) ∷ [])
     ∙ ap (λ (l : List Item). flat_map g (enumerate_from 0 devices) ++ l) (append-nil (g (0 + length devices, d)))
@@ -98,11 +98,11 @@ head_actor actors new devices d e =
     ∙ sym (append_assoc (flat_map f (enumerate_from 0 devices)) (f (0 + length devices, d)) (Actor new.role new.name ∷ []))
     ∙ ap (λ (l : List Item). l ++ Actor new.role new.name ∷ []) (sym split))
 
-pub all_action : (actors : List ActorText) (devices : List DeviceText) (lines : List Line) (l : Line)
-    → all_items actors devices (lines ++ l ∷ []) ≡ all_items actors devices lines ++ action_item_of l ∷ []
-all_action actors devices lines l =
-    ap (λ (x : List Item). head_items actors devices ++ x) (map-append action_item_of lines (l ∷ []))
-    ∙ sym (append_assoc (head_items actors devices) (map action_item_of lines) (action_item_of l ∷ []))
+pub all_action : (version : ℕ) (actors : List ActorText) (devices : List DeviceText) (lines : List Line) (l : Line)
+    → all_items version actors devices (lines ++ l ∷ []) ≡ all_items version actors devices lines ++ action_item_of l ∷ []
+all_action version actors devices lines l =
+    ap (λ (x : List Item). head_items version actors devices ++ x) (map-append action_item_of lines (l ∷ []))
+    ∙ sym (append_assoc (head_items version actors devices) (map action_item_of lines) (action_item_of l ∷ []))
 
 -- the past behind items, the newest first
 

@@ -1,11 +1,12 @@
 -- What a past of accepted lines keeps.
-use Rattle.std.proofs.Common.{◌≡◌, ℕ, suc, Bool, true, false, ◌&&◌, not, if◌then◌else◌, nat_eq, bytes_eq, List, [], ◌∷◌, length, Option, Some, Result, Ok, Err, refl, sym, ap, ◌∙◌, subst, arith, inl, inr}
+use Rattle.std.proofs.Common.{◌≡◌, ◌≤◌, ℕ, suc, Bool, true, false, ◌&&◌, not, if◌then◌else◌, nat_eq, bytes_eq, List, [], ◌∷◌, length, Option, Some, None, is_some, option_map, Result, Ok, Err, refl, sym, ap, ◌∙◌, subst, arith, inl, inr}
 use Rattle.std.specs.Prelude.{codes}
 use Rattle.std.proofs.lemmas.Bool.{and_parts, not-false, false_from_ne_true}
 use Rattle.std.proofs.lemmas.Bool.Decides.{nat_tests}
 use Rattle.std.proofs.lemmas.Slice.Eq.{bytes_eq-Decides}
 use Rattle.inp_actors.specs.declared.actor_text.ActorText.{ActorText}
 use Rattle.inp_actors.specs.declared.role.Role.TheVariants as roles
+use Rattle.inp_actors.specs.declared.record.TheConstants.{VERSION_MAX}
 use Rattle.inp_actors.specs.Record.{RecordView}
 use Rattle.inp_words.specs.Line.{is_comment, is_text, words_of, lines_of as text_lines}
 use Rattle.inp_record.specs.declared.cause.Cause.{Cause}
@@ -18,8 +19,8 @@ use Rattle.inp_record.specs.declared.keyword.Keyword as keyword
 use Rattle.inp_record.specs.declared.keyword.Keyword.TheVariants as keywords
 use Rattle.inp_record.specs.Keyword.{keyword_of, keyword_rows}
 use Rattle.inp_record.specs.Place.{is_start, is_out_of_place}
-use Rattle.inp_record.specs.Words.{word, is_header, item_of, plain_item}
-use Rattle.inp_record.specs.Past.{Past, place_of, former_devices, actors_of, stream_count, context_of}
+use Rattle.inp_record.specs.Words.{word, version_word, is_header, item_of, plain_item, or_bad_word}
+use Rattle.inp_record.specs.Past.{Past, place_of, version_of, former_devices, actors_of, stream_count, context_of}
 use Rattle.inp_record.specs.Meaning.{checked, placed, item_of_words, behind, behind_words, behind_line, go_on, behind_lines, record_of, as_record, meaning}
 use Rattle.inp_record.proofs.Inversions.{IsPlaced, checked_is, words_are, keyword_for as keyword_read}
 use Rattle.inp_record.proofs.Good.{push_get, item_is}
@@ -34,7 +35,7 @@ WereAccepted (i ∷ past) = IsAccepted past i × WereAccepted past
 -- each actor has a name
 pub actors_named : (past : Past) → WereAccepted past → AreNamed (actors_of past)
 actors_named [] h = λ i a e. absurd (cc e)
-actors_named (Header ∷ past) h = actors_named past h.1
+actors_named (Header version ∷ past) h = actors_named past h.1
 actors_named (Device name ∷ past) h = actors_named past h.1
 actors_named (Hint count ∷ past) h = actors_named past h.1
 actors_named (Log count ∷ past) h = actors_named past h.1
@@ -54,28 +55,34 @@ actors_named (Action actor command ∷ past) h = actors_named past h.1
 
 -- a header alone may stand first
 
+abbrev is_header_item : Item → Bool
+is_header_item (Header version) = true
+is_header_item (Device name) = false
+is_header_item _ = false
+
 header_keyword : (ws : List (List ℕ)) → is_header ws ≡ true → keyword_of (word 0 ws) (length ws) ≡ Some keywords.Header
 unfolding keyword_of keyword_rows
 header_keyword ws h =
-    let parts = and_parts (nat_eq (length ws) 2 && bytes_eq (word 0 ws) (codes "inputrecord")) (bytes_eq (word 1 ws) (codes "1")) h in
+    let parts = and_parts (nat_eq (length ws) 2 && bytes_eq (word 0 ws) (codes "inputrecord")) (is_some (version_word (word 1 ws))) h in
     let more = and_parts (nat_eq (length ws) 2) (bytes_eq (word 0 ws) (codes "inputrecord")) parts.0 in
     let count : length ws ≡ 2 = grind (arith, nat_tests) in
     let first : word 0 ws ≡ codes "inputrecord" = (bytes_eq-Decides (word 0 ws) (codes "inputrecord")).0 more.1 in
     rw (count, first) refl
 
-header_item : (c : Context) (ws : List (List ℕ)) (i : Item) → placed c (Some keywords.Header) ws ≡ Ok i → i ≡ Header
+header_item : (c : Context) (ws : List (List ℕ)) (i : Item) → placed c (Some keywords.Header) ws ≡ Ok i → is_header_item i ≡ true
 unfolding item_of plain_item
-header_item c ws i e = by_place (is_out_of_place c.place keywords.Header) e
+header_item c ws i e = by_place (is_out_of_place c.place keywords.Header) (version_word (word 1 ws)) e
   where
-    by_place : (out : Bool) → (if out then Err OutOfPlace else Ok Header) ≡ Ok i → i ≡ Header
-    by_place true e = absurd (cc e)
-    by_place false e = cc e
+    by_place : (out : Bool) (o : Option ℕ) → (if out then Err OutOfPlace else or_bad_word (option_map (λ version. Header version) o)) ≡ Ok i → is_header_item i ≡ true
+    by_place true o e = absurd (cc e)
+    by_place false None e = absurd (cc e)
+    by_place false (Some version) e = let same : Header version ≡ i = cc e in ap is_header_item (sym same)
 
-first_header : (c : Context) (ws : List (List ℕ)) (i : Item) → is_start c.place ≡ true → item_of_words c ws ≡ Ok i → i ≡ Header
+first_header : (c : Context) (ws : List (List ℕ)) (i : Item) → is_start c.place ≡ true → item_of_words c ws ≡ Ok i → is_header_item i ≡ true
 unfolding item_of_words
 first_header c ws i start e = by_header (is_start c.place) (is_header ws) refl start e
   where
-    by_header : (starts is : Bool) → is_header ws ≡ is → starts ≡ true → (if starts && not is then Err BadHeader else placed c (keyword_of (word 0 ws) (length ws)) ws) ≡ Ok i → i ≡ Header
+    by_header : (starts is : Bool) → is_header ws ≡ is → starts ≡ true → (if starts && not is then Err BadHeader else placed c (keyword_of (word 0 ws) (length ws)) ws) ≡ Ok i → is_header_item i ≡ true
     by_header true true h s e = header_item c ws i (subst (λ (k : Option keyword.Keyword). placed c k ws ≡ Ok i) (header_keyword ws h) e)
     by_header true false h s e = absurd (cc e)
     by_header false is h s e = absurd (cc s)
@@ -83,7 +90,7 @@ first_header c ws i start e = by_header (is_start c.place) (is_header ws) refl s
 -- a line is read only where it may stand
 
 same_keyword : (i : Item) → keyword_read i ≡ keyword_for i
-same_keyword Header = refl
+same_keyword (Header version) = refl
 same_keyword (Device name) = refl
 same_keyword (Hint count) = refl
 same_keyword (Log count) = refl
@@ -104,19 +111,19 @@ keyword_allowed c ws i p = elim (item_is c.actors c.streams p.keyword ws i p.ite
   | inr h ↦ rw (sym (same_keyword i) ∙ h.0) p.in_place
 ]
 
-in_place : (past : Past) (i : Item) → (is_start (place_of past) ≡ true → i ≡ Header) → is_out_of_place (place_of past) (keyword_for i) ≡ false → IsInPlace past i
-in_place past Header first allowed = not-false (is_start (place_of past)) allowed
-in_place past (Device name) first allowed = (false_from_ne_true (is_start (place_of past)) (λ s. let e : Device name ≡ Header = first s in cc e), allowed)
-in_place past (Hint count) first allowed = (false_from_ne_true (is_start (place_of past)) (λ s. let e : Hint count ≡ Header = first s in cc e), allowed)
-in_place past (Log count) first allowed = (false_from_ne_true (is_start (place_of past)) (λ s. let e : Log count ≡ Header = first s in cc e), allowed)
-in_place past (Realtime offset) first allowed = (false_from_ne_true (is_start (place_of past)) (λ s. let e : Realtime offset ≡ Header = first s in cc e), allowed)
-in_place past (Boottime offset) first allowed = (false_from_ne_true (is_start (place_of past)) (λ s. let e : Boottime offset ≡ Header = first s in cc e), allowed)
-in_place past (Slots count) first allowed = (false_from_ne_true (is_start (place_of past)) (λ s. let e : Slots count ≡ Header = first s in cc e), allowed)
-in_place past (Kind kind) first allowed = (false_from_ne_true (is_start (place_of past)) (λ s. let e : Kind kind ≡ Header = first s in cc e), allowed)
-in_place past (Code kind code) first allowed = (false_from_ne_true (is_start (place_of past)) (λ s. let e : Code kind code ≡ Header = first s in cc e), allowed)
-in_place past (Axis code info) first allowed = (false_from_ne_true (is_start (place_of past)) (λ s. let e : Axis code info ≡ Header = first s in cc e), allowed)
-in_place past (Actor role name) first allowed = (false_from_ne_true (is_start (place_of past)) (λ s. let e : Actor role name ≡ Header = first s in cc e), allowed)
-in_place past (Action actor command) first allowed = (false_from_ne_true (is_start (place_of past)) (λ s. let e : Action actor command ≡ Header = first s in cc e), allowed)
+in_place : (past : Past) (i : Item) → (is_start (place_of past) ≡ true → is_header_item i ≡ true) → is_out_of_place (place_of past) (keyword_for i) ≡ false → IsInPlace past i
+in_place past (Header version) first allowed = not-false (is_start (place_of past)) allowed
+in_place past (Device name) first allowed = (false_from_ne_true (is_start (place_of past)) (λ s. let e : false ≡ true = first s in cc e), allowed)
+in_place past (Hint count) first allowed = (false_from_ne_true (is_start (place_of past)) (λ s. let e : false ≡ true = first s in cc e), allowed)
+in_place past (Log count) first allowed = (false_from_ne_true (is_start (place_of past)) (λ s. let e : false ≡ true = first s in cc e), allowed)
+in_place past (Realtime offset) first allowed = (false_from_ne_true (is_start (place_of past)) (λ s. let e : false ≡ true = first s in cc e), allowed)
+in_place past (Boottime offset) first allowed = (false_from_ne_true (is_start (place_of past)) (λ s. let e : false ≡ true = first s in cc e), allowed)
+in_place past (Slots count) first allowed = (false_from_ne_true (is_start (place_of past)) (λ s. let e : false ≡ true = first s in cc e), allowed)
+in_place past (Kind kind) first allowed = (false_from_ne_true (is_start (place_of past)) (λ s. let e : false ≡ true = first s in cc e), allowed)
+in_place past (Code kind code) first allowed = (false_from_ne_true (is_start (place_of past)) (λ s. let e : false ≡ true = first s in cc e), allowed)
+in_place past (Axis code info) first allowed = (false_from_ne_true (is_start (place_of past)) (λ s. let e : false ≡ true = first s in cc e), allowed)
+in_place past (Actor role name) first allowed = (false_from_ne_true (is_start (place_of past)) (λ s. let e : false ≡ true = first s in cc e), allowed)
+in_place past (Action actor command) first allowed = (false_from_ne_true (is_start (place_of past)) (λ s. let e : false ≡ true = first s in cc e), allowed)
 
 -- what is read is accepted
 
@@ -129,6 +136,7 @@ words_accepted past ws i were plain e =
       in_place = in_place past i (λ s. first_header (context_of past) ws i s h.read) (keyword_allowed (context_of past) ws i p);
       once = h.once;
       few = h.enough;
+      few_slots = h.few_slots;
       fits = h.allowed;
     }
 
@@ -162,6 +170,25 @@ lines_accepted (line ∷ lines) k past now were e = by_line (behind_line past li
         → go_on k means (λ x. behind_lines (suc k) lines x) ≡ Ok now → WereAccepted now
     by_line (Err cause) one more e = absurd (cc e)
     by_line (Ok after) one more e = more after (one after refl) e
+
+-- the version of accepted lines is one that there is
+version_accepted : (past : Past) → WereAccepted past → (1 ≤ version_of past) × (version_of past ≤ VERSION_MAX)
+version_accepted [] h = (omega arith, omega arith)
+version_accepted (Header version ∷ past) h = h.0.sayable
+version_accepted (Device name ∷ past) h = version_accepted past h.1
+version_accepted (Hint count ∷ past) h = version_accepted past h.1
+version_accepted (Log count ∷ past) h = version_accepted past h.1
+version_accepted (Realtime offset ∷ past) h = version_accepted past h.1
+version_accepted (Boottime offset ∷ past) h = version_accepted past h.1
+version_accepted (Slots count ∷ past) h = version_accepted past h.1
+version_accepted (Kind kind ∷ past) h = version_accepted past h.1
+version_accepted (Code kind code ∷ past) h = version_accepted past h.1
+version_accepted (Axis code info ∷ past) h = version_accepted past h.1
+version_accepted (Actor role name ∷ past) h = version_accepted past h.1
+version_accepted (Action actor command ∷ past) h = version_accepted past h.1
+
+pub version-read : (lines : List (List ℕ)) (past : Past) → behind_lines 1 lines [] ≡ Ok past → (1 ≤ version_of past) × (version_of past ≤ VERSION_MAX)
+version-read lines past e = version_accepted past (lines_accepted lines 1 [] past tt e)
 
 -- the past of accepted lines that a record is of
 pub record IsOfPast (r : RecordView) : Type 0 where

@@ -1,8 +1,8 @@
 -- The canonical items of a record of accepted lines are accepted, and the record is theirs again.
-use Rattle.std.proofs.Common.{◌≡◌, ◌+◌, ℕ, true, false, ◌||◌, is_some, List, [], ◌∷◌, ◌++◌, length, map, reverse, Option, Some, None, refl, sym, ap, ◌∙◌, subst, arith, append-nil, length-append, inl, inr}
+use Rattle.std.proofs.Common.{◌≡◌, ◌+◌, ℕ, Bool, true, false, ◌&&◌, ◌||◌, nat_eq, nat_lt, is_some, List, [], ◌∷◌, ◌++◌, length, map, reverse, Option, Some, None, refl, sym, ap, ◌∙◌, subst, arith, append-nil, length-append, inl, inr}
 use Rattle.std.proofs.lemmas.Bool.{not-false}
 use Rattle.inp_model.specs.Description.{Description}
-use Rattle.inp_caps.specs.Builder.{built}
+use Rattle.inp_caps.specs.Builder.{with_kind, with_code, built}
 use Rattle.inp_actors.specs.declared.actor_text.ActorText.{ActorText}
 use Rattle.inp_actors.specs.declared.device_text.DeviceText.{DeviceText}
 use Rattle.inp_actors.specs.declared.line.Line.{Line}
@@ -13,16 +13,18 @@ use Rattle.inp_record.specs.declared.item.Item.{Item}
 use Rattle.inp_record.specs.declared.item.Item.TheVariants.{Header, Device, Hint, Log, Realtime, Boottime, Slots, Kind, Code, Axis, Actor, Action}
 use Rattle.inp_record.specs.declared.place.Place.{Place}
 use Rattle.inp_record.specs.declared.place.Place.TheVariants.{Start, Headed, Describing, Naming, Acting}
+use Rattle.inp_record.specs.declared.context.TheConstants.{SLOTS_OF_VERSION_1}
 use Rattle.inp_record.specs.Place.{is_start, is_describing, is_naming, is_acting, is_out_of_place}
-use Rattle.inp_record.specs.Past.{Past, place_of, latest_name, latest_description, former_devices, devices_of, with_latest, actors_of, lines_of, stream_count, source_count, reader_count}
-use Rattle.inp_record.specs.Meaning.{record_of}
+use Rattle.inp_record.specs.Past.{Past, place_of, version_of, context_of, latest_name, latest_description, former_devices, devices_of, with_latest, actors_of, lines_of, stream_count, source_count, reader_count}
+use Rattle.inp_record.specs.Meaning.{has_too_many_slots, record_of}
 use Rattle.inp_record.specs.Spelling.{description_items, action_item_of}
 use Rattle.inp_record.proofs.Good.{push_get}
 use Rattle.inp_record.proofs.Reading.{start_is}
+use Rattle.inp_record.proofs.Pasts.{code_slots}
 use Rattle.inp_record.proofs.Sayable.{keyword_for_role, IsAccepted, AreAccepted}
 use Rattle.inp_record.proofs.CanonPasts.{WereAccepted}
 use Rattle.inp_record.proofs.CanonLists.{head_items, all_items, AreBelow, head_device, head_actor, all_action, past_of_more}
-use Rattle.inp_record.proofs.MadeDescriptions.{AreDescribed, IsMade, made}
+use Rattle.inp_record.proofs.MadeDescriptions.{AreDescribed, IsMade, made, built_slots}
 use Rattle.inp_record.proofs.DescriptionItems.{accepted-append, description-accepted, description-behind}
 use Rattle.inp_record.proofs.DescriptionAgain.{built-again}
 
@@ -32,11 +34,12 @@ past_of items = reverse items ++ []
 
 -- the canonical items of a past
 abbrev pub canon : Past → List Item
-canon past = all_items (actors_of past) (devices_of past) (lines_of past)
+canon past = all_items (version_of past) (actors_of past) (devices_of past) (lines_of past)
 
 -- two pasts that the next line, unless it describes, cannot tell apart, and that are of one record
 pub record IsLike (past new : Past) : Type 0 where
   pub place : place_of new ≡ place_of past
+  pub version : version_of new ≡ version_of past
   pub name_is : latest_name new ≡ latest_name past
   pub former : former_devices new ≡ former_devices past
   pub described : built (latest_description new) ≡ built (latest_description past)
@@ -55,7 +58,7 @@ devices_like past new h =
     rw (h.former, h.name_is) (same_devices (former_devices past) (latest_name past) (latest_description new) (latest_description past) h.described)
 
 pub record_like : (past new : Past) → IsLike past new → record_of new ≡ record_of past
-record_like past new h = rw (devices_like past new h, h.actors, h.lines, h.streams) refl
+record_like past new h = rw (h.version, devices_like past new h, h.actors, h.lines, h.streams) refl
 
 -- the same line behind both
 
@@ -65,6 +68,7 @@ device_like past new name h a = record {
   in_place = rw h.place a.in_place;
   once = rw (h.former, h.name_is) a.once;
   few = rw (h.former, h.name_is) a.few;
+  few_slots = refl;
   fits = a.fits;
 }
 
@@ -74,6 +78,7 @@ actor_like past new role name h a = record {
   in_place = rw h.place a.in_place;
   once = rw h.actors a.once;
   few = rw (h.sources, h.readers) a.few;
+  few_slots = refl;
   fits = a.fits;
 }
 
@@ -83,12 +88,14 @@ action_like past new actor command h a = record {
   in_place = rw h.place a.in_place;
   once = a.once;
   few = rw h.streams a.few;
+  few_slots = refl;
   fits = a.fits;
 }
 
 like_actor : (past new : Past) (role : Role) (name : List ℕ) → IsLike past new → IsLike (Actor role name ∷ past) (Actor role name ∷ new)
 like_actor past new role name h = record {
   place = refl;
+  version = h.version;
   name_is = h.name_is;
   former = h.former;
   described = h.described;
@@ -102,6 +109,7 @@ like_actor past new role name h = record {
 like_action : (past new : Past) (actor : ℕ) (command : Command) → IsLike past new → IsLike (Action actor command ∷ past) (Action actor command ∷ new)
 like_action past new actor command h = record {
   place = refl;
+  version = h.version;
   name_is = h.name_is;
   former = h.former;
   described = h.described;
@@ -113,27 +121,32 @@ like_action past new actor command h = record {
 }
 
 -- behind the lines of the devices before it, a device line is accepted
-pub record IsBase (name : List ℕ) (former : List DeviceText) (actors : List ActorText) : Type 0 where
-  pub heads : AreAccepted [] (head_items actors former)
-  pub device : IsAccepted (past_of (head_items actors former)) (Device name)
-  pub former_is : devices_of (past_of (head_items actors former)) ≡ former
-  pub actors_are : actors_of (past_of (head_items actors former)) ≡ actors
-  pub no_lines : lines_of (past_of (head_items actors former)) ≡ []
-  pub no_streams : stream_count (past_of (head_items actors former)) ≡ 0
+pub record IsBase (version : ℕ) (name : List ℕ) (former : List DeviceText) (actors : List ActorText) : Type 0 where
+  pub heads : AreAccepted [] (head_items version actors former)
+  pub device : IsAccepted (past_of (head_items version actors former)) (Device name)
+  pub version_is : version_of (past_of (head_items version actors former)) ≡ version
+  pub former_is : devices_of (past_of (head_items version actors former)) ≡ former
+  pub actors_are : actors_of (past_of (head_items version actors former)) ≡ actors
+  pub no_lines : lines_of (past_of (head_items version actors former)) ≡ []
+  pub no_streams : stream_count (past_of (head_items version actors former)) ≡ 0
   pub below : AreBelow (length former) actors
 
 -- the latest device has only been described
-pub record IsBegun (latest : Option (List ℕ)) (former : List DeviceText) (actors : List ActorText) (lines : List Line) (streams sources readers : ℕ) : Type 0 where
+pub record IsBegun (version : ℕ) (latest : Option (List ℕ)) (former : List DeviceText) (actors : List ActorText) (lines : List Line) (streams sources readers : ℕ) : Type 0 where
   pub name : List ℕ
   pub name_is : latest ≡ Some name
-  pub base : IsBase name former actors
+  pub base : IsBase version name former actors
   pub no_lines : lines ≡ []
   pub no_streams : streams ≡ 0
   pub no_sources : sources ≡ 0
   pub no_readers : readers ≡ 0
 
 abbrev pub IsDescribing : Past → Type 0
-IsDescribing past = IsBegun (latest_name past) (former_devices past) (actors_of past) (lines_of past) (stream_count past) (source_count past) (reader_count past)
+IsDescribing past = IsBegun (version_of past) (latest_name past) (former_devices past) (actors_of past) (lines_of past) (stream_count past) (source_count past) (reader_count past)
+
+-- the latest device has no more slots than its version allows
+abbrev pub HasFewSlots : Past → Type 0
+HasFewSlots past = has_too_many_slots (context_of past) (Slots (latest_description past).slots) ≡ false
 
 -- the canonical items are accepted, and what stands behind them is like the past
 pub record IsAgain (past : Past) : Type 0 where
@@ -141,26 +154,27 @@ pub record IsAgain (past : Past) : Type 0 where
   pub like : IsLike past (past_of (canon past))
 
 -- the canonical items of a past whose latest device has only been described
-canon_described : (past : Past) (b : IsDescribing past) → canon past ≡ head_items (actors_of past) (former_devices past) ++ Device b.name ∷ description_items (built (latest_description past))
+canon_described : (past : Past) (b : IsDescribing past) → canon past ≡ head_items (version_of past) (actors_of past) (former_devices past) ++ Device b.name ∷ description_items (built (latest_description past))
 canon_described past b =
     let actors = actors_of past in
     let former = former_devices past in
     let d : DeviceText = record { name = b.name; caps = built (latest_description past) } in
-    ap (λ (ls : List Line). head_items actors (devices_of past) ++ map action_item_of ls) b.no_lines
-    ∙ append-nil (head_items actors (devices_of past))
-    ∙ ap (λ (n : Option (List ℕ)). head_items actors (with_latest former n (latest_description past))) b.name_is
-    ∙ head_device actors former d b.base.below
+    ap (λ (ls : List Line). head_items (version_of past) actors (devices_of past) ++ map action_item_of ls) b.no_lines
+    ∙ append-nil (head_items (version_of past) actors (devices_of past))
+    ∙ ap (λ (n : Option (List ℕ)). head_items (version_of past) actors (with_latest former n (latest_description past))) b.name_is
+    ∙ head_device (version_of past) actors former d b.base.below
 
-again_described : (past : Past) → place_of past ≡ Describing → IsMade (built (latest_description past)) → IsDescribing past → IsAgain past
-again_described past at m b =
+again_described : (past : Past) → place_of past ≡ Describing → IsMade (built (latest_description past)) → HasFewSlots past → IsDescribing past → IsAgain past
+again_described past at m few b =
     let d = built (latest_description past) in
-    let heads = head_items (actors_of past) (former_devices past) in
+    let heads = head_items (version_of past) (actors_of past) (former_devices past) in
     let base = past_of heads in
     let is = canon_described past b in
     let behind : past_of (heads ++ Device b.name ∷ description_items d) ≡ reverse (description_items d) ++ Device b.name ∷ base = past_of_more heads (Device b.name) (description_items d) [] in
     let h = description-behind d b.name base in
     let like : IsLike past (reverse (description_items d) ++ Device b.name ∷ base) = record {
       place = h.place ∙ sym at;
+      version = h.version ∙ b.base.version_is;
       name_is = h.name_is ∙ sym b.name_is;
       former = h.devices ∙ b.base.former_is;
       described = built-again d b.name base m;
@@ -172,7 +186,7 @@ again_described past at m b =
     } in
     let P : List Item → Type 0 = λ x. AreAccepted [] x in
     record {
-      accepted = subst P (sym is) (accepted-append [] heads (Device b.name ∷ description_items d) b.base.heads (b.base.device, description-accepted d b.name base m));
+      accepted = subst P (sym is) (accepted-append [] heads (Device b.name ∷ description_items d) b.base.heads (b.base.device, description-accepted d b.name base m (rw (b.base.version_is, built_slots (latest_description past)) few)));
       like = subst (λ (x : Past). IsLike past x) (sym (ap past_of is ∙ behind)) like;
     }
 
@@ -197,7 +211,7 @@ pub record IsKept (past : Past) : Type 0 where
 -- no description refuses what was accepted
 described : (past : Past) → WereAccepted past → AreDescribed past
 described [] h = tt
-described (Header ∷ past) h = (h.0.fits, tt, described past h.1)
+described (Header version ∷ past) h = (h.0.fits, tt, described past h.1)
 described (Device name ∷ past) h = (h.0.fits, tt, described past h.1)
 described (Hint count ∷ past) h = (h.0.fits, tt, described past h.1)
 described (Log count ∷ past) h = (h.0.fits, tt, described past h.1)
@@ -222,11 +236,39 @@ starting Describing e = absurd (cc e)
 starting Naming e = absurd (cc e)
 starting Acting e = absurd (cc e)
 
-kept_first : IsAccepted [] Header → IsKept (Header ∷ [])
-kept_first a = record {
+few_none : (version : ℕ) → (nat_eq version 1 && false) ≡ false
+few_none version = by_version (nat_eq version 1)
+  where
+    by_version : (is : Bool) → (is && false) ≡ false
+    by_version true = refl
+    by_version false = refl
+
+few_coded : (d : Description) (version kind code : ℕ) → (nat_eq version 1 && nat_lt SLOTS_OF_VERSION_1 d.slots) ≡ false → (nat_eq version 1 && nat_lt SLOTS_OF_VERSION_1 (with_code d kind code).slots) ≡ false
+few_coded d version kind code h = rw (code_slots d kind code) h
+
+few_slots : (past : Past) → WereAccepted past → HasFewSlots past
+few_slots [] h = refl
+few_slots (Header version ∷ past) h =
+    let none : [] ≡ past = sym (start_is past (starting (place_of past) h.0.in_place)) in
+    let P : Past → Type 0 = λ x. HasFewSlots (Header version ∷ x) in
+    subst P none (few_none version)
+few_slots (Device name ∷ past) h = few_none (version_of past)
+few_slots (Hint count ∷ past) h = few_slots past h.1
+few_slots (Log count ∷ past) h = few_slots past h.1
+few_slots (Realtime offset ∷ past) h = few_slots past h.1
+few_slots (Boottime offset ∷ past) h = few_slots past h.1
+few_slots (Slots count ∷ past) h = h.0.few_slots
+few_slots (Kind kind ∷ past) h = few_slots past h.1
+few_slots (Code kind code ∷ past) h = few_coded (with_kind (latest_description past) kind) (version_of past) kind code (few_slots past h.1)
+few_slots (Axis code info ∷ past) h = few_slots past h.1
+few_slots (Actor role name ∷ past) h = few_slots past h.1
+few_slots (Action actor command ∷ past) h = few_slots past h.1
+
+kept_first : (version : ℕ) → IsAccepted [] (Header version) → IsKept (Header version ∷ [])
+kept_first version a = record {
   again = record {
     accepted = (a, tt);
-    like = record { place = refl; name_is = refl; former = refl; described = refl; actors = refl; lines = refl; streams = refl; sources = refl; readers = refl };
+    like = record { place = refl; version = refl; name_is = refl; former = refl; described = refl; actors = refl; lines = refl; streams = refl; sources = refl; readers = refl };
   };
   begun = λ e. absurd (cc e);
   named = λ e. absurd (cc e);
@@ -235,20 +277,20 @@ kept_first a = record {
   no_streams = λ e. refl;
 }
 
-kept_header : (past : Past) → IsAccepted past Header → IsKept (Header ∷ past)
-kept_header past a =
+kept_header : (past : Past) (version : ℕ) → IsAccepted past (Header version) → IsKept (Header version ∷ past)
+kept_header past version a =
     let none : [] ≡ past = sym (start_is past (starting (place_of past) a.in_place)) in
-    let P : Past → Type 0 = λ x. IsAccepted x Header → IsKept (Header ∷ x) in
-    subst P none kept_first a
+    let P : Past → Type 0 = λ x. IsAccepted x (Header version) → IsKept (Header version ∷ x) in
+    subst P none (kept_first version) a
 
 -- a device and what describes it
 
-kept_describing : (past : Past) → place_of past ≡ Describing → IsMade (built (latest_description past)) → IsDescribing past → IsKept past
-kept_describing past at m b =
+kept_describing : (past : Past) → place_of past ≡ Describing → IsMade (built (latest_description past)) → HasFewSlots past → IsDescribing past → IsKept past
+kept_describing past at m few b =
     let one : devices_of past ≡ former_devices past ++ record { name = b.name; caps = built (latest_description past) } ∷ [] = ap (λ (n : Option (List ℕ)). with_latest (former_devices past) n (latest_description past)) b.name_is in
     let count : length (devices_of past) ≡ length (former_devices past) + 1 = ap length one ∙ length-append (former_devices past) _ in
     record {
-      again = again_described past at m b;
+      again = again_described past at m few b;
       begun = λ e. b;
       named = λ e. rw b.name_is refl;
       below = λ i a e. omega (arith, count, b.base.below i a e);
@@ -257,27 +299,28 @@ kept_describing past at m b =
     }
 
 -- the canonical items of a past without actions
-canon_quiet : (past : Past) → lines_of past ≡ [] → canon past ≡ head_items (actors_of past) (devices_of past)
+canon_quiet : (past : Past) → lines_of past ≡ [] → canon past ≡ head_items (version_of past) (actors_of past) (devices_of past)
 canon_quiet past h =
-    ap (λ (ls : List Line). head_items (actors_of past) (devices_of past) ++ map action_item_of ls) h
-    ∙ append-nil (head_items (actors_of past) (devices_of past))
+    ap (λ (ls : List Line). head_items (version_of past) (actors_of past) (devices_of past) ++ map action_item_of ls) h
+    ∙ append-nil (head_items (version_of past) (actors_of past) (devices_of past))
 
-kept_device : (past : Past) (name : List ℕ) → IsKept past → IsAccepted past (Device name) → IsMade (built (latest_description (Device name ∷ past))) → IsKept (Device name ∷ past)
-kept_device past name k a m =
+kept_device : (past : Past) (name : List ℕ) → IsKept past → IsAccepted past (Device name) → IsMade (built (latest_description (Device name ∷ past))) → HasFewSlots (Device name ∷ past) → IsKept (Device name ∷ past)
+kept_device past name k a m few =
     let quiet : is_acting (place_of past) ≡ false = a.in_place.1 in
     let is = canon_quiet past (k.no_lines quiet) in
     let P : List Item → Type 0 = λ x. AreAccepted [] x in
-    let like : IsLike past (past_of (head_items (actors_of past) (devices_of past))) = subst (λ (x : List Item). IsLike past (past_of x)) is k.again.like in
-    let base : IsBase name (devices_of past) (actors_of past) = record {
+    let like : IsLike past (past_of (head_items (version_of past) (actors_of past) (devices_of past))) = subst (λ (x : List Item). IsLike past (past_of x)) is k.again.like in
+    let base : IsBase (version_of past) name (devices_of past) (actors_of past) = record {
       heads = subst P is k.again.accepted;
-      device = device_like past (past_of (head_items (actors_of past) (devices_of past))) name like a;
-      former_is = devices_like past (past_of (head_items (actors_of past) (devices_of past))) like;
+      device = device_like past (past_of (head_items (version_of past) (actors_of past) (devices_of past))) name like a;
+      version_is = like.version;
+      former_is = devices_like past (past_of (head_items (version_of past) (actors_of past) (devices_of past))) like;
       actors_are = like.actors;
       no_lines = like.lines ∙ k.no_lines quiet;
       no_streams = like.streams ∙ k.no_streams quiet;
       below = k.below;
     } in
-    kept_describing (Device name ∷ past) refl m (record {
+    kept_describing (Device name ∷ past) refl m few (record {
       name = name;
       name_is = refl;
       base = base;
@@ -316,9 +359,9 @@ kept_actor past role name k a =
     let count : length (devices_of past) ≡ length (former_devices past) + 1 = ap length one ∙ length-append (former_devices past) (d ∷ []) in
     let is : canon (Actor role name ∷ past) ≡ canon past ++ Actor role name ∷ [] =
     canon_quiet (Actor role name ∷ past) (k.no_lines quiet)
-    ∙ ap (head_items (actors_of past ++ new ∷ [])) one
-    ∙ head_actor (actors_of past) new (former_devices past) d refl
-    ∙ ap (λ (ds : List DeviceText). head_items (actors_of past) ds ++ Actor role name ∷ []) (sym one)
+    ∙ ap (head_items (version_of past) (actors_of past ++ new ∷ [])) one
+    ∙ head_actor (version_of past) (actors_of past) new (former_devices past) d refl
+    ∙ ap (λ (ds : List DeviceText). head_items (version_of past) (actors_of past) ds ++ Actor role name ∷ []) (sym one)
     ∙ ap (λ (l : List Item). l ++ Actor role name ∷ []) (sym (canon_quiet past (k.no_lines quiet))) in
     record {
       again = again_more past (Actor role name) is k.again (actor_like past (past_of (canon past)) role name k.again.like a) (like_actor past (past_of (canon past)) role name k.again.like);
@@ -336,7 +379,7 @@ kept_actor past role name k a =
 kept_action : (past : Past) (actor : ℕ) (command : Command) → IsKept past → IsAccepted past (Action actor command) → IsKept (Action actor command ∷ past)
 kept_action past actor command k a =
     record {
-      again = again_more past (Action actor command) (all_action (actors_of past) (devices_of past) (lines_of past) (record { actor = actor; command = command })) k.again
+      again = again_more past (Action actor command) (all_action (version_of past) (actors_of past) (devices_of past) (lines_of past) (record { actor = actor; command = command })) k.again
           (action_like past (past_of (canon past)) actor command k.again.like a) (like_action past (past_of (canon past)) actor command k.again.like);
       begun = λ e. absurd (cc e);
       named = λ e. absurd (cc e);
@@ -348,31 +391,31 @@ kept_action past actor command k a =
 -- a past of accepted lines that has a header keeps all this
 pub kept : (past : Past) → WereAccepted past → is_start (place_of past) ≡ false → IsKept past
 kept [] h s = absurd (cc s)
-kept (Header ∷ past) h s = kept_header past h.0
-kept (Device name ∷ past) h s = kept_device past name (kept past h.1 h.0.in_place.0) h.0 (described_made (Device name ∷ past) h)
+kept (Header version ∷ past) h s = kept_header past version h.0
+kept (Device name ∷ past) h s = kept_device past name (kept past h.1 h.0.in_place.0) h.0 (described_made (Device name ∷ past) h) (few_slots (Device name ∷ past) h)
 kept (Hint count ∷ past) h s =
     let k = kept past h.1 h.0.in_place.0 in
-    kept_describing (Hint count ∷ past) refl (described_made (Hint count ∷ past) h) (k.begun (not-false (is_describing (place_of past)) h.0.in_place.1))
+    kept_describing (Hint count ∷ past) refl (described_made (Hint count ∷ past) h) (few_slots (Hint count ∷ past) h) (k.begun (not-false (is_describing (place_of past)) h.0.in_place.1))
 kept (Log count ∷ past) h s =
     let k = kept past h.1 h.0.in_place.0 in
-    kept_describing (Log count ∷ past) refl (described_made (Log count ∷ past) h) (k.begun (not-false (is_describing (place_of past)) h.0.in_place.1))
+    kept_describing (Log count ∷ past) refl (described_made (Log count ∷ past) h) (few_slots (Log count ∷ past) h) (k.begun (not-false (is_describing (place_of past)) h.0.in_place.1))
 kept (Realtime offset ∷ past) h s =
     let k = kept past h.1 h.0.in_place.0 in
-    kept_describing (Realtime offset ∷ past) refl (described_made (Realtime offset ∷ past) h) (k.begun (not-false (is_describing (place_of past)) h.0.in_place.1))
+    kept_describing (Realtime offset ∷ past) refl (described_made (Realtime offset ∷ past) h) (few_slots (Realtime offset ∷ past) h) (k.begun (not-false (is_describing (place_of past)) h.0.in_place.1))
 kept (Boottime offset ∷ past) h s =
     let k = kept past h.1 h.0.in_place.0 in
-    kept_describing (Boottime offset ∷ past) refl (described_made (Boottime offset ∷ past) h) (k.begun (not-false (is_describing (place_of past)) h.0.in_place.1))
+    kept_describing (Boottime offset ∷ past) refl (described_made (Boottime offset ∷ past) h) (few_slots (Boottime offset ∷ past) h) (k.begun (not-false (is_describing (place_of past)) h.0.in_place.1))
 kept (Slots count ∷ past) h s =
     let k = kept past h.1 h.0.in_place.0 in
-    kept_describing (Slots count ∷ past) refl (described_made (Slots count ∷ past) h) (k.begun (not-false (is_describing (place_of past)) h.0.in_place.1))
+    kept_describing (Slots count ∷ past) refl (described_made (Slots count ∷ past) h) (few_slots (Slots count ∷ past) h) (k.begun (not-false (is_describing (place_of past)) h.0.in_place.1))
 kept (Kind kind ∷ past) h s =
     let k = kept past h.1 h.0.in_place.0 in
-    kept_describing (Kind kind ∷ past) refl (described_made (Kind kind ∷ past) h) (k.begun (not-false (is_describing (place_of past)) h.0.in_place.1))
+    kept_describing (Kind kind ∷ past) refl (described_made (Kind kind ∷ past) h) (few_slots (Kind kind ∷ past) h) (k.begun (not-false (is_describing (place_of past)) h.0.in_place.1))
 kept (Code kind code ∷ past) h s =
     let k = kept past h.1 h.0.in_place.0 in
-    kept_describing (Code kind code ∷ past) refl (described_made (Code kind code ∷ past) h) (k.begun (not-false (is_describing (place_of past)) h.0.in_place.1))
+    kept_describing (Code kind code ∷ past) refl (described_made (Code kind code ∷ past) h) (few_slots (Code kind code ∷ past) h) (k.begun (not-false (is_describing (place_of past)) h.0.in_place.1))
 kept (Axis code info ∷ past) h s =
     let k = kept past h.1 h.0.in_place.0 in
-    kept_describing (Axis code info ∷ past) refl (described_made (Axis code info ∷ past) h) (k.begun (not-false (is_describing (place_of past)) h.0.in_place.1))
+    kept_describing (Axis code info ∷ past) refl (described_made (Axis code info ∷ past) h) (few_slots (Axis code info ∷ past) h) (k.begun (not-false (is_describing (place_of past)) h.0.in_place.1))
 kept (Actor role name ∷ past) h s = kept_actor past role name (kept past h.1 h.0.in_place.0) h.0
 kept (Action actor command ∷ past) h s = kept_action past actor command (kept past h.1 h.0.in_place.0) h.0

@@ -16,7 +16,8 @@ use Rattle.inp_record.specs.declared.item.Item.TheVariants.{Header, Device, Hint
 use Rattle.inp_record.specs.declared.place.Place.{Place}
 use Rattle.inp_record.specs.declared.place.Place.TheVariants.{Describing}
 use Rattle.inp_record.specs.Place.{is_start, is_out_of_place}
-use Rattle.inp_record.specs.Past.{Past, place_of, latest_name, former_devices, actors_of, lines_of, stream_count, source_count, reader_count, axes_of, has_slots}
+use Rattle.inp_record.specs.Past.{Past, place_of, version_of, context_of, latest_name, former_devices, actors_of, lines_of, stream_count, source_count, reader_count, axes_of, has_slots}
+use Rattle.inp_record.specs.Meaning.{has_too_many_slots}
 use Rattle.inp_record.specs.Spelling.{number_items, slots_items, kind_items, code_items, codes_items, axis_items, description_items}
 use Rattle.inp_record.proofs.Sayable.{IsAccepted, AreAccepted, keyword_for}
 use Rattle.inp_record.proofs.MadeDescriptions.{IsMade, IsGathered, AreKnownCodes}
@@ -51,7 +52,7 @@ accepted-append past xs ys a b =
 -- items that describe the latest device
 
 abbrev is_describing_item : Item → Bool
-is_describing_item Header = false
+is_describing_item (Header version) = false
 is_describing_item (Device name) = false
 is_describing_item (Actor role name) = false
 is_describing_item (Action actor command) = false
@@ -60,6 +61,7 @@ is_describing_item _ = true
 -- what stands behind the lines of a description as it did behind its device line
 pub record IsDescribedBehind (name : List ℕ) (past new : Past) : Type 0 where
   pub place : place_of new ≡ Describing
+  pub version : version_of new ≡ version_of past
   pub name_is : latest_name new ≡ Some name
   pub devices : former_devices new ≡ former_devices (Device name ∷ past)
   pub actors : actors_of new ≡ actors_of past
@@ -70,18 +72,18 @@ pub record IsDescribedBehind (name : List ℕ) (past new : Past) : Type 0 where
 
 -- one such item more
 described_more : (name : List ℕ) (past new : Past) (i : Item) → is_describing_item i ≡ true → IsDescribedBehind name past new → IsDescribedBehind name past (i ∷ new)
-described_more name past new Header e h = absurd (cc e)
+described_more name past new (Header version) e h = absurd (cc e)
 described_more name past new (Device n) e h = absurd (cc e)
 described_more name past new (Actor role n) e h = absurd (cc e)
 described_more name past new (Action actor command) e h = absurd (cc e)
-described_more name past new (Hint count) e h = record { place = refl; name_is = h.name_is; devices = h.devices; actors = h.actors; lines = h.lines; streams = h.streams; sources = h.sources; readers = h.readers }
-described_more name past new (Log count) e h = record { place = refl; name_is = h.name_is; devices = h.devices; actors = h.actors; lines = h.lines; streams = h.streams; sources = h.sources; readers = h.readers }
-described_more name past new (Realtime offset) e h = record { place = refl; name_is = h.name_is; devices = h.devices; actors = h.actors; lines = h.lines; streams = h.streams; sources = h.sources; readers = h.readers }
-described_more name past new (Boottime offset) e h = record { place = refl; name_is = h.name_is; devices = h.devices; actors = h.actors; lines = h.lines; streams = h.streams; sources = h.sources; readers = h.readers }
-described_more name past new (Slots count) e h = record { place = refl; name_is = h.name_is; devices = h.devices; actors = h.actors; lines = h.lines; streams = h.streams; sources = h.sources; readers = h.readers }
-described_more name past new (Kind kind) e h = record { place = refl; name_is = h.name_is; devices = h.devices; actors = h.actors; lines = h.lines; streams = h.streams; sources = h.sources; readers = h.readers }
-described_more name past new (Code kind code) e h = record { place = refl; name_is = h.name_is; devices = h.devices; actors = h.actors; lines = h.lines; streams = h.streams; sources = h.sources; readers = h.readers }
-described_more name past new (Axis code info) e h = record { place = refl; name_is = h.name_is; devices = h.devices; actors = h.actors; lines = h.lines; streams = h.streams; sources = h.sources; readers = h.readers }
+described_more name past new (Hint count) e h = record { place = refl; version = h.version; name_is = h.name_is; devices = h.devices; actors = h.actors; lines = h.lines; streams = h.streams; sources = h.sources; readers = h.readers }
+described_more name past new (Log count) e h = record { place = refl; version = h.version; name_is = h.name_is; devices = h.devices; actors = h.actors; lines = h.lines; streams = h.streams; sources = h.sources; readers = h.readers }
+described_more name past new (Realtime offset) e h = record { place = refl; version = h.version; name_is = h.name_is; devices = h.devices; actors = h.actors; lines = h.lines; streams = h.streams; sources = h.sources; readers = h.readers }
+described_more name past new (Boottime offset) e h = record { place = refl; version = h.version; name_is = h.name_is; devices = h.devices; actors = h.actors; lines = h.lines; streams = h.streams; sources = h.sources; readers = h.readers }
+described_more name past new (Slots count) e h = record { place = refl; version = h.version; name_is = h.name_is; devices = h.devices; actors = h.actors; lines = h.lines; streams = h.streams; sources = h.sources; readers = h.readers }
+described_more name past new (Kind kind) e h = record { place = refl; version = h.version; name_is = h.name_is; devices = h.devices; actors = h.actors; lines = h.lines; streams = h.streams; sources = h.sources; readers = h.readers }
+described_more name past new (Code kind code) e h = record { place = refl; version = h.version; name_is = h.name_is; devices = h.devices; actors = h.actors; lines = h.lines; streams = h.streams; sources = h.sources; readers = h.readers }
+described_more name past new (Axis code info) e h = record { place = refl; version = h.version; name_is = h.name_is; devices = h.devices; actors = h.actors; lines = h.lines; streams = h.streams; sources = h.sources; readers = h.readers }
 
 described_behind : (items : List Item) (name : List ℕ) (past new : Past) → list_all is_describing_item items ≡ true → IsDescribedBehind name past new → IsDescribedBehind name past (behind_items items new)
 described_behind [] name past new all h = h
@@ -121,7 +123,7 @@ pub description-behind : (d : Description) (name : List ℕ) (past : Past) → I
 description-behind d name past =
     subst (λ (p : Past). IsDescribedBehind name past p) (behind_items-reverse (description_items d) (Device name ∷ past))
     (described_behind (description_items d) name past (Device name ∷ past) (all_describe d)
-    (record { place = refl; name_is = refl; devices = refl; actors = refl; lines = refl; streams = refl; sources = refl; readers = refl }))
+    (record { place = refl; version = refl; name_is = refl; devices = refl; actors = refl; lines = refl; streams = refl; sources = refl; readers = refl }))
 
 -- a section of lines behind which the latest device has described no axis
 
@@ -140,6 +142,7 @@ kind_accepted past kind o known = record {
   in_place = in_place past (Kind kind) o.place refl;
   once = refl;
   few = refl;
+  few_slots = refl;
   fits = cond-true (is_kind kind) _ _ known;
 }
 
@@ -166,6 +169,7 @@ code_accepted past kind code o known = record {
   in_place = in_place past (Code kind code) o.place refl;
   once = refl;
   few = refl;
+  few_slots = refl;
   fits = cond-true (is_code kind code) _ _ known;
 }
 
@@ -240,6 +244,7 @@ axis_accepted d past code g at below within = record {
   in_place = in_place past (Axis code (info d code)) at refl;
   once = not_among code (axes_of past) below;
   few = refl;
+  few_slots = refl;
   fits = cond-false (nat_lt ABS_MAX code) _ _ (le-ltb ABS_MAX code within) ∙ cond-false (is_bad_axis code (info d code)) _ _ (g.axes.good code);
 }
 
@@ -267,13 +272,13 @@ number_accepted d name past g =
     let real_most : d.realtime ≤ MOMENT_MAX = leb-true d.realtime MOMENT_MAX n.realtime in
     let boot_most : d.boottime ≤ MOMENT_MAX = leb-true d.boottime MOMENT_MAX n.boottime in (
       (
-        record { sayable = omega arith; in_place = (refl, refl); once = refl; few = refl; fits = cond-true (nat_le HINT_MIN d.hint && nat_le d.hint HINT_MAX) _ _ n.hint },
+        record { sayable = omega arith; in_place = (refl, refl); once = refl; few = refl; few_slots = refl; fits = cond-true (nat_le HINT_MIN d.hint && nat_le d.hint HINT_MAX) _ _ n.hint },
         (
-          record { sayable = omega arith; in_place = (refl, refl); once = refl; few = refl; fits = cond-true (nat_le 1 d.log_limit && nat_le d.log_limit LOG_MAX) _ _ n.log_limit },
+          record { sayable = omega arith; in_place = (refl, refl); once = refl; few = refl; few_slots = refl; fits = cond-true (nat_le 1 d.log_limit && nat_le d.log_limit LOG_MAX) _ _ n.log_limit },
           (
-            record { sayable = omega arith; in_place = (refl, refl); once = refl; few = refl; fits = cond-true (nat_le d.realtime MOMENT_MAX) _ _ n.realtime },
+            record { sayable = omega arith; in_place = (refl, refl); once = refl; few = refl; few_slots = refl; fits = cond-true (nat_le d.realtime MOMENT_MAX) _ _ n.realtime },
             (
-              record { sayable = omega arith; in_place = (refl, refl); once = refl; few = refl; fits = cond-true (nat_le d.boottime MOMENT_MAX) _ _ n.boottime },
+              record { sayable = omega arith; in_place = (refl, refl); once = refl; few = refl; few_slots = refl; fits = cond-true (nat_le d.boottime MOMENT_MAX) _ _ n.boottime },
               tt,
             ),
           ),
@@ -289,20 +294,20 @@ slots_by : (past : Past) (b : Bool) (count : ℕ) → IsOpen past → (b ≡ fal
 slots_by past true count o here = (tt, o)
 slots_by past false count o here = ((here refl, tt), record { place = refl; axes = o.axes })
 
-slots_accepted : (d : Description) (past : Past) → IsGathered d → has_slots past ≡ false → IsOpen past → AreOpen past (slots_items d)
-slots_accepted d past g fresh o =
+slots_accepted : (d : Description) (past : Past) → IsGathered d → has_too_many_slots (context_of past) (Slots d.slots) ≡ false → has_slots past ≡ false → IsOpen past → AreOpen past (slots_items d)
+slots_accepted d past g few_slots fresh o =
     let most : d.slots ≤ SLOTS_MAX = leb-true d.slots SLOTS_MAX g.numbers.slots in
     slots_by past (nat_eq d.slots 0) d.slots o
-    (λ e. record { sayable = omega arith; in_place = in_place past (Slots d.slots) o.place refl; once = fresh; few = refl; fits = cond-true (nat_le 1 d.slots && nat_le d.slots SLOTS_MAX) _ _ (slots_fit d.slots e g.numbers.slots) })
+    (λ e. record { sayable = omega arith; in_place = in_place past (Slots d.slots) o.place refl; once = fresh; few = refl; few_slots = few_slots; fits = cond-true (nat_le 1 d.slots && nat_le d.slots SLOTS_MAX) _ _ (slots_fit d.slots e g.numbers.slots) })
 
 -- all sections: the numbers, the slots, the types, the codes, the axes
 
-sections_accepted : (d : Description) (name : List ℕ) (past : Past) (kinds codes axes : ℕ) → IsGathered d → axes ≤ ABS_MAX + 1
+sections_accepted : (d : Description) (name : List ℕ) (past : Past) (kinds codes axes : ℕ) → IsGathered d → has_too_many_slots (context_of past) (Slots d.slots) ≡ false → axes ≤ ABS_MAX + 1
     → AreAccepted (Device name ∷ past) (number_items d ++ (slots_items d ++ (flat_map (kind_items d) (range_with_len 1 kinds) ++ (flat_map (λ kind. flat_map (code_items d kind) (range_with_len 0 codes)) coded_kinds ++ flat_map (axis_items d) (range_with_len 0 axes)))))
-sections_accepted d name past kinds codes axes g within =
+sections_accepted d name past kinds codes axes g few_slots within =
     let numbers = number_accepted d name past g in
     let behind_numbers : Past = behind_items (number_items d) (Device name ∷ past) in
-    let slots = slots_accepted d behind_numbers g refl numbers.1 in
+    let slots = slots_accepted d behind_numbers g few_slots refl numbers.1 in
     let behind_slots : Past = behind_items (slots_items d) behind_numbers in
     let types = kinds_accepted d 1 kinds g behind_slots slots.1 in
     let behind_types : Past = behind_items (flat_map (kind_items d) (range_with_len 1 kinds)) behind_slots in
@@ -316,6 +321,6 @@ sections_accepted d name past kinds codes axes g within =
     (axes_accepted d 0 axes g behind_caps caps.1.place below (omega arith)))))
 
 -- The canonical items of a description are accepted behind the line of its device.
-pub description-accepted : (d : Description) (name : List ℕ) (past : Past) → IsMade d → AreAccepted (Device name ∷ past) (description_items d)
+pub description-accepted : (d : Description) (name : List ℕ) (past : Past) → IsMade d → has_too_many_slots (context_of past) (Slots d.slots) ≡ false → AreAccepted (Device name ∷ past) (description_items d)
 unfolding description_items
-description-accepted d name past made = sections_accepted d name past EV_MAX (KEY_MAX + 1) (ABS_MAX + 1) made.gathered (omega arith)
+description-accepted d name past made few_slots = sections_accepted d name past EV_MAX (KEY_MAX + 1) (ABS_MAX + 1) made.gathered few_slots (omega arith)

@@ -11,6 +11,7 @@ use Rattle.inp_model.specs.Description.{Description}
 use Rattle.inp_actors.specs.declared.actor_text.TheConstants.{ACTORS_MAX}
 use Rattle.inp_actors.specs.declared.actor_text.ActorText.{ActorText}
 use Rattle.inp_actors.specs.declared.line.Line.{Line}
+use Rattle.inp_actors.specs.declared.record.TheConstants.{VERSION_MAX}
 use Rattle.inp_actors.specs.declared.command.Command.{Command}
 use Rattle.inp_actors.specs.declared.command.Command.TheVariants as commands
 use Rattle.inp_actors.specs.declared.role.Role as role
@@ -26,7 +27,7 @@ use Rattle.inp_record.specs.declared.item.Item.TheVariants.{Header, Device, Hint
 use Rattle.inp_record.specs.declared.keyword.Keyword as keyword
 use Rattle.inp_record.specs.Place.{is_describing, is_naming, is_out_of_place}
 use Rattle.inp_record.specs.Words.{item_of, action_item, or_bad_word, plain_item, is_action}
-use Rattle.inp_record.specs.Past.{Past, place_of, latest_name, latest_description, former_devices, devices_of, with_latest, actors_of, lines_of, source_count, reader_count, stream_count, streams_in, context_of}
+use Rattle.inp_record.specs.Past.{Past, place_of, latest_name, latest_description, former_devices, devices_of, with_latest, actors_of, lines_of, source_count, reader_count, stream_count, streams_in, version_of, context_of}
 use Rattle.inp_record.specs.Meaning.{device_count, has_all, is_too_many, checked, item_of_words, behind, behind_words, behind_line, go_on, behind_lines, record_of}
 use Rattle.inp_record.proofs.Inversions.{IsAct, IsChecked, IsPlaced, keyword_for, checked_is, words_are, plain_keyword, act_is}
 use Rattle.inp_record.proofs.Rooms.{closed_length}
@@ -221,9 +222,9 @@ action_added n past actor c good act =
     }
 
 plain_added : (n : ℕ) (past : Past) (i : item.Item) → IsGood n past → is_out_of_place (place_of past) (keyword_for i) ≡ false → is_action (keyword_for i) ≡ false → is_too_many (context_of past) i ≡ false → IsGood (suc n) (i ∷ past)
-plain_added n past Header good place plain enough =
+plain_added n past (Header version) good place plain enough =
     let few : HasFewActors past = good.few_actors in
-    goes_on n past (Header ∷ past) good (λ h. absurd (cc h)) refl refl refl refl (record { devices = few.devices; sources = few.sources; readers = few.readers; latest = few.latest; all = few.all })
+    goes_on n past (Header version ∷ past) good (λ h. absurd (cc h)) refl refl refl refl (record { devices = few.devices; sources = few.sources; readers = few.readers; latest = few.latest; all = few.all })
 plain_added n past (Device name) good place plain enough = device_begun n past name good enough
 plain_added n past (Hint count) good place plain enough = described n past (Hint count ∷ past) good place refl refl refl refl refl refl refl
 plain_added n past (Log count) good place plain enough = described n past (Log count ∷ past) good place refl refl refl refl refl refl refl
@@ -340,12 +341,13 @@ all_few past few =
     let most : length (actors_of past) ≤ 136 * length (devices_of past) + 0 = begun_all (length (actors_of past)) (length (former_devices past)) (length (devices_of past)) (source_count past + reader_count past) (is_some (latest_name past)) few.all few.latest before in
     omega (arith, most, few.devices)
 
--- what lines mean is a record
-pub IsRecord-read : (lines : List (List ℕ)) (past : Past) → length lines < 2 ^ 32 → behind_lines 1 lines [] ≡ Ok past → IsRecord (record_of past)
-IsRecord-read lines past h e =
+-- what lines mean is a record, where its version is one that there is
+pub IsRecord-read : (lines : List (List ℕ)) (past : Past) → length lines < 2 ^ 32 → behind_lines 1 lines [] ≡ Ok past → (1 ≤ version_of past) × (version_of past ≤ VERSION_MAX) → IsRecord (record_of past)
+IsRecord-read lines past h e version =
     let good = lines_good lines 1 0 [] past none_good e in
     let few = empty_length (stream_count past) in
     record {
+      version = version;
       devices = good.devices;
       actors = good.actors;
       commands = good.commands;

@@ -12,6 +12,7 @@ use Rattle.inp_words.specs.Code.{kind_word, code_word}
 use Rattle.inp_words.proofs.Numerals.{number_within}
 use Rattle.inp_actors.specs.declared.command.TheConstants.{READ_MAX}
 use Rattle.inp_caps.specs.declared.caps_refused.CapsRefused.{CapsRefused}
+use Rattle.inp_caps.specs.declared.caps_refused.CapsRefused.TheVariants.{BadSlots}
 use Rattle.inp_actors.specs.declared.role.Role as role
 use Rattle.inp_actors.specs.declared.role.Role.TheVariants as roles
 use Rattle.inp_actors.specs.declared.command.Command as command
@@ -20,7 +21,7 @@ use Rattle.inp_actors.specs.declared.actor_text.ActorText.{ActorText}
 use Rattle.inp_actors.specs.Command.{is_command_of, is_in_range}
 use Rattle.inp_actors.specs.Record.{stream_of}
 use Rattle.inp_record.specs.declared.cause.Cause.{Cause}
-use Rattle.inp_record.specs.declared.cause.Cause.TheVariants.{BadHeader, OutOfPlace, Twice, TooMany}
+use Rattle.inp_record.specs.declared.cause.Cause.TheVariants.{BadHeader, OutOfPlace, Twice, TooMany, Caps}
 use Rattle.inp_record.specs.declared.context.Context.{Context}
 use Rattle.inp_record.specs.declared.keyword.Keyword as keyword
 use Rattle.inp_record.specs.declared.keyword.Keyword.TheVariants as keywords
@@ -31,9 +32,9 @@ use Rattle.inp_record.specs.declared.item.Item.TheVariants as items
 use Rattle.inp_record.specs.Keyword.{keyword_of}
 use Rattle.inp_record.specs.Place.{is_start, is_out_of_place}
 use Rattle.inp_record.specs.Verb.{is_verb_of, argument_count, with_arguments, verb_of, verb_rows}
-use Rattle.inp_record.specs.Words.{word, is_header, name_word, count_word, wide_word, moment_word, clock_word, kind_and_code, info_words, stamped_words, offset_item, plain_item, actor_item, plain_command, command_of, actor_from, action_of, action_by, action_with, action_item, item_of, is_stream}
+use Rattle.inp_record.specs.Words.{word, version_word, is_header, name_word, count_word, wide_word, moment_word, clock_word, kind_and_code, info_words, stamped_words, offset_item, plain_item, actor_item, plain_command, command_of, actor_from, action_of, action_by, action_with, action_item, item_of, is_stream}
 use Rattle.inp_record.specs.Past.{streams_in}
-use Rattle.inp_record.specs.Meaning.{is_twice, is_too_many, refusal, unless_refused, checked, placed, item_of_words}
+use Rattle.inp_record.specs.Meaning.{is_twice, is_too_many, has_too_many_slots, refusal, unless_refused, checked, placed, item_of_words}
 use Rattle.inp_words.specs.Table.{named}
 
 -- what an option holds that is mapped
@@ -50,23 +51,26 @@ pub record IsChecked (c : Context) (means : Result item.Item Cause) (i : item.It
   pub read : means ≡ Ok i
   pub once : is_twice c i ≡ false
   pub enough : is_too_many c i ≡ false
+  pub few_slots : has_too_many_slots c i ≡ false
   pub allowed : refusal i ≡ None
 
-checked_by : (twice many : Bool) (why : Option CapsRefused) (j i : item.Item) → (if twice then Err Twice else if many then Err TooMany else unless_refused why j) ≡ Ok i → (twice ≡ false) × (many ≡ false) × (why ≡ None) × (j ≡ i)
-checked_by true many why j i e = absurd (cc e)
-checked_by false true why j i e = absurd (cc e)
-checked_by false false None j i e = (refl, refl, refl, cc e)
-checked_by false false (Some why) j i e = absurd (cc e)
+checked_by : (twice many wide : Bool) (why : Option CapsRefused) (j i : item.Item) → (if twice then Err Twice else if many then Err TooMany else if wide then Err (Caps BadSlots) else unless_refused why j) ≡ Ok i → (twice ≡ false) × (many ≡ false) × (wide ≡ false) × (why ≡ None) × (j ≡ i)
+checked_by true many wide why j i e = absurd (cc e)
+checked_by false true wide why j i e = absurd (cc e)
+checked_by false false true why j i e = absurd (cc e)
+checked_by false false false None j i e = (refl, refl, refl, refl, cc e)
+checked_by false false false (Some why) j i e = absurd (cc e)
 
 pub checked_is : (c : Context) (means : Result item.Item Cause) (i : item.Item) → checked c means ≡ Ok i → IsChecked c means i
 checked_is c (Err cause) i e = absurd (cc e)
 checked_is c (Ok j) i e =
-    let h = checked_by (is_twice c j) (is_too_many c j) (refusal j) j i e in
+    let h = checked_by (is_twice c j) (is_too_many c j) (has_too_many_slots c j) (refusal j) j i e in
     record {
-      read = ap (λ (x : item.Item). Ok x) h.3;
-      once = subst (λ (x : item.Item). is_twice c x ≡ false) h.3 h.0;
-      enough = subst (λ (x : item.Item). is_too_many c x ≡ false) h.3 h.1;
-      allowed = subst (λ (x : item.Item). refusal x ≡ None) h.3 h.2;
+      read = ap (λ (x : item.Item). Ok x) h.4;
+      once = subst (λ (x : item.Item). is_twice c x ≡ false) h.4 h.0;
+      enough = subst (λ (x : item.Item). is_too_many c x ≡ false) h.4 h.1;
+      few_slots = subst (λ (x : item.Item). has_too_many_slots c x ≡ false) h.4 h.2;
+      allowed = subst (λ (x : item.Item). refusal x ≡ None) h.4 h.3;
     }
 
 -- a line that is read has a keyword that may stand there
@@ -99,7 +103,7 @@ keyword_of_role roles.Client = keywords.Client
 keyword_of_role roles.Tap = keywords.Tap
 
 abbrev pub keyword_for : item.Item → keyword.Keyword
-keyword_for items.Header = keywords.Header
+keyword_for (items.Header version) = keywords.Header
 keyword_for (items.Device name) = keywords.Device
 keyword_for (items.Hint count) = keywords.Hint
 keyword_for (items.Log count) = keywords.Log
@@ -122,7 +126,7 @@ actor_keyword r w i e = ap keyword_for (map_is (λ name. items.Actor r name) (na
 
 pub plain_keyword : (k : keyword.Keyword) (ws : List (List ℕ)) (i : item.Item) → plain_item k ws ≡ Some i → keyword_for i ≡ k
 unfolding plain_item
-plain_keyword keywords.Header ws i e = let h : items.Header ≡ i = cc e in ap keyword_for (sym h)
+plain_keyword keywords.Header ws i e = ap keyword_for (map_is (λ version. items.Header version) (version_word (word 1 ws)) i e).2
 plain_keyword keywords.Device ws i e = ap keyword_for (map_is (λ name. items.Device name) (name_word (word 1 ws)) i e).2
 plain_keyword keywords.Hint ws i e = ap keyword_for (map_is (λ count. items.Hint count) (count_word (word 1 ws)) i e).2
 plain_keyword keywords.Log ws i e = ap keyword_for (map_is (λ count. items.Log count) (count_word (word 1 ws)) i e).2

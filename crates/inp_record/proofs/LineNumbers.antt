@@ -102,7 +102,7 @@ action_is_do word count k e =
 
 -- an item adds a line exactly where its keyword is that of an action
 item_adds : (past : Past) (i : item.Item) → length (lines_of (i ∷ past)) ≡ length (lines_of past) + (if is_action (keyword_for i) then 1 else 0)
-item_adds past Header = omega arith
+item_adds past (Header version) = omega arith
 item_adds past (Device name) = omega arith
 item_adds past (Hint count) = omega arith
 item_adds past (Log count) = omega arith

@@ -274,7 +274,7 @@ with_described d code i g e said =
 
 gathered : (past : Past) → AreDescribed past → IsGathered (latest_description past)
 gathered [] h = gathered_alone
-gathered (Header ∷ past) h = gathered past h.2
+gathered (Header version ∷ past) h = gathered past h.2
 gathered (Device name ∷ past) h = gathered_alone
 gathered (Hint count ∷ past) h =
     let g = gathered past h.2 in
@@ -326,6 +326,12 @@ kind_again d kind e = ap (λ (l : List Bool). record d { kinds = l }) (set_again
 axis_again : (d : Description) (code : ℕ) (m : ℤ) → get_or d.axes code false ≡ true → with_default_axis d code m ≡ d
 axis_again d code m e = cond-true (get_or d.axes code false) _ _ e
 
+-- what is built has as many slots
+pub built_slots : (d : Description) → (built d).slots ≡ d.slots
+built_slots d =
+    cond_both (nat_eq d.slots 0) d (with_slot_axes d) (λ (x : Description). x.slots ≡ d.slots) (λ _. refl)
+    (λ _. (default_keeps (with_default_axis (with_kind d EV_ABS) ABS_MT_SLOT (pos (d.slots - 1))) ABS_MT_TRACKING_ID (pos 65535)).1 ∙ (default_keeps (with_kind d EV_ABS) ABS_MT_SLOT (pos (d.slots - 1))).1)
+
 -- a description that has them
 record HasSlotAxes (d : Description) : Type 0 where
   kind : get_or d.kinds EV_ABS false ≡ true
@@ -340,7 +346,7 @@ slot_axes_again d h =
     ∙ axis_again d ABS_MT_TRACKING_ID (pos 65535) h.tracking_id
 
 last_fits : (slots : ℕ) → nat_le slots SLOTS_MAX ≡ true → FitsSigned w32 (pos (slots - 1))
-last_fits slots e = let few : slots ≤ 64 = leb-true slots SLOTS_MAX e in grind (arith, ints)
+last_fits slots e = let few : slots ≤ 256 = leb-true slots SLOTS_MAX e in grind (arith, ints)
 
 tracking_fits : FitsSigned w32 (pos 65535)
 tracking_fits = grind (arith, ints)
@@ -396,7 +402,7 @@ latest_made former (Some name) d old new = λ i t e. elim (push_get former (reco
 
 former_made : (past : Past) → AreDescribed past → AreMade (former_devices past)
 former_made [] h = λ i t e. absurd (cc e)
-former_made (Header ∷ past) h = former_made past h.2
+former_made (Header version ∷ past) h = former_made past h.2
 former_made (Device name ∷ past) h = latest_made (former_devices past) (latest_name past) (latest_description past) (former_made past h.2) (made past h.2)
 former_made (Hint count ∷ past) h = former_made past h.2
 former_made (Log count ∷ past) h = former_made past h.2

@@ -12,10 +12,13 @@ code_realtime d kind code = grind (arith, nat_tests)
 code_boottime : (d : Description) (kind code : ℕ) → (with_code d kind code).boottime ≡ d.boottime
 code_boottime d kind code = grind (arith, nat_tests)
 
+pub code_slots : (d : Description) (kind code : ℕ) → (with_code d kind code).slots ≡ d.slots
+code_slots d kind code = grind (arith, nat_tests)
+
 -- the offsets of the latest description are those that its device gave
 pub realtime_is : (past : Past) → (latest_description past).realtime ≡ unwrap_or (realtime_of past) 0
 realtime_is [] = refl
-realtime_is (Header ∷ past) = realtime_is past
+realtime_is (Header version ∷ past) = realtime_is past
 realtime_is (Device name ∷ past) = refl
 realtime_is (Hint count ∷ past) = realtime_is past
 realtime_is (Log count ∷ past) = realtime_is past
@@ -30,7 +33,7 @@ realtime_is (Action actor command ∷ past) = realtime_is past
 
 pub boottime_is : (past : Past) → (latest_description past).boottime ≡ unwrap_or (boottime_of past) 0
 boottime_is [] = refl
-boottime_is (Header ∷ past) = boottime_is past
+boottime_is (Header version ∷ past) = boottime_is past
 boottime_is (Device name ∷ past) = refl
 boottime_is (Hint count ∷ past) = boottime_is past
 boottime_is (Log count ∷ past) = boottime_is past

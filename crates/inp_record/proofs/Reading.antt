@@ -75,7 +75,7 @@ meaning_read text past h = ap (as_record (length (lines_of text))) h
 -- nothing was read before the first line alone
 pub start_is : (past : Past) → place_of past ≡ Start → past ≡ []
 start_is [] e = refl
-start_is (Header ∷ past) e = absurd (cc)
+start_is (Header version ∷ past) e = absurd (cc)
 start_is (Device name ∷ past) e = absurd (cc)
 start_is (Hint count ∷ past) e = absurd (cc)
 start_is (Log count ∷ past) e = absurd (cc)

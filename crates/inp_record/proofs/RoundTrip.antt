@@ -22,7 +22,7 @@ use Rattle.inp_record.specs.declared.item.Item.TheVariants.{Header, Device, Hint
 use Rattle.inp_record.specs.declared.place.Place.TheVariants.{Start}
 use Rattle.inp_record.specs.Place.{is_start}
 use Rattle.inp_record.specs.Words.{is_action}
-use Rattle.inp_record.specs.Past.{Past, place_after, place_of, actors_of, devices_of, lines_of}
+use Rattle.inp_record.specs.Past.{Past, place_after, place_of, version_of, actors_of, devices_of, lines_of}
 use Rattle.inp_record.specs.Meaning.{behind_lines, record_of, meaning}
 use Rattle.inp_record.specs.Spelling.{item_words, number_items, slots_items, kind_items, code_items, codes_items, axis_items, description_items, actor_items, device_items, action_item_of, RoundTrips}
 use Rattle.inp_record.proofs.Reading.{meaning_read, headed}
@@ -61,20 +61,20 @@ action_lines : (actors : List ActorText) (lines : List Line) → map (action_wor
 action_lines actors [] = refl
 action_lines actors (l ∷ lines) = ap (λ (ws : List Words). action_words actors l ∷ ws) (action_lines actors lines)
 
-lines_are : (actors : List ActorText) (devices : List DeviceText) (lines : List Line)
-    → item_words actors Header ∷ (devices_lines actors devices ++ map (action_words actors) lines) ≡ map (item_words actors) (all_items actors devices lines)
+lines_are : (version : ℕ) (actors : List ActorText) (devices : List DeviceText) (lines : List Line)
+    → item_words actors (Header version) ∷ (devices_lines actors devices ++ map (action_words actors) lines) ≡ map (item_words actors) (all_items version actors devices lines)
 unfolding devices_lines
-lines_are actors devices lines =
+lines_are version actors devices lines =
     let f = item_words actors in
     let heads = flat_map (device_items actors) (enumerate_from 0 devices) in
-    ap (λ (l : List Words). f Header ∷ l)
+    ap (λ (l : List Words). f (Header version) ∷ l)
     (ap (λ (l : List Words). l ++ map (action_words actors) lines) (lines_each f (device_lines actors) (device_items actors) (device_line actors) (enumerate_from 0 devices))
     ∙ ap (λ (l : List Words). map f heads ++ l) (action_lines actors lines)
     ∙ sym (map-append f heads (map action_item_of lines)))
 
 text_is : (past : Past) → record_text (record_of past) ≡ lines_text (map (item_words (actors_of past)) (canon past))
 unfolding record_text record_lines
-text_is past = ap lines_text (lines_are (actors_of past) (devices_of past) (lines_of past))
+text_is past = ap lines_text (lines_are (version_of past) (actors_of past) (devices_of past) (lines_of past))
 
 -- no line but an action names an actor of the whole record
 
@@ -126,8 +126,8 @@ none_of_device actors d =
     none_both (description_items d.1.caps) (flat_map (actor_items d.0) actors) (none_described d.1.caps)
     (none_each (actor_items d.0) (λ a. none_if (nat_eq a.device d.0) (Actor a.role a.name) (none_of_role a)) actors)
 
-none_in_heads : (actors : List ActorText) (devices : List DeviceText) → are_no_actions (head_items actors devices) ≡ true
-none_in_heads actors devices = none_each (device_items actors) (none_of_device actors) (enumerate_from 0 devices)
+none_in_heads : (version : ℕ) (actors : List ActorText) (devices : List DeviceText) → are_no_actions (head_items version actors devices) ≡ true
+none_in_heads version actors devices = none_each (device_items actors) (none_of_device actors) (enumerate_from 0 devices)
 
 plain_behind : (actors : List ActorText) (items : List Item) (past : Past) (more : List Item) → are_no_actions items ≡ true → AreBehindActors actors (reverse items ++ past) more → AreBehindActors actors past (items ++ more)
 plain_behind actors [] past more h g = g
@@ -149,15 +149,15 @@ same_actors (l ∷ lines) past =
 all_behind : (past : Past) → IsLike past (past_of (canon past)) → AreBehindActors (actors_of past) [] (canon past)
 all_behind past like =
     let actors = actors_of past in
-    let heads = head_items actors (devices_of past) in
+    let heads = head_items (version_of past) actors (devices_of past) in
     let actions = map action_item_of (lines_of past) in
     let are : actors_of (past_of heads) ≡ actors = sym (same_actors (lines_of past) (past_of heads)) ∙ ap actors_of (sym (past_of_two heads actions [])) ∙ like.actors in
-    plain_behind actors heads [] actions (none_in_heads actors (devices_of past)) (actions_behind actors (lines_of past) (past_of heads) are)
+    plain_behind actors heads [] actions (none_in_heads (version_of past) actors (devices_of past)) (actions_behind actors (lines_of past) (past_of heads) are)
 
 -- a past with a line stands behind its start
 
 no_start : (i : Item) → is_start (place_after i) ≡ false
-no_start Header = refl
+no_start (Header version) = refl
 no_start (Device name) = refl
 no_start (Hint count) = refl
 no_start (Log count) = refl

@@ -7,6 +7,7 @@ use Rattle.inp_actors.specs.declared.role.Role.TheVariants as roles
 use Rattle.inp_actors.specs.declared.actor_text.ActorText.{ActorText}
 use Rattle.inp_actors.specs.declared.command.Command as command
 use Rattle.inp_actors.specs.declared.command.Command.TheVariants as commands
+use Rattle.inp_actors.specs.declared.record.TheConstants.{VERSION_MAX}
 use Rattle.inp_actors.specs.Name.{is_name}
 use Rattle.inp_actors.specs.Command.{is_command_of, is_in_range}
 use Rattle.inp_words.specs.Line.{is_word}
@@ -17,7 +18,7 @@ use Rattle.inp_record.specs.declared.keyword.Keyword.TheVariants as keywords
 use Rattle.inp_record.specs.Past.{Past, place_of, actors_of, context_of, stream_count}
 use Rattle.inp_record.specs.Place.{is_start, is_out_of_place}
 use Rattle.inp_record.specs.Words.{actor_from}
-use Rattle.inp_record.specs.Meaning.{is_twice, is_too_many, refusal}
+use Rattle.inp_record.specs.Meaning.{is_twice, is_too_many, has_too_many_slots, refusal}
 
 -- the first word of the canonical line of an item
 abbrev pub keyword_for_role : role.Role → keyword.Keyword
@@ -26,7 +27,7 @@ keyword_for_role roles.Client = keywords.Client
 keyword_for_role roles.Tap = keywords.Tap
 
 abbrev pub keyword_for : Item → keyword.Keyword
-keyword_for Header = keywords.Header
+keyword_for (Header version) = keywords.Header
 keyword_for (Device name) = keywords.Device
 keyword_for (Hint count) = keywords.Hint
 keyword_for (Log count) = keywords.Log
@@ -86,7 +87,7 @@ pub record IsSayableAction (actors : List ActorText) (stream actor : ℕ) (does 
 
 -- the item can be said, where these actors are there and so many streams
 abbrev pub IsSayable : List ActorText → ℕ → Item → Type 0
-IsSayable actors stream Header = Unit {0}
+IsSayable actors stream (Header version) = (1 ≤ version) × (version ≤ VERSION_MAX)
 IsSayable actors stream (Device name) = is_name name ≡ true
 IsSayable actors stream (Hint count) = count < 2 ^ 32
 IsSayable actors stream (Log count) = count < 2 ^ 32
@@ -101,7 +102,7 @@ IsSayable actors stream (Action actor does) = IsSayableAction actors stream acto
 
 -- a header stands first, and each other item behind one, where a line with its keyword may stand
 abbrev pub IsInPlace : Past → Item → Type 0
-IsInPlace past Header = is_start (place_of past) ≡ true
+IsInPlace past (Header version) = is_start (place_of past) ≡ true
 IsInPlace past i = (is_start (place_of past) ≡ false) × (is_out_of_place (place_of past) (keyword_for i) ≡ false)
 
 -- A line that says the item is accepted behind the past.
@@ -110,6 +111,7 @@ pub record IsAccepted (past : Past) (i : Item) : Type 0 where
   pub in_place : IsInPlace past i
   pub once : is_twice (context_of past) i ≡ false
   pub few : is_too_many (context_of past) i ≡ false
+  pub few_slots : has_too_many_slots (context_of past) i ≡ false
   pub fits : refusal i ≡ None
 
 -- lines that say these items, one after another, are accepted behind the past

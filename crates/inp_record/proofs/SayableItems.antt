@@ -1,5 +1,5 @@
 -- What lines mean can be said again: each item by the words that it was read from.
-use Rattle.std.proofs.Common.{◌≡◌, ◌<◌, ◌+◌, ◌-◌, ◌^◌, ℕ, zero, suc, Bool, true, false, ◌&&◌, if◌then◌else◌, nat_eq, cond, List, [], ◌∷◌, length, filter, Option, Some, None, option_map, bytes_eq, Ok, refl, sym, ap, ◌∙◌, subst, arith}
+use Rattle.std.proofs.Common.{◌≡◌, ◌<◌, ◌≤◌, ◌+◌, ◌-◌, ◌^◌, ℕ, zero, suc, Bool, true, false, ◌&&◌, if◌then◌else◌, nat_eq, cond, List, [], ◌∷◌, length, filter, Option, Some, None, option_map, bytes_eq, codes, Ok, refl, sym, ap, ◌∙◌, subst, arith}
 use Rattle.std.specs.Prelude.{option_and_then, slice_get}
 use Rattle.std.specs.List.{list_all, slice_split, onto_first}
 use Rattle.std.proofs.lemmas.Bool.Decides.{nat_tests}
@@ -15,6 +15,7 @@ use Rattle.inp_actors.specs.declared.command.TheConstants.{READ_MAX}
 use Rattle.inp_actors.specs.declared.role.Role as role
 use Rattle.inp_actors.specs.declared.role.Role.TheVariants as roles
 use Rattle.inp_actors.specs.declared.actor_text.ActorText.{ActorText}
+use Rattle.inp_actors.specs.declared.record.TheConstants.{VERSION_MAX}
 use Rattle.inp_actors.specs.Name.{is_name}
 use Rattle.inp_words.specs.Line.{is_blank, is_text, is_text_byte, is_word, words_of}
 use Rattle.inp_words.specs.Number.{number}
@@ -27,7 +28,7 @@ use Rattle.inp_record.specs.declared.verb.Verb.TheVariants as verbs
 use Rattle.inp_record.specs.declared.item.Item as item
 use Rattle.inp_record.specs.declared.item.Item.TheVariants as items
 use Rattle.inp_record.specs.Verb.{argument_count, is_verb_of, with_arguments, verb_of, verb_rows}
-use Rattle.inp_record.specs.Words.{word, name_word, count_word, wide_word, moment_word, clock_word, kind_and_code, info_words, stamped_words, offset_item, plain_item, actor_item, plain_command, command_of, is_stream, actor_from, action_by, action_with, action_item, or_bad_word, is_action, item_of}
+use Rattle.inp_record.specs.Words.{word, version_word, name_word, count_word, wide_word, moment_word, clock_word, kind_and_code, info_words, stamped_words, offset_item, plain_item, actor_item, plain_command, command_of, is_stream, actor_from, action_by, action_with, action_item, or_bad_word, is_action, item_of}
 use Rattle.inp_record.proofs.Good.{or_bad_is}
 use Rattle.inp_record.proofs.Inversions.{map_is, and_then_is, command_of_is, verb_is, action_of_is, streaming}
 use Rattle.inp_record.proofs.Sayable.{is_visible, IsPlainWord, IsSayableCommand, IsSayable}
@@ -110,6 +111,14 @@ name_said w n e = by_name (is_name w) refl e
     by_name true h e = let same : w ≡ n = cc e in rw (← same) h
     by_name false h e = absurd (cc e)
 
+version_said : (w : List ℕ) (n : ℕ) → version_word w ≡ Some n → (1 ≤ n) × (n ≤ VERSION_MAX)
+version_said w n e = by_words (bytes_eq w (codes "1")) (bytes_eq w (codes "2")) e
+  where
+    by_words : (one two : Bool) → (if one then Some 1 else if two then Some 2 else None) ≡ Some n → (1 ≤ n) × (n ≤ VERSION_MAX)
+    by_words true two e = let same : 1 ≡ n = cc e in (omega (arith, same), omega (arith, same))
+    by_words false true e = let same : 2 ≡ n = cc e in (omega (arith, same), omega (arith, same))
+    by_words false false e = absurd (cc e)
+
 count_said : (w : List ℕ) (n : ℕ) → count_word w ≡ Some n → n < 2 ^ 32
 count_said w n e = omega (arith, number_most (2 ^ 32 - 1) w n e)
 
@@ -128,7 +137,9 @@ actor_said actors s r w i e =
 
 plain_said : (actors : List ActorText) (s : ℕ) (k : keyword.Keyword) (ws : List (List ℕ)) (i : item.Item) → plain_item k ws ≡ Some i → IsSayable actors s i
 unfolding plain_item
-plain_said actors s keywords.Header ws i e = let h : items.Header ≡ i = cc e in say actors s i items.Header (sym h) tt
+plain_said actors s keywords.Header ws i e =
+    let h = map_is (λ version. items.Header version) (version_word (word 1 ws)) i e in
+    say actors s i (items.Header h.0) h.2 (version_said (word 1 ws) h.0 h.1)
 plain_said actors s keywords.Device ws i e =
     let h = map_is (λ name. items.Device name) (name_word (word 1 ws)) i e in
     say actors s i (items.Device h.0) h.2 (name_said (word 1 ws) h.0 h.1)

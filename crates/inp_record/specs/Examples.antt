@@ -33,6 +33,10 @@ header_lines = codes "inputrecord 1" ∷ []
 abbrev pub device_lines : List (List ℕ)
 device_lines = header_lines ++ codes "device d" ∷ []
 
+-- the same under version 2
+abbrev pub later_lines : List (List ℕ)
+later_lines = codes "inputrecord 2" ∷ codes "device d" ∷ []
+
 -- with an actor of each role
 abbrev pub actor_lines : List (List ℕ)
 actor_lines = device_lines ++ codes "source s" ∷ codes "client c" ∷ codes "tap t" ∷ []
@@ -51,7 +55,8 @@ pub record RefusesOtherBytes : Type 0 where
 pub record RefusesHeaders : Type 0 where
   pub none : meaning [] ≡ Err (record { line = 1; cause = BadHeader })
   pub comment_alone : IsRefused 2 BadHeader (codes "#" ∷ [])
-  pub version : IsRefused 1 BadHeader (codes "inputrecord 2" ∷ [])
+  pub version : IsRefused 1 BadHeader (codes "inputrecord 3" ∷ [])
+  pub version_number : IsRefused 1 BadHeader (codes "inputrecord 02" ∷ [])
   pub no_version : IsRefused 1 BadHeader (codes "inputrecord" ∷ [])
   pub more : IsRefused 1 BadHeader (codes "inputrecord 1 1" ∷ [])
   pub device : IsRefused 2 BadHeader (codes "# a device" ∷ codes "device d" ∷ [])
@@ -165,6 +170,8 @@ pub record RefusesDescriptions : Type 0 where
   pub realtime : IsRefused 3 (Caps BadOffset) (device_lines ++ codes "clock realtime 9000000000000001" ∷ [])
   pub boottime : IsRefused 4 (Caps BadOffset) (device_lines ++ codes "clock realtime 1" ∷ codes "clock boottime 9000000000000001" ∷ [])
   pub slots : IsRefused 3 (Caps BadSlots) (device_lines ++ codes "slots 0" ∷ [])
+  pub slots_of_version_1 : IsRefused 3 (Caps BadSlots) (device_lines ++ codes "slots 65" ∷ [])
+  pub slots_of_version_2 : IsRefused 3 (Caps BadSlots) (later_lines ++ codes "slots 257" ∷ [])
   pub type_line : IsRefused 3 (Caps BadCode) (device_lines ++ codes "type 6" ∷ [])
   pub cap : IsRefused 3 (Caps BadCode) (device_lines ++ codes "cap EV_KEY 0" ∷ [])
   pub cap_of_no_kind : IsRefused 3 (Caps BadCode) (device_lines ++ codes "cap 7 5" ∷ [])
@@ -182,6 +189,7 @@ pub record AcceptsLines : Type 0 where
   pub long_name : IsRead (header_lines ++ codes "device abcdefghijklmnopqrstuvwxyz01_-23" ∷ [])
   pub supported_twice : IsRead (device_lines ++ codes "type EV_SYN" ∷ codes "type 0" ∷ codes "cap 1 KEY_A" ∷ codes "cap EV_KEY 30" ∷ codes "cap EV_REP 0" ∷ [])
   pub bounds : IsRead (device_lines ++ codes "hint 0x200" ∷ codes "log 8388608" ∷ codes "clock boottime 9000000000000000" ∷ codes "slots 64" ∷ codes "axis 0x3f -1 -2 -3 1073741824 -4 -5" ∷ [])
+  pub slots_of_version_2 : IsRead (later_lines ++ codes "slots 256" ∷ [])
   pub moment : IsRead (actor_lines ++ codes "do s tick 9000000000000000" ∷ [])
   pub streams : IsRead (device_lines ++ codes "source s" ∷ replicate 16 (codes "do s stream f"))
 
@@ -209,6 +217,7 @@ loose_stroke =
 
 abbrev pub stroke_record : RecordView
 stroke_record = record {
+  version = 1;
   devices = record { name = codes "kbd"; caps = keyboard } ∷ [];
   actors = record { name = codes "s"; role = roles.Source; device = 0 } ∷ record { name = codes "t"; role = roles.Tap; device = 0 } ∷ [];
   lines =
@@ -222,8 +231,9 @@ stroke_record = record {
 
 -- What whole records mean.
 pub record MeansRecords : Type 0 where
-  pub header : meaning (codes "inputrecord 1") ≡ Ok (record { devices = []; actors = []; lines = []; streams = [] })
-  pub device : meaning (text_of device_lines) ≡ Ok (record { devices = record { name = codes "d"; caps = syn_alone } ∷ []; actors = []; lines = []; streams = [] })
+  pub header : meaning (codes "inputrecord 1") ≡ Ok (record { version = 1; devices = []; actors = []; lines = []; streams = [] })
+  pub later_header : meaning (codes "inputrecord 2") ≡ Ok (record { version = 2; devices = []; actors = []; lines = []; streams = [] })
+  pub device : meaning (text_of device_lines) ≡ Ok (record { version = 1; devices = record { name = codes "d"; caps = syn_alone } ∷ []; actors = []; lines = []; streams = [] })
   pub one_key : meaning (text_of stroke_lines) ≡ Ok stroke_record
   pub loose : meaning loose_stroke ≡ Ok stroke_record
 
@@ -232,6 +242,7 @@ abbrev pub AreActions : List (List ℕ) → List (ℕ × command.Command) → Ty
 AreActions lines actions =
     meaning (text_of (actor_lines ++ lines))
     ≡ Ok (record {
+      version = 1;
       devices = record { name = codes "d"; caps = syn_alone } ∷ [];
       actors =
           record { name = codes "s"; role = roles.Source; device = 0 }

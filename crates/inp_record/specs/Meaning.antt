@@ -20,14 +20,14 @@ use Rattle.inp_record.specs.declared.refused.Refused.{Refused}
 use Rattle.inp_record.specs.declared.refused.ParseFault.{ParseFault}
 use Rattle.inp_record.specs.declared.refused.ParseFault.TheVariants as fault
 use Rattle.inp_record.specs.declared.context.Context.{Context}
-use Rattle.inp_record.specs.declared.context.TheConstants.{DEVICES_MAX, SOURCES_MAX, READERS_MAX, STREAMS_MAX}
+use Rattle.inp_record.specs.declared.context.TheConstants.{DEVICES_MAX, SOURCES_MAX, READERS_MAX, STREAMS_MAX, SLOTS_OF_VERSION_1}
 use Rattle.inp_record.specs.declared.keyword.Keyword.{Keyword}
 use Rattle.inp_record.specs.declared.item.Item.{Item}
 use Rattle.inp_record.specs.declared.item.Item.TheVariants.{Device, Hint, Log, Realtime, Boottime, Slots, Kind, Code, Axis, Actor, Action}
 use Rattle.inp_record.specs.Keyword.{keyword_of}
 use Rattle.inp_record.specs.Place.{is_start, is_out_of_place}
 use Rattle.inp_record.specs.Words.{word, is_header, item_of}
-use Rattle.inp_record.specs.Past.{Past, streams_in, with_latest, devices_of, actors_of, lines_of, stream_count, context_of}
+use Rattle.inp_record.specs.Past.{Past, streams_in, version_of, with_latest, devices_of, actors_of, lines_of, stream_count, context_of}
 
 -- the text is there and is this one
 abbrev pub is_text_of : List ℕ → Option (List ℕ) → Bool
@@ -66,6 +66,11 @@ is_too_many c (Actor role name) = has_all c role
 is_too_many c (Action actor command) = nat_lt STREAMS_MAX (c.streams + streams_in command)
 is_too_many c _ = false
 
+-- more slots than a device may have under the record's version
+abbrev pub has_too_many_slots : Context → Item → Bool
+has_too_many_slots c (Slots count) = nat_eq c.version 1 && nat_lt SLOTS_OF_VERSION_1 count
+has_too_many_slots c _ = false
+
 -- why no description can have what a line says
 abbrev pub refusal : Item → Option CapsRefused
 refusal (Hint count) = if nat_le HINT_MIN count && nat_le count HINT_MAX then None else Some BadHint
@@ -95,6 +100,7 @@ checked c (Err cause) = Err cause
 checked c (Ok item) =
     if is_twice c item then Err Twice
     else if is_too_many c item then Err TooMany
+    else if has_too_many_slots c item then Err (Caps BadSlots)
     else unless_refused (refusal item) item
 
 -- what the words of a line with this keyword are, if it may stand there
@@ -139,6 +145,7 @@ behind_lines n (line ∷ lines) past = go_on n (behind_line past line) (λ now. 
 -- the record of a past
 abbrev pub record_of : Past → RecordView
 record_of past = record {
+  version = version_of past;
   devices = devices_of past;
   actors = actors_of past;
   lines = lines_of past;
@@ -152,6 +159,7 @@ closed c = record c { name = None; builder = syn_alone; devices = with_latest c.
 -- the record of what is in a context
 abbrev pub record_in : Context → RecordView
 record_in c = record {
+  version = c.version;
   devices = with_latest c.devices c.name c.builder;
   actors = c.actors;
   lines = c.lines;

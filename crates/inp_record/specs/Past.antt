@@ -23,7 +23,7 @@ Past = List item.Item
 
 -- where a line stands that follows a line of this meaning
 abbrev pub place_after : item.Item → place.Place
-place_after Header = Headed
+place_after (Header version) = Headed
 place_after (Actor role name) = Naming
 place_after (Action actor command) = Acting
 place_after _ = Describing
@@ -33,11 +33,18 @@ abbrev pub place_of : Past → place.Place
 place_of [] = Start
 place_of (item ∷ past) = place_after item
 
+-- the version of the record, 1 before its header
+abbrev pub version_of : Past → ℕ
+version_of [] = 1
+version_of (Header version ∷ past) = version
+version_of (Device name ∷ past) = version_of past
+version_of (_ ∷ past) = version_of past
+
 -- the name of the latest device
 abbrev pub latest_name : Past → Option (List ℕ)
 latest_name [] = None
 latest_name (Device name ∷ past) = Some name
-latest_name (Header ∷ past) = latest_name past
+latest_name (Header version ∷ past) = latest_name past
 latest_name (_ ∷ past) = latest_name past
 
 -- what the lines of the latest device describe
@@ -52,7 +59,7 @@ latest_description (Slots count ∷ past) = record (latest_description past) { s
 latest_description (Kind kind ∷ past) = with_kind (latest_description past) kind
 latest_description (Code kind code ∷ past) = with_code (with_kind (latest_description past) kind) kind code
 latest_description (Axis code info ∷ past) = with_axis (with_kind (latest_description past) EV_ABS) code info
-latest_description (Header ∷ past) = latest_description past
+latest_description (Header version ∷ past) = latest_description past
 latest_description (_ ∷ past) = latest_description past
 
 -- the latest device gave a hint
@@ -60,21 +67,21 @@ abbrev pub has_hint : Past → Bool
 has_hint [] = false
 has_hint (Device name ∷ past) = false
 has_hint (Hint count ∷ past) = true
-has_hint (Header ∷ past) = has_hint past
+has_hint (Header version ∷ past) = has_hint past
 has_hint (_ ∷ past) = has_hint past
 
 abbrev pub has_log : Past → Bool
 has_log [] = false
 has_log (Device name ∷ past) = false
 has_log (Log count ∷ past) = true
-has_log (Header ∷ past) = has_log past
+has_log (Header version ∷ past) = has_log past
 has_log (_ ∷ past) = has_log past
 
 abbrev pub has_slots : Past → Bool
 has_slots [] = false
 has_slots (Device name ∷ past) = false
 has_slots (Slots count ∷ past) = true
-has_slots (Header ∷ past) = has_slots past
+has_slots (Header version ∷ past) = has_slots past
 has_slots (_ ∷ past) = has_slots past
 
 -- the offset that the latest device gave for the realtime clock
@@ -82,14 +89,14 @@ abbrev pub realtime_of : Past → Option ℕ
 realtime_of [] = None
 realtime_of (Device name ∷ past) = None
 realtime_of (Realtime offset ∷ past) = Some offset
-realtime_of (Header ∷ past) = realtime_of past
+realtime_of (Header version ∷ past) = realtime_of past
 realtime_of (_ ∷ past) = realtime_of past
 
 abbrev pub boottime_of : Past → Option ℕ
 boottime_of [] = None
 boottime_of (Device name ∷ past) = None
 boottime_of (Boottime offset ∷ past) = Some offset
-boottime_of (Header ∷ past) = boottime_of past
+boottime_of (Header version ∷ past) = boottime_of past
 boottime_of (_ ∷ past) = boottime_of past
 
 -- the axes that the latest device described, in line order
@@ -97,7 +104,7 @@ abbrev pub axes_of : Past → List ℕ
 axes_of [] = []
 axes_of (Device name ∷ past) = []
 axes_of (Axis code info ∷ past) = axes_of past ++ code ∷ []
-axes_of (Header ∷ past) = axes_of past
+axes_of (Header version ∷ past) = axes_of past
 axes_of (_ ∷ past) = axes_of past
 
 -- how many sources the latest device has
@@ -105,7 +112,7 @@ abbrev pub source_count : Past → ℕ
 source_count [] = 0
 source_count (Device name ∷ past) = 0
 source_count (Actor role name ∷ past) = source_count past + (if is_source role then 1 else 0)
-source_count (Header ∷ past) = source_count past
+source_count (Header version ∷ past) = source_count past
 source_count (_ ∷ past) = source_count past
 
 -- how many clients and taps the latest device has
@@ -113,7 +120,7 @@ abbrev pub reader_count : Past → ℕ
 reader_count [] = 0
 reader_count (Device name ∷ past) = 0
 reader_count (Actor role name ∷ past) = reader_count past + (if is_source role then 0 else 1)
-reader_count (Header ∷ past) = reader_count past
+reader_count (Header version ∷ past) = reader_count past
 reader_count (_ ∷ past) = reader_count past
 
 -- a device with this name, if there is one, behind those before it
@@ -125,7 +132,7 @@ with_latest former (Some name) described = former ++ record { name = name; caps 
 abbrev pub former_devices : Past → List DeviceText
 former_devices [] = []
 former_devices (Device name ∷ past) = with_latest (former_devices past) (latest_name past) (latest_description past)
-former_devices (Header ∷ past) = former_devices past
+former_devices (Header version ∷ past) = former_devices past
 former_devices (_ ∷ past) = former_devices past
 
 -- all devices
@@ -137,13 +144,13 @@ abbrev pub actors_of : Past → List ActorText
 actors_of [] = []
 actors_of (Actor role name ∷ past) =
     actors_of past ++ record { name = name; role = role; device = length (former_devices past) } ∷ []
-actors_of (Header ∷ past) = actors_of past
+actors_of (Header version ∷ past) = actors_of past
 actors_of (_ ∷ past) = actors_of past
 
 abbrev pub lines_of : Past → List line.Line
 lines_of [] = []
 lines_of (Action actor command ∷ past) = lines_of past ++ record { actor = actor; command = command } ∷ []
-lines_of (Header ∷ past) = lines_of past
+lines_of (Header version ∷ past) = lines_of past
 lines_of (_ ∷ past) = lines_of past
 
 -- how many streams a command takes
@@ -155,7 +162,7 @@ streams_in _ = 0
 abbrev pub stream_count : Past → ℕ
 stream_count [] = 0
 stream_count (Action actor command ∷ past) = stream_count past + streams_in command
-stream_count (Header ∷ past) = stream_count past
+stream_count (Header version ∷ past) = stream_count past
 stream_count (_ ∷ past) = stream_count past
 
 -- what a device gave that gave nothing
@@ -166,6 +173,7 @@ no_given = record { hint = false; log = false; slots = false; realtime = None; b
 abbrev pub context_of : Past → Context
 context_of past = record {
   place = place_of past;
+  version = version_of past;
   name = latest_name past;
   builder = latest_description past;
   given = record {

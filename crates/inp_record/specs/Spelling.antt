@@ -19,7 +19,7 @@ use Rattle.inp_record.specs.Meaning.{meaning}
 
 -- the words by which a line says this, where the actors are these
 abbrev pub item_words : List ActorText → Item → Words
-item_words actors Header = codes "inputrecord" ∷ codes "1" ∷ []
+item_words actors (Header version) = codes "inputrecord" ∷ decimal version ∷ []
 item_words actors (Device name) = codes "device" ∷ name ∷ []
 item_words actors (Hint count) = codes "hint" ∷ decimal count ∷ []
 item_words actors (Log count) = codes "log" ∷ decimal count ∷ []
@@ -72,7 +72,7 @@ action_item_of l = Action l.actor l.command
 -- what the lines of the canonical text say, in order
 unfoldable pub items_of : RecordView → List Item
 items_of r =
-    Header ∷ (flat_map (device_items r.actors) (enumerate_from 0 r.devices) ++ map action_item_of r.lines)
+    Header r.version ∷ (flat_map (device_items r.actors) (enumerate_from 0 r.devices) ++ map action_item_of r.lines)
 
 -- The canonical text of each record that some bytes are is that record again.
 abbrev pub RoundTrips : Type 0

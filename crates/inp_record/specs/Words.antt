@@ -1,6 +1,6 @@
 -- What the words of a line mean (docs/FORMATS.md, "The lines").
 use Rattle.std.specs.Borrow.{Bor}
-use Rattle.std.specs.Prelude.{ℕ, suc, ◌+◌, ◌-◌, ◌^◌, ℤ, map, Bool, true, false, ◌&&◌, if◌then◌else◌, nat_eq, List, [], ◌∷◌, codes, bytes_eq, length, slice_index_or, Option, Some, None, option_map, option_and_then, Result, Ok, Err}
+use Rattle.std.specs.Prelude.{ℕ, suc, ◌+◌, ◌-◌, ◌^◌, ℤ, map, Bool, true, false, ◌&&◌, if◌then◌else◌, nat_eq, List, [], ◌∷◌, codes, bytes_eq, length, slice_index_or, Option, Some, None, is_some, option_map, option_and_then, Result, Ok, Err}
 use Rattle.inp_model.specs.declared.event.TheConstants.{EV_ABS}
 use Rattle.inp_model.specs.declared.stamped.TheConstants.{MOMENT_MAX}
 use Rattle.inp_model.specs.declared.stamped.Stamped.{Stamped}
@@ -34,9 +34,13 @@ word i ws = slice_index_or ws i []
 abbrev pub has_word : List (List ℕ) → ℕ → List ℕ → Bool
 has_word ws i wanted = bytes_eq (word i ws) wanted
 
--- inputrecord 1
+-- the version that a word names, if there is one
+abbrev pub version_word : List ℕ → Option ℕ
+version_word w = if bytes_eq w (codes "1") then Some 1 else if bytes_eq w (codes "2") then Some 2 else None
+
+-- inputrecord and a version
 abbrev pub is_header : List (List ℕ) → Bool
-is_header ws = nat_eq (length ws) 2 && has_word ws 0 (codes "inputrecord") && has_word ws 1 (codes "1")
+is_header ws = nat_eq (length ws) 2 && has_word ws 0 (codes "inputrecord") && is_some (version_word (word 1 ws))
 
 abbrev pub name_word : List ℕ → Option (List ℕ)
 name_word w = if is_name w then Some w else None
@@ -90,7 +94,7 @@ actor_item role w = option_map (λ name. items.Actor role name) (name_word w)
 
 -- the meaning of a line that is no action, if its words have their forms
 unfoldable pub plain_item : keyword.Keyword → List (List ℕ) → Option item.Item
-plain_item keywords.Header ws = Some items.Header
+plain_item keywords.Header ws = option_map (λ version. items.Header version) (version_word (word 1 ws))
 plain_item keywords.Device ws = option_map (λ name. items.Device name) (name_word (word 1 ws))
 plain_item keywords.Hint ws = option_map (λ count. items.Hint count) (count_word (word 1 ws))
 plain_item keywords.Log ws = option_map (λ count. items.Log count) (count_word (word 1 ws))

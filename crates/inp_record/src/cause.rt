@@ -12,7 +12,7 @@ use std::fmt;
 pub enum Cause {
     /// A line that is no comment holds a byte other than a tab and printable ASCII.
     NotText,
-    /// The first line that is not blank and no comment is not `inputrecord 1`, or there is none.
+    /// The first line that is not blank and no comment is neither `inputrecord 1` nor `inputrecord 2`, or there is none.
     BadHeader,
     /// The first word begins no line, or the line has another number of words.
     BadLine,

@@ -4,7 +4,7 @@ ghost use Rattle.std.specs.List.{list_any};
 ghost use Rattle.std.specs.Str.{bytes_eq};
 ghost use Rattle.inp_actors.specs.Record.{IsRecord};
 ghost use Rattle.inp_record.specs.Past.{Past, context_of, no_given, HasRoom, streams_in};
-ghost use Rattle.inp_record.specs.Meaning.{is_twice, is_too_many, is_text_of, has_device, has_all, device_count, IsEntered, closed, record_in};
+ghost use Rattle.inp_record.specs.Meaning.{is_twice, is_too_many, has_too_many_slots, is_text_of, has_device, has_all, device_count, IsEntered, closed, record_in};
 ghost use Rattle.inp_record.specs.declared.item.Item.TheVariants as items;
 
 use crate::Cause;
@@ -39,6 +39,11 @@ pub(crate) const STREAMS_MAX: u32 = 16;
 
 const _: () = prove!(STREAMS_MAX == 2 * 8);
 
+/// The greatest number of slots of a device under version 1 (this project's choice).
+pub(crate) const SLOTS_OF_VERSION_1: u32 = 64;
+
+const _: () = prove!(SLOTS_OF_VERSION_1 == 2 * 32);
+
 /// What the lines of the latest device gave.
 #[derive(Drop)]
 pub(crate) struct Given {
@@ -55,6 +60,8 @@ pub(crate) struct Given {
 pub(crate) struct Context {
     /// Where the next line stands.
     pub(crate) place: Place,
+    /// The version that the header names, 1 before it.
+    pub(crate) version: u32,
     /// The name of the latest device.
     pub(crate) name: Option<Name>,
     /// Its description so far.
@@ -83,6 +90,7 @@ impl Context {
     {
         Context {
             place: Place::Start,
+            version: 1,
             name: None,
             builder: CapsBuilder::new(),
             given: Given::new(alloc),
@@ -105,7 +113,7 @@ impl Context {
         ensures room { OnOk result (HasRoom self.new) }
     {
         match item {
-            Item::Header => self.begin(),
+            Item::Header { version } => self.begin(version),
             Item::Device { name } => self.add_device(alloc, name),
             Item::Actor { role, name } => self.add_actor(role, name),
             Item::Action { actor, command } => self.add_line(actor, command),
@@ -120,12 +128,13 @@ impl Context {
         }
     }
 
-    fn begin(&mut self) -> Result<(), LineFault>
+    fn begin(&mut self, version: u32) -> Result<(), LineFault>
         ensures entered { (past : Past) → self.old ≡ context_of past
-            → IsEntered result past items.Header self.new }
+            → IsEntered result past (items.Header version) self.new }
         ensures room { OnOk result (HasRoom self.old → HasRoom self.new) }
         ensures actors { OnOk result (self.new.actors ≡ self.old.actors) }
     {
+        self.version = version;
         self.place = Place::Headed;
         Ok(())
     }
@@ -383,6 +392,16 @@ impl Context {
         }
     }
 
+    /// Whether a line gives more slots than a device may have under the record's version.
+    pub(crate) fn has_too_many_slots(&self, item: &Item) -> bool
+        ensures { result ≡ has_too_many_slots self.now item.now }
+    {
+        match item {
+            Item::Slots { count } => self.version == 1 && *count > SLOTS_OF_VERSION_1,
+            _ => false,
+        }
+    }
+
     /// Whether the latest device can have no other actor of this role.
     fn has_all(&self, role: Role) -> bool
         ensures { result ≡ has_all self.now role }
@@ -402,12 +421,13 @@ impl Context {
         self.close()?;
         let streams = empty_streams(alloc, self.streams)?;
         let Context {
+            version,
             devices,
             actors,
             lines,
             ..
         } = self;
-        Ok(Record::new(devices, actors, lines, streams))
+        Ok(Record::new(version, devices, actors, lines, streams))
     }
 }
 

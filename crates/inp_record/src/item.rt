@@ -6,7 +6,7 @@ use inp_model::AxisInfo;
 /// What one line means.
 #[derive(Drop)]
 pub(crate) enum Item {
-    Header,
+    Header { version: u32 },
     Device { name: Name },
     Hint { count: u32 },
     Log { count: u32 },

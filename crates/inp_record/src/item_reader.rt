@@ -2,7 +2,7 @@
 ghost use Rattle.std.specs.Prelude.{◌≡◌, ◌+◌, ◌<◌, ◌≤◌, ◌^◌, length, true};
 ghost use Rattle.inp_words.specs.Number.{number};
 ghost use Rattle.inp_record.specs.Keyword.{has_words};
-ghost use Rattle.inp_record.specs.Words.{texts, word, is_header, name_word, count_word, kind_and_code, three_numbers, info_words, offset_item, actor_item, plain_item};
+ghost use Rattle.inp_record.specs.Words.{texts, word, version_word, is_header, name_word, count_word, kind_and_code, three_numbers, info_words, offset_item, actor_item, plain_item};
 
 use crate::item::Item;
 use crate::keyword::Keyword;
@@ -19,13 +19,26 @@ pub(crate) fn word<'a>(words: &[&'a [u8]], place: usize) -> &'a [u8]
     words[place]
 }
 
-/// Whether the words are `inputrecord 1`.
+/// The version that a word names.
+fn version_word(word: &[u8]) -> Option<u32>
+    ensures { result ≡ version_word word.now }
+{
+    if word == b"1".as_slice() {
+        Some(1)
+    } else if word == b"2".as_slice() {
+        Some(2)
+    } else {
+        None
+    }
+}
+
+/// Whether the words are `inputrecord` and a version.
 pub(crate) fn is_header(words: &[&[u8]]) -> bool
     ensures { result ≡ is_header (texts words.now) }
 {
     words.len() == 2
         && word(words, 0) == b"inputrecord".as_slice()
-        && word(words, 1) == b"1".as_slice()
+        && version_word(word(words, 1)).is_some()
 }
 
 /// The name that a word is.
@@ -106,7 +119,10 @@ pub(crate) fn plain_item(keyword: Keyword, words: &[&[u8]]) -> Option<Item>
     ensures { result ≡ plain_item keyword (texts words.now) }
 {
     match keyword {
-        Keyword::Header => Some(Item::Header),
+        Keyword::Header => {
+            let version = version_word(word(words, 1))?;
+            Some(Item::Header { version })
+        }
         Keyword::Device => {
             let name = name_word(word(words, 1))?;
             Some(Item::Device { name })

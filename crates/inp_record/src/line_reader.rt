@@ -16,6 +16,7 @@ use crate::keyword::{Keyword, keyword_of};
 use crate::line_fault::LineFault;
 use crate::place::{Place, is_out_of_place};
 use inp_actors::ActorText;
+use inp_caps::CapsRefused;
 use inp_words::{is_comment, is_text, words};
 use std::alloc::Global;
 
@@ -88,6 +89,9 @@ fn read_words(context: &mut Context, alloc: Global, words: &[&[u8]]) -> Result<(
     }
     if context.is_too_many(&item) {
         return Err(LineFault::Refused(Cause::TooMany));
+    }
+    if context.has_too_many_slots(&item) {
+        return Err(LineFault::Refused(Cause::Caps(CapsRefused::BadSlots)));
     }
     context.enter(alloc, item)
 }

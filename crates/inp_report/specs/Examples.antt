@@ -39,7 +39,7 @@ actor role name = record { name = name; role = role; device = 0 }
 
 -- a record with this device and these actors; a report says nothing of its lines
 abbrev pub record_of : List ℕ → Description → List ActorText → RecordView
-record_of name d actors = record { devices = record { name = name; caps = d } ∷ []; actors = actors; lines = []; streams = [] }
+record_of name d actors = record { version = 1; devices = record { name = name; caps = d } ∷ []; actors = actors; lines = []; streams = [] }
 
 abbrev pub job : ℕ → List Sight → View → Stop → JobView
 job number sight view stop = record { actor = number; sight = sight; view = view; stop = stop }

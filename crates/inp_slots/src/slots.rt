@@ -43,7 +43,7 @@ impl Model for Slots {
 }
 
 impl Slots {
-    /// So many slots, 1 to 64 or 0 for none: no contact in any of them, slot 0 staged and announced.
+    /// So many slots, 1 to 256 or 0 for none: no contact in any of them, slot 0 staged and announced.
     ///
     /// It takes the memory for all slots. `NoMemory` comes where there is none.
     pub fn new(alloc: Global, count: u32) -> Result<Slots, NoMemory>

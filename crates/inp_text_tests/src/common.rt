@@ -49,5 +49,5 @@ pub fn stream_record(alloc: Global) -> Result<Record, NoMemory>
     })?;
     let mut streams = Streams::new(alloc);
     streams.push(Stamps::new(alloc))?;
-    Ok(Record::new(devices, actors, lines, streams))
+    Ok(Record::new(1, devices, actors, lines, streams))
 }

@@ -199,6 +199,7 @@ fn unused_device(alloc: Global) -> Result<Record, NoMemory>
         caps: CapsBuilder::new().build(),
     })?;
     Ok(Record::new(
+        1,
         devices,
         Actors::new(alloc),
         Lines::new(alloc),

@@ -6,6 +6,10 @@ pub returns-clause-keyboard : goal.returns-clause-keyboard
 unfolding computing
 returns-clause-keyboard c = refl
 
+pub returns-clause-version : goal.returns-clause-version
+unfolding computing
+returns-clause-version c = refl
+
 pub returns-clause-slots : goal.returns-clause-slots
 unfolding computing
 returns-clause-slots c = refl

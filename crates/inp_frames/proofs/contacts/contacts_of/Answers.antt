@@ -5,7 +5,7 @@ use Rattle.inp_frames.proofs.contacts.contacts_of.Goals as goal
 
 pub loop-slot-init : goal.loop-slot-init
 loop-slot-init c = record {
-  long = ap (λ (xs : List Bool). length xs) c.new-contacts.ensures.all_false ∙ length-replicate 64 false;
+  long = ap (λ (xs : List Bool). length xs) c.new-contacts.ensures.all_false ∙ length-replicate 256 false;
   before = λ k h. absurd (omega arith);
-  behind = λ k h. ap (λ (xs : List Bool). get_or xs k false) c.new-contacts.ensures.all_false ∙ get_or-replicate 64 k false;
+  behind = λ k h. ap (λ (xs : List Bool). get_or xs k false) c.new-contacts.ensures.all_false ∙ get_or-replicate 256 k false;
 }

@@ -9,7 +9,7 @@ returns-clause-other_bytes c = record { first = refl; blank = refl; two_returns 
 
 pub returns-clause-headers : goal.returns-clause-headers
 unfolding record_computing
-returns-clause-headers c = record { none = refl; comment_alone = refl; version = refl; no_version = refl; more = refl; device = refl; no_keyword = refl }
+returns-clause-headers c = record { none = refl; comment_alone = refl; version = refl; version_number = refl; no_version = refl; more = refl; device = refl; no_keyword = refl }
 
 pub returns-clause-lines : goal.returns-clause-lines
 unfolding record_computing
@@ -41,15 +41,15 @@ returns-clause-more c = record { device = refl; source = refl; stream = refl }
 
 pub returns-clause-descriptions : goal.returns-clause-descriptions
 unfolding record_computing
-returns-clause-descriptions c = record { hint = refl; wide_hint = refl; log = refl; realtime = refl; boottime = refl; slots = refl; type_line = refl; cap = refl; cap_of_no_kind = refl; cap_of_axis = refl; axis_code = refl; axis = refl; slot_fuzz = refl }
+returns-clause-descriptions c = record { hint = refl; wide_hint = refl; log = refl; realtime = refl; boottime = refl; slots = refl; slots_of_version_1 = refl; slots_of_version_2 = refl; type_line = refl; cap = refl; cap_of_no_kind = refl; cap_of_axis = refl; axis_code = refl; axis = refl; slot_fuzz = refl }
 
 pub returns-clause-accepted : goal.returns-clause-accepted
 unfolding record_computing
-returns-clause-accepted c = record { comments = refl; devices = refl; again = refl; name_spaces = refl; long_name = refl; supported_twice = refl; bounds = refl; moment = refl; streams = refl }
+returns-clause-accepted c = record { comments = refl; devices = refl; again = refl; name_spaces = refl; long_name = refl; supported_twice = refl; bounds = refl; slots_of_version_2 = refl; moment = refl; streams = refl }
 
 pub returns-clause-records : goal.returns-clause-records
 unfolding record_computing
-returns-clause-records c = record { header = refl; device = refl; one_key = refl; loose = refl }
+returns-clause-records c = record { header = refl; later_header = refl; device = refl; one_key = refl; loose = refl }
 
 pub returns-clause-actions : goal.returns-clause-actions
 unfolding record_computing

@@ -14,7 +14,7 @@ use Rattle.inp_frames.proofs.input_core.Core.lift_contacts.Goals as goal
 pub loop-slot-init : goal.loop-slot-init
 loop-slot-init g c = record {
   whole = c.into_iter-slot-iterator.ensures.into_iter_gives ∙ c.ones-slot-items.ensures.value;
-  within = subst (λ (xs : List ℕ). All (λ k. k < 64) xs) (sym c.into_iter-slot-iterator.ensures.into_iter_gives) c.ones-slot-items.ensures.within;
+  within = subst (λ (xs : List ℕ). All (λ k. k < 256) xs) (sym c.into_iter-slot-iterator.ensures.into_iter_gives) c.ones-slot-items.ensures.within;
   made = c.requires.made;
   handled = λ r h. Handles-none c.args.caps.now r c.args.now g.F.Frames.takes c.args.self.now c.args.to.now h;
 }
@@ -22,7 +22,7 @@ loop-slot-init g c = record {
 pub loop-slot-preserved : goal.loop-slot-preserved
 loop-slot-preserved g c = record {
   whole = whole-more c.in-Some.slot c.loop-slot.yielded c.loop-slot.slot-iterator c.next.new.self (true_indices c.args.contacts.now) c.in-Some.ensures.steps c.loop-slot.invariant.whole;
-  within = below-rest 64 c.in-Some.slot c.loop-slot.slot-iterator c.next.new.self c.in-Some.ensures.steps c.loop-slot.invariant.within;
+  within = below-rest 256 c.in-Some.slot c.loop-slot.slot-iterator c.next.new.self c.in-Some.ensures.steps c.loop-slot.invariant.within;
   made = c.gather_two.ensures.made;
   handled = λ r h.
       let before = c.loop-slot.invariant.handled r h in

@@ -10,7 +10,7 @@ use Rattle.inp_frames.proofs.input_core.Core.lift_contacts.Given as goal
 abbrev pub invariant-loop-slot : goal.invariant-loop-slot
 invariant-loop-slot g l = record {
   whole : l.yielded ++ l.slot-iterator ≡ true_indices l.contacts;
-  within : All (λ k. k < 64) l.slot-iterator;
+  within : All (λ k. k < 256) l.slot-iterator;
   made : IsFor l.caps l.self;
   handled : (r : List RawItem) → StandsAfter l.caps r l.fn.self
       → Handles l.caps r (flat_map lift_events l.yielded) l.now g.F.Frames.takes l.fn.self l.self l.fn.to l.to;

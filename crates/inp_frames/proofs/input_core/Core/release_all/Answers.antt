@@ -16,7 +16,7 @@ use Rattle.inp_frames.proofs.input_core.Core.release_all.Goals as goal
 pub returns-clause-handled : goal.returns-clause-handled
 returns-clause-handled g c = λ r h.
     let at : StandsAfter c.args.caps.now r (the_view c.self.inside) = subst (StandsAfter c.args.caps.now r) (sym c.self.view_is) h in
-    let few : c.args.caps.now.slots ≤ 64 = omega (arith, c.slots.ensures.slots, c.slots.ensures.range) in
+    let few : c.args.caps.now.slots ≤ 256 = omega (arith, c.slots.ensures.slots, c.slots.ensures.range) in
     let there : (slot : ℕ) → slot < c.args.caps.now.slots → is_set c.contacts_of-contacts.result slot ≡ has_contact c.args.caps.now r slot =
     λ slot l. c.contacts_of-contacts.ensures.there slot (omega (arith, l, c.slots.ensures.slots)) ∙ ap (λ (id : ℤ). not (int_lt id (pos 0))) (at.slots.values slot ABS_MT_TRACKING_ID l refl) in
     let past : (slot : ℕ) → c.args.caps.now.slots ≤ slot → is_set c.contacts_of-contacts.result slot ≡ false =
