@@ -195,7 +195,12 @@ fn an_axis_is_described_anew(rt: HostRuntime) -> Result<(), Fail> {
     let wide = axis_info(10, 200, 8);
     opens(&rt, &mut device, 0, 128);
     inject(&rt, &mut device, 0, &[axis(X, 50), REPORT]);
-    answers(&rt, &mut device, set_axis(0, X, wide), Reply::Done { at: 3 });
+    answers(
+        &rt,
+        &mut device,
+        set_axis(0, X, wide),
+        Reply::Done { at: 3 },
+    );
     let told = Reply::Axis { at: 4, info: wide };
     let query = Step::GetAxis { client: 0, code: X };
     answers(&rt, &mut device, query, told);
@@ -204,7 +209,10 @@ fn an_axis_is_described_anew(rt: HostRuntime) -> Result<(), Fail> {
     finds_nothing(&rt, &mut device, 0, 0);
     inject(&rt, &mut device, 0, &[axis(X, 14), REPORT]);
     let mut out = [NO_EVENT; 4];
-    let read = Step::Read { client: 0, count: 4 };
+    let read = Step::Read {
+        client: 0,
+        count: 4,
+    };
     let given = make(&rt, &mut device, read, &mut out, &mut []);
     assert_eq!(rt; given, Reply::Took { at: 10, count: 2 });
     assert_eq!(rt; (out[0].event, out[1].event), (axis(X, 11), REPORT));
@@ -248,6 +256,11 @@ fn descriptions_are_refused(rt: HostRuntime) -> Result<(), Fail> {
     done(&rt, &mut device, set_axis(0, X, greatest));
     let mut keyboard = Device::new(rt.alloc(), small_keyboard()?)?;
     opens(&rt, &mut keyboard, 0, 64);
-    refuses(&rt, &mut keyboard, set_axis(0, 64, negative), Refusal::BadKind);
+    refuses(
+        &rt,
+        &mut keyboard,
+        set_axis(0, 64, negative),
+        Refusal::BadKind,
+    );
     Ok(())
 }

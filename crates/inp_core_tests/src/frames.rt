@@ -8,8 +8,8 @@ use crate::common::{A, A_DOWN, REPORT, axis, axis_info};
 use inp_caps::{Caps, CapsBuilder, CapsRefused};
 use inp_frames::{Core, Frames};
 use inp_model::{
-    ABS_MT_POSITION_X, ABS_MT_SLOT, AxisInfo, EV_ABS, EV_KEY, EV_REP, EV_SYN, Event, MOMENT_MAX, REP_DELAY,
-    SYN_REPORT,
+    ABS_MT_POSITION_X, ABS_MT_SLOT, AxisInfo, EV_ABS, EV_KEY, EV_REP, EV_SYN, Event, MOMENT_MAX,
+    REP_DELAY, SYN_REPORT,
 };
 use std::alloc::{AllocError, Global};
 use std::test::Fail;
