@@ -109,6 +109,9 @@ def values_of(forms, words):
     return values
 
 
+# An axis: its code, value, minimum, maximum, fuzz, flat and resolution.
+AXIS = "CODE SIGNED SIGNED SIGNED SIGNED SIGNED SIGNED"
+
 # The words behind the first one of each line, but of `do`, which has the forms of its command.
 DESCRIPTION = {
     "hint": "U32",
@@ -117,7 +120,7 @@ DESCRIPTION = {
     "slots": "U32",
     "type": "TYPE",
     "cap": "TYPE CODE",
-    "axis": "CODE SIGNED SIGNED SIGNED SIGNED SIGNED SIGNED",
+    "axis": AXIS,
 }
 ACTORS = {"source": "NAME", "client": "NAME", "tap": "NAME"}
 LINES = {"inputrecord": "FILE", "device": "NAME", **DESCRIPTION, **ACTORS}
@@ -127,6 +130,7 @@ READERS = {
     "mask": "TYPE U16 U64",
     "clock": "CLOCK MOMENT",
     "write": "MOMENT TYPE CODE SIGNED",
+    "setaxis": AXIS,
 }
 COMMANDS = {
     "source": {
