@@ -204,15 +204,6 @@ fn a_description_ends_no_frame(rt: HostRuntime) -> Result<(), Fail> {
         &[
             Action::Inject(0, &[X_50]),
             Action::Describe(axis_info(10, 200, 8)),
-        ],
-        &mut to,
-    );
-    assert!(rt; to.events.is_empty());
-    assert_eq!(rt; core.state().info(X), axis_info(10, 200, 8));
-    play(
-        &mut core,
-        &caps,
-        &[
             Action::Inject(1, &[REPORT]),
             Action::Inject(2, &[X_13, REPORT]),
             Action::Inject(3, &[X_14, REPORT]),
@@ -223,5 +214,6 @@ fn a_description_ends_no_frame(rt: HostRuntime) -> Result<(), Fail> {
     let events = [X_50, REPORT, axis(X, 11), REPORT];
     assert_eq!(rt; to.events.as_slice(), events.as_slice());
     assert_eq!(rt; to.moments.as_slice(), [1, 3].as_slice());
+    assert_eq!(rt; core.state().info(X), axis_info(11, 200, 8));
     Ok(())
 }
