@@ -1,4 +1,6 @@
 //! Keys, events and axes of several tests.
+ghost use Rattle.std.specs.Prelude.{◌≡◌, pos};
+ghost use Rattle.inp_model.specs.declared.event.TheConstants.{EV_ABS, EV_KEY};
 
 use inp_model::{AxisInfo, EV_ABS, EV_KEY, EV_SYN, Event, SYN_DROPPED, SYN_REPORT};
 
@@ -30,7 +32,9 @@ pub const LOSS: Event = Event {
 };
 
 /// An event of a key.
-pub fn key(code: u16, value: i32) -> Event {
+pub fn key(code: u16, value: i32) -> Event
+    ensures event { result ≡ record { kind = EV_KEY; code = code; value = value } }
+{
     Event {
         kind: EV_KEY,
         code,
@@ -39,7 +43,9 @@ pub fn key(code: u16, value: i32) -> Event {
 }
 
 /// An event of an axis.
-pub fn axis(code: u16, value: i32) -> Event {
+pub fn axis(code: u16, value: i32) -> Event
+    ensures event { result ≡ record { kind = EV_ABS; code = code; value = value } }
+{
     Event {
         kind: EV_ABS,
         code,
@@ -48,7 +54,13 @@ pub fn axis(code: u16, value: i32) -> Event {
 }
 
 /// An axis from 0 on that stands at this value.
-pub fn axis_info(value: i32, maximum: i32, fuzz: i32) -> AxisInfo {
+pub fn axis_info(value: i32, maximum: i32, fuzz: i32) -> AxisInfo
+    ensures value { result.value ≡ value }
+    ensures minimum { result.minimum ≡ pos 0 }
+    ensures maximum { result.maximum ≡ maximum }
+    ensures fuzz { result.fuzz ≡ fuzz }
+    ensures rest { (result.flat ≡ pos 0) × (result.resolution ≡ pos 0) }
+{
     AxisInfo {
         value,
         minimum: 0,

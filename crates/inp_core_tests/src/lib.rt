@@ -1,8 +1,8 @@
-//! The tests of the core: of the crates from `inp_bits` to `inp_device`, and of `inp_filter`, `inp_turn` and `inp_port`.
+//! The tests of the core: of the crates from `inp_bits` to `inp_frames` and `inp_ring`.
 //!
 //! A crate with tests is proved twice, once without and once with them. So the crates under test have none of their own:
-//! their tests stand here, over public calls alone, in one file for each crate. `common` has the events and axes that
-//! several files use.
+//! their tests stand here, over public calls alone, in one file for each crate. [`common`] has the events and axes that
+//! several files use, and `inp_device_tests` too.
 #![tactic(auto)]
 
 #[cfg(test)]
@@ -10,15 +10,8 @@ mod bits;
 #[cfg(test)]
 mod caps;
 #[cfg(test)]
-mod client;
-#[cfg(test)]
 mod codes;
-#[cfg(test)]
-mod common;
-#[cfg(test)]
-mod device;
-#[cfg(test)]
-mod filter;
+pub mod common;
 #[cfg(test)]
 mod frames;
 #[cfg(test)]
@@ -26,12 +19,8 @@ mod handles;
 #[cfg(test)]
 mod model;
 #[cfg(test)]
-mod port;
-#[cfg(test)]
 mod ring;
 #[cfg(test)]
 mod slots;
 #[cfg(test)]
 mod state;
-#[cfg(test)]
-mod turn;

@@ -1,8 +1,8 @@
 //! A device with ample memory. What it answers after longer histories is told by its contract, and by the records of
 //! `tests/records`.
 
-use crate::common::{A, A_DOWN, REPORT, axis, axis_info, key};
 use inp_caps::{Caps, CapsBuilder, CapsRefused};
+use inp_core_tests::common::{A, A_DOWN, REPORT, axis, axis_info, key};
 use inp_device::Device;
 use inp_model::{
     ABS_MT_POSITION_X, AxisInfo, EV_KEY, Event, FUZZ_MAX, MOMENT_MAX, Refusal, Reply, Step, Taken,

@@ -2,9 +2,9 @@
 ghost use Rattle.std.specs.Prelude.{◌≡◌, ◌<◌, true};
 ghost use Rattle.inp_model.specs.Past.{has_mask, mask_words};
 
-use crate::common::{A, B, LOSS, REPORT, axis, key};
 use inp_caps::{Caps, CapsBuilder};
 use inp_client::{Clients, OpenRefused};
+use inp_core_tests::common::{A, B, LOSS, REPORT, axis, key};
 use inp_model::{ABS_MT_SLOT, CLIENTS_MAX, Clock, EV_KEY, EV_MSC, EV_REP, EV_SYN, Event, Taken};
 use std::process::Abort;
 use std::test::Fail;

@@ -1,6 +1,6 @@
 //! Filters are made where memory is there, and take frames.
 
-use crate::common::{A, B, REPORT, key};
+use inp_core_tests::common::{A, B, REPORT, key};
 use inp_filter::{Filter, Filters};
 use inp_model::{EV_REL, Event};
 use std::test::Fail;

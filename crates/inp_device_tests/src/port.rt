@@ -3,8 +3,8 @@ ghost use Rattle.std.specs.Prelude.{◌≡◌, ◌≤◌};
 ghost use Rattle.inp_turn.specs.Pass.{view_of};
 ghost use Rattle.inp_port.specs.Port.{IsReadyAt};
 
-use crate::common::{A, A_DOWN, REPORT};
 use inp_caps::{Caps, CapsBuilder, CapsRefused};
+use inp_core_tests::common::{A, A_DOWN, REPORT};
 use inp_device::Device;
 use inp_model::{EV_KEY, Evdev, Reply, Step, Taken};
 use inp_port::{Port, PortClient};

@@ -1,0 +1,18 @@
+//! The tests of the device: of the crates `inp_client`, `inp_device` and `inp_filter`, and of `inp_turn` and `inp_port`, by
+//! which threads share one.
+//!
+//! A crate with tests is proved twice, once without and once with them. So the crates under test have none of their own:
+//! their tests stand here, over public calls alone, in one file for each crate. The events and axes are those of
+//! `inp_core_tests`.
+#![tactic(auto)]
+
+#[cfg(test)]
+mod client;
+#[cfg(test)]
+mod device;
+#[cfg(test)]
+mod filter;
+#[cfg(test)]
+mod port;
+#[cfg(test)]
+mod turn;
