@@ -188,7 +188,8 @@ impl Client {
         ensures number { self.new.number ≡ self.old.number }
         ensures places { self.new.ring.places ≡ self.old.ring.places }
         ensures sound { IsRing (ring_of self.old) → IsRing (ring_of self.new) }
-        ensures entered { IsEntered store.old store.new self.old.ring.events self.new.ring.events number result }
+        ensures entered { IsEntered store.old store.new
+            self.old.ring.events self.new.ring.events number result }
         ensures offered { client_in store.new self.new
             ≡ after_event (cell_at store.old number) holder (client_in store.old self.old) }
     {

@@ -284,7 +284,8 @@ fn offer_events(
     requires moment { now ≤ MOMENT_MAX }
     ensures after { AreShared locations.now slab.new store.new }
     ensures offered { cells_in store.new (clients_in locations.now slab.new)
-        ≡ map (after_offer frame.now now place holder) (cells_in store.old (clients_in locations.now slab.old)) }
+        ≡ map (after_offer frame.now now place holder)
+        (cells_in store.old (clients_in locations.now slab.old)) }
     ensures wanted { wanted (clients_in locations.now slab.new)
         ≡ wanted (clients_in locations.now slab.old) }
     ensures capacity { slab.new.capacity ≡ slab.old.capacity }
@@ -342,7 +343,8 @@ fn enter_each(
     requires cell { entry store.old number ≡ held_by 0 cell }
     requires few { length locations.now ≤ CLIENTS_MAX }
     requires moment { cell.now ≤ MOMENT_MAX }
-    ensures entered { IsEnteredTo (length locations.now) cell holder number locations.now slab.old slab.new store.old store.new result }
+    ensures entered { IsEnteredTo (length locations.now) cell holder number locations.now
+        slab.old slab.new store.old store.new result }
 {
     let mut taken = 0;
     for location in locations {

@@ -216,7 +216,8 @@ impl EventList {
     fn apply(&self, first: usize, end: usize, view: &mut View)
         requires order { first ≤ end }
         requires within { end ≤ length self.now }
-        ensures taken { view.new ≡ view_after_events view.old (take (end - first) (drop first self.now)) }
+        ensures taken { view.new
+            ≡ view_after_events view.old (take (end - first) (drop first self.now)) }
         ensures cells { length view.new.cells ≡ length view.old.cells }
     {
         for index in first..end {

@@ -18,7 +18,8 @@ pub(crate) struct Stamp {
 impl Stamp {
     // The words of the place 0 and the time 0.
     pub(crate) fn new(alloc: Global) -> Result<Stamp, NoMemory>
-        ensures words { IfOk result (λ stamp. string_bytes stamp.words ≡ stamp_text stamp.place stamp.time) }
+        ensures words { IfOk result (λ stamp.
+            string_bytes stamp.words ≡ stamp_text stamp.place stamp.time) }
     {
         let mut stamp = Stamp {
             place: 0,
@@ -33,7 +34,8 @@ impl Stamp {
     #[inline]
     pub(crate) fn push(&mut self, text: &mut String, place: u32, time: u64) -> Result<(), NoMemory>
         requires words { string_bytes self.old.words ≡ stamp_text self.old.place self.old.time }
-        ensures words { OnOk result (string_bytes self.new.words ≡ stamp_text self.new.place self.new.time) }
+        ensures words { OnOk result
+            (string_bytes self.new.words ≡ stamp_text self.new.place self.new.time) }
         ensures pushed { OnOk result
             (string_bytes text.new ≡ string_bytes text.old ++ stamp_text place time) }
     {

@@ -255,7 +255,8 @@ impl Ring {
     fn is_report_at(&self, store: &Store, index: usize) -> bool
         requires within { index < length self.now.numbers }
         requires held { AreHeld store.now self.now.numbers }
-        ensures report { result ≡ is_report (event_of (cell_at store.now (get_or self.now.numbers index 0))) }
+        ensures report { result
+            ≡ is_report (event_of (cell_at store.now (get_or self.now.numbers index 0))) }
     {
         let number = *self.numbers.get(index).unwrap();
         store.get(number).event.is_report()
