@@ -76,14 +76,9 @@ impl MemInput {
         ensures calls { result.calls ≡ no_calls fails }
         ensures piece { result.piece ≡ Some piece }
     {
-        MemInput {
-            files,
-            calls: Calls::new(fails),
-            begun: None,
-            remaining: 0,
-            given: 0,
-            piece: Some(piece),
-        }
+        let mut input = MemInput::new(files, fails);
+        input.piece = Some(piece);
+        input
     }
 
     /// How many calls were at fault: those that were to fail.

@@ -76,13 +76,9 @@ impl MemSink {
         ensures calls { IfOk result (λ sink. sink.calls ≡ no_calls fails) }
         ensures piece { IfOk result (λ sink. sink.piece ≡ Some piece) }
     {
-        let bytes = Vec::with_capacity(alloc, room)?;
-        Ok(MemSink {
-            bytes,
-            room,
-            calls: Calls::new(fails),
-            piece: Some(piece),
-        })
+        let mut sink = MemSink::new(alloc, room, fails)?;
+        sink.piece = Some(piece);
+        Ok(sink)
     }
 
     /// The bytes that were written.
