@@ -1,11 +1,11 @@
--- Which commands a role has, and which numbers a command may have.
-use Rattle.std.specs.Prelude.{Bool, true, false, nat_le}
+-- Which commands a role has, which numbers a command may have, and which stream it takes.
+use Rattle.std.specs.Prelude.{ℕ, Bool, true, false, nat_le, List, [], ◌∷◌, Option, Some, None}
 use Rattle.inp_model.specs.declared.stamped.TheConstants.{MOMENT_MAX}
 use Rattle.inp_actors.specs.declared.role.Role.{Role}
 use Rattle.inp_actors.specs.declared.role.Role.TheVariants.{Source, Client, Tap}
 use Rattle.inp_actors.specs.declared.command.TheConstants.{READ_MAX}
 use Rattle.inp_actors.specs.declared.command.Command.{Command}
-use Rattle.inp_actors.specs.declared.command.Command.TheVariants.{Event, Tick, Inhibit, Uninhibit, Stream, Open, Close, Grab, Ungrab, Revoke, Mask, Clock, Write, SetAxis, Read, Discard, Keys, Switches, Leds, Sounds, SyncSlots, Axis, Slots, Next, Skip, Follow, Force}
+use Rattle.inp_actors.specs.declared.command.Command.TheVariants.{Event, Tick, Inhibit, Uninhibit, Stream, Stream16, Open, Close, Grab, Ungrab, Revoke, Mask, Clock, Write, SetAxis, Read, Discard, Keys, Switches, Leds, Sounds, SyncSlots, Axis, Slots, Next, Skip, Follow, Force}
 
 abbrev pub is_source : Role → Bool
 is_source Source = true
@@ -34,6 +34,7 @@ is_command_of role (Tick moment) = is_source role
 is_command_of role (Inhibit moment) = is_source role
 is_command_of role Uninhibit = is_source role
 is_command_of role (Stream file index) = is_source role
+is_command_of role (Stream16 file index) = is_source role
 is_command_of role Open = is_reading role
 is_command_of role Close = is_reading role
 is_command_of role Grab = is_reading role
@@ -66,3 +67,13 @@ is_in_range (Clock clock moment) = nat_le moment MOMENT_MAX
 is_in_range (Write moment kind code value) = nat_le moment MOMENT_MAX
 is_in_range (Read count) = nat_le count READ_MAX
 is_in_range _ = true
+
+-- the number of the stream that a command takes, if it takes one
+abbrev pub stream_of : Command → List ℕ
+stream_of (Stream file index) = index ∷ []
+stream_of (Stream16 file index) = index ∷ []
+stream_of _ = []
+
+abbrev pub first_of : List ℕ → Option ℕ
+first_of [] = None
+first_of (n ∷ ns) = Some n

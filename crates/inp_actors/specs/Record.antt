@@ -3,14 +3,12 @@ use Rattle.std.specs.Prelude.{◌≡◌, ℕ, ◌^◌, ◌<◌, ◌≤◌, true,
 use Rattle.std.specs.List.{range_with_len}
 use Rattle.inp_model.specs.Injecting.{AreInTime}
 use Rattle.inp_model.specs.declared.stamped.Stamped.{Stamped}
-use Rattle.inp_actors.specs.declared.command.Command.{Command}
-use Rattle.inp_actors.specs.declared.command.Command.TheVariants.{Stream}
 use Rattle.inp_actors.specs.declared.device_text.DeviceText.{DeviceText}
 use Rattle.inp_actors.specs.declared.actor_text.TheConstants.{ACTORS_MAX}
 use Rattle.inp_actors.specs.declared.actor_text.ActorText.{ActorText}
 use Rattle.inp_actors.specs.declared.line.Line.{Line}
 use Rattle.inp_actors.specs.declared.record.TheConstants.{VERSION_MAX}
-use Rattle.inp_actors.specs.Command.{is_command_of, is_in_range}
+use Rattle.inp_actors.specs.Command.{is_command_of, is_in_range, stream_of}
 
 pub record RecordView : Type 0 where
   -- the version of its text
@@ -20,11 +18,6 @@ pub record RecordView : Type 0 where
   pub lines : List Line
   -- the events of each stream command, in line order
   pub streams : List (List Stamped)
-
--- the number of the stream that a command takes, if it takes one
-abbrev pub stream_of : Command → List ℕ
-stream_of (Stream file index) = index ∷ []
-stream_of _ = []
 
 -- the numbers of the streams that lines take, in line order
 abbrev pub streams_of : List Line → List ℕ

@@ -1,6 +1,6 @@
 //! What a line has an actor do.
 ghost use Rattle.std.specs.Prelude.{◌≡◌};
-ghost use Rattle.inp_actors.specs.Command.{is_command_of};
+ghost use Rattle.inp_actors.specs.Command.{is_command_of, stream_of, first_of};
 
 use crate::{FileName, Role};
 use inp_model::{AxisInfo, Clock};
@@ -31,7 +31,13 @@ pub enum Command {
     /// A source ends the inhibition.
     Uninhibit,
     /// A source injects the events of a file, each at its own moment. `index` is the number of the stream in the record.
+    /// The file has records of 24 bytes, as a 64-bit machine has them.
     Stream {
+        file: FileName,
+        index: u32,
+    },
+    /// The same with records of 16 bytes, as a 32-bit machine has them. Streams of both kinds are numbered together.
+    Stream16 {
         file: FileName,
         index: u32,
     },
@@ -116,7 +122,8 @@ impl Command {
             | Command::Tick { .. }
             | Command::Inhibit { .. }
             | Command::Uninhibit
-            | Command::Stream { .. } => role == Role::Source,
+            | Command::Stream { .. }
+            | Command::Stream16 { .. } => role == Role::Source,
             Command::Open
             | Command::Close
             | Command::Grab
@@ -138,6 +145,16 @@ impl Command {
             Command::Next { .. } | Command::Skip { .. } | Command::Follow | Command::Force => {
                 role == Role::Client
             }
+        }
+    }
+
+    /// The number of the stream that it takes, if it takes one.
+    pub fn stream_index(&self) -> Option<u32>
+        ensures index { result ≡ first_of (stream_of self.now) }
+    {
+        match self {
+            Command::Stream { index, .. } | Command::Stream16 { index, .. } => Some(*index),
+            _ => None,
         }
     }
 }

@@ -1,5 +1,5 @@
 -- Bytes are those of the number that they make.
-use Rattle.std.proofs.Common.{◌≡◌, ℕ, zero, suc, ◌+◌, ◌*◌, ◌/◌, ◌%◌, ◌^◌, ◌<◌, ◌≤◌, List, [], ◌∷◌, ◌++◌, length, take, drop, slice_index, refl, sym, ap, ◌∙◌, arith, length-drop, w32, Bool, true, false, ◌||◌, if◌then◌else◌, nat_le, nat_lt, Ok, Err}
+use Rattle.std.proofs.Common.{◌≡◌, ℕ, zero, suc, ◌+◌, ◌*◌, ◌/◌, ◌%◌, ◌^◌, ◌<◌, ◌≤◌, List, [], ◌∷◌, ◌++◌, length, take, drop, slice_index, refl, sym, ap, ◌∙◌, arith, length-drop, append_assoc, ◌-◌, w32, Bool, true, false, ◌||◌, if◌then◌else◌, nat_le, nat_lt, Ok, Err}
 use Rattle.std.proofs.Math.Nat.{div-div-eq-div-mul, pow-succ'}
 use Rattle.std.proofs.Math.Seq.{take-add}
 use Rattle.std.proofs.lemmas.List.{get_or-drop}
@@ -10,9 +10,9 @@ use Rattle.byteorder.specs.Endian.{little_from, little_number, little_bytes}
 use Rattle.byteorder.specs.Numbers.{little_from-cons, little_from-lt}
 use Rattle.inp_model.specs.declared.event.Event.{Event}
 use Rattle.inp_model.specs.declared.stamped.TheConstants.{MOMENT_MAX}
-use Rattle.inp_stream.specs.declared.event_record.TheConstants.{RECORD_LEN, SECOND}
+use Rattle.inp_stream.specs.declared.fields.TheConstants.{SECOND}
 use Rattle.inp_stream.specs.declared.stream_refused.StreamRefused.TheVariants.{Short, BadTime}
-use Rattle.inp_stream.specs.Stream.{seconds_of, microseconds_of, moment_of, event_of, HasOneSpelling}
+use Rattle.inp_stream.specs.Stream.{record_len, seconds_of, microseconds_of, moment_of, event_of, HasOneSpelling}
 
 -- a byte of a number, by the number without its lowest byte
 byte_at-shift : (i x : ℕ) → byte_at (suc i) x ≡ byte_at i (x / 256)
@@ -43,14 +43,29 @@ are_bytes_behind : (xs : List ℕ) (k : ℕ) → ((i : ℕ) → slice_index xs i
 are_bytes_behind xs k f i = let e : slice_index (drop k xs) i ≡ slice_index xs (k + i) = get_or-drop k xs i 0 in omega (arith, f (k + i))
 
 -- the time of a record
-time_of : (bytes : List ℕ) (time : ℕ) → moment_of bytes ≡ time → microseconds_of bytes < SECOND → (time / SECOND ≡ seconds_of bytes) × (time % SECOND ≡ microseconds_of bytes)
-time_of bytes time e h = (omega arith, omega arith)
+time_of : (t : ℕ) (bytes : List ℕ) (time : ℕ) → moment_of t bytes ≡ time → microseconds_of t bytes < SECOND
+    → (time / SECOND ≡ seconds_of t bytes) × (time % SECOND ≡ microseconds_of t bytes)
+time_of t bytes time e h = (omega arith, omega arith)
+
+-- the two halves of a time, and the three pieces of an event
+time_in_pieces : (t : ℕ) (bytes : List ℕ) → take (2 * t) bytes ≡ take t bytes ++ take t (drop t bytes)
+time_in_pieces t bytes = let twice : 2 * t ≡ t + t = omega arith in ap (λ (k : ℕ). take k bytes) twice ∙ take-add t t bytes
+
+event_in_pieces : (xs : List ℕ) → take 8 xs ≡ take 2 xs ++ take 2 (drop 2 xs) ++ take 4 (drop 4 xs)
+event_in_pieces xs = take-add 4 4 xs ∙ ap (λ (l : List ℕ). l ++ take 4 (drop 4 xs)) (take-add 2 2 xs)
 
 -- a record in five pieces
-in_pieces : (bytes : List ℕ) → take 24 bytes ≡ take 8 bytes ++ take 8 (drop 8 bytes) ++ take 2 (drop 16 bytes) ++ take 2 (drop 18 bytes) ++ take 4 (drop 20 bytes)
-in_pieces bytes =
-    take-add 20 4 bytes
-    ∙ ap (λ (l : List ℕ). l ++ take 4 (drop 20 bytes)) (take-add 18 2 bytes ∙ ap (λ (l : List ℕ). l ++ take 2 (drop 18 bytes)) (take-add 16 2 bytes ∙ ap (λ (l : List ℕ). l ++ take 2 (drop 16 bytes)) (take-add 8 8 bytes)))
+in_pieces : (t : ℕ) (bytes : List ℕ)
+    → let xs = drop (2 * t) bytes in take (record_len t) bytes ≡ take t bytes ++ take t (drop t bytes) ++ take 2 xs ++ take 2 (drop 2 xs) ++ take 4 (drop 4 xs)
+in_pieces t bytes =
+    let xs = drop (2 * t) bytes in
+    take-add (2 * t) 8 bytes
+    ∙ ap (λ (l : List ℕ). l ++ take 8 xs) (time_in_pieces t bytes)
+    ∙ ap (λ (l : List ℕ). take t bytes ++ take t (drop t bytes) ++ l) (event_in_pieces xs)
+    ∙ regrouped (take t bytes ++ take t (drop t bytes)) (take 2 xs) (take 2 (drop 2 xs)) (take 4 (drop 4 xs))
+  where
+    regrouped : (a b c d : List ℕ) → a ++ (b ++ c ++ d) ≡ a ++ b ++ c ++ d
+    regrouped a b c d = simp append_assoc
 
 -- what is read was not refused
 not_refused : {V : Type 0} (short bad : Bool) (v w : V) → (if short then Err Short else if bad then Err BadTime else Ok v) ≡ Ok w → (short ≡ false) × (bad ≡ false) × (v ≡ w)
@@ -65,20 +80,24 @@ neither false b h = (refl, h)
 pieces_are : (a b c d g a' b' c' d' g' : List ℕ) → a ≡ a' → b ≡ b' → c ≡ c' → d ≡ d' → g ≡ g' → a ++ b ++ c ++ d ++ g ≡ a' ++ b' ++ c' ++ d' ++ g'
 pieces_are a b c d g a' b' c' d' g' p q r s t = cc
 
-pub one_spelling : HasOneSpelling
-one_spelling bytes event time f e =
-    let h = not_refused (nat_lt (length bytes) RECORD_LEN) (nat_le SECOND (microseconds_of bytes) || nat_lt MOMENT_MAX (moment_of bytes)) (event_of bytes, moment_of bytes) (event, time) e in
-    let micros = neither (nat_le SECOND (microseconds_of bytes)) (nat_lt MOMENT_MAX (moment_of bytes)) h.1 in
-    let size : 24 ≤ length bytes = grind (arith, nat_tests, h.0) in
-    let below : microseconds_of bytes < SECOND = grind (arith, nat_tests, micros.0) in
-    let at = time_of bytes time (ap (λ (p : Event × ℕ). p.1) h.2) below in
-    let is : event_of bytes ≡ event = ap (λ (p : Event × ℕ). p.0) h.2 in
-    let part : (k n : ℕ) → k + n ≤ 24 → little_bytes n (little_number n (drop k bytes)) ≡ take n (drop k bytes) = λ k n q.
-    little_bytes-number n (drop k bytes) (omega (arith, length-drop k bytes)) (are_bytes_behind bytes k f) in
-    let seconds : little_bytes 8 (time / SECOND) ≡ take 8 bytes = ap (little_bytes 8) at.0 ∙ little_bytes-number 8 bytes (omega arith) f in
-    let microseconds : little_bytes 8 (time % SECOND) ≡ take 8 (drop 8 bytes) = ap (little_bytes 8) at.1 ∙ part 8 8 (omega arith) in
-    let kind : little_bytes 2 event.kind ≡ take 2 (drop 16 bytes) = ap (λ (v : Event). little_bytes 2 v.kind) (sym is) ∙ part 16 2 (omega arith) in
-    let code : little_bytes 2 event.code ≡ take 2 (drop 18 bytes) = ap (λ (v : Event). little_bytes 2 v.code) (sym is) ∙ part 18 2 (omega arith) in
-    let number : little_number 4 (drop 20 bytes) < 2 ^ 32 = little_from-lt 0 4 (drop 20 bytes) (are_bytes_behind bytes 20 f) in
-    let value : little_bytes 4 (cast_unsigned w32 event.value) ≡ take 4 (drop 20 bytes) = ap (λ (v : Event). little_bytes 4 (cast_unsigned w32 v.value)) (sym is) ∙ ap (little_bytes 4) (of_z-to_z w32 (little_number 4 (drop 20 bytes)) number) ∙ part 20 4 (omega arith) in
-    in_pieces bytes ∙ sym (pieces_are _ _ _ _ _ _ _ _ _ _ seconds microseconds kind code value)
+pub one_spelling : (t : ℕ) → HasOneSpelling t
+one_spelling t bytes event time f e =
+    let xs = drop (2 * t) bytes in
+    let h = not_refused (nat_lt (length bytes) (record_len t)) (nat_le SECOND (microseconds_of t bytes) || nat_lt MOMENT_MAX (moment_of t bytes)) (event_of xs, moment_of t bytes) (event, time) e in
+    let micros = neither (nat_le SECOND (microseconds_of t bytes)) (nat_lt MOMENT_MAX (moment_of t bytes)) h.1 in
+    let size : 2 * t + 8 ≤ length bytes = grind (arith, nat_tests, h.0) in
+    let below : microseconds_of t bytes < SECOND = grind (arith, nat_tests, micros.0) in
+    let at = time_of t bytes time (ap (λ (p : Event × ℕ). p.1) h.2) below in
+    let is : event_of xs ≡ event = ap (λ (p : Event × ℕ). p.0) h.2 in
+    let are = are_bytes_behind bytes (2 * t) f in
+    let left : length xs ≡ length bytes - 2 * t = length-drop (2 * t) bytes in
+    let part : (k n : ℕ) → k + n ≤ length xs → little_bytes n (little_number n (drop k xs)) ≡ take n (drop k xs) = λ k n q.
+    little_bytes-number n (drop k xs) (omega (arith, length-drop k xs)) (are_bytes_behind xs k are) in
+    let seconds : little_bytes t (time / SECOND) ≡ take t bytes = ap (little_bytes t) at.0 ∙ little_bytes-number t bytes (omega arith) f in
+    let microseconds : little_bytes t (time % SECOND) ≡ take t (drop t bytes) =
+    ap (little_bytes t) at.1 ∙ little_bytes-number t (drop t bytes) (omega (arith, length-drop t bytes)) (are_bytes_behind bytes t f) in
+    let kind : little_bytes 2 event.kind ≡ take 2 xs = ap (λ (v : Event). little_bytes 2 v.kind) (sym is) ∙ little_bytes-number 2 xs (omega arith) are in
+    let code : little_bytes 2 event.code ≡ take 2 (drop 2 xs) = ap (λ (v : Event). little_bytes 2 v.code) (sym is) ∙ part 2 2 (omega arith) in
+    let number : little_number 4 (drop 4 xs) < 2 ^ 32 = little_from-lt 0 4 (drop 4 xs) (are_bytes_behind xs 4 are) in
+    let value : little_bytes 4 (cast_unsigned w32 event.value) ≡ take 4 (drop 4 xs) = ap (λ (v : Event). little_bytes 4 (cast_unsigned w32 v.value)) (sym is) ∙ ap (little_bytes 4) (of_z-to_z w32 (little_number 4 (drop 4 xs)) number) ∙ part 4 4 (omega arith) in
+    in_pieces t bytes ∙ sym (pieces_are _ _ _ _ _ _ _ _ _ _ seconds microseconds kind code value)

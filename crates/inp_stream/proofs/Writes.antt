@@ -1,5 +1,5 @@
 -- One piece written behind another.
-use Rattle.std.proofs.Common.{◌≡◌, ℕ, ◌≤◌, List, [], ◌++◌, length, take, drop, sym, ap, ◌∙◌, arith, append_assoc, length-append, length-drop}
+use Rattle.std.proofs.Common.{◌≡◌, ℕ, ◌+◌, ◌*◌, ◌≤◌, List, [], ◌++◌, length, take, drop, sym, ap, ◌∙◌, arith, append_assoc, length-append, length-drop}
 use Rattle.std.proofs.lemmas.List.{append-nil, take_all, drop_all, take_at, drop_at}
 use borrow.Rule.Slice.PartMut.{put_mid, mid_of}
 
@@ -16,28 +16,28 @@ step : (x w f rest b : List ℕ) (a k n : ℕ) → x ≡ f ++ rest → length f 
 step x w f rest b a k n e p q r h g = rw (g, e) (behind f rest b a k n p q r h)
 
 -- five pieces of a record, one behind another
-pub written : (out w1 w2 w3 w4 w5 b1 b2 b3 b4 b5 : List ℕ) → length out ≡ 24
-    → length b1 ≡ 8 → length b2 ≡ 8 → length b3 ≡ 2 → length b4 ≡ 2 → length b5 ≡ 4
-    → w1 ≡ b1 ++ drop 8 out
-    → w2 ≡ b2 ++ drop 8 (mid_of 8 16 w1)
-    → w3 ≡ b3 ++ drop 2 (mid_of 16 8 (put_mid 8 16 w1 w2))
-    → w4 ≡ b4 ++ drop 2 (mid_of 18 6 (put_mid 16 8 (put_mid 8 16 w1 w2) w3))
-    → w5 ≡ b5 ++ drop 4 (mid_of 20 4 (put_mid 18 6 (put_mid 16 8 (put_mid 8 16 w1 w2) w3) w4))
-    → put_mid 20 4 (put_mid 18 6 (put_mid 16 8 (put_mid 8 16 w1 w2) w3) w4) w5 ≡ b1 ++ b2 ++ b3 ++ b4 ++ b5
-written out w1 w2 w3 w4 w5 b1 b2 b3 b4 b5 o l1 l2 l3 l4 l5 e1 e2 e3 e4 e5 =
-    let x2 = put_mid 8 16 w1 w2 in
-    let x3 = put_mid 16 8 x2 w3 in
-    let x4 = put_mid 18 6 x3 w4 in
-    let r1 = drop 8 out in let r2 = drop 8 r1 in let r3 = drop 2 r2 in let r4 = drop 2 r3 in
-    let k1 : length r1 ≡ 16 = omega (arith, length-drop 8 out) in
-    let k2 : length r2 ≡ 8 = omega (arith, length-drop 8 r1) in
+pub written : (t : ℕ) (out w1 w2 w3 w4 w5 b1 b2 b3 b4 b5 : List ℕ) → length out ≡ 2 * t + 8
+    → length b1 ≡ t → length b2 ≡ t → length b3 ≡ 2 → length b4 ≡ 2 → length b5 ≡ 4
+    → w1 ≡ b1 ++ drop t out
+    → w2 ≡ b2 ++ drop t (mid_of t (t + 8) w1)
+    → w3 ≡ b3 ++ drop 2 (mid_of (2 * t) 8 (put_mid t (t + 8) w1 w2))
+    → w4 ≡ b4 ++ drop 2 (mid_of (2 * t + 2) 6 (put_mid (2 * t) 8 (put_mid t (t + 8) w1 w2) w3))
+    → w5 ≡ b5 ++ drop 4 (mid_of (2 * t + 4) 4 (put_mid (2 * t + 2) 6 (put_mid (2 * t) 8 (put_mid t (t + 8) w1 w2) w3) w4))
+    → put_mid (2 * t + 4) 4 (put_mid (2 * t + 2) 6 (put_mid (2 * t) 8 (put_mid t (t + 8) w1 w2) w3) w4) w5 ≡ b1 ++ b2 ++ b3 ++ b4 ++ b5
+written t out w1 w2 w3 w4 w5 b1 b2 b3 b4 b5 o l1 l2 l3 l4 l5 e1 e2 e3 e4 e5 =
+    let x2 = put_mid t (t + 8) w1 w2 in
+    let x3 = put_mid (2 * t) 8 x2 w3 in
+    let x4 = put_mid (2 * t + 2) 6 x3 w4 in
+    let r1 = drop t out in let r2 = drop t r1 in let r3 = drop 2 r2 in let r4 = drop 2 r3 in
+    let k1 : length r1 ≡ t + 8 = omega (arith, length-drop t out) in
+    let k2 : length r2 ≡ 8 = omega (arith, length-drop t r1) in
     let k3 : length r3 ≡ 6 = omega (arith, length-drop 2 r2) in
     let k4 : length r4 ≡ 4 = omega (arith, length-drop 2 r3) in
-    let f2 : length (b1 ++ b2) ≡ 16 = omega (arith, length-append b1 b2) in
-    let f3 : length (b1 ++ b2 ++ b3) ≡ 18 = omega (arith, length-append (b1 ++ b2) b3) in
-    let f4 : length (b1 ++ b2 ++ b3 ++ b4) ≡ 20 = omega (arith, length-append (b1 ++ b2 ++ b3) b4) in
-    let s2 : x2 ≡ (b1 ++ b2) ++ r2 = step w1 w2 b1 r1 b2 8 16 8 e1 l1 k1 l2 (omega arith) e2 in
-    let s3 : x3 ≡ (b1 ++ b2 ++ b3) ++ r3 = step x2 w3 (b1 ++ b2) r2 b3 16 8 2 s2 f2 k2 l3 (omega arith) e3 in
-    let s4 : x4 ≡ (b1 ++ b2 ++ b3 ++ b4) ++ r4 = step x3 w4 (b1 ++ b2 ++ b3) r3 b4 18 6 2 s3 f3 k3 l4 (omega arith) e4 in
-    let s5 = step x4 w5 (b1 ++ b2 ++ b3 ++ b4) r4 b5 20 4 4 s4 f4 k4 l5 (omega arith) e5 in
+    let f2 : length (b1 ++ b2) ≡ 2 * t = omega (arith, length-append b1 b2) in
+    let f3 : length (b1 ++ b2 ++ b3) ≡ 2 * t + 2 = omega (arith, length-append (b1 ++ b2) b3) in
+    let f4 : length (b1 ++ b2 ++ b3 ++ b4) ≡ 2 * t + 4 = omega (arith, length-append (b1 ++ b2 ++ b3) b4) in
+    let s2 : x2 ≡ (b1 ++ b2) ++ r2 = step w1 w2 b1 r1 b2 t (t + 8) t e1 l1 k1 l2 (omega arith) e2 in
+    let s3 : x3 ≡ (b1 ++ b2 ++ b3) ++ r3 = step x2 w3 (b1 ++ b2) r2 b3 (2 * t) 8 2 s2 f2 k2 l3 (omega arith) e3 in
+    let s4 : x4 ≡ (b1 ++ b2 ++ b3 ++ b4) ++ r4 = step x3 w4 (b1 ++ b2 ++ b3) r3 b4 (2 * t + 2) 6 2 s3 f3 k3 l4 (omega arith) e4 in
+    let s5 = step x4 w5 (b1 ++ b2 ++ b3 ++ b4) r4 b5 (2 * t + 4) 4 4 s4 f4 k4 l5 (omega arith) e5 in
     s5 ∙ ap (λ (r : List ℕ). (b1 ++ b2 ++ b3 ++ b4 ++ b5) ++ r) (drop_all 4 r4 (omega arith)) ∙ append-nil (b1 ++ b2 ++ b3 ++ b4 ++ b5)
