@@ -131,6 +131,15 @@ impl Record {
         *self.streams.allocator()
     }
 
+    /// Makes this the version of its text, 1 or 2. All else of the record stays, also what only the other version can
+    /// say. It takes no memory.
+    pub fn set_version(&mut self, version: u32)
+        requires range { (1 ≤ version) × (version ≤ VERSION_MAX) }
+        ensures version { self.new ≡ record self.old { version = version } }
+    {
+        self.version = version;
+    }
+
     /// Makes these the events of the stream of this number. All else of the record stays. It takes no memory.
     pub fn set_stream(&mut self, index: usize, stamps: Stamps)
         requires within { index < length self.old.streams }

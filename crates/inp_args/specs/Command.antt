@@ -24,9 +24,9 @@ file = new_rule (codes "FILE")
 abbrev pub no_arguments : App
 no_arguments = on_top (λ s. record s { no_binary_name = true; disable_help_flag = true }) (new_app (codes "inputplay"))
 
--- the flags `--threads` and `--history`
+-- the flags `--threads`, `--history` and `--migrate`
 abbrev pub with_flags : App
-with_flags = with_rule (with_rule no_arguments (flag (codes "threads"))) (flag (codes "history"))
+with_flags = with_rule (with_rule (with_rule no_arguments (flag (codes "threads"))) (flag (codes "history"))) (flag (codes "migrate"))
 
 -- the options `--idle`, `--make` and `--count`
 abbrev pub with_options : App

@@ -1,6 +1,6 @@
 -- What words ask for, worked out by hand.
 use Rattle.std.specs.Prelude.{◌≡◌, ℕ, true, false, List, [], ◌∷◌, Some, None, codes}
-use Rattle.inp_args.specs.declared.request.Request.TheVariants.{Play, Make}
+use Rattle.inp_args.specs.declared.request.Request.TheVariants.{Play, Migrate, Make}
 use Rattle.inp_args.specs.Request.{requested}
 
 abbrev pub Words : Type 0
@@ -42,6 +42,21 @@ abbrev pub MakesRecords : Type 0
 MakesRecords =
     Makes (codes "--make" ∷ codes "7" ∷ []) 7 100 × Makes (codes "--make" ∷ codes "7" ∷ codes "--count" ∷ codes "20" ∷ []) 7 20
     × Makes (codes "--make=7" ∷ codes "--count=5" ∷ []) 7 5 × Makes (codes "--count" ∷ codes "5" ∷ codes "--make" ∷ codes "7" ∷ []) 7 5
+
+-- a file is migrated; the flag stands before it or behind it
+abbrev pub MigratesFiles : Type 0
+MigratesFiles =
+    (requested (codes "--migrate" ∷ codes "f" ∷ []) ≡ Some (Migrate (codes "f"))) × (requested (codes "f" ∷ codes "--migrate" ∷ []) ≡ Some (Migrate (codes "f")))
+    × (requested (codes "--migrate" ∷ codes "--" ∷ codes "--threads" ∷ []) ≡ Some (Migrate (codes "--threads")))
+
+-- no file, and what belongs to a play or to a record that is made, also where its number is right
+abbrev pub RefusesMigrations : Type 0
+RefusesMigrations =
+    IsRefused (codes "--migrate" ∷ []) × IsRefused (codes "--migrate" ∷ codes "--history" ∷ codes "f" ∷ [])
+    × IsRefused (codes "--threads" ∷ codes "--migrate" ∷ codes "f" ∷ []) × IsRefused (codes "--migrate" ∷ codes "f" ∷ codes "--idle" ∷ codes "5" ∷ [])
+    × IsRefused (codes "--migrate" ∷ codes "f" ∷ codes "--count=5" ∷ []) × IsRefused (codes "--migrate" ∷ codes "f" ∷ codes "--make=7" ∷ [])
+    × IsRefused (codes "--migrate" ∷ codes "--make" ∷ codes "7" ∷ []) × IsRefused (codes "--migrate" ∷ codes "f" ∷ codes "g" ∷ [])
+    × IsRefused (codes "--migrate" ∷ codes "--migrate" ∷ codes "f" ∷ []) × IsRefused (codes "--migrate=2" ∷ codes "f" ∷ [])
 
 -- the numbers at their bounds, and those that begin with a plus or with zeros
 abbrev pub ReadsNumbers : Type 0

@@ -1,7 +1,7 @@
 -- What words ask for.
 use Rattle.std.specs.Prelude.{ℕ, ◌≤◌, IfSome, Bool, false, ◌&&◌, List, Option, Some, None, option_and_then, nat_le, if◌then◌else◌, codes}
 use Rattle.inp_args.specs.declared.request.Request.{Request}
-use Rattle.inp_args.specs.declared.request.Request.TheVariants.{Play, Make}
+use Rattle.inp_args.specs.declared.request.Request.TheVariants.{Play, Migrate, Make}
 use Rattle.inp_args.specs.Number.{number_of}
 use Rattle.inp_args.specs.Command.{is_taken, is_given, text_of}
 
@@ -30,10 +30,19 @@ request_of (Some file) None None history idle = Some (Play file history idle)
 request_of None (Some number) count false None = made_of (number_of number) (count_of count)
 request_of _ _ _ _ _ = None
 
+-- what `--migrate` asks for, by the texts of FILE, `--make`, `--count` and `--idle` and by the flags `--history` and
+-- `--threads`: FILE alone may stand beside it
+abbrev pub migration_of : Option (List ℕ) → Option (List ℕ) → Option (List ℕ) → Option (List ℕ) → Bool → Bool → Option Request
+migration_of (Some file) None None None false false = Some (Migrate file)
+migration_of _ _ _ _ _ _ = None
+
 -- the same with the flags, where `--idle` has a number
 abbrev pub request_with : List (List ℕ) → ℕ → Option Request
 request_with words idle =
-    request_of (text_of (codes "FILE") words) (text_of (codes "make") words) (text_of (codes "count") words)
+    if is_given (text_of (codes "migrate") words)
+    then migration_of (text_of (codes "FILE") words) (text_of (codes "make") words) (text_of (codes "count") words)
+    (text_of (codes "idle") words) (is_given (text_of (codes "history") words)) (is_given (text_of (codes "threads") words))
+    else request_of (text_of (codes "FILE") words) (text_of (codes "make") words) (text_of (codes "count") words)
     (is_given (text_of (codes "history") words)) (if is_given (text_of (codes "threads") words) then Some idle else None)
 
 -- what the words after the program's name ask for; nothing where they are not accepted
@@ -41,7 +50,14 @@ abbrev pub requested : List (List ℕ) → Option Request
 requested words =
     if is_taken words then option_and_then (request_with words) (idle_of (text_of (codes "idle") words)) else None
 
+-- the file whose record is asked for
+abbrev pub record_file : Request → Option (List ℕ)
+record_file (Play file history idle) = Some file
+record_file (Migrate file) = Some file
+record_file (Make number count) = None
+
 -- the numbers of a request are in their ranges
 abbrev pub IsInRange : Request → Type 0
 IsInRange (Play file history idle) = IfSome idle (λ n. (1 ≤ n) × (n ≤ 1000000000))
+IsInRange (Migrate file) = Unit {0}
 IsInRange (Make number count) = (1 ≤ count) × (count ≤ 10000)

@@ -45,6 +45,7 @@ fn command<'a>(alloc: Global) -> Result<Command<'a>, AllocError>
         .disable_help_flag(true)
         .arg(flag(alloc, "threads"))?
         .arg(flag(alloc, "history"))?
+        .arg(flag(alloc, "migrate"))?
         .arg(option(alloc, "idle"))?
         .arg(option(alloc, "make"))?
         .arg(option(alloc, "count"))?

@@ -2,7 +2,7 @@
 ghost use Rattle.std.specs.Prelude.{◌≡◌, None, Some, Err, map, string_bytes, IfOk};
 ghost use Rattle.std.specs.Option.{option_copied};
 ghost use Rattle.inp_args.specs.Command.{is_given};
-ghost use Rattle.inp_args.specs.Request.{IsInRange, made_of, request_of, requested};
+ghost use Rattle.inp_args.specs.Request.{IsInRange, made_of, migration_of, request_of, requested};
 ghost use Rattle.inp_args.specs.declared.words_fault.WordsFault.{WordsFault};
 
 use crate::command::matches_in;
@@ -28,10 +28,14 @@ pub fn read_words(alloc: Global, words: &[String]) -> Result<Request, WordsFault
     let file = matches.get_str("FILE");
     let number = matches.get_str("make");
     let count = matches.get_str("count");
+    let bound = matches.get_str("idle");
     let history = is_given(matches.get_str("history"));
-    let idle = idle_of(matches.get_str("idle")).ok_or(WordsFault::Usage)?;
-    let idle = is_given(matches.get_str("threads")).then_some(idle);
-    request_of(alloc, file, number, count, history, idle)
+    let threads = is_given(matches.get_str("threads"));
+    let idle = idle_of(bound).ok_or(WordsFault::Usage)?;
+    if is_given(matches.get_str("migrate")) {
+        return migration_of(alloc, file, number, count, bound, history, threads);
+    }
+    request_of(alloc, file, number, count, history, threads.then_some(idle))
 }
 
 // Whether a flag was given, by its text.
@@ -44,7 +48,32 @@ fn is_given(text: Option<&str>) -> bool
     }
 }
 
-// What the texts of the arguments ask for.
+// What the texts of the arguments ask for beside `--migrate`.
+fn migration_of(
+    alloc: Global,
+    file: Option<&str>,
+    number: Option<&str>,
+    count: Option<&str>,
+    bound: Option<&str>,
+    history: bool,
+    threads: bool,
+) -> Result<Request, WordsFault>
+    ensures request { IfOk result (λ request. migration_of (option_copied file.entry)
+        (option_copied number.entry) (option_copied count.entry) (option_copied bound.entry)
+        history threads ≡ Some request) }
+    ensures usage { result ≡ Err WordsFault.Usage → migration_of (option_copied file.entry)
+        (option_copied number.entry) (option_copied count.entry) (option_copied bound.entry)
+        history threads ≡ None }
+{
+    match (file, number, count, bound) {
+        (Some(file), None, None, None) if !history && !threads => Ok(Request::Migrate {
+            file: FileName::new(String::from_str(alloc, file)?),
+        }),
+        _ => Err(WordsFault::Usage),
+    }
+}
+
+// What the texts of the arguments ask for without it.
 fn request_of(
     alloc: Global,
     file: Option<&str>,

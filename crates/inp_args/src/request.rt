@@ -15,6 +15,11 @@ pub enum Request {
         /// 1,000,000,000.
         idle: Option<u32>,
     },
+    /// The record in a file is written in the newest version of its text, and not played.
+    Migrate {
+        /// The file's name.
+        file: FileName,
+    },
     /// A record is made and played.
     Make {
         /// The number that it is made from.

@@ -2,10 +2,9 @@
 ghost use Rattle.std.specs.Prelude.{◌≡◌};
 ghost use Rattle.inp_args.specs.Usage.{usage_text};
 
-/// The line that says how the program is called, with its line feed. It names all options that are planned;
-/// `--threads` and `--idle` are not accepted yet.
+/// The line that says how the program is called, with its line feed.
 pub fn usage() -> &'static str
     ensures text { result.now ≡ usage_text }
 {
-    "usage: inputplay [--threads] [--history] [--idle N] FILE, or inputplay --make NUMBER [--count COUNT]\n"
+    "usage: inputplay [--threads] [--history] [--idle N] FILE, or inputplay --migrate FILE, or inputplay --make NUMBER [--count COUNT]\n"
 }

@@ -19,6 +19,14 @@ pub returns-clause-records : goal.returns-clause-records
 unfolding computing
 returns-clause-records c = (refl, refl, refl, refl)
 
+pub returns-clause-migrations : goal.returns-clause-migrations
+unfolding computing
+returns-clause-migrations c = (refl, refl, refl)
+
+pub returns-clause-no_migrations : goal.returns-clause-no_migrations
+unfolding computing
+returns-clause-no_migrations c = (refl, refl, refl, refl, refl, refl, refl, refl, refl, refl)
+
 pub returns-clause-numbers : goal.returns-clause-numbers
 unfolding computing
 returns-clause-numbers c = (refl, refl, refl, refl)
