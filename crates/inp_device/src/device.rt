@@ -1,12 +1,12 @@
 //! The device.
-ghost use Rattle.std.specs.Prelude.{◌≡◌, ◌≤◌, [], length, reverse, IfOk, ◌↔◌, sum_by, All};
+ghost use Rattle.std.specs.Prelude.{◌≡◌, ◌≤◌, false, [], length, reverse, IfOk, ◌↔◌, sum_by, All};
 ghost use Rattle.inp_model.specs.declared.limits.TheConstants.{LOG_MAX};
 ghost use Rattle.inp_model.specs.declared.stamped.TheConstants.{MOMENT_MAX};
 ghost use Rattle.inp_model.specs.History.{IsHistory};
 ghost use Rattle.inp_model.specs.Past.{open_clients};
 ghost use Rattle.inp_model.specs.Queue.{queue};
 ghost use Rattle.inp_model.specs.Step.{moment_of};
-ghost use Rattle.inp_model.specs.Reply.{HasRoom, IsDeviceStep};
+ghost use Rattle.inp_model.specs.Reply.{HasRoom, IsDeviceStep, is_accepted};
 ghost use Rattle.inp_model.specs.Evdev.{agains_after};
 
 use crate::present::Present;
@@ -108,6 +108,11 @@ impl Device {
         ensures agains { self.new.agains ≡ agains_after result self.old.agains }
         ensures accepted { IsHistory self.new.description self.new.past }
         ensures before { IsHistory self.old.description self.old.past }
+
+        // What stands after a step that was not accepted.
+        ensures past_stays { is_accepted result ≡ false → self.new.past ≡ self.old.past }
+        ensures out_stays { is_accepted result ≡ false → out.new ≡ out.old }
+        ensures cells_stay { is_accepted result ≡ false → cells.new ≡ cells.old }
     {
         if let Some(reply) = self.present.refusal(&self.steps, step) {
             self.agains = count_again(reply, self.agains);

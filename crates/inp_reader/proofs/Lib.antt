@@ -24,6 +24,7 @@ pub mod Supported
 pub mod Spares
 pub mod Agreeing
 pub mod Sparing
+pub mod RefusedStarts
 pub mod SayingStands
 pub mod ClientViews
 pub mod Efforts

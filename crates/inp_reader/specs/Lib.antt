@@ -2,6 +2,7 @@ pub mod Talk
 pub mod Synthesis
 pub mod Laws
 pub mod Reading
+pub mod Starting
 pub mod Says
 pub mod Leaving
 pub mod Effort

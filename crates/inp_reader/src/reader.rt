@@ -1,5 +1,5 @@
 //! The reader.
-ghost use Rattle.std.specs.Prelude.{◌≡◌, ◌≤◌, ◌*◌, true, false, [], length, IfOk};
+ghost use Rattle.std.specs.Prelude.{◌≡◌, ◌≤◌, ◌*◌, true, false, [], length, None, IfOk, IfSome};
 ghost use Rattle.inp_recon.specs.View.{first_view};
 ghost use Rattle.inp_reader.specs.declared.phase.Phase.TheVariants.{Plain};
 ghost use Rattle.inp_reader.specs.Says.{Says};
@@ -8,6 +8,7 @@ ghost use Rattle.inp_reader.specs.Effort.{effort, IsLess, is_idle};
 ghost use Rattle.inp_reader.specs.Standing.{Stands, IsAlone, is_needed, has_opened};
 ghost use Rattle.inp_reader.specs.Showing.{AnswerShows};
 ghost use Rattle.inp_reader.specs.Reading.{start_talk, next_talk, with_sync_needed};
+ghost use Rattle.inp_reader.specs.Starting.{client_opened, after_refused_query};
 
 use crate::asker::Asker;
 use crate::calls_made::CallsMade;
@@ -115,6 +116,13 @@ impl Reader {
         ensures stands { Stands (E.told dev.old) self.old
             → IsAlone (E.told dev.old) (E.told dev.new) self.new.reading.client self.new.made
             → Stands (E.told dev.new) self.new }
+
+        // What stands after a refusal: of the open itself, or of a query behind it.
+        ensures open_refused { client_opened self.new.made ≡ None
+            → self.new.reading ≡ self.old.reading }
+        ensures query_refused { has_opened result ≡ false
+            → IfSome (client_opened self.new.made)
+            (λ client. self.new.reading ≡ after_refused_query client self.old.reading) }
     {
         self.session.asker.made.clear();
         self.session.start(dev, &self.caps)

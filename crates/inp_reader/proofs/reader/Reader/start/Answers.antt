@@ -1,7 +1,10 @@
-use Rattle.std.proofs.Common.{ap, sym, subst, ◌∙◌, arith, length}
+use Rattle.std.proofs.Common.{◌≡◌, ap, sym, subst, ◌∙◌, arith, length}
+use Rattle.std.specs.Prelude.{IfSome}
 use Rattle.inp_reader.specs.Reading.{ReaderView}
 use Rattle.inp_reader.specs.Session.{reading_of}
 use Rattle.inp_reader.specs.Standing.{Stands}
+use Rattle.inp_reader.specs.Starting.{client_opened, after_refused_query}
+use Rattle.inp_reader.proofs.RefusedStarts.{says-open_refused, says-query_refused}
 use Rattle.inp_reader.proofs.Sparing.{says-keeps_start}
 use Rattle.inp_reader.proofs.SayingStands.{start-opens, start-stands}
 use Rattle.inp_reader.proofs.Leavings.{says-anew, says-left}
@@ -34,3 +37,13 @@ pub returns-clause-stands : goal.returns-clause-stands
 returns-clause-stands g c = λ stood alone.
     start-stands c.self.inside.caps _ _ _ (reading_of c.self.inside.session) (reading_of c.start.new.self) c.start.result (c.requires.description ∙ ap (λ (v : ReaderView). v.description) (sym c.self.view_is)) c.self.invariant.spare (says-anew _ _ _ _ _ _ c.clear.ensures c.start.ensures.says)
     (subst (λ (v : ReaderView). Stands (g.E.Evdev.told c.args.dev.now) v) (sym c.self.view_is) stood) alone
+
+pub returns-clause-open_refused : goal.returns-clause-open_refused
+returns-clause-open_refused g c = λ none.
+    says-open_refused c.self.inside.caps _ _ _ (reading_of c.self.inside.session) (c.start.result, reading_of c.start.new.self) (says-anew _ _ _ _ _ _ c.clear.ensures c.start.ensures.says) none
+    ∙ ap (λ (v : ReaderView). v.reading) c.self.view_is
+
+pub returns-clause-query_refused : goal.returns-clause-query_refused
+returns-clause-query_refused g c = λ unopened.
+    subst (λ (v : ReaderView). IfSome (client_opened c.start.new.self.asker.made) (λ client. reading_of c.start.new.self ≡ after_refused_query client v.reading)) c.self.view_is
+    (says-query_refused c.self.inside.caps _ _ _ (reading_of c.self.inside.session) (c.start.result, reading_of c.start.new.self) (says-anew _ _ _ _ _ _ c.clear.ensures c.start.ensures.says) unopened)
