@@ -13,4 +13,5 @@ pub mod Stored
 pub mod Making
 pub mod Entering
 pub mod Refusing
+pub mod Injecting
 pub mod WordLists
