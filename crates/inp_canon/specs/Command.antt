@@ -3,7 +3,7 @@ use Rattle.std.specs.Prelude.{ℕ, ℤ, [], ◌∷◌, codes, decimal}
 use Rattle.std.specs.Fmt.{signed_decimal}
 use Rattle.inp_model.specs.declared.event.TheConstants.{EV_ABS}
 use Rattle.inp_actors.specs.declared.command.Command as command
-use Rattle.inp_actors.specs.declared.command.Command.TheVariants.{Event, Tick, Inhibit, Uninhibit, Stream, Open, Close, Grab, Ungrab, Revoke, Mask, Clock, Write, SetAxis, Read, Discard, Keys, Switches, Leds, Sounds, SyncSlots, Axis, Slots, Next, Skip, Follow, Force}
+use Rattle.inp_actors.specs.declared.command.Command.TheVariants.{Event, Tick, Inhibit, Uninhibit, Stream, Stream16, Open, Close, Grab, Ungrab, Revoke, Mask, Clock, Write, SetAxis, Read, Discard, Keys, Switches, Leds, Sounds, SyncSlots, Axis, Slots, Next, Skip, Follow, Force}
 use Rattle.inp_texts.specs.Texts.{kind_text, code_text, bits_text, clock_text}
 use Rattle.inp_canon.specs.Words.{Words}
 use Rattle.inp_canon.specs.Device.{info_words}
@@ -20,6 +20,7 @@ command_words (Tick moment) = codes "tick" ∷ decimal moment ∷ []
 command_words (Inhibit moment) = codes "inhibit" ∷ decimal moment ∷ []
 command_words Uninhibit = codes "uninhibit" ∷ []
 command_words (Stream file index) = codes "stream" ∷ file ∷ []
+command_words (Stream16 file index) = codes "stream16" ∷ file ∷ []
 command_words Open = codes "open" ∷ []
 command_words Close = codes "close" ∷ []
 command_words Grab = codes "grab" ∷ []

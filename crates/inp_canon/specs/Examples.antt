@@ -136,6 +136,7 @@ pub record WritesCommands : Type 0 where
   pub inhibit : IsWritten (commands.Inhibit 9) (codes "inhibit 9")
   pub uninhibit : IsWritten commands.Uninhibit (codes "uninhibit")
   pub stream : IsWritten (commands.Stream (codes "a/b.bin") 3) (codes "stream a/b.bin")
+  pub stream16 : IsWritten (commands.Stream16 (codes "a/b.bin") 3) (codes "stream16 a/b.bin")
   pub opening : IsWritten commands.Open (codes "open")
   pub close : IsWritten commands.Close (codes "close")
   pub grab : IsWritten commands.Grab (codes "grab")

@@ -36,6 +36,7 @@ pub(crate) fn push_command(text: &mut String, command: &Command) -> Result<(), N
         Command::Inhibit { moment } => write!(text, " inhibit {moment}\n")?,
         Command::Uninhibit => text.push_str(" uninhibit\n")?,
         Command::Stream { file, .. } => write!(text, " stream {}\n", file.text())?,
+        Command::Stream16 { file, .. } => write!(text, " stream16 {}\n", file.text())?,
         Command::Open => text.push_str(" open\n")?,
         Command::Close => text.push_str(" close\n")?,
         Command::Grab => text.push_str(" grab\n")?,

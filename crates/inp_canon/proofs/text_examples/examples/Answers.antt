@@ -31,6 +31,7 @@ returns-clause-commands c =
       inhibit = refl;
       uninhibit = refl;
       stream = refl;
+      stream16 = refl;
       opening = refl;
       close = refl;
       grab = refl;
