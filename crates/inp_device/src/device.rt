@@ -1,5 +1,5 @@
 //! The device.
-ghost use Rattle.std.specs.Prelude.{◌≡◌, ◌≤◌, ◌<◌, false, [], ◌∷◌, length, reverse, IfOk, ◌↔◌, sum_by, All};
+ghost use Rattle.std.specs.Prelude.{◌≡◌, ◌≤◌, ◌<◌, ◌+◌, false, [], ◌∷◌, length, reverse, IfOk, ◌↔◌, sum_by, All};
 ghost use Rattle.inp_model.specs.declared.limits.TheConstants.{LOG_MAX};
 ghost use Rattle.inp_model.specs.declared.stamped.TheConstants.{MOMENT_MAX};
 ghost use Rattle.inp_model.specs.declared.step.Step.TheVariants.{Inject};
@@ -140,6 +140,7 @@ impl Device {
         ensures from { result.from ≡ length self.old.past }
         ensures count { result.count
             ≡ entered_count self.old.description result.from events.now }
+        ensures within { result.from + result.count ≤ LOG_MAX }
         ensures entered { reverse self.new.past
             ≡ history_with (reverse self.old.past) result.count events.now }
         ensures description { self.new.description ≡ self.old.description }

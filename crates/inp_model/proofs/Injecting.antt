@@ -3,6 +3,7 @@ use Rattle.std.proofs.Common.{◌≡◌, ℕ, zero, suc, ◌+◌, ◌<◌, ◌�
 use Rattle.std.specs.List.{range_with_len}
 use Rattle.std.proofs.lemmas.List.{length-reverse, reverse-reverse, reverse-append, length-map, length-take-le}
 use Rattle.std.proofs.lemmas.Bool.Decides.{nat_tests}
+use Rattle.inp_model.specs.declared.limits.TheConstants.{LOG_MAX}
 use Rattle.inp_model.specs.declared.stamped.Stamped.{Stamped}
 use Rattle.inp_model.specs.declared.injected.Injected.{Injected}
 use Rattle.inp_model.specs.declared.step.Step.{Step}
@@ -270,9 +271,9 @@ history_with-long history count events few =
     ∙ ap (λ (n : ℕ). length history + n) (length-map (take count events) inject_of ∙ length-take-le count events few)
 
 pub evdev_injected : (before after : DeviceView) (events : List Stamped) (injected : Injected) → after.description ≡ before.description → injected.from ≡ length before.past
-    → injected.count ≡ entered_count before.description injected.from events → reverse after.past ≡ history_with (reverse before.past) injected.count events
+    → injected.count ≡ entered_count before.description injected.from events → injected.from + injected.count ≤ LOG_MAX → reverse after.past ≡ history_with (reverse before.past) injected.count events
     → after.agains ≡ before.agains → IsHistory after.description after.past → IsInjectAll (evdev_view before) (evdev_view after) events injected
-evdev_injected before after events injected same from count entered agains history =
+evdev_injected before after events injected same from count within entered agains history =
     let few : injected.count ≤ length events = omega (arith, count) in
     let long : length after.past ≡ length before.past + injected.count =
     sym (length-reverse after.past) ∙ ap length entered ∙ history_with-long (reverse before.past) injected.count events few ∙ ap (λ (n : ℕ). n + injected.count) (length-reverse before.past) in
@@ -284,6 +285,7 @@ evdev_injected before after events injected same from count entered agains histo
       begins = ([], sym (append-nil (reverse before.past)));
       from = from ∙ sym (length-reverse before.past);
       count = count;
+      within = within;
       seen = entered;
       own = ap (range_with_len 0) long ∙ range-append 0 (length before.past) injected.count ∙ ap (λ (n : ℕ). range_with_len 0 (length before.past) ++ range_with_len n injected.count) start;
       agains = agains;

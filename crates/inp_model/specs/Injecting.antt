@@ -1,6 +1,7 @@
 -- What a call leaves that injects many events under one turn (docs/RULES.md, "Places and moments").
-use Rattle.std.specs.Prelude.{◌≡◌, ℕ, suc, ◌-◌, ◌≤◌, min, if◌then◌else◌, nat_lt, List, [], ◌∷◌, ◌++◌, length, map, take, reverse, slice_get, Some}
+use Rattle.std.specs.Prelude.{◌≡◌, ℕ, suc, ◌+◌, ◌-◌, ◌≤◌, min, if◌then◌else◌, nat_lt, List, [], ◌∷◌, ◌++◌, length, map, take, reverse, slice_get, Some}
 use Rattle.std.specs.List.{range_with_len}
+use Rattle.inp_model.specs.declared.limits.TheConstants.{LOG_MAX}
 use Rattle.inp_model.specs.declared.stamped.Stamped.{Stamped}
 use Rattle.inp_model.specs.declared.stamped.TheConstants.{MOMENT_MAX}
 use Rattle.inp_model.specs.declared.injected.Injected.{Injected}
@@ -38,6 +39,8 @@ pub record IsInjectAll (before after : EvdevView) (events : List Stamped) (injec
   pub begins : BeginsWith before.seen found
   pub from : injected.from ≡ length found
   pub count : injected.count ≡ entered_count before.description injected.from events
+  -- no history is longer than the greatest limit that there is
+  pub within : injected.from + injected.count ≤ LOG_MAX
   -- the events follow the history found, in order and with nothing between
   pub seen : after.seen ≡ history_with found injected.count events
   pub own : after.own ≡ before.own ++ range_with_len injected.from injected.count
