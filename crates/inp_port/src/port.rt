@@ -1,9 +1,9 @@
 //! A device that several threads use.
-ghost use Rattle.std.specs.Prelude.{◌≡◌, ◌≤◌, IfOk, IfErr};
+ghost use Rattle.std.specs.Prelude.{◌≡◌, ◌≤◌, false, IfOk, IfErr};
 ghost use mathlib.Core.List.{IsPrefix};
 ghost use Rattle.inp_model.specs.declared.stamped.TheConstants.{MOMENT_MAX};
 ghost use Rattle.inp_model.specs.Step.{moment_of};
-ghost use Rattle.inp_model.specs.Reply.{HasRoom};
+ghost use Rattle.inp_model.specs.Reply.{HasRoom, is_accepted};
 ghost use Rattle.inp_turn.specs.Pass.{view_of};
 ghost use Rattle.inp_turn.specs.PassView.{whole_share, first_view, view_after_split, split_off_view, view_after_join, AreApart, IsEachAddedOnce};
 
@@ -29,6 +29,7 @@ pub struct PortOf<S: Served> {
 pub type Port = PortOf<Device>;
 
 impl<S: Served> PortOf<S> {
+    ghost use Rattle.inp_port.specs.Served.{IsServed};
     ghost use Rattle.inp_port.specs.Turn.{IsServedTurn};
     ghost use Rattle.inp_port.specs.Port.{description_of, shared_of, first_of, IsReadyAt, IsCallBy};
 
@@ -135,6 +136,15 @@ impl<S: Served> PortOf<S> {
             step result out.old out.new cells.old cells.new (view_of pass.new) }
         ensures called { IsCallBy S.made self.now pass.old pass.new
             step result out.old out.new cells.old cells.new }
+
+        // What stands after a step that was not accepted. It was answered from what the pass has seen now.
+        ensures nothing_entered { is_accepted result ≡ false
+            → IsServed S.made (description_of self.now) (view_of pass.new).seen
+            step result out.old out.new cells.old cells.new (view_of pass.new).seen }
+        ensures own_stays { is_accepted result ≡ false
+            → (view_of pass.new).own ≡ (view_of pass.old).own }
+        ensures out_stays { is_accepted result ≡ false → out.new ≡ out.old }
+        ensures cells_stay { is_accepted result ≡ false → cells.new ≡ cells.old }
     {
         let mut held = self.shared.take(rt, pass);
         let reply = held.state.serve(step, out, cells);

@@ -4,6 +4,7 @@ use Rattle.inp_turn.specs.Shared.{name_of}
 use Rattle.inp_turn.specs.Pass.{view_of}
 use Rattle.inp_model.specs.Reply.{is_accepted}
 use Rattle.inp_port.proofs.Turns.{grown-begins, told_call, turn-begins}
+use Rattle.inp_port.proofs.RefusedTurns.{turn-enters_nothing, turn-own_stays, turn-out_stays, turn-cells_stay}
 use Rattle.inp_port.proofs.port.PortOf.call.Goals as goal
 
 pub give-requires-clause-grown : goal.give-requires-clause-grown
@@ -19,3 +20,19 @@ pub returns-clause-called : goal.returns-clause-called
 returns-clause-called g c =
     told_call g.S.Served.made c.args.self.now.caps (name_of c.args.self.now.shared) (view_of c.args.pass.now) (view_of c.give.new.pass) c.args.step c.serve-reply.result c.args.out.now c.serve-reply.new.out c.args.cells.now
     c.serve-reply.new.cells c.args.pass.now.owns_seen (search rules)
+
+pub returns-clause-nothing_entered : goal.returns-clause-nothing_entered
+returns-clause-nothing_entered g c =
+    turn-enters_nothing g.S.Served.made c.args.self.now.caps (view_of c.args.pass.now) (view_of c.give.new.pass) c.args.step c.serve-reply.result c.args.out.now c.serve-reply.new.out c.args.cells.now c.serve-reply.new.cells (search rules)
+
+pub returns-clause-own_stays : goal.returns-clause-own_stays
+returns-clause-own_stays g c =
+    turn-own_stays g.S.Served.made c.args.self.now.caps (view_of c.args.pass.now) (view_of c.give.new.pass) c.args.step c.serve-reply.result c.args.out.now c.serve-reply.new.out c.args.cells.now c.serve-reply.new.cells (search rules)
+
+pub returns-clause-out_stays : goal.returns-clause-out_stays
+returns-clause-out_stays g c =
+    turn-out_stays g.S.Served.made c.args.self.now.caps (view_of c.args.pass.now) (view_of c.give.new.pass) c.args.step c.serve-reply.result c.args.out.now c.serve-reply.new.out c.args.cells.now c.serve-reply.new.cells (search rules)
+
+pub returns-clause-cells_stay : goal.returns-clause-cells_stay
+returns-clause-cells_stay g c =
+    turn-cells_stay g.S.Served.made c.args.self.now.caps (view_of c.args.pass.now) (view_of c.give.new.pass) c.args.step c.serve-reply.result c.args.out.now c.serve-reply.new.out c.args.cells.now c.serve-reply.new.cells (search rules)
