@@ -9,8 +9,8 @@ use Rattle.inp_actors.specs.declared.line.Line.{Line}
 use Rattle.inp_actors.specs.declared.role.Role.{Role}
 use Rattle.inp_actors.specs.declared.command.Command.{Command}
 use Rattle.inp_actors.specs.declared.command.Command.TheVariants.{Open, Follow}
-use Rattle.inp_actors.specs.Command.{is_source, is_client, is_reading, is_command_of, is_in_range}
-use Rattle.inp_actors.specs.Record.{stream_of, streams_of, IsRecord}
+use Rattle.inp_actors.specs.Command.{is_source, is_client, is_reading, is_command_of, is_in_range, stream_of}
+use Rattle.inp_actors.specs.Record.{streams_of, IsRecord}
 use Rattle.inp_make.specs.Generated.{actors, fast, mid, slow, line, frame_events, injected, follows, frame_lines, opens, lines, generated}
 use Rattle.inp_make.proofs.Counts.{length-lines}
 

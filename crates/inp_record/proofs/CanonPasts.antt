@@ -134,6 +134,7 @@ words_accepted past ws i were plain e =
     record {
       sayable = item_said (actors_of past) (stream_count past) p.keyword ws i (actors_named past were) plain p.item;
       in_place = in_place past i (λ s. first_header (context_of past) ws i s h.read) (keyword_allowed (context_of past) ws i p);
+      in_version = h.in_version;
       once = h.once;
       few = h.enough;
       few_slots = h.few_slots;

@@ -7,12 +7,12 @@ use Rattle.inp_caps.specs.declared.caps_refused.CapsRefused.TheVariants.{BadSlot
 use Rattle.inp_actors.specs.declared.actor_text.ActorText.{ActorText}
 use Rattle.inp_words.specs.Line.{lines_of as text_lines}
 use Rattle.inp_record.specs.declared.cause.Cause.{Cause}
-use Rattle.inp_record.specs.declared.cause.Cause.TheVariants.{Twice, TooMany, Caps}
+use Rattle.inp_record.specs.declared.cause.Cause.TheVariants.{BadCommand, Twice, TooMany, Caps}
 use Rattle.inp_record.specs.declared.item.Item.{Item}
 use Rattle.inp_record.specs.declared.item.Item.TheVariants.{Header, Device, Hint, Log, Realtime, Boottime, Slots, Kind, Code, Axis, Actor, Action}
 use Rattle.inp_record.specs.Words.{is_action}
 use Rattle.inp_record.specs.Past.{Past, actors_of, stream_count, context_of}
-use Rattle.inp_record.specs.Meaning.{is_twice, is_too_many, has_too_many_slots, refusal, unless_refused, checked, item_of_words, behind, behind_words, behind_line, go_on, behind_lines}
+use Rattle.inp_record.specs.Meaning.{is_later_command, is_twice, is_too_many, has_too_many_slots, refusal, unless_refused, checked, item_of_words, behind, behind_words, behind_line, go_on, behind_lines}
 use Rattle.inp_record.specs.Spelling.{item_words}
 use Rattle.inp_record.proofs.Sayable.{keyword_for, IsAccepted, AreAccepted}
 use Rattle.inp_record.proofs.CanonLines.{IsPlainLine, ArePlainLines, line_of, lines_cut, line_read, empty_read}
@@ -40,21 +40,21 @@ same_words others actors (Action actor does) h = ap (λ (a : List ActorText). it
 
 -- an item that is accepted behind a past is read there and leaves itself
 
-words_behind : (past : Past) (ws : Words) (i : Item) → IsPlainLine ws → item_of_words (context_of past) ws ≡ Ok i → is_twice (context_of past) i ≡ false → is_too_many (context_of past) i ≡ false → has_too_many_slots (context_of past) i ≡ false → refusal i ≡ None
+words_behind : (past : Past) (ws : Words) (i : Item) → IsPlainLine ws → item_of_words (context_of past) ws ≡ Ok i → is_later_command (context_of past) i ≡ false → is_twice (context_of past) i ≡ false → is_too_many (context_of past) i ≡ false → has_too_many_slots (context_of past) i ≡ false → refusal i ≡ None
     → behind_words past ws ≡ Ok (i ∷ past)
-words_behind past [] i plain read once few few_slots fits = absurd (cc plain.first)
-words_behind past (w ∷ ws) i plain read once few few_slots fits =
+words_behind past [] i plain read known once few few_slots fits = absurd (cc plain.first)
+words_behind past (w ∷ ws) i plain read known once few few_slots fits =
     ap (λ (r : Result Item Cause). behind past (checked (context_of past) r)) read
-    ∙ ap (behind past) (by_tests (is_twice (context_of past) i) (is_too_many (context_of past) i) (has_too_many_slots (context_of past) i) (refusal i) once few few_slots fits)
+    ∙ ap (behind past) (by_tests (is_later_command (context_of past) i) (is_twice (context_of past) i) (is_too_many (context_of past) i) (has_too_many_slots (context_of past) i) (refusal i) known once few few_slots fits)
   where
-    by_tests : (twice many wide : Bool) (why : Option CapsRefused) → twice ≡ false → many ≡ false → wide ≡ false → why ≡ None → (if twice then Err Twice else if many then Err TooMany else if wide then Err (Caps BadSlots) else unless_refused why i) ≡ Ok i
-    by_tests twice many wide why t m w f = rw (t, m, w, f) refl
+    by_tests : (later twice many wide : Bool) (why : Option CapsRefused) → later ≡ false → twice ≡ false → many ≡ false → wide ≡ false → why ≡ None → (if later then Err BadCommand else if twice then Err Twice else if many then Err TooMany else if wide then Err (Caps BadSlots) else unless_refused why i) ≡ Ok i
+    by_tests later twice many wide why l t m w f = rw (l, t, m, w, f) refl
 
 item_behind : (past : Past) (ws : Words) (i : Item) → ws ≡ item_words (actors_of past) i → IsAccepted past i → behind_line past (line_of ws) ≡ Ok (i ∷ past)
 item_behind past ws i same a =
     let plain : IsPlainLine ws = subst (λ (v : Words). IsPlainLine v) (sym same) (item_plain (actors_of past) (stream_count past) i a.sayable) in
     line_read past ws plain
-    ∙ words_behind past ws i plain (ap (item_of_words (context_of past)) same ∙ item_read past i a.sayable a.in_place) a.once a.few a.few_slots a.fits
+    ∙ words_behind past ws i plain (ap (item_of_words (context_of past)) same ∙ item_read past i a.sayable a.in_place) a.in_version a.once a.few a.few_slots a.fits
 
 all_plain : (actors : List ActorText) (items : List Item) (past : Past) → AreAccepted past items → AreBehindActors actors past items → ArePlainLines (map (item_words actors) items)
 all_plain actors [] past a h = tt

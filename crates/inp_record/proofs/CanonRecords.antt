@@ -66,6 +66,7 @@ device_like : (past new : Past) (name : List ℕ) → IsLike past new → IsAcce
 device_like past new name h a = record {
   sayable = a.sayable;
   in_place = rw h.place a.in_place;
+  in_version = refl;
   once = rw (h.former, h.name_is) a.once;
   few = rw (h.former, h.name_is) a.few;
   few_slots = refl;
@@ -76,6 +77,7 @@ actor_like : (past new : Past) (role : Role) (name : List ℕ) → IsLike past n
 actor_like past new role name h a = record {
   sayable = a.sayable;
   in_place = rw h.place a.in_place;
+  in_version = refl;
   once = rw h.actors a.once;
   few = rw (h.sources, h.readers) a.few;
   few_slots = refl;
@@ -86,6 +88,7 @@ action_like : (past new : Past) (actor : ℕ) (command : Command) → IsLike pas
 action_like past new actor command h a = record {
   sayable = rw (h.actors, h.streams) a.sayable;
   in_place = rw h.place a.in_place;
+  in_version = rw h.version a.in_version;
   once = a.once;
   few = rw h.streams a.few;
   few_slots = refl;

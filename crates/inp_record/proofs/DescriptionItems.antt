@@ -140,6 +140,7 @@ kind_accepted : (past : Past) (kind : ℕ) → IsOpen past → is_kind kind ≡ 
 kind_accepted past kind o known = record {
   sayable = grind (arith, nat_tests);
   in_place = in_place past (Kind kind) o.place refl;
+  in_version = refl;
   once = refl;
   few = refl;
   few_slots = refl;
@@ -167,6 +168,7 @@ code_accepted : (past : Past) (kind code : ℕ) → IsOpen past → is_code kind
 code_accepted past kind code o known = record {
   sayable = (grind (arith, nat_tests), grind (arith, nat_tests));
   in_place = in_place past (Code kind code) o.place refl;
+  in_version = refl;
   once = refl;
   few = refl;
   few_slots = refl;
@@ -242,6 +244,7 @@ axis_accepted : (d : Description) (past : Past) (code : ℕ) → IsGathered d �
 axis_accepted d past code g at below within = record {
   sayable = (omega arith, g.axes.said code);
   in_place = in_place past (Axis code (info d code)) at refl;
+  in_version = refl;
   once = not_among code (axes_of past) below;
   few = refl;
   few_slots = refl;
@@ -272,13 +275,13 @@ number_accepted d name past g =
     let real_most : d.realtime ≤ MOMENT_MAX = leb-true d.realtime MOMENT_MAX n.realtime in
     let boot_most : d.boottime ≤ MOMENT_MAX = leb-true d.boottime MOMENT_MAX n.boottime in (
       (
-        record { sayable = omega arith; in_place = (refl, refl); once = refl; few = refl; few_slots = refl; fits = cond-true (nat_le HINT_MIN d.hint && nat_le d.hint HINT_MAX) _ _ n.hint },
+        record { sayable = omega arith; in_place = (refl, refl); in_version = refl; once = refl; few = refl; few_slots = refl; fits = cond-true (nat_le HINT_MIN d.hint && nat_le d.hint HINT_MAX) _ _ n.hint },
         (
-          record { sayable = omega arith; in_place = (refl, refl); once = refl; few = refl; few_slots = refl; fits = cond-true (nat_le 1 d.log_limit && nat_le d.log_limit LOG_MAX) _ _ n.log_limit },
+          record { sayable = omega arith; in_place = (refl, refl); in_version = refl; once = refl; few = refl; few_slots = refl; fits = cond-true (nat_le 1 d.log_limit && nat_le d.log_limit LOG_MAX) _ _ n.log_limit },
           (
-            record { sayable = omega arith; in_place = (refl, refl); once = refl; few = refl; few_slots = refl; fits = cond-true (nat_le d.realtime MOMENT_MAX) _ _ n.realtime },
+            record { sayable = omega arith; in_place = (refl, refl); in_version = refl; once = refl; few = refl; few_slots = refl; fits = cond-true (nat_le d.realtime MOMENT_MAX) _ _ n.realtime },
             (
-              record { sayable = omega arith; in_place = (refl, refl); once = refl; few = refl; few_slots = refl; fits = cond-true (nat_le d.boottime MOMENT_MAX) _ _ n.boottime },
+              record { sayable = omega arith; in_place = (refl, refl); in_version = refl; once = refl; few = refl; few_slots = refl; fits = cond-true (nat_le d.boottime MOMENT_MAX) _ _ n.boottime },
               tt,
             ),
           ),
@@ -298,7 +301,7 @@ slots_accepted : (d : Description) (past : Past) → IsGathered d → has_too_ma
 slots_accepted d past g few_slots fresh o =
     let most : d.slots ≤ SLOTS_MAX = leb-true d.slots SLOTS_MAX g.numbers.slots in
     slots_by past (nat_eq d.slots 0) d.slots o
-    (λ e. record { sayable = omega arith; in_place = in_place past (Slots d.slots) o.place refl; once = fresh; few = refl; few_slots = few_slots; fits = cond-true (nat_le 1 d.slots && nat_le d.slots SLOTS_MAX) _ _ (slots_fit d.slots e g.numbers.slots) })
+    (λ e. record { sayable = omega arith; in_place = in_place past (Slots d.slots) o.place refl; in_version = refl; once = fresh; few = refl; few_slots = few_slots; fits = cond-true (nat_le 1 d.slots && nat_le d.slots SLOTS_MAX) _ _ (slots_fit d.slots e g.numbers.slots) })
 
 -- all sections: the numbers, the slots, the types, the codes, the axes
 

@@ -16,8 +16,8 @@ use Rattle.inp_actors.specs.declared.command.Command.{Command}
 use Rattle.inp_actors.specs.declared.command.Command.TheVariants as commands
 use Rattle.inp_actors.specs.declared.role.Role as role
 use Rattle.inp_actors.specs.declared.role.Role.TheVariants as roles
-use Rattle.inp_actors.specs.Command.{is_command_of, is_in_range, is_source}
-use Rattle.inp_actors.specs.Record.{stream_of, streams_of, AreInTime, IsRecord}
+use Rattle.inp_actors.specs.Command.{is_command_of, is_in_range, is_source, stream_of}
+use Rattle.inp_actors.specs.Record.{streams_of, AreInTime, IsRecord}
 use Rattle.inp_words.specs.Line.{is_comment, is_text, words_of}
 use Rattle.inp_record.specs.declared.cause.Cause.{Cause}
 use Rattle.inp_record.specs.declared.cause.Cause.TheVariants.{NotText}
@@ -182,6 +182,7 @@ actor_added n past r name good place enough =
 
 few_in : (c : Command) → streams_in c ≤ 1
 few_in (commands.Stream file index) = omega arith
+few_in (commands.Stream16 file index) = omega arith
 few_in commands.Open = omega arith
 few_in _ = omega arith
 

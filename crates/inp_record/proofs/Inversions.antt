@@ -18,10 +18,9 @@ use Rattle.inp_actors.specs.declared.role.Role.TheVariants as roles
 use Rattle.inp_actors.specs.declared.command.Command as command
 use Rattle.inp_actors.specs.declared.command.Command.TheVariants as commands
 use Rattle.inp_actors.specs.declared.actor_text.ActorText.{ActorText}
-use Rattle.inp_actors.specs.Command.{is_command_of, is_in_range}
-use Rattle.inp_actors.specs.Record.{stream_of}
+use Rattle.inp_actors.specs.Command.{is_command_of, is_in_range, stream_of}
 use Rattle.inp_record.specs.declared.cause.Cause.{Cause}
-use Rattle.inp_record.specs.declared.cause.Cause.TheVariants.{BadHeader, OutOfPlace, Twice, TooMany, Caps}
+use Rattle.inp_record.specs.declared.cause.Cause.TheVariants.{BadHeader, OutOfPlace, BadCommand, Twice, TooMany, Caps}
 use Rattle.inp_record.specs.declared.context.Context.{Context}
 use Rattle.inp_record.specs.declared.keyword.Keyword as keyword
 use Rattle.inp_record.specs.declared.keyword.Keyword.TheVariants as keywords
@@ -32,9 +31,9 @@ use Rattle.inp_record.specs.declared.item.Item.TheVariants as items
 use Rattle.inp_record.specs.Keyword.{keyword_of}
 use Rattle.inp_record.specs.Place.{is_start, is_out_of_place}
 use Rattle.inp_record.specs.Verb.{is_verb_of, argument_count, with_arguments, verb_of, verb_rows}
-use Rattle.inp_record.specs.Words.{word, version_word, is_header, name_word, count_word, wide_word, moment_word, clock_word, kind_and_code, info_words, stamped_words, offset_item, plain_item, actor_item, plain_command, command_of, actor_from, action_of, action_by, action_with, action_item, item_of, is_stream}
+use Rattle.inp_record.specs.Words.{word, version_word, is_header, name_word, count_word, wide_word, moment_word, clock_word, kind_and_code, info_words, stamped_words, offset_item, plain_item, actor_item, plain_command, command_of, actor_from, action_of, action_by, action_with, action_item, item_of}
 use Rattle.inp_record.specs.Past.{streams_in}
-use Rattle.inp_record.specs.Meaning.{is_twice, is_too_many, has_too_many_slots, refusal, unless_refused, checked, placed, item_of_words}
+use Rattle.inp_record.specs.Meaning.{is_later_command, is_twice, is_too_many, has_too_many_slots, refusal, unless_refused, checked, placed, item_of_words}
 use Rattle.inp_words.specs.Table.{named}
 
 -- what an option holds that is mapped
@@ -49,28 +48,32 @@ and_then_is f (Some x) y e = (x, refl, e)
 -- a line that is read is said once, is not one too many and describes what a device can have
 pub record IsChecked (c : Context) (means : Result item.Item Cause) (i : item.Item) : Type 0 where
   pub read : means ≡ Ok i
+  pub in_version : is_later_command c i ≡ false
   pub once : is_twice c i ≡ false
   pub enough : is_too_many c i ≡ false
   pub few_slots : has_too_many_slots c i ≡ false
   pub allowed : refusal i ≡ None
 
-checked_by : (twice many wide : Bool) (why : Option CapsRefused) (j i : item.Item) → (if twice then Err Twice else if many then Err TooMany else if wide then Err (Caps BadSlots) else unless_refused why j) ≡ Ok i → (twice ≡ false) × (many ≡ false) × (wide ≡ false) × (why ≡ None) × (j ≡ i)
-checked_by true many wide why j i e = absurd (cc e)
-checked_by false true wide why j i e = absurd (cc e)
-checked_by false false true why j i e = absurd (cc e)
-checked_by false false false None j i e = (refl, refl, refl, refl, cc e)
-checked_by false false false (Some why) j i e = absurd (cc e)
+checked_by : (later twice many wide : Bool) (why : Option CapsRefused) (j i : item.Item) → (if later then Err BadCommand else if twice then Err Twice else if many then Err TooMany else if wide then Err (Caps BadSlots) else unless_refused why j) ≡ Ok i
+    → (later ≡ false) × (twice ≡ false) × (many ≡ false) × (wide ≡ false) × (why ≡ None) × (j ≡ i)
+checked_by true twice many wide why j i e = absurd (cc e)
+checked_by false true many wide why j i e = absurd (cc e)
+checked_by false false true wide why j i e = absurd (cc e)
+checked_by false false false true why j i e = absurd (cc e)
+checked_by false false false false None j i e = (refl, refl, refl, refl, refl, cc e)
+checked_by false false false false (Some why) j i e = absurd (cc e)
 
 pub checked_is : (c : Context) (means : Result item.Item Cause) (i : item.Item) → checked c means ≡ Ok i → IsChecked c means i
 checked_is c (Err cause) i e = absurd (cc e)
 checked_is c (Ok j) i e =
-    let h = checked_by (is_twice c j) (is_too_many c j) (has_too_many_slots c j) (refusal j) j i e in
+    let h = checked_by (is_later_command c j) (is_twice c j) (is_too_many c j) (has_too_many_slots c j) (refusal j) j i e in
     record {
-      read = ap (λ (x : item.Item). Ok x) h.4;
-      once = subst (λ (x : item.Item). is_twice c x ≡ false) h.4 h.0;
-      enough = subst (λ (x : item.Item). is_too_many c x ≡ false) h.4 h.1;
-      few_slots = subst (λ (x : item.Item). has_too_many_slots c x ≡ false) h.4 h.2;
-      allowed = subst (λ (x : item.Item). refusal x ≡ None) h.4 h.3;
+      read = ap (λ (x : item.Item). Ok x) h.5;
+      in_version = subst (λ (x : item.Item). is_later_command c x ≡ false) h.5 h.0;
+      once = subst (λ (x : item.Item). is_twice c x ≡ false) h.5 h.1;
+      enough = subst (λ (x : item.Item). is_too_many c x ≡ false) h.5 h.2;
+      few_slots = subst (λ (x : item.Item). has_too_many_slots c x ≡ false) h.5 h.3;
+      allowed = subst (λ (x : item.Item). refusal x ≡ None) h.5 h.4;
     }
 
 -- a line that is read has a keyword that may stand there
@@ -178,6 +181,7 @@ command_is verbs.Inhibit ws c e =
     of_verb verbs.Inhibit c (commands.Inhibit h.0) h.2 (record { role = λ r. refl; range = number_within MOMENT_MAX (word 3 ws) h.0 h.1; stream = λ s. refl })
 command_is verbs.Uninhibit ws c e = let h : commands.Uninhibit ≡ c = cc e in of_verb verbs.Uninhibit c commands.Uninhibit (sym h) (record { role = λ r. refl; range = refl; stream = λ s. refl })
 command_is verbs.Stream ws c e = absurd (cc e)
+command_is verbs.Stream16 ws c e = absurd (cc e)
 command_is verbs.Open ws c e = let h : commands.Open ≡ c = cc e in of_verb verbs.Open c commands.Open (sym h) (record { role = λ r. refl; range = refl; stream = λ s. refl })
 command_is verbs.Close ws c e = let h : commands.Close ≡ c = cc e in of_verb verbs.Close c commands.Close (sym h) (record { role = λ r. refl; range = refl; stream = λ s. refl })
 command_is verbs.Grab ws c e = let h : commands.Grab ≡ c = cc e in of_verb verbs.Grab c commands.Grab (sym h) (record { role = λ r. refl; range = refl; stream = λ s. refl })
@@ -223,35 +227,6 @@ command_is verbs.Skip ws c e =
 command_is verbs.Follow ws c e = let h : commands.Follow ≡ c = cc e in of_verb verbs.Follow c commands.Follow (sym h) (record { role = λ r. refl; range = refl; stream = λ s. refl })
 command_is verbs.Force ws c e = let h : commands.Force ≡ c = cc e in of_verb verbs.Force c commands.Force (sym h) (record { role = λ r. refl; range = refl; stream = λ s. refl })
 
-pub streaming : (v : verb.Verb) → is_stream v ≡ true → v ≡ verbs.Stream
-streaming verbs.Event e = absurd (cc e)
-streaming verbs.Tick e = absurd (cc e)
-streaming verbs.Inhibit e = absurd (cc e)
-streaming verbs.Uninhibit e = absurd (cc e)
-streaming verbs.Stream e = refl
-streaming verbs.Open e = absurd (cc e)
-streaming verbs.Close e = absurd (cc e)
-streaming verbs.Grab e = absurd (cc e)
-streaming verbs.Ungrab e = absurd (cc e)
-streaming verbs.Revoke e = absurd (cc e)
-streaming verbs.Mask e = absurd (cc e)
-streaming verbs.Clock e = absurd (cc e)
-streaming verbs.Write e = absurd (cc e)
-streaming verbs.SetAxis e = absurd (cc e)
-streaming verbs.Read e = absurd (cc e)
-streaming verbs.Discard e = absurd (cc e)
-streaming verbs.Keys e = absurd (cc e)
-streaming verbs.Switches e = absurd (cc e)
-streaming verbs.Leds e = absurd (cc e)
-streaming verbs.Sounds e = absurd (cc e)
-streaming verbs.SyncSlots e = absurd (cc e)
-streaming verbs.Axis e = absurd (cc e)
-streaming verbs.Slots e = absurd (cc e)
-streaming verbs.Next e = absurd (cc e)
-streaming verbs.Skip e = absurd (cc e)
-streaming verbs.Follow e = absurd (cc e)
-streaming verbs.Force e = absurd (cc e)
-
 -- what an action is of these actors, behind so many streams
 pub record IsAct (actors : List ActorText) (streams : ℕ) (actor : ℕ) (c : command.Command) : Type 0 where
   pub who : ActorText
@@ -263,13 +238,9 @@ pub record IsAct (actors : List ActorText) (streams : ℕ) (actor : ℕ) (c : co
 pub command_of_is : (s : ℕ) (v : verb.Verb) (ws : List (List ℕ)) (c : command.Command) → command_of s v ws ≡ Some c
     → ((r : role.Role) → is_command_of r c ≡ is_verb_of r v) × (is_in_range c ≡ true) × (stream_of c ≡ range_with_len s (streams_in c))
 unfolding command_of
-command_of_is s v ws c e = by_stream (is_stream v) refl e
-  where
-    by_stream : (is : Bool) → is_stream v ≡ is → (if is then Some (commands.Stream (word 3 ws) s) else plain_command v ws) ≡ Some c → ((r : role.Role) → is_command_of r c ≡ is_verb_of r v) × (is_in_range c ≡ true) × (stream_of c ≡ range_with_len s (streams_in c))
-    by_stream true h e =
-        let same : commands.Stream (word 3 ws) s ≡ c = cc e in
-        (λ r. rw (← same, streaming v h) refl, rw (← same) refl, rw (← same) refl)
-    by_stream false h e = let f = command_is v ws c e in (f.role, f.range, f.stream s)
+command_of_is s verbs.Stream ws c e = let same : commands.Stream (word 3 ws) s ≡ c = cc e in (λ r. rw (← same) refl, rw (← same) refl, rw (← same) refl)
+command_of_is s verbs.Stream16 ws c e = let same : commands.Stream16 (word 3 ws) s ≡ c = cc e in (λ r. rw (← same) refl, rw (← same) refl, rw (← same) refl)
+command_of_is s v ws c e = let f = command_is v ws c e in (f.role, f.range, f.stream s)
 
 if_some : {A : Type 0} (b : Bool) (x y : A) → (if b then Some x else None) ≡ Some y → (b ≡ true) × (x ≡ y)
 if_some true x y e = (refl, cc e)

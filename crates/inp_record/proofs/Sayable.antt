@@ -18,7 +18,7 @@ use Rattle.inp_record.specs.declared.keyword.Keyword.TheVariants as keywords
 use Rattle.inp_record.specs.Past.{Past, place_of, actors_of, context_of, stream_count}
 use Rattle.inp_record.specs.Place.{is_start, is_out_of_place}
 use Rattle.inp_record.specs.Words.{actor_from}
-use Rattle.inp_record.specs.Meaning.{is_twice, is_too_many, has_too_many_slots, refusal}
+use Rattle.inp_record.specs.Meaning.{is_later_command, is_twice, is_too_many, has_too_many_slots, refusal}
 
 -- the first word of the canonical line of an item
 abbrev pub keyword_for_role : role.Role → keyword.Keyword
@@ -67,6 +67,7 @@ abbrev pub IsSayableCommand : ℕ → command.Command → Type 0
 IsSayableCommand stream (commands.Event moment kind code value) = IsSayableEvent kind code value
 IsSayableCommand stream (commands.Write moment kind code value) = IsSayableEvent kind code value
 IsSayableCommand stream (commands.Stream file index) = IsPlainWord file × (index ≡ stream)
+IsSayableCommand stream (commands.Stream16 file index) = IsPlainWord file × (index ≡ stream)
 IsSayableCommand stream (commands.Mask kind place bits) = (kind ≤ 65535) × (place ≤ 65535) × (bits < 2 ^ 64)
 IsSayableCommand stream (commands.SetAxis code info) = (code ≤ 65535) × IsSayableInfo info
 IsSayableCommand stream (commands.Axis code) = code ≤ 65535
@@ -109,6 +110,7 @@ IsInPlace past i = (is_start (place_of past) ≡ false) × (is_out_of_place (pla
 pub record IsAccepted (past : Past) (i : Item) : Type 0 where
   pub sayable : IsSayable (actors_of past) (stream_count past) i
   pub in_place : IsInPlace past i
+  pub in_version : is_later_command (context_of past) i ≡ false
   pub once : is_twice (context_of past) i ≡ false
   pub few : is_too_many (context_of past) i ≡ false
   pub few_slots : has_too_many_slots (context_of past) i ≡ false

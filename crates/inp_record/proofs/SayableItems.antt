@@ -28,9 +28,9 @@ use Rattle.inp_record.specs.declared.verb.Verb.TheVariants as verbs
 use Rattle.inp_record.specs.declared.item.Item as item
 use Rattle.inp_record.specs.declared.item.Item.TheVariants as items
 use Rattle.inp_record.specs.Verb.{argument_count, is_verb_of, with_arguments, verb_of, verb_rows}
-use Rattle.inp_record.specs.Words.{word, version_word, name_word, count_word, wide_word, moment_word, clock_word, kind_and_code, info_words, stamped_words, offset_item, plain_item, actor_item, plain_command, command_of, is_stream, actor_from, action_by, action_with, action_item, or_bad_word, is_action, item_of}
+use Rattle.inp_record.specs.Words.{word, version_word, name_word, count_word, wide_word, moment_word, clock_word, kind_and_code, info_words, stamped_words, offset_item, plain_item, actor_item, plain_command, command_of, actor_from, action_by, action_with, action_item, or_bad_word, is_action, item_of}
 use Rattle.inp_record.proofs.Good.{or_bad_is}
-use Rattle.inp_record.proofs.Inversions.{map_is, and_then_is, command_of_is, verb_is, action_of_is, streaming}
+use Rattle.inp_record.proofs.Inversions.{map_is, and_then_is, command_of_is, verb_is, action_of_is}
 use Rattle.inp_record.proofs.Sayable.{is_visible, IsPlainWord, IsSayableCommand, IsSayable}
 use Rattle.inp_record.proofs.SayableWords.{number_most, kind_fits, code_fits, info_fits, pair_fits, event_fits}
 
@@ -189,6 +189,7 @@ command_said s verbs.Inhibit ws c e =
     command_say s c (commands.Inhibit h.0) h.2 tt
 command_said s verbs.Uninhibit ws c e = let h : commands.Uninhibit ≡ c = cc e in command_say s c commands.Uninhibit (sym h) tt
 command_said s verbs.Stream ws c e = absurd (cc e)
+command_said s verbs.Stream16 ws c e = absurd (cc e)
 command_said s verbs.Open ws c e = let h : commands.Open ≡ c = cc e in command_say s c commands.Open (sym h) tt
 command_said s verbs.Close ws c e = let h : commands.Close ≡ c = cc e in command_say s c commands.Close (sym h) tt
 command_said s verbs.Grab ws c e = let h : commands.Grab ≡ c = cc e in command_say s c commands.Grab (sym h) tt
@@ -250,14 +251,11 @@ verb_arguments r w count v e = arguments_are r count (named verb_rows w) v e
 
 any_command_said : (s : ℕ) (v : verb.Verb) (ws : List (List ℕ)) (c : command.Command) → ArePlain ws → argument_count v ≡ length ws - 3 → command_of s v ws ≡ Some c → IsSayableCommand s c
 unfolding command_of
-any_command_said s v ws c plain count e = by_stream (is_stream v) refl e
-  where
-    by_stream : (is : Bool) → is_stream v ≡ is → (if is then Some (commands.Stream (word 3 ws) s) else plain_command v ws) ≡ Some c → IsSayableCommand s c
-    by_stream true h e =
-        let same : commands.Stream (word 3 ws) s ≡ c = cc e in
-        let one : argument_count v ≡ 1 = ap argument_count (streaming v h) in
-        command_say s c (commands.Stream (word 3 ws) s) (sym same) (plain_at ws 3 plain (omega arith), refl)
-    by_stream false h e = command_said s v ws c e
+any_command_said s verbs.Stream ws c plain count e =
+    let same : commands.Stream (word 3 ws) s ≡ c = cc e in command_say s c (commands.Stream (word 3 ws) s) (sym same) (plain_at ws 3 plain (omega arith), refl)
+any_command_said s verbs.Stream16 ws c plain count e =
+    let same : commands.Stream16 (word 3 ws) s ≡ c = cc e in command_say s c (commands.Stream16 (word 3 ws) s) (sym same) (plain_at ws 3 plain (omega arith), refl)
+any_command_said s v ws c plain count e = command_said s v ws c e
 
 -- the actor that was found has this name
 named_is : (n : ℕ) (actors : List ActorText) (w : List ℕ) (a : ℕ × role.Role) → actor_from n actors w ≡ Some a

@@ -1,18 +1,19 @@
 -- Streams, record by record.
-use Rattle.std.proofs.Common.{◌≡◌, ℕ, zero, suc, ◌+◌, ◌-◌, ◌/◌, ◌<◌, ◌≤◌, Bool, true, false, ◌||◌, if◌then◌else◌, nat_eq, nat_le, nat_lt, List, [], ◌∷◌, ◌++◌, length, drop, take, Option, Some, None, option_map, Result, Ok, Err, refl, sym, ap, ◌∙◌, append_assoc, length-drop, arith, ◌⊎◌, inl, inr}
+use Rattle.std.proofs.Common.{◌≡◌, ℕ, zero, suc, ◌+◌, ◌-◌, ◌*◌, ◌/◌, ◌<◌, ◌≤◌, Bool, true, false, ◌||◌, if◌then◌else◌, nat_eq, nat_le, nat_lt, List, [], ◌∷◌, ◌++◌, length, drop, take, Option, Some, None, option_map, Result, Ok, Err, refl, sym, ap, ◌∙◌, append_assoc, length-drop, add-one, arith, ◌⊎◌, inl, inr}
 use Rattle.std.specs.Prelude.{slice_get}
 use Rattle.std.specs.List.{list_all, range_with_len}
 use Rattle.std.proofs.lemmas.List.{append-nil, take_rest}
+use Rattle.std.proofs.Math.Nat.{add-div_right, div-le_self}
 use Rattle.std.proofs.lemmas.Bool.Decides.{nat_tests}
 use Rattle.inp_model.specs.declared.event.Event.{Event}
 use Rattle.inp_model.specs.declared.stamped.Stamped.{Stamped}
 use Rattle.inp_model.specs.declared.stamped.TheConstants.{MOMENT_MAX}
 use Rattle.inp_actors.specs.declared.line.Line.{Line}
-use Rattle.inp_actors.specs.Record.{stream_of, streams_of, AreInTime}
-use Rattle.inp_stream.specs.declared.event_record.TheConstants.{RECORD_LEN}
+use Rattle.inp_actors.specs.Command.{stream_of, first_of}
+use Rattle.inp_actors.specs.Record.{streams_of, AreInTime}
 use Rattle.inp_stream.specs.declared.stream_refused.StreamRefused.{StreamRefused}
 use Rattle.inp_stream.specs.declared.stream_refused.StreamRefused.TheVariants.{Short, BadTime}
-use Rattle.inp_stream.specs.Stream.{microseconds_of, moment_of, event_of, decoded}
+use Rattle.inp_stream.specs.Stream.{record_len, microseconds_of, moment_of, event_of, decoded}
 use Rattle.inp_record.specs.Stream.{stamped_before, stamps_from, stamps_of}
 use Rattle.inp_words.proofs.Booleans.{both}
 
@@ -25,46 +26,53 @@ second_false : (a b : Bool) → (a || b) ≡ false → b ≡ false
 second_false true b h = absurd (cc h)
 second_false false b h = h
 
--- what is read has 24 bytes and a moment within its limit
-pub decoded_is : (bytes : List ℕ) (p : Event × ℕ) → decoded bytes ≡ Ok p → (24 ≤ length bytes) × (p.1 ≤ MOMENT_MAX)
-decoded_is bytes p e =
-    let h = not_refused (nat_lt (length bytes) RECORD_LEN) (nat_le 1000000 (microseconds_of bytes) || nat_lt MOMENT_MAX (moment_of bytes)) (event_of bytes, moment_of bytes) p e in
-    let late : nat_lt MOMENT_MAX (moment_of bytes) ≡ false = second_false (nat_le 1000000 (microseconds_of bytes)) (nat_lt MOMENT_MAX (moment_of bytes)) h.1 in
-    let same : moment_of bytes ≡ p.1 = ap (λ (q : Event × ℕ). q.1) h.2 in
-    within_is bytes p.1 h.0 (rw same at late)
+-- what is read has the length of a record and a moment within its limit
+pub decoded_is : (t : ℕ) (bytes : List ℕ) (p : Event × ℕ) → decoded t bytes ≡ Ok p → (record_len t ≤ length bytes) × (p.1 ≤ MOMENT_MAX)
+decoded_is t bytes p e =
+    let h = not_refused (nat_lt (length bytes) (record_len t)) (nat_le 1000000 (microseconds_of t bytes) || nat_lt MOMENT_MAX (moment_of t bytes)) (event_of (drop (2 * t) bytes), moment_of t bytes) p e in
+    let late : nat_lt MOMENT_MAX (moment_of t bytes) ≡ false = second_false (nat_le 1000000 (microseconds_of t bytes)) (nat_lt MOMENT_MAX (moment_of t bytes)) h.1 in
+    let same : moment_of t bytes ≡ p.1 = ap (λ (q : Event × ℕ). q.1) h.2 in
+    within_is (length bytes) (record_len t) p.1 h.0 (rw same at late)
   where
-    within_is : (bytes : List ℕ) (moment : ℕ) → nat_lt (length bytes) RECORD_LEN ≡ false → nat_lt MOMENT_MAX moment ≡ false → (24 ≤ length bytes) × (moment ≤ MOMENT_MAX)
-    within_is bytes moment a b = (grind (arith, nat_tests), grind (arith, nat_tests))
+    within_is : (count least moment : ℕ) → nat_lt count least ≡ false → nat_lt MOMENT_MAX moment ≡ false → (least ≤ count) × (moment ≤ MOMENT_MAX)
+    within_is count least moment a b = (grind (arith, nat_tests), grind (arith, nat_tests))
 
 abbrev pub stamp_of : Event × ℕ → Stamped
 stamp_of p = record { event = p.0; now = p.1 }
 
+-- one record less
+counted : (n m k : ℕ) → 0 < n → m ≡ k + n → m / n ≡ suc (k / n)
+counted n m k h e = ap (λ (x : ℕ). x / n) e ∙ add-div_right k h ∙ add-one (k / n)
+
 -- a record in front
-pub rest_read : (rest : List ℕ) (p : Event × ℕ) → decoded rest ≡ Ok p → stamps_of rest ≡ option_map (λ (s : List Stamped). stamp_of p ∷ s) (stamps_of (drop 24 rest))
+pub rest_read : (t : ℕ) (rest : List ℕ) (p : Event × ℕ) → decoded t rest ≡ Ok p → stamps_of t rest ≡ option_map (λ (s : List Stamped). stamp_of p ∷ s) (stamps_of t (drop (record_len t) rest))
 unfolding stamps_from
-rest_read rest p e =
-    let long : 24 ≤ length rest = (decoded_is rest p e).0 in
-    let count : length rest / 24 ≡ suc (length (drop 24 rest) / 24) = omega (arith, length-drop 24 rest) in
-    ap (λ (k : ℕ). stamps_from k rest) count ∙ ap (λ (r : Result (Event × ℕ) StreamRefused). stamped_before (stamps_from (length (drop 24 rest) / 24) (drop 24 rest)) r) e
+rest_read t rest p e =
+    let n = record_len t in
+    let long : n ≤ length rest = (decoded_is t rest p e).0 in
+    let count : length rest / n ≡ suc (length (drop n rest) / n) = counted n (length rest) (length (drop n rest)) (omega arith) (omega (arith, length-drop n rest)) in
+    ap (λ (k : ℕ). stamps_from t k rest) count ∙ ap (λ (r : Result (Event × ℕ) StreamRefused). stamped_before (stamps_from t (length (drop n rest) / n) (drop n rest)) r) e
 
 -- no record in front
-pub rest_refused : (rest : List ℕ) (why : StreamRefused) → 0 < length rest → decoded rest ≡ Err why → stamps_of rest ≡ None
+pub rest_refused : (t : ℕ) (rest : List ℕ) (why : StreamRefused) → 0 < length rest → decoded t rest ≡ Err why → stamps_of t rest ≡ None
 unfolding stamps_from
-rest_refused rest why h e = by_count (length rest / 24) refl
+rest_refused t rest why h e = by_count (length rest / record_len t)
   where
-    by_count : (k : ℕ) → length rest / 24 ≡ k → stamps_from k rest ≡ None
-    by_count zero c = let some : nat_eq (length rest) 0 ≡ false = grind (arith, nat_tests) in rw some refl
-    by_count (suc k) c = ap (λ (r : Result (Event × ℕ) StreamRefused). stamped_before (stamps_from k (drop 24 rest)) r) e
+    by_count : (k : ℕ) → stamps_from t k rest ≡ None
+    by_count zero = let some : nat_eq (length rest) 0 ≡ false = grind (arith, nat_tests) in rw some refl
+    by_count (suc k) = ap (λ (r : Result (Event × ℕ) StreamRefused). stamped_before (stamps_from t k (drop (record_len t) rest)) r) e
 
 -- one more behind those that were read
 pub grown : (stamps : List Stamped) (x : Stamped) (more : Option (List Stamped)) → option_map (λ (s : List Stamped). stamps ++ s) (option_map (λ (s : List Stamped). x ∷ s) more) ≡ option_map (λ (s : List Stamped). (stamps ++ x ∷ []) ++ s) more
 grown stamps x None = refl
 grown stamps x (Some s) = ap (λ (l : List Stamped). Some l) (sym (append_assoc stamps (x ∷ []) s))
 
-pub none_left : (stamps : List Stamped) (rest : List ℕ) → length rest ≡ 0 → option_map (λ (s : List Stamped). stamps ++ s) (stamps_of rest) ≡ Some stamps
+pub none_left : (t : ℕ) (stamps : List Stamped) (rest : List ℕ) → length rest ≡ 0 → option_map (λ (s : List Stamped). stamps ++ s) (stamps_of t rest) ≡ Some stamps
 unfolding stamps_from
-none_left stamps [] h = ap (λ (l : List Stamped). Some l) (append-nil stamps)
-none_left stamps (b ∷ rest) h = absurd (omega arith)
+none_left t stamps [] h =
+    let none : 0 / record_len t ≡ 0 = omega (arith, div-le_self 0 (record_len t)) in
+    ap (λ (k : ℕ). option_map (λ (s : List Stamped). stamps ++ s) (stamps_from t k [])) none ∙ ap (λ (l : List Stamped). Some l) (append-nil stamps)
+none_left t stamps (b ∷ rest) h = absurd (omega arith)
 
 push_get : (xs : List Stamped) (y : Stamped) (i : ℕ) (a : Stamped) → slice_get (xs ++ y ∷ []) i ≡ Some a → (slice_get xs i ≡ Some a) ⊎ (a ≡ y)
 push_get [] y zero a e = inr (cc e)
@@ -94,16 +102,18 @@ parts_all p (x ∷ xs) ys h =
     let rest = parts_all p xs ys (both (p x) (list_all p (xs ++ ys)) h).1 in
     (rw (first, rest.0) refl, rest.1)
 
-stream_all : (p : ℕ → Bool) (lines : List Line) (i : ℕ) (l : Line) (k : ℕ) → slice_get lines i ≡ Some l → stream_of l.command ≡ k ∷ [] → list_all p (streams_of lines) ≡ true → p k ≡ true
+first_all : (p : ℕ → Bool) (xs : List ℕ) (k : ℕ) → first_of xs ≡ Some k → list_all p xs ≡ true → p k ≡ true
+first_all p [] k e h = absurd (cc e)
+first_all p (x ∷ xs) k e h = let same : x ≡ k = cc e in rw same at (both (p x) (list_all p xs) h).0
+
+stream_all : (p : ℕ → Bool) (lines : List Line) (i : ℕ) (l : Line) (k : ℕ) → slice_get lines i ≡ Some l → first_of (stream_of l.command) ≡ Some k → list_all p (streams_of lines) ≡ true → p k ≡ true
 stream_all p [] i l k g s h = absurd (cc g)
 stream_all p (x ∷ lines) zero l k g s h =
     let same : x ≡ l = cc g in
-    let own = (parts_all p (stream_of x.command) (streams_of lines) h).0 in
-    let is : stream_of x.command ≡ k ∷ [] = rw same s in
-    (both (p k) true (rw is at own)).0
+    first_all p (stream_of x.command) k (ap (λ (y : Line). first_of (stream_of y.command)) same ∙ s) (parts_all p (stream_of x.command) (streams_of lines) h).0
 stream_all p (x ∷ lines) (suc i) l k g s h = stream_all p lines i l k g s (parts_all p (stream_of x.command) (streams_of lines) h).1
 
-pub stream_within : (lines : List Line) (n i : ℕ) (l : Line) (k : ℕ) → slice_get lines i ≡ Some l → stream_of l.command ≡ k ∷ [] → streams_of lines ≡ range_with_len 0 n → k < n
+pub stream_within : (lines : List Line) (n i : ℕ) (l : Line) (k : ℕ) → slice_get lines i ≡ Some l → first_of (stream_of l.command) ≡ Some k → streams_of lines ≡ range_with_len 0 n → k < n
 stream_within lines n i l k g s e =
     let all : list_all (λ j. nat_lt j (0 + n)) (streams_of lines) ≡ true = ap (list_all (λ j. nat_lt j (0 + n))) e ∙ below 0 n in
     is_below k n (stream_all (λ j. nat_lt j (0 + n)) lines i l k g s all)
@@ -116,11 +126,11 @@ pub none_yet : (means : Option (List Stamped)) → record { read : means ≡ opt
 none_yet None = record { read = refl; in_time = λ i s g. absurd (cc g) }
 none_yet (Some s) = record { read = refl; in_time = λ i s g. absurd (cc g) }
 
-pub smaller : (rest : List ℕ) → 24 ≤ length rest → length (take (length rest - 24) (drop 24 rest)) < length rest
-smaller rest h = omega (arith, ap length (take_rest rest 24), length-drop 24 rest)
+pub smaller : (n : ℕ) (rest : List ℕ) → 0 < n → n ≤ length rest → length (take (length rest - n) (drop n rest)) < length rest
+smaller n rest h k = omega (arith, ap length (take_rest rest n), length-drop n rest)
 
-pub more_read : (means : Option (List Stamped)) (rest : List ℕ) (stamps : List Stamped) (p : Event × ℕ) → means ≡ option_map (λ (s : List Stamped). stamps ++ s) (stamps_of rest) → decoded rest ≡ Ok p
-    → means ≡ option_map (λ (s : List Stamped). (stamps ++ stamp_of p ∷ []) ++ s) (stamps_of (take (length rest - 24) (drop 24 rest)))
-more_read means rest stamps p e h =
-    e ∙ ap (option_map (λ (s : List Stamped). stamps ++ s)) (rest_read rest p h) ∙ grown stamps (stamp_of p) (stamps_of (drop 24 rest))
-    ∙ ap (λ (r : List ℕ). option_map (λ (s : List Stamped). (stamps ++ stamp_of p ∷ []) ++ s) (stamps_of r)) (sym (take_rest rest 24))
+pub more_read : (t : ℕ) (means : Option (List Stamped)) (rest : List ℕ) (stamps : List Stamped) (p : Event × ℕ) → means ≡ option_map (λ (s : List Stamped). stamps ++ s) (stamps_of t rest) → decoded t rest ≡ Ok p
+    → means ≡ option_map (λ (s : List Stamped). (stamps ++ stamp_of p ∷ []) ++ s) (stamps_of t (take (length rest - record_len t) (drop (record_len t) rest)))
+more_read t means rest stamps p e h =
+    e ∙ ap (option_map (λ (s : List Stamped). stamps ++ s)) (rest_read t rest p h) ∙ grown stamps (stamp_of p) (stamps_of t (drop (record_len t) rest))
+    ∙ ap (λ (r : List ℕ). option_map (λ (s : List Stamped). (stamps ++ stamp_of p ∷ []) ++ s) (stamps_of t r)) (sym (take_rest rest (record_len t)))

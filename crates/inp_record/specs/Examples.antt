@@ -1,7 +1,8 @@
 -- Short records worked out by hand: which line is refused and why, or what they mean.
-use Rattle.std.specs.Prelude.{◌≡◌, ℕ, pos, true, List, [], ◌∷◌, ◌++◌, codes, replicate, map, sum_by, negsuc, Ok, Err, is_ok}
+use Rattle.std.specs.Prelude.{◌≡◌, ℕ, pos, true, List, [], ◌∷◌, ◌++◌, codes, replicate, map, sum_by, negsuc, Option, Some, None, Ok, Err, is_ok}
 use Rattle.std.specs.List.{flat_map}
 use Rattle.inp_model.specs.declared.clock.Clock.TheVariants.{Monotonic, Boottime}
+use Rattle.inp_model.specs.declared.stamped.Stamped.{Stamped}
 use Rattle.inp_model.specs.Description.{one_key as keyboard, no_info}
 use Rattle.inp_caps.specs.declared.caps_refused.CapsRefused.TheVariants.{BadCode, BadAxis, BadSlots, BadHint, BadLog, BadOffset}
 use Rattle.inp_caps.specs.Builder.{syn_alone}
@@ -9,10 +10,12 @@ use Rattle.inp_actors.specs.declared.command.Command as command
 use Rattle.inp_actors.specs.declared.command.Command.TheVariants as commands
 use Rattle.inp_actors.specs.declared.role.Role.TheVariants as roles
 use Rattle.inp_actors.specs.Record.{RecordView}
+use Rattle.inp_stream.specs.Examples.{press as press_event, press_record, press_record16}
 use Rattle.inp_record.specs.declared.cause.Cause.{Cause}
 use Rattle.inp_record.specs.declared.cause.Cause.TheVariants.{NotText, BadHeader, BadLine, OutOfPlace, NoActor, BadCommand, BadWord, Twice, TooMany, Caps}
 use Rattle.inp_record.specs.Past.{streams_in}
 use Rattle.inp_record.specs.Meaning.{meaning}
+use Rattle.inp_record.specs.Stream.{events_of}
 
 -- lines, each with its line feed
 abbrev pub text_of : List (List ℕ) → List ℕ
@@ -118,6 +121,9 @@ pub record RefusesCommands : Type 0 where
   pub less : IsRefused 6 BadCommand (actor_lines ++ codes "do t read" ∷ [])
   pub more : IsRefused 6 BadCommand (actor_lines ++ codes "do t open 1" ∷ [])
   pub before_word : IsRefused 6 BadCommand (actor_lines ++ codes "do t read x x" ∷ [])
+  pub later : IsRefused 6 BadCommand (actor_lines ++ codes "do s stream16 f" ∷ [])
+  pub tap_of_version_2 : IsRefused 4 BadCommand (later_lines ++ codes "tap t" ∷ codes "do t stream16 f" ∷ [])
+  pub no_file : IsRefused 4 BadCommand (later_lines ++ codes "source s" ∷ codes "do s stream16" ∷ [])
 
 -- A word that does not have its form or its range.
 pub record RefusesWords : Type 0 where
@@ -161,6 +167,7 @@ pub record RefusesMore : Type 0 where
   pub device : IsRefused 10 TooMany (header_lines ++ codes "device a" ∷ codes "device b" ∷ codes "device c" ∷ codes "device d" ∷ codes "device e" ∷ codes "device f" ∷ codes "device g" ∷ codes "device h" ∷ codes "device i" ∷ [])
   pub source : IsRefused 11 TooMany (device_lines ++ codes "source a" ∷ codes "source b" ∷ codes "source c" ∷ codes "source d" ∷ codes "source e" ∷ codes "source f" ∷ codes "source g" ∷ codes "source h" ∷ codes "source i" ∷ [])
   pub stream : IsRefused 20 TooMany (device_lines ++ codes "source s" ∷ replicate 17 (codes "do s stream f"))
+  pub both_streams : IsRefused 20 TooMany (later_lines ++ codes "source s" ∷ (replicate 9 (codes "do s stream16 f") ++ replicate 8 (codes "do s stream f")))
 
 -- What no device has.
 pub record RefusesDescriptions : Type 0 where
@@ -267,3 +274,31 @@ pub record MeansActions : Type 0 where
   pub tap : AreActions
       (codes "do t read 4096" ∷ codes "do t discard" ∷ codes "do t keys" ∷ codes "do t switches" ∷ codes "do t leds" ∷ codes "do t sounds" ∷ codes "do t syncslots" ∷ codes "do t axis ABS_X" ∷ codes "do t slots 0x35" ∷ [])
       ((2, commands.Read 4096) ∷ (2, commands.Discard) ∷ (2, commands.Keys) ∷ (2, commands.Switches) ∷ (2, commands.Leds) ∷ (2, commands.Sounds) ∷ (2, commands.SyncSlots) ∷ (2, commands.Axis 0) ∷ (2, commands.Slots 53) ∷ [])
+  pub of_version_2 :
+      meaning (text_of (later_lines ++ codes "source s" ∷ codes "do s stream16 a" ∷ codes "do s stream b" ∷ codes "do s stream16 b" ∷ []))
+      ≡ Ok (record {
+        version = 2;
+        devices = record { name = codes "d"; caps = syn_alone } ∷ [];
+        actors = record { name = codes "s"; role = roles.Source; device = 0 } ∷ [];
+        lines = map (λ command. record { actor = 0; command = command }) (commands.Stream16 (codes "a") 0 ∷ commands.Stream (codes "b") 1 ∷ commands.Stream16 (codes "b") 2 ∷ []);
+        streams = [] ∷ [] ∷ [] ∷ [];
+      })
+
+-- the key A goes down
+abbrev pub press : Option (List Stamped)
+press = Some (record { event = press_event; now = 1500000 } ∷ [])
+
+-- What the bytes of a stream's file mean, by the line that names it.
+pub record MeansStreams : Type 0 where
+  pub wide : events_of (commands.Stream (codes "f") 0) press_record ≡ press
+  pub narrow : events_of (commands.Stream16 (codes "f") 0) press_record16 ≡ press
+  pub none : events_of (commands.Stream16 (codes "f") 0) [] ≡ Some []
+  pub wide_as_narrow : events_of (commands.Stream16 (codes "f") 0) press_record ≡ None
+  pub narrow_as_wide : events_of (commands.Stream (codes "f") 0) press_record16 ≡ None
+  -- 48 bytes are two records of 24 bytes, and three of 16
+  pub two_as_three : events_of (commands.Stream16 (codes "f") 0) (press_record ++ press_record) ≡ Some
+      (record { event = record { kind = 41248; code = 7; value = pos 0 }; now = 1000000 }
+      ∷ record { event = record { kind = 1; code = 0; value = pos 0 }; now = 1966081000001 }
+      ∷ record { event = press_event; now = 500000000000 }
+      ∷ [])
+  pub bytes_left : events_of (commands.Stream16 (codes "f") 0) (press_record16 ++ 0 ∷ []) ≡ None

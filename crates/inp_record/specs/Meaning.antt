@@ -13,7 +13,7 @@ use Rattle.inp_actors.specs.Command.{is_source}
 use Rattle.inp_actors.specs.Record.{RecordView}
 use Rattle.inp_words.specs.Line.{lines_of as text_lines, words_of, is_comment, is_text}
 use Rattle.inp_record.specs.declared.cause.Cause.{Cause}
-use Rattle.inp_record.specs.declared.cause.Cause.TheVariants.{NotText, BadHeader, BadLine, OutOfPlace, Twice, TooMany, Caps}
+use Rattle.inp_record.specs.declared.cause.Cause.TheVariants.{NotText, BadHeader, BadLine, OutOfPlace, BadCommand, Twice, TooMany, Caps}
 use Rattle.inp_record.specs.declared.line_fault.LineFault.{LineFault}
 use Rattle.inp_record.specs.declared.line_fault.LineFault.TheVariants as line
 use Rattle.inp_record.specs.declared.refused.Refused.{Refused}
@@ -27,7 +27,7 @@ use Rattle.inp_record.specs.declared.item.Item.TheVariants.{Device, Hint, Log, R
 use Rattle.inp_record.specs.Keyword.{keyword_of}
 use Rattle.inp_record.specs.Place.{is_start, is_out_of_place}
 use Rattle.inp_record.specs.Words.{word, is_header, item_of}
-use Rattle.inp_record.specs.Past.{Past, streams_in, version_of, with_latest, devices_of, actors_of, lines_of, stream_count, context_of}
+use Rattle.inp_record.specs.Past.{Past, streams_in, is_later, version_of, with_latest, devices_of, actors_of, lines_of, stream_count, context_of}
 
 -- the text is there and is this one
 abbrev pub is_text_of : List ℕ → Option (List ℕ) → Bool
@@ -66,6 +66,11 @@ is_too_many c (Actor role name) = has_all c role
 is_too_many c (Action actor command) = nat_lt STREAMS_MAX (c.streams + streams_in command)
 is_too_many c _ = false
 
+-- a command that actors do not have under the record's version
+abbrev pub is_later_command : Context → Item → Bool
+is_later_command c (Action actor command) = nat_eq c.version 1 && is_later command
+is_later_command c _ = false
+
 -- more slots than a device may have under the record's version
 abbrev pub has_too_many_slots : Context → Item → Bool
 has_too_many_slots c (Slots count) = nat_eq c.version 1 && nat_lt SLOTS_OF_VERSION_1 count
@@ -94,11 +99,13 @@ abbrev pub answer_of : Option CapsRefused → Result (Unit {0}) CapsRefused
 answer_of None = Ok tt
 answer_of (Some why) = Err why
 
--- the meaning of a line whose words have their forms
+-- the meaning of a line whose words have their forms; a command of a later version takes any word, so no bad word is
+-- refused before it
 abbrev pub checked : Context → Result Item Cause → Result Item Cause
 checked c (Err cause) = Err cause
 checked c (Ok item) =
-    if is_twice c item then Err Twice
+    if is_later_command c item then Err BadCommand
+    else if is_twice c item then Err Twice
     else if is_too_many c item then Err TooMany
     else if has_too_many_slots c item then Err (Caps BadSlots)
     else unless_refused (refusal item) item

@@ -8,7 +8,7 @@ use Rattle.inp_actors.specs.declared.device_text.DeviceText.{DeviceText}
 use Rattle.inp_actors.specs.declared.actor_text.ActorText.{ActorText}
 use Rattle.inp_actors.specs.declared.line.Line as line
 use Rattle.inp_actors.specs.declared.command.Command as command
-use Rattle.inp_actors.specs.declared.command.Command.TheVariants.{Stream}
+use Rattle.inp_actors.specs.declared.command.Command.TheVariants.{Stream, Stream16}
 use Rattle.inp_actors.specs.Command.{is_source}
 use Rattle.inp_record.specs.declared.item.Item as item
 use Rattle.inp_record.specs.declared.item.Item.TheVariants.{Header, Device, Hint, Log, Realtime, Boottime, Slots, Kind, Code, Axis, Actor, Action}
@@ -156,7 +156,13 @@ lines_of (_ ∷ past) = lines_of past
 -- how many streams a command takes
 abbrev pub streams_in : command.Command → ℕ
 streams_in (Stream file index) = 1
+streams_in (Stream16 file index) = 1
 streams_in _ = 0
+
+-- actors have the command from version 2 on
+abbrev pub is_later : command.Command → Bool
+is_later (Stream16 file index) = true
+is_later _ = false
 
 -- how many streams the actions take
 abbrev pub stream_count : Past → ℕ

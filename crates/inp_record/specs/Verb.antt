@@ -6,7 +6,7 @@ use Rattle.inp_actors.specs.declared.role.Role.{Role}
 use Rattle.inp_actors.specs.Command.{is_source, is_client, is_tap, is_reading}
 use Rattle.inp_words.specs.Table.{named}
 use Rattle.inp_record.specs.declared.verb.Verb.{Verb}
-use Rattle.inp_record.specs.declared.verb.Verb.TheVariants.{Event, Tick, Inhibit, Uninhibit, Stream, Open, Close, Grab, Ungrab, Revoke, Mask, Clock, Write, SetAxis, Read, Discard, Keys, Switches, Leds, Sounds, SyncSlots, Axis, Slots, Next, Skip, Follow, Force}
+use Rattle.inp_record.specs.declared.verb.Verb.TheVariants.{Event, Tick, Inhibit, Uninhibit, Stream, Stream16, Open, Close, Grab, Ungrab, Revoke, Mask, Clock, Write, SetAxis, Read, Discard, Keys, Switches, Leds, Sounds, SyncSlots, Axis, Slots, Next, Skip, Follow, Force}
 
 unfoldable pub verb_rows : List (List ℕ × Verb)
 verb_rows =
@@ -15,6 +15,7 @@ verb_rows =
     ∷ (codes "inhibit", Inhibit)
     ∷ (codes "uninhibit", Uninhibit)
     ∷ (codes "stream", Stream)
+    ∷ (codes "stream16", Stream16)
     ∷ (codes "open", Open)
     ∷ (codes "close", Close)
     ∷ (codes "grab", Grab)
@@ -46,6 +47,7 @@ is_verb_of role Tick = is_source role
 is_verb_of role Inhibit = is_source role
 is_verb_of role Uninhibit = is_source role
 is_verb_of role Stream = is_source role
+is_verb_of role Stream16 = is_source role
 is_verb_of role Open = is_reading role
 is_verb_of role Close = is_reading role
 is_verb_of role Grab = is_reading role
@@ -71,6 +73,7 @@ argument_count Clock = 2
 argument_count Tick = 1
 argument_count Inhibit = 1
 argument_count Stream = 1
+argument_count Stream16 = 1
 argument_count Read = 1
 argument_count Axis = 1
 argument_count Slots = 1

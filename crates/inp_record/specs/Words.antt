@@ -134,6 +134,7 @@ plain_command verbs.Tick ws = option_map (λ moment. commands.Tick moment) (mome
 plain_command verbs.Inhibit ws = option_map (λ moment. commands.Inhibit moment) (moment_word (word 3 ws))
 plain_command verbs.Uninhibit ws = Some commands.Uninhibit
 plain_command verbs.Stream ws = None
+plain_command verbs.Stream16 ws = None
 plain_command verbs.Open ws = Some commands.Open
 plain_command verbs.Close ws = Some commands.Close
 plain_command verbs.Grab ws = Some commands.Grab
@@ -157,13 +158,11 @@ plain_command verbs.Skip ws = option_map (λ count. commands.Skip count) (count_
 plain_command verbs.Follow ws = Some commands.Follow
 plain_command verbs.Force ws = Some commands.Force
 
-abbrev pub is_stream : verb.Verb → Bool
-is_stream verbs.Stream = true
-is_stream _ = false
-
 -- a command with its words, if these have their forms; a stream takes any word as its file, and has this number
 unfoldable pub command_of : ℕ → verb.Verb → List (List ℕ) → Option command.Command
-command_of stream verb ws = if is_stream verb then Some (commands.Stream (word 3 ws) stream) else plain_command verb ws
+command_of stream verbs.Stream ws = Some (commands.Stream (word 3 ws) stream)
+command_of stream verbs.Stream16 ws = Some (commands.Stream16 (word 3 ws) stream)
+command_of stream verb ws = plain_command verb ws
 
 -- the number of the actor with this name, and its role; the first of them has the number n
 unfoldable pub actor_from : ℕ → List ActorText → List ℕ → Option (ℕ × role.Role)

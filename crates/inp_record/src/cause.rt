@@ -20,7 +20,7 @@ pub enum Cause {
     OutOfPlace,
     /// No actor has the name.
     NoActor,
-    /// The actor has no such command, or the command has another number of words.
+    /// The actor has no such command, or the command has another number of words, or is `stream16` under version 1.
     BadCommand,
     /// A word does not have its form or is out of range.
     BadWord,

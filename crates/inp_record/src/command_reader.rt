@@ -105,7 +105,7 @@ fn plain_command(verb: Verb, words: &[&[u8]]) -> Option<Command>
             Some(Command::Inhibit { moment })
         }
         Verb::Uninhibit => Some(Command::Uninhibit),
-        Verb::Stream => None,
+        Verb::Stream | Verb::Stream16 => None,
         Verb::Open => Some(Command::Open),
         Verb::Close => Some(Command::Close),
         Verb::Grab => Some(Command::Grab),
@@ -164,22 +164,25 @@ fn file_name(alloc: Global, word: &[u8]) -> Result<FileName, NoMemory>
 #[tactic(auto, unfolding(crate::specs::Words::command_of))]
 fn command_of(
     alloc: Global,
-    stream: u32,
+    index: u32,
     verb: Verb,
     words: &[&[u8]],
 ) -> Result<Option<Command>, NoMemory>
     requires arguments { argument_count verb + 3 ≡ length words.now }
     requires text { AreText (texts words.now) }
-    ensures { IfOk result (λ command. command ≡ command_of stream verb (texts words.now)) }
+    ensures { IfOk result (λ command. command ≡ command_of index verb (texts words.now)) }
 {
-    if verb == Verb::Stream {
-        let file = file_name(alloc, word(words, 3))?;
-        return Ok(Some(Command::Stream {
-            file,
-            index: stream,
-        }));
+    match verb {
+        Verb::Stream => {
+            let file = file_name(alloc, word(words, 3))?;
+            Ok(Some(Command::Stream { file, index }))
+        }
+        Verb::Stream16 => {
+            let file = file_name(alloc, word(words, 3))?;
+            Ok(Some(Command::Stream16 { file, index }))
+        }
+        _ => Ok(plain_command(verb, words)),
     }
-    Ok(plain_command(verb, words))
 }
 
 /// The number of the actor with this name, and its role.

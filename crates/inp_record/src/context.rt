@@ -3,8 +3,8 @@ ghost use Rattle.std.specs.Prelude.{◌≡◌, ◌+◌, ◌<◌, ◌≤◌, [], 
 ghost use Rattle.std.specs.List.{list_any};
 ghost use Rattle.std.specs.Str.{bytes_eq};
 ghost use Rattle.inp_actors.specs.Record.{IsRecord};
-ghost use Rattle.inp_record.specs.Past.{Past, context_of, no_given, HasRoom, streams_in};
-ghost use Rattle.inp_record.specs.Meaning.{is_twice, is_too_many, has_too_many_slots, is_text_of, has_device, has_all, device_count, IsEntered, closed, record_in};
+ghost use Rattle.inp_record.specs.Past.{Past, context_of, no_given, HasRoom, streams_in, is_later};
+ghost use Rattle.inp_record.specs.Meaning.{is_twice, is_too_many, is_later_command, has_too_many_slots, is_text_of, has_device, has_all, device_count, IsEntered, closed, record_in};
 ghost use Rattle.inp_record.specs.declared.item.Item.TheVariants as items;
 
 use crate::Cause;
@@ -392,6 +392,16 @@ impl Context {
         }
     }
 
+    /// Whether a line has a command that actors do not have under the record's version.
+    pub(crate) fn is_later_command(&self, item: &Item) -> bool
+        ensures { result ≡ is_later_command self.now item.now }
+    {
+        match item {
+            Item::Action { command, .. } => self.version == 1 && is_later(command),
+            _ => false,
+        }
+    }
+
     /// Whether a line gives more slots than a device may have under the record's version.
     pub(crate) fn has_too_many_slots(&self, item: &Item) -> bool
         ensures { result ≡ has_too_many_slots self.now item.now }
@@ -470,8 +480,18 @@ fn streams_in(command: &Command) -> u32
     ensures one { result ≤ 1 }
 {
     match command {
-        Command::Stream { .. } => 1,
+        Command::Stream { .. } | Command::Stream16 { .. } => 1,
         _ => 0,
+    }
+}
+
+/// Whether actors have the command from version 2 on.
+fn is_later(command: &Command) -> bool
+    ensures { result ≡ is_later command.now }
+{
+    match command {
+        Command::Stream16 { .. } => true,
+        _ => false,
     }
 }
 

@@ -84,6 +84,9 @@ fn read_words(context: &mut Context, alloc: Global, words: &[&[u8]]) -> Result<(
         return Ok(());
     }
     let item = item_of_words(context, alloc, words)?;
+    if context.is_later_command(&item) {
+        return Err(LineFault::Refused(Cause::BadCommand));
+    }
     if context.is_twice(&item) {
         return Err(LineFault::Refused(Cause::Twice));
     }

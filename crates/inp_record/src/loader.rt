@@ -1,29 +1,40 @@
 //! The streams of a record.
 ghost use Rattle.std.specs.Prelude.{◌≡◌, ◌<◌, length, IfOk, IsSome, Some};
 ghost use Rattle.inp_actors.specs.Record.{AreInTime};
-ghost use Rattle.inp_record.specs.Stream.{stamps_of, stream_at, AreStamps, IsLoaded};
+ghost use Rattle.inp_stream.specs.Form.{time_len};
+ghost use Rattle.inp_record.specs.Stream.{stamps_of, form_of, stream_at, AreStamps, IsLoaded};
 
 use crate::LoadFault;
 use inp_actors::{Command, Record, Stamps};
 use inp_model::{Items, Stamped};
-use inp_stream::{RECORD_LEN, decode};
+use inp_stream::RecordForm;
 use std::alloc::Global;
 
-/// The events that bytes are.
-fn stamps_of(alloc: Global, bytes: &[u8]) -> Result<Stamps, LoadFault>
-    ensures stamps { AreStamps result (stamps_of bytes.now) }
+/// The form of the records that a command's stream has.
+fn form_of(command: &Command) -> RecordForm
+    ensures { result ≡ form_of command.now }
+{
+    match command {
+        Command::Stream16 { .. } => RecordForm::Narrow,
+        _ => RecordForm::Wide,
+    }
+}
+
+/// The events that bytes are, by records of this form.
+fn stamps_of(alloc: Global, form: RecordForm, bytes: &[u8]) -> Result<Stamps, LoadFault>
+    ensures stamps { AreStamps result (stamps_of (time_len form) bytes.now) }
     ensures in_time { IfOk result (λ stamps. AreInTime stamps) }
 {
     let mut stamps = Items::new(alloc);
     let mut rest = bytes;
     while !rest.is_empty() {
-        let Ok((event, now)) = decode(rest) else {
+        let Ok((event, now)) = form.decode(rest) else {
             return Err(LoadFault::BadStream);
         };
         if stamps.push(Stamped { event, now }).is_err() {
             return Err(LoadFault::NoMemory);
         }
-        rest = &rest[RECORD_LEN..];
+        rest = &rest[form.record_len()..];
     }
     Ok(stamps)
 }
@@ -34,25 +45,26 @@ fn stream_at(record: &Record, line: u32) -> usize
     ensures index { stream_at record.now line ≡ Some result }
     ensures within { result < length record.now.streams }
 {
-    match &record.lines().get(line as usize).command {
-        Command::Stream { index, .. } => *index as usize,
-        _ => unreachable!(),
+    match record.lines().get(line as usize).command.stream_index() {
+        Some(index) => index as usize,
+        None => unreachable!(),
     }
 }
 
-/// Makes the events of a file the stream of an action line, from 0, that has the command `stream`. All else of the record
-/// stays. The bytes are the file's, read to its end.
+/// Makes the events of a file the stream of an action line, from 0, that has the command `stream` or `stream16`. All else
+/// of the record stays. The bytes are the file's, read to its end.
 ///
 /// # Errors
 ///
-/// `BadStream` where the bytes are not whole records of 24, or one has a time that is none (see `inp_stream`). `NoMemory`
-/// says that memory ran out. After both the record is unchanged.
+/// `BadStream` where the bytes are not whole records, of 24 bytes for `stream` and of 16 for `stream16`, or one has a time
+/// that is none (see `inp_stream`). `NoMemory` says that memory ran out. After both the record is unchanged.
 pub fn load(record: &mut Record, line: u32, bytes: &[u8]) -> Result<(), LoadFault>
     requires stream { IsSome (stream_at record.old line) }
     ensures loaded { IsLoaded result record.old line bytes.now record.new }
 {
     let index = stream_at(record, line);
-    match stamps_of(record.allocator(), bytes) {
+    let form = form_of(&record.lines().get(line as usize).command);
+    match stamps_of(record.allocator(), form, bytes) {
         Ok(stamps) => {
             record.set_stream(index, stamps);
             Ok(())

@@ -1,5 +1,5 @@
 //! What the definitions say of short records.
-ghost use Rattle.inp_record.specs.Examples.{RefusesOtherBytes, RefusesHeaders, RefusesLines, RefusesPlaces, RefusesActors, RefusesCommands, RefusesWords, RefusesRepeats, RefusesMore, RefusesDescriptions, AcceptsLines, MeansRecords, MeansActions};
+ghost use Rattle.inp_record.specs.Examples.{RefusesOtherBytes, RefusesHeaders, RefusesLines, RefusesPlaces, RefusesActors, RefusesCommands, RefusesWords, RefusesRepeats, RefusesMore, RefusesDescriptions, AcceptsLines, MeansRecords, MeansActions, MeansStreams};
 
 /// What short records mean, and which line of others is refused and why, worked out by hand: each cause at the lines that
 /// can have it, and of two causes that one line has the one that comes first. It does nothing: its contract is the point.
@@ -17,4 +17,5 @@ pub fn examples()
     ensures accepted { AcceptsLines }
     ensures records { MeansRecords }
     ensures actions { MeansActions }
+    ensures streams { MeansStreams }
 {}

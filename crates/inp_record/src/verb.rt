@@ -15,6 +15,7 @@ pub(crate) enum Verb {
     Inhibit,
     Uninhibit,
     Stream,
+    Stream16,
     Open,
     Close,
     Grab,
@@ -44,12 +45,13 @@ pub(crate) enum Verb {
 fn verb_rows() -> &'static [(&'static str, Verb)]
     ensures { rows_of result.now ≡ verb_rows }
 {
-    static ROWS: [(&str, Verb); 27] = [
+    static ROWS: [(&str, Verb); 28] = [
         ("event", Verb::Event),
         ("tick", Verb::Tick),
         ("inhibit", Verb::Inhibit),
         ("uninhibit", Verb::Uninhibit),
         ("stream", Verb::Stream),
+        ("stream16", Verb::Stream16),
         ("open", Verb::Open),
         ("close", Verb::Close),
         ("grab", Verb::Grab),
@@ -95,9 +97,12 @@ fn is_verb_of(role: Role, verb: Verb) -> bool
     ensures { result ≡ is_verb_of role verb }
 {
     match verb {
-        Verb::Event | Verb::Tick | Verb::Inhibit | Verb::Uninhibit | Verb::Stream => {
-            role == Role::Source
-        }
+        Verb::Event
+        | Verb::Tick
+        | Verb::Inhibit
+        | Verb::Uninhibit
+        | Verb::Stream
+        | Verb::Stream16 => role == Role::Source,
         Verb::Open
         | Verb::Close
         | Verb::Grab
@@ -124,6 +129,7 @@ fn argument_count(verb: Verb) -> usize
         Verb::Tick
         | Verb::Inhibit
         | Verb::Stream
+        | Verb::Stream16
         | Verb::Read
         | Verb::Axis
         | Verb::Slots

@@ -18,7 +18,7 @@ use Rattle.inp_model.specs.Reply.{Answer, is_accepted}
 use Rattle.inp_model.specs.Run.{Call}
 use Rattle.inp_model.specs.Step.{client_of, is_open_step}
 use Rattle.inp_actors.specs.declared.command.Command.{Command}
-use Rattle.inp_actors.specs.declared.command.Command.TheVariants.{Event as ToEvent, Tick, Inhibit, Uninhibit, Stream, Open, Next as ToNext, Skip, Follow, Force}
+use Rattle.inp_actors.specs.declared.command.Command.TheVariants.{Event as ToEvent, Tick, Inhibit, Uninhibit, Stream, Stream16, Open, Next as ToNext, Skip, Follow, Force}
 use Rattle.inp_actors.specs.declared.line.Line.{Line}
 use Rattle.inp_actors.specs.declared.role.Role.{Role}
 use Rattle.inp_actors.specs.declared.role.Role.TheVariants.{Source, Client, Tap}
@@ -266,6 +266,7 @@ names-command client (Tick moment) = λ named e. absurd (let k : None ≡ Some n
 names-command client (Inhibit moment) = λ named e. absurd (let k : None ≡ Some named = e in cc)
 names-command client Uninhibit = λ named e. absurd (let k : None ≡ Some named = e in cc)
 names-command client (Stream file index) = tt
+names-command client (Stream16 file index) = tt
 names-command client Open = λ named e. absurd (let k : None ≡ Some named = e in cc)
 names-command client (ToNext count) = tt
 names-command client (Skip count) = tt
@@ -280,6 +281,7 @@ is_opening_command _ = false
 shut-command : (client : ℕ) (command : Command) → is_opening_command command ≡ false → OfStep (λ x. is_open_step x ≡ false) (step_of client command)
 shut-command client Open h = absurd (true≢false h)
 shut-command client (Stream file index) h = tt
+shut-command client (Stream16 file index) h = tt
 shut-command client (ToNext count) h = tt
 shut-command client (Skip count) h = tt
 shut-command client Follow h = tt
@@ -324,6 +326,7 @@ names-source_call (Some x) j last h = (no-client last x h, λ answer. tt)
 
 names-source : (streams : List (List Stamped)) (command : Command) (j : Job) (last : ℕ) → Names last (source_talk streams command j) (OfLeft Source)
 names-source streams (Stream file index) j last = names-stream (stream_at streams index) j last
+names-source streams (Stream16 file index) j last = names-stream (stream_at streams index) j last
 names-source streams command j last = names-source_call (step_of NO_CLIENT command) j last (names-command NO_CLIENT command)
 
 -- Taps

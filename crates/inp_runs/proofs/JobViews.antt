@@ -15,7 +15,7 @@ use Rattle.inp_model.specs.Reply.{Answer, IsAnswer, is_accepted}
 use Rattle.inp_model.specs.Run.{Call, IsLegalRun, place_of}
 use Rattle.inp_actors.specs.declared.actor_text.ActorText.{ActorText}
 use Rattle.inp_actors.specs.declared.command.Command.{Command}
-use Rattle.inp_actors.specs.declared.command.Command.TheVariants.{Event as ToEvent, Tick, Inhibit, Uninhibit, Stream}
+use Rattle.inp_actors.specs.declared.command.Command.TheVariants.{Event as ToEvent, Tick, Inhibit, Uninhibit, Stream, Stream16}
 use Rattle.inp_actors.specs.declared.line.Line.{Line}
 use Rattle.inp_actors.specs.declared.role.Role.{Role}
 use Rattle.inp_actors.specs.declared.role.Role.TheVariants.{Source, Client, Tap}
@@ -64,6 +64,7 @@ source-step client (Tick moment) h = refl
 source-step client (Inhibit moment) h = refl
 source-step client Uninhibit h = refl
 source-step client (Stream file index) h = tt
+source-step client (Stream16 file index) h = tt
 source-step client _ h = absurd cc
 
 module _ (P : List Sight → Taken → Type 0) (d : Description) (h : List Step) (Q : ℕ → Type 0) where
@@ -108,6 +109,7 @@ module _ (P : List Sight → Taken → Type 0) (d : Description) (h : List Step)
 
   source-line : (least : ℕ) (streams : List (List Stamped)) (command : Command) (j k : Job) (calls more : List Call) → is_command_of Source command ≡ true → AreToCome d h Q least (calls ++ more) → EndsWith (source_talk streams command j) calls (Some k) → AtEach P [] j.sight → AtEach P [] k.sight
   source-line least streams (Stream file index) j k calls more of_role c ends s = source-stream least (stream_at streams index) j k calls more c ends s
+  source-line least streams (Stream16 file index) j k calls more of_role c ends s = source-stream least (stream_at streams index) j k calls more c ends s
   source-line least streams command j k calls more of_role c ends s = source-if least j k (step_of NO_CLIENT command) calls more (source-step NO_CLIENT command of_role) c ends s
 
 -- ---- the lines of a job

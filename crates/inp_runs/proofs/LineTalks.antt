@@ -9,7 +9,7 @@ use Rattle.inp_model.specs.declared.step.Step.TheVariants.{Inject}
 use Rattle.inp_model.specs.Description.{Description}
 use Rattle.inp_model.specs.Reply.{Answer, answer, is_accepted}
 use Rattle.inp_actors.specs.declared.command.Command.{Command}
-use Rattle.inp_actors.specs.declared.command.Command.TheVariants.{Stream, Open, Next as ToNext, Skip, Follow, Force}
+use Rattle.inp_actors.specs.declared.command.Command.TheVariants.{Stream, Stream16, Open, Next as ToNext, Skip, Follow, Force}
 use Rattle.inp_actors.specs.declared.line.Line.{Line}
 use Rattle.inp_actors.specs.declared.role.Role.{Role}
 use Rattle.inp_actors.specs.declared.role.Role.TheVariants.{Source, Client, Tap}
@@ -96,6 +96,7 @@ leaves-stream d (stamped ∷ stream) j entries h = λ past.
 
 leaves-source : (d : Description) (streams : List (List Stamped)) (command : Command) (j : Job) (entries : List Sight) → IsKept d j entries → Leaves d (IsKeptIfSome d) entries (source_talk streams command j)
 leaves-source d streams (Stream file index) j entries h = leaves-stream d (stream_at streams index) j entries h
+leaves-source d streams (Stream16 file index) j entries h = leaves-stream d (stream_at streams index) j entries h
 leaves-source d streams command j entries h = leaves-call_if d (step_of NO_CLIENT command) j entries h
 
 -- Clients

@@ -16,7 +16,7 @@ use Rattle.inp_model.specs.Past.{past_at}
 use Rattle.inp_model.specs.Reply.{Answer, answer, accepted, alone, is_accepted}
 use Rattle.inp_model.specs.Run.{Call, HasPlace, IsLegalFrom, place_of, next_place}
 use Rattle.inp_actors.specs.declared.command.Command.{Command}
-use Rattle.inp_actors.specs.declared.command.Command.TheVariants.{Stream, Open, Next, Skip, Follow, Force}
+use Rattle.inp_actors.specs.declared.command.Command.TheVariants.{Stream, Stream16, Open, Next, Skip, Follow, Force}
 use Rattle.inp_actors.specs.declared.line.Line.{Line}
 use Rattle.inp_actors.specs.declared.role.Role.{Role}
 use Rattle.inp_actors.specs.declared.role.Role.TheVariants.{Source, Client, Tap}
@@ -211,6 +211,7 @@ gives_up-stream (stamped ∷ stream) j =
 
 gives_up-source : (streams : List (List Stamped)) (command : Command) (j : Job) → is_command_of Source command ≡ true → GivesUp (source_talk streams command j)
 gives_up-source streams (Stream file index) j h = gives_up-stream (stream_at streams index) j
+gives_up-source streams (Stream16 file index) j h = gives_up-stream (stream_at streams index) j
 gives_up-source streams Open j h = absurd cc
 gives_up-source streams command j h = gives_up-call (step_of NO_CLIENT command) j refl
 

@@ -1,9 +1,10 @@
 -- What a source does at a command, by the command.
-use Rattle.std.proofs.Common.{◌≡◌, ℕ, zero, suc, List, [], ◌∷◌, refl, ap, ◌∙◌, Some}
+use Rattle.std.proofs.Common.{◌≡◌, ℕ, zero, suc, List, [], ◌∷◌, refl, ap, ◌∙◌, Some, None}
 use Rattle.std.specs.List.{slice_get}
 use Rattle.inp_model.specs.declared.stamped.Stamped.{Stamped}
 use Rattle.inp_actors.specs.declared.command.Command.{Command}
-use Rattle.inp_actors.specs.declared.command.Command.TheVariants.{Stream}
+use Rattle.inp_actors.specs.declared.command.Command.TheVariants.{Stream, Stream16}
+use Rattle.inp_actors.specs.Command.{stream_of, first_of}
 use Rattle.inp_reader.specs.declared.reader.TheConstants.{NO_CLIENT}
 use Rattle.inp_script.specs.Job.{Job}
 use Rattle.inp_script.specs.Line.{step_of, stream_at, source_talk, call_if, stream_talk}
@@ -16,10 +17,17 @@ stream_at-slice_get (s ∷ streams) (suc index) stream h = stream_at-slice_get s
 
 -- what a source does at a command, by the command
 
-pub source_talk-single : (streams : List (List Stamped)) (command : Command) (j : Job) → ((file : List ℕ) (index : ℕ) → command ≡ Stream file index → ⊥) → source_talk streams command j ≡ call_if j (step_of NO_CLIENT command)
-source_talk-single streams (Stream file index) j h = absurd (h file index refl)
+pub source_talk-single : (streams : List (List Stamped)) (command : Command) (j : Job) → first_of (stream_of command) ≡ None → source_talk streams command j ≡ call_if j (step_of NO_CLIENT command)
+source_talk-single streams (Stream file index) j h = absurd (cc h)
+source_talk-single streams (Stream16 file index) j h = absurd (cc h)
 source_talk-single streams _ j h = refl
 
-pub source_talk-stream : (streams : List (List Stamped)) (command : Command) (file : List ℕ) (index : ℕ) (stream : List Stamped) (j : Job) → command ≡ Stream file index → slice_get streams index ≡ Some stream → source_talk streams command j ≡ stream_talk stream j
-source_talk-stream streams command file index stream j e is =
-    ap (λ (c : Command). source_talk streams c j) e ∙ ap (λ (s : List Stamped). stream_talk s j) (stream_at-slice_get streams index stream is)
+stream_is : (streams : List (List Stamped)) (at index : ℕ) (stream : List Stamped) (j : Job) → Some at ≡ Some index → slice_get streams index ≡ Some stream → stream_talk (stream_at streams at) j ≡ stream_talk stream j
+stream_is streams at index stream j e is =
+    let same : at ≡ index = cc e in
+    ap (λ (s : List Stamped). stream_talk s j) (ap (stream_at streams) same ∙ stream_at-slice_get streams index stream is)
+
+pub source_talk-stream : (streams : List (List Stamped)) (command : Command) (index : ℕ) (stream : List Stamped) (j : Job) → first_of (stream_of command) ≡ Some index → slice_get streams index ≡ Some stream → source_talk streams command j ≡ stream_talk stream j
+source_talk-stream streams (Stream file at) index stream j e is = stream_is streams at index stream j e is
+source_talk-stream streams (Stream16 file at) index stream j e is = stream_is streams at index stream j e is
+source_talk-stream streams _ index stream j e is = absurd (cc e)

@@ -13,7 +13,7 @@ use Rattle.inp_model.specs.Evdev.{EvdevView, is_again, agains_after}
 use Rattle.inp_model.specs.Reply.{is_accepted}
 use Rattle.inp_model.specs.Run.{Call}
 use Rattle.inp_actors.specs.declared.command.Command.{Command}
-use Rattle.inp_actors.specs.declared.command.Command.TheVariants.{Stream, Open, Next as ToNext, Skip, Follow, Force}
+use Rattle.inp_actors.specs.declared.command.Command.TheVariants.{Stream, Stream16, Open, Next as ToNext, Skip, Follow, Force}
 use Rattle.inp_actors.specs.declared.role.Role.{Role}
 use Rattle.inp_actors.specs.declared.role.Role.TheVariants.{Source, Client, Tap}
 use Rattle.inp_reader.specs.declared.next.Next.{Next}
@@ -149,6 +149,7 @@ stream-idles (stamped ∷ stream) j k (call ∷ calls) none h =
 
 source-idles : (streams : List (List Stamped)) (command : Command) (j k : Job) (calls : List Call) → j.stop ≡ None → EndsWith (source_talk streams command j) calls (Some k) → Idles calls k.stop
 source-idles streams (Stream file index) j k calls none h = stream-idles (stream_at streams index) j k calls none h
+source-idles streams (Stream16 file index) j k calls none h = stream-idles (stream_at streams index) j k calls none h
 source-idles streams command j k calls none h = call_if-idles j k (step_of NO_CLIENT command) calls none h
 
 tap_call-idles : (j k : Job) (o : Option Step) (calls : List Call) → j.stop ≡ None → EndsWith (tap_call_if j o) calls (Some k) → Idles calls k.stop

@@ -12,7 +12,7 @@ use Rattle.inp_model.specs.Past.{past_at}
 use Rattle.inp_model.specs.Reply.{Answer, accepted, is_accepted, IsAnswer}
 use Rattle.inp_model.specs.Run.{Call, HasPlace, place_of}
 use Rattle.inp_actors.specs.declared.command.Command.{Command}
-use Rattle.inp_actors.specs.declared.command.Command.TheVariants.{Stream, Open as OpenLine, Close, Grab, Ungrab, Revoke, Mask, Clock, Write, SetAxis, Next as NextLine, Skip, Follow, Force}
+use Rattle.inp_actors.specs.declared.command.Command.TheVariants.{Stream, Stream16, Open as OpenLine, Close, Grab, Ungrab, Revoke, Mask, Clock, Write, SetAxis, Next as NextLine, Skip, Follow, Force}
 use Rattle.inp_actors.specs.declared.role.Role.{Role}
 use Rattle.inp_actors.specs.declared.role.Role.TheVariants.{Source, Client, Tap}
 use Rattle.inp_actors.specs.Command.{is_command_of}
@@ -79,6 +79,7 @@ stream-view (stamped ∷ stream) j k (call ∷ calls) h =
 
 source-view : (streams : List (List Stamped)) (command : Command) (j k : Job) (calls : List Call) → EndsWith (source_talk streams command j) calls (Some k) → k.reading ≡ j.reading
 source-view streams (Stream file index) j k calls h = stream-view (stream_at streams index) j k calls h
+source-view streams (Stream16 file index) j k calls h = stream-view (stream_at streams index) j k calls h
 source-view streams command j k calls h = source_call-view j k (step_of NO_CLIENT command) calls h
 
 -- Clients

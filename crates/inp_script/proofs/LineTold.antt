@@ -8,7 +8,7 @@ use Rattle.inp_model.specs.Description.{Description}
 use Rattle.inp_model.specs.Reply.{is_accepted}
 use Rattle.inp_model.specs.Run.{Call}
 use Rattle.inp_actors.specs.declared.command.Command.{Command}
-use Rattle.inp_actors.specs.declared.command.Command.TheVariants.{Stream, Open, Next as ToNext, Skip, Follow, Force}
+use Rattle.inp_actors.specs.declared.command.Command.TheVariants.{Stream, Stream16, Open, Next as ToNext, Skip, Follow, Force}
 use Rattle.inp_actors.specs.declared.role.Role.{Role}
 use Rattle.inp_actors.specs.declared.role.Role.TheVariants.{Source, Client, Tap}
 use Rattle.inp_reader.specs.declared.mode.Mode.{Mode}
@@ -66,6 +66,7 @@ stream-told (stamped ∷ stream) j k (call ∷ calls) h =
 
 source-told : (streams : List (List Stamped)) (command : Command) (j k : Job) (calls : List Call) → EndsWith (source_talk streams command j) calls (Some k) → Tells calls j.sight k.sight
 source-told streams (Stream file index) j k calls h = stream-told (stream_at streams index) j k calls h
+source-told streams (Stream16 file index) j k calls h = stream-told (stream_at streams index) j k calls h
 source-told streams command j k calls h = call_if-told j k (step_of NO_CLIENT command) calls h
 
 pub end-told : (stop : Option Stop) (j k : Job) (calls : List Call) → EndsWith (end_talk stop j) calls (Some k) → Tells calls j.sight k.sight

@@ -8,11 +8,11 @@ use Rattle.inp_model.specs.declared.reply.Reply.{Reply}
 use Rattle.inp_model.specs.Evdev.{EvdevView}
 use Rattle.inp_actors.specs.declared.actor_text.ActorText.{ActorText}
 use Rattle.inp_actors.specs.declared.command.Command.{Command}
-use Rattle.inp_actors.specs.declared.command.Command.TheVariants.{Stream}
+use Rattle.inp_actors.specs.declared.command.Command.TheVariants.{Stream, Stream16}
 use Rattle.inp_actors.specs.declared.line.Line.{Line}
 use Rattle.inp_actors.specs.declared.role.Role.{Role}
-use Rattle.inp_actors.specs.Command.{is_command_of}
-use Rattle.inp_actors.specs.Record.{RecordView, IsRecord, stream_of, streams_of}
+use Rattle.inp_actors.specs.Command.{is_command_of, stream_of}
+use Rattle.inp_actors.specs.Record.{RecordView, AreInTime, IsRecord, streams_of}
 use Rattle.inp_reader.specs.Reading.{Reading}
 use Rattle.inp_reader.specs.Talk.{Talk, finish}
 use Rattle.inp_script.specs.declared.notes.Notes.{Notes}
@@ -55,9 +55,16 @@ slice_get-stream_at [] index h = absurd (omega arith)
 slice_get-stream_at (stream ∷ streams) zero h = refl
 slice_get-stream_at (stream ∷ streams) (suc index) h = slice_get-stream_at streams index (omega (arith, h))
 
+stream_there : (r : RecordView) (at : ℕ) → IsRecord r → at < length r.streams → (index : ℕ) → Some at ≡ Some index → (index < length r.streams) × AreInTime (stream_at r.streams index)
+stream_there r at is below index e =
+    let same : at ≡ index = cc e in
+    let within : index < length r.streams = omega (arith, same, below) in
+    (within, is.in_time index (stream_at r.streams index) (slice_get-stream_at r.streams index within))
+
 has_stream : (r : RecordView) (command : Command) → IsRecord r → AllBelow (length r.streams) (stream_of command) → HasStream r.streams command
-has_stream r (Stream file index) is below = (below.0, is.in_time index (stream_at r.streams index) (slice_get-stream_at r.streams index below.0))
-has_stream r _ is below = tt
+has_stream r (Stream file at) is below = stream_there r at is below.0
+has_stream r (Stream16 file at) is below = stream_there r at is below.0
+has_stream r _ is below = λ index e. absurd (cc e)
 
 pub is_command_for : (r : RecordView) (number : ℕ) (line : Line) (text : ActorText) (role : Role) → IsRecord r → slice_get r.lines number ≡ Some line → slice_get r.actors line.actor ≡ Some text → text.role ≡ role → IsCommandFor role r.streams line.command
 is_command_for r number line text role is has_line has_text same = record {

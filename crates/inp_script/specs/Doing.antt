@@ -7,12 +7,11 @@ use Rattle.inp_model.specs.Evdev.{EvdevView}
 use Rattle.inp_model.specs.Run.{Call}
 use Rattle.inp_actors.specs.declared.actor_text.ActorText.{ActorText}
 use Rattle.inp_actors.specs.declared.command.Command.{Command}
-use Rattle.inp_actors.specs.declared.command.Command.TheVariants.{Stream}
 use Rattle.inp_actors.specs.declared.device_text.DeviceText.{DeviceText}
 use Rattle.inp_actors.specs.declared.line.Line.{Line}
 use Rattle.inp_actors.specs.declared.role.Role.{Role}
 use Rattle.inp_actors.specs.declared.role.Role.TheVariants.{Source, Client, Tap}
-use Rattle.inp_actors.specs.Command.{is_command_of, is_in_range, is_source}
+use Rattle.inp_actors.specs.Command.{is_command_of, is_in_range, is_source, stream_of, first_of}
 use Rattle.inp_actors.specs.Record.{RecordView, AreInTime}
 use Rattle.inp_model.specs.Leaves.{AreCalls}
 use Rattle.inp_reader.specs.Talk.{Talk, finish, LeadsTo, EndsWith}
@@ -82,8 +81,9 @@ pub record BeginsLine (before after : EvdevView) (a : ActorView) (r : RecordView
 
 -- the stream that a command takes is there, and its moments are within their limit
 abbrev pub HasStream : List (List Stamped) → Command → Type 0
-HasStream streams (Stream file index) = (index < length streams) × AreInTime (stream_at streams index)
-HasStream streams _ = Unit {0}
+HasStream streams command =
+    (index : ℕ) → first_of (stream_of command) ≡ Some index
+    → (index < length streams) × AreInTime (stream_at streams index)
 
 -- actors of the role have the command, and each of its numbers is one that a line may have
 pub record IsCommandFor (role : Role) (streams : List (List Stamped)) (command : Command) : Type 0 where

@@ -9,7 +9,7 @@ use Rattle.inp_model.specs.declared.reply.Reply.{Reply}
 use Rattle.inp_model.specs.declared.reply.Reply.TheVariants.{Opened}
 use Rattle.inp_model.specs.Reply.{Answer, is_accepted}
 use Rattle.inp_actors.specs.declared.command.Command.{Command}
-use Rattle.inp_actors.specs.declared.command.Command.TheVariants.{Event as ToEvent, Tick, Inhibit, Uninhibit, Stream, Open, Close, Grab, Ungrab, Revoke, Mask, Clock, Write, SetAxis, Read, Discard, Keys, Switches, Leds, Sounds, SyncSlots, Axis, Slots}
+use Rattle.inp_actors.specs.declared.command.Command.TheVariants.{Event as ToEvent, Tick, Inhibit, Uninhibit, Stream, Stream16, Open, Close, Grab, Ungrab, Revoke, Mask, Clock, Write, SetAxis, Read, Discard, Keys, Switches, Leds, Sounds, SyncSlots, Axis, Slots}
 use Rattle.inp_recon.specs.declared.view.View.{View}
 use Rattle.inp_recon.specs.View.{view_after_answer, view_after_events}
 use Rattle.inp_reader.specs.declared.reader.TheConstants.{NO_CLIENT}
@@ -85,6 +85,7 @@ stream_at (stream ∷ streams) (suc index) = stream_at streams index
 -- what a source does at a command; it has no client
 abbrev pub source_talk : List (List Stamped) → Command → Job → Talk (Option Job)
 source_talk streams (Stream file index) j = stream_talk (stream_at streams index) j
+source_talk streams (Stream16 file index) j = stream_talk (stream_at streams index) j
 source_talk streams command j = call_if j (step_of NO_CLIENT command)
 
 -- a source that did not stop is done

@@ -50,8 +50,8 @@ pub(crate) fn do_source_command<E: Evdev>(
     ensures begun { (r : Reading) → Begins (E.told dev.old) (E.told dev.new)
         (source_talk rec.now.streams command.now (job_of r notes.old)) }
 {
-    if let Command::Stream { index, .. } = command {
-        return inject_stream(dev, notes, rec.stream(*index as usize));
+    if let Some(index) = command.stream_index() {
+        return inject_stream(dev, notes, rec.stream(index as usize));
     }
     let Some(step) = step_of(NO_CLIENT, command) else {
         return Ok(());

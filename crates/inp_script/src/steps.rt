@@ -59,6 +59,7 @@ pub(crate) fn step_of(client: u32, command: &Command) -> Option<Step>
         Command::Axis { code } => Step::GetAxis { client, code },
         Command::Slots { code } => Step::GetSlots { client, code },
         Command::Stream { .. }
+        | Command::Stream16 { .. }
         | Command::Next { .. }
         | Command::Skip { .. }
         | Command::Follow

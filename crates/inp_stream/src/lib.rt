@@ -2,9 +2,9 @@
 //! type, the code and the value. A record has 24 bytes on a 64-bit machine, and 16 on a 32-bit one, where the seconds and
 //! the microseconds have 4 bytes each in place of 8.
 //!
-//! [`encode`] writes a record of 24 bytes, [`decode`] reads one; [`encode16`] and [`decode16`] do so for 16 bytes. A file
-//! of such records is what `cat /dev/input/event0` gives. The crate stands on `inp_model` for events and on the
-//! toolchain's `byteorder`.
+//! [`encode`] writes a record of 24 bytes, [`decode`] reads one; [`encode16`] and [`decode16`] do so for 16 bytes, and
+//! [`RecordForm`] chooses. A file of such records is what `cat /dev/input/event0` gives. The crate stands on `inp_model`
+//! for events and on the toolchain's `byteorder`.
 //!
 //! Its contract: `record_bytes` of `specs/Stream.antt` says which bytes an event and its moment are, `decoded` what bytes
 //! mean or why they mean nothing; both take how many bytes the seconds and the microseconds have. [`round_trip`] says that
@@ -15,9 +15,11 @@ mod event_record;
 mod event_record16;
 mod fields;
 mod laws;
+mod record_form;
 mod stream_refused;
 
 pub use event_record::{RECORD_LEN, decode, encode};
 pub use event_record16::{MOMENT16_MAX, RECORD16_LEN, decode16, encode16};
 pub use laws::{examples, round_trip};
+pub use record_form::RecordForm;
 pub use stream_refused::StreamRefused;

@@ -1,5 +1,6 @@
 -- Each example computes.
 use Rattle.std.proofs.Common.{refl}
+use Rattle.inp_record.specs.Stream.{stamps_from}
 use Rattle.inp_record.proofs.Computing.{record_computing}
 use Rattle.inp_record.proofs.record_examples.examples.Goals as goal
 
@@ -25,7 +26,7 @@ returns-clause-actors c = record { no_device = refl; other = refl; no_name = ref
 
 pub returns-clause-commands : goal.returns-clause-commands
 unfolding record_computing
-returns-clause-commands c = record { none = refl; source = refl; client = refl; tap = refl; tap_source = refl; source_describes = refl; less_of_an_axis = refl; less = refl; more = refl; before_word = refl }
+returns-clause-commands c = record { none = refl; source = refl; client = refl; tap = refl; tap_source = refl; source_describes = refl; less_of_an_axis = refl; less = refl; more = refl; before_word = refl; later = refl; tap_of_version_2 = refl; no_file = refl }
 
 pub returns-clause-words : goal.returns-clause-words
 unfolding record_computing
@@ -37,7 +38,7 @@ returns-clause-repeats c = record { hint = refl; log = refl; clock = refl; slots
 
 pub returns-clause-more : goal.returns-clause-more
 unfolding record_computing
-returns-clause-more c = record { device = refl; source = refl; stream = refl }
+returns-clause-more c = record { device = refl; source = refl; stream = refl; both_streams = refl }
 
 pub returns-clause-descriptions : goal.returns-clause-descriptions
 unfolding record_computing
@@ -53,4 +54,8 @@ returns-clause-records c = record { header = refl; later_header = refl; device =
 
 pub returns-clause-actions : goal.returns-clause-actions
 unfolding record_computing
-returns-clause-actions c = record { source = refl; client = refl; reading = refl; tap = refl }
+returns-clause-actions c = record { source = refl; client = refl; reading = refl; tap = refl; of_version_2 = refl }
+
+pub returns-clause-streams : goal.returns-clause-streams
+unfolding stamps_from
+returns-clause-streams c = record { wide = refl; narrow = refl; none = refl; wide_as_narrow = refl; narrow_as_wide = refl; two_as_three = refl; bytes_left = refl }
