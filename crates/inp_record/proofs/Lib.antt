@@ -17,6 +17,7 @@ pub mod Inversions
 pub mod LineNumbers
 pub mod MadeDescriptions
 pub mod Pasts
+pub mod RaisedPasts
 pub mod Reading
 pub mod Rooms
 pub mod RoundTrip

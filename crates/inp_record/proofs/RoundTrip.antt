@@ -156,7 +156,7 @@ all_behind past like =
 
 -- a past with a line stands behind its start
 
-no_start : (i : Item) → is_start (place_after i) ≡ false
+pub no_start : (i : Item) → is_start (place_after i) ≡ false
 no_start (Header version) = refl
 no_start (Device name) = refl
 no_start (Hint count) = refl
@@ -170,7 +170,7 @@ no_start (Axis code info) = refl
 no_start (Actor role name) = refl
 no_start (Action actor command) = refl
 
-read_again : (past : Past) → WereAccepted past → is_start (place_of past) ≡ false → meaning (record_text (record_of past)) ≡ Ok (record_of past)
+pub read_again : (past : Past) → WereAccepted past → is_start (place_of past) ≡ false → meaning (record_text (record_of past)) ≡ Ok (record_of past)
 read_again past were s =
     let k = kept past were s in
     let new = past_of (canon past) in
