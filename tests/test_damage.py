@@ -11,7 +11,7 @@ from importlib.machinery import SourceFileLoader
 from importlib.util import module_from_spec, spec_from_loader
 
 from playing import EXAMPLES, RECORDS, TOP, FolderCase, assert_run, run
-from test_statuses import REFUSED
+from test_statuses import ONE_KEY, ONE_KEY_REPORT, REFUSED
 
 SCRIPT = TOP / "bench" / "damage"
 MODEL = TOP / "bench" / "model"
@@ -89,6 +89,7 @@ CAUSES = [
 
 # Texts that are records, and their reports.
 PLAYED = [
+    (ONE_KEY.decode().replace("\n", "\n# \xff\n", 1), ONE_KEY_REPORT.decode()),
     (" # \xff\0\r\n\t\r\n" + HEAD.replace("\n", "\r"), ""),
     (HEAD + "device d\n" + "device " + 32 * "e", "device d steps 0\ndevice " + 32 * "e" + " steps 0\n"),
     (HEAD + "device d\nsource d\n", "device d steps 0\nsource d calls 0 stop finished\n"),

@@ -24,6 +24,9 @@ FULL_REPORT = (
     b"tap t\ncall open reply opened 0 0 128\nstop finished\n"
 )
 
+# A source that goes on when the history is full, and nobody else.
+FULL_ALONE = b"inputrecord 1\ndevice d\nlog 1\nsource s\ndo s uninhibit\ndo s uninhibit\n"
+
 # A source that injects what stands in a file.
 STREAM = b"inputrecord 1\ndevice d\ncap EV_KEY KEY_A\nsource s\ndo s stream keys\n"
 
@@ -107,9 +110,10 @@ class Statuses(FolderCase):
     def file(self, name, bytes_of_it):
         (self.folder / name).write_bytes(bytes_of_it)
 
-    def sparse(self, name, size):
-        """A file of so many zero bytes that takes no room on the disk."""
+    def sparse(self, name, size, front=b""):
+        """A file of so many bytes that takes no room on the disk: these, and zeros behind them."""
         with open(self.folder / name, "wb") as file:
+            file.write(front)
             file.truncate(size)
 
     def ends(self, words, status, text, **more):
@@ -222,6 +226,10 @@ class Statuses(FolderCase):
     def test_6_a_full_history(self):
         self.file("f", FULL)
         self.ends(["f"], 6, FULL_REPORT)
+        self.file("f", FULL_ALONE)
+        for words in (["f"], ["--threads", "f"]):
+            with self.subTest(words=words):
+                self.ends(words, 6, b"device d steps 1\nsource s calls 1 stop full 1\n")
 
     def test_7_an_input_that_is_too_long(self):
         self.sparse("f", INPUT_LIMIT + 1)
@@ -236,6 +244,9 @@ class Statuses(FolderCase):
         self.sparse("f", INPUT_LIMIT)
         with self.subTest(file="the record"):
             self.ends(["f"], 1, b"inputplay: line 1: not-text\n")
+        self.sparse("f", INPUT_LIMIT, b"inputrecord 1\n#")
+        with self.subTest(file="a record with a long comment"):
+            self.ends(["f"], 0, b"")
         self.file("f", STREAM)
         self.sparse("keys", INPUT_LIMIT // 24 * 24)
         with self.subTest(file="its stream"):

@@ -11,7 +11,7 @@ use std::process::Abort;
 use std::test::Fail;
 
 /// What stands in a buffer before anything is read.
-const NO_EVENT: Taken = Taken {
+pub const NO_EVENT: Taken = Taken {
     event: REPORT,
     time: 0,
     place: 0,
@@ -109,7 +109,7 @@ fn answers(rt: &impl Abort, device: &mut Device, step: Step, reply: Reply) {
 }
 
 /// Makes a step, where the caller's buffers have room for what it gives.
-fn make(
+pub fn make(
     rt: &impl Abort,
     device: &mut Device,
     step: Step,

@@ -2,8 +2,8 @@
 //! which threads share one.
 //!
 //! A crate with tests is proved twice, once without and once with them. So the crates under test have none of their own:
-//! their tests stand here, over public calls alone, in one file for each crate. The events and axes are those of
-//! `inp_core_tests`.
+//! their tests stand here, over public calls alone, in one file for each crate, and in `limit` those of a device whose
+//! history is full. The events and axes are those of `inp_core_tests`.
 #![tactic(auto)]
 
 #[cfg(test)]
@@ -12,6 +12,8 @@ mod client;
 mod device;
 #[cfg(test)]
 mod filter;
+#[cfg(test)]
+mod limit;
 #[cfg(test)]
 mod port;
 #[cfg(test)]
