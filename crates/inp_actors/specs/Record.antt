@@ -1,7 +1,7 @@
 -- What a record holds, and what it keeps (docs/FORMATS.md, "The record").
 use Rattle.std.specs.Prelude.{◌≡◌, ℕ, ◌^◌, ◌<◌, ◌≤◌, true, List, [], ◌∷◌, length, flat_map, slice_get, Some}
 use Rattle.std.specs.List.{range_with_len}
-use Rattle.inp_model.specs.declared.stamped.TheConstants.{MOMENT_MAX}
+use Rattle.inp_model.specs.Injecting.{AreInTime}
 use Rattle.inp_model.specs.declared.stamped.Stamped.{Stamped}
 use Rattle.inp_actors.specs.declared.command.Command.{Command}
 use Rattle.inp_actors.specs.declared.command.Command.TheVariants.{Stream}
@@ -29,10 +29,6 @@ stream_of _ = []
 -- the numbers of the streams that lines take, in line order
 abbrev pub streams_of : List Line → List ℕ
 streams_of lines = flat_map (λ line. stream_of line.command) lines
-
--- the moments of these events are within their limit
-abbrev pub AreInTime : List Stamped → Type 0
-AreInTime stamps = (i : ℕ) (s : Stamped) → slice_get stamps i ≡ Some s → s.now ≤ MOMENT_MAX
 
 -- What each record keeps.
 pub record IsRecord (r : RecordView) : Type 0 where

@@ -12,4 +12,5 @@ pub mod Standing
 pub mod Stored
 pub mod Making
 pub mod Entering
+pub mod Injecting
 pub mod WordLists

@@ -1,8 +1,10 @@
 //! The device.
-ghost use Rattle.std.specs.Prelude.{◌≡◌, ◌≤◌, [], length, reverse, IfOk, ◌↔◌, sum_by, All};
+ghost use Rattle.std.specs.Prelude.{◌≡◌, ◌≤◌, ◌<◌, ◌+◌, [], ◌∷◌, length, reverse, IfOk, ◌↔◌, sum_by, All};
 ghost use Rattle.inp_model.specs.declared.limits.TheConstants.{LOG_MAX};
 ghost use Rattle.inp_model.specs.declared.stamped.TheConstants.{MOMENT_MAX};
+ghost use Rattle.inp_model.specs.declared.step.Step.TheVariants.{Inject};
 ghost use Rattle.inp_model.specs.History.{IsHistory};
+ghost use Rattle.inp_model.specs.Injecting.{AreInTime, entered_count, history_with};
 ghost use Rattle.inp_model.specs.Past.{open_clients};
 ghost use Rattle.inp_model.specs.Queue.{queue};
 ghost use Rattle.inp_model.specs.Step.{moment_of};
@@ -12,7 +14,7 @@ ghost use Rattle.inp_model.specs.Evdev.{agains_after};
 use crate::present::Present;
 use crate::replies::{count_again, refuse};
 use inp_caps::Caps;
-use inp_model::{Evdev, History, NoMemory, Refusal, Reply, Step, Taken};
+use inp_model::{Evdev, Event, History, Injected, NoMemory, Refusal, Reply, Stamped, Step, Taken};
 use std::alloc::Global;
 use std::marker::Model;
 use std::mem::size_of;
@@ -122,6 +124,47 @@ impl Device {
         }
     }
 
+    /// Injects events, each at its own moment, as many of them as the log limit leaves room for. They are entered in order,
+    /// as steps `Inject` are.
+    ///
+    /// The cost of an event does not grow with the history, nor with the number of events. No memory is taken.
+    ///
+    /// The caller must pass moments of at most `MOMENT_MAX`.
+    pub fn inject_all(&mut self, events: &[Stamped]) -> Injected
+        requires moments { AreInTime events.now }
+        ensures from { result.from ≡ length self.old.past }
+        ensures count { result.count
+            ≡ entered_count self.old.description result.from events.now }
+        ensures within { result.from + result.count ≤ LOG_MAX }
+        ensures entered { reverse self.new.past
+            ≡ history_with (reverse self.old.past) result.count events.now }
+        ensures description { self.new.description ≡ self.old.description }
+        ensures agains { self.new.agains ≡ self.old.agains }
+        ensures accepted { IsHistory self.new.description self.new.past }
+        ensures before { IsHistory self.old.description self.old.past }
+    {
+        let from = self.steps.len();
+        let count = events.len().min(self.present.caps.log() as usize - from);
+        for stamped in &events[..count] {
+            self.enter(stamped.event, stamped.now);
+        }
+        Injected {
+            from: from as u32,
+            count: count as u32,
+        }
+    }
+
+    // Injects one event, for which there is room in the history.
+    fn enter(&mut self, event: Event, now: u64)
+        requires moment { now ≤ MOMENT_MAX }
+        requires room { length self.old.past < self.old.description.log_limit }
+        ensures entered { self.new ≡ record self.old { past = Inject event now ∷ self.old.past } }
+        ensures accepted { IsHistory self.new.description self.new.past }
+    {
+        self.present.inject(&self.steps, event, now);
+        self.steps.push(Step::Inject { event, now }).unwrap();
+    }
+
     /// How many events are kept: each event of a frame that at least one queue holds, once, and each SYN_DROPPED.
     ///
     /// It is 0 exactly where all queues are empty. It is at least the length of the longest queue, and at most that of all
@@ -163,5 +206,9 @@ impl Evdev for Device {
 
     fn call(&mut self, step: Step, out: &mut [Taken], cells: &mut [i32]) -> Reply {
         self.step(step, out, cells)
+    }
+
+    fn inject_all(&mut self, events: &[Stamped]) -> Injected {
+        Device::inject_all(self, events)
     }
 }

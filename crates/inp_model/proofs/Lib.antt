@@ -1,6 +1,7 @@
 pub mod Allowed
 pub mod Computing
 pub mod Descriptions
+pub mod Injecting
 pub mod Leaves
 pub mod Lefts
 pub mod Opens

@@ -64,7 +64,7 @@ past_at_end past more n e =
     ∙ reverse-reverse past
 
 -- one step more, oldest first
-turned : (past : List Step) (x : Step) → reverse (x ∷ past) ≡ reverse past ++ x ∷ []
+pub turned : (past : List Step) (x : Step) → reverse (x ∷ past) ≡ reverse past ++ x ∷ []
 turned past x =
     ap reverse (sym (reverse-append (reverse past) (x ∷ []) ∙ ap (λ (ss : List Step). x ∷ ss) (reverse-reverse past)))
     ∙ reverse-reverse (reverse past ++ x ∷ [])
@@ -92,6 +92,7 @@ called_by d past agains x given true enters placed exact h =
           ∙ sym (ap (λ b. if b then range_with_len 0 (length past) ++ place_of given.reply ∷ [] else range_with_len 0 (length past)) enters);
       agains = refl;
       turns = tt;
+      rises = λ _. tt;
       history = subst (IsHistory d) (sym (reverse-reverse (x ∷ past))) (h, accepted-unrefused d past x given exact enters);
     }
 called_by d past agains x given false enters placed exact h =
@@ -109,6 +110,7 @@ called_by d past agains x given false enters placed exact h =
       own = sym (ap (λ b. if b then range_with_len 0 (length past) ++ place_of given.reply ∷ [] else range_with_len 0 (length past)) enters);
       agains = refl;
       turns = tt;
+      rises = λ _. tt;
       history = subst (IsHistory d) (sym (reverse-reverse past)) h;
     }
 
@@ -131,4 +133,5 @@ evdev_called before after x reply out new_out cells new_cells step same counted 
       cells_written = step.cells_written;
       is_call = subst (λ (v : DeviceView). IsCall (evdev_view before) (evdev_view v) (record { step = x; answer = given })) is
           (called_by before.description before.past before.agains x given (is_accepted given.reply) refl placed step.exact history);
+      turns = tt;
     }

@@ -6,6 +6,7 @@ use Rattle.inp_model.specs.declared.reply.Reply.{Reply}
 use Rattle.inp_model.specs.declared.reply.Reply.TheVariants.{Again}
 use Rattle.inp_model.specs.Description.{Description}
 use Rattle.inp_model.specs.History.{IsHistory}
+use Rattle.inp_model.specs.Step.{is_inject}
 use Rattle.inp_model.specs.Reply.{is_accepted, written}
 use Rattle.inp_model.specs.Run.{Call, place_of, next_place, HasPlace}
 
@@ -45,7 +46,14 @@ TurnsRise None after = Unit {0}
 TurnsRise (Some m) None = ⊥
 TurnsRise (Some m) (Some n) = m < n
 
--- What a call with its answer leaves of what is told.
+-- where turns are told they do not fall
+abbrev pub TurnsStand : Option ℕ → Option ℕ → Type 0
+TurnsStand None after = Unit {0}
+TurnsStand (Some m) None = ⊥
+TurnsStand (Some m) (Some n) = m ≤ n
+
+-- What a call with its answer leaves of what is told. Many events may be injected under one turn, so turns need not rise
+-- at each of these.
 pub record IsCall (before after : EvdevView) (call : Call) : Type 0 where
   pub description : after.description ≡ before.description
   pub tie : after.tie ≡ before.tie
@@ -59,11 +67,12 @@ pub record IsCall (before after : EvdevView) (call : Call) : Type 0 where
   pub placed : HasPlace after.description after.seen call
   pub own : after.own ≡ own_after call.answer.reply before.own
   pub agains : after.agains ≡ agains_after call.answer.reply before.agains
-  pub turns : TurnsRise before.turns after.turns
+  pub turns : TurnsStand before.turns after.turns
+  pub rises : is_inject call.step ≡ false → TurnsRise before.turns after.turns
   -- what is seen is a history of accepted steps
   pub history : IsHistory after.description (reverse after.seen)
 
--- the same, by the step and by what the caller gets
+-- the same, by the step and by what the caller gets; the call has a turn of its own, whatever its step is
 pub record IsEvdevCall (before after : EvdevView) (x : Step) (reply : Reply) (out new_out : List Taken) (cells new_cells : List ℤ) : Type 0 where
   pub call : Call
   pub step : call.step ≡ x
@@ -71,3 +80,4 @@ pub record IsEvdevCall (before after : EvdevView) (x : Step) (reply : Reply) (ou
   pub out_written : new_out ≡ written call.answer.events out
   pub cells_written : new_cells ≡ written call.answer.cells cells
   pub is_call : IsCall before after call
+  pub turns : TurnsRise before.turns after.turns

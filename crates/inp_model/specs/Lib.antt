@@ -17,6 +17,7 @@ pub mod History
 pub mod Run
 pub mod Evdev
 pub mod Leaves
+pub mod Injecting
 pub mod DeviceView
 pub mod Examples
 pub mod QueryExamples
@@ -24,3 +25,4 @@ pub mod SlotExamples
 pub mod ClientExamples
 pub mod RepeatExamples
 pub mod AxisExamples
+pub mod InjectingExamples

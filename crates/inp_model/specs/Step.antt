@@ -61,6 +61,11 @@ moment_of (Inhibit now) = now
 moment_of Uninhibit = 0
 moment_of End = 0
 
+-- an event is injected
+abbrev pub is_inject : Step → Bool
+is_inject (Inject e now) = true
+is_inject _ = false
+
 -- a client opens (docs/RULES.md, "Opening and closing")
 abbrev pub is_open_step : Step → Bool
 is_open_step Open = true

@@ -4,8 +4,9 @@ ghost use Rattle.inp_model.specs.declared.stamped.TheConstants.{MOMENT_MAX};
 ghost use Rattle.inp_model.specs.Step.{moment_of};
 ghost use Rattle.inp_model.specs.Reply.{HasRoom};
 ghost use Rattle.inp_model.specs.Evdev.{EvdevView, IsEvdevCall};
+ghost use Rattle.inp_model.specs.Injecting.{AreInTime, IsInjectAll};
 
-use crate::{Reply, Step, Taken};
+use crate::{Injected, Reply, Stamped, Step, Taken};
 
 /// Whatever makes steps on a device for one caller and answers them: the device itself, or a share of one (evdev's
 /// system calls).
@@ -26,4 +27,15 @@ pub trait Evdev {
         requires room { HasRoom (told self.old).description step out.old cells.old }
         ensures called { IsEvdevCall
             (told self.old) (told self.new) step result out.old out.new cells.old cells.new };
+
+    /// Injects events, each at its own moment, up to the first for which the log limit leaves no room. They stand in the
+    /// history one after another, with nothing between. To the caller each one is a call, and so is the first one that is
+    /// left out, if one is: it is refused as `LogFull`, and those after it are no calls.
+    ///
+    /// It takes no memory. Where the caller is told its turns they rise, also for no events.
+    ///
+    /// The moments must be at most `MOMENT_MAX`.
+    fn inject_all(&mut self, events: &[Stamped]) -> Injected
+        requires moments { AreInTime events.now }
+        ensures injected { IsInjectAll (told self.old) (told self.new) events.now result };
 }

@@ -10,15 +10,18 @@
 //! and the like, axes, and the slots of multi-touch devices, with `Defuzz` for axes and slots), the events passed
 //! (`Passed`), the frames that they are cut into (`Cut`, `Frame`), each client's queue (`Queue`) and the reply to the
 //! next step (`Reply`). `Run` says when a caller's calls are a legal run of a history, and `Evdev` what one call of
-//! whatever makes steps leaves of what its caller sees. `examples`, `query_examples`, `slot_examples`, `client_examples`,
-//! `repeat_examples` and `axis_examples` show what the definitions compute on short histories.
+//! whatever makes steps leaves of what its caller sees, with `Leaves` for several and
+//! `Injecting` for a call that injects many events. `examples`, `query_examples`, `slot_examples`, `client_examples`,
+//! `repeat_examples`, `axis_examples` and `injecting_examples` show what the definitions compute on short histories.
 #![tactic(auto)]
 
 mod axis_info;
 mod clock;
 mod evdev;
 mod event;
+mod injected;
 mod items;
+mod laws;
 mod limits;
 mod multi_touch;
 mod no_memory;
@@ -37,7 +40,9 @@ pub use event::{
     KEY_A, KEY_MAX, LED_MAX, MSC_MAX, REL_MAX, REP_DELAY, REP_MAX, REP_PERIOD, SND_MAX, SW_MAX,
     SYN_CONFIG, SYN_DROPPED, SYN_MT_REPORT, SYN_REPORT,
 };
+pub use injected::Injected;
 pub use items::{History, Items};
+pub use laws::injected_events_are_calls;
 pub use limits::{CLIENTS_MAX, FUZZ_MAX, HINT_MAX, HINT_MIN, LOG_MAX, SLOTS_MAX};
 pub use multi_touch::{
     ABS_MT_BLOB_ID, ABS_MT_DISTANCE, ABS_MT_ORIENTATION, ABS_MT_POSITION_X, ABS_MT_POSITION_Y,
@@ -48,7 +53,8 @@ pub use multi_touch::{
 pub use no_memory::NoMemory;
 pub use reply::{Refusal, Reply};
 pub use short_histories::{
-    axis_examples, client_examples, examples, query_examples, repeat_examples, slot_examples,
+    axis_examples, client_examples, examples, injecting_examples, query_examples, repeat_examples,
+    slot_examples,
 };
 pub use stamped::{MOMENT_MAX, Stamped};
 pub use step::Step;

@@ -4,6 +4,7 @@ ghost use Rattle.inp_model.specs.SlotExamples.{NamesTheSlot, TellsAllSlots, Tell
 ghost use Rattle.inp_model.specs.Examples.{RingOf128, ReadsAFrame, PassesAChangeOnce, ReadsNothing, NeedsAClient, ReadsNone, ReadsInParts, HidesAnOpenBatch, OffersAWholeFrame, PassesARepeat, KeepsTheKeyUp, IgnoresOthers, CutsAFullPacket, LosesAFullRing, LosesInAFrame, KeepsAllButOne, IsLegalAmongOthers, DescribesAKeyboard, PassesAnLedOnce, PassesASwitchOnce, PassesEachSound, PassesMotion, PassesAMove, PassesASetting};
 ghost use Rattle.inp_model.specs.ClientExamples.{LosesASmallRing, LosesBeforeTheReport, DiscardsAll, ForgetsAClosedClient, OpensSixtyFour, MasksAKey, MasksTypes, ChangesTheClock, KeepsTime, GrabsOnce, GrabsFrames, WritesToAll, RevokesForGood, RefusesInOrder};
 ghost use Rattle.inp_model.specs.AxisExamples.{DescribesAnAxis, MovesByTheNewFuzz, LeavesTheBatch, DescribesWhileInhibited, TakesAnyValue, RefusesDescriptions};
+ghost use Rattle.inp_model.specs.InjectingExamples.{CountsToTheLimit, EntersToTheLimit, CallsToTheLimit};
 ghost use Rattle.inp_model.specs.RepeatExamples.{RepeatsAKey, StopsAtARelease, RepeatsOnce, RepeatsTheLastKey, InhibitsADevice, InhibitsOnce, CountsEnds};
 
 /// What the definitions of this crate compute on short histories that were worked out by hand. It does nothing: its
@@ -98,4 +99,11 @@ pub fn axis_examples()
     ensures inhibited { DescribesWhileInhibited }
     ensures value { TakesAnyValue }
     ensures refused { RefusesDescriptions }
+{}
+
+/// The same of many events that are injected by one call, at a limit of three steps.
+pub fn injecting_examples()
+    ensures counts { CountsToTheLimit }
+    ensures history { EntersToTheLimit }
+    ensures calls { CallsToTheLimit }
 {}

@@ -1,18 +1,22 @@
 -- A device has steps for entries: what is told of a port of it is what the pass has seen and owns.
-use Rattle.std.proofs.Common.{◌≡◌, ℕ, zero, suc, ◌<◌, Bool, true, false, not, cond, if◌then◌else◌, List, [], ◌∷◌, ◌++◌, length, take, refl, sym, ap, ◌∙◌, subst, arith, ℤ, Option, Some}
+use Rattle.std.proofs.Common.{◌≡◌, ℕ, zero, suc, ◌+◌, ◌<◌, ◌≤◌, Bool, true, false, not, cond, if◌then◌else◌, List, [], ◌∷◌, ◌++◌, length, take, refl, sym, ap, ◌∙◌, subst, arith, ℤ, Option, Some}
 use Rattle.std.specs.Prelude.{All, map, filter, reverse}
-use Rattle.std.proofs.lemmas.List.{append-nil, reverse-reverse}
+use Rattle.std.proofs.lemmas.List.{append-nil, reverse-reverse, length-reverse}
 use Rattle.std.proofs.lemmas.List.Elements.{All-head, All-tail}
+use Rattle.inp_model.specs.declared.limits.TheConstants.{LOG_MAX}
+use Rattle.inp_model.specs.declared.injected.Injected.{Injected}
+use Rattle.inp_model.specs.declared.stamped.Stamped.{Stamped}
 use Rattle.inp_model.specs.declared.step.Step.{Step}
 use Rattle.inp_model.specs.declared.reply.Reply.{Reply}
 use Rattle.inp_model.specs.declared.taken.Taken.{Taken}
 use Rattle.inp_model.specs.Description.{Description}
 use Rattle.inp_model.specs.History.{IsHistory}
+use Rattle.inp_model.specs.Injecting.{inject_of, entered_count, history_with}
 use Rattle.inp_model.specs.Reply.{is_accepted, past_after, IsDeviceStep}
 use Rattle.inp_turn.specs.declared.pass_view.PassView.{PassView}
 use Rattle.inp_turn.specs.PassView.{OwnsSeen}
 use Rattle.inp_port.specs.Entries.{steps_of, past_of, is_step_at, steps_before, step_places, other_places, Grown}
-use Rattle.inp_port.specs.Served.{IsServed}
+use Rattle.inp_port.specs.Served.{IsServed, IsServedAll}
 use Rattle.inp_port.specs.Turn.{told_of}
 use Rattle.inp_port.proofs.Turns.{turned}
 
@@ -79,3 +83,14 @@ told-device d name v agains owns =
     let own = step_places-all v.seen v.own owns in
     let tie = ap (λ (l : List ℕ). v.share ∷ name ++ l) (other_places-none v.seen v.own owns) ∙ append-nil (v.share ∷ name) in
     λ i. record { description = d; seen = seen i; own = own i; agains = agains; turns = Some v.turns; tie = Some (tie i) }
+
+-- of many events
+pub device_served_all : (d e : Description) (past new : List Step) (events : List Stamped) (injected : Injected) → e ≡ d → injected.from ≡ length past → injected.count ≡ entered_count d injected.from events
+    → injected.from + injected.count ≤ LOG_MAX → reverse new ≡ history_with (reverse past) injected.count events → IsHistory e new → IsServedAll itself d (reverse past) events injected (reverse new)
+device_served_all d e past new events injected same from count within entered h = record {
+  from = from ∙ sym (length-reverse past) ∙ sym (ap length (steps-all (reverse past)));
+  count = count;
+  within = within;
+  grown = (map inject_of (take injected.count events), entered, refl);
+  accepted = subst (IsHistory d) (sym (past-same new)) (subst (λ (k : Description). IsHistory k new) same h);
+}

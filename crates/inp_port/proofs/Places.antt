@@ -76,15 +76,15 @@ module _ {E : Type 0} (made : E → Option Step) where
   is_step_at-end : (es : List E) (e : E) (x : Step) → made e ≡ Some x → is_step_at made (es ++ e ∷ []) (length es) ≡ true
   is_step_at-end es e x is = ap (λ (o : Option E). is_some (option_and_then made o)) (slice_get-seam es [] e) ∙ ap (λ (o : Option Step). is_some o) is
 
-  step_places-end : (es : List E) (e : E) (x : Step) → made e ≡ Some x → step_places made (es ++ e ∷ []) (length es ∷ []) ≡ length (steps_of made es) ∷ []
+  pub step_places-end : (es : List E) (e : E) (x : Step) → made e ≡ Some x → step_places made (es ++ e ∷ []) (length es ∷ []) ≡ length (steps_of made es) ∷ []
   step_places-end es e x is =
       ap (λ b. map (steps_before made (es ++ e ∷ [])) (cond b (length es ∷ []) [])) (is_step_at-end es e x is)
       ∙ ap (λ (l : List E). length (steps_of made l) ∷ []) (take-append_seam es (e ∷ []))
 
-  other_places-end : (es : List E) (e : E) (x : Step) → made e ≡ Some x → other_places made (es ++ e ∷ []) (length es ∷ []) ≡ []
+  pub other_places-end : (es : List E) (e : E) (x : Step) → made e ≡ Some x → other_places made (es ++ e ∷ []) (length es ∷ []) ≡ []
   other_places-end es e x is = ap (λ b. cond (not b) (length es ∷ []) []) (is_step_at-end es e x is)
 
-  step_places-append : (es : List E) (own more : List ℕ) → step_places made es (own ++ more) ≡ step_places made es own ++ step_places made es more
+  pub step_places-append : (es : List E) (own more : List ℕ) → step_places made es (own ++ more) ≡ step_places made es own ++ step_places made es more
   step_places-append es own more =
       ap (map (steps_before made es)) (filter-append (is_step_at made es) own more)
       ∙ map-append (steps_before made es) (filter (is_step_at made es) own) (filter (is_step_at made es) more)

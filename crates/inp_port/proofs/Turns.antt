@@ -81,6 +81,7 @@ module _ {E : Type 0} (made : E → Option Step) where
             ∙ ap (λ t. if t then step_places made v.seen v.own ++ place_of given.reply ∷ [] else step_places made v.seen v.own) (sym enters);
         agains = refl;
         turns = omega (arith, turns);
+        rises = λ _. omega (arith, turns);
         history = subst (λ (ss : List Step). IsHistory d (reverse ss)) now c.history;
       }
 
@@ -97,6 +98,7 @@ module _ {E : Type 0} (made : E → Option Step) where
         cells_written = s.cells_written;
         is_call = subst (λ (r : Reply). IsCall (told_of made d name v agains) (told_of made d name w (agains_after r agains)) (record { step = x; answer = s.given })) (sym s.replied)
             (called_at d name v w t.found x s.given (is_accepted reply) agains (sym same) s.exact t.served.accepted owns t.begins t.served.grown t.own t.turns t.share);
+        turns = omega (arith, t.turns);
       }
 
   -- what the pass has seen is still there

@@ -33,3 +33,7 @@ module _ {E : Type 0} (made : E → Option Step) where
   abbrev pub Grown : List E → Step → Bool → List E → Type 0
   Grown entries x true now = (e : E) × (made e ≡ Some x) × (now ≡ entries ++ e ∷ [])
   Grown entries x false now = now ≡ entries
+
+  -- the entries after these steps, which are the last ones, in order and with nothing between
+  abbrev pub GrownBy : List E → List Step → List E → Type 0
+  GrownBy entries steps now = (more : List E) × (now ≡ entries ++ more) × (map made more ≡ map Some steps)

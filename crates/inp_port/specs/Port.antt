@@ -1,10 +1,13 @@
 -- What a contract sees of a port, and of a pass of it.
 use Rattle.std.specs.Prelude.{◌≡◌, ℕ, ℤ, false, List, Option, Some}
+use Rattle.inp_model.specs.declared.injected.Injected.{Injected}
+use Rattle.inp_model.specs.declared.stamped.Stamped.{Stamped}
 use Rattle.inp_model.specs.declared.step.Step.{Step}
 use Rattle.inp_model.specs.declared.reply.Reply.{Reply}
 use Rattle.inp_model.specs.declared.taken.Taken.{Taken}
 use Rattle.inp_model.specs.Description.{Description}
 use Rattle.inp_model.specs.Evdev.{EvdevView, IsEvdevCall, agains_after}
+use Rattle.inp_model.specs.Injecting.{IsInjectAll}
 use Rattle.inp_turn.specs.declared.kept.Kept.{Ghosts}
 use Rattle.inp_turn.specs.declared.pass.Pass.{Pass}
 use Rattle.inp_turn.specs.declared.shared.Shared.{Shared}
@@ -41,3 +44,8 @@ module _ {S E : Type 0} where
     abbrev pub IsCallBy : (E → Option Step) → PortOf S E → Pass S Description E K → Pass S Description E K → Step → Reply → List Taken → List Taken → List ℤ → List ℤ → Type 0
     IsCallBy made port before after x reply out new_out cells new_cells =
         (agains : ℕ) → IsEvdevCall (told_by made port before agains) (told_by made port after (agains_after reply agains)) x reply out new_out cells new_cells
+
+    -- the same of a call that injects events: answers Again are none of it
+    abbrev pub IsInjectAllBy : (E → Option Step) → PortOf S E → Pass S Description E K → Pass S Description E K → List Stamped → Injected → Type 0
+    IsInjectAllBy made port before after events injected =
+        (agains : ℕ) → IsInjectAll (told_by made port before agains) (told_by made port after agains) events injected

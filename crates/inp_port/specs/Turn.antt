@@ -1,6 +1,9 @@
 -- What a call under the turn leaves of a pass, and what a caller is told through one.
-use Rattle.std.specs.Prelude.{◌≡◌, ℕ, ◌+◌, ℤ, List, ◌∷◌, ◌++◌, Option, Some}
+use Rattle.std.specs.Prelude.{◌≡◌, ℕ, ◌+◌, ℤ, List, ◌∷◌, ◌++◌, length, Option, Some}
+use Rattle.std.specs.List.{range_with_len}
 use mathlib.Core.List.{IsPrefix}
+use Rattle.inp_model.specs.declared.injected.Injected.{Injected}
+use Rattle.inp_model.specs.declared.stamped.Stamped.{Stamped}
 use Rattle.inp_model.specs.declared.step.Step.{Step}
 use Rattle.inp_model.specs.declared.reply.Reply.{Reply}
 use Rattle.inp_model.specs.declared.taken.Taken.{Taken}
@@ -9,7 +12,7 @@ use Rattle.inp_model.specs.Evdev.{EvdevView}
 use Rattle.inp_turn.specs.declared.pass_view.PassView.{PassView}
 use Rattle.inp_turn.specs.PassView.{added_places}
 use Rattle.inp_port.specs.Entries.{steps_of, step_places, other_places}
-use Rattle.inp_port.specs.Served.{IsServed}
+use Rattle.inp_port.specs.Served.{IsServed, IsServedAll}
 
 module _ {E : Type 0} (made : E → Option Step) where
   -- One turn was taken for the step, and it was answered from the entries that the value had then. The pass has seen these
@@ -20,6 +23,18 @@ module _ {E : Type 0} (made : E → Option Step) where
     pub begins : IsPrefix before.seen found
     pub served : IsServed made d found x reply out new_out cells new_cells after.seen
     pub own : after.own ≡ before.own ++ added_places found after.seen
+    pub turns : after.turns ≡ before.turns + 1
+    pub share : after.share ≡ before.share
+    pub base : after.base ≡ before.base
+
+  -- One turn was taken for all events, also for none. The pass has seen what was found then and the entries of the events,
+  -- whose places are its own.
+  pub record IsServedAllTurn (d : Description) (before : PassView Description E) (events : List Stamped) (injected : Injected) (after : PassView Description E) : Type 0 where
+    -- what the value had when the turn was taken
+    pub found : List E
+    pub begins : IsPrefix before.seen found
+    pub served : IsServedAll made d found events injected after.seen
+    pub own : after.own ≡ before.own ++ range_with_len (length found) injected.count
     pub turns : after.turns ≡ before.turns + 1
     pub share : after.share ≡ before.share
     pub base : after.base ≡ before.base

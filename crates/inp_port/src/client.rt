@@ -4,7 +4,7 @@ ghost use Rattle.inp_port.specs.Port.{IsReadyAt};
 use crate::port::PortOf;
 use crate::served::Served;
 use inp_device::{Device, count_again};
-use inp_model::{Evdev, Reply, Step, Taken};
+use inp_model::{Evdev, Injected, Reply, Stamped, Step, Taken};
 use inp_turn::Pass;
 use std::sync::Wait;
 
@@ -37,5 +37,9 @@ impl<'a, S: Served, R: Wait> Evdev for PortClientOf<'a, S, R> {
         let reply = self.port.call(self.rt, &mut self.pass, step, out, cells);
         self.agains = count_again(reply, self.agains);
         reply
+    }
+
+    fn inject_all(&mut self, events: &[Stamped]) -> Injected {
+        self.port.inject_all(self.rt, &mut self.pass, events)
     }
 }

@@ -4,13 +4,14 @@ ghost use mathlib.Core.List.{IsPrefix};
 ghost use Rattle.inp_model.specs.declared.stamped.TheConstants.{MOMENT_MAX};
 ghost use Rattle.inp_model.specs.Step.{moment_of};
 ghost use Rattle.inp_model.specs.Reply.{HasRoom};
+ghost use Rattle.inp_model.specs.Injecting.{AreInTime};
 ghost use Rattle.inp_turn.specs.Pass.{view_of};
 ghost use Rattle.inp_turn.specs.PassView.{whole_share, first_view, view_after_split, split_off_view, view_after_join, AreApart, IsEachAddedOnce};
 
 use crate::served::Served;
 use inp_caps::Caps;
 use inp_device::Device;
-use inp_model::{NoMemory, Reply, Step, Taken};
+use inp_model::{Injected, NoMemory, Reply, Stamped, Step, Taken};
 use inp_turn::{Pass, Shared};
 use std::alloc::Global;
 use std::sync::Wait;
@@ -29,8 +30,8 @@ pub struct PortOf<S: Served> {
 pub type Port = PortOf<Device>;
 
 impl<S: Served> PortOf<S> {
-    ghost use Rattle.inp_port.specs.Turn.{IsServedTurn};
-    ghost use Rattle.inp_port.specs.Port.{description_of, shared_of, first_of, IsReadyAt, IsCallBy};
+    ghost use Rattle.inp_port.specs.Turn.{IsServedTurn, IsServedAllTurn};
+    ghost use Rattle.inp_port.specs.Port.{description_of, shared_of, first_of, IsReadyAt, IsCallBy, IsInjectAllBy};
 
     /// Shares a value, and makes the first pass. It has the whole share, has seen all entries and owns none.
     ///
@@ -140,5 +141,28 @@ impl<S: Served> PortOf<S> {
         let reply = held.state.serve(step, out, cells);
         self.shared.give(pass, held);
         reply
+    }
+
+    /// Takes the turn once, injects events under it, each at its own moment, and gives the turn back. As many are entered as
+    /// the log limit leaves room for, one behind another, and their places are then the pass's own. The pass has then seen
+    /// all that was entered before them, and them. The turn is taken also for no events.
+    ///
+    /// It waits for the turn, and nothing says that it gets it. Others wait for it while the events are injected, whose cost
+    /// grows with their number alone. It takes no memory.
+    ///
+    /// The pass must be one of this port, without the turn. The moments must be at most `MOMENT_MAX`.
+    pub fn inject_all<R: Wait>(&self, rt: &R, pass: &mut Pass<S>, events: &[Stamped]) -> Injected
+        requires ready { IsReadyAt self.now pass.old }
+        requires moments { AreInTime events.now }
+        ensures ready { IsReadyAt self.now pass.new }
+        ensures seen { IsPrefix (view_of pass.old).seen (view_of pass.new).seen }
+        ensures served { IsServedAllTurn S.made (description_of self.now) (view_of pass.old)
+            events.now result (view_of pass.new) }
+        ensures injected { IsInjectAllBy S.made self.now pass.old pass.new events.now result }
+    {
+        let mut held = self.shared.take(rt, pass);
+        let injected = held.state.serve_all(events);
+        self.shared.give(pass, held);
+        injected
     }
 }

@@ -4,10 +4,11 @@ ghost use Rattle.inp_model.specs.declared.stamped.TheConstants.{MOMENT_MAX};
 ghost use Rattle.inp_model.specs.declared.step.Step.{Step};
 ghost use Rattle.inp_model.specs.Step.{moment_of};
 ghost use Rattle.inp_model.specs.Reply.{HasRoom};
-ghost use Rattle.inp_port.specs.Served.{IsServed};
+ghost use Rattle.inp_model.specs.Injecting.{AreInTime};
+ghost use Rattle.inp_port.specs.Served.{IsServed, IsServedAll};
 
 use inp_caps::Caps;
-use inp_model::{Reply, Step, Taken};
+use inp_model::{Injected, Reply, Stamped, Step, Taken};
 use inp_turn::Kept;
 
 /// A kept value that makes the steps of a device. It stands on the description of one, and the steps that it accepted are
@@ -31,4 +32,14 @@ pub trait Served: Kept<Base = Caps> {
         ensures description { Self.base self.new ≡ Self.base self.old }
         ensures served { IsServed made (Self.base self.old) (Self.entries self.old) step result
             out.old out.new cells.old cells.new (Self.entries self.new) };
+
+    /// Injects events, each at its own moment, as many of them as the log limit leaves room for. These are entered in order,
+    /// and nothing else is. It takes no memory.
+    ///
+    /// The moments must be at most `MOMENT_MAX`.
+    fn serve_all(&mut self, events: &[Stamped]) -> Injected
+        requires moments { AreInTime events.now }
+        ensures description { Self.base self.new ≡ Self.base self.old }
+        ensures served { IsServedAll made (Self.base self.old) (Self.entries self.old)
+            events.now result (Self.entries self.new) };
 }

@@ -1,0 +1,5 @@
+use Rattle.inp_model.proofs.Injecting.{injected-calls}
+use Rattle.inp_model.proofs.laws.injected_events_are_calls.Goals as goal
+
+pub returns : goal.returns
+returns c = record { calls = injected-calls }
