@@ -1,0 +1,151 @@
+-- What a call leaves of a device made by requests.
+use Rattle.std.proofs.Common.{◌≡◌, ℕ, ◌≤◌, ◌<◌, Bool, true, false, if◌then◌else◌, List, [], ◌∷◌, ◌++◌, length, take, drop, reverse, sym, ap, ◌∙◌, subst, arith, ℤ}
+use Rattle.std.specs.Prelude.{nat_le, min}
+use Rattle.std.proofs.lemmas.List.{reverse-append, length-take, take_min}
+use Rattle.std.proofs.lemmas.Bool.{le-leb}
+use Rattle.std.proofs.lemmas.Bool.Decides.{nat_tests}
+use Rattle.circular_buffer.specs.Buffer.{buffer}
+use Rattle.inp_model.specs.declared.event.Event.{Event}
+use Rattle.inp_model.specs.declared.taken.Taken.{Taken}
+use Rattle.inp_model.specs.declared.step.Step.{Step}
+use Rattle.inp_model.specs.declared.reply.Reply.{Reply}
+use Rattle.inp_model.specs.Description.{Description}
+use Rattle.inp_model.specs.DeviceView.{DeviceView}
+use Rattle.inp_model.specs.History.{IsHistory}
+use Rattle.inp_model.specs.Reply.{is_accepted, past_after, written, IsDeviceStep}
+use Rattle.inp_uinput.specs.declared.u_entry.UEntry.{UEntry}
+use Rattle.inp_uinput.specs.declared.u_entry.UEntry.TheVariants.{Made, Feedback}
+use Rattle.inp_uinput.specs.declared.fed.Fed.TheVariants.{Took, Full}
+use Rattle.inp_uinput.specs.declared.feedback_call.FeedbackCall.{FeedbackCall}
+use Rattle.inp_uinput.specs.declared.outputs.Outputs.{Outputs}
+use Rattle.inp_uinput.specs.UEntry.{steps_in, kept_after_step}
+use Rattle.inp_uinput.specs.UdevView.{UdevView}
+use Rattle.inp_uinput.specs.Feedback.{feedback_queue, is_full_of_feedback, taken_by_feedback, fed, kept_after_feedback}
+use Rattle.inp_uinput.specs.Keeping.{kept_of, StandsWithin, AreOutputs, IsKeptBeside}
+use Rattle.inp_uinput.proofs.Lists.{steps_in-kept_of, feedback_count-kept_of, kept_of-nothing, kept_of-made, kept_of-fed, within-more}
+use Rattle.inp_uinput.proofs.Noting.{fed_outputs}
+
+-- A step
+
+-- what a device did to its past, over the steps of a kept list
+pub step_over : (d : Description) (past new : List Step) (calls : List FeedbackCall) (x : Step) (reply : Reply) (out new_out : List Taken) (cells new_cells : List ℤ) → IsDeviceStep d past x reply out new_out cells new_cells new
+    → IsDeviceStep d (steps_in (kept_of past calls)) x reply out new_out cells new_cells (steps_in (kept_of new calls))
+step_over d past new calls x reply out new_out cells new_cells s =
+    subst (λ (p : List Step). IsDeviceStep d p x reply out new_out cells new_cells (steps_in (kept_of new calls))) (sym (steps_in-kept_of past calls))
+    (subst (λ (n : List Step). IsDeviceStep d past x reply out new_out cells new_cells n) (sym (steps_in-kept_of new calls)) s)
+
+pub history_over : (d : Description) (past : List Step) (calls : List FeedbackCall) → IsHistory d past → IsHistory d (steps_in (kept_of past calls))
+history_over d past calls h = subst (IsHistory d) (sym (steps_in-kept_of past calls)) h
+
+kept_by : (past new : List Step) (calls : List FeedbackCall) (x : Step) (b : Bool) → StandsWithin (length past) calls → new ≡ (if b then x ∷ past else past) → kept_of new calls ≡ (if b then Made x ∷ kept_of past calls else kept_of past calls)
+kept_by past new calls x true within e = ap (λ p. kept_of p calls) e ∙ kept_of-made past calls x within
+kept_by past new calls x false within e = ap (λ p. kept_of p calls) e
+
+pub step_kept : (past new : List Step) (calls : List FeedbackCall) (x : Step) (reply : Reply) → StandsWithin (length past) calls → new ≡ past_after reply x past → kept_of new calls ≡ kept_after_step reply x (kept_of past calls)
+step_kept past new calls x reply within e = kept_by past new calls x (is_accepted reply) within e
+
+-- what is kept beside the steps after a step that was accepted, and after one that was not
+pub beside_accepted : (d lent_d new_d : Description) (past new : List Step) (calls : List FeedbackCall) (capacity : ℕ) (x : Step) (reply : Reply) (old lent after : Outputs) → IsKeptBeside d past calls capacity old
+    → lent_d ≡ new_d → new_d ≡ d → lent ≡ old → new ≡ past_after reply x past → is_accepted reply ≡ true
+    → ((kept : List UEntry) → AreOutputs lent_d kept lent → AreOutputs lent_d (Made x ∷ kept) after) → IsKeptBeside new_d new calls capacity after
+beside_accepted d lent_d new_d past new calls capacity x reply old lent after k lends same is e accepted noted =
+    let entered : new ≡ x ∷ past = e ∙ ap (λ b. if b then x ∷ past else past) accepted in
+    let there : AreOutputs lent_d (kept_of past calls) lent = subst (λ (o : Outputs). AreOutputs lent_d (kept_of past calls) o) (sym is) (subst (λ (d : Description). AreOutputs d (kept_of past calls) old) (sym (lends ∙ same)) k.outputs) in
+    let outputs : AreOutputs d (Made x ∷ kept_of past calls) after = subst (λ (d : Description). AreOutputs d (Made x ∷ kept_of past calls) after) (lends ∙ same) (noted (kept_of past calls) there) in
+    subst (λ (d : Description). IsKeptBeside d new calls capacity after) (sym same) (subst (λ (p : List Step). IsKeptBeside d p calls capacity after) (sym entered) (record {
+      outputs = subst (λ (kept : List UEntry). AreOutputs d kept after) (sym (kept_of-made past calls x k.within)) outputs;
+      within = within-more (length past) calls k.within;
+      few = k.few;
+      room = k.room;
+    }))
+
+pub beside_refused : (d new_d : Description) (past new : List Step) (calls : List FeedbackCall) (capacity : ℕ) (x : Step) (reply : Reply) (old : Outputs) → IsKeptBeside d past calls capacity old
+    → new_d ≡ d → new ≡ past_after reply x past → is_accepted reply ≡ false → IsKeptBeside new_d new calls capacity old
+beside_refused d new_d past new calls capacity x reply old k same e refused =
+    subst (λ (d : Description). IsKeptBeside d new calls capacity old) (sym same)
+    (subst (λ (p : List Step). IsKeptBeside d p calls capacity old) (sym (e ∙ ap (λ b. if b then x ∷ past else past) refused)) k)
+
+-- A feedback call
+
+module _ (d : Description) (past : List Step) (calls : List FeedbackCall) (room : ℕ) where
+  abbrev kept : List UEntry
+  kept = kept_of past calls
+
+  abbrev queue : List Event
+  queue = feedback_queue d kept
+
+  -- where as many calls are kept as may be
+
+  pub at_limit : d.log_limit ≤ length calls → is_full_of_feedback d kept ≡ true
+  at_limit h = ap (nat_le d.log_limit) (feedback_count-kept_of past calls) ∙ le-leb d.log_limit (length calls) h
+
+  pub full_answer : is_full_of_feedback d kept ≡ true → Full (length past) ≡ fed d kept room
+  full_answer full = ap (λ (p : List Step). Full (length p)) (sym (steps_in-kept_of past calls)) ∙ ap (λ b. if b then Full (length (steps_in kept)) else Took (length (steps_in kept)) (length (taken_by_feedback d kept room))) (sym full)
+
+  pub full_taken : is_full_of_feedback d kept ≡ true → taken_by_feedback d kept room ≡ []
+  full_taken full = ap (λ b. if b then [] else take room queue) full
+
+  pub full_kept : is_full_of_feedback d kept ≡ true → kept ≡ kept_after_feedback d kept room
+  full_kept full = ap (λ b. if b then kept else Feedback (length (taken_by_feedback d kept room)) ∷ kept) (sym full)
+
+  -- where there is room for a call
+
+  pub below_limit : length calls < d.log_limit → is_full_of_feedback d kept ≡ false
+  below_limit h = ap (nat_le d.log_limit) (feedback_count-kept_of past calls) ∙ above d.log_limit (length calls) h
+    where
+      above : (a b : ℕ) → b < a → nat_le a b ≡ false
+      above a b h = grind (arith, nat_tests)
+
+  pub taken_some : is_full_of_feedback d kept ≡ false → taken_by_feedback d kept room ≡ take room queue
+  taken_some some = ap (λ b. if b then [] else take room queue) some
+
+  pub taken_count : (count : ℕ) → is_full_of_feedback d kept ≡ false → count ≡ min room (length queue) → count ≡ length (taken_by_feedback d kept room)
+  taken_count count some is = is ∙ sym (ap length (taken_some some) ∙ length-take room queue)
+
+  pub some_answer : (count : ℕ) → is_full_of_feedback d kept ≡ false → count ≡ min room (length queue) → Took (length past) count ≡ fed d kept room
+  some_answer count some is =
+      ap (λ (p : List Step). Took (length p) count) (sym (steps_in-kept_of past calls)) ∙ ap (λ n. Took (length (steps_in kept)) n) (taken_count count some is)
+      ∙ ap (λ b. if b then Full (length (steps_in kept)) else Took (length (steps_in kept)) (length (taken_by_feedback d kept room))) (sym some)
+
+  pub some_written : (count : ℕ) (out : List Event) → is_full_of_feedback d kept ≡ false → count ≡ min room (length queue) → take count queue ++ drop count out ≡ written (taken_by_feedback d kept room) out
+  some_written count out some is =
+      ap (λ n. take n queue ++ drop count out) is ∙ ap (λ es. es ++ drop count out) (take_min room queue ∙ sym (taken_some some))
+      ∙ ap (λ n. taken_by_feedback d kept room ++ drop n out) (taken_count count some is)
+
+  pub some_kept : (call : FeedbackCall) → is_full_of_feedback d kept ≡ false → call.at ≡ length past → call.count ≡ min room (length queue) → kept_of past (call ∷ calls) ≡ kept_after_feedback d kept room
+  some_kept call some at is =
+      kept_of-fed past calls call at ∙ ap (λ n. Feedback n ∷ kept) (taken_count call.count some is)
+      ∙ ap (λ b. if b then kept else Feedback (length (taken_by_feedback d kept room)) ∷ kept) (sym some)
+
+-- the calls, newest first
+pub calls_pushed : (calls : List FeedbackCall) (call : FeedbackCall) → call ∷ reverse calls ≡ reverse (calls ++ call ∷ [])
+calls_pushed calls call = sym (reverse-append calls (call ∷ []))
+
+pub beside_fed : (d : Description) (past : List Step) (calls : List FeedbackCall) (call : FeedbackCall) (capacity wider : ℕ) (old : Outputs) → IsKeptBeside d past calls capacity old → call.at ≡ length past → length calls < d.log_limit → capacity ≤ wider
+    → IsKeptBeside d past (call ∷ calls) wider (record old { waiting = buffer (drop call.count old.waiting.items) old.waiting.capacity })
+beside_fed d past calls call capacity wider old k at few wide = record {
+  outputs = subst (λ (kept : List UEntry). AreOutputs d kept (record old { waiting = buffer (drop call.count old.waiting.items) old.waiting.capacity })) (sym (kept_of-fed past calls call at)) (fed_outputs d (kept_of past calls) call.count old k.outputs);
+  within = omega (arith, at);
+  few = omega (arith, few);
+  room = omega (arith, k.room, wide);
+}
+
+-- A device that keeps nothing
+
+pub first_beside : (caps d : Description) (past : List Step) (agains : ℕ) (calls : List FeedbackCall) (capacity : ℕ) (made o : Outputs) → (let device : DeviceView = record { description = d; past = past; agains = agains } in device ≡ record { description = caps; past = []; agains = 0 })
+    → calls ≡ [] → caps.log_limit ≤ capacity → AreOutputs caps [] made → o ≡ made → IsKeptBeside d past (reverse calls) capacity o
+first_beside caps d past agains calls capacity made o device none room outputs is =
+    subst (λ (v : DeviceView). IsKeptBeside v.description v.past (reverse calls) capacity o) (sym device)
+    (subst (λ (calls : List FeedbackCall). IsKeptBeside caps [] (reverse calls) capacity o) (sym none) (record {
+      outputs = subst (λ (o : Outputs). AreOutputs caps (kept_of [] []) o) (sym is) (subst (λ (kept : List UEntry). AreOutputs caps kept made) (sym kept_of-nothing) outputs);
+      within = tt;
+      few = omega arith;
+      room = room;
+    }))
+
+pub first_view : (caps d : Description) (past : List Step) (agains : ℕ) (calls : List FeedbackCall) → (let device : DeviceView = record { description = d; past = past; agains = agains } in device ≡ record { description = caps; past = []; agains = 0 })
+    → calls ≡ [] → (let given : UdevView = record { description = d; kept = kept_of past (reverse calls); agains = agains } in given ≡ record { description = caps; kept = []; agains = 0 })
+first_view caps d past agains calls device none =
+    ap (λ (v : DeviceView). record { description = v.description; kept = kept_of v.past (reverse calls); agains = v.agains }) device
+    ∙ ap (λ (calls : List FeedbackCall). record { description = caps; kept = kept_of [] (reverse calls); agains = 0 }) none
+    ∙ ap (λ (kept : List UEntry). record { description = caps; kept = kept; agains = 0 }) kept_of-nothing

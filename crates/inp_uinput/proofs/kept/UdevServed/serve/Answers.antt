@@ -1,0 +1,6 @@
+use Rattle.inp_uinput.proofs.Serving.{udev_served}
+use Rattle.inp_uinput.proofs.kept.UdevServed.serve.Goals as goal
+
+pub returns-clause-served : goal.returns-clause-served
+returns-clause-served c =
+    udev_served c.args.self.now.description c.args.self.now.kept c.step.new.self.kept c.args.step c.step.result _ _ _ _ c.step.ensures.step c.step.ensures.kept c.step.ensures.before

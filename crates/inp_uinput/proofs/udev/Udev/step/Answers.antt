@@ -1,0 +1,48 @@
+use Rattle.std.proofs.Common.{ap, sym, ◌∙◌, subst, reverse}
+use Rattle.std.specs.Prelude.{vec_capacity}
+use Rattle.inp_model.specs.Reply.{IsDeviceStep}
+use Rattle.inp_model.specs.History.{IsHistory}
+use Rattle.inp_uinput.specs.UEntry.{steps_in, kept_after_step}
+use Rattle.inp_uinput.specs.UdevView.{UdevView}
+use Rattle.inp_uinput.specs.Keeping.{kept_of}
+use Rattle.inp_uinput.proofs.Udevs.{step_over, history_over, step_kept, beside_accepted}
+use Rattle.inp_uinput.proofs.udev.Udev.step.Goals as goal
+
+pub invariant_of-self : goal.invariant_of-self
+invariant_of-self c =
+    beside_accepted c.self.inside.device.description c.caps.result.now c.step-reply.new.self.description c.self.inside.device.past c.step-reply.new.self.past (reverse c.self.inside.feedbacks.items) (vec_capacity c.self.inside.feedbacks)
+    c.args.step c.step-reply.result c.self.inside.outputs.value c.deref_mut.result.now c.note.new.self c.self.invariant c.caps.ensures.description c.step-reply.ensures.description c.deref_mut.ensures.value
+    c.step-reply.ensures.step.entered (sym c.is_accepted.ensures.accepted ∙ c.if-is_accepted.true) c.note.ensures.noted
+
+pub returns-then-is_accepted-clause-step : goal.returns-then-is_accepted-clause-step
+returns-then-is_accepted-clause-step c =
+    let calls = reverse c.self.inside.feedbacks.items in
+    let new = c.step-reply.new in
+    subst (λ (u : UdevView). IsDeviceStep u.description (steps_in u.kept) c.args.step c.step-reply.result c.args.out.now new.out c.args.cells.now new.cells (steps_in (kept_of new.self.past calls))) c.self.view_is
+    (step_over c.self.inside.device.description c.self.inside.device.past new.self.past calls c.args.step c.step-reply.result _ _ _ _ c.step-reply.ensures.step)
+
+pub returns-then-is_accepted-clause-kept : goal.returns-then-is_accepted-clause-kept
+returns-then-is_accepted-clause-kept c =
+    step_kept c.self.inside.device.past c.step-reply.new.self.past (reverse c.self.inside.feedbacks.items) c.args.step c.step-reply.result c.self.invariant.within c.step-reply.ensures.step.entered
+    ∙ ap (λ (u : UdevView). kept_after_step c.step-reply.result c.args.step u.kept) c.self.view_is
+
+pub returns-then-is_accepted-clause-accepted : goal.returns-then-is_accepted-clause-accepted
+returns-then-is_accepted-clause-accepted c = history_over c.step-reply.new.self.description c.step-reply.new.self.past (reverse c.self.inside.feedbacks.items) c.step-reply.ensures.accepted
+
+pub returns-then-is_accepted-clause-before : goal.returns-then-is_accepted-clause-before
+returns-then-is_accepted-clause-before c =
+    subst (λ (u : UdevView). IsHistory u.description (steps_in u.kept)) c.self.view_is (history_over c.self.inside.device.description c.self.inside.device.past (reverse c.self.inside.feedbacks.items) c.step-reply.ensures.before)
+
+pub returns-else-is_accepted-clause-step : goal.returns-else-is_accepted-clause-step
+returns-else-is_accepted-clause-step c =
+    let calls = reverse c.self.inside.feedbacks.items in
+    let new = c.step-reply.new in
+    subst (λ (u : UdevView). IsDeviceStep u.description (steps_in u.kept) c.args.step c.step-reply.result c.args.out.now new.out c.args.cells.now new.cells (steps_in (kept_of new.self.past calls))) c.self.view_is
+    (step_over c.self.inside.device.description c.self.inside.device.past new.self.past calls c.args.step c.step-reply.result _ _ _ _ c.step-reply.ensures.step)
+
+pub returns-else-is_accepted-clause-accepted : goal.returns-else-is_accepted-clause-accepted
+returns-else-is_accepted-clause-accepted c = history_over c.step-reply.new.self.description c.step-reply.new.self.past (reverse c.self.inside.feedbacks.items) c.step-reply.ensures.accepted
+
+pub returns-else-is_accepted-clause-before : goal.returns-else-is_accepted-clause-before
+returns-else-is_accepted-clause-before c =
+    subst (λ (u : UdevView). IsHistory u.description (steps_in u.kept)) c.self.view_is (history_over c.self.inside.device.description c.self.inside.device.past (reverse c.self.inside.feedbacks.items) c.step-reply.ensures.before)

@@ -1,0 +1,8 @@
+use Rattle.inp_model.proofs.Telling.{evdev_called}
+use Rattle.inp_uinput.specs.UdevView.{device_of}
+use Rattle.inp_uinput.proofs.udev.UdevEvdev.call.Goals as goal
+
+pub returns : goal.returns
+returns c = record {
+  called = evdev_called (device_of c.args.self.now) (device_of c.step.new.self) c.args.step c.step.result _ _ _ _ c.step.ensures.step c.step.ensures.description c.step.ensures.agains c.step.ensures.before;
+}

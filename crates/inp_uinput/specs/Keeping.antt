@@ -1,0 +1,52 @@
+-- How what a device made by requests keeps stands for its kept list.
+use Rattle.std.specs.Prelude.{◌≡◌, ℕ, ◌-◌, ◌≤◌, Bool, false, List, [], ◌∷◌, ◌++◌, length, map, take, drop, filter}
+use Rattle.circular_buffer.specs.Buffer.{buffer}
+use Rattle.inp_model.specs.declared.step.Step.{Step}
+use Rattle.inp_model.specs.Description.{Description}
+use Rattle.inp_model.specs.RawItem.{RawItem, Occurred, Described}
+use Rattle.inp_model.specs.Passed.{is_output}
+use Rattle.inp_model.specs.Raw.{raw}
+use Rattle.inp_model.specs.Past.{is_inhibited}
+use Rattle.inp_state.specs.State.{StandsFor}
+use Rattle.inp_uinput.specs.declared.u_entry.UEntry.{UEntry}
+use Rattle.inp_uinput.specs.declared.u_entry.UEntry.TheVariants.{Made, Feedback}
+use Rattle.inp_uinput.specs.declared.feedback_call.FeedbackCall.{FeedbackCall}
+use Rattle.inp_uinput.specs.declared.outputs.Outputs.{Outputs}
+use Rattle.inp_uinput.specs.declared.outputs.TheConstants.{FEEDBACK_MAX}
+use Rattle.inp_uinput.specs.UEntry.{steps_in}
+use Rattle.inp_uinput.specs.Feedback.{feedback_queue}
+
+-- The kept list of a past and of feedback calls, all newest first: each call stands behind as many steps as it says.
+unfoldable pub kept_of : List Step → List FeedbackCall → List UEntry
+kept_of past [] = map Made past
+kept_of past (call ∷ calls) =
+    let later = length past - call.at in
+    map Made (take later past) ++ Feedback call.count ∷ kept_of (drop later past) calls
+
+-- the newest feedback call stands behind no more steps than there are
+abbrev pub StandsWithin : ℕ → List FeedbackCall → Type 0
+StandsWithin count [] = Unit {0}
+StandsWithin count (call ∷ calls) = call.at ≤ count
+
+-- a raw event that goes to the device where it is passed
+abbrev pub is_output_item : RawItem → Bool
+is_output_item (Occurred e) = is_output e
+is_output_item (Described axis i) = false
+
+-- such raw events among items
+abbrev pub outputs_of : List RawItem → List RawItem
+outputs_of r = filter is_output_item r
+
+-- What is kept of the outputs stands for a kept list. Whether an output is passed depends on the outputs before it alone,
+-- so the state is that after these.
+pub record AreOutputs (d : Description) (kept : List UEntry) (o : Outputs) : Type 0 where
+  pub state : StandsFor d (outputs_of (raw d (steps_in kept))) o.state
+  pub waiting : o.waiting ≡ buffer (feedback_queue d kept) FEEDBACK_MAX
+  pub inhibited : o.inhibited ≡ is_inhibited (steps_in kept)
+
+-- all that is kept beside the steps, with the feedback calls newest first and room for as many as there may be
+pub record IsKeptBeside (d : Description) (past : List Step) (calls : List FeedbackCall) (capacity : ℕ) (o : Outputs) : Type 0 where
+  pub outputs : AreOutputs d (kept_of past calls) o
+  pub within : StandsWithin (length past) calls
+  pub few : length calls ≤ d.log_limit
+  pub room : d.log_limit ≤ capacity

@@ -1,0 +1,142 @@
+//! A device that was made by requests.
+ghost use Rattle.std.specs.Prelude.{◌≡◌, ◌≤◌, [], length, reverse, IfOk};
+ghost use Rattle.inp_model.specs.declared.stamped.TheConstants.{MOMENT_MAX};
+ghost use Rattle.inp_model.specs.History.{IsHistory};
+ghost use Rattle.inp_model.specs.Step.{moment_of};
+ghost use Rattle.inp_model.specs.Reply.{HasRoom, IsDeviceStep, written};
+ghost use Rattle.inp_model.specs.Evdev.{agains_after};
+ghost use Rattle.inp_uinput.specs.UEntry.{steps_in, kept_after_step};
+ghost use Rattle.inp_uinput.specs.Feedback.{taken_by_feedback, fed, kept_after_feedback};
+
+use crate::Fed;
+use crate::feedback_call::FeedbackCall;
+use crate::outputs::Outputs;
+use inp_caps::Caps;
+use inp_device::Device;
+use inp_model::{Evdev, Event, History, NoMemory, Reply, Step, Taken};
+use std::alloc::Global;
+use std::marker::Model;
+
+/// A device made by requests, as uinput makes them. Its owner reads what goes to the device: its lights, sounds and
+/// settings.
+///
+/// It is seen as its description, as what it keeps, newest first (its accepted steps, and between them the feedback
+/// calls), and as how many calls it answered `Again`. It makes steps as a `Device` does. It takes memory when it is made,
+/// for all that it may keep, and when a client is opened, and at no other call.
+#[derive(Drop)]
+pub struct Udev {
+    device: Device,
+    // On the heap, so that a device is moved in some words.
+    outputs: Box<Outputs>,
+    feedbacks: Vec<FeedbackCall>,
+}
+
+impl Model for Udev {
+    ghost use Rattle.inp_uinput.specs.UdevView.{UdevView};
+
+    ghost Value = { UdevView };
+
+    ghost use Rattle.std.specs.Prelude.{reverse, vec_capacity};
+    ghost use Rattle.inp_uinput.specs.Keeping.{kept_of, IsKeptBeside};
+
+    ghost view = { λ u. record {
+      description = u.device.description;
+      kept = kept_of u.device.past (reverse u.feedbacks.items);
+      agains = u.device.agains;
+    } };
+
+    ghost invariant = { λ u. IsKeptBeside u.device.description u.device.past (reverse u.feedbacks.items)
+        (vec_capacity u.feedbacks) u.outputs.value };
+}
+
+impl Udev {
+    // A device of this description that keeps nothing yet. It is refused for memory alone.
+    pub(crate) fn new(alloc: Global, caps: Caps) -> Result<Udev, NoMemory>
+        ensures fresh { IfOk result (λ udev.
+            udev ≡ record { description = caps; kept = []; agains = 0 }) }
+    {
+        let feedbacks = Vec::with_capacity(alloc, caps.log() as usize)?;
+        let outputs = Box::new(alloc, Outputs::new(alloc, &caps)?)?;
+        let device = Device::new(alloc, caps)?;
+        Ok(Udev {
+            device,
+            outputs,
+            feedbacks,
+        })
+    }
+
+    /// The description, which never changes.
+    pub fn caps(&self) -> &Caps
+        ensures description { result.now ≡ self.now.description }
+    {
+        self.device.caps()
+    }
+
+    /// Makes one step, as `Device::step` does, over the steps that are kept; the feedback calls make no difference.
+    ///
+    /// An accepted step is kept, and nothing is kept after any other reply. What it sends to the device waits for the owner:
+    /// the passed events of EV_LED, EV_SND, EV_MSC and EV_REP, and SYN_CONFIG, whether or not their frame has ended. Of
+    /// those not taken yet the last 15 are kept.
+    ///
+    /// The caller must pass a moment of at most `MOMENT_MAX`, an `out` that is as long as the count of a `Read`, and for
+    /// `GetSlots` and `SyncSlots` a `cells` of fourteen values a slot. Only `Open` takes memory.
+    pub fn step(&mut self, step: Step, out: &mut [Taken], cells: &mut [i32]) -> Reply
+        requires moment { moment_of step ≤ MOMENT_MAX }
+        requires room { HasRoom self.old.description step out.old cells.old }
+        ensures step { IsDeviceStep self.old.description (steps_in self.old.kept) step result
+            out.old out.new cells.old cells.new (steps_in self.new.kept) }
+        ensures kept { self.new.kept ≡ kept_after_step result step self.old.kept }
+        ensures description { self.new.description ≡ self.old.description }
+        ensures agains { self.new.agains ≡ agains_after result self.old.agains }
+        ensures accepted { IsHistory self.new.description (steps_in self.new.kept) }
+        ensures before { IsHistory self.old.description (steps_in self.old.kept) }
+    {
+        let reply = self.device.step(step, out, cells);
+        if reply.is_accepted() {
+            self.outputs.note(self.device.caps(), step);
+        }
+        reply
+    }
+
+    /// Moves the first of the events that wait for the owner to the front of `out`, as many as fit, and keeps the call. The
+    /// rest of `out` stays. A call that finds no event, or has no room for one, is kept too.
+    ///
+    /// It answers `Full`, and changes nothing, exactly where as many feedback calls are kept as the log limit says. `at` is
+    /// the length of the history, in which feedback calls do not count. It takes no memory.
+    pub fn feedback(&mut self, out: &mut [Event]) -> Fed
+        ensures answer { result ≡ fed self.old.description self.old.kept (length out.old) }
+        ensures written { out.new ≡ written
+            (taken_by_feedback self.old.description self.old.kept (length out.old)) out.old }
+        ensures kept { self.new ≡ record self.old {
+          kept =
+              kept_after_feedback self.old.description self.old.kept (length out.old);
+        } }
+    {
+        let at = self.device.history().len() as u32;
+        if self.feedbacks.len() >= self.device.caps().log() as usize {
+            return Fed::Full { at };
+        }
+        let count = self.outputs.take(out) as u32;
+        self.feedbacks.push(FeedbackCall { at, count }).unwrap();
+        Fed::Took { at, count }
+    }
+
+    /// The history, taken out of the device: its accepted steps, oldest first. It takes no memory.
+    pub fn into_history(self) -> History
+        ensures history { result ≡ reverse (steps_in self.kept) }
+        ensures accepted { IsHistory self.description (steps_in self.kept) }
+    {
+        self.device.into_history()
+    }
+}
+
+impl Evdev for Udev {
+    ghost use Rattle.inp_model.specs.DeviceView.{evdev_view};
+    ghost use Rattle.inp_uinput.specs.UdevView.{device_of};
+
+    ghost told = { λ u. evdev_view (device_of u) };
+
+    fn call(&mut self, step: Step, out: &mut [Taken], cells: &mut [i32]) -> Reply {
+        self.step(step, out, cells)
+    }
+}
