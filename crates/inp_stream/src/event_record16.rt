@@ -26,7 +26,7 @@ const _: () = prove!(MOMENT16_MAX + 1 == 4_294_967_296 * SECOND);
 /// Writes the record of an event at a moment in microseconds: the seconds in 4 bytes, the microseconds in 4, the type in
 /// 2, the code in 2 and the value in 4, each little-endian. The moment is below 4,294,967,296,000,000.
 pub fn encode16(event: Event, time: u64, out: &mut [u8; RECORD16_LEN])
-    requires { time ≤ MOMENT16_MAX }
+    requires moment { time ≤ MOMENT16_MAX }
     ensures bytes { out.new ≡ record_bytes TIME16_LEN event time }
 {
     LittleEndian::write_u32(out, (time / SECOND) as u32);
