@@ -8,7 +8,8 @@ use Rattle.inp_model.specs.declared.event.Event.{Event}
 use Rattle.inp_model.specs.declared.stamped.Stamped.{Stamped}
 use Rattle.inp_model.specs.declared.stamped.TheConstants.{MOMENT_MAX}
 use Rattle.inp_actors.specs.declared.line.Line.{Line}
-use Rattle.inp_actors.specs.Record.{stream_of, streams_of, AreInTime}
+use Rattle.inp_actors.specs.Record.{stream_of, streams_of}
+use Rattle.inp_model.specs.Injecting.{AreInTime}
 use Rattle.inp_stream.specs.declared.event_record.TheConstants.{RECORD_LEN}
 use Rattle.inp_stream.specs.declared.stream_refused.StreamRefused.{StreamRefused}
 use Rattle.inp_stream.specs.declared.stream_refused.StreamRefused.TheVariants.{Short, BadTime}
