@@ -17,7 +17,8 @@ use Rattle.inp_actors.specs.declared.command.Command.TheVariants as commands
 use Rattle.inp_actors.specs.declared.role.Role as role
 use Rattle.inp_actors.specs.declared.role.Role.TheVariants as roles
 use Rattle.inp_actors.specs.Command.{is_command_of, is_in_range, is_source, stream_of}
-use Rattle.inp_actors.specs.Record.{streams_of, AreInTime, IsRecord}
+use Rattle.inp_actors.specs.Record.{streams_of, IsRecord}
+use Rattle.inp_model.specs.Injecting.{AreInTime}
 use Rattle.inp_words.specs.Line.{is_comment, is_text, words_of}
 use Rattle.inp_record.specs.declared.cause.Cause.{Cause}
 use Rattle.inp_record.specs.declared.cause.Cause.TheVariants.{NotText}

@@ -1,6 +1,7 @@
 pub mod Computing
 pub mod Holding
 pub mod IdleTurns
+pub mod Batches
 pub mod Streams
 pub mod Commands
 pub mod Replies

@@ -12,7 +12,8 @@ use Rattle.inp_actors.specs.declared.command.Command.TheVariants.{Stream, Stream
 use Rattle.inp_actors.specs.declared.line.Line.{Line}
 use Rattle.inp_actors.specs.declared.role.Role.{Role}
 use Rattle.inp_actors.specs.Command.{is_command_of, stream_of}
-use Rattle.inp_actors.specs.Record.{RecordView, AreInTime, IsRecord, streams_of}
+use Rattle.inp_model.specs.Injecting.{AreInTime}
+use Rattle.inp_actors.specs.Record.{RecordView, IsRecord, streams_of}
 use Rattle.inp_reader.specs.Reading.{Reading}
 use Rattle.inp_reader.specs.Talk.{Talk, finish}
 use Rattle.inp_script.specs.declared.notes.Notes.{Notes}

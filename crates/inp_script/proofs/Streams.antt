@@ -1,26 +1,23 @@
--- Injecting a stream, event by event, and single calls that are noted.
-use Rattle.std.proofs.Common.{◌≡◌, ℕ, ◌+◌, ◌<◌, List, [], ◌∷◌, ◌++◌, length, refl, sym, ap, subst, ◌∙◌, Bool, true, false, if◌then◌else◌, drop, Option, Some, ◌≤◌, pos, get_or}
-use Rattle.std.proofs.lemmas.Option.{slice_get-get_or, slice_get_within}
-use Rattle.std.specs.List.{slice_get}
-use Rattle.std.proofs.lemmas.List.{drop_all}
+-- Injecting a stream, some events at a time, and single calls that are noted.
+use Rattle.std.proofs.Common.{◌≡◌, ℕ, suc, ◌+◌, ◌-◌, ◌<◌, ◌≤◌, nat_lt, nat_le, List, [], ◌∷◌, ◌++◌, length, refl, sym, ap, subst, Bool, true, false, if◌then◌else◌, Option, Some, arith}
+use Rattle.std.proofs.lemmas.Bool.Decides.{nat_tests}
 use Rattle.inp_model.specs.declared.stamped.Stamped.{Stamped}
 use Rattle.inp_model.specs.declared.step.Step.{Step}
-use Rattle.inp_model.specs.declared.step.Step.TheVariants.{Inject}
 use Rattle.inp_model.specs.declared.reply.Reply.{Reply}
-use Rattle.inp_model.specs.Evdev.{EvdevView, IsCall}
+use Rattle.inp_model.specs.Evdev.{EvdevView}
 use Rattle.inp_model.specs.Leaves.{AreCalls}
-use Rattle.inp_model.specs.Reply.{Answer, is_accepted}
+use Rattle.inp_model.specs.Injecting.{AreInTime, entered_call, full_call, calls_of}
+use Rattle.inp_model.specs.Reply.{Answer}
 use Rattle.inp_model.specs.Run.{Call}
 use Rattle.inp_model.proofs.Leaves.{AreCalls-append}
 use Rattle.inp_reader.specs.Reading.{Reading}
 use Rattle.inp_reader.specs.Talk.{Talk, finish, LeadsTo}
-use Rattle.inp_reader.proofs.Queues.{rest-first}
 use Rattle.inp_reader.proofs.Talks.{LeadsTo-append}
 use Rattle.inp_script.specs.declared.notes.Notes.{Notes}
 use Rattle.inp_script.specs.Doing.{Holds, Begins}
 use Rattle.inp_script.specs.Job.{Job}
 use Rattle.inp_script.specs.Line.{after_call, call_talk, call_if, stream_talk}
-use Rattle.inp_script.specs.Noting.{job_of, IsMade, IsNoted}
+use Rattle.inp_script.specs.Noting.{job_of, IsMade, IsNoted, notes_after, AreMade, AreNoted}
 use Rattle.inp_script.proofs.Holding.{holds-one, begins-one, begins-same}
 
 -- a call that was noted leaves the job that the definition says
@@ -37,92 +34,128 @@ pub begins-call_if : (before after : EvdevView) (x : Step) (o : Option Step) (j 
 begins-call_if before after x o j is made =
     begins-same before after (call_talk j x) (call_if j o) (ap (λ (s : Option Step). call_if j s) is) (begins-one before after x (λ (answer : Answer). finish (Some (after_call j x answer))) made)
 
--- where so many events of a stream were injected
-pub record IsInjected (before after : EvdevView) (stream : List Stamped) (count : ℕ) (old new : Notes) : Type 0 where
-  pub calls : List Call
-  pub leads : (r : Reading) → LeadsTo (stream_talk stream (job_of r old)) calls (stream_talk (drop count stream) (job_of r new))
-  pub are_calls : AreCalls before after calls
+-- Events that one call injects
 
-pub injected-none : (told : EvdevView) (stream : List Stamped) (notes : Notes) → IsInjected told told stream 0 notes notes
-unfolding LeadsTo AreCalls
-injected-none told stream notes = record { calls = []; leads = λ r. refl; are_calls = refl }
+-- a job after these calls
+abbrev job_after : List Call → Job → Job
+job_after [] j = j
+job_after (call ∷ calls) j = job_after calls (after_call j call.step call.answer)
 
--- the talk after the call for one more event
+noted-jobs : (calls : List Call) (r : Reading) (notes : Notes) → job_after calls (job_of r notes) ≡ job_of r (notes_after calls notes)
+noted-jobs [] r notes = refl
+noted-jobs (call ∷ calls) r notes = noted-jobs calls r (notes_after (call ∷ []) notes)
 
-abbrev injecting : Stamped → Answer → Call
-injecting stamped answer = record { step = Inject stamped.event stamped.now; answer = answer }
+-- how a stream goes on behind some of its events
+abbrev go_on : Bool → List Stamped → Job → Talk (Option Job)
+go_on all later j = if all then stream_talk later j else finish (Some j)
 
-abbrev after_event : List Stamped → Job → Bool → Talk (Option Job)
-after_event stream j accepted = if accepted then stream_talk stream j else finish (Some j)
+one_less : (n count : ℕ) → 1 ≤ count → nat_le n (count - 1) ≡ nat_le (suc n) count
+one_less n count h = by_both (nat_le n (count - 1)) (nat_le (suc n) count) refl refl
+  where
+    by_both : (a b : Bool) → nat_le n (count - 1) ≡ a → nat_le (suc n) count ≡ b → a ≡ b
+    by_both true true p q = refl
+    by_both false false p q = refl
+    by_both true false p q = let l : n ≤ count - 1 = grind (arith, nat_tests, p) in let m : count < suc n = grind (arith, nat_tests, q) in absurd (omega (arith, l, m, h))
+    by_both false true p q = let l : count - 1 < n = grind (arith, nat_tests, p) in let m : suc n ≤ count = grind (arith, nat_tests, q) in absurd (omega (arith, l, m, h))
 
-more_leads : (before between : EvdevView) (stream : List Stamped) (count : ℕ) (stamped : Stamped) (old mid : Notes) (r : Reading) (answer : Answer) → slice_get stream count ≡ Some stamped → (s : IsInjected before between stream count old mid)
-    → LeadsTo (stream_talk stream (job_of r old)) (s.calls ++ injecting stamped answer ∷ []) (after_event (drop (count + 1) stream) (after_call (job_of r mid) (Inject stamped.event stamped.now) answer) (is_accepted answer.reply))
+too_few : (n count : ℕ) → count ≡ 0 → nat_le (suc n) count ≡ false
+too_few n count h = grind (arith, nat_tests, h)
+
+none_left : (count : ℕ) → nat_le 0 count ≡ true
+none_left count = grind (arith, nat_tests)
+
+some-leads : (limit count from : ℕ) (events later : List Stamped) (j : Job) → limit ≡ from + count
+    → LeadsTo (stream_talk (events ++ later) j) (calls_of limit from events) (go_on (nat_le (length events) count) later (job_after (calls_of limit from events) j))
 unfolding LeadsTo stream_talk
-more_leads before between stream count stamped old mid r answer is s =
-    let rest : List Stamped = drop (count + 1) stream in
-    let end : Talk (Option Job) = after_event rest (after_call (job_of r mid) (Inject stamped.event stamped.now) answer) (is_accepted answer.reply) in
-    let opened : stream_talk (drop count stream) (job_of r mid) ≡ stream_talk (stamped ∷ rest) (job_of r mid) =
-    ap (λ (xs : List Stamped). stream_talk xs (job_of r mid)) (rest-first stream count stamped (slice_get_within stream count stamped is) is) in
-    LeadsTo-append (stream_talk stream (job_of r old)) (stream_talk (drop count stream) (job_of r mid)) end s.calls (injecting stamped answer ∷ []) (s.leads r)
-    (subst (λ (t : Talk (Option Job)). LeadsTo t (injecting stamped answer ∷ []) end) (sym opened) (refl, refl))
+some-leads limit count from [] later j is = ap (λ (b : Bool). go_on b later j) (sym (none_left count))
+some-leads limit count from (stamped ∷ events) later j is =
+    by_room (nat_lt from limit) refl (some-leads limit (count - 1) (suc from) events later (job_after (entered_call from stamped ∷ []) j))
+  where
+    by_room : (room : Bool) → nat_lt from limit ≡ room
+        → (limit ≡ suc from + (count - 1) → LeadsTo (stream_talk (events ++ later) (job_after (entered_call from stamped ∷ []) j)) (calls_of limit (suc from) events)
+        (go_on (nat_le (length events) (count - 1)) later (job_after (calls_of limit (suc from) events) (job_after (entered_call from stamped ∷ []) j))))
+        → (let calls : List Call = if room then entered_call from stamped ∷ calls_of limit (suc from) events else full_call from stamped ∷ [] in
+        LeadsTo (stream_talk (stamped ∷ (events ++ later)) j) calls (go_on (nat_le (suc (length events)) count) later (job_after calls j)))
+    by_room true room rest =
+        let below : from < limit = grind (arith, nat_tests, room) in
+        let more : 1 ≤ count = omega (arith, below, is) in
+        let same : nat_le (length events) (count - 1) ≡ nat_le (suc (length events)) count = one_less (length events) count more in (
+          refl,
+          subst (λ (b : Bool). LeadsTo (stream_talk (events ++ later) (job_after (entered_call from stamped ∷ []) j)) (calls_of limit (suc from) events)
+              (go_on b later (job_after (calls_of limit (suc from) events) (job_after (entered_call from stamped ∷ []) j)))) same (rest (omega (arith, below, is))),
+        )
+    by_room false room rest =
+        let above : limit ≤ from = grind (arith, nat_tests, room) in
+        let none : count ≡ 0 = omega (arith, above, is) in
+        let refused : nat_le (suc (length events)) count ≡ false = too_few (length events) count none in
+        (refl, ap (λ (b : Bool). go_on b later (job_after (full_call from stamped ∷ []) j)) (sym refused))
 
-more_calls : (before between after : EvdevView) (calls : List Call) (call : Call) → AreCalls before between calls → IsCall between after call → AreCalls before after (calls ++ call ∷ [])
-unfolding AreCalls
-more_calls before between after calls call are is = AreCalls-append before between after calls (call ∷ []) are (after, is, refl)
+-- A stream, of which the rest was not yet injected.
+pub record IsInjected (before after : EvdevView) (stream rest : List Stamped) (old new : Notes) : Type 0 where
+  pub calls : List Call
+  pub leads : (r : Reading) → LeadsTo (stream_talk stream (job_of r old)) calls (stream_talk rest (job_of r new))
+  pub are_calls : AreCalls before after calls
+  pub in_time : AreInTime rest
 
--- of one that was noted
-noted_leads : (before between after : EvdevView) (stream : List Stamped) (count : ℕ) (stamped : Stamped) (reply : Reply) (old mid new : Notes) (r : Reading) (accepted : Bool) → slice_get stream count ≡ Some stamped → (s : IsInjected before between stream count old mid)
-    → (n : IsNoted between after (Inject stamped.event stamped.now) reply mid new) → is_accepted reply ≡ accepted → LeadsTo (stream_talk stream (job_of r old)) (s.calls ++ injecting stamped n.answer ∷ []) (after_event (drop (count + 1) stream) (job_of r new) accepted)
-noted_leads before between after stream count stamped reply old mid new r accepted is s n h =
-    let x : Step = Inject stamped.event stamped.now in
-    let rest : List Stamped = drop (count + 1) stream in
-    let flag : is_accepted n.answer.reply ≡ accepted = ap is_accepted (sym n.replied) ∙ h in
-    subst (λ (t : Talk (Option Job)). LeadsTo (stream_talk stream (job_of r old)) (s.calls ++ injecting stamped n.answer ∷ []) t)
-    (ap (λ (b : Bool). after_event rest (after_call (job_of r mid) x n.answer) b) flag ∙ ap (λ (j : Job). after_event rest j accepted) (noted-job between after x reply mid new r n))
-    (more_leads before between stream count stamped old mid r n.answer is s)
+pub injected-none : (told : EvdevView) (stream : List Stamped) (notes : Notes) → AreInTime stream → IsInjected told told stream stream notes notes
+unfolding LeadsTo AreCalls
+injected-none told stream notes h = record { calls = []; leads = λ r. refl; are_calls = refl; in_time = h }
 
-pub injected-more : (before between after : EvdevView) (stream : List Stamped) (count : ℕ) (stamped : Stamped) (reply : Reply) (old mid new : Notes) → slice_get stream count ≡ Some stamped → IsInjected before between stream count old mid
-    → IsNoted between after (Inject stamped.event stamped.now) reply mid new → is_accepted reply ≡ true → IsInjected before after stream (count + 1) old new
-injected-more before between after stream count stamped reply old mid new is s n accepted = record {
-  calls = s.calls ++ injecting stamped n.answer ∷ [];
-  leads = λ r. noted_leads before between after stream count stamped reply old mid new r true is s n accepted;
-  are_calls = more_calls before between after s.calls (injecting stamped n.answer) s.are_calls n.is_call;
+more_leads : (before between after : EvdevView) (stream rest events later : List Stamped) (old mid : Notes) (r : Reading) → (s : IsInjected before between stream rest old mid) → rest ≡ events ++ later → (m : AreMade between after events)
+    → LeadsTo (stream_talk stream (job_of r old)) (s.calls ++ calls_of (m.from + m.count) m.from events)
+    (go_on (nat_le (length events) m.count) later (job_of r (notes_after (calls_of (m.from + m.count) m.from events) mid)))
+more_leads before between after stream rest events later old mid r s is m =
+    let limit : ℕ = m.from + m.count in
+    let calls : List Call = calls_of limit m.from events in
+    let all : Bool = nat_le (length events) m.count in
+    let end : Talk (Option Job) = go_on all later (job_of r (notes_after calls mid)) in
+    LeadsTo-append (stream_talk stream (job_of r old)) (stream_talk rest (job_of r mid)) end s.calls calls (s.leads r)
+    (subst (λ (xs : List Stamped). LeadsTo (stream_talk xs (job_of r mid)) calls end) (sym is)
+    (subst (λ (j : Job). LeadsTo (stream_talk (events ++ later) (job_of r mid)) calls (go_on all later j)) (noted-jobs calls r mid) (some-leads limit m.count m.from events later (job_of r mid) refl)))
+
+-- of calls that were noted
+noted_leads : (before between after : EvdevView) (stream rest events later : List Stamped) (all : Bool) (old mid new : Notes) (r : Reading) → (s : IsInjected before between stream rest old mid) → rest ≡ events ++ later
+    → (n : AreNoted between after events all mid new) → LeadsTo (stream_talk stream (job_of r old)) (s.calls ++ calls_of (n.made.from + n.made.count) n.made.from events) (go_on all later (job_of r new))
+noted_leads before between after stream rest events later all old mid new r s is n =
+    let calls : List Call = s.calls ++ calls_of (n.made.from + n.made.count) n.made.from events in
+    subst (λ (b : Bool). LeadsTo (stream_talk stream (job_of r old)) calls (go_on b later (job_of r new))) (sym n.all_entered)
+    (subst (λ (notes : Notes). LeadsTo (stream_talk stream (job_of r old)) calls (go_on (nat_le (length events) n.made.count) later (job_of r notes))) (sym n.noted)
+    (more_leads before between after stream rest events later old mid r s is n.made))
+
+pub injected-more : (before between after : EvdevView) (stream rest events later : List Stamped) (old mid new : Notes) → IsInjected before between stream rest old mid → rest ≡ events ++ later → AreInTime later
+    → AreNoted between after events true mid new → IsInjected before after stream later old new
+injected-more before between after stream rest events later old mid new s is in_time n = record {
+  calls = s.calls ++ calls_of (n.made.from + n.made.count) n.made.from events;
+  leads = λ r. noted_leads before between after stream rest events later true old mid new r s is n;
+  are_calls = AreCalls-append before between after s.calls (calls_of (n.made.from + n.made.count) n.made.from events) s.are_calls n.made.are_calls;
+  in_time = in_time;
 }
 
-pub injected-refused : (before between after : EvdevView) (stream : List Stamped) (count : ℕ) (stamped : Stamped) (reply : Reply) (old mid new : Notes) → slice_get stream count ≡ Some stamped → IsInjected before between stream count old mid
-    → IsNoted between after (Inject stamped.event stamped.now) reply mid new → is_accepted reply ≡ false → (r : Reading) → Holds before after (stream_talk stream (job_of r old)) (Some (job_of r new))
-injected-refused before between after stream count stamped reply old mid new is s n refused r = record {
-  calls = s.calls ++ injecting stamped n.answer ∷ [];
-  talk_ends = noted_leads before between after stream count stamped reply old mid new r false is s n refused;
-  are_calls = more_calls before between after s.calls (injecting stamped n.answer) s.are_calls n.is_call;
+pub injected-refused : (before between after : EvdevView) (stream rest events later : List Stamped) (old mid new : Notes) → IsInjected before between stream rest old mid → rest ≡ events ++ later
+    → AreNoted between after events false mid new → (r : Reading) → Holds before after (stream_talk stream (job_of r old)) (Some (job_of r new))
+injected-refused before between after stream rest events later old mid new s is n r = record {
+  calls = s.calls ++ calls_of (n.made.from + n.made.count) n.made.from events;
+  talk_ends = noted_leads before between after stream rest events later false old mid new r s is n;
+  are_calls = AreCalls-append before between after s.calls (calls_of (n.made.from + n.made.count) n.made.from events) s.are_calls n.made.are_calls;
 }
 
-pub injected-so_far : (before after : EvdevView) (stream : List Stamped) (count : ℕ) (old new : Notes) → IsInjected before after stream count old new → (r : Reading) → Begins before after (stream_talk stream (job_of r old))
-injected-so_far before after stream count old new s r = record { calls = s.calls; rest = stream_talk (drop count stream) (job_of r new); leads = s.leads r; are_calls = s.are_calls }
+pub injected-so_far : (before after : EvdevView) (stream rest : List Stamped) (old new : Notes) → IsInjected before after stream rest old new → (r : Reading) → Begins before after (stream_talk stream (job_of r old))
+injected-so_far before after stream rest old new s r = record { calls = s.calls; rest = stream_talk rest (job_of r new); leads = s.leads r; are_calls = s.are_calls }
 
--- and one more, which may not have been noted
-pub injected-begun : (before between after : EvdevView) (stream : List Stamped) (count : ℕ) (stamped : Stamped) (old mid : Notes) → slice_get stream count ≡ Some stamped → IsInjected before between stream count old mid
-    → IsMade between after (Inject stamped.event stamped.now) → (r : Reading) → Begins before after (stream_talk stream (job_of r old))
-injected-begun before between after stream count stamped old mid is s made r = record {
-  calls = s.calls ++ injecting stamped made.answer ∷ [];
-  rest = after_event (drop (count + 1) stream) (after_call (job_of r mid) (Inject stamped.event stamped.now) made.answer) (is_accepted made.answer.reply);
-  leads = more_leads before between stream count stamped old mid r made.answer is s;
-  are_calls = more_calls before between after s.calls (injecting stamped made.answer) s.are_calls made.is_call;
+-- and some more, which may not have been noted
+pub injected-begun : (before between after : EvdevView) (stream rest events later : List Stamped) (old mid : Notes) → IsInjected before between stream rest old mid → rest ≡ events ++ later → AreMade between after events
+    → (r : Reading) → Begins before after (stream_talk stream (job_of r old))
+injected-begun before between after stream rest events later old mid s is m r = record {
+  calls = s.calls ++ calls_of (m.from + m.count) m.from events;
+  rest = go_on (nat_le (length events) m.count) later (job_of r (notes_after (calls_of (m.from + m.count) m.from events) mid));
+  leads = more_leads before between after stream rest events later old mid r s is m;
+  are_calls = AreCalls-append before between after s.calls (calls_of (m.from + m.count) m.from events) s.are_calls m.are_calls;
 }
 
-pub injected-all : (before after : EvdevView) (stream : List Stamped) (count : ℕ) (old new : Notes) → length stream ≤ count → IsInjected before after stream count old new → (r : Reading) → Holds before after (stream_talk stream (job_of r old)) (Some (job_of r new))
+pub injected-all : (before after : EvdevView) (stream rest : List Stamped) (old new : Notes) → rest ≡ [] → IsInjected before after stream rest old new → (r : Reading) → Holds before after (stream_talk stream (job_of r old)) (Some (job_of r new))
 unfolding stream_talk
-injected-all before after stream count old new h s r = record {
+injected-all before after stream rest old new none s r = record {
   calls = s.calls;
-  talk_ends = subst (λ (xs : List Stamped). LeadsTo (stream_talk stream (job_of r old)) s.calls (stream_talk xs (job_of r new))) (drop_all count stream h) (s.leads r);
+  talk_ends = subst (λ (xs : List Stamped). LeadsTo (stream_talk stream (job_of r old)) s.calls (stream_talk xs (job_of r new))) none (s.leads r);
   are_calls = s.are_calls;
 }
-
--- an event of a stream that is walked
-
-abbrev pub no_stamped : Stamped
-no_stamped = record { event = record { kind = 0; code = 0; value = pos 0 }; now = 0 }
-
-pub walked : (items stream : List Stamped) (index : ℕ) → items ≡ stream → index < length items → slice_get stream index ≡ Some (get_or items index no_stamped)
-walked items stream index e h =
-    ap (λ (xs : List Stamped). slice_get xs index) (sym e) ∙ slice_get-get_or items index no_stamped h

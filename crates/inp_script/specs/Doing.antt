@@ -12,7 +12,8 @@ use Rattle.inp_actors.specs.declared.line.Line.{Line}
 use Rattle.inp_actors.specs.declared.role.Role.{Role}
 use Rattle.inp_actors.specs.declared.role.Role.TheVariants.{Source, Client, Tap}
 use Rattle.inp_actors.specs.Command.{is_command_of, is_in_range, is_source, stream_of, first_of}
-use Rattle.inp_actors.specs.Record.{RecordView, AreInTime}
+use Rattle.inp_actors.specs.Record.{RecordView}
+use Rattle.inp_model.specs.Injecting.{AreInTime}
 use Rattle.inp_model.specs.Leaves.{AreCalls}
 use Rattle.inp_reader.specs.Talk.{Talk, finish, LeadsTo, EndsWith}
 use Rattle.inp_script.specs.declared.stop.Stop.{Stop}

@@ -1,10 +1,14 @@
 -- What single calls leave of what a job keeps.
-use Rattle.std.specs.Prelude.{◌≡◌, ℕ, ◌++◌}
+use Rattle.std.specs.Prelude.{◌≡◌, ℕ, suc, ◌+◌, Bool, nat_le, List, [], ◌∷◌, ◌++◌, length}
+use Rattle.inp_model.specs.declared.stamped.Stamped.{Stamped}
 use Rattle.inp_model.specs.declared.step.Step.{Step}
 use Rattle.inp_model.specs.declared.reply.Reply.{Reply}
 use Rattle.inp_model.specs.declared.reply.Reply.TheVariants.{Took as Taking}
 use Rattle.inp_model.specs.Evdev.{EvdevView, IsCall}
+use Rattle.inp_model.specs.Injecting.{entered_call, calls_of}
+use Rattle.inp_model.specs.Leaves.{AreCalls}
 use Rattle.inp_model.specs.Reply.{Answer}
+use Rattle.inp_model.specs.Run.{Call}
 use Rattle.inp_reader.specs.Reading.{Reading}
 use Rattle.inp_script.specs.declared.notes.Notes.{Notes}
 use Rattle.inp_script.specs.Job.{Job}
@@ -30,3 +34,29 @@ pub record IsNoted (before after : EvdevView) (x : Step) (reply : Reply) (old ne
   pub replied : reply ≡ answer.reply
   pub is_call : IsCall before after (record { step = x; answer = answer })
   pub noted : new ≡ record { sight = old.sight ++ sight_of_call x answer.reply answer.events; stop = stop_after answer.reply }
+
+-- what is noted after these calls
+abbrev pub notes_after : List Call → Notes → Notes
+notes_after [] notes = notes
+notes_after (call ∷ calls) notes =
+    notes_after calls (record {
+      sight = notes.sight ++ sight_of_call call.step call.answer.reply call.answer.events;
+      stop = stop_after call.answer.reply;
+    })
+
+-- the calls for events that are entered from this place on
+abbrev pub entered_calls : ℕ → List Stamped → List Call
+entered_calls from [] = []
+entered_calls from (stamped ∷ events) = entered_call from stamped ∷ entered_calls (suc from) events
+
+-- Events were injected by one call, the first ones of them entered from a place on.
+pub record AreMade (before after : EvdevView) (events : List Stamped) : Type 0 where
+  pub from : ℕ
+  pub count : ℕ
+  pub are_calls : AreCalls before after (calls_of (from + count) from events)
+
+-- They were, and each call that this is was noted. It is known whether all were entered.
+pub record AreNoted (before after : EvdevView) (events : List Stamped) (all : Bool) (old new : Notes) : Type 0 where
+  pub made : AreMade before after events
+  pub all_entered : all ≡ nat_le (length events) made.count
+  pub noted : new ≡ notes_after (calls_of (made.from + made.count) made.from events) old

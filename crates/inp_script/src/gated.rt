@@ -4,11 +4,12 @@ ghost use Rattle.inp_model.specs.declared.stamped.TheConstants.{MOMENT_MAX};
 ghost use Rattle.inp_model.specs.Step.{moment_of};
 ghost use Rattle.inp_model.specs.Reply.{HasRoom};
 ghost use Rattle.inp_model.specs.Evdev.{IsEvdevCall};
+ghost use Rattle.inp_model.specs.Injecting.{AreInTime, IsInjectAll};
 
 use inp_edge::Gate;
-use inp_model::{Evdev, Reply, Step, Taken};
+use inp_model::{Evdev, Injected, Reply, Stamped, Step, Taken};
 
-/// An evdev that passes a gate before each call. To a contract it is the evdev behind the gate.
+/// An evdev that passes a gate before each call, also before one that injects many events. To a contract it is the evdev behind the gate.
 ///
 /// After a call the gate was told of it: its job, and how many calls were made before.
 #[derive(Drop)]
@@ -54,5 +55,19 @@ impl<'a, E: Evdev, G: Gate> Evdev for Gated<'a, E, G> {
         self.gate.before(self.job, self.calls);
         self.calls = self.calls.saturating_add(1);
         self.inner.call(step, out, cells)
+    }
+
+    fn inject_all(&mut self, events: &[Stamped]) -> Injected
+        requires moments { AreInTime events.now }
+        ensures injected { IsInjectAll (E.told self.old.inner) (E.told self.new.inner)
+            events.now result }
+        ensures calls { self.new.calls ≡ min (self.old.calls + 1) (2 ^ 32 - 1) }
+        ensures job { self.new.job ≡ self.old.job }
+        ensures passed { G.passed self.old.gate.now self.old.job self.old.calls }
+    {
+        let (gate, job, call) = (self.gate, self.job, self.calls);
+        gate.before(job, call);
+        self.calls = call.saturating_add(1);
+        self.inner.inject_all(events)
     }
 }

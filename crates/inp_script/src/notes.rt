@@ -1,14 +1,15 @@
 //! What a job saw, and why it stopped.
-ghost use Rattle.std.specs.Prelude.{◌≡◌, ◌≤◌, [], ◌∷◌, ◌++◌, map, OnOk, IfOk};
+ghost use Rattle.std.specs.Prelude.{◌≡◌, ◌≤◌, ◌<◌, ◌+◌, ◌^◌, [], ◌∷◌, ◌++◌, length, map, OnOk, IfOk};
 ghost use Rattle.inp_model.specs.declared.stamped.TheConstants.{MOMENT_MAX};
 ghost use Rattle.inp_model.specs.Step.{moment_of};
 ghost use Rattle.inp_model.specs.Reply.{HasRoom};
-ghost use Rattle.inp_script.specs.Noting.{IsMade, IsNoted};
+ghost use Rattle.inp_model.specs.Injecting.{AreInTime, inject_of};
+ghost use Rattle.inp_script.specs.Noting.{IsMade, IsNoted, AreMade, AreNoted, notes_after, entered_calls};
 ghost use Rattle.inp_script.specs.Sight.{taken_sight, made_sight, sight_of_call, stop_after};
 
 use crate::stops::stop_after;
 use crate::{Sight, Sights, Stop};
-use inp_model::{Evdev, NoMemory, Reply, Step, Taken};
+use inp_model::{Evdev, NoMemory, Refusal, Reply, Stamped, Step, Taken};
 use inp_reader::CallMade;
 
 /// What a job saw, and why it stopped, if it did.
@@ -94,5 +95,56 @@ impl Notes {
         let reply = dev.call(step, &mut nothing, &mut []);
         self.note(step, reply, &[])?;
         Ok(reply)
+    }
+
+    // Injects events by one call, and notes each as a call, up to the first for which the limit left no room. Says whether
+    // all were entered.
+    pub(crate) fn inject_all<E: Evdev>(
+        &mut self,
+        dev: &mut E,
+        events: &[Stamped],
+    ) -> Result<bool, NoMemory>
+        requires moments { AreInTime events.now }
+        requires some { 1 ≤ length events.now }
+        ensures noted { IfOk result (λ all. AreNoted (E.told dev.old) (E.told dev.new) events.now all
+            self.old self.new) }
+        ensures made { AreMade (E.told dev.old) (E.told dev.new) events.now }
+    {
+        let injected = dev.inject_all(events);
+        let (entered, others) = events.split_at(injected.count as usize);
+        self.note_entered(injected.from, entered)?;
+        let Some(refused) = others.first() else {
+            return Ok(true);
+        };
+        let reply = Reply::Refused {
+            at: injected.from + injected.count,
+            why: Refusal::LogFull,
+        };
+        self.note(injecting(*refused), reply, &[])?;
+        Ok(false)
+    }
+
+    // Notes the calls for events that were entered from this place on.
+    fn note_entered(&mut self, from: u32, events: &[Stamped]) -> Result<(), NoMemory>
+        requires fits { from + length events.now < 2 ^ 32 }
+        ensures { OnOk result
+            (self.new ≡ notes_after (entered_calls from events.now) self.old) }
+    {
+        let mut at = from;
+        for stamped in events {
+            self.note(injecting(*stamped), Reply::Done { at }, &[])?;
+            at += 1;
+        }
+        Ok(())
+    }
+}
+
+// The step that an event makes.
+fn injecting(stamped: Stamped) -> Step
+    ensures step { result ≡ inject_of stamped }
+{
+    Step::Inject {
+        event: stamped.event,
+        now: stamped.now,
     }
 }

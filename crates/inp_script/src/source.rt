@@ -1,7 +1,7 @@
 //! What a source does.
 ghost use Rattle.std.specs.Prelude.{OnOk, Some};
 ghost use Rattle.inp_actors.specs.declared.role.Role.TheVariants.{Source};
-ghost use Rattle.inp_actors.specs.Record.{AreInTime};
+ghost use Rattle.inp_model.specs.Injecting.{AreInTime};
 ghost use Rattle.inp_reader.specs.Reading.{Reading};
 ghost use Rattle.inp_script.specs.Doing.{Begins, Holds, IsCommandFor};
 ghost use Rattle.inp_script.specs.Line.{stream_talk, source_talk};
@@ -10,8 +10,11 @@ ghost use Rattle.inp_script.specs.Noting.{job_of};
 use crate::notes::Notes;
 use crate::steps::step_of;
 use inp_actors::{Command, Record, Stamps};
-use inp_model::{Evdev, NoMemory, Step};
+use inp_model::{Evdev, NoMemory};
 use inp_reader::NO_CLIENT;
+
+/// How many records of a stream one call injects at most: others wait for their turn no longer than for these.
+const STREAM_BATCH: usize = 1024;
 
 // Injects the events of a stream, each at its own moment, up to the first that is refused.
 fn inject_stream<E: Evdev>(dev: &mut E, notes: &mut Notes, stream: &Stamps) -> Result<(), NoMemory>
@@ -21,17 +24,13 @@ fn inject_stream<E: Evdev>(dev: &mut E, notes: &mut Notes, stream: &Stamps) -> R
     ensures begun { (r : Reading) → Begins (E.told dev.old) (E.told dev.new)
         (stream_talk stream.now (job_of r notes.old)) }
 {
-    for stamped in stream.as_slice() {
-        let reply = notes.call(
-            dev,
-            Step::Inject {
-                event: stamped.event,
-                now: stamped.now,
-            },
-        )?;
-        if !reply.is_accepted() {
+    let mut rest = stream.as_slice();
+    while !rest.is_empty() {
+        let (events, later) = rest.split_at(rest.len().min(STREAM_BATCH));
+        if !notes.inject_all(dev, events)? {
             return Ok(());
         }
+        rest = later;
     }
     Ok(())
 }

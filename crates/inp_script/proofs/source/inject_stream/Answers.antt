@@ -1,49 +1,44 @@
-use Rattle.std.proofs.Common.{length, sym, ◌∙◌, ap, arith, get_or}
-use Rattle.inp_script.proofs.Streams.{injected-none, injected-more, injected-refused, injected-so_far, injected-begun, injected-all, walked, no_stamped}
+use Rattle.std.proofs.Common.{sym, subst, arith}
+use Rattle.std.proofs.lemmas.Bool.Decides.{nat_tests}
+use Rattle.inp_model.specs.Injecting.{AreInTime}
+use Rattle.inp_script.specs.Noting.{AreNoted}
+use Rattle.inp_script.proofs.Batches.{take-in_time, drop-in_time, no_more}
+use Rattle.inp_script.proofs.Streams.{IsInjected, injected-none, injected-more, injected-refused, injected-so_far, injected-begun, injected-all}
 use Rattle.inp_script.proofs.source.inject_stream.Goals as goal
 
-pub loop-stamped-init : goal.loop-stamped-init
-loop-stamped-init g c = injected-none (g.E.Evdev.told c.args.dev.now) c.args.stream.now c.args.notes.now
+pub loop-rest-init : goal.loop-rest-init
+loop-rest-init g c =
+    let told = g.E.Evdev.told c.args.dev.now in
+    subst (λ rest. IsInjected told told c.args.stream.now rest c.args.notes.now c.args.notes.now) (sym c.as_slice-rest.ensures.items) (injected-none told c.args.stream.now c.args.notes.now c.requires.in_time)
 
-pub call-requires-clause-moment : goal.call-requires-clause-moment
-call-requires-clause-moment g c =
-    let items = c.as_slice-stamped-items.result.now in
-    let i = c.loop-stamped.stamped-index in
-    c.requires.in_time i (get_or items i no_stamped) (walked items c.args.stream.now i c.as_slice-stamped-items.ensures.items c.loop-stamped-test.true)
+pub inject_all-requires-clause-moments : goal.inject_all-requires-clause-moments
+inject_all-requires-clause-moments g c =
+    subst AreInTime (sym c.split_at.ensures.front) (take-in_time c.min.result c.loop-rest.rest.now c.loop-rest.invariant.in_time)
 
-pub returns-in_err-reply-clause-begun : goal.returns-in_err-reply-clause-begun
-returns-in_err-reply-clause-begun g c r =
-    let items = c.as_slice-stamped-items.result.now in
-    let i = c.loop-stamped.stamped-index in
-    injected-begun _ _ _ c.args.stream.now i (get_or items i no_stamped) c.args.notes.now c.loop-stamped.notes
-    (walked items c.args.stream.now i c.as_slice-stamped-items.ensures.items c.loop-stamped-test.true) c.loop-stamped.invariant c.in_err-reply.ensures.made r
+pub returns-in_err-inject_all-clause-begun : goal.returns-in_err-inject_all-clause-begun
+returns-in_err-inject_all-clause-begun g c r =
+    injected-begun _ _ _ c.args.stream.now c.loop-rest.rest.now c.split_at.result.0.now c.split_at.result.1.now c.args.notes.now c.loop-rest.notes c.loop-rest.invariant c.split_at.ensures.by_index.0
+    c.in_err-inject_all.ensures.made r
 
-pub returns-then-not-is_accepted-clause-begun : goal.returns-then-not-is_accepted-clause-begun
-returns-then-not-is_accepted-clause-begun g c r =
-    let items = c.as_slice-stamped-items.result.now in
-    let i = c.loop-stamped.stamped-index in
-    injected-begun _ _ _ c.args.stream.now i (get_or items i no_stamped) c.args.notes.now c.loop-stamped.notes
-    (walked items c.args.stream.now i c.as_slice-stamped-items.ensures.items c.loop-stamped-test.true) c.loop-stamped.invariant c.in_ok-reply.ensures.made r
+pub returns-then-not-branch-clause-done : goal.returns-then-not-branch-clause-done
+returns-then-not-branch-clause-done g c r =
+    injected-refused _ _ _ c.args.stream.now c.loop-rest.rest.now c.split_at.result.0.now c.split_at.result.1.now c.args.notes.now c.loop-rest.notes c.inject_all.new.self c.loop-rest.invariant c.split_at.ensures.by_index.0
+    (subst (λ b. AreNoted (g.E.Evdev.told c.loop-rest.dev) (g.E.Evdev.told c.inject_all.new.dev) c.split_at.result.0.now b c.loop-rest.notes c.inject_all.new.self) c.if-not-branch.true c.in_ok-inject_all.ensures.noted) r
 
-pub returns-then-not-is_accepted-clause-done : goal.returns-then-not-is_accepted-clause-done
-returns-then-not-is_accepted-clause-done g c r =
-    let items = c.as_slice-stamped-items.result.now in
-    let i = c.loop-stamped.stamped-index in
-    injected-refused _ _ _ c.args.stream.now i (get_or items i no_stamped) c.in_ok-reply.reply c.args.notes.now c.loop-stamped.notes c.call.new.self
-    (walked items c.args.stream.now i c.as_slice-stamped-items.ensures.items c.loop-stamped-test.true) c.loop-stamped.invariant c.in_ok-reply.ensures.noted
-    (sym c.is_accepted.ensures.accepted ∙ c.if-not-is_accepted.true) r
+pub returns-then-not-branch-clause-begun : goal.returns-then-not-branch-clause-begun
+returns-then-not-branch-clause-begun g c r =
+    injected-begun _ _ _ c.args.stream.now c.loop-rest.rest.now c.split_at.result.0.now c.split_at.result.1.now c.args.notes.now c.loop-rest.notes c.loop-rest.invariant c.split_at.ensures.by_index.0
+    c.in_ok-inject_all.ensures.made r
 
-pub loop-stamped-preserved : goal.loop-stamped-preserved
-loop-stamped-preserved g c =
-    let items = c.as_slice-stamped-items.result.now in
-    let i = c.loop-stamped.stamped-index in
-    injected-more _ _ _ c.args.stream.now i (get_or items i no_stamped) c.in_ok-reply.reply c.args.notes.now c.loop-stamped.notes c.call.new.self
-    (walked items c.args.stream.now i c.as_slice-stamped-items.ensures.items c.loop-stamped-test.true) c.loop-stamped.invariant c.in_ok-reply.ensures.noted
-    (sym c.is_accepted.ensures.accepted ∙ c.if-not-is_accepted.false)
+pub loop-rest-preserved : goal.loop-rest-preserved
+loop-rest-preserved g c =
+    injected-more _ _ _ c.args.stream.now c.loop-rest.rest.now c.split_at.result.0.now c.split_at.result.1.now c.args.notes.now c.loop-rest.notes c.inject_all.new.self c.loop-rest.invariant c.split_at.ensures.by_index.0
+    (subst AreInTime (sym c.split_at.ensures.back) (drop-in_time c.min.result c.loop-rest.rest.now c.loop-rest.invariant.in_time))
+    (subst (λ b. AreNoted (g.E.Evdev.told c.loop-rest.dev) (g.E.Evdev.told c.inject_all.new.dev) c.split_at.result.0.now b c.loop-rest.notes c.inject_all.new.self) c.if-not-branch.false c.in_ok-inject_all.ensures.noted)
 
 pub returns-clause-done : goal.returns-clause-done
 returns-clause-done g c r =
-    injected-all _ _ c.args.stream.now c.loop-stamped.stamped-index c.args.notes.now c.loop-stamped.notes (omega (arith, ap length c.as_slice-stamped-items.ensures.items)) c.loop-stamped.invariant r
+    injected-all _ _ c.args.stream.now c.loop-rest.rest.now c.args.notes.now c.loop-rest.notes (no_more c.loop-rest.rest.now (grind (arith, nat_tests, c.is_empty.ensures, c.loop-rest-test.false))) c.loop-rest.invariant r
 
 pub returns-clause-begun : goal.returns-clause-begun
-returns-clause-begun g c r = injected-so_far _ _ c.args.stream.now c.loop-stamped.stamped-index c.args.notes.now c.loop-stamped.notes c.loop-stamped.invariant r
+returns-clause-begun g c r = injected-so_far _ _ c.args.stream.now c.loop-rest.rest.now c.args.notes.now c.loop-rest.notes c.loop-rest.invariant r
