@@ -73,6 +73,7 @@ CAUSES = [
     (HEAD + "device d\ncap EV_SYN 0\n", "3: bad-code"),
     (HEAD + "device d\ncap EV_REP 2\n", "3: bad-code"),
     (HEAD + "device d\ncap EV_KEY 0x300\n", "3: bad-code"),
+    (SOURCE + "do s stream16 keys\n", "4: bad-command"),
     (READERS + "do c read 1\n", "5: bad-command"),
     (READERS + "do t next 1\n", "5: bad-command"),
     (READERS + "do t open now\n", "5: bad-command"),

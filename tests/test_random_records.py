@@ -18,14 +18,14 @@ SEED = 41
 COUNT = 60
 
 
-def random_text(number):
-    """The record that `bench/model/random_records.py FOLDER 60 41` writes under this number."""
-    return Generator(SEED * 100000 + number).record()
+def random_text(number, folder):
+    """The record that `bench/model/random_records.py FOLDER 60 41` writes under this number, with its streams."""
+    return Generator(SEED * 100000 + number, folder).record()
 
 
-def report_of(text, history=False):
+def report_of(text, folder, history=False):
     """The report that the second program writes, and the exit status that goes with it."""
-    lines = play(text, history=history)
+    lines = play(text, folder, history)
     is_full = any(line.split()[-2] == "full" for line in lines if " full " in line)
     return "".join(line + "\n" for line in lines).encode(), 6 if is_full else 0
 
@@ -33,7 +33,7 @@ def report_of(text, history=False):
 class SecondProgram(FolderCase):
     def plays_as_the_second_one(self, text, history):
         (self.folder / "f").write_bytes(text.encode("latin1"))
-        report, status = report_of(text, history)
+        report, status = report_of(text, self.folder, history)
         words = ["--history", "f"] if history else ["f"]
         assert_run(self, run(words, self.folder), status, report)
 
@@ -41,7 +41,7 @@ class SecondProgram(FolderCase):
         for number in range(COUNT):
             history = number % 3 == 2
             with self.subTest(number=number, history=history):
-                self.plays_as_the_second_one(random_text(number), history)
+                self.plays_as_the_second_one(random_text(number, self.folder), history)
 
     def test_records_at_bounds(self):
         for name, make in RECORDS.items():
@@ -49,7 +49,11 @@ class SecondProgram(FolderCase):
                 self.plays_as_the_second_one(make(), history=True)
 
     def test_the_random_records_have_something_to_show(self):
-        reports = b"".join(report_of(random_text(number), history=True)[0] for number in range(COUNT))
+        texts = [random_text(number, self.folder) for number in range(COUNT)]
+        for text in ("inputrecord 1\n", "inputrecord 2\n", " stream events-", " stream16 events-", "\nslots 256\n"):
+            with self.subTest(text=text):
+                self.assertIn(text, "".join(texts))
+        reports = b"".join(report_of(text, self.folder, history=True)[0] for text in texts)
         for text in (
             b"EV_SYN SYN_DROPPED 0\n",
             b"EV_SYN SYN_REPORT 1\n",

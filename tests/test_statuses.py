@@ -29,6 +29,7 @@ FULL_ALONE = b"inputrecord 1\ndevice d\nlog 1\nsource s\ndo s uninhibit\ndo s un
 
 # A source that injects what stands in a file.
 STREAM = b"inputrecord 1\ndevice d\ncap EV_KEY KEY_A\nsource s\ndo s stream keys\n"
+STREAM16 = STREAM.replace(b"inputrecord 1", b"inputrecord 2").replace(b"stream", b"stream16")
 
 DEVICE = "inputrecord 1\ndevice d\n"
 LATER_DEVICE = "inputrecord 2\ndevice d\n"
@@ -62,6 +63,8 @@ REFUSED = [
     ("too-many", DEVICE + "".join(f"source s{i}\n" for i in range(9)), 11),
     ("too-many", DEVICE + "".join(f"tap t{i}\n" for i in range(129)), 131),
     ("too-many", SOURCE + "do s stream keys\n" * 17, 20),
+    ("too-many", LATER_DEVICE + "source s\n" + "do s stream keys\n" * 8 + "do s stream16 keys\n" * 9, 20),
+    ("bad-command", SOURCE + "do s stream16 keys\n", 4),
     ("bad-code", DEVICE + "cap EV_KEY 0\n", 3),
     ("bad-axis", DEVICE + "axis ABS_X 0 0 9 -1 0 0\n", 3),
     ("bad-slots", DEVICE + "slots 65\n", 3),
@@ -94,6 +97,11 @@ WRONG_WORDS = [
 def record_of(seconds, microseconds):
     """A record of a stream: the report of a frame at this time."""
     return struct.pack("<QQHHi", seconds, microseconds, 0, 0, 0)
+
+
+def record16_of(seconds, microseconds):
+    """The same, as a 32-bit machine has it."""
+    return struct.pack("<IIHHi", seconds, microseconds, 0, 0, 0)
 
 
 def with_room(limit_in_bytes):
@@ -171,6 +179,21 @@ class Statuses(FolderCase):
                 self.ends(["f"], 1, b"inputplay: line 5: bad-stream\n")
         with self.subTest(stream="just in time"):
             self.file("keys", record_of(9000000000, 0))
+            self.ends(["f"], 0, b"device d steps 1\nsource s calls 1 stop finished\n")
+
+    def test_1_a_stream_of_16_byte_records_is_refused(self):
+        self.file("f", STREAM16)
+        for what, stream in [
+            ("cut off", record16_of(1, 0)[:15]),
+            ("one byte more", record16_of(1, 0) + b"\0"),
+            ("too many microseconds", record16_of(1, 1000000)),
+            ("of 24 bytes", record_of(1, 0)),
+        ]:
+            with self.subTest(stream=what):
+                self.file("keys", stream)
+                self.ends(["f"], 1, b"inputplay: line 5: bad-stream\n")
+        with self.subTest(stream="the last one"):
+            self.file("keys", record16_of(2**32 - 1, 999999))
             self.ends(["f"], 0, b"device d steps 1\nsource s calls 1 stop finished\n")
 
     def test_2_words_that_are_not_accepted(self):

@@ -56,7 +56,7 @@ class Threads(FolderCase):
         stops = set()
         for number in range(40):
             with self.subTest(number=number):
-                (self.folder / "f").write_text(Generator(47 * 100000 + number).record())
+                (self.folder / "f").write_text(Generator(47 * 100000 + number, self.folder).record())
                 printed = self.runs_by_its_history("f", self.folder, (1, 2, 5, IDLE)[number % 4])
                 stops |= {line.split()[1] for line in printed if line.startswith("stop ")}
         self.assertEqual({"finished", "full", "idle"}, stops, "each stop is shown")

@@ -57,13 +57,17 @@ def reply_text(reply):
     return " ".join(str(word) for word in reply)
 
 
+# The records of a file, by the command that names it: seconds, microseconds, type, code, value.
+RECORD_FORMS = {"stream": "<QQHHi", "stream16": "<IIHHi"}
+
+
 def source_steps(words, streams):
     """The steps of a source's command."""
     command, *words = words
     if command == "event":
         return [("inject", number(words[0]), event_of(words[1:]))]
-    if command == "stream":
-        return [("inject", moment, event) for moment, event in streams(words[0])]
+    if command in RECORD_FORMS:
+        return [("inject", moment, event) for moment, event in streams(words[0], RECORD_FORMS[command])]
     return [(command,) + tuple(number(word) for word in words)]
 
 
@@ -216,8 +220,8 @@ def describe(caps, words):
         caps.axes[code_of(ABS, words[0])] = tuple(number(word) for word in words[1:])
 
 
-def read_stream(path):
-    records = struct.iter_unpack("<QQHHi", open(path, "rb").read())
+def read_stream(path, form):
+    records = struct.iter_unpack(form, open(path, "rb").read())
     return [(seconds * 1000000 + micros, (kind, code, value)) for seconds, micros, kind, code, value in records]
 
 
@@ -249,7 +253,7 @@ def read_record(text):
 
 
 def streams_of(folder):
-    return lambda file: read_stream(os.path.join(folder, file))
+    return lambda file, form: read_stream(os.path.join(folder, file), form)
 
 
 def report(devices, actors, history):

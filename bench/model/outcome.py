@@ -39,8 +39,8 @@ def played(path, history):
     """The status and the text of a record that is played, or `Ends` is raised."""
     data, folder = contents(path), os.path.dirname(os.path.abspath(path))
     try:
-        for line, file in streams_of_text(data):
-            if not is_stream(contents(os.path.join(folder, file))):
+        for line, file, size in streams_of_text(data):
+            if not is_stream(contents(os.path.join(folder, file)), size):
                 raise Refused(line, "bad-stream")
     except Refused as refused:
         raise Ends(1, str(refused)) from None

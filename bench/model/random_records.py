@@ -1,24 +1,31 @@
 #!/usr/bin/env python3
-"""Writes random records, each with the report that the model gives of it, into a folder for `rt try --cases`.
+"""Writes random records, each with the report that the model gives of it and the files of its streams, into a folder
+for bench/model/compare.
 
 usage: random_records.py FOLDER COUNT SEED [--history]
 """
 
 import os
 import random
+import struct
 import sys
 
 from device import SLOT, ID
-from model import play
+from model import RECORD_FORMS, play
 from names import ABS, CODES, GREATEST, KEY, LED, MSC, REL, REP, SND, SW, code_text, kind_text
 
 CLOCKS = ["realtime", "monotonic", "boottime"]
 FULL = 2**64 - 1
 
+MOST_STREAMS = 16
+
 
 class Generator:
-    def __init__(self, seed):
+    """Makes one record. Where a folder is given its sources have streams, and their files are written there."""
+
+    def __init__(self, seed, folder=None):
         self.r = random.Random(seed)
+        self.seed, self.folder, self.streams = seed, folder, 0
         self.now = 1000
         self.version = self.r.choice([1, 2])
         self.devices = []
@@ -116,8 +123,22 @@ class Generator:
             actions += [f"do {name} follow" for role, name in actors if role == "client" and r.random() < 0.7]
         return "\n".join(lines + actions) + "\n"
 
+    def stream(self, codes, slots):
+        """A command that names a file of a few events. Records of 16 bytes come with version 2."""
+        r = self.r
+        command = r.choice(list(RECORD_FORMS)) if self.version == 2 else "stream"
+        name, self.streams = f"events-{self.seed}-{self.streams}", self.streams + 1
+        with open(os.path.join(self.folder, name), "wb") as file:
+            for _ in range(r.randint(0, 20)):
+                kind, code = r.choice(codes) if r.random() < 0.6 else (0, 0)
+                time = divmod(self.moment(), 1000000)
+                file.write(struct.pack(RECORD_FORMS[command], *time, kind, code, self.value(kind, code, slots)))
+        return [f"{command} {name}"]
+
     def source_action(self, _, codes, slots, busy):
         r, x = self.r, self.r.random()
+        if x < 0.05 and self.folder and self.streams < MOST_STREAMS:
+            return self.stream(codes, slots)
         if x < 0.86:
             moment, actions = self.moment(), []
             for _ in range(r.randint(0, 4) if busy else r.randint(0, 2)):
@@ -178,11 +199,11 @@ def main():
     folder, count, seed = sys.argv[1], int(sys.argv[2]), int(sys.argv[3])
     os.makedirs(folder, exist_ok=True)
     for i in range(count):
-        text = Generator(seed * 100000 + i).record()
+        text = Generator(seed * 100000 + i, folder).record()
         with open(f"{folder}/{i:04}.rec", "w") as file:
             file.write(text)
         with open(f"{folder}/{i:04}.rec.stdout", "w") as file:
-            file.write("".join(line + "\n" for line in play(text, history="--history" in sys.argv)))
+            file.write("".join(line + "\n" for line in play(text, folder, "--history" in sys.argv)))
 
 
 if __name__ == "__main__":

@@ -14,6 +14,9 @@ CLOCKS = ("realtime", "monotonic", "boottime")
 
 MOST_DEVICES, MOST_SOURCES, MOST_READERS, MOST_STREAMS = 8, 8, 128, 16
 
+# The number of bytes of a record, by the command that names the file.
+RECORD_SIZES = {"stream": 24, "stream16": 16}
+
 SLOT, TRACKING_ID, LAST_OF_SLOT = 0x2F, 0x39, 0x3D
 
 
@@ -138,7 +141,7 @@ COMMANDS = {
         "tick": "MOMENT",
         "inhibit": "MOMENT",
         "uninhibit": "",
-        "stream": "FILE",
+        **dict.fromkeys(RECORD_SIZES, "FILE"),
     },
     "client": {**READERS, "next": "U32", "skip": "U32", "follow": "", "force": ""},
     "tap": {
@@ -272,18 +275,20 @@ class Text:
         if actor not in self.actors:
             raise Cause("no-actor")
         forms = COMMANDS[self.actors[actor]].get(command)
-        if forms is None or not has_length(forms, words):
+        is_later = command == "stream16" and self.version == "1"
+        if forms is None or not has_length(forms, words) or is_later:
             raise Cause("bad-command")
         values = values_of(forms, words)
-        if command == "stream":
+        if command in RECORD_SIZES:
             if len(self.streams) == MOST_STREAMS:
                 raise Cause("too-many")
-            self.streams.append((line, *values))
+            self.streams.append((line, *values, RECORD_SIZES[command]))
         self.has_action = True
 
 
 def streams_of_text(data):
-    """The `stream` lines of a text, each as its number and its file, or `Refused` is raised."""
+    """The `stream` and `stream16` lines of a text, each as its number, its file and the number of bytes of a record in it,
+    or `Refused` is raised."""
     text, lines = Text(), lines_of(data)
     for line, bytes_of_line in enumerate(lines, start=1):
         try:
@@ -297,12 +302,14 @@ def streams_of_text(data):
     return text.streams
 
 
-def is_stream(data):
-    """Whether bytes are whole records of events, each at a time that is one."""
-    if len(data) % 24:
+def is_stream(data, size):
+    """Whether bytes are whole records of so many bytes, each at a time that is one."""
+    if len(data) % size:
         return False
-    for at in range(0, len(data), 24):
-        seconds, micros = (int.from_bytes(data[i : i + 8], "little") for i in (at, at + 8))
+    # Behind the seconds and the microseconds stand 8 bytes.
+    width = (size - 8) // 2
+    for at in range(0, len(data), size):
+        seconds, micros = (int.from_bytes(data[i : i + width], "little") for i in (at, at + width))
         if micros >= 1000000 or seconds * 1000000 + micros > MOMENT_MAX:
             return False
     return True

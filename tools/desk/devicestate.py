@@ -173,7 +173,8 @@ def action_lines(number, state):
 
 def second_record(states):
     """The text of the second record."""
-    lines = ["inputrecord 1"]
+    # (version 2 has all that version 1 has, and more slots)
+    lines = ["inputrecord 2"]
     for number, state in enumerate(states):
         lines += device_lines(number, state)
     for number, state in enumerate(states):

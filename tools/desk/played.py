@@ -11,7 +11,7 @@ from desk.command import Wrong
 from desk.handles import Handles
 from desk.partings import Walk
 from desk.program import PLAYED, folder_of
-from desk.recordfile import Record, read_text
+from desk.recordfile import RECORD_SIZES, Record, read_text
 from desk.report import read_report
 from desk.slips import refusal_text
 
@@ -57,7 +57,9 @@ class Client:
 
 def steps_of_action(words, folder):
     """How many steps a source's action makes: one for each event of a stream, else one."""
-    return os.path.getsize(os.path.join(folder, words[1])) // 24 if words[0] == "stream" else 1
+    if words[0] not in RECORD_SIZES:
+        return 1
+    return os.path.getsize(os.path.join(folder, words[1])) // RECORD_SIZES[words[0]]
 
 
 def source_steps(record, number, history, folder):

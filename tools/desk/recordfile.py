@@ -10,6 +10,9 @@ from desk.recordlines import Parser
 
 DEFAULT_HINT = 16
 
+# The number of bytes of a record of an event, by the command that names the file.
+RECORD_SIZES = {"stream": 24, "stream16": 16}
+
 
 class Device:
     """A device of a record: its name, its lines of description but the log limit, and what they describe."""
@@ -88,10 +91,11 @@ def read_text(path):
 
 
 def stream_names(path):
-    """The files that the `stream` lines of a record name, each once."""
+    """The files that the `stream` and `stream16` lines of a record name, each once."""
     names = []
     for line in read_text(path).split("\n"):
         words = words_of(line)
-        if len(words) == 4 and words[0] == "do" and words[2] == "stream" and words[3] not in names:
+        is_stream = len(words) == 4 and words[0] == "do" and words[2] in RECORD_SIZES
+        if is_stream and words[3] not in names:
             names.append(words[3])
     return names

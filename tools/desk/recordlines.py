@@ -41,7 +41,7 @@ class Parser:
         elif first == "hint":
             self.device.hint = self.number(rest[0], 2, 512)
         elif first == "slots":
-            self.device.slots = self.number(rest[0], 1, 64)
+            self.device.slots = self.number(rest[0], 1, 256)
         elif first == "axis":
             self.take_axis(rest)
         else:

@@ -6,19 +6,20 @@ REFUSAL = re.compile(r"inputplay: line (\d+): ([a-z-]+)$")
 
 SLIPS = {
     "not-text": "a byte that is no plain text: a letter with an accent, a curly quote, a no-break space",
-    "bad-header": "the first line that is no comment must be `inputrecord 1`",
+    "bad-header": "the first line that is no comment must be `inputrecord 1` or `inputrecord 2`",
     "bad-line": (
         "the line begins with no known word, or has too few or too many words (`axis` has CODE and "
         "six numbers: value, minimum, maximum, fuzz, flat, resolution)"
     ),
     "out-of-place": (
         "the order is: a device, its description, its actors; the next device; all `do` lines behind "
-        "all devices; and `inputrecord 1` only once"
+        "all devices; and `inputrecord` only once"
     ),
     "no-actor": "no `source`, `client` or `tap` line has this name",
     "bad-command": (
         "this actor has no such command, or it has another number of words: `event`, `tick`, `stream` "
-        "are a source's; `read`, `keys`, `axis` a tap's; `follow`, `next`, `force` a client's"
+        "are a source's; `read`, `keys`, `axis` a tap's; `follow`, `next`, `force` a client's; `stream16` "
+        "comes with `inputrecord 2`"
     ),
     "bad-word": (
         "a name that is in no table (write its number: `cap 1 280`), a code of another type, a number "
@@ -28,7 +29,10 @@ SLIPS = {
         "a setting, an axis or a name is given a second time; names of actors are one list over all "
         "devices"
     ),
-    "too-many": "at most 8 devices, 8 sources and 128 clients and taps of a device, and 16 `stream` lines",
+    "too-many": (
+        "at most 8 devices, 8 sources and 128 clients and taps of a device, and 16 lines of `stream` "
+        "and `stream16` together"
+    ),
     "bad-code": (
         "no device can have this code of this type (EV_KEY begins at 1; an axis is given by `axis`, "
         "not by `cap`)"
@@ -37,13 +41,16 @@ SLIPS = {
         "the fuzz is below 0 or too great, or an axis of multi-touch has a value other than 0 (its "
         "values belong to slots), or ABS_MT_SLOT or ABS_MT_TRACKING_ID has a fuzz"
     ),
-    "bad-slots": "a device has 1 to 64 slots: one more than the greatest ABS_MT_SLOT",
+    "bad-slots": (
+        "a device has 1 to 64 slots, and to 256 with `inputrecord 2`: one more than the greatest "
+        "ABS_MT_SLOT"
+    ),
     "bad-hint": "a hint is 2 to 512 events",
     "bad-log": "a log is 1 to 8388608 steps",
     "bad-offset": "a clock is at most 9000000000000000 microseconds ahead",
     "bad-stream": (
         "the file is not whole records of 24 bytes, as a 64-bit machine writes them; from a 32-bit "
-        "machine they have 16"
+        "machine they have 16, and `stream16` names them under `inputrecord 2`"
     ),
 }
 
