@@ -1,11 +1,14 @@
 //! A device with ample memory. What it answers after longer histories is told by its contract, and by the records of
 //! `tests/records`.
 
+ghost use Rattle.inp_model.specs.Injecting.{AreInTime};
+
 use inp_caps::{Caps, CapsBuilder, CapsRefused};
 use inp_core_tests::common::{A, A_DOWN, REPORT, axis, axis_info, key};
 use inp_device::Device;
 use inp_model::{
-    ABS_MT_POSITION_X, AxisInfo, EV_KEY, Event, FUZZ_MAX, MOMENT_MAX, Refusal, Reply, Step, Taken,
+    ABS_MT_POSITION_X, AxisInfo, EV_KEY, Event, FUZZ_MAX, Injected, MOMENT_MAX, Refusal, Reply,
+    Stamped, Step, Taken,
 };
 use std::process::Abort;
 use std::test::Fail;
@@ -31,6 +34,21 @@ fn small_keyboard() -> Result<Caps, CapsRefused> {
     builder.code(EV_KEY, A)?;
     builder.hint(8)?;
     Ok(builder.build())
+}
+
+/// Five events: a press, a report, a press, a report, a press.
+pub fn five() -> [Stamped; 5]
+    ensures in_time { AreInTime result }
+{
+    let press = Stamped {
+        event: A_DOWN,
+        now: 1,
+    };
+    let report = Stamped {
+        event: REPORT,
+        now: 2,
+    };
+    [press, report, press, report, press]
 }
 
 /// The axis `ABS_X`.
@@ -168,6 +186,28 @@ fn a_device_keeps_the_steps_that_it_accepted(rt: HostRuntime) -> Result<(), Fail
     refuses(&rt, &mut device, Step::End, Refusal::LogFull);
     assert_eq!(rt; device.history(), accepted.as_slice());
     assert_eq!(rt; device.into_history().as_slice(), accepted.as_slice());
+    Ok(())
+}
+
+#[test]
+fn many_events_are_entered_up_to_the_limit(rt: HostRuntime) -> Result<(), Fail> {
+    let mut device = Device::new(rt.alloc(), keyboard(3)?)?;
+    let five = five();
+    let entered = device.inject_all(&five);
+    assert_eq!(rt; entered, Injected { from: 0, count: 3 });
+    let entered = device.inject_all(&five);
+    assert_eq!(rt; entered, Injected { from: 3, count: 0 });
+    let entered = device.inject_all(&[]);
+    assert_eq!(rt; entered, Injected { from: 3, count: 0 });
+    let press = Step::Inject {
+        event: A_DOWN,
+        now: 1,
+    };
+    let report = Step::Inject {
+        event: REPORT,
+        now: 2,
+    };
+    assert_eq!(rt; device.history(), [press, report, press].as_slice());
     Ok(())
 }
 

@@ -3,10 +3,11 @@ ghost use Rattle.std.specs.Prelude.{◌≡◌, ◌≤◌};
 ghost use Rattle.inp_turn.specs.Pass.{view_of};
 ghost use Rattle.inp_port.specs.Port.{IsReadyAt};
 
+use crate::device::five;
 use inp_caps::{Caps, CapsBuilder, CapsRefused};
 use inp_core_tests::common::{A, A_DOWN, REPORT};
 use inp_device::Device;
-use inp_model::{EV_KEY, Evdev, Reply, Step, Taken};
+use inp_model::{EV_KEY, Evdev, Injected, Refusal, Reply, Step, Taken};
 use inp_port::{Port, PortClient};
 use inp_turn::Pass;
 use std::alloc::Global;
@@ -26,6 +27,14 @@ const NO_EVENT: Taken = Taken {
 fn keyboard() -> Result<Caps, CapsRefused> {
     let mut builder = CapsBuilder::new();
     builder.code(EV_KEY, A)?;
+    Ok(builder.build())
+}
+
+/// The same, with a history of at most four steps.
+fn short_keyboard() -> Result<Caps, CapsRefused> {
+    let mut builder = CapsBuilder::new();
+    builder.code(EV_KEY, A)?;
+    builder.log(4)?;
     Ok(builder.build())
 }
 
@@ -159,5 +168,41 @@ fn a_client_reads_what_another_one_injects(rt: HostRuntime) -> Result<(), Fail> 
     assert_eq!(rt; out[0].event, A_DOWN);
     assert_eq!(rt; out[1].event, REPORT);
     assert_eq!(rt; a.agains, 1);
+    Ok(())
+}
+
+#[test]
+fn events_of_two_clients_are_entered_up_to_the_limit(rt: HostRuntime) -> Result<(), Fail> {
+    let device = Device::new(rt.alloc(), short_keyboard()?)?;
+    let Ok((port, mut pass)) = Port::new(rt.alloc(), device) else {
+        panic!(rt; "memory ran out")
+    };
+    let other = port.split(&mut pass);
+    let (port, rt) = (&port, &rt);
+    let mut a = PortClient {
+        port,
+        rt,
+        pass,
+        agains: 0,
+    };
+    let mut b = PortClient {
+        port,
+        rt,
+        pass: other,
+        agains: 0,
+    };
+    assert_eq!(rt; a.call(Step::End, &mut [], &mut []), Reply::Done { at: 0 });
+    let five = five();
+    let entered = b.inject_all(&five);
+    assert_eq!(rt; entered, Injected { from: 1, count: 3 });
+    let entered = a.inject_all(&five);
+    assert_eq!(rt; entered, Injected { from: 4, count: 0 });
+    let entered = b.inject_all(&[]);
+    assert_eq!(rt; entered, Injected { from: 4, count: 0 });
+    let full = Reply::Refused {
+        at: 4,
+        why: Refusal::LogFull,
+    };
+    assert_eq!(rt; b.call(Step::End, &mut [], &mut []), full);
     Ok(())
 }

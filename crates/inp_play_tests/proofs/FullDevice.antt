@@ -14,6 +14,8 @@ use Rattle.inp_model.specs.declared.reply.Refusal.{Refusal}
 use Rattle.inp_model.specs.declared.reply.Refusal.TheVariants.{BadClient, LogFull}
 use Rattle.inp_model.specs.Description.{Description, one_key}
 use Rattle.inp_model.specs.Evdev.{EvdevView, IsEvdevCall}
+use Rattle.inp_model.specs.declared.stamped.Stamped.{Stamped}
+use Rattle.inp_model.specs.Injecting.{IsInjectAll}
 use Rattle.inp_model.specs.Past.{is_open, opens}
 use Rattle.inp_model.specs.Reply.{Answer, alone, answer, answer_by, accepted, is_bad_client}
 use Rattle.inp_model.specs.Step.{client_of}
@@ -69,8 +71,26 @@ full-call x why out cells h = record {
     own = refl;
     agains = refl;
     turns = tt;
+    rises = λ _. tt;
     history = (tt, refl);
   };
+  turns = tt;
+}
+
+pub full-inject_all : (events : List Stamped) → IsInjectAll full_view full_view events (record { from = 1; count = 0 })
+full-inject_all events = record {
+  found = End ∷ [];
+  description = refl;
+  tie = refl;
+  begins = ([], refl);
+  from = refl;
+  count = omega arith;
+  within = omega arith;
+  seen = refl;
+  own = refl;
+  agains = refl;
+  turns = tt;
+  history = (tt, refl);
 }
 
 pub full-client : (x : Step) (client : ℕ) (out : List Taken) (cells : List ℤ) → client_of x ≡ Some client → IsEvdevCall full_view full_view x (Refused 1 BadClient) out out cells cells
