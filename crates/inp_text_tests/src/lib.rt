@@ -15,6 +15,8 @@ mod canon;
 #[cfg(test)]
 mod common;
 #[cfg(test)]
+mod damage;
+#[cfg(test)]
 mod make;
 #[cfg(test)]
 mod plays;
