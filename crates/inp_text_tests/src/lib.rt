@@ -26,3 +26,5 @@ mod report;
 mod stream;
 #[cfg(test)]
 mod texts;
+#[cfg(test)]
+mod upgrade;
