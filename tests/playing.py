@@ -14,7 +14,8 @@ EXAMPLES = TOP / "examples"
 PROGRAM = os.environ.get("INPUTPLAY") or str(TOP / "crates" / "inp_main" / "out" / "inp_main")
 
 USAGE = (
-    b"usage: inputplay [--threads] [--history] [--idle N] FILE, or inputplay --make NUMBER [--count COUNT]\n"
+    b"usage: inputplay [--threads] [--history] [--idle N] FILE, or inputplay --migrate FILE, "
+    b"or inputplay --make NUMBER [--count COUNT]\n"
 )
 
 # No run takes longer than a part of a second; one that hangs is a failure.

@@ -91,6 +91,11 @@ WRONG_WORDS = [
     ("a number and a file", ["--make", "7", "f"]),
     ("a count and a file", ["--count", "7", "f"]),
     ("a summary has no history", ["--history", "--make", "7"]),
+    ("no file to migrate", ["--migrate"]),
+    ("a migrated text has no history", ["--migrate", "--history", "f"]),
+    ("nothing is played on threads", ["--threads", "--migrate", "f"]),
+    ("nothing waits", ["--migrate", "--idle", "5", "f"]),
+    ("a number and a file", ["--migrate", "--make", "7", "f"]),
 ]
 
 
@@ -216,7 +221,7 @@ class Statuses(FolderCase):
         self.file("f", ONE_KEY)
         self.file("refused", b"inputrecord 3\n")
         self.file("full", FULL)
-        for words in (["f"], ["refused"], ["full"], ["missing"], ["--make", "7"]):
+        for words in (["f"], ["refused"], ["full"], ["missing"], ["--make", "7"], ["--migrate", "f"]):
             with self.subTest(words=words), open("/dev/full", "wb") as full:
                 self.ends(words, 4, b"", stdout=full)
 

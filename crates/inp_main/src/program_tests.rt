@@ -14,7 +14,7 @@ const RECORD: &str = "inputrecord 1\ndevice d\n";
 const REPORT: &str = "device d steps 0\n";
 
 const USAGE: &str =
-    "usage: inputplay [--threads] [--history] [--idle N] FILE, or inputplay --make NUMBER [--count COUNT]\n";
+    "usage: inputplay [--threads] [--history] [--idle N] FILE, or inputplay --migrate FILE, or inputplay --make NUMBER [--count COUNT]\n";
 
 /// The arguments of a process.
 fn args_of(alloc: Global, texts: &[&str]) -> Result<Vec<String>, AllocError> {

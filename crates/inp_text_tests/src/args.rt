@@ -21,6 +21,7 @@ fn answer(alloc: Global, words: &[&str]) -> Result<String, AllocError> {
             Some(idle) => format!(in alloc; "play {} {history} {idle}", file.text()),
             None => format!(in alloc; "play {} {history}", file.text()),
         },
+        Ok(Request::Migrate { file }) => format!(in alloc; "migrate {}", file.text()),
         Ok(Request::Make { number, count }) => format!(in alloc; "make {number} {count}"),
         Err(fault) => format!(in alloc; "{fault}"),
     }
@@ -49,6 +50,11 @@ fn words_are_read_as_worked_out_by_hand(rt: HostRuntime) -> Result<(), Fail> {
         ),
         (["--threads", "f"].as_slice(), "play f false 1000000"),
         (["--threads", "f", "--idle=5"].as_slice(), "play f false 5"),
+        (["--migrate", "f"].as_slice(), "migrate f"),
+        (
+            ["--migrate", "f", "--idle=5"].as_slice(),
+            "the words are not accepted",
+        ),
         ([].as_slice(), "the words are not accepted"),
     ];
     for (words, told) in rows {
@@ -56,6 +62,10 @@ fn words_are_read_as_worked_out_by_hand(rt: HostRuntime) -> Result<(), Fail> {
         assert_eq!(rt; found.as_str(), told);
     }
     assert!(rt; usage().starts_with("usage: inputplay [--threads] "));
-    assert!(rt; usage().ends_with("[--count COUNT]\n"));
+    assert!(rt;
+        usage().ends_with(
+            ", or inputplay --migrate FILE, or inputplay --make NUMBER [--count COUNT]\n"
+        )
+    );
     Ok(())
 }

@@ -28,3 +28,5 @@ mod report;
 mod stream;
 #[cfg(test)]
 mod texts;
+#[cfg(test)]
+mod upgrade;

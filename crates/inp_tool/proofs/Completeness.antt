@@ -5,31 +5,33 @@ use Rattle.inp_edge.specs.Count.{RoseUnlessSaturated}
 use Rattle.inp_edge.specs.File.{File, IsMissing, HasFile, HasLongerFile, bytes_of}
 use Rattle.inp_edge.specs.Sink.{Appends}
 use Rattle.inp_edge.specs.declared.input.TheConstants.{INPUT_LIMIT}
-use Rattle.inp_args.specs.declared.request.Request.TheVariants.{Make}
+use Rattle.inp_args.specs.declared.request.Request.TheVariants.{Migrate, Make}
 use Rattle.inp_args.specs.Request.{requested}
 use Rattle.inp_make.specs.Generated.{generated}
 use Rattle.inp_model.specs.declared.stamped.Stamped.{Stamped}
 use Rattle.inp_actors.specs.declared.line.Line.{Line}
 use Rattle.inp_actors.specs.Record.{RecordView}
+use Rattle.inp_canon.specs.Text.{record_text}
 use Rattle.inp_record.specs.declared.refused.Refused.{Refused as Refusal}
 use Rattle.inp_record.specs.Meaning.{meaning}
 use Rattle.inp_record.specs.Stream.{stamps_of}
 use Rattle.inp_script.specs.declared.run.Run.{Run}
 use Rattle.inp_order.specs.Play.{IsPlay}
+use Rattle.inp_upgrade.specs.Upgrade.{upgraded}
 use Rattle.inp_report.specs.Report.{report}
 use Rattle.inp_report.specs.Summary.{summary}
 use Rattle.inp_tool.specs.declared.end.End.{End}
 use Rattle.inp_tool.specs.declared.outcome.Outcome.{Outcome}
-use Rattle.inp_tool.specs.declared.outcome.Outcome.TheVariants.{Usage, Unread, TooLong, Refused, NoMemory, Played}
+use Rattle.inp_tool.specs.declared.outcome.Outcome.TheVariants.{Usage, Unread, TooLong, Refused, NoMemory, Played, Migrated}
 use Rattle.inp_tool.specs.Edge.{Reads, Writes}
 use Rattle.inp_tool.specs.Streams.{file_of, stream_files}
 use Rattle.inp_tool.specs.Outcome.{played_status}
 use Rattle.inp_tool.specs.Reading.{IsRead, IsUnread, IsTooLong, AreRead, IsParsed, IsAtStream, IsNext, HasBadText, HasBadStream, HasRecord}
-use Rattle.inp_tool.specs.Promise.{Words, AskFor, CameOf, HasCause, IsWrittenWhole, IsWritten, Promise}
-use Rattle.inp_tool.specs.Complete.{IsFaultless, IsThere, AreThere, IsReadable, IsTold, IsToldWhole, IsComplete}
+use Rattle.inp_tool.specs.Promise.{Words, AskFor, NameFile, CameOf, HasCause, IsWrittenWhole, IsWritten, Promise}
+use Rattle.inp_tool.specs.Complete.{IsFaultless, IsThere, AreThere, IsReadable, IsTold, IsToldWhole, IsRewritten, IsComplete}
 use Rattle.inp_tool.proofs.MadeBounds.{asked-not_full}
 use Rattle.inp_tool.proofs.StreamFiles.{line_found}
-use Rattle.inp_tool.proofs.Faults.{same_file}
+use Rattle.inp_tool.proofs.Faults.{same_file, plays_file, migrates_file, made_names_none, refused_names_none}
 
 -- a file that is there, and is a stream
 record HasStream (files : List File) (name : List ℕ) : Type 0 where
@@ -184,26 +186,47 @@ is_told w idle recorded text runs says end came e same status written =
     let at = subst P (sym same) here in
     record { came = subst (CameOf idle recorded) (sym same) came; status = at.0; written = at.1 }
 
+-- what a call may find of a record that is there
+abbrev IsReached : Outcome → Type 0
+IsReached Usage = ⊥
+IsReached Unread = ⊥
+IsReached TooLong = ⊥
+IsReached (Refused refused text) = ⊥
+IsReached NoMemory = Unit {0}
+IsReached (Played runs text) = Unit {0}
+IsReached (Migrated text) = Unit {0}
+
+-- a record that is there was not refused
+reached : (words : Words) (r : Reads) (found : Outcome) (file : List ℕ) (recorded : RecordView) → NameFile words file → IsReadable r file recorded
+    → is_some r.after.left ≡ is_some r.before.left → IsFaultless r.before.faults r.after.faults → HasCause words r found → IsReached found
+reached words r Usage file recorded named readable stays faultless h = refused_names_none words file h.refused named
+reached words r Unread file recorded named readable stays faultless h =
+    let same = same_file words file h.file named h.named in
+    let P : List ℕ → Type 0 = λ f. IsNext r f h.unread.name in
+    not_unread r file recorded readable stays faultless h.unread.name (subst P same h.unread.next) h.unread.unread
+reached words r TooLong file recorded named readable stays faultless h =
+    let same = same_file words file h.file named h.named in
+    let P : List ℕ → Type 0 = λ f. IsNext r f h.too_long.name in
+    not_too_long r file recorded readable stays faultless h.too_long.name (subst P same h.too_long.next) h.too_long.too_long
+reached words r (Refused refused text) file recorded named readable stays faultless h =
+    let same = same_file words file h.file named h.named in
+    let P : List ℕ → Type 0 = λ f. HasBadText r f refused ⊎ HasBadStream r f refused in
+    not_refused r file recorded readable stays faultless refused (subst P same h.why)
+reached words r NoMemory file recorded named readable stays faultless h = tt
+reached words r (Played runs text) file recorded named readable stays faultless h = tt
+reached words r (Migrated text) file recorded named readable stays faultless h = tt
+
 -- a record that is there was played, or memory ran out
 by_outcome : (words : Words) (r : Reads) (w : Writes) (end : End) (found : Outcome) (file : List ℕ) (history : Bool) (idle : Option ℕ) (recorded : RecordView) → AskFor words file history idle → IsReadable r file recorded
-    → is_some r.after.left ≡ is_some r.before.left → IsFaultless r.before.faults r.after.faults → HasCause words r found → IsWrittenWhole w found end
+    → is_some r.after.left ≡ is_some r.before.left → IsFaultless r.before.faults r.after.faults → IsReached found → HasCause words r found → IsWrittenWhole w found end
     → (end.status ≡ 5) ⊎ IsTold w idle recorded (λ runs. report recorded runs history) end
-by_outcome words r w end Usage file history idle recorded asked readable stays faultless h whole = let never : ⊥ = cc (h.refused, asked) in absurd never
-by_outcome words r w end Unread file history idle recorded asked readable stays faultless h whole =
-    let same = same_file words file h.file history h.history idle h.idle asked h.asked in
-    let P : List ℕ → Type 0 = λ f. IsNext r f h.unread.name in
-    absurd (not_unread r file recorded readable stays faultless h.unread.name (subst P same h.unread.next) h.unread.unread)
-by_outcome words r w end TooLong file history idle recorded asked readable stays faultless h whole =
-    let same = same_file words file h.file history h.history idle h.idle asked h.asked in
-    let P : List ℕ → Type 0 = λ f. IsNext r f h.too_long.name in
-    absurd (not_too_long r file recorded readable stays faultless h.too_long.name (subst P same h.too_long.next) h.too_long.too_long)
-by_outcome words r w end (Refused refused text) file history idle recorded asked readable stays faultless h whole =
-    let same = same_file words file h.file history h.history idle h.idle asked h.asked in
-    let P : List ℕ → Type 0 = λ f. HasBadText r f refused ⊎ HasBadStream r f refused in
-    absurd (not_refused r file recorded readable stays faultless refused (subst P same h.why))
-by_outcome words r w end NoMemory file history idle recorded asked readable stays faultless h whole = inl whole.ended.status
-by_outcome words r w end (Played runs text) file history idle recorded asked readable stays faultless (inl h) whole =
-    let same = same_file words file h.file history h.history idle h.idle asked h.asked in
+by_outcome words r w end Usage file history idle recorded asked readable stays faultless there h whole = absurd there
+by_outcome words r w end Unread file history idle recorded asked readable stays faultless there h whole = absurd there
+by_outcome words r w end TooLong file history idle recorded asked readable stays faultless there h whole = absurd there
+by_outcome words r w end (Refused refused text) file history idle recorded asked readable stays faultless there h whole = absurd there
+by_outcome words r w end NoMemory file history idle recorded asked readable stays faultless there h whole = inl whole.ended.status
+by_outcome words r w end (Played runs text) file history idle recorded asked readable stays faultless there (inl h) whole =
+    let same = same_file words file h.file (plays_file words file history idle asked) (plays_file words h.file h.history h.idle h.asked) in
     let same_history : h.history ≡ history = cc (h.asked, asked) in
     let same_idle : h.idle ≡ idle = cc (h.asked, asked) in
     let P : List ℕ → Type 0 = λ f. HasRecord r f h.recorded in
@@ -211,17 +234,38 @@ by_outcome words r w end (Played runs text) file history idle recorded asked rea
     let C : RecordView → Type 0 = λ x. CameOf idle x runs in
     let says = h.says ∙ ap (λ (x : RecordView). report x runs h.history) its ∙ ap (λ (b : Bool). report recorded runs b) same_history in
     inr (is_told w idle recorded (λ rs. report recorded rs history) runs text.items end (subst C its (subst (λ (o : Option ℕ). CameOf o h.recorded runs) same_idle h.came)) says whole.ended.runs whole.ended.status whole.written)
-by_outcome words r w end (Played runs text) file history idle recorded asked readable stays faultless (inr h) whole = let never : ⊥ = cc (h.asked, asked) in absurd never
+by_outcome words r w end (Played runs text) file history idle recorded asked readable stays faultless there (inr h) whole = let never : ⊥ = cc (h.asked, asked) in absurd never
+by_outcome words r w end (Migrated text) file history idle recorded asked readable stays faultless there h whole = let never : ⊥ = cc (h.asked, asked) in absurd never
+
+-- a record that is there was upgraded, or memory ran out
+by_outcome_migrated : (words : Words) (r : Reads) (w : Writes) (end : End) (found : Outcome) (file : List ℕ) (recorded : RecordView) → requested words ≡ Some (Migrate file) → IsReadable r file recorded
+    → is_some r.after.left ≡ is_some r.before.left → IsFaultless r.before.faults r.after.faults → IsReached found → HasCause words r found → IsWrittenWhole w found end
+    → (end.status ≡ 5) ⊎ IsRewritten w recorded end
+by_outcome_migrated words r w end Usage file recorded asked readable stays faultless there h whole = absurd there
+by_outcome_migrated words r w end Unread file recorded asked readable stays faultless there h whole = absurd there
+by_outcome_migrated words r w end TooLong file recorded asked readable stays faultless there h whole = absurd there
+by_outcome_migrated words r w end (Refused refused text) file recorded asked readable stays faultless there h whole = absurd there
+by_outcome_migrated words r w end NoMemory file recorded asked readable stays faultless there h whole = inl whole.ended.status
+by_outcome_migrated words r w end (Played runs text) file recorded asked readable stays faultless there (inl h) whole = let never : ⊥ = cc (h.asked, asked) in absurd never
+by_outcome_migrated words r w end (Played runs text) file recorded asked readable stays faultless there (inr h) whole = let never : ⊥ = cc (h.asked, asked) in absurd never
+by_outcome_migrated words r w end (Migrated text) file recorded asked readable stays faultless there h whole =
+    let same = same_file words file h.file (migrates_file words file asked) (migrates_file words h.file h.asked) in
+    let P : List ℕ → Type 0 = λ f. HasRecord r f h.recorded in
+    let its = same_whole r file recorded readable stays faultless h.recorded (subst P same h.read) in
+    let says : text.items ≡ record_text (upgraded recorded) = h.says ∙ ap (λ (x : RecordView). record_text (upgraded x)) its in
+    let Q : List ℕ → Type 0 = λ t. Appends t w.before.written w.after.written in
+    inr (record { status = whole.ended.status; runs = whole.ended.runs; written = subst Q says whole.written })
 
 -- a record that was to be made was played, or memory ran out
 by_outcome_made : (words : Words) (r : Reads) (w : Writes) (end : End) (found : Outcome) (number count : ℕ) → requested words ≡ Some (Make number count) → HasCause words r found → IsWrittenWhole w found end
     → (end.status ≡ 5) ⊎ IsTold w None (generated number count) (λ runs. summary number count (generated number count) runs) end
 by_outcome_made words r w end Usage number count asked h whole = let never : ⊥ = cc (h.refused, asked) in absurd never
-by_outcome_made words r w end Unread number count asked h whole = let never : ⊥ = cc (h.asked, asked) in absurd never
-by_outcome_made words r w end TooLong number count asked h whole = let never : ⊥ = cc (h.asked, asked) in absurd never
-by_outcome_made words r w end (Refused refused text) number count asked h whole = let never : ⊥ = cc (h.asked, asked) in absurd never
+by_outcome_made words r w end Unread number count asked h whole = absurd (made_names_none words number count h.file asked h.named)
+by_outcome_made words r w end TooLong number count asked h whole = absurd (made_names_none words number count h.file asked h.named)
+by_outcome_made words r w end (Refused refused text) number count asked h whole = absurd (made_names_none words number count h.file asked h.named)
 by_outcome_made words r w end NoMemory number count asked h whole = inl whole.ended.status
 by_outcome_made words r w end (Played runs text) number count asked (inl h) whole = let never : ⊥ = cc (h.asked, asked) in absurd never
+by_outcome_made words r w end (Migrated text) number count asked h whole = let never : ⊥ = cc (h.asked, asked) in absurd never
 by_outcome_made words r w end (Played runs text) number count asked (inr h) whole =
     let n : h.number ≡ number = cc (h.asked, asked) in
     let c : h.count ≡ count = cc (h.asked, asked) in
@@ -235,7 +279,20 @@ when_read : (words : Words) (r : Reads) (w : Writes) (end : End) (p : Promise wo
 when_read words r w end p stays file history idle recorded asked readable no_read no_write = by_writing p.written
   where
     by_writing : IsWritten w p.found end → (end.status ≡ 5) ⊎ IsTold w idle recorded (λ runs. report recorded runs history) end
-    by_writing (inl whole) = by_outcome words r w end p.found file history idle recorded asked readable stays no_read p.cause whole
+    by_writing (inl whole) =
+        by_outcome words r w end p.found file history idle recorded asked readable stays no_read
+        (reached words r p.found file recorded (plays_file words file history idle asked) readable stays no_read p.cause) p.cause whole
+    by_writing (inr part) = absurd (no_rise w.before.faults w.after.faults no_write part.fault)
+
+when_migrated : (words : Words) (r : Reads) (w : Writes) (end : End) (p : Promise words r w end) → is_some r.after.left ≡ is_some r.before.left → (file : List ℕ) (recorded : RecordView)
+    → requested words ≡ Some (Migrate file) → IsReadable r file recorded → IsFaultless r.before.faults r.after.faults → IsFaultless w.before.faults w.after.faults
+    → (end.status ≡ 5) ⊎ IsRewritten w recorded end
+when_migrated words r w end p stays file recorded asked readable no_read no_write = by_writing p.written
+  where
+    by_writing : IsWritten w p.found end → (end.status ≡ 5) ⊎ IsRewritten w recorded end
+    by_writing (inl whole) =
+        by_outcome_migrated words r w end p.found file recorded asked readable stays no_read
+        (reached words r p.found file recorded (migrates_file words file asked) readable stays no_read p.cause) p.cause whole
     by_writing (inr part) = absurd (no_rise w.before.faults w.after.faults no_write part.fault)
 
 when_made : (words : Words) (r : Reads) (w : Writes) (end : End) (p : Promise words r w end) → (number count : ℕ) → requested words ≡ Some (Make number count) → IsFaultless w.before.faults w.after.faults
@@ -254,4 +311,4 @@ when_made words r w end p number count asked no_write = of_told (by_writing p.wr
     by_writing (inr part) = absurd (no_rise w.before.faults w.after.faults no_write part.fault)
 
 pub complete : (words : Words) (r : Reads) (w : Writes) (end : End) → Promise words r w end → is_some r.after.left ≡ is_some r.before.left → IsComplete words r w end
-complete words r w end p stays = record { read = when_read words r w end p stays; made = when_made words r w end p }
+complete words r w end p stays = record { read = when_read words r w end p stays; migrated = when_migrated words r w end p stays; made = when_made words r w end p }

@@ -3,6 +3,7 @@ pub mod StreamFiles
 pub mod Loads
 pub mod StreamAt
 pub mod Records
+pub mod Migrated
 pub mod Faults
 pub mod MadeBounds
 pub mod Completeness

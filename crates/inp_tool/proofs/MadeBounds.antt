@@ -8,7 +8,7 @@ use Rattle.inp_args.specs.declared.request.Request.{Request}
 use Rattle.inp_args.specs.declared.request.Request.TheVariants.{Make}
 use Rattle.inp_args.specs.Command.{is_taken, is_given, text_of}
 use Rattle.inp_args.specs.Number.{number_of}
-use Rattle.inp_args.specs.Request.{count_of, made_of, request_of, requested, request_with, idle_of}
+use Rattle.inp_args.specs.Request.{count_of, made_of, request_of, migration_of, requested, request_with, idle_of}
 use Rattle.inp_model.specs.declared.event.Event.{Event}
 use Rattle.inp_model.specs.declared.step.Step.{Step}
 use Rattle.inp_model.specs.Description.{Description, ring}
@@ -186,13 +186,29 @@ asked_count number count None None text history idle h = absurd cc
 asked_count number count (Some file) (Some make) text history idle h = absurd cc
 asked_count number count (Some file) None (Some text) history idle h = absurd cc
 
+-- no record is made where one is migrated
+migrates_none : (number count : ℕ) (file make text bound : Option (List ℕ)) (history threads : Bool) → migration_of file make text bound history threads ≡ Some (Make number count) → ⊥
+migrates_none number count (Some file) None None None false false h = cc
+migrates_none number count (Some file) None None None false true h = cc
+migrates_none number count (Some file) None None None true threads h = cc
+migrates_none number count (Some file) None None (Some bound) history threads h = cc
+migrates_none number count (Some file) None (Some text) bound history threads h = cc
+migrates_none number count (Some file) (Some make) text bound history threads h = cc
+migrates_none number count None make text bound history threads h = cc
+
+by_migrate : (number count : ℕ) (file make text bound : Option (List ℕ)) (history threads migrate : Bool) (idle : Option ℕ)
+    → (if migrate then migration_of file make text bound history threads else request_of file make text history idle) ≡ Some (Make number count) → (1 ≤ count) × (count ≤ 10000)
+by_migrate number count file make text bound history threads true idle e = absurd (migrates_none number count file make text bound history threads e)
+by_migrate number count file make text bound history threads false idle e = asked_count number count file make text history idle e
+
 has_count : (words : List (List ℕ)) (number count : ℕ) → requested words ≡ Some (Make number count) → (1 ≤ count) × (count ≤ 10000)
 has_count words number count h = by_flag (is_taken words) h
   where
     by_idle : (idle : Option ℕ) → option_and_then (request_with words) idle ≡ Some (Make number count) → (1 ≤ count) × (count ≤ 10000)
     by_idle None e = absurd cc
     by_idle (Some n) e =
-        asked_count number count (text_of (codes "FILE") words) (text_of (codes "make") words) (text_of (codes "count") words) (is_given (text_of (codes "history") words))
+        by_migrate number count (text_of (codes "FILE") words) (text_of (codes "make") words) (text_of (codes "count") words) (text_of (codes "idle") words)
+        (is_given (text_of (codes "history") words)) (is_given (text_of (codes "threads") words)) (is_given (text_of (codes "migrate") words))
         (if is_given (text_of (codes "threads") words) then Some n else None) e
 
     idle : Option ℕ

@@ -4,14 +4,16 @@ use Rattle.inp_edge.specs.Count.{LAST}
 use Rattle.inp_edge.specs.File.{File, bytes_of}
 use Rattle.inp_edge.specs.Sink.{Appends}
 use Rattle.inp_edge.specs.declared.input.TheConstants.{INPUT_LIMIT}
-use Rattle.inp_args.specs.declared.request.Request.TheVariants.{Make}
+use Rattle.inp_args.specs.declared.request.Request.TheVariants.{Migrate, Make}
 use Rattle.inp_args.specs.Request.{requested}
 use Rattle.inp_make.specs.Generated.{generated}
 use Rattle.inp_model.specs.declared.stamped.Stamped.{Stamped}
 use Rattle.inp_actors.specs.Record.{RecordView}
+use Rattle.inp_canon.specs.Text.{record_text}
 use Rattle.inp_record.specs.Meaning.{meaning}
 use Rattle.inp_record.specs.Stream.{stamps_of}
 use Rattle.inp_script.specs.declared.run.Run.{Run}
+use Rattle.inp_upgrade.specs.Upgrade.{upgraded}
 use Rattle.inp_report.specs.Report.{report}
 use Rattle.inp_report.specs.Summary.{summary}
 use Rattle.inp_tool.specs.declared.end.End.{End}
@@ -64,10 +66,20 @@ pub record IsToldWhole (w : Writes) (number count : ℕ) (end : End) : Type 0 wh
   pub told : IsTold w None (generated number count) (λ runs. summary number count (generated number count) runs) end
   pub status : end.status ≡ 0
 
--- A record that is there, or a record to be made, and no fault: its report or its summary, or want of memory.
+-- The canonical text of this record in version 2 was written whole, and nothing was played.
+pub record IsRewritten (w : Writes) (recorded : RecordView) (end : End) : Type 0 where
+  pub status : end.status ≡ 0
+  pub runs : end.runs ≡ []
+  pub written : Appends (record_text (upgraded recorded)) w.before.written w.after.written
+
+-- A record that is there, or a record to be made, and no fault: its report, its text in version 2 or its summary, or want
+-- of memory.
 pub record IsComplete (words : Words) (r : Reads) (w : Writes) (end : End) : Type 0 where
   pub read : (file : List ℕ) (history : Bool) (idle : Option ℕ) (recorded : RecordView) → AskFor words file history idle → IsReadable r file recorded
       → IsFaultless r.before.faults r.after.faults → IsFaultless w.before.faults w.after.faults
       → (end.status ≡ 5) ⊎ IsTold w idle recorded (λ runs. report recorded runs history) end
+  pub migrated : (file : List ℕ) (recorded : RecordView) → requested words ≡ Some (Migrate file) → IsReadable r file recorded
+      → IsFaultless r.before.faults r.after.faults → IsFaultless w.before.faults w.after.faults
+      → (end.status ≡ 5) ⊎ IsRewritten w recorded end
   pub made : (number count : ℕ) → requested words ≡ Some (Make number count) → IsFaultless w.before.faults w.after.faults
       → (end.status ≡ 5) ⊎ IsToldWhole w number count end

@@ -10,7 +10,7 @@ use Rattle.inp_script.specs.declared.run.Run.{Run}
 use Rattle.inp_script.specs.Job.{JobView}
 use Rattle.inp_report.specs.Words.{LINE_FEED}
 use Rattle.inp_tool.specs.declared.outcome.Outcome.{Outcome}
-use Rattle.inp_tool.specs.declared.outcome.Outcome.TheVariants.{Usage, Unread, TooLong, Refused as IsRefused, NoMemory, Played}
+use Rattle.inp_tool.specs.declared.outcome.Outcome.TheVariants.{Usage, Unread, TooLong, Refused as IsRefused, NoMemory, Played, Migrated}
 
 abbrev pub unread_text : List ℕ
 unread_text = codes "inputplay: read failed" ++ LINE_FEED
@@ -48,6 +48,7 @@ text_of TooLong = too_long_text
 text_of (IsRefused refused text) = string_bytes text
 text_of NoMemory = no_memory_text
 text_of (Played runs text) = text.items
+text_of (Migrated text) = text.items
 
 abbrev pub status_of : Outcome → ℕ
 status_of Usage = 2
@@ -56,6 +57,7 @@ status_of TooLong = 7
 status_of (IsRefused refused text) = 1
 status_of NoMemory = 5
 status_of (Played runs text) = played_status runs
+status_of (Migrated text) = 0
 
 abbrev pub refused_of : Outcome → Option Refused
 refused_of Usage = None
@@ -64,6 +66,7 @@ refused_of TooLong = None
 refused_of (IsRefused refused text) = Some refused
 refused_of NoMemory = None
 refused_of (Played runs text) = None
+refused_of (Migrated text) = None
 
 abbrev pub runs_of : Outcome → List Run
 runs_of Usage = []
@@ -72,3 +75,4 @@ runs_of TooLong = []
 runs_of (IsRefused refused text) = []
 runs_of NoMemory = []
 runs_of (Played runs text) = runs
+runs_of (Migrated text) = []

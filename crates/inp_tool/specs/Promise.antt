@@ -1,23 +1,27 @@
 -- What the program's one call promises (docs/PROMISES.md).
-use Rattle.std.specs.Prelude.{ℕ, ◌≡◌, ◌<◌, ◌≢◌, ◌⊎◌, Bool, List, string_bytes, Option, Some, None}
+use Rattle.std.specs.Prelude.{ℕ, ◌≡◌, ◌<◌, ◌≢◌, ◌⊎◌, Bool, List, string_bytes, Option, Some, None, Ok}
 use Rattle.inp_edge.specs.Count.{RoseUnlessSaturated}
 use Rattle.inp_edge.specs.File.{IsMissing}
 use Rattle.inp_edge.specs.Sink.{Appends, IsCutOff}
 use Rattle.inp_edge.specs.declared.input.TheConstants.{INPUT_LIMIT}
-use Rattle.inp_args.specs.declared.request.Request.TheVariants.{Play, Make}
-use Rattle.inp_args.specs.Request.{requested}
+use Rattle.inp_args.specs.declared.request.Request.{Request}
+use Rattle.inp_args.specs.declared.request.Request.TheVariants.{Play, Migrate, Make}
+use Rattle.inp_args.specs.Request.{requested, record_file}
 use Rattle.inp_make.specs.Generated.{generated}
 use Rattle.inp_actors.specs.Record.{RecordView}
+use Rattle.inp_canon.specs.Text.{record_text}
 use Rattle.inp_record.specs.declared.refused.Refused.{Refused}
+use Rattle.inp_record.specs.Meaning.{meaning}
 use Rattle.inp_script.specs.declared.run.Run.{Run}
 use Rattle.inp_order.specs.Play.{IsPlay}
 use Rattle.inp_runs.specs.Job.{ArePromised}
+use Rattle.inp_upgrade.specs.Upgrade.{upgraded}
 use Rattle.inp_report.specs.Report.{report}
 use Rattle.inp_report.specs.Summary.{summary}
 use Rattle.inp_tool.specs.declared.end.End.{End}
 use Rattle.inp_tool.specs.declared.no_record.NoRecord.{NoRecord}
 use Rattle.inp_tool.specs.declared.outcome.Outcome.{Outcome}
-use Rattle.inp_tool.specs.declared.outcome.Outcome.TheVariants.{Usage, Unread, TooLong, Refused as IsRefused, NoMemory, Played}
+use Rattle.inp_tool.specs.declared.outcome.Outcome.TheVariants.{Usage, Unread, TooLong, Refused as IsRefused, NoMemory, Played, Migrated}
 use Rattle.inp_tool.specs.Edge.{Reads, Writes, KeepsInputFaults, KeepsSinkFaults}
 use Rattle.inp_tool.specs.Outcome.{refused_text, text_of, status_of, refused_of, runs_of}
 use Rattle.inp_tool.specs.Reading.{HasUnread, HasTooLong, HasBadText, HasBadStream, HasRecord, HasNoRecord, RanOut}
@@ -31,6 +35,12 @@ Words = List (List ℕ)
 abbrev pub AskFor : Words → List ℕ → Bool → Option ℕ → Type 0
 AskFor words file history idle = requested words ≡ Some (Play file history idle)
 
+-- The words ask for what becomes of the record in this file: its report, or its text in the newest version.
+pub record NameFile (words : Words) (file : List ℕ) : Type 0 where
+  pub request : Request
+  pub asked : requested words ≡ Some request
+  pub of_file : record_file request ≡ Some file
+
 -- The words are not accepted, and the input is as it was.
 pub record IsUsage (words : Words) (r : Reads) : Type 0 where
   pub refused : requested words ≡ None
@@ -39,25 +49,19 @@ pub record IsUsage (words : Words) (r : Reads) : Type 0 where
 -- FILE was not read, or the file of one of its stream lines
 pub record IsUnread (words : Words) (r : Reads) : Type 0 where
   pub file : List ℕ
-  pub history : Bool
-  pub idle : Option ℕ
-  pub asked : AskFor words file history idle
+  pub named : NameFile words file
   pub unread : HasUnread r file
 
 -- FILE is too long, or the file of one of its stream lines
 pub record IsTooLong (words : Words) (r : Reads) : Type 0 where
   pub file : List ℕ
-  pub history : Bool
-  pub idle : Option ℕ
-  pub asked : AskFor words file history idle
+  pub named : NameFile words file
   pub too_long : HasTooLong r file
 
 -- FILE was read, and is no record: by its text, or by a stream where the text is right and the streams before it are
 pub record IsNoRecord (words : Words) (r : Reads) (refused : Refused) (text : List ℕ) : Type 0 where
   pub file : List ℕ
-  pub history : Bool
-  pub idle : Option ℕ
-  pub asked : AskFor words file history idle
+  pub named : NameFile words file
   pub why : HasBadText r file refused ⊎ HasBadStream r file refused
   pub says : text ≡ refused_text refused
 
@@ -83,6 +87,16 @@ pub record IsPlayed (words : Words) (r : Reads) (runs : List Run) (text : List �
   pub came : CameOf idle recorded runs
   pub says : text ≡ report recorded runs history
 
+-- The record in FILE was read with its streams. The text is its canonical text in version 2, by which it means the same
+-- record but for its version; a record's text names the files of its streams, and has none of their events.
+pub record IsMigrated (words : Words) (r : Reads) (text : List ℕ) : Type 0 where
+  pub file : List ℕ
+  pub asked : requested words ≡ Some (Migrate file)
+  pub recorded : RecordView
+  pub read : HasRecord r file recorded
+  pub says : text ≡ record_text (upgraded recorded)
+  pub means : meaning text ≡ Ok (upgraded read.parsed)
+
 -- the record was made from two numbers and played, the text is its summary, and the input is as it was
 pub record IsMade (words : Words) (r : Reads) (runs : List Run) (text : List ℕ) : Type 0 where
   pub number : ℕ
@@ -100,11 +114,11 @@ HasCause words r TooLong = IsTooLong words r
 HasCause words r (IsRefused refused text) = IsNoRecord words r refused (string_bytes text)
 HasCause words r NoMemory = IsOutOfMemory r
 HasCause words r (Played runs text) = IsPlayed words r runs text.items ⊎ IsMade words r runs text.items
+HasCause words r (Migrated text) = IsMigrated words r text.items
 
 -- the outcome where FILE gave no record for this reason
 abbrev pub IsOutcomeOf : NoRecord → Outcome → Type 0
-IsOutcomeOf why found = (words : Words) (r : Reads) (file : List ℕ) (history : Bool) (idle : Option ℕ)
-    → AskFor words file history idle → HasNoRecord r file why → HasCause words r found
+IsOutcomeOf why found = (words : Words) (r : Reads) (file : List ℕ) → NameFile words file → HasNoRecord r file why → HasCause words r found
 
 -- the status of an outcome whose text was written, with what goes with it
 pub record IsEnd (found : Outcome) (end : End) : Type 0 where
@@ -141,8 +155,8 @@ pub record HidesNoFault (words : Words) (r : Reads) (w : Writes) (end : End) : T
   pub input : end.status ≢ 3 → end.status ≢ 4 → KeepsInputFaults r
   pub sink : end.status ≢ 4 → KeepsSinkFaults w
   -- so does a FILE that is not there, unless memory ran out
-  pub missing : (file : List ℕ) (history : Bool) (idle : Option ℕ) → AskFor words file history idle → IsMissing r.files file
+  pub missing : (file : List ℕ) → NameFile words file → IsMissing r.files file
       → (end.status ≡ 3) ⊎ (end.status ≡ 4) ⊎ (end.status ≡ 5)
   -- and a file that has more bytes than an input may have ends in status 7, unless its text was cut off
-  pub too_long : (file : List ℕ) (history : Bool) (idle : Option ℕ) → AskFor words file history idle → r.after ≢ r.before → INPUT_LIMIT < r.after.given
+  pub too_long : (file : List ℕ) → NameFile words file → r.after ≢ r.before → INPUT_LIMIT < r.after.given
       → (end.status ≡ 7) ⊎ (end.status ≡ 4)

@@ -12,6 +12,7 @@ pub struct End {
     pub status: u8,
     /// With status 1 the line that is refused, and why; else nothing.
     pub refused: Option<Refused>,
-    /// With status 0 and 6, and with 4 where the text was a report or a summary, what came of the devices; else nothing.
+    /// With status 0 and 6, and with 4 where the text was a report or a summary, what came of the devices, where a record
+    /// was played; else nothing.
     pub runs: Runs,
 }

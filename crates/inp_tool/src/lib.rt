@@ -2,12 +2,13 @@
 //!
 //! This crate is for the program and for tests: [`inputplay`] is the program's one call. It stands on `inp_edge` (input,
 //! sink and gate), `inp_args` (words), `inp_record` (a record's text and its streams), `inp_make` (records that are made
-//! from numbers), `inp_play` (playing on one thread), `inp_threads` (playing on threads) and `inp_report` (the report and
-//! the summary). [`make`] and [`play`] are handed on.
+//! from numbers), `inp_play` (playing on one thread), `inp_threads` (playing on threads), `inp_report` (the report and
+//! the summary) and `inp_upgrade` (a record in the newest version of its text). [`make`] and [`play`] are handed on.
 //!
 //! How a call goes: `read_words` says what the words ask for. For a file, `read_record` reads it, and then the files of
-//! its stream lines, in line order (`reading.rt`); for numbers, the record is made. The record is played and its text
-//! written to memory (`playing.rt`). What was found so far is an `Outcome`, which `write_outcome` tells to the sink.
+//! its stream lines, in line order (`reading.rt`); for numbers, the record is made. The record is played and its report
+//! written to memory (`playing.rt`); or, where it is to be migrated, its own text is, and nothing is played
+//! (`migrating.rt`). What was found so far is an `Outcome`, which `write_outcome` tells to the sink.
 //!
 //! What the call promises stands in `specs`, as clauses of [`inputplay`] itself:
 //!
@@ -16,13 +17,15 @@
 //!   input tells its bytes, and is this record (`HasRecord` of `specs/Reading.antt`), or for a record that is made; of each
 //!   device there is one history, on which each job's replies are the one-thread device's, and each sight follows its
 //!   lines (`ArePromised` of `inp_runs`), on one thread and on threads; on one thread the runs are those of the lines done
-//!   in file order (`IsPlay`); and the text is their report or summary. With status 1 the line and the cause are the first that the text alone decides, else those
-//!   of the first stream that is at fault.
+//!   in file order (`IsPlay`); and the text is their report or summary. Or the words ask for the record to be migrated: it
+//!   was read so too, and the text is its canonical text in version 2 (`IsMigrated`). With status 1 the line and the cause
+//!   are the first that the text alone decides, else those of the first stream that is at fault.
 //! - `HidesNoFault`: a call of the input or of the sink that was at fault, a file that is not there, and one that is too
 //!   long are told by the status.
 //! - `IsComplete` (`specs/Complete.antt`): a file that is there with its streams and is a record, or numbers to make one
 //!   of, and no fault lead to the whole report or summary, with status 6 exactly where a job stopped since a history was
-//!   full and else 0, or to want of memory. A record that is made never fills a history: it ends with status 0.
+//!   full and else 0, or to want of memory. A record that is made never fills a history: it ends with status 0. A record
+//!   that is to be migrated leads to its text in version 2 with status 0, or to want of memory.
 //!
 //! [`examples_of_views`] is about a record that was worked out by hand (`specs/Views.antt`): at which of its reports the promise
 //! on views speaks, and what its clients' views and the device show there.
@@ -32,6 +35,7 @@
 #![tactic(auto)]
 
 mod end;
+mod migrating;
 mod no_record;
 mod outcome;
 mod playing;

@@ -26,6 +26,8 @@ pub enum Outcome {
     NoMemory,
     /// A record was played.
     Played { runs: Runs, text: Vec<u8> },
+    /// A record was upgraded.
+    Migrated { text: Vec<u8> },
 }
 
 impl Outcome {
@@ -40,6 +42,7 @@ impl Outcome {
             Outcome::NoMemory => no_memory().as_bytes(),
             Outcome::Refused { text, .. } => text.as_bytes(),
             Outcome::Played { text, .. } => text.as_slice(),
+            Outcome::Migrated { text } => text.as_slice(),
         }
     }
 }

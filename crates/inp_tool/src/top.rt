@@ -7,6 +7,7 @@ ghost use Rattle.inp_tool.specs.Promise.{Words, AskFor, HasCause, IsWritten, Pro
 ghost use Rattle.inp_tool.specs.Complete.{IsComplete};
 
 use crate::End;
+use crate::migrating::migrated_text;
 use crate::outcome::{Outcome, without_record};
 use crate::playing::{has_full, make_and_play, play_and_report};
 use crate::reading::read_record;
@@ -24,6 +25,7 @@ const WRITE_FAULT: u8 = 4;
 /// Reads the record that the words name, with the streams that it names, or makes the one that they ask for; plays it, and
 /// writes the report or the summary of what its actors saw and what they believe. A record is played on one thread, its
 /// lines in file order, or, where `--threads` is among the words, each source, client and tap on a thread of its own.
+/// Where `--migrate` is among them nothing is played: what is written is the record's canonical text in version 2.
 ///
 /// On each device, however the threads interleave, every reply is the one-thread device's at its place in one kept history;
 /// SYN_DROPPED is queued only at a full ring or a clock change; and at each SYN_REPORT queued after a client's last
@@ -52,7 +54,7 @@ pub fn inputplay<R: Threads + Wait + Sync, I: Input, O: Sink, G: Gate>(
         (reads_of I.files I.given I.left I.faults input.old input.new)
         (writes_of O.written O.faults out.old out.new)
         result }
-    // Where nothing is at fault, the report or the summary is written, or memory ran out.
+    // Where nothing is at fault, the report, the summary or the migrated text is written, or memory ran out.
     ensures complete { IsComplete (map string_bytes words.now)
         (reads_of I.files I.given I.left I.faults input.old input.new)
         (writes_of O.written O.faults out.old out.new)
@@ -89,6 +91,7 @@ fn outcome_of<R: Threads + Wait + Sync, I: Input, G: Gate>(
                 idle,
             },
         ) => play_file(rt, alloc, input, file.text(), history, idle, gate),
+        Ok(Request::Migrate { file }) => migrate_file(alloc, input, file.text()),
         Ok(Request::Make { number, count }) => play_made(alloc, number, count),
         Err(WordsFault::Usage) => Outcome::Usage,
         Err(WordsFault::NoMemory) => Outcome::NoMemory,
@@ -115,6 +118,23 @@ fn play_file<R: Threads + Wait + Sync, I: Input, G: Gate>(
     match read_record(alloc, input, file) {
         Ok(recorded) => match play_and_report(rt, alloc, &recorded, history, idle, gate) {
             Ok((runs, text)) => Outcome::Played { runs, text },
+            Err(NoMemory) => Outcome::NoMemory,
+        },
+        Err(why) => without_record(alloc, why),
+    }
+}
+
+/// What a file that is to be migrated leads to. Nothing is played.
+fn migrate_file<I: Input>(alloc: Global, input: &mut I, file: &str) -> Outcome
+    ensures cause { (words : Words) → requested words ≡ Some (Request.Migrate file.now)
+        → HasCause words (reads_of I.files I.given I.left I.faults input.old input.new) result }
+    ensures files_stay { I.files input.new ≡ I.files input.old }
+    ensures stays_told { is_some (I.left input.new) ≡ is_some (I.left input.old) }
+    ensures never_falls { I.faults input.old ≤ I.faults input.new }
+{
+    match read_record(alloc, input, file) {
+        Ok(recorded) => match migrated_text(alloc, recorded) {
+            Ok(text) => Outcome::Migrated { text },
             Err(NoMemory) => Outcome::NoMemory,
         },
         Err(why) => without_record(alloc, why),
@@ -157,6 +177,7 @@ fn end_of(alloc: Global, found: Outcome) -> End
     let nothing = Runs::new(alloc);
     let (status, refused, runs) = match found {
         Outcome::Played { runs, .. } => (played_status(&runs), None, runs),
+        Outcome::Migrated { .. } => (0, None, nothing),
         Outcome::Refused { refused, .. } => (1, Some(refused), nothing),
         Outcome::Usage => (2, None, nothing),
         Outcome::Unread => (3, None, nothing),

@@ -39,6 +39,23 @@ keys KEY_A
 stop finished
 ";
 
+/// The same in version 2.
+pub const ONE_KEY_MIGRATED: &str = "inputrecord 2
+device kbd
+hint 16
+log 1048576
+clock realtime 0
+clock boottime 0
+type EV_KEY
+cap EV_KEY KEY_A
+source s
+tap t
+do t open
+do s event 1000 EV_KEY KEY_A 1
+do s event 1000 EV_SYN SYN_REPORT 0
+do t read 16
+";
+
 /// A client in place of the tap, and the key goes up again.
 pub const CLIENT: &str = "inputrecord 1
 device kbd
@@ -93,6 +110,24 @@ keys KEY_A
 stop finished
 ";
 
+/// The same in version 2.
+pub const FULL_MIGRATED: &str = "inputrecord 2
+device kbd
+hint 16
+log 4
+clock realtime 0
+clock boottime 0
+type EV_KEY
+cap EV_KEY KEY_A
+source s
+tap t
+do t open
+do s event 1000 EV_KEY KEY_A 1
+do s event 1000 EV_SYN SYN_REPORT 0
+do t read 16
+do s event 2000 EV_KEY KEY_A 0
+";
+
 /// The summary of the record that is made from 7 and 20.
 pub const MADE: &str = "make 7 20
 device pad steps 674
@@ -105,6 +140,22 @@ client slow took 1 made 41 again 1 x 258 y 370
 /// A stream in place of the two events.
 pub const STREAM: &str = "inputrecord 1
 device kbd
+cap EV_KEY KEY_A
+source s
+tap t
+do t open
+do s stream keys
+do t read 16
+";
+
+/// The same in version 2.
+pub const STREAM_MIGRATED: &str = "inputrecord 2
+device kbd
+hint 16
+log 1048576
+clock realtime 0
+clock boottime 0
+type EV_KEY
 cap EV_KEY KEY_A
 source s
 tap t

@@ -3,8 +3,9 @@
 
 use crate::common::{input_of, sink_of, words_of};
 use crate::texts::{
-    CLIENT, CLIENT_REPORT, FULL, FULL_REPORT, HISTORY_REPORT, MADE, ONE_KEY, ONE_KEY_REPORT,
-    REVOKED, REVOKED_REPORT, STREAM, STREAM_AND_BAD_LINE, STREAM_TWICE, STREAMS, STREAMS_REPORT,
+    CLIENT, CLIENT_REPORT, FULL, FULL_MIGRATED, FULL_REPORT, HISTORY_REPORT, MADE, ONE_KEY,
+    ONE_KEY_MIGRATED, ONE_KEY_REPORT, REVOKED, REVOKED_REPORT, STREAM, STREAM_AND_BAD_LINE,
+    STREAM_MIGRATED, STREAM_TWICE, STREAMS, STREAMS_REPORT,
 };
 use inp_edge::{Failed, Gate, INPUT_LIMIT, Input, MemInput, MemSink, OpenGate};
 use inp_tool::{End, inputplay};
@@ -77,6 +78,33 @@ fn plays_whole_records(rt: HostRuntime) -> Result<(), Fail> {
         let (end, sink) = run(&rt, rt.alloc(), texts, &files, NONE)?;
         assert_eq!(rt; end.status, status, "{text}");
         assert_eq!(rt; sink.bytes(), want.as_bytes(), "{text}");
+    }
+    Ok(())
+}
+
+#[test]
+fn migrates_records_and_plays_none(rt: HostRuntime) -> Result<(), Fail> {
+    // The file, the bytes of its stream, the status and the text.
+    let table = [
+        (ONE_KEY, PRESS, 0, ONE_KEY_MIGRATED),
+        (ONE_KEY_MIGRATED, PRESS, 0, ONE_KEY_MIGRATED),
+        (STREAM, PRESS, 0, STREAM_MIGRATED),
+        // A play of it would end with status 6.
+        (FULL, PRESS, 0, FULL_MIGRATED),
+        (
+            STREAM_AND_BAD_LINE,
+            PRESS,
+            1,
+            "inputplay: line 8: bad-line\n",
+        ),
+        (STREAM, &PRESS[..47], 1, "inputplay: line 7: bad-stream\n"),
+    ];
+    for (text, keys, status, want) in table {
+        let files = [("f", text.as_bytes()), ("keys", keys)];
+        let (end, sink) = run(&rt, rt.alloc(), &["--migrate", "f"], &files, NONE)?;
+        assert_eq!(rt; end.status, status, "{text}");
+        assert_eq!(rt; sink.bytes(), want.as_bytes(), "{text}");
+        assert!(rt; end.runs.is_empty());
     }
     Ok(())
 }

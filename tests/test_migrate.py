@@ -1,0 +1,76 @@
+"""Records are rewritten by `--migrate`, and what it writes is played.
+
+The text that is written was worked out by docs/FORMATS.md ("The text of a record").
+"""
+
+import shutil
+
+from playing import EXAMPLES, RECORDS, FolderCase, assert_run, run
+
+# A record of version 1 as people write it, and its text in version 2.
+WRITTEN = b"""# a pad
+inputrecord 1
+device pad
+slots 2
+cap EV_KEY 330
+axis ABS_MT_POSITION_X 0 0 0x1000 0 0 0
+source finger
+tap probe
+do probe open
+do finger stream taps
+do probe mask 3 0 0xff
+"""
+MIGRATED = b"""inputrecord 2
+device pad
+hint 16
+log 1048576
+clock realtime 0
+clock boottime 0
+slots 2
+type EV_KEY
+type EV_ABS
+cap EV_KEY BTN_TOUCH
+axis ABS_MT_SLOT 0 0 1 0 0 0
+axis ABS_MT_POSITION_X 0 0 4096 0 0 0
+axis ABS_MT_TRACKING_ID 0 0 65535 0 0 0
+source finger
+tap probe
+do probe open
+do finger stream taps
+do probe mask EV_ABS 0 0x00000000000000ff
+"""
+
+
+class MigratedRecords(FolderCase):
+    def test_a_record_is_written_in_version_2(self):
+        (self.folder / "taps").write_bytes(b"")
+        (self.folder / "f").write_bytes(WRITTEN)
+        assert_run(self, run(["--migrate", "f"], self.folder), 0, MIGRATED)
+
+    def test_a_migrated_record_plays_as_before(self):
+        for folder in (EXAMPLES, RECORDS):
+            for stream in folder.glob("*.bin"):
+                shutil.copy(stream, self.folder)
+            for record in sorted(folder.glob("*.rec")):
+                with self.subTest(record=record.stem):
+                    self.plays_as_before(record, folder)
+
+    def plays_as_before(self, record, folder):
+        migrated = run(["--migrate", record.name], folder)
+        self.assertEqual((0, b""), (migrated.status, migrated.errors))
+        self.assertEqual(b"inputrecord 2\n", migrated.text[: migrated.text.find(b"\n") + 1])
+        (self.folder / "migrated").write_bytes(migrated.text)
+        assert_run(self, run(["--migrate", "migrated"], self.folder), 0, migrated.text)
+        wanted = run(["--history", record.name], folder)
+        assert_run(self, run(["--history", "migrated"], self.folder), wanted.status, wanted.text)
+
+    def test_files_and_lines_are_judged_as_by_a_play(self):
+        (self.folder / "bad").write_bytes(b"inputrecord 1\nhint 8\n")
+        (self.folder / "lacks").write_bytes(WRITTEN)
+        for name, status, text in [
+            ("bad", 1, b"inputplay: line 2: out-of-place\n"),
+            ("missing", 3, b"inputplay: read failed\n"),
+            ("lacks", 3, b"inputplay: read failed\n"),
+        ]:
+            with self.subTest(file=name):
+                assert_run(self, run(["--migrate", name], self.folder), status, text)
