@@ -4,6 +4,7 @@ pub mod Sending
 pub mod Serving
 pub mod Udevs
 pub mod Waiting
+pub mod Events
 pub mod Items
 pub mod Lists
 pub mod Noting

@@ -1,7 +1,7 @@
 -- The kept list of a past and of feedback calls.
-use Rattle.std.proofs.Common.{◌≡◌, ℕ, suc, ◌-◌, List, [], ◌∷◌, ◌++◌, length, take, drop, map, refl, ap, ◌∙◌, arith}
+use Rattle.std.proofs.Common.{◌≡◌, ℕ, suc, ◌-◌, List, [], ◌∷◌, ◌++◌, length, take, drop, map, reverse, refl, sym, ap, ◌∙◌, arith}
 use Rattle.std.specs.Prelude.{filter}
-use Rattle.std.proofs.lemmas.List.{take-append-drop}
+use Rattle.std.proofs.lemmas.List.{take-append-drop, reverse-append, reverse-reverse}
 use Rattle.std.proofs.lemmas.List.Elements.{filter_map-append, filter-append}
 use Rattle.inp_model.specs.declared.step.Step.{Step}
 use Rattle.inp_uinput.specs.declared.u_entry.UEntry.{UEntry}
@@ -9,6 +9,12 @@ use Rattle.inp_uinput.specs.declared.u_entry.UEntry.TheVariants.{Made, Feedback}
 use Rattle.inp_uinput.specs.declared.feedback_call.FeedbackCall.{FeedbackCall}
 use Rattle.inp_uinput.specs.UEntry.{step_of, is_feedback, steps_in, feedback_count}
 use Rattle.inp_uinput.specs.Keeping.{kept_of, StandsWithin}
+
+-- one item more, in the other order
+pub reverse-cons : {X : Type 0} (xs : List X) (x : X) → reverse (x ∷ xs) ≡ reverse xs ++ x ∷ []
+reverse-cons xs x =
+    ap reverse (sym (reverse-append (reverse xs) (x ∷ []) ∙ ap (λ ys. x ∷ ys) (reverse-reverse xs)))
+    ∙ reverse-reverse (reverse xs ++ x ∷ [])
 
 -- the steps
 

@@ -1,6 +1,6 @@
 -- The entries of a device made by requests, oldest first, as a port serves them.
-use Rattle.std.proofs.Common.{◌≡◌, Bool, true, false, if◌then◌else◌, List, [], ◌∷◌, ◌++◌, reverse, refl, sym, ap, ◌∙◌, subst, ℤ}
-use Rattle.std.proofs.lemmas.List.{reverse-append, reverse-reverse, append-nil}
+use Rattle.std.proofs.Common.{◌≡◌, ◌+◌, ◌≤◌, Bool, true, false, if◌then◌else◌, List, [], ◌∷◌, ◌++◌, length, map, take, reverse, Some, refl, sym, ap, ◌∙◌, subst, ℤ}
+use Rattle.std.proofs.lemmas.List.{reverse-reverse, append-nil, length-reverse}
 use Rattle.std.proofs.lemmas.List.Elements.{filter_map-append}
 use Rattle.inp_model.specs.declared.taken.Taken.{Taken}
 use Rattle.inp_model.specs.declared.step.Step.{Step}
@@ -8,17 +8,17 @@ use Rattle.inp_model.specs.declared.reply.Reply.{Reply}
 use Rattle.inp_model.specs.Description.{Description}
 use Rattle.inp_model.specs.History.{IsHistory}
 use Rattle.inp_model.specs.Reply.{is_accepted, past_after, IsDeviceStep}
-use Rattle.inp_port.specs.Entries.{past_of, Grown}
-use Rattle.inp_port.specs.Served.{IsServed}
+use Rattle.inp_model.specs.declared.limits.TheConstants.{LOG_MAX}
+use Rattle.inp_model.specs.declared.stamped.Stamped.{Stamped}
+use Rattle.inp_model.specs.declared.injected.Injected.{Injected}
+use Rattle.inp_model.specs.Injecting.{inject_of, entered_count}
+use Rattle.inp_port.specs.Entries.{past_of, Grown, GrownBy}
+use Rattle.inp_port.specs.Served.{IsServed, IsServedAll}
 use Rattle.inp_uinput.specs.declared.u_entry.UEntry.{UEntry}
 use Rattle.inp_uinput.specs.declared.u_entry.UEntry.TheVariants.{Made, Feedback}
-use Rattle.inp_uinput.specs.UEntry.{step_of, steps_in, kept_after_step}
-
--- one entry more, oldest first
-reverse-cons : {X : Type 0} (xs : List X) (x : X) → reverse (x ∷ xs) ≡ reverse xs ++ x ∷ []
-reverse-cons xs x =
-    ap reverse (sym (reverse-append (reverse xs) (x ∷ []) ∙ ap (λ ys. x ∷ ys) (reverse-reverse xs)))
-    ∙ reverse-reverse (reverse xs ++ x ∷ [])
+use Rattle.inp_uinput.specs.UEntry.{step_of, steps_in, kept_after_step, kept_after_events}
+use Rattle.inp_uinput.proofs.Lists.{reverse-cons}
+use Rattle.inp_uinput.proofs.Events.{reverse-kept}
 
 steps-reverse : (kept : List UEntry) → steps_in (reverse kept) ≡ reverse (steps_in kept)
 steps-reverse [] = refl
@@ -46,3 +46,22 @@ udev_served d kept new x reply out new_out cells new_cells s e h =
       grown = grown kept new x (is_accepted reply) e;
       accepted = subst (IsHistory d) (sym (past-same kept)) h;
     }
+
+-- many events
+
+steps-events : (events : List Stamped) → map step_of (map (λ stamped. Made (inject_of stamped)) events) ≡ map Some (map inject_of events)
+steps-events [] = refl
+steps-events (stamped ∷ events) = ap (λ os. Some (inject_of stamped) ∷ os) (steps-events events)
+
+grown_by : (kept new : List UEntry) (events : List Stamped) → new ≡ kept_after_events events kept → GrownBy step_of (reverse kept) (map inject_of events) (reverse new)
+grown_by kept new events e = (map (λ stamped. Made (inject_of stamped)) events, ap reverse e ∙ reverse-kept events kept, steps-events events)
+
+pub udev_served_all : (d e : Description) (kept new : List UEntry) (events : List Stamped) (injected : Injected) → e ≡ d → injected.from ≡ length (steps_in kept) → injected.count ≡ entered_count d injected.from events
+    → injected.from + injected.count ≤ LOG_MAX → new ≡ kept_after_events (take injected.count events) kept → IsHistory e (steps_in new) → IsServedAll step_of d (reverse kept) events injected (reverse new)
+udev_served_all d e kept new events injected same from count within grows h = record {
+  from = from ∙ sym (length-reverse (steps_in kept)) ∙ sym (ap length (steps-reverse kept));
+  count = count;
+  within = within;
+  grown = grown_by kept new (take injected.count events) grows;
+  accepted = subst (IsHistory d) (sym (past-same new)) (subst (λ (k : Description). IsHistory k (steps_in new)) same h);
+}

@@ -1,10 +1,12 @@
 -- What a device made by requests keeps: the steps that it accepted, and between them its owner's feedback calls. A kept
 -- list is written newest first (docs/RULES.md, "Devices made by requests").
-use Rattle.std.specs.Prelude.{ℕ, Bool, true, false, if◌then◌else◌, List, ◌∷◌, length, filter, Option, Some, None}
+use Rattle.std.specs.Prelude.{ℕ, Bool, true, false, if◌then◌else◌, List, [], ◌∷◌, length, filter, Option, Some, None}
 use Rattle.std.specs.List.{filter_map}
+use Rattle.inp_model.specs.declared.stamped.Stamped.{Stamped}
 use Rattle.inp_model.specs.declared.step.Step.{Step}
 use Rattle.inp_model.specs.declared.reply.Reply.{Reply}
 use Rattle.inp_model.specs.Reply.{is_accepted}
+use Rattle.inp_model.specs.Injecting.{inject_of}
 use Rattle.inp_uinput.specs.declared.u_entry.UEntry.{UEntry}
 use Rattle.inp_uinput.specs.declared.u_entry.UEntry.TheVariants.{Made, Feedback}
 
@@ -29,3 +31,8 @@ feedback_count kept = length (filter is_feedback kept)
 -- what is kept after a step that was answered so
 abbrev pub kept_after_step : Reply → Step → List UEntry → List UEntry
 kept_after_step reply x kept = if is_accepted reply then Made x ∷ kept else kept
+
+-- what is kept after these events were injected: their steps come to stand in front, one after another
+abbrev pub kept_after_events : List Stamped → List UEntry → List UEntry
+kept_after_events [] kept = kept
+kept_after_events (stamped ∷ events) kept = kept_after_events events (Made (inject_of stamped) ∷ kept)

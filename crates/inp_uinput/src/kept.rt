@@ -1,7 +1,7 @@
 //! A device made by requests as a value that threads use in turns.
 use crate::{UEntry, Udev};
 use inp_caps::Caps;
-use inp_model::{Reply, Step, Taken};
+use inp_model::{Injected, Reply, Stamped, Step, Taken};
 use inp_port::Served;
 use inp_turn::Kept;
 
@@ -30,5 +30,9 @@ impl Served for Udev {
 
     fn serve(&mut self, step: Step, out: &mut [Taken], cells: &mut [i32]) -> Reply {
         self.step(step, out, cells)
+    }
+
+    fn serve_all(&mut self, events: &[Stamped]) -> Injected {
+        self.inject_all(events)
     }
 }

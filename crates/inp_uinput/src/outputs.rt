@@ -6,6 +6,7 @@ ghost use Rattle.inp_model.specs.Passed.{goes_to_device, is_output as is_output_
 ghost use Rattle.inp_model.specs.Step.{inhibition_of};
 ghost use Rattle.inp_caps.specs.Disposition.{flags_of};
 ghost use Rattle.inp_state.specs.State.{StandsFor};
+ghost use Rattle.inp_uinput.specs.UEntry.{kept_after_events};
 ghost use Rattle.inp_uinput.specs.Sent.{event_brought};
 ghost use Rattle.inp_uinput.specs.declared.u_entry.UEntry.{UEntry};
 ghost use Rattle.inp_uinput.specs.declared.u_entry.UEntry.TheVariants.{Made, Feedback};
@@ -13,7 +14,9 @@ ghost use Rattle.inp_uinput.specs.declared.u_entry.UEntry.TheVariants.{Made, Fee
 use bitflags::Flags;
 use circular_buffer::HeapCircularBuffer;
 use inp_caps::{Caps, Disposition};
-use inp_model::{EV_LED, EV_MSC, EV_REP, EV_SND, EV_SYN, Event, NoMemory, SYN_CONFIG, Step};
+use inp_model::{
+    EV_LED, EV_MSC, EV_REP, EV_SND, EV_SYN, Event, NoMemory, SYN_CONFIG, Stamped, Step,
+};
 use inp_state::State;
 use std::alloc::Global;
 
@@ -51,6 +54,22 @@ impl Outputs {
         self.inhibited = inhibition_by(step).unwrap_or(self.inhibited);
         if let Some(event) = event_by(step, self.inhibited) {
             self.send(caps, event);
+        }
+    }
+
+    // Takes the steps that inject these events, one after another.
+    pub(crate) fn note_all(&mut self, caps: &Caps, events: &[Stamped])
+        ensures noted { (kept : List UEntry) → AreOutputs caps.now kept self.old
+            → AreOutputs caps.now (kept_after_events events.now kept) self.new }
+    {
+        for stamped in events {
+            self.note(
+                caps,
+                Step::Inject {
+                    event: stamped.event,
+                    now: stamped.now,
+                },
+            );
         }
     }
 

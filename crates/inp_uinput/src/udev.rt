@@ -1,11 +1,13 @@
 //! A device that was made by requests.
-ghost use Rattle.std.specs.Prelude.{◌≡◌, ◌≤◌, [], length, reverse, IfOk};
+ghost use Rattle.std.specs.Prelude.{◌≡◌, ◌+◌, ◌≤◌, [], length, take, reverse, IfOk};
+ghost use Rattle.inp_model.specs.declared.limits.TheConstants.{LOG_MAX};
 ghost use Rattle.inp_model.specs.declared.stamped.TheConstants.{MOMENT_MAX};
 ghost use Rattle.inp_model.specs.History.{IsHistory};
 ghost use Rattle.inp_model.specs.Step.{moment_of};
 ghost use Rattle.inp_model.specs.Reply.{HasRoom, IsDeviceStep, written};
 ghost use Rattle.inp_model.specs.Evdev.{agains_after};
-ghost use Rattle.inp_uinput.specs.UEntry.{steps_in, kept_after_step};
+ghost use Rattle.inp_model.specs.Injecting.{AreInTime, entered_count};
+ghost use Rattle.inp_uinput.specs.UEntry.{steps_in, kept_after_step, kept_after_events};
 ghost use Rattle.inp_uinput.specs.Feedback.{taken_by_feedback, fed, kept_after_feedback};
 
 use crate::Fed;
@@ -13,7 +15,7 @@ use crate::feedback_call::FeedbackCall;
 use crate::outputs::Outputs;
 use inp_caps::Caps;
 use inp_device::Device;
-use inp_model::{Evdev, Event, History, NoMemory, Reply, Step, Taken};
+use inp_model::{Evdev, Event, History, Injected, NoMemory, Reply, Stamped, Step, Taken};
 use std::alloc::Global;
 use std::marker::Model;
 
@@ -98,6 +100,28 @@ impl Udev {
         reply
     }
 
+    /// Injects events, each at its own moment, as many of them as the log limit leaves room for. They are kept in order, as
+    /// steps `Inject` are, and what they send waits for the owner.
+    ///
+    /// The caller must pass moments of at most `MOMENT_MAX`. No memory is taken.
+    pub fn inject_all(&mut self, events: &[Stamped]) -> Injected
+        requires moments { AreInTime events.now }
+        ensures from { result.from ≡ length (steps_in self.old.kept) }
+        ensures count { result.count
+            ≡ entered_count self.old.description result.from events.now }
+        ensures within { result.from + result.count ≤ LOG_MAX }
+        ensures kept { self.new.kept
+            ≡ kept_after_events (take result.count events.now) self.old.kept }
+        ensures description { self.new.description ≡ self.old.description }
+        ensures agains { self.new.agains ≡ self.old.agains }
+        ensures accepted { IsHistory self.new.description (steps_in self.new.kept) }
+    {
+        let injected = self.device.inject_all(events);
+        let entered = &events[..injected.count as usize];
+        self.outputs.note_all(self.device.caps(), entered);
+        injected
+    }
+
     /// Moves the first of the events that wait for the owner to the front of `out`, as many as fit, and keeps the call. The
     /// rest of `out` stays. A call that finds no event, or has no room for one, is kept too.
     ///
@@ -138,5 +162,9 @@ impl Evdev for Udev {
 
     fn call(&mut self, step: Step, out: &mut [Taken], cells: &mut [i32]) -> Reply {
         self.step(step, out, cells)
+    }
+
+    fn inject_all(&mut self, events: &[Stamped]) -> Injected {
+        Udev::inject_all(self, events)
     }
 }
