@@ -12,11 +12,12 @@ fn records_hold_what_they_are_made_of(rt: HostRuntime) -> Result<(), Fail> {
     assert_eq!(rt; record.devices().get(0).name.as_str(), "kbd");
     assert_eq!(rt; record.actors().len(), 1);
     assert_eq!(rt; record.actors().get(0).name.bytes().len(), 3);
-    assert_eq!(rt; record.lines().len(), 1);
+    assert_eq!(rt; record.lines().len(), 2);
     match &record.lines().get(0).command {
         Command::Stream { file, .. } => assert_eq!(rt; file.text(), "keys.bin"),
         _ => assert!(rt; false),
     }
+    assert_eq!(rt; record.lines().get(1).command.stream_index(), Some(1));
     let mut stamps = Stamps::new(rt.alloc());
     stamps.push(Stamped {
         event: Event {
@@ -26,7 +27,7 @@ fn records_hold_what_they_are_made_of(rt: HostRuntime) -> Result<(), Fail> {
         },
         now: 1000,
     })?;
-    assert_eq!(rt; record.stream_count(), 1);
+    assert_eq!(rt; record.stream_count(), 2);
     record.set_stream(0, stamps);
     assert_eq!(rt; record.stream(0).get(0).now, 1000);
     Ok(())

@@ -78,12 +78,32 @@ do t setaxis ABS_X 16 0 200 8 0 -2147483648
 do s stream keys.bin
 ";
 
+/// Streams of both forms.
+const STREAMS: &str = "inputrecord 2
+device d
+source s
+do s stream16 keys.bin
+do s  stream keys.bin
+";
+
+const STREAMS_PRINTED: &str = "inputrecord 2
+device d
+hint 16
+log 1048576
+clock realtime 0
+clock boottime 0
+source s
+do s stream16 keys.bin
+do s stream keys.bin
+";
+
 #[test]
 fn records_are_written(rt: HostRuntime) -> Result<(), Fail> {
     let table = [
         (ONE_KEY, ONE_KEY_PRINTED),
         (DESCRIPTION, DESCRIPTION_PRINTED),
         (COMMANDS, COMMANDS_PRINTED),
+        (STREAMS, STREAMS_PRINTED),
     ];
     for (text, want) in table {
         let record = read(rt.alloc(), text)?;

@@ -16,6 +16,9 @@ pub const PRESS: [u8; 24] = [
     1, 0, 0, 0, 0, 0, 0, 0, 0x20, 0xa1, 7, 0, 0, 0, 0, 0, 1, 0, 0x1e, 0, 1, 0, 0, 0,
 ];
 
+/// The same as a record of 16 bytes.
+pub const PRESS16: [u8; 16] = [1, 0, 0, 0, 0x20, 0xa1, 7, 0, 1, 0, 0x1e, 0, 1, 0, 0, 0];
+
 /// The record that a short text is.
 pub fn read(alloc: Global, text: &str) -> Result<Record, ParseFault> {
     if text.len() > 100_000 {
@@ -24,9 +27,10 @@ pub fn read(alloc: Global, text: &str) -> Result<Record, ParseFault> {
     parse(alloc, text.as_bytes())
 }
 
-/// A record of one device, whose source has one line, a stream that is not loaded.
+/// A record of one device, whose source has two lines, a stream of each form. Neither is loaded.
 pub fn stream_record(alloc: Global) -> Result<Record, NoMemory>
-    ensures stream { IfOk result (λ rec. IsSome (stream_at rec 0)) }
+    ensures first { IfOk result (λ rec. IsSome (stream_at rec 0)) }
+    ensures second { IfOk result (λ rec. IsSome (stream_at rec 1)) }
 {
     let mut devices = Devices::new(alloc);
     devices.push(DeviceText {
@@ -47,7 +51,15 @@ pub fn stream_record(alloc: Global) -> Result<Record, NoMemory>
             index: 0,
         },
     })?;
+    lines.push(Line {
+        actor: 0,
+        command: Command::Stream16 {
+            file: FileName::new(String::from_str(alloc, "more.bin")?),
+            index: 1,
+        },
+    })?;
     let mut streams = Streams::new(alloc);
     streams.push(Stamps::new(alloc))?;
-    Ok(Record::new(1, devices, actors, lines, streams))
+    streams.push(Stamps::new(alloc))?;
+    Ok(Record::new(2, devices, actors, lines, streams))
 }

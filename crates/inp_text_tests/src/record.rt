@@ -1,8 +1,8 @@
 //! Records, read.
 
-use crate::common::{PRESS, read, stream_record};
+use crate::common::{PRESS, PRESS16, read, stream_record};
 use inp_model::Clock;
-use inp_record::{Command, ParseFault, load};
+use inp_record::{Command, LoadFault, ParseFault, load};
 use std::alloc::{AllocError, Global};
 use std::test::Fail;
 
@@ -73,9 +73,46 @@ fn records_are_read(rt: HostRuntime) -> Result<(), Fail> {
 fn streams_are_loaded(rt: HostRuntime) -> Result<(), Fail> {
     let mut record = stream_record(rt.alloc())?;
     load(&mut record, 0, &PRESS)?;
-    assert_eq!(rt; record.stream_count(), 1);
+    assert_eq!(rt; record.stream_count(), 2);
     assert_eq!(rt; record.stream(0).len(), 1);
     assert_eq!(rt; record.stream(0).get(0).now, 1_500_000);
+    Ok(())
+}
+
+#[test]
+fn streams_of_16_byte_records_are_loaded(rt: HostRuntime) -> Result<(), Fail> {
+    let mut record = stream_record(rt.alloc())?;
+    load(&mut record, 1, &PRESS16)?;
+    assert_eq!(rt; record.stream_count(), 2);
+    assert_eq!(rt; record.stream(1).len(), 1);
+    assert_eq!(rt; record.stream(1).get(0).now, 1_500_000);
+    let mut other = stream_record(rt.alloc())?;
+    assert_eq!(rt; load(&mut other, 1, &PRESS), Err(LoadFault::BadStream));
+    Ok(())
+}
+
+/// A source of this version that names so many files, every second one of records of 16 bytes.
+fn streams(alloc: Global, version: &str, count: u32) -> Result<String, AllocError> {
+    let mut text = format!(in alloc; "inputrecord {version}\ndevice d\nsource s\n")?;
+    for number in 0..count {
+        text.push_str(if number % 2 == 0 {
+            "do s stream16 f\n"
+        } else {
+            "do s stream f\n"
+        })?;
+    }
+    Ok(text)
+}
+
+#[test]
+fn streams_of_16_byte_records_come_with_version_2(rt: HostRuntime) -> Result<(), Fail> {
+    let most = streams(rt.alloc(), "2", 16)?;
+    assert_eq!(rt; read(rt.alloc(), most.as_str())?.stream_count(), 16);
+    let table = [("2", 17, (20, "too-many")), ("1", 1, (4, "bad-command"))];
+    for (version, count, want) in table {
+        let text = streams(rt.alloc(), version, count)?;
+        assert_eq!(rt; fault_of(rt.alloc(), text.as_str()), Some(want));
+    }
     Ok(())
 }
 

@@ -1,5 +1,5 @@
 -- Where nothing is at fault, the report is written, or memory ran out.
-use Rattle.std.proofs.Common.{◌≡◌, ℕ, zero, suc, Bool, List, [], ◌∷◌, ◌++◌, length, map, Option, Some, None, Ok, Err, refl, sym, ap, subst, ◌∙◌, inl, inr, arith}
+use Rattle.std.proofs.Common.{◌≡◌, ℕ, zero, suc, Bool, List, [], ◌∷◌, ◌++◌, length, Option, Some, None, Ok, Err, refl, sym, ap, subst, ◌∙◌, inl, inr, arith}
 use Rattle.std.specs.Prelude.{◌⊎◌, IsTrue, if◌then◌else◌, is_some, slice_get}
 use Rattle.inp_edge.specs.Count.{RoseUnlessSaturated}
 use Rattle.inp_edge.specs.File.{File, IsMissing, HasFile, HasLongerFile, bytes_of}
@@ -14,7 +14,6 @@ use Rattle.inp_actors.specs.Record.{RecordView}
 use Rattle.inp_canon.specs.Text.{record_text}
 use Rattle.inp_record.specs.declared.refused.Refused.{Refused as Refusal}
 use Rattle.inp_record.specs.Meaning.{meaning}
-use Rattle.inp_record.specs.Stream.{stamps_of}
 use Rattle.inp_script.specs.declared.run.Run.{Run}
 use Rattle.inp_order.specs.Play.{IsPlay}
 use Rattle.inp_upgrade.specs.Upgrade.{upgraded}
@@ -24,7 +23,7 @@ use Rattle.inp_tool.specs.declared.end.End.{End}
 use Rattle.inp_tool.specs.declared.outcome.Outcome.{Outcome}
 use Rattle.inp_tool.specs.declared.outcome.Outcome.TheVariants.{Usage, Unread, TooLong, Refused, NoMemory, Played, Migrated}
 use Rattle.inp_tool.specs.Edge.{Reads, Writes}
-use Rattle.inp_tool.specs.Streams.{file_of, stream_files}
+use Rattle.inp_tool.specs.Streams.{StreamFile, file_of, stream_files, events_in, HoldEvents}
 use Rattle.inp_tool.specs.Outcome.{played_status}
 use Rattle.inp_tool.specs.Reading.{IsRead, IsUnread, IsTooLong, AreRead, IsParsed, IsAtStream, IsNext, HasBadText, HasBadStream, HasRecord}
 use Rattle.inp_tool.specs.Promise.{Words, AskFor, NameFile, CameOf, HasCause, IsWrittenWhole, IsWritten, Promise}
@@ -34,38 +33,36 @@ use Rattle.inp_tool.proofs.StreamFiles.{line_found}
 use Rattle.inp_tool.proofs.Faults.{same_file, plays_file, migrates_file, made_names_none, refused_names_none}
 
 -- a file that is there, and is a stream
-record HasStream (files : List File) (name : List ℕ) : Type 0 where
+record HasStream (files : List File) (stream : StreamFile) : Type 0 where
   bytes : List ℕ
-  there : IsThere files name bytes
+  there : IsThere files stream.name bytes
   stamps : List Stamped
-  means : stamps_of bytes ≡ Some stamps
+  means : events_in stream bytes ≡ Some stamps
 
-abbrev Each : (List ℕ → Type 0) → List (List ℕ) → Type 0
+abbrev Each : (StreamFile → Type 0) → List StreamFile → Type 0
 Each P [] = Unit {0}
-Each P (name ∷ names) = P name × Each P names
+Each P (stream ∷ streams) = P stream × Each P streams
 
-each_behind : (P : List ℕ → Type 0) (front names : List (List ℕ)) → Each P (front ++ names) → Each P names
-each_behind P [] names h = h
-each_behind P (name ∷ front) names h = each_behind P front names h.1
+each_behind : (P : StreamFile → Type 0) (front streams : List StreamFile) → Each P (front ++ streams) → Each P streams
+each_behind P [] streams h = h
+each_behind P (stream ∷ front) streams h = each_behind P front streams h.1
 
-each_has : (files : List File) (names contents : List (List ℕ)) (streams : List (List Stamped)) → AreThere files names contents → map stamps_of contents ≡ map Some streams → Each (HasStream files) names
+each_has : (files : List File) (its : List StreamFile) (contents : List (List ℕ)) (streams : List (List Stamped)) → AreThere files its contents → HoldEvents its contents streams → Each (HasStream files) its
 each_has files [] [] streams h e = tt
-each_has files (name ∷ names) (bytes ∷ contents) [] h e = let never : ⊥ = cc e in absurd never
-each_has files (name ∷ names) (bytes ∷ contents) (stamps ∷ streams) h e =
-    let first : stamps_of bytes ≡ Some stamps = cc e in
-    let more : map stamps_of contents ≡ map Some streams = cc e in
-    (record { bytes = bytes; there = h.0; stamps = stamps; means = first }, each_has files names contents streams h.1 more)
+each_has files (stream ∷ its) (bytes ∷ contents) [] h e = absurd e
+each_has files (stream ∷ its) (bytes ∷ contents) (stamps ∷ streams) h e =
+    (record { bytes = bytes; there = h.0; stamps = stamps; means = e.0 }, each_has files its contents streams h.1 e.1)
 each_has files [] (bytes ∷ contents) streams h e = absurd h
-each_has files (name ∷ names) [] streams h e = absurd h
+each_has files (stream ∷ its) [] streams h e = absurd h
 
 -- what each stream file has, that of a line has
-at_line : (P : List ℕ → Type 0) (lines : List Line) (i : ℕ) (l : Line) (name : List ℕ) → Each P (stream_files lines) → slice_get lines i ≡ Some l → file_of l.command ≡ name ∷ [] → P name
-at_line P [] i l name h e f = let never : ⊥ = cc e in absurd never
-at_line P (line ∷ lines) zero l name h e f =
-    let same : file_of line.command ≡ name ∷ [] = cc (e, f) in
-    let Q : List (List ℕ) → Type 0 = λ ns. Each P (ns ++ stream_files lines) in
+at_line : (P : StreamFile → Type 0) (lines : List Line) (i : ℕ) (l : Line) (stream : StreamFile) → Each P (stream_files lines) → slice_get lines i ≡ Some l → file_of l.command ≡ stream ∷ [] → P stream
+at_line P [] i l stream h e f = let never : ⊥ = cc e in absurd never
+at_line P (line ∷ lines) zero l stream h e f =
+    let same : file_of line.command ≡ stream ∷ [] = cc (e, f) in
+    let Q : List StreamFile → Type 0 = λ fs. Each P (fs ++ stream_files lines) in
     let here = subst Q same h in here.0
-at_line P (line ∷ lines) (suc i) l name h e f = at_line P lines i l name (each_behind P (file_of line.command) (stream_files lines) h) e f
+at_line P (line ∷ lines) (suc i) l stream h e f = at_line P lines i l stream (each_behind P (file_of line.command) (stream_files lines) h) e f
 
 -- a file that is told has one content
 same_bytes : (told : Option (List File)) (files : List File) (name bytes others : List ℕ) → told ≡ Some files → bytes_of files name ≡ Some bytes → HasFile told name others → others ≡ bytes
@@ -88,26 +85,30 @@ there_is_within told files name bytes e is h =
     omega (arith, is.within, h.2, ap length same)
 
 -- contents that were read of files that are there
-same_contents : (r : Reads) (files : List File) (names contents others : List (List ℕ)) → r.files ≡ Some files → IsTrue (is_some r.after.left) → AreThere files names contents → AreRead r names others → others ≡ contents
+same_contents : (r : Reads) (files : List File) (streams : List StreamFile) (contents others : List (List ℕ)) → r.files ≡ Some files → IsTrue (is_some r.after.left) → AreThere files streams contents → AreRead r streams others → others ≡ contents
 same_contents r files [] [] [] e told h k = refl
-same_contents r files (name ∷ names) (bytes ∷ contents) (its ∷ others) e told h k =
-    let first : its ≡ bytes = same_bytes r.files files name bytes its e (h.0).file ((k.0).whole told) in
-    let more : others ≡ contents = same_contents r files names contents others e told h.1 k.1 in
+same_contents r files (stream ∷ streams) (bytes ∷ contents) (its ∷ others) e told h k =
+    let first : its ≡ bytes = same_bytes r.files files stream.name bytes its e (h.0).file ((k.0).whole told) in
+    let more : others ≡ contents = same_contents r files streams contents others e told h.1 k.1 in
     cc (first, more)
 same_contents r files [] (bytes ∷ contents) others e told h k = absurd h
-same_contents r files (name ∷ names) [] others e told h k = absurd h
+same_contents r files (stream ∷ streams) [] others e told h k = absurd h
 same_contents r files [] [] (its ∷ others) e told h k = absurd k
-same_contents r files (name ∷ names) (bytes ∷ contents) [] e told h k = absurd k
+same_contents r files (stream ∷ streams) (bytes ∷ contents) [] e told h k = absurd k
 
-same_streams : (streams others : List (List Stamped)) → map Some streams ≡ map Some others → streams ≡ others
-same_streams [] [] e = refl
-same_streams (s ∷ streams) (t ∷ others) e =
-    let first : s ≡ t = cc e in
-    let rest : map Some streams ≡ map Some others = cc e in
-    let more = same_streams streams others rest in
+-- files with the same contents hold the same events
+same_streams : (files : List StreamFile) (contents : List (List ℕ)) (streams others : List (List Stamped)) → HoldEvents files contents streams → HoldEvents files contents others → streams ≡ others
+same_streams [] [] [] [] h k = refl
+same_streams (f ∷ files) (b ∷ contents) (s ∷ streams) (t ∷ others) h k =
+    let first : s ≡ t = cc (h.0, k.0) in
+    let more = same_streams files contents streams others h.1 k.1 in
     cc (first, more)
-same_streams [] (t ∷ others) e = let never : ⊥ = cc e in absurd never
-same_streams (s ∷ streams) [] e = let never : ⊥ = cc e in absurd never
+same_streams [] [] [] (t ∷ others) h k = absurd k
+same_streams [] [] (s ∷ streams) others h k = absurd h
+same_streams [] (b ∷ contents) streams others h k = absurd h
+same_streams (f ∷ files) [] streams others h k = absurd h
+same_streams (f ∷ files) (b ∷ contents) [] others h k = absurd h
+same_streams (f ∷ files) (b ∷ contents) (s ∷ streams) [] h k = absurd k
 
 -- a count that did not rise though it can
 no_rise : (before after : ℕ) → IsFaultless before after → RoseUnlessSaturated before after → ⊥
@@ -127,20 +128,21 @@ module _ (r : Reads) (file : List ℕ) (recorded : RecordView) (readable : IsRea
       let means : meaning readable.text ≡ Ok parsed = ap meaning (sym same) ∙ h.means in
       cc (means, readable.means)
 
-  stream_there : (parsed : RecordView) (line : ℕ) (name : List ℕ) → parsed ≡ readable.parsed → IsAtStream r parsed line name → HasStream readable.files name
-  stream_there parsed line name same at =
-      let found = line_found (λ (l : Line). file_of l.command) (slice_get parsed.lines line) (name ∷ []) at.here in
+  stream_there : (parsed : RecordView) (line : ℕ) (stream : StreamFile) → parsed ≡ readable.parsed → IsAtStream r parsed line stream → HasStream readable.files stream
+  stream_there parsed line stream same at =
+      let found = line_found (λ (l : Line). file_of l.command) (slice_get parsed.lines line) (stream ∷ []) at.here in
       let here : slice_get readable.parsed.lines line ≡ Some found.0 = ap (λ (x : RecordView). slice_get x.lines line) (sym same) ∙ found.1 in
       let all = each_has readable.files (stream_files readable.parsed.lines) readable.contents readable.streams readable.are_there readable.stamps in
-      at_line (HasStream readable.files) readable.parsed.lines line found.0 name all here found.2
+      at_line (HasStream readable.files) readable.parsed.lines line found.0 stream all here found.2
 
   next_there : (name : List ℕ) → IsNext r file name → (bytes : List ℕ) × IsThere readable.files name bytes
   next_there name (inl e) =
       let P : List ℕ → Type 0 = λ n. IsThere readable.files n readable.text in
       (readable.text, subst P (sym e) readable.there)
   next_there name (inr h) =
-      let has = stream_there h.parsed h.line name (same_record h.text h.parsed h.is_parsed) h.at in
-      (has.bytes, has.there)
+      let has = stream_there h.parsed h.line h.stream (same_record h.text h.parsed h.is_parsed) h.at in
+      let P : List ℕ → Type 0 = λ n. IsThere readable.files n has.bytes in
+      (has.bytes, subst P h.is_name has.there)
 
   not_unread : (name : List ℕ) → IsNext r file name → IsUnread r name → ⊥
   not_unread name next h = by_fault h.fault
@@ -160,9 +162,9 @@ module _ (r : Reads) (file : List ℕ) (recorded : RecordView) (readable : IsRea
       let means : meaning readable.text ≡ Err refused = ap meaning (sym same) ∙ h.means in
       cc (means, readable.means)
   not_refused refused (inr h) =
-      let has = stream_there h.parsed h.bad.line h.bad.name (same_record h.text h.parsed h.is_parsed) h.bad.at in
-      let same = same_bytes r.files readable.files h.bad.name has.bytes h.bad.bytes readable.told_files has.there.file (h.bad.read.read.whole told) in
-      let none : stamps_of has.bytes ≡ None = ap stamps_of (sym same) ∙ h.bad.no_stream in
+      let has = stream_there h.parsed h.bad.line h.bad.stream (same_record h.text h.parsed h.is_parsed) h.bad.at in
+      let same = same_bytes r.files readable.files h.bad.stream.name has.bytes h.bad.bytes readable.told_files has.there.file (h.bad.read.read.whole told) in
+      let none : events_in h.bad.stream has.bytes ≡ None = ap (events_in h.bad.stream) (sym same) ∙ h.bad.no_stream in
       cc (none, has.means)
 
   same_whole : (its : RecordView) → HasRecord r file its → its ≡ recorded
@@ -170,7 +172,9 @@ module _ (r : Reads) (file : List ℕ) (recorded : RecordView) (readable : IsRea
       let parsed = same_record h.text h.parsed h.is_parsed in
       let P : RecordView → Type 0 = λ p. AreRead r (stream_files p.lines) h.contents in
       let contents = same_contents r readable.files (stream_files readable.parsed.lines) readable.contents h.contents readable.told_files told readable.are_there (subst P parsed h.loaded.read) in
-      let streams = same_streams h.streams readable.streams (sym h.loaded.stamps ∙ ap (λ (c : List (List ℕ)). map stamps_of c) contents ∙ readable.stamps) in
+      let L : RecordView → Type 0 = λ p. HoldEvents (stream_files p.lines) h.contents h.streams in
+      let C : List (List ℕ) → Type 0 = λ c. HoldEvents (stream_files readable.parsed.lines) c h.streams in
+      let streams = same_streams (stream_files readable.parsed.lines) readable.contents h.streams readable.streams (subst C contents (subst L parsed h.loaded.stamps)) readable.stamps in
       h.whole
       ∙ ap (λ (p : RecordView). record p { streams = h.streams }) parsed
       ∙ ap (λ (s : List (List Stamped)). record readable.parsed { streams = s }) streams

@@ -7,46 +7,54 @@ use Rattle.std.proofs.lemmas.List.FromFn.{length-range_with_len}
 use Rattle.inp_edge.specs.File.{File}
 use Rattle.inp_model.specs.declared.stamped.Stamped.{Stamped}
 use Rattle.inp_actors.specs.declared.line.Line.{Line}
-use Rattle.inp_actors.specs.Record.{RecordView, IsRecord, stream_of}
-use Rattle.inp_record.specs.Stream.{stamps_of, first_of, stream_at, with_stream, with_stream_at}
+use Rattle.inp_actors.specs.Command.{stream_of, first_of}
+use Rattle.inp_actors.specs.Record.{RecordView, IsRecord}
+use Rattle.inp_record.specs.Stream.{events_of, events_at, stream_at, with_stream, with_stream_at}
 use Rattle.inp_tool.specs.declared.no_record.NoRecord.{NoRecord}
 use Rattle.inp_tool.specs.declared.no_record.NoRecord.TheVariants.{Unread, TooLong, Refused, NoMemory}
 use Rattle.inp_tool.specs.Edge.{InputView, Reads}
-use Rattle.inp_tool.specs.Streams.{file_of, stream_files}
-use Rattle.inp_tool.specs.Reading.{AreRead, AreLoaded, IsAtStream}
+use Rattle.inp_tool.specs.Streams.{StreamFile, file_of, stream_files, events_in, HoldEvents}
+use Rattle.inp_tool.specs.Reading.{AreLoaded, IsAtStream}
 use Rattle.inp_tool.specs.Loading.{TakesFiles, IsPassedOver, IsTaken, IsDone, CannotDo, IsLoadedTo, AreDone, CannotFinish}
 use Rattle.inp_tool.proofs.Spans.{span, AreToldAlike, are_read_on, are_read_push, are_read_length, is_read_from, is_last_push, is_unread_from, is_too_long_from, ran_out_from, is_read_last_from}
-use Rattle.inp_tool.proofs.StreamFiles.{one_stream, as_many_files, line_found, files_more, stream_number}
+use Rattle.inp_tool.proofs.StreamFiles.{one_stream, events_of-file, as_many_files, line_found, files_more, stream_number}
 
-abbrev names_to : RecordView → ℕ → List (List ℕ)
-names_to parsed line = stream_files (take line parsed.lines)
+abbrev files_to : RecordView → ℕ → List StreamFile
+files_to parsed line = stream_files (take line parsed.lines)
 
 -- a line names files, found in the record as it was parsed
-takes_parsed : (parsed mid : RecordView) (line : ℕ) (files : List (List ℕ)) → mid.lines ≡ parsed.lines → TakesFiles mid line files → TakesFiles parsed line files
+takes_parsed : (parsed mid : RecordView) (line : ℕ) (files : List StreamFile) → mid.lines ≡ parsed.lines → TakesFiles mid line files → TakesFiles parsed line files
 takes_parsed parsed mid line files e h = ap (λ (lines : List Line). option_map (λ (l : Line). file_of l.command) (slice_get lines line)) (sym e) ∙ h
 
 -- one more line, and the files that it names
-names_more : (parsed : RecordView) (line : ℕ) (files : List (List ℕ)) → TakesFiles parsed line files → names_to parsed (line + 1) ≡ names_to parsed line ++ files
-names_more parsed line files h =
+files_after : (parsed : RecordView) (line : ℕ) (files : List StreamFile) → TakesFiles parsed line files → files_to parsed (line + 1) ≡ files_to parsed line ++ files
+files_after parsed line files h =
     let found = line_found (λ (l : Line). file_of l.command) (slice_get parsed.lines line) files h in
-    files_more parsed.lines line found.0 found.1 ∙ ap (λ (x : List (List ℕ)). names_to parsed line ++ x) found.2
+    files_more parsed.lines line found.0 found.1 ∙ ap (λ (x : List StreamFile). files_to parsed line ++ x) found.2
 
--- the stamps of one more stream
-stamps_more : (contents : List (List ℕ)) (streams : List (List Stamped)) (bytes : List ℕ) (stamps : List Stamped) → map stamps_of contents ≡ map Some streams → stamps_of bytes ≡ Some stamps
-    → map stamps_of (contents ++ bytes ∷ []) ≡ map Some (streams ++ stamps ∷ [])
-stamps_more contents streams bytes stamps all one =
-    map-append stamps_of contents (bytes ∷ [])
-    ∙ ap (λ (x : List (Option (List Stamped))). x ++ stamps_of bytes ∷ []) all
-    ∙ ap (λ (x : Option (List Stamped)). map Some streams ++ x ∷ []) one
-    ∙ sym (map-append Some streams (stamps ∷ []))
+-- the events of one more stream
+events_more : (files : List StreamFile) (contents : List (List ℕ)) (streams : List (List Stamped)) (file : StreamFile) (bytes : List ℕ) (stamps : List Stamped) → HoldEvents files contents streams → events_in file bytes ≡ Some stamps
+    → HoldEvents (files ++ file ∷ []) (contents ++ bytes ∷ []) (streams ++ stamps ∷ [])
+events_more [] [] [] file bytes stamps all one = (one, tt)
+events_more (f ∷ files) (b ∷ contents) (s ∷ streams) file bytes stamps all one = (all.0, events_more files contents streams file bytes stamps all.1 one)
+events_more [] [] (s ∷ streams) file bytes stamps all one = absurd all
+events_more [] (b ∷ contents) streams file bytes stamps all one = absurd all
+events_more (f ∷ files) [] streams file bytes stamps all one = absurd all
+events_more (f ∷ files) (b ∷ contents) [] file bytes stamps all one = absurd all
 
-map_length : {A B : Type 0} (f : A → B) (xs : List A) → length (map f xs) ≡ length xs
-map_length f [] = refl
-map_length f (x ∷ xs) = ap suc (map_length f xs)
+same_length : (files : List StreamFile) (contents : List (List ℕ)) (streams : List (List Stamped)) → HoldEvents files contents streams → length contents ≡ length streams
+same_length [] [] [] all = refl
+same_length (f ∷ files) (b ∷ contents) (s ∷ streams) all = ap suc (same_length files contents streams all.1)
+same_length [] [] (s ∷ streams) all = absurd all
+same_length [] (b ∷ contents) streams all = absurd all
+same_length (f ∷ files) [] streams all = absurd all
+same_length (f ∷ files) (b ∷ contents) [] all = absurd all
 
-same_length : (contents : List (List ℕ)) (streams : List (List Stamped)) → map stamps_of contents ≡ map Some streams → length contents ≡ length streams
-same_length contents streams e =
-    sym (map_length stamps_of contents) ∙ ap (λ (x : List (Option (List Stamped))). length x) e ∙ map_length Some streams
+-- the events that a line takes are those that its file holds
+events_at-file : (r : RecordView) (line : ℕ) (file : StreamFile) (bytes : List ℕ) → TakesFiles r line (file ∷ []) → events_at r line bytes ≡ events_in file bytes
+events_at-file r line file bytes h =
+    let found = line_found (λ (l : Line). file_of l.command) (slice_get r.lines line) (file ∷ []) h in
+    ap (λ (o : Option Line). option_and_then (λ (l : Line). events_of l.command bytes) o) found.1 ∙ events_of-file (found.0).command file bytes found.2
 
 -- a stream that is put in its place, with the empty ones behind it
 put_stream : (streams empty : List (List Stamped)) (stamps : List Stamped) → length streams < length empty
@@ -61,11 +69,11 @@ put_stream streams empty stamps h =
     ∙ sym (append_assoc streams (stamps ∷ []) (drop (length (streams ++ stamps ∷ [])) empty))
 
 -- the stream of a line that names a file
-stream_found : (parsed : RecordView) (line : ℕ) (name : List ℕ) → IsRecord parsed → TakesFiles parsed line (name ∷ [])
-    → (stream_at parsed line ≡ Some (length (names_to parsed line))) × (length (names_to parsed line) < length parsed.streams)
-stream_found parsed line name is h =
-    let found = line_found (λ (l : Line). file_of l.command) (slice_get parsed.lines line) (name ∷ []) h in
-    let one = one_stream (found.0).command name found.2 in
+stream_found : (parsed : RecordView) (line : ℕ) (file : StreamFile) → IsRecord parsed → TakesFiles parsed line (file ∷ [])
+    → (stream_at parsed line ≡ Some (length (files_to parsed line))) × (length (files_to parsed line) < length parsed.streams)
+stream_found parsed line file is h =
+    let found = line_found (λ (l : Line). file_of l.command) (slice_get parsed.lines line) (file ∷ []) h in
+    let one = one_stream (found.0).command file found.2 in
     let numbered = stream_number parsed.lines line found.0 (length parsed.streams) one.0 is.numbered found.1 one.1 in
     let at : stream_at parsed line ≡ Some one.0 =
     ap (λ (o : Option Line). option_and_then (λ (l : Line). first_of (stream_of l.command)) o) found.1 ∙ ap first_of one.1 in
@@ -73,15 +81,15 @@ stream_found parsed line name is h =
 
 module _ (files : Option (List File)) (before middle after : InputView) (told : AreToldAlike middle after) (parsed mid : RecordView) (line : ℕ) where
   -- the streams that were loaded stay so
-  loaded_on : (contents : List (List ℕ)) (streams : List (List Stamped)) → AreLoaded (span files before middle) (names_to parsed line) contents streams → AreLoaded (span files before after) (names_to parsed line) contents streams
-  loaded_on contents streams h = record { read = are_read_on files before middle after told (names_to parsed line) contents h.read; stamps = h.stamps }
+  loaded_on : (contents : List (List ℕ)) (streams : List (List Stamped)) → AreLoaded (span files before middle) (files_to parsed line) contents streams → AreLoaded (span files before after) (files_to parsed line) contents streams
+  loaded_on contents streams h = record { read = are_read_on files before middle after told (files_to parsed line) contents h.read; stamps = h.stamps }
 
-  pub is_at_stream : IsLoadedTo (span files before middle) parsed line mid → (name : List ℕ) → TakesFiles mid line (name ∷ []) → IsAtStream (span files before after) parsed line name
-  is_at_stream h name takes = record {
+  pub is_at_stream : IsLoadedTo (span files before middle) parsed line mid → (file : StreamFile) → TakesFiles mid line (file ∷ []) → IsAtStream (span files before after) parsed line file
+  is_at_stream h file takes = record {
     contents = h.contents;
     streams = h.streams;
     loaded = loaded_on h.contents h.streams h.loaded;
-    here = takes_parsed parsed mid line (name ∷ []) (ap (λ (r : RecordView). r.lines) h.whole) takes;
+    here = takes_parsed parsed mid line (file ∷ []) (ap (λ (r : RecordView). r.lines) h.whole) takes;
   }
 
   -- a line that takes no stream
@@ -89,12 +97,12 @@ module _ (files : Option (List File)) (before middle after : InputView) (told : 
   passed_over new h done =
       let P : InputView → Type 0 = λ v. IsLoadedTo (span files before v) parsed (line + 1) new in
       let takes = takes_parsed parsed mid line [] (ap (λ (r : RecordView). r.lines) h.whole) done.takes in
-      let names : names_to parsed line ≡ names_to parsed (line + 1) = sym (names_more parsed line [] takes ∙ append-nil (names_to parsed line)) in
-      let Q : List (List ℕ) → Type 0 = λ ns. AreLoaded (span files before middle) ns h.contents h.streams in
+      let more : files_to parsed line ≡ files_to parsed (line + 1) = sym (files_after parsed line [] takes ∙ append-nil (files_to parsed line)) in
+      let Q : List StreamFile → Type 0 = λ fs. AreLoaded (span files before middle) fs h.contents h.streams in
       let here : P middle = record {
         contents = h.contents;
         streams = h.streams;
-        loaded = subst Q names h.loaded;
+        loaded = subst Q more h.loaded;
         whole = done.same ∙ h.whole;
         last = h.last;
         no_fault = h.no_fault;
@@ -102,11 +110,11 @@ module _ (files : Option (List File)) (before middle after : InputView) (told : 
       subst P (sym done.untouched) here
 
   -- the record after a line's stream was put in
-  whole_more : (new : RecordView) → IsRecord parsed → (h : IsLoadedTo (span files before middle) parsed line mid) → (name : List ℕ) (stamps : List Stamped) → TakesFiles parsed line (name ∷ []) → new ≡ with_stream mid line stamps
+  whole_more : (new : RecordView) → IsRecord parsed → (h : IsLoadedTo (span files before middle) parsed line mid) → (file : StreamFile) (stamps : List Stamped) → TakesFiles parsed line (file ∷ []) → new ≡ with_stream mid line stamps
       → new ≡ record parsed { streams = (h.streams ++ stamps ∷ []) ++ drop (length (h.streams ++ stamps ∷ [])) parsed.streams }
-  whole_more new is h name stamps takes e =
-      let found = stream_found parsed line name is takes in
-      let k : length (names_to parsed line) ≡ length h.streams = are_read_length (span files before middle) (names_to parsed line) h.contents h.loaded.read ∙ same_length h.contents h.streams h.loaded.stamps in
+  whole_more new is h file stamps takes e =
+      let found = stream_found parsed line file is takes in
+      let k : length (files_to parsed line) ≡ length h.streams = are_read_length (span files before middle) (files_to parsed line) h.contents h.loaded.read ∙ same_length (files_to parsed line) h.contents h.streams h.loaded.stamps in
       let room : length h.streams < length parsed.streams = subst (λ (n : ℕ). n < length parsed.streams) k found.1 in
       let at : stream_at mid line ≡ Some (length h.streams) = ap (λ (r : RecordView). stream_at r line) h.whole ∙ found.0 ∙ ap (λ (n : ℕ). Some n) k in
       e
@@ -117,18 +125,18 @@ module _ (files : Option (List File)) (before middle after : InputView) (told : 
   -- a line whose stream was read
   taken : (new : RecordView) → IsRecord parsed → IsLoadedTo (span files before middle) parsed line mid → IsTaken (span files middle after) mid line new → IsLoadedTo (span files before after) parsed (line + 1) new
   taken new is h done =
-      let takes = takes_parsed parsed mid line (done.name ∷ []) (ap (λ (r : RecordView). r.lines) h.whole) done.takes in
-      let Q : List (List ℕ) → Type 0 = λ ns. AreRead (span files before after) ns (h.contents ++ done.bytes ∷ []) in
-      let all = are_read_on files before middle after told (names_to parsed line) h.contents h.loaded.read in
-      let one = is_read_from files before middle after done.name done.bytes done.read.read in
+      let takes = takes_parsed parsed mid line (done.stream ∷ []) (ap (λ (r : RecordView). r.lines) h.whole) done.takes in
+      let Q : List StreamFile → Type 0 = λ fs. AreLoaded (span files before after) fs (h.contents ++ done.bytes ∷ []) (h.streams ++ done.stamps ∷ []) in
+      let all = are_read_on files before middle after told (files_to parsed line) h.contents h.loaded.read in
+      let one = is_read_from files before middle after done.stream.name done.bytes done.read.read in
       record {
         contents = h.contents ++ done.bytes ∷ [];
         streams = h.streams ++ done.stamps ∷ [];
-        loaded = record {
-          read = subst Q (sym (names_more parsed line (done.name ∷ []) takes)) (are_read_push (span files before after) (names_to parsed line) h.contents done.name done.bytes all one);
-          stamps = stamps_more h.contents h.streams done.bytes done.stamps h.loaded.stamps done.means;
-        };
-        whole = whole_more new is h done.name done.stamps takes done.now;
+        loaded = subst Q (sym (files_after parsed line (done.stream ∷ []) takes)) (record {
+          read = are_read_push (span files before after) (files_to parsed line) h.contents done.stream done.bytes all one;
+          stamps = events_more (files_to parsed line) h.contents h.streams done.stream done.bytes done.stamps h.loaded.stamps (sym (events_at-file mid line done.stream done.bytes done.takes) ∙ done.means);
+        });
+        whole = whole_more new is h done.stream done.stamps takes done.now;
         last = is_last_push files before middle after h.contents done.bytes done.read.last;
         no_fault = done.read.no_fault ∙ h.no_fault;
       }
@@ -140,15 +148,15 @@ module _ (files : Option (List File)) (before middle after : InputView) (told : 
 
   -- the line whose stream was not read
   pub line_refused : (text : List ℕ) (why : NoRecord) → IsLoadedTo (span files before middle) parsed line mid → CannotDo (span files middle after) text mid line why → CannotFinish (span files before after) text parsed why
-  line_refused text Unread h cannot = (line, cannot.0, is_at_stream h cannot.0 cannot.1, is_unread_from files before middle after cannot.0 h.no_fault cannot.2)
-  line_refused text TooLong h cannot = (line, cannot.0, is_at_stream h cannot.0 cannot.1, is_too_long_from files before middle after cannot.0 h.no_fault cannot.2)
+  line_refused text Unread h cannot = (line, cannot.0, is_at_stream h cannot.0 cannot.1, is_unread_from files before middle after (cannot.0).name h.no_fault cannot.2)
+  line_refused text TooLong h cannot = (line, cannot.0, is_at_stream h cannot.0 cannot.1, is_too_long_from files before middle after (cannot.0).name h.no_fault cannot.2)
   line_refused text (Refused refused) h bad = record {
     line = line;
-    name = bad.name;
-    at = is_at_stream h bad.name bad.takes;
+    stream = bad.stream;
+    at = is_at_stream h bad.stream bad.takes;
     bytes = bad.bytes;
-    read = is_read_last_from files before middle after bad.name bad.bytes h.no_fault bad.read;
-    no_stream = bad.no_stream;
+    read = is_read_last_from files before middle after bad.stream.name bad.bytes h.no_fault bad.read;
+    no_stream = sym (events_at-file mid line bad.stream bad.bytes bad.takes) ∙ bad.no_stream;
     number = bad.number;
     cause = bad.cause;
   }
@@ -159,7 +167,7 @@ pub none_read : (files : Option (List File)) (v : InputView) (parsed : RecordVie
 none_read files v parsed = record {
   contents = [];
   streams = [];
-  loaded = record { read = tt; stamps = refl };
+  loaded = record { read = tt; stamps = tt };
   whole = refl;
   last = refl;
   no_fault = refl;
@@ -168,16 +176,16 @@ none_read files v parsed = record {
 -- all lines were read
 pub all_read : (r : Reads) (parsed now : RecordView) (line : ℕ) → IsRecord parsed → length parsed.lines ≤ line → IsLoadedTo r parsed line now → AreDone r parsed now
 all_read r parsed now line is past h =
-    let names : names_to parsed line ≡ stream_files parsed.lines = ap stream_files (take_all line parsed.lines past) in
-    let k : length (names_to parsed line) ≡ length h.streams = are_read_length r (names_to parsed line) h.contents h.loaded.read ∙ same_length h.contents h.streams h.loaded.stamps in
+    let files : files_to parsed line ≡ stream_files parsed.lines = ap stream_files (take_all line parsed.lines past) in
+    let k : length (files_to parsed line) ≡ length h.streams = are_read_length r (files_to parsed line) h.contents h.loaded.read ∙ same_length (files_to parsed line) h.contents h.streams h.loaded.stamps in
     let count : length (stream_files parsed.lines) ≡ length parsed.streams =
     sym (as_many_files parsed.lines) ∙ ap (λ (x : List ℕ). length x) is.numbered ∙ length-range_with_len 0 (length parsed.streams) in
-    let full : length parsed.streams ≤ length h.streams = omega (arith, k, count, ap (λ (x : List (List ℕ)). length x) names) in
-    let Q : List (List ℕ) → Type 0 = λ ns. AreLoaded r ns h.contents h.streams in
+    let full : length parsed.streams ≤ length h.streams = omega (arith, k, count, ap (λ (x : List StreamFile). length x) files) in
+    let Q : List StreamFile → Type 0 = λ fs. AreLoaded r fs h.contents h.streams in
     record {
       contents = h.contents;
       streams = h.streams;
-      loaded = subst Q names h.loaded;
+      loaded = subst Q files h.loaded;
       whole = h.whole ∙ ap (λ (s : List (List Stamped)). record parsed { streams = h.streams ++ s }) (drop_all (length h.streams) parsed.streams full)
           ∙ ap (λ (s : List (List Stamped)). record parsed { streams = s }) (append-nil h.streams);
       last = h.last;

@@ -1,22 +1,23 @@
 -- A text, and the streams behind it.
-use Rattle.std.proofs.Common.{◌≡◌, ℕ, ◌≤◌, List, [], ◌∷◌, length, Option, Result, Ok, sym, subst, ◌∙◌, inl, inr, arith}
-use Rattle.std.specs.Prelude.{MatchResult}
+use Rattle.std.proofs.Common.{◌≡◌, ℕ, ◌≤◌, List, [], ◌∷◌, length, Option, Some, option_map, Result, Ok, Err, refl, sym, ap, subst, ◌∙◌, inl, inr, arith}
+use Rattle.std.specs.Prelude.{MatchResult, slice_get}
 use Rattle.std.proofs.lemmas.Result.{MatchResult-weaker}
 use Rattle.inp_edge.specs.File.{File}
 use Rattle.inp_edge.specs.declared.input.TheConstants.{INPUT_LIMIT}
+use Rattle.inp_actors.specs.declared.line.Line.{Line}
 use Rattle.inp_actors.specs.Record.{RecordView}
 use Rattle.inp_record.specs.Meaning.{meaning}
 use Rattle.inp_tool.specs.declared.no_record.NoRecord.{NoRecord}
 use Rattle.inp_tool.specs.declared.no_record.NoRecord.TheVariants.{Unread, TooLong, Refused, NoMemory}
 use Rattle.inp_tool.specs.Edge.{InputView, Reads}
-use Rattle.inp_tool.specs.Streams.{stream_files}
-use Rattle.inp_tool.specs.Reading.{IsLast, IsReadLast, RanOut, AreRead, IsParsed, IsAtStream, IsNextStream, HasRecord, HasNoRecord, last_of}
-use Rattle.inp_tool.specs.Loading.{IsLastOf, HasParts, HasNoParts, HasNoLines, HasNoStreams}
+use Rattle.inp_tool.specs.Streams.{StreamFile, file_of, stream_files}
+use Rattle.inp_tool.specs.Reading.{IsLast, IsReadLast, IsUnread, IsTooLong, RanOut, CannotRead, AreRead, IsParsed, IsAtStream, IsNextStream, HasRecord, HasNoRecord, last_of}
+use Rattle.inp_tool.specs.Loading.{TakesFiles, IsDone, CannotDo, IsStream, IsNoStream, IsLastOf, HasParts, HasNoParts, HasNoLines, HasNoStreams}
 use Rattle.inp_tool.proofs.Spans.{span, AreToldAlike, is_read_on, are_read_from, is_unread_from, is_too_long_from, ran_out_from, is_read_last_from}
 
 -- the streams before a line do not depend on what was before them
-at_stream_from : (files : Option (List File)) (before middle after : InputView) (parsed : RecordView) (line : ℕ) (name : List ℕ) → IsAtStream (span files middle after) parsed line name → IsAtStream (span files before after) parsed line name
-at_stream_from files before middle after parsed line name h = record {
+at_stream_from : (files : Option (List File)) (before middle after : InputView) (parsed : RecordView) (line : ℕ) (stream : StreamFile) → IsAtStream (span files middle after) parsed line stream → IsAtStream (span files before after) parsed line stream
+at_stream_from files before middle after parsed line stream h = record {
   contents = h.contents;
   streams = h.streams;
   loaded = record { read = are_read_from files before middle after _ h.contents h.loaded.read; stamps = h.loaded.stamps };
@@ -27,11 +28,38 @@ at_stream_from files before middle after parsed line name h = record {
 pub ran_out_behind : (r : Reads) (name bytes : List ℕ) → IsReadLast r name bytes → RanOut r
 ran_out_behind r name bytes h = record { no_fault = h.no_fault; within = omega (arith, h.last.counted, h.read.within) }
 
-last_within : (r : Reads) (first : List ℕ) (names contents : List (List ℕ)) → length first ≤ INPUT_LIMIT → AreRead r names contents → length (last_of first contents) ≤ INPUT_LIMIT
+last_within : (r : Reads) (first : List ℕ) (streams : List StreamFile) (contents : List (List ℕ)) → length first ≤ INPUT_LIMIT → AreRead r streams contents → length (last_of first contents) ≤ INPUT_LIMIT
 last_within r first [] [] h are = h
-last_within r first (name ∷ names) (next ∷ contents) h are = last_within r next names contents are.0.within are.1
+last_within r first (stream ∷ streams) (next ∷ contents) h are = last_within r next streams contents are.0.within are.1
 last_within r first [] (next ∷ contents) h are = absurd are
-last_within r first (name ∷ names) [] h are = absurd are
+last_within r first (stream ∷ streams) [] h are = absurd are
+
+-- a line of this command takes this file
+pub takes_file : (old : RecordView) (line : ℕ) (l : Line) (stream : StreamFile) → slice_get old.lines line ≡ Some l → file_of l.command ≡ stream ∷ [] → TakesFiles old line (stream ∷ [])
+takes_file old line l stream e f =
+    ap (option_map (λ (x : Line). file_of x.command)) e ∙ ap (λ (files : List StreamFile). Some files) f
+
+-- what comes of a line whose file was read
+pub line_loaded : (r : Reads) (text : List ℕ) (old new : RecordView) (line : ℕ) (stream : StreamFile) (name bytes : List ℕ) (result : Result (Unit {0}) NoRecord) → TakesFiles old line (stream ∷ []) → name ≡ stream.name → IsReadLast r name bytes
+    → MatchResult result (λ _. IsStream old line bytes new) (IsNoStream text old line bytes) → MatchResult result (λ _. IsDone r old line new) (CannotDo r text old line)
+line_loaded r text old new line stream name bytes result takes same last h = by_result result h
+  where
+    read : IsReadLast r stream.name bytes
+    read = subst (λ (n : List ℕ). IsReadLast r n bytes) same last
+
+    by_result : (result : Result (Unit {0}) NoRecord) → MatchResult result (λ _. IsStream old line bytes new) (IsNoStream text old line bytes) → MatchResult result (λ _. IsDone r old line new) (CannotDo r text old line)
+    by_result (Ok done) h = inr (record { stream = stream; takes = takes; bytes = bytes; read = read; stamps = h.stamps; means = h.means; now = h.now })
+    by_result (Err Unread) h = absurd h
+    by_result (Err TooLong) h = absurd h
+    by_result (Err (Refused refused)) h = record { stream = stream; takes = takes; bytes = bytes; read = read; no_stream = h.0; number = h.1; cause = h.2 }
+    by_result (Err NoMemory) h = ran_out_behind r stream.name bytes read
+
+-- what comes of a line whose file was not read
+pub line_unread : (r : Reads) (text : List ℕ) (old : RecordView) (line : ℕ) (stream : StreamFile) (name : List ℕ) (why : NoRecord) → TakesFiles old line (stream ∷ []) → name ≡ stream.name → CannotRead r name why → CannotDo r text old line why
+line_unread r text old line stream name Unread takes same h = (stream, takes, subst (IsUnread r) same h)
+line_unread r text old line stream name TooLong takes same h = (stream, takes, subst (IsTooLong r) same h)
+line_unread r text old line stream name (Refused refused) takes same h = absurd h
+line_unread r text old line stream name NoMemory takes same h = h
 
 -- memory ran out behind a record that was read
 pub ran_out_after : (r : Reads) (file : List ℕ) (recorded : RecordView) → HasRecord r file recorded → RanOut r
@@ -65,13 +93,15 @@ module _ (files : Option (List File)) (before middle after : InputView) (told : 
     no_fault = h.done.no_fault ∙ first.no_fault;
   }
 
-  next_stream : (parsed : RecordView) → meaning text ≡ Ok parsed → (line : ℕ) (name : List ℕ) → IsAtStream (span files middle after) parsed line name → IsNextStream (span files before after) file name
-  next_stream parsed means line name at = record {
+  next_stream : (parsed : RecordView) → meaning text ≡ Ok parsed → (line : ℕ) (stream : StreamFile) → IsAtStream (span files middle after) parsed line stream → IsNextStream (span files before after) file stream.name
+  next_stream parsed means line stream at = record {
     text = text;
     parsed = parsed;
     is_parsed = is_parsed parsed means;
     line = line;
-    at = at_stream_from files before middle after parsed line name at;
+    stream = stream;
+    at = at_stream_from files before middle after parsed line stream at;
+    is_name = refl;
   }
 
   -- the text is no record
@@ -89,10 +119,10 @@ module _ (files : Option (List File)) (before middle after : InputView) (told : 
   no_streams : (why : NoRecord) → HasNoStreams (span files middle after) text why → HasNoRecord (span files before after) file why
   no_streams Unread h =
       let c = h.cannot in
-      record { name = c.1; next = inr (next_stream h.parsed h.means c.0 c.1 c.2); unread = is_unread_from files before middle after c.1 first.no_fault c.3 }
+      record { name = (c.1).name; next = inr (next_stream h.parsed h.means c.0 c.1 c.2); unread = is_unread_from files before middle after (c.1).name first.no_fault c.3 }
   no_streams TooLong h =
       let c = h.cannot in
-      record { name = c.1; next = inr (next_stream h.parsed h.means c.0 c.1 c.2); too_long = is_too_long_from files before middle after c.1 first.no_fault c.3 }
+      record { name = (c.1).name; next = inr (next_stream h.parsed h.means c.0 c.1 c.2); too_long = is_too_long_from files before middle after (c.1).name first.no_fault c.3 }
   no_streams (Refused refused) h =
       let bad = h.cannot in
       inr (record {
@@ -101,10 +131,10 @@ module _ (files : Option (List File)) (before middle after : InputView) (told : 
         is_parsed = is_parsed h.parsed h.means;
         bad = record {
           line = bad.line;
-          name = bad.name;
-          at = at_stream_from files before middle after h.parsed bad.line bad.name bad.at;
+          stream = bad.stream;
+          at = at_stream_from files before middle after h.parsed bad.line bad.stream bad.at;
           bytes = bad.bytes;
-          read = is_read_last_from files before middle after bad.name bad.bytes first.no_fault bad.read;
+          read = is_read_last_from files before middle after bad.stream.name bad.bytes first.no_fault bad.read;
           no_stream = bad.no_stream;
           number = bad.number;
           cause = bad.cause;

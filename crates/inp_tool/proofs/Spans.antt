@@ -3,6 +3,7 @@ use Rattle.std.proofs.Common.{◌≡◌, ℕ, suc, List, [], ◌∷◌, ◌++◌
 use Rattle.std.specs.Prelude.{is_some, IsTrue}
 use Rattle.inp_edge.specs.File.{File}
 use Rattle.inp_tool.specs.Edge.{InputView, Reads}
+use Rattle.inp_tool.specs.Streams.{StreamFile}
 use Rattle.inp_tool.specs.Reading.{IsRead, IsLast, IsReadLast, IsUnread, IsTooLong, RanOut, AreRead, last_of}
 use Rattle.inp_tool.specs.Loading.{IsLastOf}
 
@@ -22,33 +23,33 @@ module _ (files : Option (List File)) (before middle after : InputView) (told : 
     whole = λ t. h.whole (subst IsTrue told t);
   }
 
-  pub are_read_on : (names contents : List (List ℕ)) → AreRead (span files before middle) names contents → AreRead (span files before after) names contents
+  pub are_read_on : (streams : List StreamFile) (contents : List (List ℕ)) → AreRead (span files before middle) streams contents → AreRead (span files before after) streams contents
   are_read_on [] [] h = tt
-  are_read_on (name ∷ names) (bytes ∷ contents) h = (is_read_on name bytes h.0, are_read_on names contents h.1)
+  are_read_on (file ∷ streams) (bytes ∷ contents) h = (is_read_on file.name bytes h.0, are_read_on streams contents h.1)
   are_read_on [] (bytes ∷ contents) h = absurd h
-  are_read_on (name ∷ names) [] h = absurd h
+  are_read_on (file ∷ streams) [] h = absurd h
 
 -- what is read does not depend on what was before
 pub is_read_from : (files : Option (List File)) (before middle after : InputView) (name bytes : List ℕ) → IsRead (span files middle after) name bytes → IsRead (span files before after) name bytes
 is_read_from files before middle after name bytes h = record { found = h.found; within = h.within; whole = h.whole }
 
-pub are_read_from : (files : Option (List File)) (before middle after : InputView) (names contents : List (List ℕ)) → AreRead (span files middle after) names contents → AreRead (span files before after) names contents
+pub are_read_from : (files : Option (List File)) (before middle after : InputView) (streams : List StreamFile) (contents : List (List ℕ)) → AreRead (span files middle after) streams contents → AreRead (span files before after) streams contents
 are_read_from files before middle after [] [] h = tt
-are_read_from files before middle after (name ∷ names) (bytes ∷ contents) h = (is_read_from files before middle after name bytes h.0, are_read_from files before middle after names contents h.1)
+are_read_from files before middle after (file ∷ streams) (bytes ∷ contents) h = (is_read_from files before middle after file.name bytes h.0, are_read_from files before middle after streams contents h.1)
 are_read_from files before middle after [] (bytes ∷ contents) h = absurd h
-are_read_from files before middle after (name ∷ names) [] h = absurd h
+are_read_from files before middle after (file ∷ streams) [] h = absurd h
 
-pub are_read_push : (r : Reads) (names contents : List (List ℕ)) (name bytes : List ℕ) → AreRead r names contents → IsRead r name bytes → AreRead r (names ++ name ∷ []) (contents ++ bytes ∷ [])
-are_read_push r [] [] name bytes h one = (one, tt)
-are_read_push r (n ∷ names) (b ∷ contents) name bytes h one = (h.0, are_read_push r names contents name bytes h.1 one)
-are_read_push r [] (b ∷ contents) name bytes h one = absurd h
-are_read_push r (n ∷ names) [] name bytes h one = absurd h
+pub are_read_push : (r : Reads) (streams : List StreamFile) (contents : List (List ℕ)) (file : StreamFile) (bytes : List ℕ) → AreRead r streams contents → IsRead r file.name bytes → AreRead r (streams ++ file ∷ []) (contents ++ bytes ∷ [])
+are_read_push r [] [] file bytes h one = (one, tt)
+are_read_push r (n ∷ streams) (b ∷ contents) file bytes h one = (h.0, are_read_push r streams contents file bytes h.1 one)
+are_read_push r [] (b ∷ contents) file bytes h one = absurd h
+are_read_push r (n ∷ streams) [] file bytes h one = absurd h
 
-pub are_read_length : (r : Reads) (names contents : List (List ℕ)) → AreRead r names contents → length names ≡ length contents
+pub are_read_length : (r : Reads) (streams : List StreamFile) (contents : List (List ℕ)) → AreRead r streams contents → length streams ≡ length contents
 are_read_length r [] [] h = refl
-are_read_length r (n ∷ names) (b ∷ contents) h = ap suc (are_read_length r names contents h.1)
+are_read_length r (n ∷ streams) (b ∷ contents) h = ap suc (are_read_length r streams contents h.1)
 are_read_length r [] (b ∷ contents) h = absurd h
-are_read_length r (n ∷ names) [] h = absurd h
+are_read_length r (n ∷ streams) [] h = absurd h
 
 pub last_of_push : (first : List ℕ) (contents : List (List ℕ)) (bytes : List ℕ) → last_of first (contents ++ bytes ∷ []) ≡ bytes
 last_of_push first [] bytes = refl

@@ -3,8 +3,9 @@ use Rattle.std.proofs.Common.{◌≡◌, ℕ, ◌<◌, length, Option, Some, Non
 use Rattle.std.specs.Prelude.{slice_get, IsSome, option_and_then}
 use Rattle.std.proofs.lemmas.Option.{slice_get_within}
 use Rattle.inp_actors.specs.declared.line.Line.{Line}
-use Rattle.inp_actors.specs.Record.{RecordView, stream_of}
-use Rattle.inp_record.specs.Stream.{first_of, stream_at}
+use Rattle.inp_actors.specs.Command.{stream_of, first_of}
+use Rattle.inp_actors.specs.Record.{RecordView}
+use Rattle.inp_record.specs.Stream.{stream_at}
 
 -- a line that takes a stream is one of the record
 pub stream_within : (r : RecordView) (line : ℕ) → IsSome (stream_at r line) → line < length r.lines

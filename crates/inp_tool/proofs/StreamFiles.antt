@@ -9,19 +9,33 @@ use Rattle.std.proofs.lemmas.List.FromFn.{get_or-range_with_len, length-range_wi
 use Rattle.std.proofs.lemmas.Grind.{flat_map-append}
 use Rattle.std.proofs.lemmas.Option.{slice_get_within, get_or_from_slice_get}
 use Rattle.inp_actors.specs.declared.command.Command.{Command}
-use Rattle.inp_actors.specs.declared.command.Command.TheVariants.{Stream, Open}
+use Rattle.inp_actors.specs.declared.command.Command.TheVariants.{Stream, Stream16, Open}
 use Rattle.inp_actors.specs.declared.line.Line.{Line}
-use Rattle.inp_actors.specs.Record.{stream_of, streams_of}
-use Rattle.inp_tool.specs.Streams.{file_of, stream_files}
+use Rattle.inp_actors.specs.Command.{stream_of}
+use Rattle.inp_actors.specs.Record.{streams_of}
+use Rattle.inp_stream.specs.declared.record_form.RecordForm.TheVariants.{Wide, Narrow}
+use Rattle.inp_record.specs.Stream.{events_of}
+use Rattle.inp_tool.specs.Streams.{StreamFile, file_of, stream_files, events_in}
 
 -- a command that names a file takes one stream
-pub one_stream : (c : Command) (name : List ℕ) → file_of c ≡ name ∷ [] → (index : ℕ) × (stream_of c ≡ index ∷ [])
-one_stream (Stream file index) name h = (index, refl)
-one_stream Open name h = absurd (cc h)
-one_stream _ name h = absurd (cc h)
+pub one_stream : (c : Command) (file : StreamFile) → file_of c ≡ file ∷ [] → (index : ℕ) × (stream_of c ≡ index ∷ [])
+one_stream (Stream name index) file h = (index, refl)
+one_stream (Stream16 name index) file h = (index, refl)
+one_stream Open file h = absurd (cc h)
+one_stream _ file h = absurd (cc h)
+
+-- a command takes the events that its file holds
+pub events_of-file : (c : Command) (file : StreamFile) (bytes : List ℕ) → file_of c ≡ file ∷ [] → events_of c bytes ≡ events_in file bytes
+events_of-file (Stream name index) file bytes h =
+    let its : StreamFile = record { name = name; form = Wide } in let same : its ≡ file = cc h in ap (λ (f : StreamFile). events_in f bytes) same
+events_of-file (Stream16 name index) file bytes h =
+    let its : StreamFile = record { name = name; form = Narrow } in let same : its ≡ file = cc h in ap (λ (f : StreamFile). events_in f bytes) same
+events_of-file Open file bytes h = absurd (cc h)
+events_of-file _ file bytes h = absurd (cc h)
 
 pub as_many : (c : Command) → length (stream_of c) ≡ length (file_of c)
-as_many (Stream file index) = refl
+as_many (Stream name index) = refl
+as_many (Stream16 name index) = refl
 as_many Open = refl
 as_many _ = refl
 
@@ -38,12 +52,12 @@ line_found f (Some l) a h = (l, refl, cc h)
 -- one more line
 pub files_more : (lines : List Line) (i : ℕ) (l : Line) → slice_get lines i ≡ Some l → stream_files (take (i + 1) lines) ≡ stream_files (take i lines) ++ file_of l.command
 files_more lines i l h =
-    let f : Line → List (List ℕ) = λ line. file_of line.command in
+    let f : Line → List StreamFile = λ line. file_of line.command in
     let here : get_or lines i l ≡ l = get_or_from_slice_get lines i l l h in
     let more : take (i + 1) lines ≡ take i lines ++ get_or lines i l ∷ [] = take_more lines i l (slice_get_within lines i l h) in
     ap (flat_map f) (more ∙ ap (λ (x : Line). take i lines ++ x ∷ []) here)
     ∙ flat_map-append f (take i lines) (l ∷ [])
-    ∙ ap (λ (x : List (List ℕ)). stream_files (take i lines) ++ x) (append-nil (file_of l.command))
+    ∙ ap (λ (x : List StreamFile). stream_files (take i lines) ++ x) (append-nil (file_of l.command))
 
 -- a line's stream has the number of streams before it
 pub stream_number : (lines : List Line) (i : ℕ) (l : Line) (n index : ℕ) → streams_of lines ≡ range_with_len 0 n → slice_get lines i ≡ Some l → stream_of l.command ≡ index ∷ []

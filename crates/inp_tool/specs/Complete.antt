@@ -1,5 +1,5 @@
 -- When the program's one call writes its report (docs/PROMISES.md).
-use Rattle.std.specs.Prelude.{ℕ, ◌≡◌, ◌≤◌, ◌<◌, ◌⊎◌, Bool, List, [], ◌∷◌, length, map, Option, Some, None, IsSome, Ok}
+use Rattle.std.specs.Prelude.{ℕ, ◌≡◌, ◌≤◌, ◌<◌, ◌⊎◌, Bool, List, [], ◌∷◌, length, Option, Some, None, IsSome, Ok}
 use Rattle.inp_edge.specs.Count.{LAST}
 use Rattle.inp_edge.specs.File.{File, bytes_of}
 use Rattle.inp_edge.specs.Sink.{Appends}
@@ -11,14 +11,13 @@ use Rattle.inp_model.specs.declared.stamped.Stamped.{Stamped}
 use Rattle.inp_actors.specs.Record.{RecordView}
 use Rattle.inp_canon.specs.Text.{record_text}
 use Rattle.inp_record.specs.Meaning.{meaning}
-use Rattle.inp_record.specs.Stream.{stamps_of}
 use Rattle.inp_script.specs.declared.run.Run.{Run}
 use Rattle.inp_upgrade.specs.Upgrade.{upgraded}
 use Rattle.inp_report.specs.Report.{report}
 use Rattle.inp_report.specs.Summary.{summary}
 use Rattle.inp_tool.specs.declared.end.End.{End}
 use Rattle.inp_tool.specs.Edge.{Reads, Writes}
-use Rattle.inp_tool.specs.Streams.{stream_files}
+use Rattle.inp_tool.specs.Streams.{StreamFile, stream_files, HoldEvents}
 use Rattle.inp_tool.specs.Outcome.{played_status}
 use Rattle.inp_tool.specs.Promise.{Words, AskFor, CameOf}
 
@@ -31,12 +30,12 @@ pub record IsThere (files : List File) (name bytes : List ℕ) : Type 0 where
   pub file : bytes_of files name ≡ Some bytes
   pub within : length bytes ≤ INPUT_LIMIT
 
--- files of these names are there, one for each, with these contents
-abbrev pub AreThere : List File → List (List ℕ) → List (List ℕ) → Type 0
+-- these files of streams are there, one for each content
+abbrev pub AreThere : List File → List StreamFile → List (List ℕ) → Type 0
 AreThere files [] [] = Unit {0}
-AreThere files (name ∷ names) (bytes ∷ contents) = IsThere files name bytes × AreThere files names contents
+AreThere files (stream ∷ streams) (bytes ∷ contents) = IsThere files stream.name bytes × AreThere files streams contents
 AreThere files [] (bytes ∷ contents) = ⊥
-AreThere files (name ∷ names) [] = ⊥
+AreThere files (stream ∷ streams) [] = ⊥
 
 -- FILE and the files of its stream lines are there, in an input that tells their bytes, and are this record with its
 -- streams.
@@ -51,7 +50,7 @@ pub record IsReadable (r : Reads) (file : List ℕ) (recorded : RecordView) : Ty
   pub contents : List (List ℕ)
   pub streams : List (List Stamped)
   pub are_there : AreThere files (stream_files parsed.lines) contents
-  pub stamps : map stamps_of contents ≡ map Some streams
+  pub stamps : HoldEvents (stream_files parsed.lines) contents streams
   pub whole : recorded ≡ record parsed { streams = streams }
 
 -- The text that tells the runs of this record was written whole. The status is 6 where a job stopped since a history was

@@ -7,16 +7,16 @@ use Rattle.inp_words.specs.Line.{lines_of as text_lines}
 use Rattle.inp_record.specs.declared.refused.Refused.{Refused}
 use Rattle.inp_record.specs.declared.cause.Cause.TheVariants.{BadStream}
 use Rattle.inp_record.specs.Meaning.{meaning}
-use Rattle.inp_record.specs.Stream.{stamps_of, with_stream}
+use Rattle.inp_record.specs.Stream.{events_at, with_stream}
 use Rattle.inp_record.specs.LineNumber.{action_numbers}
 use Rattle.inp_tool.specs.declared.no_record.NoRecord.{NoRecord}
 use Rattle.inp_tool.specs.declared.no_record.NoRecord.TheVariants.{Unread, TooLong, Refused as IsRefused, NoMemory}
 use Rattle.inp_tool.specs.Edge.{Reads, KeepsInputFaults}
-use Rattle.inp_tool.specs.Streams.{file_of, stream_files}
+use Rattle.inp_tool.specs.Streams.{StreamFile, file_of, stream_files}
 use Rattle.inp_tool.specs.Reading.{IsUnread, IsTooLong, RanOut, IsReadLast, IsLast, AreLoaded, IsAtStream, IsBadStream, last_of}
 
 -- an action line names these files: one, or none where it takes no stream
-abbrev pub TakesFiles : RecordView → ℕ → List (List ℕ) → Type 0
+abbrev pub TakesFiles : RecordView → ℕ → List StreamFile → Type 0
 TakesFiles recorded line files = option_map (λ (l : Line). file_of l.command) (slice_get recorded.lines line) ≡ Some files
 
 -- the line takes no stream, and nothing was read
@@ -27,12 +27,12 @@ pub record IsPassedOver (r : Reads) (old : RecordView) (line : ℕ) (new : Recor
 
 -- the line's file was read, and its events are the line's stream
 pub record IsTaken (r : Reads) (old : RecordView) (line : ℕ) (new : RecordView) : Type 0 where
-  pub name : List ℕ
-  pub takes : TakesFiles old line (name ∷ [])
+  pub stream : StreamFile
+  pub takes : TakesFiles old line (stream ∷ [])
   pub bytes : List ℕ
-  pub read : IsReadLast r name bytes
+  pub read : IsReadLast r stream.name bytes
   pub stamps : List Stamped
-  pub means : stamps_of bytes ≡ Some stamps
+  pub means : events_at old line bytes ≡ Some stamps
   pub now : new ≡ with_stream old line stamps
 
 abbrev pub IsDone : Reads → RecordView → ℕ → RecordView → Type 0
@@ -40,18 +40,18 @@ IsDone r old line new = IsPassedOver r old line new ⊎ IsTaken r old line new
 
 -- the line's file was read, and its bytes are no stream
 pub record IsBad (r : Reads) (text : List ℕ) (old : RecordView) (line : ℕ) (refused : Refused) : Type 0 where
-  pub name : List ℕ
-  pub takes : TakesFiles old line (name ∷ [])
+  pub stream : StreamFile
+  pub takes : TakesFiles old line (stream ∷ [])
   pub bytes : List ℕ
-  pub read : IsReadLast r name bytes
-  pub no_stream : stamps_of bytes ≡ None
+  pub read : IsReadLast r stream.name bytes
+  pub no_stream : events_at old line bytes ≡ None
   pub number : slice_get (action_numbers 1 (text_lines text)) line ≡ Some refused.line
   pub cause : refused.cause ≡ BadStream
 
 -- why the stream of a line was not read
 abbrev pub CannotDo : Reads → List ℕ → RecordView → ℕ → NoRecord → Type 0
-CannotDo r text old line Unread = (name : List ℕ) × TakesFiles old line (name ∷ []) × IsUnread r name
-CannotDo r text old line TooLong = (name : List ℕ) × TakesFiles old line (name ∷ []) × IsTooLong r name
+CannotDo r text old line Unread = (stream : StreamFile) × TakesFiles old line (stream ∷ []) × IsUnread r stream.name
+CannotDo r text old line TooLong = (stream : StreamFile) × TakesFiles old line (stream ∷ []) × IsTooLong r stream.name
 CannotDo r text old line (IsRefused refused) = IsBad r text old line refused
 CannotDo r text old line NoMemory = RanOut r
 
@@ -80,8 +80,10 @@ pub record AreDone (r : Reads) (parsed now : RecordView) : Type 0 where
 
 -- why the streams of a record were not read
 abbrev pub CannotFinish : Reads → List ℕ → RecordView → NoRecord → Type 0
-CannotFinish r text parsed Unread = (line : ℕ) × (name : List ℕ) × IsAtStream r parsed line name × IsUnread r name
-CannotFinish r text parsed TooLong = (line : ℕ) × (name : List ℕ) × IsAtStream r parsed line name × IsTooLong r name
+CannotFinish r text parsed Unread =
+    (line : ℕ) × (stream : StreamFile) × IsAtStream r parsed line stream × IsUnread r stream.name
+CannotFinish r text parsed TooLong =
+    (line : ℕ) × (stream : StreamFile) × IsAtStream r parsed line stream × IsTooLong r stream.name
 CannotFinish r text parsed (IsRefused refused) = IsBadStream r text parsed refused
 CannotFinish r text parsed NoMemory = RanOut r
 
@@ -115,13 +117,13 @@ HasNoParts r text why = HasNoLines r text why ⊎ HasNoStreams r text why
 -- the bytes are the events of the line's stream
 pub record IsStream (old : RecordView) (line : ℕ) (bytes : List ℕ) (new : RecordView) : Type 0 where
   pub stamps : List Stamped
-  pub means : stamps_of bytes ≡ Some stamps
+  pub means : events_at old line bytes ≡ Some stamps
   pub now : new ≡ with_stream old line stamps
 
 -- why bytes are not the stream of a line
-abbrev pub IsNoStream : List ℕ → ℕ → List ℕ → NoRecord → Type 0
-IsNoStream text line bytes Unread = ⊥
-IsNoStream text line bytes TooLong = ⊥
-IsNoStream text line bytes (IsRefused refused) =
-    (stamps_of bytes ≡ None) × (slice_get (action_numbers 1 (text_lines text)) line ≡ Some refused.line) × (refused.cause ≡ BadStream)
-IsNoStream text line bytes NoMemory = Unit {0}
+abbrev pub IsNoStream : List ℕ → RecordView → ℕ → List ℕ → NoRecord → Type 0
+IsNoStream text old line bytes Unread = ⊥
+IsNoStream text old line bytes TooLong = ⊥
+IsNoStream text old line bytes (IsRefused refused) =
+    (events_at old line bytes ≡ None) × (slice_get (action_numbers 1 (text_lines text)) line ≡ Some refused.line) × (refused.cause ≡ BadStream)
+IsNoStream text old line bytes NoMemory = Unit {0}

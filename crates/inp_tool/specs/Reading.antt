@@ -1,5 +1,5 @@
 -- What it means that a record and its streams were read, and that they were not.
-use Rattle.std.specs.Prelude.{ℕ, ◌≡◌, ◌≤◌, ◌<◌, ◌⊎◌, IsTrue, is_some, List, [], ◌∷◌, length, map, take, slice_get, Some, None, option_map, Ok, Err}
+use Rattle.std.specs.Prelude.{ℕ, ◌≡◌, ◌≤◌, ◌<◌, ◌⊎◌, IsTrue, is_some, List, [], ◌∷◌, length, take, slice_get, Some, None, option_map, Ok, Err}
 use Rattle.inp_edge.specs.Count.{RoseUnlessSaturated}
 use Rattle.inp_edge.specs.File.{IsMissing, HasFile, HasLongerFile}
 use Rattle.inp_edge.specs.Input.{IsAtEnd}
@@ -11,12 +11,11 @@ use Rattle.inp_words.specs.Line.{lines_of as text_lines}
 use Rattle.inp_record.specs.declared.refused.Refused.{Refused}
 use Rattle.inp_record.specs.declared.cause.Cause.TheVariants.{BadStream}
 use Rattle.inp_record.specs.Meaning.{meaning}
-use Rattle.inp_record.specs.Stream.{stamps_of}
 use Rattle.inp_record.specs.LineNumber.{action_numbers}
 use Rattle.inp_tool.specs.declared.no_record.NoRecord.{NoRecord}
 use Rattle.inp_tool.specs.declared.no_record.NoRecord.TheVariants.{Unread, TooLong, Refused as IsRefused, NoMemory}
 use Rattle.inp_tool.specs.Edge.{Reads, KeepsInputFaults}
-use Rattle.inp_tool.specs.Streams.{file_of, stream_files}
+use Rattle.inp_tool.specs.Streams.{StreamFile, file_of, stream_files, events_in, HoldEvents}
 
 -- The file of this name was read, and these are its bytes, all of them where the input tells its bytes.
 pub record IsRead (r : Reads) (name bytes : List ℕ) : Type 0 where
@@ -59,29 +58,29 @@ CannotRead r name TooLong = IsTooLong r name
 CannotRead r name (IsRefused refused) = ⊥
 CannotRead r name NoMemory = RanOut r
 
--- the files of these names were read, one for each, and these are their contents
-abbrev pub AreRead : Reads → List (List ℕ) → List (List ℕ) → Type 0
+-- these files were read, one for each content
+abbrev pub AreRead : Reads → List StreamFile → List (List ℕ) → Type 0
 AreRead r [] [] = Unit {0}
-AreRead r (name ∷ names) (bytes ∷ contents) = IsRead r name bytes × AreRead r names contents
+AreRead r (file ∷ files) (bytes ∷ contents) = IsRead r file.name bytes × AreRead r files contents
 AreRead r [] (bytes ∷ contents) = ⊥
-AreRead r (name ∷ names) [] = ⊥
+AreRead r (file ∷ files) [] = ⊥
 
--- The files of these names were read, and these are their contents and the events that they hold.
-pub record AreLoaded (r : Reads) (names contents : List (List ℕ)) (streams : List (List Stamped)) : Type 0 where
-  pub read : AreRead r names contents
-  pub stamps : map stamps_of contents ≡ map Some streams
+-- These files were read, and these are their contents and the events that they hold.
+pub record AreLoaded (r : Reads) (files : List StreamFile) (contents : List (List ℕ)) (streams : List (List Stamped)) : Type 0 where
+  pub read : AreRead r files contents
+  pub stamps : HoldEvents files contents streams
 
 -- the file was read, and its text is a record, whose streams are still empty
 pub record IsParsed (r : Reads) (file text : List ℕ) (parsed : RecordView) : Type 0 where
   pub read : IsRead r file text
   pub means : meaning text ≡ Ok parsed
 
--- An action line names this file, and the streams of the lines before it are loaded.
-pub record IsAtStream (r : Reads) (parsed : RecordView) (line : ℕ) (name : List ℕ) : Type 0 where
+-- An action line takes this file as its stream, and the streams of the lines before it are loaded.
+pub record IsAtStream (r : Reads) (parsed : RecordView) (line : ℕ) (stream : StreamFile) : Type 0 where
   pub contents : List (List ℕ)
   pub streams : List (List Stamped)
   pub loaded : AreLoaded r (stream_files (take line parsed.lines)) contents streams
-  pub here : option_map (λ (l : Line). file_of l.command) (slice_get parsed.lines line) ≡ Some (name ∷ [])
+  pub here : option_map (λ (l : Line). file_of l.command) (slice_get parsed.lines line) ≡ Some (stream ∷ [])
 
 -- the next file to be read is that of a stream line
 pub record IsNextStream (r : Reads) (file name : List ℕ) : Type 0 where
@@ -89,7 +88,9 @@ pub record IsNextStream (r : Reads) (file name : List ℕ) : Type 0 where
   pub parsed : RecordView
   pub is_parsed : IsParsed r file text parsed
   pub line : ℕ
-  pub at : IsAtStream r parsed line name
+  pub stream : StreamFile
+  pub at : IsAtStream r parsed line stream
+  pub is_name : stream.name ≡ name
 
 -- The next file to be read: FILE, and behind it the files of its stream lines, in line order.
 abbrev pub IsNext : Reads → List ℕ → List ℕ → Type 0
@@ -116,11 +117,11 @@ pub record HasBadText (r : Reads) (file : List ℕ) (refused : Refused) : Type 0
 -- the file of a stream line was read, and its bytes are no stream
 pub record IsBadStream (r : Reads) (text : List ℕ) (parsed : RecordView) (refused : Refused) : Type 0 where
   pub line : ℕ
-  pub name : List ℕ
-  pub at : IsAtStream r parsed line name
+  pub stream : StreamFile
+  pub at : IsAtStream r parsed line stream
   pub bytes : List ℕ
-  pub read : IsReadLast r name bytes
-  pub no_stream : stamps_of bytes ≡ None
+  pub read : IsReadLast r stream.name bytes
+  pub no_stream : events_in stream bytes ≡ None
   pub number : slice_get (action_numbers 1 (text_lines text)) line ≡ Some refused.line
   pub cause : refused.cause ≡ BadStream
 

@@ -128,6 +128,10 @@ fn read_stream<I: Input>(
             Ok(bytes) => load_stream(text, recorded, line, &bytes),
             Err(why) => Err(why),
         },
+        Command::Stream16 { file, .. } => match read_file(alloc, input, file.text()) {
+            Ok(bytes) => load_stream(text, recorded, line, &bytes),
+            Err(why) => Err(why),
+        },
         _ => Ok(()),
     }
 }
@@ -139,7 +143,7 @@ fn load_stream(text: &[u8], recorded: &mut Record, line: u32, bytes: &[u8]) -> R
     requires stream { IsSome (stream_at recorded.old line) }
     ensures loaded { MatchResult result
         (λ _. IsStream recorded.old line bytes.now recorded.new)
-        (IsNoStream text.now line bytes.now) }
+        (IsNoStream text.now recorded.old line bytes.now) }
 {
     match load(recorded, line, bytes) {
         Ok(()) => Ok(()),
