@@ -1,1 +1,2 @@
 pub mod FullDevice
+pub mod Clients

@@ -1,7 +1,8 @@
-//! The tests of playing: of `inp_recon`, `inp_script` and `inp_play`.
+//! The tests of playing: of `inp_recon`, `inp_reader`, `inp_script` and `inp_play`.
 //!
 //! A crate with tests is proved twice, once without and once with them. So the crates under test have none of their own:
-//! their tests stand here, over public calls alone, in one file for each crate. `common` has the actors of their records.
+//! their tests stand here, over public calls alone, in one file for each crate, and in `waiting` that of a client of
+//! `inp_script` on a device. `common` has the actors of their records.
 #![tactic(auto)]
 
 #[cfg(test)]
@@ -9,6 +10,10 @@ mod common;
 #[cfg(test)]
 mod play;
 #[cfg(test)]
+mod reader;
+#[cfg(test)]
 mod recon;
 #[cfg(test)]
 mod script;
+#[cfg(test)]
+mod waiting;

@@ -23,6 +23,19 @@ keys KEY_A
 stop finished
 ";
 
+/// The same record with a comment that is no text.
+pub const COMMENT: &[u8] = b"inputrecord 1
+# \xff
+device kbd
+cap EV_KEY KEY_A
+source s
+tap t
+do t open
+do s event 1000 EV_KEY KEY_A 1
+do s event 1000 EV_SYN SYN_REPORT 0
+do t read 16
+";
+
 /// The same with its history.
 pub const HISTORY_REPORT: &str = "device kbd steps 4
 step 0 open

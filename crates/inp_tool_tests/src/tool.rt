@@ -7,7 +7,7 @@ use crate::texts::{
     ONE_KEY_MIGRATED, ONE_KEY_REPORT, REVOKED, REVOKED_REPORT, STREAM, STREAM_AND_BAD_LINE,
     STREAM_MIGRATED, STREAM_TWICE, STREAMS, STREAMS_REPORT,
 };
-use inp_edge::{Failed, Gate, INPUT_LIMIT, Input, MemInput, MemSink, OpenGate};
+use inp_edge::{Gate, INPUT_LIMIT, Input, MemSink, OpenGate};
 use inp_tool::{End, inputplay};
 use std::alloc::Global;
 use std::sync::Wait;
@@ -16,9 +16,10 @@ use std::test::Fail;
 use std::thread::Threads;
 
 /// Room for every text of these tests.
-const AMPLE: usize = 1_000_000;
+pub const AMPLE: usize = 1_000_000;
 
-const FAILED: &str = "inputplay: read failed\n";
+/// What is written where the input is at fault.
+pub const FAILED: &str = "inputplay: read failed\n";
 
 /// No calls that fail.
 const NONE: &[u64] = &[];
@@ -30,7 +31,7 @@ const PRESS: &[u8] = &[
 ];
 
 /// The call, without what its contract says: these tests look at what it does.
-fn call<R: Threads + Wait + Sync, I: Input>(
+pub fn call<R: Threads + Wait + Sync, I: Input>(
     rt: &R,
     alloc: Global,
     words: &[String],
@@ -201,43 +202,10 @@ impl Gate for CountingGate {
     }
 }
 
-/// An input that gives one byte at a time.
-#[derive(Drop)]
-struct OneByOne {
-    inner: MemInput,
-}
-
-impl Input for OneByOne {
-    ghost use Rattle.std.specs.Prelude.{Some};
-
-    ghost files = { λ input. Some input.inner.files };
-
-    ghost left = { λ input. Some input.inner.left };
-
-    ghost given = { λ input. input.inner.given };
-
-    ghost faults = { λ input. input.inner.calls.faults };
-
-    fn begin(&mut self, name: &str) -> Result<(), Failed> {
-        self.inner.begin(name)
-    }
-
-    fn read(&mut self, buf: &mut [u8]) -> Result<usize, Failed> {
-        let mut byte = [0];
-        let count = self.inner.read(&mut byte)?;
-        if count == 1 {
-            buf[0] = byte[0];
-        }
-        Ok(count)
-    }
-}
-
 #[test]
-fn reads_in_pieces_and_passes_no_gate(rt: HostRuntime) -> Result<(), Fail> {
+fn passes_no_gate_on_one_thread(rt: HostRuntime) -> Result<(), Fail> {
     let files = [("f", STREAM.as_bytes()), ("keys", PRESS)];
-    let mut input = OneByOne {
-        inner: input_of(rt.alloc(), &files, NONE)?,
-    };
+    let mut input = input_of(rt.alloc(), &files, NONE)?;
     let mut sink = sink_of(rt.alloc(), AMPLE, NONE)?;
     let words = words_of(rt.alloc(), &["f"])?;
     let gate = CountingGate {
