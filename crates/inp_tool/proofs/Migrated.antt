@@ -1,10 +1,11 @@
 -- The text of an upgraded record, by what was read of it.
-use Rattle.std.proofs.Common.{◌≡◌, ℕ, List, Option, Ok, refl, sym, ap, ◌∙◌}
+use Rattle.std.proofs.Common.{◌≡◌, ℕ, List, Ok, refl, ap, ◌∙◌}
 use Rattle.inp_actors.specs.Record.{RecordView}
 use Rattle.inp_canon.specs.Text.{record_lines, record_text}
 use Rattle.inp_model.specs.declared.stamped.Stamped.{Stamped}
 use Rattle.inp_record.specs.Meaning.{meaning}
-use Rattle.inp_upgrade.specs.Upgrade.{upgraded, ReadsAgain}
+use Rattle.inp_record.proofs.RaisedPasts.{reads_again}
+use Rattle.inp_upgrade.specs.Upgrade.{upgraded}
 use Rattle.inp_tool.specs.Edge.{Reads}
 use Rattle.inp_tool.specs.Reading.{HasRecord}
 
@@ -14,7 +15,7 @@ unfolding record_text record_lines
 same_text r streams = refl
 
 -- it means the record of the lines that were read, in version 2
-pub means_upgraded : (r : Reads) (file text : List ℕ) (recorded : RecordView) (h : HasRecord r file recorded) → ReadsAgain → text ≡ record_text (upgraded recorded) → meaning text ≡ Ok (upgraded h.parsed)
-means_upgraded r file text recorded h again says =
+pub means_upgraded : (r : Reads) (file text : List ℕ) (recorded : RecordView) (h : HasRecord r file recorded) → text ≡ record_text (upgraded recorded) → meaning text ≡ Ok (upgraded h.parsed)
+means_upgraded r file text recorded h says =
     let same : text ≡ record_text (upgraded h.parsed) = says ∙ ap (λ (x : RecordView). record_text (upgraded x)) h.whole ∙ same_text h.parsed h.streams in
-    ap meaning same ∙ again h.text h.parsed h.is_parsed.means
+    ap meaning same ∙ reads_again h.text h.parsed h.is_parsed.means

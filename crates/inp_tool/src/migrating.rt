@@ -1,7 +1,7 @@
 //! Migrating a record to the newest version of its text.
 ghost use Rattle.std.specs.Prelude.{◌≡◌, IfOk};
 ghost use Rattle.inp_canon.specs.Text.{record_text};
-ghost use Rattle.inp_upgrade.specs.Upgrade.{upgraded, ReadsAgain};
+ghost use Rattle.inp_upgrade.specs.Upgrade.{upgraded};
 
 use inp_model::NoMemory;
 use inp_record::{Record, print};
@@ -11,7 +11,6 @@ use std::alloc::Global;
 /// The canonical text of the record in the newest version.
 pub(crate) fn migrated_text(alloc: Global, recorded: Record) -> Result<Vec<u8>, NoMemory>
     ensures text { IfOk result (λ text. text.items ≡ record_text (upgraded recorded)) }
-    ensures reads_again { ReadsAgain }
 {
     print(alloc, &upgrade(recorded))
 }
