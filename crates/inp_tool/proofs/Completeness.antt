@@ -15,7 +15,6 @@ use Rattle.inp_canon.specs.Text.{record_text}
 use Rattle.inp_record.specs.declared.refused.Refused.{Refused as Refusal}
 use Rattle.inp_record.specs.Meaning.{meaning}
 use Rattle.inp_script.specs.declared.run.Run.{Run}
-use Rattle.inp_order.specs.Play.{IsPlay}
 use Rattle.inp_upgrade.specs.Upgrade.{upgraded}
 use Rattle.inp_report.specs.Report.{report}
 use Rattle.inp_report.specs.Summary.{summary}

@@ -3,7 +3,6 @@ use Rattle.std.proofs.Common.{◌≡◌, ℕ, ◌<◌, ◌≤◌, Bool, List, re
 use Rattle.std.specs.Prelude.{◌≢◌, ◌⊎◌}
 use Rattle.inp_edge.specs.File.{IsMissing}
 use Rattle.inp_edge.specs.declared.input.TheConstants.{INPUT_LIMIT}
-use Rattle.inp_args.specs.declared.request.Request.{Request}
 use Rattle.inp_args.specs.declared.request.Request.TheVariants.{Play, Migrate, Make}
 use Rattle.inp_args.specs.Request.{requested, record_file}
 use Rattle.inp_record.specs.declared.refused.Refused.{Refused as Refusal}

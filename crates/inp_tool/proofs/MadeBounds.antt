@@ -1,26 +1,25 @@
 -- No job of a record that is made stops since a history is full.
-use Rattle.std.proofs.Common.{◌≡◌, ◌≤◌, ◌<◌, ℕ, zero, suc, ◌+◌, ◌*◌, ◌/◌, ◌%◌, nat_eq, Bool, true, false, if◌then◌else◌, ◌||◌, List, [], ◌∷◌, ◌++◌, map, length, refl, sym, ap, subst, ◌∙◌, arith, Option, Some, None}
-use Rattle.std.specs.Prelude.{◌&&◌, codes, nat_le, filter, slice_get, flat_map, option_map, option_and_then}
-use Rattle.std.specs.List.{enumerate_from, range_with_len, list_any}
+use Rattle.std.proofs.Common.{◌≡◌, ◌≤◌, ℕ, zero, suc, ◌+◌, ◌*◌, ◌%◌, nat_eq, Bool, true, false, if◌then◌else◌, ◌||◌, List, [], ◌∷◌, ◌++◌, map, length, refl, sym, ap, subst, ◌∙◌, arith, Option, Some, None}
+use Rattle.std.specs.Prelude.{◌&&◌, codes, nat_le, filter, slice_get, flat_map, option_and_then}
+use Rattle.std.specs.List.{enumerate_from, range_with_len}
 use Rattle.std.proofs.lemmas.Bool.{ne_eqb}
 use Rattle.std.proofs.lemmas.Bool.Decides.{nat_tests}
-use Rattle.inp_args.specs.declared.request.Request.{Request}
 use Rattle.inp_args.specs.declared.request.Request.TheVariants.{Make}
 use Rattle.inp_args.specs.Command.{is_taken, is_given, text_of}
 use Rattle.inp_args.specs.Number.{number_of}
 use Rattle.inp_args.specs.Request.{count_of, made_of, request_of, migration_of, requested, request_with, idle_of}
 use Rattle.inp_model.specs.declared.event.Event.{Event}
 use Rattle.inp_model.specs.declared.step.Step.{Step}
-use Rattle.inp_model.specs.Description.{Description, ring}
+use Rattle.inp_model.specs.Description.{ring}
 use Rattle.inp_actors.specs.declared.command.Command.TheVariants as command
 use Rattle.inp_actors.specs.declared.line.Line.{Line}
 use Rattle.inp_actors.specs.Record.{RecordView}
-use Rattle.inp_make.specs.Generated.{pad, finger, fast, mid, slow, line, moment_of, injected, finger_events, touches, frame_events, follows, frame_lines, opens, lines, generated}
+use Rattle.inp_make.specs.Generated.{pad, fast, mid, slow, line, moment_of, injected, finger_events, touches, frame_events, follows, frame_lines, opens, lines, generated}
 use Rattle.inp_reader.specs.Reading.{queries, axes_among}
 use Rattle.inp_script.specs.declared.run.Run.{Run}
 use Rattle.inp_script.specs.declared.stop.Stop.{Stop}
-use Rattle.inp_script.specs.Job.{ActorView, JobView, job_end, last_stop}
-use Rattle.inp_order.specs.Play.{Stage, first_stage, after_lines, jobs_on, run_of, runs_of, play, IsPlay}
+use Rattle.inp_script.specs.Job.{ActorView, job_end, last_stop}
+use Rattle.inp_order.specs.Play.{Stage, first_stage, after_lines, run_of, runs_of, play, IsPlay}
 use Rattle.inp_play.proofs.Follows.{HasQueries}
 use Rattle.inp_play.proofs.Growth.{IsBound, IsShort, Adds, event-bound, open-bound, follow-bound, adds-none, adds-line, adds-more, adds-append}
 use Rattle.inp_runs.proofs.Listing.{IsImage, option_map-some}
