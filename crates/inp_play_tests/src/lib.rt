@@ -2,7 +2,7 @@
 //!
 //! A crate with tests is proved twice, once without and once with them. So the crates under test have none of their own:
 //! their tests stand here, over public calls alone, in one file for each crate, and in `waiting` that of a client of
-//! `inp_script` on a device. `common` has the actors of their records.
+//! `inp_script` on a device. `common` has the keyboard and the actors of their records.
 #![tactic(auto)]
 
 #[cfg(test)]

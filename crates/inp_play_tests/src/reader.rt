@@ -1,22 +1,14 @@
 //! A reader over a device whose history is full behind the open.
 
-use inp_caps::{Caps, CapsBuilder, CapsRefused};
+use crate::common::full_keyboard;
 use inp_device::Device;
-use inp_model::{EV_KEY, KEY_A, Refusal};
+use inp_model::Refusal;
 use inp_reader::{Mode, Next, Phase, Reader, Started};
 use std::test::Fail;
 
-/// A keyboard whose history has at most one step.
-fn keyboard() -> Result<Caps, CapsRefused> {
-    let mut builder = CapsBuilder::new();
-    builder.code(EV_KEY, KEY_A)?;
-    builder.log(1)?;
-    Ok(builder.build())
-}
-
 #[test]
 fn a_start_is_refused_behind_its_open(rt: HostRuntime) -> Result<(), Fail> {
-    let caps = keyboard()?;
+    let caps = full_keyboard();
     let mut device = Device::new(rt.alloc(), caps.copy())?;
     let mut reader = Reader::new(rt.alloc(), &caps)?;
     let (at, why) = (1, Refusal::LogFull);

@@ -5,14 +5,13 @@ ghost use Rattle.inp_actors.specs.declared.line.Line.{Line as LineText};
 ghost use Rattle.inp_model.specs.Description.{one_key};
 ghost use Rattle.inp_model.specs.Injecting.{AreInTime};
 
-use crate::common::actor;
+use crate::common::{actor, full_keyboard, keyboard};
 use inp_actors::{
     Actors, Command, DeviceText, Devices, FileName, Line, Lines, Name, Record, Role, Stamps,
     Streams,
 };
-use inp_caps::{Caps, CapsBuilder};
-use inp_edge::{Gate, OpenGate};
 use inp_device::Device;
+use inp_edge::{Gate, OpenGate};
 use inp_model::{
     EV_KEY, EV_SYN, Evdev, Event, Injected, KEY_A, NoMemory, Refusal, Reply, SYN_REPORT, Stamped,
     Step, Taken,
@@ -53,16 +52,6 @@ impl Evdev for FullDevice {
     }
 }
 
-/// The keyboard.
-fn keyboard() -> Caps
-    ensures { result ≡ record one_key { log_limit = 1 } }
-{
-    let mut builder = CapsBuilder::new();
-    builder.code(EV_KEY, KEY_A).unwrap();
-    builder.log(1).unwrap();
-    builder.build()
-}
-
 /// A source that presses a key twice, a client that opens, and a tap that reads and asks for keys.
 fn record(alloc: Global) -> Result<Record, NoMemory>
     ensures actors { IfOk result (λ rec. length rec.actors ≡ 3) }
@@ -72,7 +61,7 @@ fn record(alloc: Global) -> Result<Record, NoMemory>
     let mut devices = Devices::new(alloc);
     devices.push(DeviceText {
         name: Name::new(b"kbd"),
-        caps: keyboard(),
+        caps: full_keyboard(),
     })?;
     let mut actors = Actors::new(alloc);
     actors.push(actor(b"s", Role::Source, 0))?;
@@ -200,15 +189,6 @@ fn a_gate_is_told_the_job_and_the_call(rt: HostRuntime) -> Result<(), Fail> {
     Ok(())
 }
 
-/// A keyboard with the key A.
-fn long_keyboard() -> Caps
-    ensures { result ≡ one_key }
-{
-    let mut builder = CapsBuilder::new();
-    builder.code(EV_KEY, KEY_A).unwrap();
-    builder.build()
-}
-
 /// So many reports, at the moment 0.
 fn reports(alloc: Global, count: u32) -> Result<Stamps, NoMemory>
     ensures in_time { IfOk result (λ stamps. AreInTime stamps) }
@@ -237,7 +217,7 @@ fn stream_record(alloc: Global, count: u32) -> Result<Record, NoMemory>
     let mut devices = Devices::new(alloc);
     devices.push(DeviceText {
         name: Name::new(b"kbd"),
-        caps: long_keyboard(),
+        caps: keyboard(),
     })?;
     let mut actors = Actors::new(alloc);
     actors.push(actor(b"s", Role::Source, 0))?;
@@ -256,7 +236,7 @@ fn stream_record(alloc: Global, count: u32) -> Result<Record, NoMemory>
 fn a_long_stream_is_injected_by_three_calls(rt: HostRuntime) -> Result<(), Fail> {
     let rec = stream_record(rt.alloc(), 2500)?;
     let gate = OpenGate;
-    let mut dev = Gated::new(Device::new(rt.alloc(), long_keyboard())?, &gate, 0);
+    let mut dev = Gated::new(Device::new(rt.alloc(), keyboard())?, &gate, 0);
     let mut actor = Actor::new(rt.alloc(), &rec, 0)?;
     actor.line(&mut dev, &rec, 0, None)?;
     assert_eq!(rt; dev.calls, 3);

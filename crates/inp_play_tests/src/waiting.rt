@@ -5,23 +5,13 @@ ghost use Rattle.inp_actors.specs.declared.device_text.DeviceText.{DeviceText};
 ghost use Rattle.inp_model.specs.Description.{one_key};
 ghost use Rattle.inp_script.specs.Doing.{HasActor, IsLineOf, source_count};
 
-use crate::common::actor;
+use crate::common::{actor, keyboard};
 use inp_actors::{Actors, Command, DeviceText, Devices, Line, Lines, Name, Record, Role, Streams};
-use inp_caps::{Caps, CapsBuilder};
 use inp_device::Device;
-use inp_model::{EV_KEY, KEY_A, NoMemory};
+use inp_model::NoMemory;
 use inp_script::{Actor, JobEnd, Sight, Stop, Waiting};
 use std::alloc::Global;
 use std::test::Fail;
-
-/// A keyboard with the key A.
-fn keyboard() -> Caps
-    ensures { result ≡ one_key }
-{
-    let mut builder = CapsBuilder::new();
-    builder.code(EV_KEY, KEY_A).unwrap();
-    builder.build()
-}
 
 /// A keyboard with a source that does nothing, and a client that opens and follows.
 fn record(alloc: Global) -> Result<Record, NoMemory>
