@@ -11,7 +11,7 @@ use Rattle.inp_record.specs.declared.item.Item.TheVariants.{Header, Device, Hint
 use Rattle.inp_record.specs.declared.place.Place.TheVariants.{Headed, Describing, Naming, Acting}
 use Rattle.inp_record.specs.Place.{is_start, is_out_of_place}
 use Rattle.inp_record.specs.Past.{Past, place_of, version_of, with_latest, streams_in, no_given, context_of}
-use Rattle.inp_record.specs.Meaning.{is_twice, is_too_many, record_of, record_in, meaning}
+use Rattle.inp_record.specs.Meaning.{is_later_command, is_twice, is_too_many, record_of, record_in, meaning}
 use Rattle.inp_record.proofs.Sayable.{keyword_for, IsSayable, IsAccepted}
 use Rattle.inp_record.proofs.CanonPasts.{WereAccepted, meaning_of_past}
 use Rattle.inp_record.proofs.RoundTrip.{no_start, read_again as past_read_again}
@@ -103,11 +103,18 @@ raised_version (Header version ∷ past) were s = refl
 raised_version (Device name ∷ past) were s = raised_version past were.1 were.0.in_place.0
 raised_version (_ ∷ past) were s = raised_version past were.1 were.0.in_place.0
 
+-- under version 2 there is each command
+each_command : (c : Context) (i : Item) → c.version ≡ 2 → is_later_command c i ≡ false
+each_command c (Action actor command) two = rw two refl
+each_command c (Header version) two = refl
+each_command c _ two = refl
+
 -- a line that was accepted is accepted where the version alone differs, and is 2 behind a header
 accepted_alike : (past new : Past) (i : Item) → context_of new ≡ record (context_of past) { version = version_of new } → (is_start (place_of past) ≡ false → version_of new ≡ 2) → IsAccepted past i → IsAccepted new (raised_item i)
 accepted_alike past new (Header version) same two a = record {
   sayable = (omega arith, omega arith);
   in_place = ap (λ (c : Context). is_start c.place) same ∙ a.in_place;
+  in_version = refl;
   once = refl;
   few = refl;
   few_slots = refl;
@@ -116,6 +123,7 @@ accepted_alike past new (Header version) same two a = record {
 accepted_alike past new (Slots count) same two a = record {
   sayable = a.sayable;
   in_place = subst (λ (c : Context). (is_start c.place ≡ false) × (is_out_of_place c.place (keyword_for (Slots count)) ≡ false)) (sym same) a.in_place;
+  in_version = refl;
   once = subst (λ (c : Context). is_twice c (Slots count) ≡ false) (sym same) a.once;
   few = refl;
   few_slots = rw (two a.in_place.0) refl;
@@ -124,6 +132,7 @@ accepted_alike past new (Slots count) same two a = record {
 accepted_alike past new i same two a = record {
   sayable = subst (λ (c : Context). IsSayable c.actors c.streams i) (sym same) a.sayable;
   in_place = subst (λ (c : Context). (is_start c.place ≡ false) × (is_out_of_place c.place (keyword_for i) ≡ false)) (sym same) a.in_place;
+  in_version = each_command (context_of new) i (two a.in_place.0);
   once = subst (λ (c : Context). is_twice c i ≡ false) (sym same) a.once;
   few = subst (λ (c : Context). is_too_many c i ≡ false) (sym same) a.few;
   few_slots = refl;
