@@ -110,7 +110,7 @@ missing_shown words r w found end cause (inr part) file asked missing = inr (inl
 
 text_within : (r : Reads) (file : List ℕ) (refused : Refusal) → HasBadText r file refused ⊎ HasBadStream r file refused → RanOut r
 text_within r file refused (inl h) = ran_out_behind r file h.text h.read
-text_within r file refused (inr h) = ran_out_behind r h.bad.name h.bad.bytes h.bad.read
+text_within r file refused (inr h) = ran_out_behind r h.bad.stream.name h.bad.bytes h.bad.read
 
 not_past : (r : Reads) → r.after.given ≤ INPUT_LIMIT → INPUT_LIMIT < r.after.given → ⊥
 not_past r within past = omega arith
