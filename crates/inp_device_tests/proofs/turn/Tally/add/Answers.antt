@@ -1,7 +1,7 @@
 use Rattle.std.proofs.Common.{◌≡◌, ℕ, Bool, true, false, List, [], ◌∷◌, ◌++◌, sym, ◌∙◌, if◌then◌else◌}
 use Rattle.std.proofs.lemmas.List.{append-nil}
 use mathlib.Core.List.{IsPrefix}
-use Rattle.inp_core_tests.proofs.turn.Tally.add.Goals as goal
+use Rattle.inp_device_tests.proofs.turn.Tally.add.Goals as goal
 
 -- a list with one number more, or the same, begins with the list
 prefix_push : (xs ys : List ℕ) (x : ℕ) (b : Bool) → ys ≡ (if b then xs ++ x ∷ [] else xs) → IsPrefix xs ys
