@@ -49,20 +49,22 @@ class MigratedRecords(FolderCase):
 
     def test_a_migrated_record_plays_as_before(self):
         for folder in (EXAMPLES, RECORDS):
-            for stream in folder.glob("*.bin"):
-                shutil.copy(stream, self.folder)
-            for record in sorted(folder.glob("*.rec")):
+            copy = self.folder / folder.name
+            shutil.copytree(folder, copy)
+            for record in sorted(copy.glob("*.rec")):
                 with self.subTest(record=record.stem):
-                    self.plays_as_before(record, folder)
+                    self.plays_as_before(record)
 
-    def plays_as_before(self, record, folder):
+    def plays_as_before(self, record):
+        """Plays what a record is migrated to beside the files of its streams."""
+        folder = record.parent
         migrated = run(["--migrate", record.name], folder)
         self.assertEqual((0, b""), (migrated.status, migrated.errors))
         self.assertEqual(b"inputrecord 2\n", migrated.text[: migrated.text.find(b"\n") + 1])
-        (self.folder / "migrated").write_bytes(migrated.text)
-        assert_run(self, run(["--migrate", "migrated"], self.folder), 0, migrated.text)
+        (folder / "migrated").write_bytes(migrated.text)
+        assert_run(self, run(["--migrate", "migrated"], folder), 0, migrated.text)
         wanted = run(["--history", record.name], folder)
-        assert_run(self, run(["--history", "migrated"], self.folder), wanted.status, wanted.text)
+        assert_run(self, run(["--history", "migrated"], folder), wanted.status, wanted.text)
 
     def test_files_and_lines_are_judged_as_by_a_play(self):
         (self.folder / "bad").write_bytes(b"inputrecord 1\nhint 8\n")
