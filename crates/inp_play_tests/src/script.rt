@@ -1,21 +1,12 @@
 //! Actors over an evdev of a device whose history is full.
 ghost use Rattle.std.specs.Prelude.{◌≡◌, ◌<◌, ℕ, length, IfOk, slice_get, Some};
 ghost use Rattle.inp_actors.specs.declared.device_text.DeviceText.{DeviceText};
-ghost use Rattle.inp_actors.specs.declared.line.Line.{Line as LineText};
 ghost use Rattle.inp_model.specs.Description.{one_key};
-ghost use Rattle.inp_model.specs.Injecting.{AreInTime};
 
-use crate::common::{actor, full_keyboard, keyboard};
-use inp_actors::{
-    Actors, Command, DeviceText, Devices, FileName, Line, Lines, Name, Record, Role, Stamps,
-    Streams,
-};
-use inp_device::Device;
+use crate::common::{actor, full_keyboard};
+use inp_actors::{Actors, Command, DeviceText, Devices, Line, Lines, Name, Record, Role, Streams};
 use inp_edge::{Gate, OpenGate};
-use inp_model::{
-    EV_KEY, EV_SYN, Evdev, Event, Injected, KEY_A, NoMemory, Refusal, Reply, SYN_REPORT, Stamped,
-    Step, Taken,
-};
+use inp_model::{EV_KEY, Evdev, Injected, KEY_A, NoMemory, Refusal, Reply, Stamped, Step, Taken};
 use inp_script::{Actor, Gated, JobEnd, Stop};
 use std::alloc::Global;
 use std::sync::atomic::{AtomicU64, Ordering};
@@ -186,61 +177,5 @@ fn a_gate_is_told_the_job_and_the_call(rt: HostRuntime) -> Result<(), Fail> {
         assert_eq!(rt; gate.job.load(Ordering::SeqCst), 7);
         assert_eq!(rt; gate.call.load(Ordering::SeqCst), call);
     }
-    Ok(())
-}
-
-/// So many reports, at the moment 0.
-fn reports(alloc: Global, count: u32) -> Result<Stamps, NoMemory>
-    ensures in_time { IfOk result (λ stamps. AreInTime stamps) }
-{
-    let mut stamps = Stamps::new(alloc);
-    let event = Event {
-        kind: EV_SYN,
-        code: SYN_REPORT,
-        value: 0,
-    };
-    for _ in 0..count {
-        stamps.push(Stamped { event, now: 0 })?;
-    }
-    Ok(stamps)
-}
-
-/// A source with a stream of so many reports.
-fn stream_record(alloc: Global, count: u32) -> Result<Record, NoMemory>
-    ensures actors { IfOk result (λ rec. length rec.actors ≡ 1) }
-    ensures lines { IfOk result (λ rec. (i : ℕ) → (line : LineText) →
-        slice_get rec.lines i ≡ Some line → line.actor ≡ 0) }
-    ensures line { IfOk result (λ rec. length rec.lines ≡ 1) }
-    ensures long { IfOk result (λ rec. (i : ℕ) → (d : DeviceText) →
-        slice_get rec.devices i ≡ Some d → d.caps ≡ one_key) }
-{
-    let mut devices = Devices::new(alloc);
-    devices.push(DeviceText {
-        name: Name::new(b"kbd"),
-        caps: keyboard(),
-    })?;
-    let mut actors = Actors::new(alloc);
-    actors.push(actor(b"s", Role::Source, 0))?;
-    let mut lines = Lines::new(alloc);
-    let file = FileName::new(String::new(alloc));
-    lines.push(Line {
-        actor: 0,
-        command: Command::Stream { file, index: 0 },
-    })?;
-    let mut streams = Streams::new(alloc);
-    streams.push(reports(alloc, count)?)?;
-    Ok(Record::new(1, devices, actors, lines, streams))
-}
-
-#[test]
-fn a_long_stream_is_injected_by_three_calls(rt: HostRuntime) -> Result<(), Fail> {
-    let rec = stream_record(rt.alloc(), 2500)?;
-    let gate = OpenGate;
-    let mut dev = Gated::new(Device::new(rt.alloc(), keyboard())?, &gate, 0);
-    let mut actor = Actor::new(rt.alloc(), &rec, 0)?;
-    actor.line(&mut dev, &rec, 0, None)?;
-    assert_eq!(rt; dev.calls, 3);
-    assert_eq!(rt; dev.inner.history().len(), 2500);
-    assert_eq!(rt; actor.finish().sight().len(), 2500, "each event is a call");
     Ok(())
 }
