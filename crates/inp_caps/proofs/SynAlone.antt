@@ -26,6 +26,7 @@ IsDescription-syn_alone = record {
   leds = AreCodes-none 15;
   sounds = AreCodes-none 7;
   infos = AreAxes-none;
+  filters = record { few = omega arith; good = refl };
   slots = omega arith;
   hint = (omega arith, omega arith);
   log_limit = (omega arith, omega arith);

@@ -48,6 +48,7 @@ IsDescription-one_key = record {
   leds = AreCodes-none 15;
   sounds = AreCodes-none 7;
   infos = AreAxes-none;
+  filters = record { few = omega arith; good = refl };
   slots = omega arith;
   hint = (omega arith, omega arith);
   log_limit = (omega arith, omega arith);

@@ -1,11 +1,14 @@
 -- What a device is: which types and codes it supports, its axes, and its numbers (docs/RULES.md, "What a device has").
-use Rattle.std.specs.Prelude.{◌≡◌, ℕ, zero, suc, ◌*◌, ◌<◌, ◌≤◌, pos, int_lt, Bool, true, false, ◌&&◌, ◌||◌, not, if◌then◌else◌, nat_eq, nat_le, nat_lt, List, ◌∷◌, ◌++◌, length, replicate, slice_index_or}
+use Rattle.std.specs.Prelude.{◌≡◌, ℕ, zero, suc, ◌*◌, ◌<◌, ◌≤◌, pos, int_lt, Bool, true, false, ◌&&◌, ◌||◌, not, if◌then◌else◌, nat_eq, nat_le, nat_lt, List, [], ◌∷◌, ◌++◌, length, replicate, slice_index_or}
+use Rattle.std.specs.List.{list_all}
 use Rattle.std.specs.Ordering.{int_eq}
 use Rattle.inp_model.specs.declared.event.TheConstants.{EV_SYN, EV_KEY, EV_REL, EV_ABS, EV_MSC, EV_SW, EV_LED, EV_SND, EV_REP, EV_MAX, SYN_DROPPED, KEY_MAX, REL_MAX, ABS_MAX, MSC_MAX, SW_MAX, LED_MAX, SND_MAX, REP_MAX}
 use Rattle.inp_model.specs.declared.multi_touch.TheConstants.{ABS_MT_SLOT, ABS_MT_TOUCH_MAJOR, ABS_MT_TRACKING_ID, ABS_MT_TOOL_Y}
-use Rattle.inp_model.specs.declared.limits.TheConstants.{SLOTS_MAX, HINT_MIN, HINT_MAX, LOG_MAX, FUZZ_MAX}
+use Rattle.inp_model.specs.declared.limits.TheConstants.{SLOTS_MAX, HINT_MIN, HINT_MAX, LOG_MAX, FUZZ_MAX, FILTERS_MAX, BOUNCE_MAX}
 use Rattle.inp_model.specs.declared.stamped.TheConstants.{MOMENT_MAX}
 use Rattle.inp_model.specs.declared.axis_info.AxisInfo.{AxisInfo}
+use Rattle.inp_model.specs.declared.filter.Filter.{Filter}
+use Rattle.inp_model.specs.declared.filter.Filter.TheVariants.{Eat, Norepeat, Chord, Bounce}
 use Rattle.inp_model.specs.declared.clock.Clock.{Clock}
 use Rattle.inp_model.specs.declared.clock.Clock.TheVariants.{Realtime, Monotonic, Boottime}
 
@@ -22,6 +25,8 @@ pub record Description : Type 0 where
   pub sounds : List Bool
   -- at k, the axis k with the value that it has before any event
   pub infos : List AxisInfo
+  -- the filters, each of which is given what the one before it left
+  pub filters : List Filter
   -- how many multi-touch slots there are, 0 for none
   pub slots : ℕ
   -- how many events a frame may gather before it is cut
@@ -109,6 +114,32 @@ is_bad_axis code i =
     || (is_multi_touch_code code && not (int_eq i.value (pos 0)))
     || ((nat_eq code ABS_MT_SLOT || nat_eq code ABS_MT_TRACKING_ID) && not (int_eq i.fuzz (pos 0)))
 
+-- the greatest code of a type
+abbrev pub greatest_code : ℕ → ℕ
+greatest_code kind =
+    if nat_eq kind EV_KEY then KEY_MAX
+    else if nat_eq kind EV_REL then REL_MAX
+    else if nat_eq kind EV_ABS then ABS_MAX
+    else if nat_eq kind EV_MSC then MSC_MAX
+    else if nat_eq kind EV_SW then SW_MAX
+    else if nat_eq kind EV_LED then LED_MAX
+    else if nat_eq kind EV_SND then SND_MAX
+    else if nat_eq kind EV_REP then REP_MAX
+    else SYN_DROPPED
+
+-- a code that a filter may speak of: of a type other than EV_SYN, at most the type's greatest; no key has the code 0
+abbrev pub is_filter_code : ℕ → ℕ → Bool
+is_filter_code kind code =
+    is_kind kind && not (nat_eq kind EV_SYN) && nat_le code (greatest_code kind)
+    && not (nat_eq kind EV_KEY && nat_eq code 0)
+
+-- the filters that there are (docs/RULES.md, "Filters")
+abbrev pub is_filter : Filter → Bool
+is_filter (Eat kind code) = is_filter_code kind code
+is_filter Norepeat = true
+is_filter (Chord first second) = is_filter_code EV_KEY first && is_filter_code EV_KEY second && not (nat_eq first second)
+is_filter (Bounce code micros) = is_filter_code EV_KEY code && nat_le 1 micros && nat_le micros BOUNCE_MAX
+
 -- so many truth values, none of them true past the greatest code
 pub record AreCodes (count greatest : ℕ) (codes : List Bool) : Type 0 where
   pub length_is : length codes ≡ count
@@ -118,6 +149,11 @@ pub record AreCodes (count greatest : ℕ) (codes : List Bool) : Type 0 where
 pub record AreAxes (infos : List AxisInfo) : Type 0 where
   pub length_is : length infos ≡ 64
   pub good : (code : ℕ) → is_bad_axis code (slice_index_or infos code no_info) ≡ false
+
+-- at most eight filters, each of them one that there is
+pub record AreFilters (filters : List Filter) : Type 0 where
+  pub few : length filters ≤ FILTERS_MAX
+  pub good : list_all is_filter filters ≡ true
 
 pub record IsDescription (d : Description) : Type 0 where
   pub kinds : AreCodes 64 EV_MAX d.kinds
@@ -132,6 +168,7 @@ pub record IsDescription (d : Description) : Type 0 where
   pub leds : AreCodes 64 LED_MAX d.leds
   pub sounds : AreCodes 64 SND_MAX d.sounds
   pub infos : AreAxes d.infos
+  pub filters : AreFilters d.filters
   pub slots : d.slots ≤ SLOTS_MAX
   pub hint : (HINT_MIN ≤ d.hint) × (d.hint ≤ HINT_MAX)
   pub log_limit : (1 ≤ d.log_limit) × (d.log_limit ≤ LOG_MAX)
@@ -150,6 +187,7 @@ one_key = record {
   leds = replicate 64 false;
   sounds = replicate 64 false;
   infos = replicate 64 no_info;
+  filters = [];
   slots = 0;
   hint = 16;
   log_limit = 1048576;

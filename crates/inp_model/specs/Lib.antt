@@ -1,5 +1,6 @@
 pub mod Description
 pub mod Event
+pub mod Filter
 pub mod RawItem
 pub mod Defuzz
 pub mod State
@@ -25,4 +26,5 @@ pub mod SlotExamples
 pub mod ClientExamples
 pub mod RepeatExamples
 pub mod AxisExamples
+pub mod FilterExamples
 pub mod InjectingExamples

@@ -8,17 +8,18 @@
 //! are. A history is a list of accepted steps; `Step` reads one step, and `Past` what a history says of its clients.
 //! From the history and the description alone follow the raw events and descriptions of axes (`Raw`), the state by the last write (`State`: keys
 //! and the like, axes, and the slots of multi-touch devices, with `Defuzz` for axes and slots), the events passed
-//! (`Passed`), the frames that they are cut into (`Cut`, `Frame`), each client's queue (`Queue`) and the reply to the
-//! next step (`Reply`). `Run` says when a caller's calls are a legal run of a history, and `Evdev` what one call of
+//! (`Passed`), the frames that they are cut into (`Cut`, `Frame`), what filters leave of them (`Filter`, `Left`), each
+//! client's queue (`Queue`) and the reply to the next step (`Reply`). `Run` says when a caller's calls are a legal run of a history, and `Evdev` what one call of
 //! whatever makes steps leaves of what its caller sees, with `Leaves` for several and
 //! `Injecting` for a call that injects many events. `examples`, `query_examples`, `slot_examples`, `client_examples`,
-//! `repeat_examples`, `axis_examples` and `injecting_examples` show what the definitions compute on short histories.
+//! `repeat_examples`, `axis_examples`, `filter_examples` and `injecting_examples` show what the definitions compute on short histories.
 #![tactic(auto)]
 
 mod axis_info;
 mod clock;
 mod evdev;
 mod event;
+mod filter;
 mod injected;
 mod items;
 mod laws;
@@ -40,10 +41,13 @@ pub use event::{
     KEY_A, KEY_MAX, LED_MAX, MSC_MAX, REL_MAX, REP_DELAY, REP_MAX, REP_PERIOD, SND_MAX, SW_MAX,
     SYN_CONFIG, SYN_DROPPED, SYN_MT_REPORT, SYN_REPORT,
 };
+pub use filter::Filter;
 pub use injected::Injected;
 pub use items::{History, Items};
 pub use laws::injected_events_are_calls;
-pub use limits::{CLIENTS_MAX, FUZZ_MAX, HINT_MAX, HINT_MIN, LOG_MAX, SLOTS_MAX};
+pub use limits::{
+    BOUNCE_MAX, CLIENTS_MAX, FILTERS_MAX, FUZZ_MAX, HINT_MAX, HINT_MIN, LOG_MAX, SLOTS_MAX,
+};
 pub use multi_touch::{
     ABS_MT_BLOB_ID, ABS_MT_DISTANCE, ABS_MT_ORIENTATION, ABS_MT_POSITION_X, ABS_MT_POSITION_Y,
     ABS_MT_PRESSURE, ABS_MT_SLOT, ABS_MT_TOOL_TYPE, ABS_MT_TOOL_X, ABS_MT_TOOL_Y,
@@ -53,8 +57,8 @@ pub use multi_touch::{
 pub use no_memory::NoMemory;
 pub use reply::{Refusal, Reply};
 pub use short_histories::{
-    axis_examples, client_examples, examples, injecting_examples, query_examples, repeat_examples,
-    slot_examples,
+    axis_examples, client_examples, examples, filter_examples, injecting_examples, query_examples,
+    repeat_examples, slot_examples,
 };
 pub use stamped::{MOMENT_MAX, Stamped};
 pub use step::Step;

@@ -1,4 +1,4 @@
-//! The ranges of a description's numbers, and of a device's clients.
+//! The ranges of a description's numbers, and of a device's filters and clients.
 
 /// The greatest number of open clients of a device (this project's choice).
 pub const CLIENTS_MAX: u32 = 64;
@@ -27,3 +27,13 @@ const _: () = prove!(LOG_MAX == 8 * 1024 * 1024);
 pub const FUZZ_MAX: i32 = 1_073_741_824;
 
 const _: () = prove!(FUZZ_MAX == 1024 * 1024 * 1024);
+
+/// The greatest number of filters of a device (this project's choice).
+pub const FILTERS_MAX: u32 = 8;
+
+const _: () = prove!(FILTERS_MAX == 8);
+
+/// The longest time after a release in which a filter eats the next hold, in microseconds (this project's choice).
+pub const BOUNCE_MAX: u32 = 1_000_000;
+
+const _: () = prove!(BOUNCE_MAX == 1000 * 1000);

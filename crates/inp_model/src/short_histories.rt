@@ -4,6 +4,7 @@ ghost use Rattle.inp_model.specs.SlotExamples.{NamesTheSlot, TellsAllSlots, Tell
 ghost use Rattle.inp_model.specs.Examples.{RingOf128, ReadsAFrame, PassesAChangeOnce, ReadsNothing, NeedsAClient, ReadsNone, ReadsInParts, HidesAnOpenBatch, OffersAWholeFrame, PassesARepeat, KeepsTheKeyUp, IgnoresOthers, CutsAFullPacket, LosesAFullRing, LosesInAFrame, KeepsAllButOne, IsLegalAmongOthers, DescribesAKeyboard, PassesAnLedOnce, PassesASwitchOnce, PassesEachSound, PassesMotion, PassesAMove, PassesASetting};
 ghost use Rattle.inp_model.specs.ClientExamples.{LosesASmallRing, LosesBeforeTheReport, DiscardsAll, ForgetsAClosedClient, OpensSixtyFour, MasksAKey, MasksTypes, ChangesTheClock, KeepsTime, GrabsOnce, GrabsFrames, WritesToAll, RevokesForGood, RefusesInOrder};
 ghost use Rattle.inp_model.specs.AxisExamples.{DescribesAnAxis, MovesByTheNewFuzz, LeavesTheBatch, DescribesWhileInhibited, TakesAnyValue, RefusesDescriptions};
+ghost use Rattle.inp_model.specs.FilterExamples.{EatsAChord, EatsABounce, EatsAutorepeats, PassesByAGrab, LeavesAReport, GivesWhatIsLeft};
 ghost use Rattle.inp_model.specs.InjectingExamples.{CountsToTheLimit, EntersToTheLimit, CallsToTheLimit};
 ghost use Rattle.inp_model.specs.RepeatExamples.{RepeatsAKey, StopsAtARelease, RepeatsOnce, RepeatsTheLastKey, InhibitsADevice, InhibitsOnce, CountsEnds};
 
@@ -99,6 +100,16 @@ pub fn axis_examples()
     ensures inhibited { DescribesWhileInhibited }
     ensures value { TakesAnyValue }
     ensures refused { RefusesDescriptions }
+{}
+
+/// The same of devices with filters.
+pub fn filter_examples()
+    ensures chord { EatsAChord }
+    ensures bounce { EatsABounce }
+    ensures repeats { EatsAutorepeats }
+    ensures grab { PassesByAGrab }
+    ensures report { LeavesAReport }
+    ensures row { GivesWhatIsLeft }
 {}
 
 /// The same of many events that are injected by one call, at a limit of three steps.

@@ -1,10 +1,11 @@
--- What a filter eats of the events that it is given. No filter is given an event of EV_SYN, which is never eaten.
-use Rattle.std.specs.Prelude.{ℕ, ◌+◌, Bool, false, ◌&&◌, not, if◌then◌else◌, nat_eq, nat_lt, nat_le, List, [], ◌∷◌, Option, Some, None}
-use Rattle.inp_model.specs.declared.event.TheConstants.{EV_KEY}
+-- What a filter eats of the events that it is given, and what filters in a row do (docs/RULES.md, "Filters"). No filter is
+-- given an event of EV_SYN, which is never eaten.
+use Rattle.std.specs.Prelude.{ℕ, ◌+◌, Bool, false, ◌&&◌, ◌||◌, not, if◌then◌else◌, nat_eq, nat_lt, nat_le, List, [], ◌∷◌, Option, Some, None}
+use Rattle.inp_model.specs.declared.event.TheConstants.{EV_SYN, EV_KEY}
 use Rattle.inp_model.specs.declared.event.Event.{Event}
 use Rattle.inp_model.specs.Event.{is_set, is_repeat}
-use Rattle.inp_filter.specs.declared.filter.Filter.{Filter}
-use Rattle.inp_filter.specs.declared.filter.Filter.TheVariants.{Eat, Norepeat, Chord, Bounce}
+use Rattle.inp_model.specs.declared.filter.Filter.{Filter}
+use Rattle.inp_model.specs.declared.filter.Filter.TheVariants.{Eat, Norepeat, Chord, Bounce}
 
 -- an event of a frame, at the frame's moment
 pub record Timed : Type 0 where
@@ -105,3 +106,36 @@ eats (Bounce code micros) x before = is_in_hold code (is_bounced code micros) x 
 -- one more event that a filter is given
 abbrev pub given_more : Filter → Timed → List Given → List Given
 given_more f x before = with_verdict x (eats f x before) ∷ before
+
+-- Filters in a row. Events that came to filters are written newest first too.
+
+-- a filter was given these events, one after another
+unfoldable pub given_all : Filter → List Timed → List Given
+given_all f [] = []
+given_all f (x ∷ before) = given_more f x (given_all f before)
+
+-- those of them that it did not eat, which the next filter is given
+unfoldable pub left_by : Filter → List Timed → List Timed
+left_by f [] = []
+left_by f (x ∷ before) =
+    let rest = left_by f before in
+    if eats f x (given_all f before) then rest else x ∷ rest
+
+-- One of the filters in a row eats the event, behind the events that the first one was given before. Each filter is
+-- given what the one before it did not eat.
+unfoldable pub is_eaten : List Filter → Timed → List Timed → Bool
+is_eaten [] x before = false
+is_eaten (f ∷ fs) x before = eats f x (given_all f before) || is_eaten fs x (left_by f before)
+
+-- it separates frames, or tells of them: no filter sees it
+abbrev pub is_syn : Event → Bool
+is_syn e = nat_eq e.kind EV_SYN
+
+-- what the first filter was given after one more event of a frame that ends at this moment
+abbrev pub with_event : ℕ → Event → List Timed → List Timed
+with_event moment e before = if is_syn e then before else timed moment e ∷ before
+
+-- what the first filter was given after the frame
+unfoldable pub given_after : ℕ → List Timed → List Event → List Timed
+given_after moment before [] = before
+given_after moment before (e ∷ es) = given_after moment (with_event moment e before) es
