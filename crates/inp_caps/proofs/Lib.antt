@@ -1,3 +1,4 @@
+pub mod Filters
 pub mod Moves
 pub mod Rings
 pub mod Supported

@@ -1,9 +1,13 @@
 -- What each call of a builder adds to the description that it gathers.
-use Rattle.std.specs.Prelude.{ℕ, ◌-◌, ℤ, pos, Bool, true, false, ◌&&◌, if◌then◌else◌, nat_eq, nat_le, ◌∷◌, replicate, slice_set, slice_index_or}
+use Rattle.std.specs.Prelude.{ℕ, ◌-◌, ℤ, pos, Bool, true, false, ◌&&◌, not, if◌then◌else◌, nat_eq, nat_le, [], ◌∷◌, ◌++◌, length, replicate, Result, Ok, Err, slice_set, slice_index_or}
 use Rattle.inp_model.specs.declared.event.TheConstants.{EV_KEY, EV_REL, EV_ABS, EV_MSC, EV_SW, EV_LED, EV_SND, EV_REP, KEY_MAX, REL_MAX, MSC_MAX, SW_MAX, LED_MAX, SND_MAX, REP_MAX}
 use Rattle.inp_model.specs.declared.multi_touch.TheConstants.{ABS_MT_SLOT, ABS_MT_TRACKING_ID}
 use Rattle.inp_model.specs.declared.axis_info.AxisInfo.{AxisInfo}
-use Rattle.inp_model.specs.Description.{Description, no_info}
+use Rattle.inp_model.specs.declared.filter.Filter.{Filter}
+use Rattle.inp_model.specs.declared.limits.TheConstants.{FILTERS_MAX}
+use Rattle.inp_caps.specs.declared.caps_refused.CapsRefused.{CapsRefused}
+use Rattle.inp_caps.specs.declared.caps_refused.CapsRefused.TheVariants.{BadCode, BadFilter}
+use Rattle.inp_model.specs.Description.{Description, no_info, is_filter}
 
 -- EV_SYN alone, the default hint and the default log limit
 abbrev pub syn_alone : Description
@@ -17,6 +21,7 @@ syn_alone = record {
   leds = replicate 64 false;
   sounds = replicate 64 false;
   infos = replicate 64 no_info;
+  filters = [];
   slots = 0;
   hint = 16;
   log_limit = 1048576;
@@ -52,6 +57,17 @@ with_code d kind code =
 
 abbrev pub with_axis : Description → ℕ → AxisInfo → Description
 with_axis d code i = record d { axes = slice_set d.axes code true; infos = slice_set d.infos code i }
+
+-- one more filter, behind the others
+abbrev pub with_filter : Description → Filter → Description
+with_filter d filter = record d { filters = d.filters ++ filter ∷ [] }
+
+-- what a builder answers where it is asked for one more filter
+abbrev pub filter_answer : Description → Filter → Result (Unit {0}) CapsRefused
+filter_answer d filter =
+    if not (is_filter filter) then Err BadCode
+    else if nat_eq (length d.filters) FILTERS_MAX then Err BadFilter
+    else Ok tt
 
 -- an axis from 0 to a maximum, where it was not described
 abbrev pub with_default_axis : Description → ℕ → ℤ → Description

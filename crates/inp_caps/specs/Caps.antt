@@ -1,4 +1,6 @@
 -- How a description is kept.
+use Rattle.std.specs.Prelude.{◌≡◌, ◌≤◌, length, take}
+use Rattle.inp_model.specs.declared.limits.TheConstants.{FILTERS_MAX}
 use Rattle.inp_model.specs.Description.{Description, IsDescription}
 use Rattle.inp_caps.specs.declared.caps.Caps.TheInside.{Inside}
 
@@ -13,6 +15,7 @@ description c = record {
   leds = c.leds;
   sounds = c.sounds;
   infos = c.infos;
+  filters = take c.filter_count c.filters;
   slots = c.slots;
   hint = c.hint;
   log_limit = c.log;
@@ -20,5 +23,8 @@ description c = record {
   boottime = c.boottime;
 }
 
-abbrev pub IsCaps : Inside → Type 0
-IsCaps c = IsDescription (description c)
+-- what is kept is a description; of the places for filters only so many are in use
+pub record IsCaps (c : Inside) : Type 0 where
+  pub description_is : IsDescription (description c)
+  pub places : length c.filters ≡ FILTERS_MAX
+  pub in_use : c.filter_count ≤ FILTERS_MAX

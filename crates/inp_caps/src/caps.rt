@@ -1,13 +1,13 @@
 //! The description of a device.
-ghost use Rattle.std.specs.Prelude.{◌≡◌, ◌<◌, ◌≤◌, true, false, length, slice_index_or, ◌∷◌, replicate};
-ghost use Rattle.inp_model.specs.Description.{has_kind, has_code, supports, info, ring, offset, is_kind, is_bad_axis, IsDescription};
-ghost use Rattle.inp_caps.specs.Builder.{syn_alone, with_kind, with_code, with_axis, with_default_axis, with_slot_axes, is_code};
+ghost use Rattle.std.specs.Prelude.{◌≡◌, ◌<◌, ◌≤◌, true, false, length, slice_get, slice_index_or, ◌∷◌, replicate, IfSome};
+ghost use Rattle.inp_model.specs.Description.{has_kind, has_code, supports, info, ring, offset, is_kind, is_bad_axis, is_filter, IsDescription};
+ghost use Rattle.inp_caps.specs.Builder.{syn_alone, with_kind, with_code, with_axis, with_default_axis, with_slot_axes, with_filter, is_code};
 
 use inp_bits::Bits;
 use inp_model::{
     ABS_MAX, ABS_MT_SLOT, ABS_MT_TRACKING_ID, AxisInfo, Clock, EV_ABS, EV_KEY, EV_LED, EV_MSC,
-    EV_REL, EV_REP, EV_SND, EV_SW, EV_SYN, HINT_MAX, HINT_MIN, LOG_MAX, MOMENT_MAX, REP_MAX,
-    SLOTS_MAX, SYN_DROPPED,
+    EV_REL, EV_REP, EV_SND, EV_SW, EV_SYN, FILTERS_MAX, Filter, HINT_MAX, HINT_MIN, LOG_MAX,
+    MOMENT_MAX, REP_MAX, SLOTS_MAX, SYN_DROPPED,
 };
 use std::marker::Model;
 
@@ -30,9 +30,12 @@ const NO_INFO: AxisInfo = AxisInfo {
     resolution: 0,
 };
 
-/// The description of a device: which types and codes it supports, its axes, and its numbers.
+/// No filter: each place for one holds the same, and none is in use.
+const NO_FILTERS: [Filter; FILTERS_MAX as usize] = [Filter::Norepeat; FILTERS_MAX as usize];
+
+/// The description of a device: which types and codes it supports, its axes, its filters, and its numbers.
 ///
-/// Made by [`CapsBuilder::build`](crate::CapsBuilder::build). It is plain data of about 1,800 bytes, takes no memory
+/// Made by [`CapsBuilder::build`](crate::CapsBuilder::build). It is plain data of about 1,900 bytes, takes no memory
 /// and never changes. A contract sees it as a `Description` of `inp_model`.
 #[derive(Debug, Drop)]
 pub struct Caps {
@@ -45,6 +48,8 @@ pub struct Caps {
     leds: Bits<1>,
     sounds: Bits<1>,
     infos: [AxisInfo; 64],
+    filters: [Filter; FILTERS_MAX as usize],
+    filter_count: u32,
     slots: u32,
     hint: u32,
     log: u32,
@@ -111,6 +116,20 @@ impl Caps {
         self.infos[usize::from(code)]
     }
 
+    /// The filter with this number, from 0 in the order in which they are given events, or None where there are no more
+    /// than so many.
+    pub fn filter(&self, index: u32) -> Option<Filter>
+        ensures filter { result ≡ slice_get self.now.filters index }
+        ensures range { length self.now.filters ≤ FILTERS_MAX }
+        ensures good { IfSome result (λ f. is_filter f ≡ true) }
+    {
+        if index < self.filter_count {
+            Some(self.filters[index as usize])
+        } else {
+            None
+        }
+    }
+
     /// The number of multi-touch slots, 1 to 256, or 0 for none.
     pub fn slots(&self) -> u32
         ensures slots { result ≡ self.now.slots }
@@ -171,6 +190,8 @@ impl Caps {
             leds: no_codes(),
             sounds: no_codes(),
             infos: [NO_INFO; 64],
+            filters: NO_FILTERS,
+            filter_count: 0,
             slots: 0,
             hint: HINT_DEFAULT,
             log: LOG_DEFAULT,
@@ -213,6 +234,25 @@ impl Caps {
     {
         self.axes.set(u32::from(code), true);
         self.infos[usize::from(code)] = info;
+    }
+
+    // How many filters there are.
+    pub(crate) fn filter_count(&self) -> u32
+        ensures count { result ≡ length self.now.filters }
+        ensures range { result ≤ FILTERS_MAX }
+    {
+        self.filter_count
+    }
+
+    // Adds a filter behind the others, of which there are fewer than eight.
+    pub(crate) fn add_filter(&mut self, filter: Filter)
+        requires room { length self.old.filters < FILTERS_MAX }
+        requires good { is_filter filter ≡ true }
+        ensures added { self.new ≡ with_filter self.old filter }
+        ensures description { IsDescription self.new }
+    {
+        self.filters[self.filter_count as usize] = filter;
+        self.filter_count += 1;
     }
 
     // Adds an axis from 0 to the maximum, unless it was described.
@@ -282,6 +322,8 @@ impl Caps {
             leds: self.leds,
             sounds: self.sounds,
             infos: self.infos,
+            filters: self.filters,
+            filter_count: self.filter_count,
             slots: self.slots,
             hint: self.hint,
             log: self.log,

@@ -1,12 +1,16 @@
 //! The builder of descriptions.
-ghost use Rattle.std.specs.Prelude.{◌≡◌, ◌&&◌, ◌||◌, nat_le, nat_lt, if◌then◌else◌, Ok, Err, OnOk, OnErr};
+ghost use Rattle.std.specs.Prelude.{◌≡◌, ◌≤◌, ◌&&◌, ◌||◌, nat_le, nat_lt, if◌then◌else◌, Ok, Err, OnOk, OnErr};
 ghost use Rattle.inp_model.specs.Description.{is_kind, is_bad_axis, IsDescription};
 ghost use Rattle.inp_caps.specs.declared.caps_refused.CapsRefused.{CapsRefused};
-ghost use Rattle.inp_caps.specs.Builder.{syn_alone, is_code, with_kind, with_code, with_axis, built};
+ghost use Rattle.inp_model.specs.declared.filter.Filter.TheVariants.{Eat, Norepeat, Chord, Bounce};
+ghost use Rattle.inp_caps.specs.Builder.{syn_alone, is_code, with_kind, with_code, with_axis, with_filter, filter_answer, built};
 
-use crate::ranges::{is_bad_axis, is_code, is_kind};
+use crate::ranges::{is_bad_axis, is_code, is_filter, is_kind};
 use crate::{Caps, CapsRefused};
-use inp_model::{ABS_MAX, AxisInfo, EV_ABS, HINT_MAX, HINT_MIN, LOG_MAX, MOMENT_MAX, SLOTS_MAX};
+use inp_model::{
+    ABS_MAX, AxisInfo, BOUNCE_MAX, EV_ABS, FILTERS_MAX, Filter, HINT_MAX, HINT_MIN, LOG_MAX,
+    MOMENT_MAX, SLOTS_MAX,
+};
 use std::marker::Model;
 
 /// Gathers the description of a device.
@@ -87,6 +91,69 @@ impl CapsBuilder {
         }
         self.caps.add_kind(EV_ABS);
         self.caps.add_axis(code, info);
+        Ok(())
+    }
+
+    /// Adds a filter that eats every event of the type and code.
+    ///
+    /// `BadCode` comes where the type is `EV_SYN` or no type of a device, where the code is above the type's greatest, and
+    /// at code 0 of `EV_KEY`; the device need not support the code. Else `BadFilter` comes at a ninth filter.
+    pub fn eat(&mut self, kind: u16, code: u16) -> Result<(), CapsRefused>
+        ensures answer { result ≡ filter_answer self.old (Eat kind code) }
+        ensures ok { OnOk result (self.new ≡ with_filter self.old (Eat kind code)) }
+        ensures err { OnErr result (self.new ≡ self.old) }
+    {
+        self.add(Filter::Eat { kind, code })
+    }
+
+    /// Adds a filter that eats every autorepeat. `BadFilter` comes at a ninth filter.
+    pub fn norepeat(&mut self) -> Result<(), CapsRefused>
+        ensures answer { result ≡ filter_answer self.old Norepeat }
+        ensures ok { OnOk result (self.new ≡ with_filter self.old Norepeat) }
+        ensures err { OnErr result (self.new ≡ self.old) }
+    {
+        self.add(Filter::Norepeat)
+    }
+
+    /// Adds a filter that eats the holds of the second key that start while the first one is down.
+    ///
+    /// `BadCode` comes where one of them is no key from 1 to `KEY_MAX`, and where they are the same; the device need not
+    /// support them. Else `BadFilter` comes at a ninth filter.
+    pub fn chord(&mut self, first: u16, second: u16) -> Result<(), CapsRefused>
+        ensures answer { result ≡ filter_answer self.old (Chord first second) }
+        ensures ok { OnOk result (self.new ≡ with_filter self.old (Chord first second)) }
+        ensures err { OnErr result (self.new ≡ self.old) }
+    {
+        self.add(Filter::Chord { first, second })
+    }
+
+    /// Adds a filter that eats the holds of a key that start less than so many microseconds, 1 to `BOUNCE_MAX`, after a
+    /// release that it did not eat.
+    ///
+    /// `BadCode` comes where the code is no key from 1 to `KEY_MAX`; the device need not support it. Else `BadFilter`
+    /// comes at a ninth filter.
+    pub fn bounce(&mut self, code: u16, micros: u32) -> Result<(), CapsRefused>
+        requires range { (1 ≤ micros) × (micros ≤ BOUNCE_MAX) }
+        ensures answer { result ≡ filter_answer self.old (Bounce code micros) }
+        ensures ok { OnOk result (self.new ≡ with_filter self.old (Bounce code micros)) }
+        ensures err { OnErr result (self.new ≡ self.old) }
+    {
+        self.add(Filter::Bounce { code, micros })
+    }
+
+    // Adds a filter behind the others.
+    fn add(&mut self, filter: Filter) -> Result<(), CapsRefused>
+        ensures answer { result ≡ filter_answer self.old filter }
+        ensures ok { OnOk result (self.new ≡ with_filter self.old filter) }
+        ensures err { OnErr result (self.new ≡ self.old) }
+    {
+        if !is_filter(filter) {
+            return Err(CapsRefused::BadCode);
+        }
+        if self.caps.filter_count() == FILTERS_MAX {
+            return Err(CapsRefused::BadFilter);
+        }
+        self.caps.add_filter(filter);
         Ok(())
     }
 

@@ -3,7 +3,7 @@
 /// Why a description cannot have what a call of its builder asked for. The builder is as before.
 #[derive(Clone, Copy, Debug, PartialEq, Eq)]
 pub enum CapsRefused {
-    /// There is no such type, or the type has no such code.
+    /// There is no such type, or the type has no such code; or a filter for chords names one key twice.
     BadCode,
     /// The fuzz is out of range, or a multi-touch axis has a value or a fuzz that it cannot have.
     BadAxis,
@@ -15,4 +15,6 @@ pub enum CapsRefused {
     BadLog,
     /// An offset is above `MOMENT_MAX`.
     BadOffset,
+    /// There are eight filters already.
+    BadFilter,
 }

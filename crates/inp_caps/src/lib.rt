@@ -1,4 +1,4 @@
-//! Descriptions of input devices: which types and codes a device supports, its axes, and its numbers.
+//! Descriptions of input devices: which types and codes a device supports, its axes, its filters, and its numbers.
 //!
 //! This crate is for whoever makes a device or keeps its state. [`CapsBuilder`] gathers a description call by call and
 //! refuses what no device has; [`Caps`] is the description, plain data that never changes. [`defuzz`] says how far an

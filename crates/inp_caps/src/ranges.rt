@@ -1,12 +1,13 @@
 //! What a description can have.
 ghost use Rattle.std.specs.Prelude.{◌≡◌, ◌&&◌, ◌||◌, not, nat_eq, pos, int_lt};
 ghost use Rattle.std.specs.Ordering.{int_eq};
-ghost use Rattle.inp_model.specs.Description.{is_kind, is_bad_axis, is_multi_touch_code};
+ghost use Rattle.inp_model.specs.Description.{is_kind, is_bad_axis, is_multi_touch_code, greatest_code, is_filter_code, is_filter};
 ghost use Rattle.inp_caps.specs.Builder.{is_code};
 
 use inp_model::{
-    ABS_MT_SLOT, ABS_MT_TOOL_Y, ABS_MT_TRACKING_ID, AxisInfo, EV_KEY, EV_LED, EV_MSC, EV_REL,
-    EV_REP, EV_SND, EV_SW, FUZZ_MAX, KEY_MAX, LED_MAX, MSC_MAX, REL_MAX, REP_MAX, SND_MAX, SW_MAX,
+    ABS_MAX, ABS_MT_SLOT, ABS_MT_TOOL_Y, ABS_MT_TRACKING_ID, AxisInfo, BOUNCE_MAX, EV_ABS, EV_KEY,
+    EV_LED, EV_MSC, EV_REL, EV_REP, EV_SND, EV_SW, EV_SYN, FUZZ_MAX, Filter, KEY_MAX, LED_MAX,
+    MSC_MAX, REL_MAX, REP_MAX, SND_MAX, SW_MAX, SYN_DROPPED,
 };
 
 // Whether a device can have the type.
@@ -57,4 +58,44 @@ fn has_needless_fuzz(code: u16, info: AxisInfo) -> bool
         && not (int_eq info.fuzz (pos 0))) }
 {
     (code == ABS_MT_SLOT || code == ABS_MT_TRACKING_ID) && info.fuzz != 0
+}
+
+// Whether there can be such a filter.
+pub(crate) fn is_filter(filter: Filter) -> bool
+    ensures { result ≡ is_filter filter }
+{
+    match filter {
+        Filter::Eat { kind, code } => is_filter_code(kind, code),
+        Filter::Norepeat => true,
+        Filter::Chord { first, second } => {
+            is_filter_code(EV_KEY, first) && is_filter_code(EV_KEY, second) && first != second
+        }
+        Filter::Bounce { code, micros } => {
+            is_filter_code(EV_KEY, code) && micros >= 1 && micros <= BOUNCE_MAX
+        }
+    }
+}
+
+// Whether a filter may speak of the code.
+fn is_filter_code(kind: u16, code: u16) -> bool
+    ensures { result ≡ is_filter_code kind code }
+{
+    is_kind(kind) && kind != EV_SYN && code <= greatest_code(kind) && !(kind == EV_KEY && code == 0)
+}
+
+// The greatest code of a type.
+fn greatest_code(kind: u16) -> u16
+    ensures { result ≡ greatest_code kind }
+{
+    match kind {
+        EV_KEY => KEY_MAX,
+        EV_REL => REL_MAX,
+        EV_ABS => ABS_MAX,
+        EV_MSC => MSC_MAX,
+        EV_SW => SW_MAX,
+        EV_LED => LED_MAX,
+        EV_SND => SND_MAX,
+        EV_REP => REP_MAX,
+        _ => SYN_DROPPED,
+    }
 }

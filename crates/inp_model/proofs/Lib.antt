@@ -3,7 +3,6 @@ pub mod Computing
 pub mod Descriptions
 pub mod Injecting
 pub mod Leaves
-pub mod Lefts
 pub mod Opens
 pub mod Refused
 pub mod Telling

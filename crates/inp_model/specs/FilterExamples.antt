@@ -43,7 +43,7 @@ EatsABounce =
     GivesOn (behind (Bounce KEY_A 5000 ∷ []))
     (Open ∷ frame (key (pos 1)) 0 ++ frame (key (pos 0)) 10000 ++ frame (key (pos 1)) 12000 ++ frame (key (pos 0)) 13000 ++ frame (key (pos 1)) 16000) (Read 0 16)
     (took 11 6
-        (at 2 0 (key (pos 1)) ∷ at 2 0 report ∷ at 4 10000 (key (pos 0)) ∷ at 4 10000 report ∷ at 10 16000 (key (pos 1)) ∷ at 10 16000 report ∷ []))
+    (at 2 0 (key (pos 1)) ∷ at 2 0 report ∷ at 4 10000 (key (pos 0)) ∷ at 4 10000 report ∷ at 10 16000 (key (pos 1)) ∷ at 10 16000 report ∷ []))
 
 -- The autorepeat goes on behind a filter that eats it. The reports of its frames would follow a report, so they are left out.
 abbrev pub EatsAutorepeats : Type 0
@@ -59,7 +59,7 @@ PassesByAGrab =
     let held : List Step = Open ∷ frame (key (pos 1)) 0 ++ frame (b (pos 1)) 0 ++ Grab 0 ∷ frame (b (pos 0)) 0 ++ frame (b (pos 1)) 0 ++ Ungrab 0 ∷ frame (b (pos 0)) 0 in
     GivesOn d held (Read 0 16)
     (took 13 6
-        (at 2 0 (key (pos 1)) ∷ at 2 0 report ∷ at 7 0 (b (pos 0)) ∷ at 7 0 report ∷ at 9 0 (b (pos 1)) ∷ at 9 0 report ∷ []))
+    (at 2 0 (key (pos 1)) ∷ at 2 0 report ∷ at 7 0 (b (pos 0)) ∷ at 7 0 report ∷ at 9 0 (b (pos 1)) ∷ at 9 0 report ∷ []))
 
 -- a frame that is eaten whole still offers its report, which is queued behind a loss
 abbrev pub LeavesAReport : Type 0
