@@ -73,3 +73,42 @@ fn a_source_says_that_it_is_done(rt: HostRuntime) -> Result<(), Fail> {
     assert_eq!(rt; sink.bytes(), ALONE_REPORT.as_bytes());
     Ok(())
 }
+
+/// A gate that counts what it is told.
+#[derive(Drop)]
+struct Counting {
+    calls: AtomicU64,
+}
+
+impl Gate for Counting {
+    ghost passed = { λ _ _ _. Unit {0} };
+
+    fn before(&self, _job: u32, _call: u32) {
+        self.calls.fetch_add(1, Ordering::SeqCst);
+    }
+}
+
+/// A source that replays a file of events, and is done.
+const LONG: &str = "inputrecord 1\ndevice k\ncap EV_KEY KEY_A\nsource s\ndo s stream events\n";
+
+#[test]
+fn a_long_stream_comes_in_three_calls(rt: HostRuntime) -> Result<(), Fail> {
+    let words = words_of(rt.alloc(), &["--threads", "f"])?;
+    // 2,500 records of 24 bytes, each of which is a report at the moment 0
+    let events = [0; 60_000];
+    let files = [("f", LONG.as_bytes()), ("events", &events[..])];
+    let mut input = input_of(rt.alloc(), &files, &[])?;
+    let mut sink = sink_of(rt.alloc(), 100_000, &[])?;
+    let gate = Counting {
+        calls: AtomicU64::new(0),
+    };
+    let end = inputplay(&rt, rt.alloc(), &words, &mut input, &mut sink, &gate);
+    assert_eq!(rt; end.status, 0);
+    assert_eq!(rt;
+        gate.calls.load(Ordering::SeqCst),
+        4,
+        "three, and one that says the end"
+    );
+    assert_eq!(rt; end.runs.len(), 1);
+    Ok(())
+}
