@@ -40,12 +40,86 @@ do finger stream taps
 do probe mask EV_ABS 0 0x00000000000000ff
 """
 
+# What a record has, the record, and its text in version 2.
+CASES = [
+    ("a stream and a mask", WRITTEN, MIGRATED),
+    (
+        "slots, the autorepeat and an axis",
+        b"""inputrecord 1
+device pad
+slots 2
+cap EV_REP 0
+axis 0x35 0 -5 0x1000 0 0 12
+""",
+        b"""inputrecord 2
+device pad
+hint 16
+log 1048576
+clock realtime 0
+clock boottime 0
+slots 2
+type EV_ABS
+type EV_REP
+axis ABS_MT_SLOT 0 0 1 0 0 0
+axis ABS_MT_POSITION_X 0 -5 4096 0 0 12
+axis ABS_MT_TRACKING_ID 0 0 65535 0 0 0
+""",
+    ),
+    (
+        "commands with numbers in both bases",
+        b"""inputrecord 1
+device d
+source s
+tap t
+do t mask 1 0 0xbeef
+do t clock boottime 5
+do t setaxis 0 0x10 -0 200 8 00 -2147483648
+do s stream keys.bin
+""",
+        b"""inputrecord 2
+device d
+hint 16
+log 1048576
+clock realtime 0
+clock boottime 0
+source s
+tap t
+do t mask EV_KEY 0 0x000000000000beef
+do t clock boottime 5
+do t setaxis ABS_X 16 0 200 8 0 -2147483648
+do s stream keys.bin
+""",
+    ),
+    (
+        "streams of both forms",
+        b"""inputrecord 2
+device d
+source s
+do s stream16 keys.bin
+do s  stream keys.bin
+""",
+        b"""inputrecord 2
+device d
+hint 16
+log 1048576
+clock realtime 0
+clock boottime 0
+source s
+do s stream16 keys.bin
+do s stream keys.bin
+""",
+    ),
+]
+
 
 class MigratedRecords(FolderCase):
     def test_a_record_is_written_in_version_2(self):
-        (self.folder / "taps").write_bytes(b"")
-        (self.folder / "f").write_bytes(WRITTEN)
-        assert_run(self, run(["--migrate", "f"], self.folder), 0, MIGRATED)
+        for stream in ["taps", "keys.bin"]:
+            (self.folder / stream).write_bytes(b"")
+        for what, written, migrated in CASES:
+            with self.subTest(what=what):
+                (self.folder / "f").write_bytes(written)
+                assert_run(self, run(["--migrate", "f"], self.folder), 0, migrated)
 
     def test_a_migrated_record_plays_as_before(self):
         for folder in (EXAMPLES, RECORDS):

@@ -74,6 +74,14 @@ REFUSED = [
     ("bad-offset", DEVICE + "clock boottime 9000000000000001\n", 3),
 ]
 
+# As many of each as there may be. The file `keys` is empty.
+MOST = [
+    ("devices", "inputrecord 1\n" + "".join(f"device d{i}\n" for i in range(8))),
+    ("sources", DEVICE + "".join(f"source s{i}\n" for i in range(8))),
+    ("clients and taps", DEVICE + "".join(f"client c{i}\ntap t{i}\n" for i in range(64))),
+    ("streams", LATER_DEVICE + "source s\n" + "do s stream keys\ndo s stream16 keys\n" * 8),
+]
+
 # What is wrong with words that are not accepted, and the words. The file `f` is a record.
 WRONG_WORDS = [
     ("there are none", []),
@@ -164,6 +172,14 @@ class Statuses(FolderCase):
         ]:
             with self.subTest(words=words):
                 self.ends(words, 0, text)
+
+    def test_0_as_many_as_there_may_be(self):
+        self.file("keys", b"")
+        for what, text in MOST:
+            with self.subTest(of=what):
+                self.file("f", text.encode())
+                ran = run(["f"], self.folder)
+                self.assertEqual((0, b""), (ran.status, ran.errors))
 
     def test_1_a_line_is_refused(self):
         for cause, text, line in REFUSED:

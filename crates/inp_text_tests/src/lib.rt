@@ -2,8 +2,7 @@
 //! `inp_make`, which have what they are about.
 //!
 //! A crate with tests is proved twice, once without and once with them. So the crates under test have none of their own:
-//! their tests stand here, over public calls alone, in one file for each crate. `common` has the records of several files,
-//! and `plays` the records and reports of the tests of `inp_report`.
+//! their tests stand here, over public calls alone, in one file for each crate. `common` has the records of several files.
 #![tactic(auto)]
 
 #[cfg(test)]
@@ -18,8 +17,6 @@ mod common;
 mod damage;
 #[cfg(test)]
 mod make;
-#[cfg(test)]
-mod plays;
 #[cfg(test)]
 mod record;
 #[cfg(test)]
