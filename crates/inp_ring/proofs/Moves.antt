@@ -1,13 +1,11 @@
 -- What becomes of a store as a ring's numbers change, step by step.
-use Rattle.std.proofs.Common.{◌≡◌, ◌≢◌, ◌≤◌, ◌<◌, ℕ, zero, suc, ◌+◌, ◌-◌, Bool, true, false, if◌then◌else◌, nat_eq, List, [], ◌∷◌, ◌++◌, length, map, take, drop, get_or, Option, Some, None, IsSome, refl, sym, ap, ap₂, ◌∙◌, subst, inl, inr, slice_get, arith}
-use Rattle.std.specs.List.{All}
-use Rattle.std.proofs.lemmas.Bool.{cases_eq, eq-eqb, ne_eqb}
-use Rattle.std.proofs.lemmas.Bool.Decides.{nat_tests}
+use Rattle.std.proofs.Common.{◌≡◌, ◌≤◌, ◌<◌, ℕ, zero, suc, ◌+◌, ◌-◌, true, nat_eq, List, [], ◌∷◌, ◌++◌, Option, Some, None, IsSome, refl, sym, ap, ap₂, ◌∙◌, subst, inl, inr, slice_get, arith}
+use Rattle.std.proofs.lemmas.Bool.{cases_eq, eq-eqb, ne_eqb, cond-true, cond-false}
 use Rattle.inp_ring.specs.declared.cell.Cell.{Cell}
 use Rattle.inp_ring.specs.declared.cell.Held.{Held}
 use Rattle.inp_ring.specs.Store.{StoreView, entry, cell_in, holders, holders_of, cell_of, cell_count, held_more, held_less, held_by, HasCell, IsIdle, IsIdleSlot, IsPut}
-use Rattle.inp_ring.specs.Ring.{times, AreHeld, IsMoved, IsTakenOut, IsEntered, cell_at, some_cell, queue_in}
-use Rattle.inp_ring.proofs.Times.{once, once_same, once_other, once-le, times-append, times_push, times_first}
+use Rattle.inp_ring.specs.Ring.{times, AreHeld, IsMoved, IsTakenOut, IsEntered}
+use Rattle.inp_ring.proofs.Times.{once, once_same, once_other, times-append, times_push}
 
 -- Nothing moves.
 pub moved_none : (s : StoreView) (q : List ℕ) → IsMoved s s q q
@@ -77,6 +75,75 @@ moved_add {s} {new} m cell none put room = record {
     | inr d ↦ put.others n d
   ];
   room = room;
+}
+
+-- The first number leaves, with the cell of which it is the last holder.
+pub taken_first : {s new : StoreView} (x : ℕ) (q : List ℕ) → AreHeld s (x ∷ q) → IsPut s new x (held_less (entry s x)) → s.spare ≤ new.spare → cell_count s + s.spare ≤ cell_count new + new.spare → IsTakenOut s new (x ∷ q) q
+taken_first {s} {new} x q h put spare room = record {
+  moved = record {
+    held = λ n. elim (cases_eq n x) [
+      | inl e ↦ subst (λ (k : ℕ). holders new k + times k (x ∷ q) ≡ holders s k + times k q) (sym e) (omega (arith, less, once_same x))
+      | inr d ↦ omega (arith, ap holders_of (put.others n d), once_other n x (λ i. d (sym i)))
+    ];
+    kept = λ n fewer. same n (λ e. omega (arith, fewer, ap (λ (k : ℕ). once k x) e, once_same x, ap (λ (k : ℕ). holders s k) e));
+    idle = λ n i. elim (cases_eq n x) [
+      | inl e ↦ absurd (last (entry s x) some (subst IsIdleSlot (put.changed) (subst (λ (k : ℕ). IsIdle new k) e i)))
+      | inr d ↦ subst IsIdleSlot (put.others n d) i
+    ];
+    rest = λ n i none. elim (cases_eq n x) [
+      | inl e ↦ absurd (omega (arith, some, idle_none s n i, ap (λ (k : ℕ). holders s k) e))
+      | inr d ↦ put.others n d
+    ];
+    room = room;
+  };
+  spare = spare;
+  stay = λ n there. same n (λ e. omega (arith, there, ap (λ (k : ℕ). once k x) e, once_same x, h n, ap (λ (k : ℕ). holders s k) e));
+}
+  where
+    some : 0 < holders s x
+    some = omega (arith, h x, once_same x)
+
+    one_less : (o : Option Held) → 0 < holders_of o → holders_of (held_less o) + 1 ≡ holders_of o
+    one_less None h = absurd (omega arith)
+    one_less (Some h) some = elim (cases_eq h.holders 1) [
+      | inl e ↦ omega (arith, e, ap holders_of (cond-true (nat_eq h.holders 1) None (Some (record h { holders = h.holders - 1 })) (eq-eqb h.holders 1 e)))
+      | inr d ↦ omega (arith, some, ap holders_of (cond-false (nat_eq h.holders 1) None (Some (record h { holders = h.holders - 1 })) (ne_eqb h.holders 1 d)))
+    ]
+
+    less : holders new x + 1 ≡ holders s x
+    less = omega (arith, ap holders_of put.changed, one_less (entry s x) some)
+
+    stays : (o : Option Held) → 1 < holders_of o → cell_of (held_less o) ≡ cell_of o
+    stays None h = absurd (omega arith)
+    stays (Some h) some = ap cell_of (cond-false (nat_eq h.holders 1) None (Some (record h { holders = h.holders - 1 })) (ne_eqb h.holders 1 (λ e. omega (arith, e))))
+
+    last : (o : Option Held) → 0 < holders_of o → IsIdleSlot (held_less o) → ⊥
+    last None some i = i
+    last (Some h) some i = elim (cases_eq h.holders 1) [
+      | inl e ↦ subst IsIdleSlot (cond-true (nat_eq h.holders 1) None (Some (record h { holders = h.holders - 1 })) (eq-eqb h.holders 1 e)) i
+      | inr d ↦
+          let idle : h.holders - 1 ≡ 0 = subst IsIdleSlot (cond-false (nat_eq h.holders 1) None (Some (record h { holders = h.holders - 1 })) (ne_eqb h.holders 1 d)) i in
+          d (omega (arith, idle, some))
+    ]
+
+    same : (n : ℕ) → (n ≡ x → 1 < holders s x) → cell_in new n ≡ cell_in s n
+    same n many = elim (cases_eq n x) [
+      | inl e ↦ subst (λ (k : ℕ). cell_in new k ≡ cell_in s k) (sym e) (ap cell_of put.changed ∙ stays (entry s x) (many e))
+      | inr d ↦ ap cell_of (put.others n d)
+    ]
+
+-- Beside numbers that leave others stay.
+pub taken_beside : {s new : StoreView} (p r : List ℕ) → AreHeld s (p ++ r) → IsTakenOut s new p [] → IsTakenOut s new (p ++ r) r
+taken_beside {s} {new} p r h t = record {
+  moved = record {
+    held = λ n. omega (arith, t.moved.held n, times-append n p r);
+    kept = λ n more. t.moved.kept n (omega (arith, more, times-append n p r));
+    idle = t.moved.idle;
+    rest = λ n i none. t.moved.rest n i refl;
+    room = t.moved.room;
+  };
+  spare = t.spare;
+  stay = λ n there. t.moved.kept n (omega (arith, there, h n, times-append n p r));
 }
 
 -- The same numbers in another order.

@@ -1,14 +1,12 @@
 -- What holds of a ring and its queue after each change of its numbers.
-use Rattle.std.proofs.Common.{◌≡◌, ◌≢◌, ◌≤◌, ◌<◌, ℕ, zero, suc, ◌+◌, ◌-◌, Bool, true, false, ◌||◌, List, [], ◌∷◌, ◌++◌, length, map, take, drop, get_or, slice_get, Some, None, refl, sym, ap, ◌∙◌, arith}
-use Rattle.std.proofs.lemmas.List.{length-drop, length_push, length-map, get_or-map, drop-map, map_push}
+use Rattle.std.proofs.Common.{◌≡◌, ◌≤◌, ◌<◌, ℕ, zero, suc, Bool, ◌||◌, List, [], ◌∷◌, ◌++◌, length, drop, get_or, slice_get, Some, refl, sym, ap, ◌∙◌, arith}
+use Rattle.std.proofs.lemmas.List.{length-drop, length_push, drop-map}
 use Rattle.circular_buffer.specs.Buffer.{Buffer, buffer, keep_last}
 use Rattle.inp_model.specs.declared.event.Event.{Event}
-use Rattle.inp_model.specs.Event.{is_report}
 use Rattle.inp_model.specs.Queue.{is_empty, ends_in_report, flush}
-use Rattle.inp_ring.specs.declared.cell.Cell.{Cell}
-use Rattle.inp_ring.specs.Store.{StoreView, event_of, cell_in, holders}
-use Rattle.inp_ring.specs.Ring.{times, ring_in, AreHeld, AreDifferent, IsRing, IsTakenOut, cell_at, some_cell, queue_in}
-use Rattle.inp_ring.proofs.Times.{once, once-le, times-drop-le, times-le-length, times_first, AreDifferent_push}
+use Rattle.inp_ring.specs.Store.{StoreView, event_of, cell_in}
+use Rattle.inp_ring.specs.Ring.{times, ring_in, IsRing, IsTakenOut, cell_at, some_cell, queue_in}
+use Rattle.inp_ring.proofs.Times.{times-drop-le, times-le-length, times_first, AreDifferent_push}
 use Rattle.inp_ring.proofs.Kept.{keep_last-push}
 use Rattle.inp_ring.proofs.Walks.{event_at, flush-length, flush-times, flush-map}
 

@@ -1,13 +1,12 @@
 -- The walk that removes a class of events from a ring.
 use Rattle.std.proofs.Common.{◌≡◌, ◌≤◌, ◌<◌, ℕ, zero, suc, ◌+◌, Bool, true, false, not, if◌then◌else◌, List, [], ◌∷◌, ◌++◌, length, map, take, drop, get_or, refl, sym, ap, ◌∙◌, arith}
-use Rattle.std.proofs.lemmas.List.{append-nil, append_assoc, length_push, length-append, length-take-le, length-drop, take_more, drop_more, take_all, drop_all}
+use Rattle.std.proofs.lemmas.List.{append-nil, append_assoc, length-append, length-drop, take_more, drop_more, take_all, drop_all}
 use Rattle.circular_buffer.specs.Buffer.{Buffer, buffer}
 use Rattle.inp_model.specs.declared.event.Event.{Event}
 use Rattle.inp_model.specs.Event.{is_report}
 use Rattle.inp_model.specs.Queue.{follows_kept, stays, flush_behind, flush}
-use Rattle.inp_ring.specs.declared.cell.Cell.{Cell}
 use Rattle.inp_ring.specs.Store.{StoreView, event_of}
-use Rattle.inp_ring.specs.Ring.{times, AreHeld, IsTakenOut, cell_at, some_cell, queue_in}
+use Rattle.inp_ring.specs.Ring.{times, AreHeld, IsTakenOut, cell_at, some_cell}
 use Rattle.inp_ring.proofs.Times.{once, times-append, times_push, times-take-drop, times_first}
 use Rattle.inp_ring.proofs.Moves.{held_moved, taken_none, taken_then, taken_same, idle_out}
 

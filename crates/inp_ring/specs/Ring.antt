@@ -1,11 +1,10 @@
 -- What a contract sees of a ring, alone and with the store that its numbers name.
 use Rattle.std.specs.Prelude.{◌≡◌, ◌≤◌, ◌<◌, ◌+◌, ◌⊎◌, ℕ, Bool, if◌then◌else◌, nat_eq, List, [], ◌∷◌, ◌++◌, length, map, All, Option, None, Some}
 use Rattle.circular_buffer.specs.Buffer.{Buffer}
-use Rattle.inp_model.specs.declared.event.Event.{Event}
 use Rattle.inp_model.specs.declared.stamped.TheConstants.{MOMENT_MAX}
 use Rattle.inp_model.specs.Event.{syn_dropped}
 use Rattle.inp_ring.specs.declared.cell.Cell.{Cell}
-use Rattle.inp_ring.specs.Store.{StoreView, entry, cell_of, cell_in, holders, cell_count, IsIdle}
+use Rattle.inp_ring.specs.Store.{StoreView, entry, cell_in, holders, cell_count, IsIdle}
 
 -- the places of a ring, and the numbers of its cells, oldest first
 pub record RingView : Type 0 where

@@ -35,8 +35,20 @@ pub fn release_front(numbers: &mut HeapCircularBuffer<u32>, store: &mut Store, c
     ensures rest { numbers.new ≡ buffer (drop count numbers.old.items) numbers.old.capacity }
     ensures moved { IsTakenOut store.old store.new numbers.old.items numbers.new.items }
 {
-    for _ in 0..count {
-        release_first(numbers, store);
+    let (front, back) = numbers.as_slices();
+    let in_front = count.min(front.len());
+    let_go_each(store, &front[..in_front]);
+    let_go_each(store, &back[..count - in_front]);
+    numbers.truncate_front(numbers.len() - count);
+}
+
+/// Takes one holder from the cell under each of these numbers, one after the other.
+fn let_go_each(store: &mut Store, numbers: &[u32])
+    requires held { AreHeld store.old numbers.now }
+    ensures moved { IsTakenOut store.old store.new numbers.now [] }
+{
+    for number in numbers {
+        store.let_go(*number);
     }
 }
 
@@ -58,8 +70,25 @@ pub fn read_front(
     ensures rest { numbers.new ≡ buffer (drop count numbers.old.items) numbers.old.capacity }
     ensures moved { IsTakenOut store.old store.new numbers.old.items numbers.new.items }
 {
-    for at in 0..count {
-        out[at] = release_first(numbers, store).taken(offset);
+    let (front, back) = numbers.as_slices();
+    let in_front = count.min(front.len());
+    read_each(store, &front[..in_front], offset, out, 0);
+    read_each(store, &back[..count - in_front], offset, out, in_front);
+    numbers.truncate_front(numbers.len() - count);
+}
+
+/// Reads the cell under each of these numbers into a buffer, from an index on, and takes one holder from it.
+fn read_each(store: &mut Store, numbers: &[u32], offset: u64, out: &mut [Taken], from: usize)
+    requires held { AreHeld store.old numbers.now }
+    requires room { from + length numbers.now ≤ length out.old }
+    requires offset { offset ≤ MOMENT_MAX }
+    requires moments { AreFit (queue_in store.old numbers.now) }
+    ensures read { let events = map (taken_of offset) (queue_in store.old numbers.now) in
+        out.new ≡ take from out.old ++ written events (drop from out.old) }
+    ensures moved { IsTakenOut store.old store.new numbers.now [] }
+{
+    for at in 0..numbers.len() {
+        out[from + at] = store.let_go(numbers[at]).taken(offset);
     }
 }
 

@@ -1,35 +1,59 @@
-use Rattle.std.proofs.Common.{◌≡◌, ◌<◌, arith, refl, ap, ◌∙◌, sym, set, length, get_or, None}
-use Rattle.std.proofs.lemmas.List.{length-map, get_or-map}
-use Rattle.inp_ring.specs.Store.{taken_of}
-use Rattle.inp_ring.specs.Ring.{queue_in, cell_at, some_cell}
+use Rattle.std.proofs.Common.{ℕ, ◌≡◌, ◌++◌, ◌-◌, List, drop, take, map, length, arith, sym, ap, ◌∙◌, subst}
+use Rattle.std.proofs.lemmas.List.{length-map, length-take-le, map-append, take-map}
+use Rattle.circular_buffer.specs.Buffer.{Buffer, keep_last}
+use Rattle.inp_model.specs.declared.taken.Taken.{Taken}
+use Rattle.inp_model.specs.Reply.{written}
 use Rattle.inp_ring.specs.declared.cell.Cell.{Cell}
-use Rattle.inp_ring.proofs.Releases.{released_none, released_held, released_some, released_more, released_cell, fit_cell, read_more}
+use Rattle.inp_ring.specs.Store.{taken_of}
+use Rattle.inp_ring.specs.Ring.{cell_at, queue_in, AreFit}
+use Rattle.inp_ring.proofs.Releases.{first_held, second_held, second_stays, first_fit, second_fit, both_out, take_parts, left_is_rest, read_parts}
 use Rattle.inp_ring.proofs.removal.read_front.Goals as goal
 
-pub loop-at-init : goal.loop-at-init
-loop-at-init c = (released_none c.args.store.now c.args.numbers.now c.requires.held, refl)
+pub read_each-requires-clause-held : goal.read_each-requires-clause-held
+read_each-requires-clause-held c =
+    first_held c.as_slices.result.0.now c.as_slices.result.1.now c.args.numbers.now.items c.as_slices.ensures c.args.count c.min-in_front.result c.min-in_front.ensures c.requires.some c.args.store.now c.requires.held
 
-pub release_first-requires-clause-some : goal.release_first-requires-clause-some
-release_first-requires-clause-some c = released_some c.loop-at.invariant.0 (omega arith)
+pub read_each-requires-clause-moments : goal.read_each-requires-clause-moments
+read_each-requires-clause-moments c =
+    first_fit c.as_slices.result.0.now c.as_slices.result.1.now c.args.numbers.now.items c.as_slices.ensures c.args.count c.min-in_front.result c.min-in_front.ensures c.requires.some c.args.store.now c.requires.moments
 
-pub release_first-requires-clause-held : goal.release_first-requires-clause-held
-release_first-requires-clause-held c = released_held c.loop-at.invariant.0
+pub read_each-requires-2-clause-held : goal.read_each-requires-2-clause-held
+read_each-requires-2-clause-held c =
+    second_held c.as_slices.result.0.now c.as_slices.result.1.now c.args.numbers.now.items c.as_slices.ensures c.args.count c.min-in_front.result c.min-in_front.ensures c.requires.some c.args.store.now c.requires.held c.read_each.ensures.moved
 
-pub taken-requires-clause-now : goal.taken-requires-clause-now
-taken-requires-clause-now c =
-    let now = ap (λ (x : Cell). x.now) (c.release_first.ensures.cell ∙ released_cell c.loop-at.invariant.0 (omega arith)) in
-    omega (arith, now, fit_cell c.args.store.now c.args.numbers.now.items c.loop-at.at c.requires.moments (omega arith))
-
-pub loop-at-preserved : goal.loop-at-preserved
-loop-at-preserved c =
-    let first = c.args.store.now in
+pub read_each-requires-2-clause-moments : goal.read_each-requires-2-clause-moments
+read_each-requires-2-clause-moments c =
+    let front = c.as_slices.result.0.now in
+    let back = c.as_slices.result.1.now in
     let q = c.args.numbers.now.items in
-    let at = c.loop-at.at in
-    let here : at < length q = omega arith in
-    let long : at < length (queue_in first q) = omega (arith, length-map q (cell_at first)) in
-    let cell : c.release_first.result ≡ get_or (queue_in first q) at (some_cell None) =
-    c.release_first.ensures.cell ∙ released_cell c.loop-at.invariant.0 here ∙ sym (get_or-map (cell_at first) q at 0 (some_cell None) here) in (
-      released_more c.loop-at.invariant.0 here c.release_first.ensures.rest c.release_first.ensures.moved,
-      ap (λ x. set c.loop-at.out at x) (c.taken.ensures.taken ∙ ap (taken_of c.args.offset) cell)
-          ∙ read_more (taken_of c.args.offset) (queue_in first q) c.args.out.now c.loop-at.out at (some_cell None) c.loop-at.invariant.1 long (omega arith),
-    )
+    let P : List Cell → Type 0 = λ l. AreFit l in
+    subst P (sym (second_stays front back q c.as_slices.ensures c.args.count c.min-in_front.result c.min-in_front.ensures c.requires.some c.args.store.now c.requires.held c.read_each.ensures.moved))
+    (second_fit front back q c.as_slices.ensures c.args.count c.min-in_front.result c.min-in_front.ensures c.requires.some c.args.store.now c.requires.moments)
+
+pub returns-clause-read : goal.returns-clause-read
+returns-clause-read c =
+    let front = c.as_slices.result.0.now in
+    let back = c.as_slices.result.1.now in
+    let q = c.args.numbers.now.items in
+    let s = c.args.store.now in
+    let count = c.args.count in
+    let f = taken_of c.args.offset in
+    let in_front = c.min-in_front.result in
+    let xs = map f (queue_in s (take in_front front)) in
+    let ys = map f (queue_in s (take (count - in_front) back)) in
+    let long : length xs ≡ in_front = omega (arith, length-map (queue_in s (take in_front front)) f, length-map (take in_front front) (cell_at s), length-take-le in_front front (omega (arith, c.min-in_front.ensures)), c.min-in_front.ensures) in
+    let stays = second_stays front back q c.as_slices.ensures count in_front c.min-in_front.ensures c.requires.some c.args.store.now c.requires.held c.read_each.ensures.moved in
+    c.read_each-2.ensures.read
+    ∙ ap (λ (o : List Taken). take in_front o ++ written (map f (queue_in c.read_each.new.store (take (count - in_front) back))) (drop in_front o)) c.read_each.ensures.read
+    ∙ ap (λ (l : List Cell). take in_front (written xs c.args.out.now) ++ written (map f l) (drop in_front (written xs c.args.out.now))) stays
+    ∙ read_parts xs ys c.args.out.now in_front long
+    ∙ ap (λ (l : List Taken). written l c.args.out.now)
+    (sym (map-append f (queue_in s (take in_front front)) (queue_in s (take (count - in_front) back)))
+    ∙ ap (map f) (sym (map-append (cell_at s) (take in_front front) (take (count - in_front) back)) ∙ ap (queue_in s) (sym (take_parts front back q c.as_slices.ensures count in_front c.min-in_front.ensures c.requires.some)) ∙ sym (take-map (cell_at s) count q)))
+
+pub returns-clause-moved : goal.returns-clause-moved
+returns-clause-moved c =
+    let q = c.args.numbers.now.items in
+    let rest : c.truncate_front.new.self.items ≡ drop c.args.count q =
+    ap (λ (b : Buffer ℕ). b.items) c.truncate_front.ensures ∙ ap (λ k. keep_last (k - c.args.count) q) c.len.ensures.len ∙ left_is_rest q c.args.count c.requires.some in
+    both_out c.as_slices.result.0.now c.as_slices.result.1.now q c.as_slices.ensures c.args.count c.min-in_front.result c.min-in_front.ensures c.requires.some c.args.store.now c.requires.held c.read_each.ensures.moved c.truncate_front.new.self.items c.read_each-2.ensures.moved rest

@@ -1,15 +1,19 @@
-use Rattle.std.proofs.Common.{arith}
-use Rattle.inp_ring.proofs.Releases.{released_none, released_held, released_some, released_more}
+use Rattle.std.proofs.Common.{ℕ, ◌≡◌, ◌-◌, drop, ap, ◌∙◌}
+use Rattle.circular_buffer.specs.Buffer.{Buffer, keep_last}
+use Rattle.inp_ring.proofs.Releases.{first_held, second_held, both_out, left_is_rest}
 use Rattle.inp_ring.proofs.removal.release_front.Goals as goal
 
-pub loop-init : goal.loop-init
-loop-init c = released_none c.args.store.now c.args.numbers.now c.requires.held
+pub let_go_each-requires : goal.let_go_each-requires
+let_go_each-requires c =
+    record { held = first_held c.as_slices.result.0.now c.as_slices.result.1.now c.args.numbers.now.items c.as_slices.ensures c.args.count c.min-in_front.result c.min-in_front.ensures c.requires.some c.args.store.now c.requires.held }
 
-pub release_first-requires-clause-some : goal.release_first-requires-clause-some
-release_first-requires-clause-some c = released_some c.loop.invariant (omega arith)
+pub let_go_each-requires-2 : goal.let_go_each-requires-2
+let_go_each-requires-2 c =
+    record { held = second_held c.as_slices.result.0.now c.as_slices.result.1.now c.args.numbers.now.items c.as_slices.ensures c.args.count c.min-in_front.result c.min-in_front.ensures c.requires.some c.args.store.now c.requires.held c.let_go_each.ensures.moved }
 
-pub release_first-requires-clause-held : goal.release_first-requires-clause-held
-release_first-requires-clause-held c = released_held c.loop.invariant
-
-pub loop-preserved : goal.loop-preserved
-loop-preserved c = released_more c.loop.invariant (omega arith) c.release_first.ensures.rest c.release_first.ensures.moved
+pub returns-clause-moved : goal.returns-clause-moved
+returns-clause-moved c =
+    let q = c.args.numbers.now.items in
+    let rest : c.truncate_front.new.self.items ≡ drop c.args.count q =
+    ap (λ (b : Buffer ℕ). b.items) c.truncate_front.ensures ∙ ap (λ k. keep_last (k - c.args.count) q) c.len.ensures.len ∙ left_is_rest q c.args.count c.requires.some in
+    both_out c.as_slices.result.0.now c.as_slices.result.1.now q c.as_slices.ensures c.args.count c.min-in_front.result c.min-in_front.ensures c.requires.some c.args.store.now c.requires.held c.let_go_each.ensures.moved c.truncate_front.new.self.items c.let_go_each-2.ensures.moved rest

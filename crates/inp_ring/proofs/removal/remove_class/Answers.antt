@@ -1,9 +1,9 @@
-use Rattle.std.proofs.Common.{◌≡◌, ◌<◌, length, not, if◌then◌else◌, ap, ◌∙◌, sym, arith}
+use Rattle.std.proofs.Common.{◌≡◌, ◌<◌, length, not, if◌then◌else◌, ap, ◌∙◌, arith}
 use Rattle.inp_model.specs.declared.event.Event.{Event}
 use Rattle.inp_model.specs.Event.{is_report}
 use Rattle.inp_model.specs.Step.{is_part_of}
 use Rattle.inp_ring.specs.Class.{query_of}
-use Rattle.inp_ring.proofs.Walks.{walked_none, walked_held, walked_some, walked_within, walked_all, walked_event, walked_dropped, walked_kept, walked_number, event_at}
+use Rattle.inp_ring.proofs.Walks.{walked_none, walked_within, walked_event, walked_dropped, walked_kept, walked_number, event_at}
 use Rattle.inp_ring.proofs.removal.remove_class.Goals as goal
 
 pub loop-init : goal.loop-init

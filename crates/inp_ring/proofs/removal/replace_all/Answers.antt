@@ -1,11 +1,11 @@
-use Rattle.std.proofs.Common.{◌≡◌, ◌≢◌, None, Some, IsSome, [], ◌∷◌, ◌++◌, length, List, ℕ, Option, arith, ap, ◌∙◌, sym, subst, refl}
+use Rattle.std.proofs.Common.{◌≡◌, ◌≢◌, None, Some, IsSome, [], ◌∷◌, ◌++◌, List, ℕ, Option, arith, ap, ◌∙◌, sym, subst, refl}
 use Rattle.std.proofs.lemmas.List.{drop_all}
 use Rattle.circular_buffer.specs.Buffer.{Buffer, buffer, keep_last}
 use Rattle.inp_ring.specs.declared.cell.Held.{Held}
 use Rattle.inp_ring.specs.Store.{entry}
 use Rattle.inp_ring.specs.Ring.{times, IsMoved}
 use Rattle.inp_ring.proofs.Kept.{keep_last-all}
-use Rattle.inp_ring.proofs.Times.{once, once_other}
+use Rattle.inp_ring.proofs.Times.{once_other}
 use Rattle.inp_ring.proofs.Moves.{moved_add, moved_then, entry_same}
 use Rattle.inp_ring.proofs.removal.replace_all.Goals as goal
 

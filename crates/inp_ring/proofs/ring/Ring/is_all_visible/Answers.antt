@@ -1,8 +1,7 @@
 use Rattle.std.proofs.Common.{◌≡◌, length, ◌-◌, Some, sym, ap, ◌∙◌, option_copied, slice_get}
 use Rattle.inp_model.specs.Event.{is_report}
-use Rattle.inp_model.specs.Queue.{is_empty, ends_in_report}
 use Rattle.inp_ring.specs.Store.{event_of}
-use Rattle.inp_ring.specs.Ring.{cell_at, some_cell, queue_in}
+use Rattle.inp_ring.specs.Ring.{cell_at, some_cell}
 use Rattle.inp_ring.proofs.Counts.{ends_last, ends_none}
 use Rattle.inp_ring.proofs.Moves.{number_there}
 use Rattle.inp_ring.proofs.Rings.{ends_map}
