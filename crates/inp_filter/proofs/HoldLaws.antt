@@ -1,10 +1,9 @@
 -- A chord and a bounce eat a hold whole, or leave it whole.
 use Rattle.std.proofs.Common.{◌≡◌, ℕ, Bool, true, false, ◌&&◌, List, [], ◌∷◌, Option, Some, None, refl, sym, ◌∙◌}
 use Rattle.std.specs.Prelude.{if◌then◌else◌}
-use Rattle.inp_filter.specs.declared.filter.Filter.{Filter}
-use Rattle.inp_filter.specs.declared.filter.Filter.TheVariants.{Chord, Bounce}
-use Rattle.inp_filter.specs.Filter.{Timed, Given, Press, is_on_key, is_press, is_release, last_press, is_there_and, is_in_hold, is_chorded, is_bounced, eats}
-use Rattle.inp_filter.specs.Row.{given_all}
+use Rattle.inp_model.specs.declared.filter.Filter.{Filter}
+use Rattle.inp_model.specs.declared.filter.Filter.TheVariants.{Chord, Bounce}
+use Rattle.inp_model.specs.Filter.{Timed, Given, Press, is_on_key, is_press, is_release, last_press, is_there_and, is_in_hold, is_chorded, is_bounced, eats, given_all}
 use Rattle.inp_filter.specs.Laws.{has_eaten_press}
 
 at_press : (test : Press → Bool) (on press : Bool) (here : Press) (earlier : Option Press) → on ≡ true → press ≡ true → (on && is_there_and test (if press then Some here else earlier)) ≡ test here

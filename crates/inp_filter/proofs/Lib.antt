@@ -1,6 +1,8 @@
 pub mod Computing
 pub mod Standing
 pub mod Rows
-pub mod Left
+pub mod LetThrough
 pub mod RowLaws
 pub mod HoldLaws
+pub mod LeftOfFrames
+pub mod GivenBefore

@@ -2,10 +2,10 @@
 use Rattle.std.proofs.Common.{◌≡◌, ℕ, ◌+◌, ◌<◌, ◌≤◌, Bool, true, false, ◌||◌, List, [], ◌∷◌, ◌++◌, length, get_or, set, take, drop, refl, sym, ap, ◌∙◌, subst, arith, append_assoc, add-one}
 use Rattle.std.proofs.lemmas.List.{append-nil, drop_all, drop_more, drop-set-lt, set-get_or, set_split, take_all, take_more_set}
 use Rattle.std.specs.Prelude.{if◌then◌else◌}
-use Rattle.inp_filter.specs.declared.filter.Filter.{Filter}
+use Rattle.inp_model.specs.declared.filter.Filter.{Filter}
 use Rattle.inp_filter.specs.declared.filter_state.FilterState.{FilterState}
-use Rattle.inp_filter.specs.Filter.{Timed, Given, eats, given_more}
-use Rattle.inp_filter.specs.Row.{given_all, left_by, is_eaten}
+use Rattle.inp_model.specs.Filter.{Timed, Given, eats, given_more, given_all, left_by, is_eaten}
+use Rattle.inp_model.specs.Queue.{is_empty}
 use Rattle.inp_filter.specs.FilterState.{FilterStandsFor, FiltersStandFor}
 
 -- a filter was given one more event, and ate it or not
@@ -127,3 +127,11 @@ comes_so_far-all x before states i true le row = row
 comes_so_far-all x before states i false le inv =
     let none = subst (λ (l : List FilterState). RowTakes x l [] false) (sym (drop_all i states le)) (row-none x) in
     subst (λ (l : List FilterState). RowTakes x before l false) (append-nil (take i states) ∙ take_all i states le) (inv [] false none)
+
+-- as many are kept as there are
+pub FiltersStandFor-is_empty : (fs : List Filter) (given : List Timed) (states : List FilterState) → FiltersStandFor fs given states → is_empty states ≡ is_empty fs
+unfolding FiltersStandFor
+FiltersStandFor-is_empty [] given [] h = refl
+FiltersStandFor-is_empty [] given (s ∷ states) h = absurd h
+FiltersStandFor-is_empty (f ∷ fs) given [] h = absurd h
+FiltersStandFor-is_empty (f ∷ fs) given (s ∷ states) h = refl

@@ -3,15 +3,15 @@ use Rattle.std.proofs.Common.{◌≡◌, ℕ, Bool, true, false, ◌&&◌, not, 
 use Rattle.std.specs.Prelude.{if◌then◌else◌}
 use Rattle.inp_model.specs.Event.{is_set, is_repeat}
 use Rattle.std.proofs.lemmas.Bool.{cond-true, cond-false}
-use Rattle.inp_filter.specs.declared.filter.Filter.{Filter}
-use Rattle.inp_filter.specs.declared.filter.Filter.TheVariants.{Eat, Norepeat, Chord, Bounce}
+use Rattle.inp_model.specs.declared.filter.Filter.{Filter}
+use Rattle.inp_model.specs.declared.filter.Filter.TheVariants.{Eat, Norepeat, Chord, Bounce}
 use Rattle.inp_filter.specs.declared.eat.Eat.{Eat as KeptEat}
 use Rattle.inp_filter.specs.declared.norepeat.Norepeat.{Norepeat as KeptNorepeat}
 use Rattle.inp_filter.specs.declared.chord.Chord.{Chord as KeptChord}
 use Rattle.inp_filter.specs.declared.bounce.Bounce.{Bounce as KeptBounce}
 use Rattle.inp_filter.specs.declared.filter_state.FilterState.TheVariants.{Eat as EatState, Norepeat as NorepeatState, Chord as ChordState, Bounce as BounceState}
 use Rattle.inp_filter.specs.FilterState.{IsChord, IsBounce, FilterStandsFor}
-use Rattle.inp_filter.specs.Filter.{Given, Press, is_on_key, is_press, is_release, last_press, is_there_and, is_down, last_release}
+use Rattle.inp_model.specs.Filter.{Given, Press, is_on_key, is_press, is_release, last_press, is_there_and, is_down, last_release}
 
 -- a test of the last press, behind an event that is about another key
 skips : (test : Press → Bool) (on p r : Bool) (here earlier : Option Press) → on ≡ false → is_there_and test (if on && p then here else if on && r then None else earlier) ≡ is_there_and test earlier

@@ -2,10 +2,10 @@
 use Rattle.std.specs.Prelude.{◌≡◌, ℕ, ℤ, pos, List, [], ◌∷◌}
 use Rattle.inp_model.specs.declared.event.TheConstants.{EV_SYN, EV_KEY, EV_REL, SYN_REPORT, SYN_CONFIG, KEY_A}
 use Rattle.inp_model.specs.declared.event.Event.{Event}
-use Rattle.inp_filter.specs.declared.filter.Filter.{Filter}
-use Rattle.inp_filter.specs.declared.filter.Filter.TheVariants.{Eat, Norepeat, Chord, Bounce}
-use Rattle.inp_filter.specs.Filter.{Timed}
-use Rattle.inp_filter.specs.Row.{left, given_after}
+use Rattle.inp_model.specs.declared.filter.Filter.{Filter}
+use Rattle.inp_model.specs.declared.filter.Filter.TheVariants.{Eat, Norepeat, Chord, Bounce}
+use Rattle.inp_model.specs.Filter.{Timed, given_after}
+use Rattle.inp_filter.specs.Row.{let_through}
 
 -- a frame, by its moment and its events
 pub record At : Type 0 where
@@ -16,7 +16,7 @@ pub record At : Type 0 where
 unfoldable pub left_of_frames : List Filter → List Timed → List At → List (List Event)
 left_of_frames fs before [] = []
 left_of_frames fs before (f ∷ frames) =
-    left fs f.moment before f.events ∷ left_of_frames fs (given_after f.moment before f.events) frames
+    let_through fs f.moment before f.events ∷ left_of_frames fs (given_after f.moment before f.events) frames
 
 -- of these frames this is left
 abbrev pub Leave : List Filter → List At → List (List Event) → Type 0

@@ -1,14 +1,13 @@
 -- What is kept of the events that filters were given, which are written newest first.
 use Rattle.std.specs.Prelude.{◌≡◌, ℕ, Bool, List, [], ◌∷◌}
-use Rattle.inp_filter.specs.declared.filter.Filter.{Filter}
-use Rattle.inp_filter.specs.declared.filter.Filter.TheVariants.{Eat, Norepeat, Chord, Bounce}
+use Rattle.inp_model.specs.declared.filter.Filter.{Filter}
+use Rattle.inp_model.specs.declared.filter.Filter.TheVariants.{Eat, Norepeat, Chord, Bounce}
 use Rattle.inp_filter.specs.declared.hold.Hold.{Hold}
 use Rattle.inp_filter.specs.declared.chord.Chord.{Chord as KeptChord}
 use Rattle.inp_filter.specs.declared.bounce.Bounce.{Bounce as KeptBounce}
 use Rattle.inp_filter.specs.declared.filter_state.FilterState.{FilterState}
 use Rattle.inp_filter.specs.declared.filter_state.FilterState.TheVariants.{Eat as EatState, Norepeat as NorepeatState, Chord as ChordState, Bounce as BounceState}
-use Rattle.inp_filter.specs.Filter.{Timed, Given, Press, last_press, is_there_and, is_down, last_release, is_chorded, is_bounced}
-use Rattle.inp_filter.specs.Row.{given_all, left_by}
+use Rattle.inp_model.specs.Filter.{Timed, Given, Press, last_press, is_there_and, is_down, last_release, is_chorded, is_bounced, given_all, left_by}
 
 -- of a key, whether a press is there behind the last event, and passes the test
 pub record IsHold (code : ℕ) (test : Press → Bool) (given : List Given) (hold : Hold) : Type 0 where

@@ -2,27 +2,27 @@
 -- first.
 use Rattle.std.specs.Prelude.{◌≡◌, ℕ, Bool, true, false, ◌&&◌, if◌then◌else◌, List, [], ◌∷◌, filter}
 use Rattle.inp_model.specs.declared.event.Event.{Event}
-use Rattle.inp_filter.specs.declared.filter.Filter.{Filter}
-use Rattle.inp_filter.specs.declared.filter.Filter.TheVariants.{Chord, Bounce}
-use Rattle.inp_filter.specs.Filter.{Timed, Given, is_on_key, is_press, is_release, eats}
-use Rattle.inp_filter.specs.Row.{given_all, left_by, is_syn, left}
+use Rattle.inp_model.specs.declared.filter.Filter.{Filter}
+use Rattle.inp_model.specs.declared.filter.Filter.TheVariants.{Chord, Bounce}
+use Rattle.inp_model.specs.Filter.{Timed, Given, is_on_key, is_press, is_release, eats, given_all, left_by, is_syn}
+use Rattle.inp_filter.specs.Row.{let_through}
 
 -- the events of EV_SYN are all left, in order
 abbrev pub LeavesSyn : Type 0
 LeavesSyn =
     (fs : List Filter) (moment : ℕ) (given : List Timed) (es : List Event)
-    → filter is_syn (left fs moment given es) ≡ filter is_syn es
+    → filter is_syn (let_through fs moment given es) ≡ filter is_syn es
 
 -- without a filter all is left
 abbrev pub LeavesAllOfNone : Type 0
-LeavesAllOfNone = (moment : ℕ) (given : List Timed) (es : List Event) → left [] moment given es ≡ es
+LeavesAllOfNone = (moment : ℕ) (given : List Timed) (es : List Event) → let_through [] moment given es ≡ es
 
 -- Filters in a row leave of a frame what the others leave of what the first one leaves of it, where they were given what
 -- the first one left.
 abbrev pub LeavesOneAfterAnother : Type 0
 LeavesOneAfterAnother =
     (f : Filter) (fs : List Filter) (moment : ℕ) (given : List Timed) (es : List Event)
-    → left (f ∷ fs) moment given es ≡ left fs moment (left_by f given) (left (f ∷ []) moment given es)
+    → let_through (f ∷ fs) moment given es ≡ let_through fs moment (left_by f given) (let_through (f ∷ []) moment given es)
 
 -- the last press of a key was eaten, and no release of the key stands behind it
 unfoldable pub has_eaten_press : ℕ → List Given → Bool

@@ -1,4 +1,3 @@
-pub mod Filter
 pub mod Row
 pub mod FilterState
 pub mod Laws

@@ -1,7 +1,7 @@
 //! A filter that eats the holds of a key that start too soon after a release.
 ghost use Rattle.std.specs.Prelude.{◌≡◌, ◌&&◌, not, ℕ, List, []};
-ghost use Rattle.inp_filter.specs.declared.filter.Filter.TheVariants.{Bounce as BounceFilter};
-ghost use Rattle.inp_filter.specs.Filter.{Given, is_on_key, is_release, is_soon, eats, given_more, timed};
+ghost use Rattle.inp_model.specs.declared.filter.Filter.TheVariants.{Bounce as BounceFilter};
+ghost use Rattle.inp_model.specs.Filter.{Given, is_on_key, is_release, is_soon, eats, given_more, timed};
 ghost use Rattle.inp_filter.specs.FilterState.{IsBounce};
 
 use crate::hold::Hold;

@@ -1,7 +1,7 @@
 //! A filter that eats the holds of one key that start while another one is down.
 ghost use Rattle.std.specs.Prelude.{◌≡◌, ℕ, List, []};
-ghost use Rattle.inp_filter.specs.declared.filter.Filter.TheVariants.{Chord as ChordFilter};
-ghost use Rattle.inp_filter.specs.Filter.{Given, eats, given_more, timed};
+ghost use Rattle.inp_model.specs.declared.filter.Filter.TheVariants.{Chord as ChordFilter};
+ghost use Rattle.inp_model.specs.Filter.{Given, eats, given_more, timed};
 ghost use Rattle.inp_filter.specs.FilterState.{IsChord};
 
 use crate::hold::Hold;

@@ -1,15 +1,14 @@
 //! What is kept of a filter.
 ghost use Rattle.std.specs.Prelude.{◌≡◌, true, false, List, []};
-ghost use Rattle.inp_filter.specs.declared.filter.Filter.{Filter};
-ghost use Rattle.inp_filter.specs.Filter.{Given, eats, given_more, timed};
+ghost use Rattle.inp_model.specs.declared.filter.Filter.{Filter};
+ghost use Rattle.inp_model.specs.Filter.{Given, eats, given_more, timed};
 ghost use Rattle.inp_filter.specs.FilterState.{FilterStandsFor};
 
-use crate::Filter;
 use crate::bounce::Bounce;
 use crate::chord::Chord;
 use crate::eat::Eat;
 use crate::norepeat::Norepeat;
-use inp_model::Event;
+use inp_model::{Event, Filter};
 
 /// A filter with what it keeps of the events that it was given: a few bits, and a moment at most.
 #[derive(Debug, Drop)]

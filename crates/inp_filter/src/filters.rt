@@ -1,13 +1,14 @@
 //! The filters of a device, in a row.
 ghost use Rattle.std.specs.Prelude.{◌≡◌, ◌≤◌, ◌<◌, ◌^◌, ℕ, List, [], ◌∷◌, length, take, drop, IfOk};
-ghost use Rattle.inp_filter.specs.declared.filter.Filter.{Filter};
-ghost use Rattle.inp_filter.specs.Filter.{Timed, timed};
-ghost use Rattle.inp_filter.specs.Row.{is_eaten, is_left, with_event, left, given_after};
+ghost use Rattle.inp_model.specs.declared.filter.Filter.{Filter};
+ghost use Rattle.inp_model.specs.Filter.{Timed, timed, is_eaten, with_event, given_after};
+ghost use Rattle.inp_model.specs.Queue.{is_empty};
+ghost use Rattle.inp_filter.specs.Row.{is_let_through, let_through};
 ghost use Rattle.inp_filter.specs.FilterState.{FiltersStandFor};
 
-use crate::Filter;
 use crate::filter_state::FilterState;
-use inp_model::{EV_SYN, Event, NoMemory};
+use inp_caps::Caps;
+use inp_model::{EV_SYN, Event, FILTERS_MAX, NoMemory};
 use std::alloc::Global;
 use std::marker::Model;
 
@@ -30,15 +31,25 @@ impl Model for Filters {
 }
 
 impl Filters {
-    /// These filters, in their order, before any frame. It is refused for memory alone.
-    pub fn new(alloc: Global, filters: &[Filter]) -> Result<Filters, NoMemory>
-        ensures fresh { IfOk result (λ row. FiltersStandFor filters.now [] row) }
+    /// The filters of a description, in their order, before any frame. It is refused for memory alone.
+    pub fn new(alloc: Global, caps: &Caps) -> Result<Filters, NoMemory>
+        ensures fresh { IfOk result (λ row. FiltersStandFor caps.now.filters [] row) }
     {
         let mut kept = Vec::new(alloc);
-        for filter in filters {
-            kept.push(FilterState::new(*filter))?;
+        for index in 0..FILTERS_MAX {
+            if let Some(filter) = caps.filter(index) {
+                kept.push(FilterState::new(filter))?;
+            }
         }
         Ok(Filters { filters: kept })
+    }
+
+    /// Whether there is no filter.
+    pub fn is_empty(&self) -> bool
+        ensures { (fs : List Filter) (given : List Timed) → FiltersStandFor fs given self.now
+            → result ≡ is_empty fs }
+    {
+        self.filters.is_empty()
     }
 
     /// Takes a frame that ended at a moment in microseconds, writes what the filters leave of it to the front of `out`,
@@ -49,7 +60,7 @@ impl Filters {
         requires count { length events.now < 2 ^ 32 }
         requires room { length events.now ≤ length out.old }
         ensures left { (fs : List Filter) (given : List Timed) → FiltersStandFor fs given self.old
-            → take result out.new ≡ left fs now given events.now }
+            → take result out.new ≡ let_through fs now given events.now }
         ensures stands { (fs : List Filter) (given : List Timed) → FiltersStandFor fs given self.old
             → FiltersStandFor fs (given_after now given events.now) self.new }
         ensures fits { result ≤ length events.now }
@@ -68,7 +79,7 @@ impl Filters {
     // Takes one more event of a frame that ends at a moment, and says whether it is left.
     fn lets_through(&mut self, event: Event, now: u64) -> bool
         ensures left { (fs : List Filter) (given : List Timed) → FiltersStandFor fs given self.old
-            → result ≡ is_left fs now given event }
+            → result ≡ is_let_through fs now given event }
         ensures stands { (fs : List Filter) (given : List Timed) → FiltersStandFor fs given self.old
             → FiltersStandFor fs (with_event now event given) self.new }
     {

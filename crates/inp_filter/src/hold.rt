@@ -1,6 +1,6 @@
 //! The holds of a key, some of which are eaten.
 ghost use Rattle.std.specs.Prelude.{◌≡◌, ℕ, Bool, List, [], ◌∷◌};
-ghost use Rattle.inp_filter.specs.Filter.{Given, Press, timed, with_verdict, is_in_hold};
+ghost use Rattle.inp_model.specs.Filter.{Given, Press, timed, with_verdict, is_in_hold};
 ghost use Rattle.inp_filter.specs.FilterState.{IsHold};
 
 use crate::keys::{is_on_key, is_press};

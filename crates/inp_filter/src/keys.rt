@@ -1,6 +1,6 @@
 //! What an event says of a key.
 ghost use Rattle.std.specs.Prelude.{◌≡◌};
-ghost use Rattle.inp_filter.specs.Filter.{is_on_key, is_press, is_release};
+ghost use Rattle.inp_model.specs.Filter.{is_on_key, is_press, is_release};
 
 use inp_model::{EV_KEY, Event};
 

@@ -1,11 +1,11 @@
 //! Filters: which events of a device's frames are kept from its clients.
 //!
-//! This crate is for whoever passes the frames of a device on to clients. [`Filters`] is made from a list of
-//! [`Filter`]s, takes the frames one by one, and writes what is left of each. A filter eats every event of a type and
-//! code, every autorepeat, the holds of a key that start while another key is down, or those that start too soon after
-//! a release. The crate stands on `inp_model`.
+//! This crate is for whoever passes the frames of a device on to clients. [`Filters`] is made from a description, takes
+//! the frames one by one, and writes what is left of each. A filter eats every event of a type and code, every
+//! autorepeat, the holds of a key that start while another key is down, or those that start too soon after a release.
+//! The crate stands on `inp_model` and `inp_caps`.
 //!
-//! Its contract: `specs/Filter.antt` says what one filter eats of the events that it was given so far, and
+//! Its contract: `Filter` of `inp_model` says what one filter eats of the events that it was given so far, and
 //! `specs/Row.antt` what is left of a frame behind filters in a row, each of which is given what the one before it did not
 //! eat. Events of `EV_SYN` are given to no filter and always left. A [`Filters`] keeps no list of events:
 //! `FiltersStandFor` (`specs/FilterState.antt`) says for which filters and which events given so far it stands. A new one
@@ -14,14 +14,14 @@
 //! filter whatever came before, and no memory is taken once the filters are made.
 //!
 //! Which frames the filters are given is the caller's to choose: those of a device while a client holds its grab are not
-//! meant for them. [`laws`] has what holds of all filters, and [`examples`] shows what the definitions compute on short
-//! frames.
+//! meant for them (`Left` of `inp_model`; `proofs/LeftOfFrames.antt` shows that what is left of the frames of a past is
+//! what the filters let through). [`laws`] has what holds of all filters, and [`examples`] shows what the definitions
+//! compute on short frames.
 #![tactic(auto)]
 
 mod bounce;
 mod chord;
 mod eat;
-mod filter;
 mod filter_state;
 mod filters;
 mod hold;
@@ -30,6 +30,5 @@ pub mod laws;
 mod norepeat;
 mod short_frames;
 
-pub use filter::Filter;
 pub use filters::Filters;
 pub use short_frames::examples;

@@ -2,7 +2,7 @@
 use Rattle.std.proofs.Common.{arith}
 use Rattle.inp_filter.specs.declared.filter_state.FilterState.{FilterState}
 use Rattle.inp_filter.specs.declared.filter_state.FilterState.TheVariants.{Eat as EatState}
-use Rattle.inp_filter.specs.Filter.{timed}
+use Rattle.inp_model.specs.Filter.{timed}
 use Rattle.inp_filter.proofs.Rows.{comes_so_far-more, comes_so_far-all}
 use Rattle.inp_filter.proofs.filters.is_eaten_by.Goals as goal
 

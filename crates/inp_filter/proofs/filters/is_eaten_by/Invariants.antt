@@ -1,5 +1,5 @@
 -- What comes of the filters from this one on comes of all of them, or one of those before ate the event.
-use Rattle.inp_filter.specs.Filter.{timed}
+use Rattle.inp_model.specs.Filter.{timed}
 use Rattle.inp_filter.proofs.Rows.{ComesSoFar}
 use Rattle.inp_filter.proofs.filters.is_eaten_by.Given as goal
 

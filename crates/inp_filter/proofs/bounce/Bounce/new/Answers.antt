@@ -1,6 +1,6 @@
 -- Before any event there was no release, and there is no hold.
 use Rattle.std.proofs.Common.{refl}
-use Rattle.inp_filter.specs.Filter.{last_release, is_bounced}
+use Rattle.inp_model.specs.Filter.{last_release, is_bounced}
 use Rattle.inp_filter.proofs.bounce.Bounce.new.Goals as goal
 
 pub returns : goal.returns

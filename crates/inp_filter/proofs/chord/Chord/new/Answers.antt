@@ -1,6 +1,6 @@
 -- Before any event no key is down, and there is no hold.
 use Rattle.std.proofs.Common.{refl}
-use Rattle.inp_filter.specs.Filter.{is_down, is_chorded}
+use Rattle.inp_model.specs.Filter.{is_down, is_chorded}
 use Rattle.inp_filter.proofs.chord.Chord.new.Goals as goal
 
 pub returns : goal.returns

@@ -2,10 +2,10 @@
 use Rattle.std.proofs.Common.{ℕ, ◌+◌, List, ◌++◌, take, refl, sym, ap, ◌∙◌, subst, arith, pos}
 use Rattle.std.proofs.lemmas.List.{append-nil, drop_all}
 use Rattle.inp_model.specs.declared.event.Event.{Event}
-use Rattle.inp_filter.specs.Filter.{Timed}
-use Rattle.inp_filter.specs.Row.{left, given_after}
+use Rattle.inp_model.specs.Filter.{Timed, given_after}
+use Rattle.inp_filter.specs.Row.{let_through}
 use Rattle.inp_filter.specs.FilterState.{FiltersStandFor}
-use Rattle.inp_filter.proofs.Left.{Writes, passing-none, writes-left, writes-eaten, left-none, given_after-none}
+use Rattle.inp_filter.proofs.LetThrough.{Writes, passing-none, writes-left, writes-eaten, let_through-none, given_after-none}
 use Rattle.inp_filter.proofs.filters.Filters.pass.Goals.{then-lets_through, else-lets_through}
 use Rattle.inp_filter.proofs.filters.Filters.pass.Goals as goal
 
@@ -42,7 +42,7 @@ returns c =
     record {
       left = λ fs given h.
           let p = here.invariant.passing fs given h in
-          let end = ap (λ (es : List Event). left fs c.args.now p.given_so_far es) none_more ∙ left-none fs c.args.now p.given_so_far in
+          let end = ap (λ (es : List Event). let_through fs c.args.now p.given_so_far es) none_more ∙ let_through-none fs c.args.now p.given_so_far in
           sym (p.left_is ∙ ap (λ (es : List Event). take here.count here.out ++ es) end ∙ append-nil (take here.count here.out));
       stands = λ fs given h.
           let p = here.invariant.passing fs given h in

@@ -1,5 +1,5 @@
 -- What is left of the events so far stands at the front of the buffer.
-use Rattle.inp_filter.proofs.Left.{Writes}
+use Rattle.inp_filter.proofs.LetThrough.{Writes}
 use Rattle.inp_filter.proofs.filters.Filters.pass.Given as goal
 
 abbrev pub invariant-loop-event : goal.invariant-loop-event

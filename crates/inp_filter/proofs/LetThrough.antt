@@ -3,10 +3,10 @@ use Rattle.std.proofs.Common.{◌≡◌, ℕ, ◌+◌, ◌<◌, ◌≤◌, true,
 use Rattle.std.proofs.lemmas.Bool.{cond-true, cond-false}
 use Rattle.std.proofs.lemmas.List.{drop_more, drop-drop, drop-set-lt, take_more_set}
 use Rattle.inp_model.specs.declared.event.Event.{Event}
-use Rattle.inp_filter.specs.declared.filter.Filter.{Filter}
+use Rattle.inp_model.specs.declared.filter.Filter.{Filter}
 use Rattle.inp_filter.specs.declared.filter_state.FilterState.{FilterState}
-use Rattle.inp_filter.specs.Filter.{Timed}
-use Rattle.inp_filter.specs.Row.{is_left, with_event, left, given_after}
+use Rattle.inp_model.specs.Filter.{Timed, with_event, given_after}
+use Rattle.inp_filter.specs.Row.{is_let_through, let_through}
 use Rattle.inp_filter.specs.FilterState.{FiltersStandFor}
 
 -- Behind a part of a frame: the filters stand for what the first one was given so far, what is left is this, and then what
@@ -14,7 +14,7 @@ use Rattle.inp_filter.specs.FilterState.{FiltersStandFor}
 pub record IsPassing (fs : List Filter) (moment : ℕ) (given : List Timed) (events rest : List Event) (states : List FilterState) (so_far : List Event) : Type 0 where
   pub given_so_far : List Timed
   pub stands : FiltersStandFor fs given_so_far states
-  pub left_is : left fs moment given events ≡ so_far ++ left fs moment given_so_far rest
+  pub left_is : let_through fs moment given events ≡ so_far ++ let_through fs moment given_so_far rest
   pub given_is : given_after moment given events ≡ given_after moment given_so_far rest
 
 pub passing-none : (fs : List Filter) (moment : ℕ) (given : List Timed) (events : List Event) (states : List FilterState) → FiltersStandFor fs given states → IsPassing fs moment given events events states []
@@ -22,31 +22,31 @@ passing-none fs moment given events states h =
     record { given_so_far = given; stands = h; left_is = refl; given_is = refl }
 
 module _ (fs : List Filter) (moment : ℕ) (given : List Timed) (events : List Event) (e : Event) (rest : List Event) (states later : List FilterState) (so_far : List Event) (p : IsPassing fs moment given events (e ∷ rest) states so_far) (stands : FiltersStandFor fs (with_event moment e p.given_so_far) later) where
-  pub passing-left : true ≡ is_left fs moment p.given_so_far e → IsPassing fs moment given events rest later (so_far ++ e ∷ [])
-  unfolding left given_after
+  pub passing-left : true ≡ is_let_through fs moment p.given_so_far e → IsPassing fs moment given events rest later (so_far ++ e ∷ [])
+  unfolding let_through given_after
   passing-left is =
       let more = with_event moment e p.given_so_far in
       record {
         given_so_far = more;
         stands = stands;
-        left_is = p.left_is ∙ ap (λ (es : List Event). so_far ++ es) (cond-true (is_left fs moment p.given_so_far e) (e ∷ left fs moment more rest) (left fs moment more rest) (sym is)) ∙ sym (append_assoc so_far (e ∷ []) (left fs moment more rest));
+        left_is = p.left_is ∙ ap (λ (es : List Event). so_far ++ es) (cond-true (is_let_through fs moment p.given_so_far e) (e ∷ let_through fs moment more rest) (let_through fs moment more rest) (sym is)) ∙ sym (append_assoc so_far (e ∷ []) (let_through fs moment more rest));
         given_is = p.given_is;
       }
 
-  pub passing-eaten : false ≡ is_left fs moment p.given_so_far e → IsPassing fs moment given events rest later so_far
-  unfolding left given_after
+  pub passing-eaten : false ≡ is_let_through fs moment p.given_so_far e → IsPassing fs moment given events rest later so_far
+  unfolding let_through given_after
   passing-eaten is =
       let more = with_event moment e p.given_so_far in
       record {
         given_so_far = more;
         stands = stands;
-        left_is = p.left_is ∙ ap (λ (es : List Event). so_far ++ es) (cond-false (is_left fs moment p.given_so_far e) (e ∷ left fs moment more rest) (left fs moment more rest) (sym is));
+        left_is = p.left_is ∙ ap (λ (es : List Event). so_far ++ es) (cond-false (is_let_through fs moment p.given_so_far e) (e ∷ let_through fs moment more rest) (let_through fs moment more rest) (sym is));
         given_is = p.given_is;
       }
 
-pub left-none : (fs : List Filter) (moment : ℕ) (given : List Timed) → left fs moment given [] ≡ []
-unfolding left
-left-none fs moment given = refl
+pub let_through-none : (fs : List Filter) (moment : ℕ) (given : List Timed) → let_through fs moment given [] ≡ []
+unfolding let_through
+let_through-none fs moment given = refl
 
 pub given_after-none : (moment : ℕ) (given : List Timed) → given_after moment given [] ≡ given
 unfolding given_after
@@ -64,7 +64,7 @@ module _ (moment : ℕ) (events : List Event) (first : List FilterState) (buffer
   at_event fs given h =
       subst (λ (es : List Event). IsPassing fs moment given events es states (take count out)) (drop_more events i default lt) (w.passing fs given h)
 
-  written_left : ((fs : List Filter) (given : List Timed) → FiltersStandFor fs given states → true ≡ is_left fs moment given (get_or events i default)) → count < length out → (fs : List Filter) (given : List Timed) → FiltersStandFor fs given first → IsPassing fs moment given events (drop (i + 1) events) later (take (count + 1) (set out count (get_or events i default)))
+  written_left : ((fs : List Filter) (given : List Timed) → FiltersStandFor fs given states → true ≡ is_let_through fs moment given (get_or events i default)) → count < length out → (fs : List Filter) (given : List Timed) → FiltersStandFor fs given first → IsPassing fs moment given events (drop (i + 1) events) later (take (count + 1) (set out count (get_or events i default)))
   written_left is room fs given h =
       let e = get_or events i default in
       let p = at_event fs given h in
@@ -76,14 +76,14 @@ module _ (moment : ℕ) (events : List Event) (first : List FilterState) (buffer
       drop-set-lt (count + 1) out count (get_or events i default) (omega arith) ∙ sym (drop-drop 1 count out) ∙ ap (λ (es : List Event). drop 1 es) w.rest ∙ drop-drop 1 count buffer
 
   -- the next event is left, and written behind those before
-  pub writes-left : ((fs : List Filter) (given : List Timed) → FiltersStandFor fs given states → true ≡ is_left fs moment given (get_or events i default)) → count < length out → Writes moment events first buffer (i + 1) (count + 1) later (set out count (get_or events i default))
+  pub writes-left : ((fs : List Filter) (given : List Timed) → FiltersStandFor fs given states → true ≡ is_let_through fs moment given (get_or events i default)) → count < length out → Writes moment events first buffer (i + 1) (count + 1) later (set out count (get_or events i default))
   writes-left is room = record { few = omega (arith, w.few); rest = rest_left; passing = written_left is room }
 
-  written_eaten : ((fs : List Filter) (given : List Timed) → FiltersStandFor fs given states → false ≡ is_left fs moment given (get_or events i default)) → (fs : List Filter) (given : List Timed) → FiltersStandFor fs given first → IsPassing fs moment given events (drop (i + 1) events) later (take count out)
+  written_eaten : ((fs : List Filter) (given : List Timed) → FiltersStandFor fs given states → false ≡ is_let_through fs moment given (get_or events i default)) → (fs : List Filter) (given : List Timed) → FiltersStandFor fs given first → IsPassing fs moment given events (drop (i + 1) events) later (take count out)
   written_eaten is fs given h =
       let p = at_event fs given h in
       passing-eaten fs moment given events (get_or events i default) (drop (i + 1) events) states later (take count out) p (stands fs p.given_so_far p.stands) (is fs p.given_so_far p.stands)
 
   -- the next event is eaten
-  pub writes-eaten : ((fs : List Filter) (given : List Timed) → FiltersStandFor fs given states → false ≡ is_left fs moment given (get_or events i default)) → Writes moment events first buffer (i + 1) count later out
+  pub writes-eaten : ((fs : List Filter) (given : List Timed) → FiltersStandFor fs given states → false ≡ is_let_through fs moment given (get_or events i default)) → Writes moment events first buffer (i + 1) count later out
   writes-eaten is = record { few = omega (arith, w.few); rest = w.rest; passing = written_eaten is }

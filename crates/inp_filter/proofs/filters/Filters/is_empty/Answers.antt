@@ -1,0 +1,17 @@
+-- As many are kept as there are.
+use Rattle.std.proofs.Common.{◌≡◌, ◌∙◌, ℕ, List, [], ◌∷◌, refl, ap, length, arith}
+use Rattle.std.specs.Prelude.{◌==◌}
+use Rattle.std.proofs.lemmas.Bool.Decides.{nat_tests}
+use Rattle.inp_model.specs.Queue.{is_empty}
+use Rattle.inp_filter.specs.declared.filter_state.FilterState.{FilterState}
+use Rattle.inp_filter.proofs.Rows.{FiltersStandFor-is_empty}
+use Rattle.inp_filter.proofs.filters.Filters.is_empty.Goals as goal
+
+-- there are none where there are 0
+none_by_length : (states : List FilterState) → (length states == 0) ≡ is_empty states
+none_by_length [] = refl
+none_by_length (s ∷ states) = grind (arith, nat_tests)
+
+pub returns : goal.returns
+returns c = λ fs given h.
+    c.is_empty.ensures ∙ ap (λ (n : ℕ). n == 0) c.self.inside.filters.ok.0 ∙ ap (λ (states : List FilterState). length states == 0) c.self.view_is ∙ none_by_length c.args.self.now ∙ FiltersStandFor-is_empty fs given c.args.self.now h
