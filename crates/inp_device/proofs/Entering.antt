@@ -1,15 +1,17 @@
 -- A step of the device: refused, or accepted and entered.
 use Rattle.std.proofs.Common.{◌≡◌, ℕ, ◌+◌, ◌<◌, ◌≤◌, true, false, if◌then◌else◌, nat_le, List, [], ◌∷◌, ◌++◌, length, reverse, refl, sym, ap, subst, ◌∙◌, ℤ, arith, inl, inr, Option, Some, None}
 use Rattle.std.specs.Prelude.{Err}
+use Rattle.std.proofs.lemmas.Bool.{cond-true, cond-false, le-leb, lt-leb}
 use Rattle.std.proofs.lemmas.Bool.Decides.{nat_tests}
 use Rattle.std.proofs.lemmas.List.{length-reverse, reverse-append, length-append}
 use Rattle.inp_model.specs.declared.no_memory.NoMemory.{NoMemory as WantOfMemory}
+use Rattle.inp_model.specs.declared.event.Event.{Event}
 use Rattle.inp_model.specs.declared.taken.Taken.{Taken}
 use Rattle.inp_model.specs.declared.step.Step.{Step}
-use Rattle.inp_model.specs.declared.step.Step.TheVariants.{Open}
+use Rattle.inp_model.specs.declared.step.Step.TheVariants.{Open, Inject}
 use Rattle.inp_model.specs.declared.reply.Reply.{Reply}
-use Rattle.inp_model.specs.declared.reply.Reply.TheVariants.{Refused}
-use Rattle.inp_model.specs.declared.reply.Refusal.TheVariants.{NoMemory}
+use Rattle.inp_model.specs.declared.reply.Reply.TheVariants.{Refused, Done}
+use Rattle.inp_model.specs.declared.reply.Refusal.TheVariants.{NoMemory, LogFull}
 use Rattle.inp_model.specs.Description.{Description}
 use Rattle.inp_model.specs.DeviceView.{DeviceView}
 use Rattle.inp_model.specs.Reply.{Answer, alone, answer_by, answer, refused, accepted, is_accepted, written, IsDeviceStep}
@@ -39,6 +41,31 @@ pub device_refused : (p : Present) (steps : List Step) (agains : ℕ) (v : Devic
 device_refused p steps agains v x reply given out cells view exact is =
     subst (λ (w : DeviceView). IsDeviceStep w.description w.past x reply out out cells cells (reverse steps)) view
     (refused_step p.caps (reverse steps) x reply out cells (sym exact ∙ is))
+
+made_step : (d : Description) (past : List Step) (x : Step) (reply : Reply) (out new_out : List Taken) (cells new_cells : List ℤ) (new_past : List Step) → refused d past x ≡ None
+    → reply ≡ (accepted d past x).reply → new_out ≡ written (accepted d past x).events out → new_cells ≡ written (accepted d past x).cells cells → is_accepted (accepted d past x).reply ≡ true → new_past ≡ x ∷ past
+    → IsDeviceStep d past x reply out new_out cells new_cells new_past
+made_step d past x reply out new_out cells new_cells new_past none r o k enters entered =
+    let given : answer d past x ≡ accepted d past x = ap (λ refusal. answer_by refusal (accepted d past x)) none in
+    record {
+      given = answer d past x;
+      exact = inl refl;
+      replied = r ∙ ap (λ (a : Answer). a.reply) (sym given);
+      out_written = o ∙ ap (λ (a : Answer). written a.events out) (sym given);
+      cells_written = k ∙ ap (λ (a : Answer). written a.cells cells) (sym given);
+      entered = entered ∙ sym (ap (λ b. if b then x ∷ past else past) (ap is_accepted r ∙ enters));
+    }
+
+-- An injected event is refused by a full history alone.
+
+pub inject_refused : (d : Description) (past : List Step) (e : Event) (now : ℕ) (reply : Reply) (out : List Taken) (cells : List ℤ) → d.log_limit ≤ length past → reply ≡ Refused (length past) LogFull → IsDeviceStep d past (Inject e now) reply out out cells cells past
+inject_refused d past e now reply out cells full r =
+    refused_step d past (Inject e now) reply out cells (cond-true (nat_le d.log_limit (length past)) (Some (Refused (length past) LogFull)) None (le-leb d.log_limit (length past) full) ∙ ap Some (sym r))
+
+pub inject_entered : (d : Description) (past new_past : List Step) (e : Event) (now : ℕ) (reply : Reply) (out : List Taken) (cells : List ℤ) → length past < d.log_limit → reply ≡ Done (length past) → new_past ≡ Inject e now ∷ past
+    → IsDeviceStep d past (Inject e now) reply out out cells cells new_past
+inject_entered d past new_past e now reply out cells room r entered =
+    made_step d past (Inject e now) reply out out cells cells new_past (cond-false (nat_le d.log_limit (length past)) (Some (Refused (length past) LogFull)) None (lt-leb d.log_limit (length past) room)) r refl refl refl entered
 
 -- What a device keeps lies behind a pointer: what a call is lent is what it keeps.
 
@@ -92,20 +119,6 @@ entered_kept old new steps now pushed capacity wider x reply out new_out cells n
       within = omega (arith, below_limit old now x none, ap length same, longer, limit);
       room = omega (arith, kept.room, limit, wide);
       range = omega (arith, kept.range, limit);
-    }
-
-made_step : (d : Description) (past : List Step) (x : Step) (reply : Reply) (out new_out : List Taken) (cells new_cells : List ℤ) (new_past : List Step) → refused d past x ≡ None
-    → reply ≡ (accepted d past x).reply → new_out ≡ written (accepted d past x).events out → new_cells ≡ written (accepted d past x).cells cells → is_accepted (accepted d past x).reply ≡ true → new_past ≡ x ∷ past
-    → IsDeviceStep d past x reply out new_out cells new_cells new_past
-made_step d past x reply out new_out cells new_cells new_past none r o k enters entered =
-    let given : answer d past x ≡ accepted d past x = ap (λ refusal. answer_by refusal (accepted d past x)) none in
-    record {
-      given = answer d past x;
-      exact = inl refl;
-      replied = r ∙ ap (λ (a : Answer). a.reply) (sym given);
-      out_written = o ∙ ap (λ (a : Answer). written a.events out) (sym given);
-      cells_written = k ∙ ap (λ (a : Answer). written a.cells cells) (sym given);
-      entered = entered ∙ sym (ap (λ b. if b then x ∷ past else past) (ap is_accepted r ∙ enters));
     }
 
 accepted-enters : (d : Description) (past : List Step) (x : Step) → is_accepted (accepted d past x).reply ≡ true

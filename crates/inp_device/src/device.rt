@@ -1,5 +1,6 @@
 //! The device.
-ghost use Rattle.std.specs.Prelude.{◌≡◌, ◌≤◌, ◌<◌, ◌+◌, false, [], ◌∷◌, length, reverse, IfOk, ◌↔◌, sum_by, All};
+ghost use Rattle.std.specs.Prelude.{◌≡◌, ◌≤◌, ◌<◌, ◌+◌, ℤ, false, List, [], ◌∷◌, length, reverse, IfOk, ◌↔◌, sum_by, All};
+ghost use Rattle.inp_model.specs.declared.taken.Taken.{Taken as TakenEvent};
 ghost use Rattle.inp_model.specs.declared.limits.TheConstants.{LOG_MAX};
 ghost use Rattle.inp_model.specs.declared.stamped.TheConstants.{MOMENT_MAX};
 ghost use Rattle.inp_model.specs.declared.step.Step.TheVariants.{Inject};
@@ -116,6 +117,28 @@ impl Device {
         ensures out_stays { is_accepted result ≡ false → out.new ≡ out.old }
         ensures cells_stay { is_accepted result ≡ false → cells.new ≡ cells.old }
     {
+        match step {
+            Step::Inject { event, now } => self.inject(event, now),
+            _ => self.make(step, out, cells),
+        }
+    }
+
+    // Makes a step of any kind. An injected event has a shorter way, `inject`.
+    #[inline(never)]
+    fn make(&mut self, step: Step, out: &mut [Taken], cells: &mut [i32]) -> Reply
+        requires moment { moment_of step ≤ MOMENT_MAX }
+        requires room { HasRoom self.old.description step out.old cells.old }
+        ensures step { IsDeviceStep
+            self.old.description self.old.past step result out.old out.new cells.old cells.new
+            self.new.past }
+        ensures description { self.new.description ≡ self.old.description }
+        ensures agains { self.new.agains ≡ agains_after result self.old.agains }
+        ensures accepted { IsHistory self.new.description self.new.past }
+        ensures before { IsHistory self.old.description self.old.past }
+        ensures past_stays { is_accepted result ≡ false → self.new.past ≡ self.old.past }
+        ensures out_stays { is_accepted result ≡ false → out.new ≡ out.old }
+        ensures cells_stay { is_accepted result ≡ false → cells.new ≡ cells.old }
+    {
         if let Some(reply) = self.present.refusal(&self.steps, step) {
             self.agains = count_again(reply, self.agains);
             return reply;
@@ -127,6 +150,25 @@ impl Device {
             }
             Err(NoMemory) => refuse(&self.steps, Refusal::NoMemory),
         }
+    }
+
+    // Injects one event, which nothing but a full history refuses.
+    fn inject(&mut self, event: Event, now: u64) -> Reply
+        requires moment { now ≤ MOMENT_MAX }
+        ensures step { (out : List TakenEvent) (cells : List ℤ) → IsDeviceStep self.old.description
+            self.old.past (Inject event now) result out out cells cells self.new.past }
+        ensures description { self.new.description ≡ self.old.description }
+        ensures agains { self.new.agains ≡ agains_after result self.old.agains }
+        ensures accepted { IsHistory self.new.description self.new.past }
+        ensures before { IsHistory self.old.description self.old.past }
+        ensures past_stays { is_accepted result ≡ false → self.new.past ≡ self.old.past }
+    {
+        let at = self.steps.len() as u32;
+        if at >= self.present.caps.log() {
+            return refuse(&self.steps, Refusal::LogFull);
+        }
+        self.enter(event, now);
+        Reply::Done { at }
     }
 
     /// Injects events, each at its own moment, as many of them as the log limit leaves room for. They are entered in order,

@@ -3,7 +3,7 @@ use Rattle.std.specs.Prelude.{is_ok, vec_capacity}
 use Rattle.inp_device.specs.declared.present.Present.{Present}
 use Rattle.inp_device.specs.Present.{IsReadyFor}
 use Rattle.inp_device.proofs.Entering.{told_of, made_of, lacks_of, device_refused, ready, room, entered_kept, device_made, device_lacks}
-use Rattle.inp_device.proofs.device.Device.step.Goals as goal
+use Rattle.inp_device.proofs.device.Device.make.Goals as goal
 
 pub returns-in-Some-clause-step : goal.returns-in-Some-clause-step
 returns-in-Some-clause-step c =
