@@ -97,6 +97,35 @@ do s stream16 keys.bin
 do s stream keys.bin
 ";
 
+/// Filters before and between what else describes a device.
+const FILTERS: &str = "inputrecord 2
+device d
+filter bounce 0x1e 0005000
+filter eat 2 8
+cap 1 30
+filter chord KEY_A 84
+axis 0 0 0 0 0 0 0
+filter norepeat
+filter norepeat
+";
+
+const FILTERS_PRINTED: &str = "inputrecord 2
+device d
+hint 16
+log 1048576
+clock realtime 0
+clock boottime 0
+type EV_KEY
+type EV_ABS
+cap EV_KEY KEY_A
+axis ABS_X 0 0 0 0 0 0
+filter bounce KEY_A 5000
+filter eat EV_REL REL_WHEEL
+filter chord KEY_A 84
+filter norepeat
+filter norepeat
+";
+
 #[test]
 fn records_are_written(rt: HostRuntime) -> Result<(), Fail> {
     let table = [
@@ -104,6 +133,7 @@ fn records_are_written(rt: HostRuntime) -> Result<(), Fail> {
         (DESCRIPTION, DESCRIPTION_PRINTED),
         (COMMANDS, COMMANDS_PRINTED),
         (STREAMS, STREAMS_PRINTED),
+        (FILTERS, FILTERS_PRINTED),
     ];
     for (text, want) in table {
         let record = read(rt.alloc(), text)?;
