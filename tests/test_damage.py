@@ -23,6 +23,7 @@ from outcome import outcome
 HEAD = "inputrecord 1\n"
 SOURCE = HEAD + "device d\nsource s\n"
 READERS = HEAD + "device d\ntap t\nclient c\n"
+LATER = "inputrecord 2\ndevice d\n"
 
 # Texts and the line and the cause for which they are refused. The first cause in the order of FORMATS.md counts.
 CAUSES = [
@@ -73,6 +74,21 @@ CAUSES = [
     (HEAD + "device d\ncap EV_SYN 0\n", "3: bad-code"),
     (HEAD + "device d\ncap EV_REP 2\n", "3: bad-code"),
     (HEAD + "device d\ncap EV_KEY 0x300\n", "3: bad-code"),
+    (HEAD + "device d\nfilter norepeat\n", "3: bad-line"),
+    (HEAD + "filter other\n", "2: bad-line"),
+    (LATER + "filter\n", "3: bad-line"),
+    (LATER + "filter norepeat 1\n", "3: bad-line"),
+    (LATER + "filter bounce KEY_A\n", "3: bad-line"),
+    (LATER + "filter other 1 2 3 4\n", "3: bad-word"),
+    (LATER + "filter chord KEY_A REL_X\n", "3: bad-word"),
+    (LATER + "filter bounce KEY_A 0\n", "3: bad-word"),
+    (LATER + "filter bounce KEY_A 1000001\n", "3: bad-word"),
+    (LATER + "filter eat 0 0\n", "3: bad-code"),
+    (LATER + "filter chord KEY_A 0x1e\n", "3: bad-code"),
+    (LATER + "filter bounce 0x300 1\n", "3: bad-code"),
+    (LATER + "tap t\nfilter other\n", "4: out-of-place"),
+    (LATER + 9 * "filter norepeat\n", "11: bad-filter"),
+    (LATER + 8 * "filter norepeat\n" + "filter eat EV_KEY 0\n", "11: bad-code"),
     (SOURCE + "do s stream16 keys\n", "4: bad-command"),
     (READERS + "do c read 1\n", "5: bad-command"),
     (READERS + "do t next 1\n", "5: bad-command"),

@@ -66,6 +66,35 @@ axis ABS_MT_TRACKING_ID 0 0 65535 0 0 0
 """,
     ),
     (
+        "filters before and between what else describes a device",
+        b"""inputrecord 2
+device d
+filter bounce 0x1e 0005000
+filter eat 2 8
+cap 1 30
+filter chord KEY_A 84
+axis 0 0 0 0 0 0 0
+filter norepeat
+filter norepeat
+""",
+        b"""inputrecord 2
+device d
+hint 16
+log 1048576
+clock realtime 0
+clock boottime 0
+type EV_KEY
+type EV_ABS
+cap EV_KEY KEY_A
+axis ABS_X 0 0 0 0 0 0
+filter bounce KEY_A 5000
+filter eat EV_REL REL_WHEEL
+filter chord KEY_A 84
+filter norepeat
+filter norepeat
+""",
+    ),
+    (
         "commands with numbers in both bases",
         b"""inputrecord 1
 device d

@@ -16,6 +16,7 @@ from records_at_bounds import RECORDS
 
 SEED = 41
 COUNT = 60
+FILTERS = ("\nfilter eat ", "\nfilter norepeat\n", "\nfilter chord ", "\nfilter bounce ")
 
 
 def random_text(number, folder):
@@ -50,7 +51,7 @@ class SecondProgram(FolderCase):
 
     def test_the_random_records_have_something_to_show(self):
         texts = [random_text(number, self.folder) for number in range(COUNT)]
-        for text in ("inputrecord 1\n", "inputrecord 2\n", " stream events-", " stream16 events-", "\nslots 256\n"):
+        for text in ("inputrecord 1\n", "inputrecord 2\n", " stream events-", " stream16 events-", "\nslots 256\n", *FILTERS):
             with self.subTest(text=text):
                 self.assertIn(text, "".join(texts))
         reports = b"".join(report_of(text, self.folder, history=True)[0] for text in texts)

@@ -72,6 +72,11 @@ REFUSED = [
     ("bad-hint", DEVICE + "hint 1\n", 3),
     ("bad-log", DEVICE + "log 8388609\n", 3),
     ("bad-offset", DEVICE + "clock boottime 9000000000000001\n", 3),
+    ("bad-line", DEVICE + "filter norepeat\n", 3),
+    ("bad-line", LATER_DEVICE + "filter chord KEY_A\n", 3),
+    ("bad-word", LATER_DEVICE + "filter other\n", 3),
+    ("bad-code", LATER_DEVICE + "filter chord KEY_A KEY_A\n", 3),
+    ("bad-filter", LATER_DEVICE + "filter norepeat\n" * 9, 11),
 ]
 
 # As many of each as there may be. The file `keys` is empty.

@@ -26,6 +26,7 @@ class Caps:
     def __init__(self):
         self.kinds, self.codes, self.axes = {SYN}, {}, {}
         self.slots, self.hint, self.log = 0, 16, 1048576
+        self.filters = []
         self.offsets = {"realtime": 0, "monotonic": 0, "boottime": 0}
 
     def build(self):
@@ -64,6 +65,65 @@ def defuzz(value, old, fuzz):
     if old - 2 * fuzz < value < old + 2 * fuzz:
         return toward_zero(old + value, 2)
     return value
+
+
+class Filter:
+    """A filter, and the events that it was given: each with its moment and whether it was eaten, the newest last."""
+
+    def __init__(self, form, *words):
+        self.form, self.words, self.given = form, words, []
+
+    def of_key(self, key, end):
+        """The places of the events on a key before this place, the newest first."""
+        return [at for at in range(end - 1, -1, -1) if self.given[at][0][:2] == (KEY, key)]
+
+    def press_before(self, key, end):
+        """The place of the last press on a key before this place, unless a release stands between."""
+        for at in self.of_key(key, end):
+            value = self.given[at][0][2]
+            if value != 2:
+                return at if value else None
+        return None
+
+    def press_of_newest(self):
+        (_, key, value), _, _ = self.given[-1]
+        newest = len(self.given) - 1
+        return newest if value not in (0, 2) else self.press_before(key, newest)
+
+    def is_down_before(self, key, end):
+        """Whether the last event on a key before this place, but for autorepeats, is there and is no release."""
+        return self.press_before(key, end) is not None
+
+    def eats(self, event, now):
+        """Takes an event, and answers whether it is eaten."""
+        self.given.append((event, now, False))
+        is_eaten = getattr(self, "eats_by_" + self.form)(event, *self.words)
+        self.given[-1] = (event, now, is_eaten)
+        return is_eaten
+
+    def eats_by_eat(self, event, kind, code):
+        return event[:2] == (kind, code)
+
+    def eats_by_norepeat(self, event):
+        return event[0] == KEY and event[2] == 2
+
+    def eats_by_chord(self, event, first, second):
+        if event[:2] != (KEY, second):
+            return False
+        press = self.press_of_newest()
+        return press is not None and self.is_down_before(first, press)
+
+    def eats_by_bounce(self, event, key, micros):
+        if event[:2] != (KEY, key):
+            return False
+        press = self.press_of_newest()
+        if press is None:
+            return False
+        for at in self.of_key(key, press):
+            (_, _, value), moment, is_eaten = self.given[at]
+            if value == 0 and not is_eaten:
+                return moment <= self.given[press][1] < moment + micros
+        return False
 
 
 class Client:
@@ -114,6 +174,7 @@ class Device:
         self.staged = self.announced = self.at_frame = 0
         self.batch, self.due, self.repeat_key, self.inhibited = [], None, 0, False
         self.clients, self.opens, self.holder, self.ends = {}, 0, None, 0
+        self.filters = [Filter(*words) for words in caps.filters]
 
     # The core
 
@@ -183,6 +244,9 @@ class Device:
                     self.due = None
                 elif kind == KEY and value != 2 and all(self.repeat):
                     self.due, self.repeat_key = now + 1000 * self.repeat[0], code
+        if self.holder is None:
+            for filter_ in self.filters:
+                events = [event for event in events if event[0] == SYN or not filter_.eats(event, now)]
         for number, client in self.clients.items():
             if client.revoked or self.holder not in (None, number):
                 continue

@@ -218,6 +218,19 @@ def describe(caps, words):
     elif first == "axis":
         caps.kinds.add(ABS)
         caps.axes[code_of(ABS, words[0])] = tuple(number(word) for word in words[1:])
+    elif first == "filter":
+        caps.filters.append(filter_of(words))
+
+
+def filter_of(words):
+    """What a line says behind `filter`."""
+    form, *words = words
+    if form == "eat":
+        kind = kind_of(words[0])
+        return (form, kind, code_of(kind, words[1]))
+    if form == "bounce":
+        return (form, code_of(KEY, words[0]), number(words[1]))
+    return (form, *(code_of(KEY, word) for word in words))
 
 
 def read_stream(path, form):

@@ -77,7 +77,23 @@ class Generator:
         codes += [(ABS, code) for code in axes]
         if slots:
             codes += [(ABS, SLOT)] * 3 + [(ABS, ID)] * 2
+        if self.version == 2 and r.random() < 0.6:
+            lines += [f"filter {self.filter_words(codes)}" for _ in range(r.choice([1, 1, 2, 3, 8]))]
         return lines, codes, slots
+
+    def filter_words(self, codes):
+        """What a line says behind `filter`, mostly about codes that the device has."""
+        r, form = self.r, self.r.choice(["eat", "norepeat", "chord", "chord", "chord", "bounce", "bounce"])
+        if form == "norepeat":
+            return form
+        if form == "eat":
+            kind, code = r.choice(codes or [(KEY, 30)]) if r.random() < 0.9 else (REL, 8)
+            return f"{form} {kind_text(kind)} {code_text(kind, code)}"
+        keys = sorted({code for kind, code in codes if kind == KEY} | {30, 48})
+        first, second = r.sample(keys, 2)
+        if form == "bounce":
+            return f"{form} {code_text(KEY, second)} {r.choice([1, 1000, 5000, 50000, 1000000])}"
+        return f"{form} {code_text(KEY, first)} {code_text(KEY, second)}"
 
     def axes(self, lines):
         r, axes = self.r, set()

@@ -71,6 +71,10 @@ def one_of(word, words):
     return word
 
 
+def no_word():
+    raise Cause("bad-word")
+
+
 def name(word):
     if not re.fullmatch("[a-z0-9_-]{1,32}", word):
         raise Cause("bad-word")
@@ -99,6 +103,9 @@ FORMS = {
     "MOMENT": lambda word: number(word, MOMENT_MAX),
     "CLOCK": lambda word: one_of(word, CLOCKS),
     "AHEAD": lambda word: one_of(word, ("realtime", "boottime")),
+    "FILTER": lambda word: one_of(word, FILTERS),
+    "KEY": lambda word: code(word, KEY),
+    "MICROS": lambda word: number(word, 1000000) or no_word(),
 }
 
 
@@ -125,6 +132,16 @@ DESCRIPTION = {
     "cap": "TYPE CODE",
     "axis": AXIS,
 }
+
+# The words behind `filter`, by the first of them. Version 1 has no such line.
+FILTERS = {
+    "eat": "FILTER TYPE CODE",
+    "norepeat": "FILTER",
+    "chord": "FILTER KEY KEY",
+    "bounce": "FILTER KEY MICROS",
+}
+MOST_FILTERS = 8
+
 ACTORS = {"source": "NAME", "client": "NAME", "tap": "NAME"}
 LINES = {"inputrecord": "FILE", "device": "NAME", **DESCRIPTION, **ACTORS}
 
@@ -158,10 +175,13 @@ def has_length(forms, words):
     return len(words) == len(forms.split())
 
 
-def is_line(first, rest):
-    """Whether a line begins with this word and has so many words behind it."""
+def is_line(version, first, rest):
+    """Whether a line begins with this word and has so many words behind it. A line that names no filter may have any
+    number of words from two on."""
     if first == "do":
         return len(rest) >= 2
+    if first == "filter":
+        return version != "1" and bool(rest) and (rest[0] not in FILTERS or has_length(FILTERS[rest[0]], rest))
     return first in LINES and has_length(LINES[first], rest)
 
 
@@ -170,6 +190,18 @@ def is_line(first, rest):
 
 # The greatest number of slots that each version of a text has.
 MOST_SLOTS = {"1": 64, "2": 256}
+
+
+def cause_of_filter(count, form, *values):
+    """Why the call for one more filter behind so many is refused, or None."""
+    keys = {"eat": [], "norepeat": [], "chord": values, "bounce": values[:1]}[form]
+    codes = [values] if form == "eat" else [(KEY, key) for key in keys]
+    is_bad = form == "chord" and values[0] == values[1]
+    for of_kind, of_code in codes:
+        is_bad |= of_kind == SYN or of_code > GREATEST.get(of_kind, -1) or (of_kind, of_code) == (KEY, 0)
+    if is_bad:
+        return "bad-code"
+    return "bad-filter" if count == MOST_FILTERS else None
 
 
 def cause_of_call(version, first, values):
@@ -210,7 +242,7 @@ class Text:
         self.version, self.has_action = None, False
         self.devices, self.actors = set(), {}
         # Of the latest device: what was given that may be given once, and its actors' roles.
-        self.given, self.roles = set(), []
+        self.given, self.roles, self.filters = set(), [], 0
         self.streams = []
 
     def take(self, line, words):
@@ -221,7 +253,7 @@ class Text:
                 raise Cause("bad-header")
             self.version = rest[0]
             return
-        if not is_line(first, rest):
+        if not is_line(self.version, first, rest):
             raise Cause("bad-line")
         if self.is_out_of_place(first):
             raise Cause("out-of-place")
@@ -231,6 +263,8 @@ class Text:
             self.take_device(*values_of("NAME", rest))
         elif first in ACTORS:
             self.take_actor(first, *values_of("NAME", rest))
+        elif first == "filter":
+            self.take_filter(values_of(FILTERS.get(rest[0], "FILTER"), rest))
         else:
             self.take_description(first, values_of(DESCRIPTION[first], rest))
 
@@ -241,7 +275,7 @@ class Text:
             return True
         if first == "device":
             return False
-        return not self.devices or (first in DESCRIPTION and bool(self.roles))
+        return not self.devices or (first not in ACTORS and bool(self.roles))
 
     def take_device(self, device):
         if device in self.devices:
@@ -249,7 +283,7 @@ class Text:
         if len(self.devices) == MOST_DEVICES:
             raise Cause("too-many")
         self.devices.add(device)
-        self.given, self.roles = set(), []
+        self.given, self.roles, self.filters = set(), [], 0
 
     def take_description(self, first, values):
         what = (first, values[0]) if first in ("clock", "axis") else first
@@ -260,6 +294,12 @@ class Text:
             raise Cause(cause)
         if first not in ("type", "cap"):
             self.given.add(what)
+
+    def take_filter(self, values):
+        cause = cause_of_filter(self.filters, *values)
+        if cause:
+            raise Cause(cause)
+        self.filters += 1
 
     def take_actor(self, role, actor):
         if actor in self.actors:

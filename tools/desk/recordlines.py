@@ -10,7 +10,7 @@ from desk.command import Wrong, at_line, number
 from desk.names import ABS, KEY, LED, REP, SLOT, SW, is_in_a_record, number_of_code, number_of_kind
 from desk.recording import GREATEST, LEAST, Axis, Device, Recording
 
-FIRST_WORDS = ("inputrecord", "device", "hint", "log", "clock", "slots", "type", "cap", "axis")
+FIRST_WORDS = ("inputrecord", "device", "hint", "log", "clock", "slots", "type", "cap", "axis", "filter")
 GREATEST_LOG, GREATEST_OFFSET = 8388608, 9000000000000000
 ACTORS = ("source", "client", "tap", "do")
 
@@ -31,6 +31,10 @@ class Parser:
 
     def take(self, words):
         first, *rest = words
+        if first == "filter":
+            # (what filters a device has stands in the record as it is)
+            self.device.other_lines.append(" ".join(words))
+            return
         counts = {"hint": 1, "slots": 1, "type": 1, "cap": 2, "axis": 7, "log": 1, "clock": 2}
         if first not in counts:
             raise Wrong("no line of a device's description")

@@ -9,7 +9,7 @@ SLIPS = {
     "bad-header": "the first line that is no comment must be `inputrecord 1` or `inputrecord 2`",
     "bad-line": (
         "the line begins with no known word, or has too few or too many words (`axis` has CODE and "
-        "six numbers: value, minimum, maximum, fuzz, flat, resolution)"
+        "six numbers: value, minimum, maximum, fuzz, flat, resolution; `filter` comes with `inputrecord 2`)"
     ),
     "out-of-place": (
         "the order is: a device, its description, its actors; the next device; all `do` lines behind "
@@ -23,7 +23,8 @@ SLIPS = {
     ),
     "bad-word": (
         "a name that is in no table (write its number: `cap 1 280`), a code of another type, a number "
-        "out of its range, or a moment that is no whole number of microseconds"
+        "out of its range, a moment that is no whole number of microseconds, or a `filter` other than "
+        "`eat`, `norepeat`, `chord` and `bounce`"
     ),
     "twice": (
         "a setting, an axis or a name is given a second time; names of actors are one list over all "
@@ -35,7 +36,7 @@ SLIPS = {
     ),
     "bad-code": (
         "no device can have this code of this type (EV_KEY begins at 1; an axis is given by `axis`, "
-        "not by `cap`)"
+        "not by `cap`), or a filter is on EV_SYN or its chord has one key twice"
     ),
     "bad-axis": (
         "the fuzz is below 0 or too great, or an axis of multi-touch has a value other than 0 (its "
@@ -48,6 +49,7 @@ SLIPS = {
     "bad-hint": "a hint is 2 to 512 events",
     "bad-log": "a log is 1 to 8388608 steps",
     "bad-offset": "a clock is at most 9000000000000000 microseconds ahead",
+    "bad-filter": "a device has at most eight filters",
     "bad-stream": (
         "the file is not whole records of 24 bytes, as a 64-bit machine writes them; from a 32-bit "
         "machine they have 16, and `stream16` names them under `inputrecord 2`"

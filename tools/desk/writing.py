@@ -96,7 +96,8 @@ class Record:
             self.device.other_lines.append(f"log {GREATEST_LOG}")
 
     def lines(self):
-        yield "inputrecord 1"
+        has_filters = any(line.startswith("filter ") for line in self.device.other_lines)
+        yield f"inputrecord {2 if has_filters else 1}"
         yield from comments(self.device) + self.hint_comment
         yield from description_lines(self.device, self.name)
         yield f"source {DRIVER}"

@@ -1,9 +1,11 @@
 -- The lines of a device's description (docs/FORMATS.md, "The text of a record").
-use Rattle.std.specs.Prelude.{ℕ, ◌+◌, if◌then◌else◌, nat_eq, List, [], ◌∷◌, ◌++◌, codes, decimal, flat_map}
+use Rattle.std.specs.Prelude.{ℕ, ◌+◌, if◌then◌else◌, nat_eq, List, [], ◌∷◌, ◌++◌, codes, decimal, map, flat_map, Option, Some, None}
 use Rattle.std.specs.Fmt.{signed_decimal}
 use Rattle.std.specs.List.{range_with_len}
 use Rattle.inp_model.specs.declared.event.TheConstants.{EV_KEY, EV_REL, EV_ABS, EV_MSC, EV_SW, EV_LED, EV_SND, EV_MAX, KEY_MAX, ABS_MAX}
 use Rattle.inp_model.specs.declared.axis_info.AxisInfo.{AxisInfo}
+use Rattle.inp_model.specs.declared.filter.Filter.{Filter}
+use Rattle.inp_model.specs.declared.filter.Filter.TheVariants.{Eat, Norepeat, Chord, Bounce}
 use Rattle.inp_model.specs.Description.{Description, has_kind, supports, info, offset}
 use Rattle.inp_model.specs.declared.clock.Clock.{Clock}
 use Rattle.inp_model.specs.declared.clock.Clock.TheVariants.{Realtime, Boottime}
@@ -72,7 +74,29 @@ axis_lines d code = if supports d EV_ABS code then axis_words code (info d code)
 unfoldable pub axes_lines : Description → List Words
 axes_lines d = flat_map (axis_lines d) (range_with_len 0 (ABS_MAX + 1))
 
+-- a filter
+unfoldable pub filter_words : Filter → Words
+filter_words (Eat kind code) = codes "filter" ∷ codes "eat" ∷ kind_text kind ∷ code_text kind code ∷ []
+filter_words Norepeat = codes "filter" ∷ codes "norepeat" ∷ []
+filter_words (Chord first second) =
+    codes "filter" ∷ codes "chord" ∷ code_text EV_KEY first ∷ code_text EV_KEY second ∷ []
+filter_words (Bounce code micros) =
+    codes "filter" ∷ codes "bounce" ∷ code_text EV_KEY code ∷ decimal micros ∷ []
+
+-- a filter, if there is one
+abbrev pub filter_lines : Option Filter → List Words
+filter_lines None = []
+filter_lines (Some filter) = filter_words filter ∷ []
+
+-- all filters, in order
+unfoldable pub filters_lines : Description → List Words
+filters_lines d = map filter_words d.filters
+
+-- all that a description says but its filters
+unfoldable pub plain_lines : Description → List Words
+plain_lines d =
+    number_lines d ++ (slots_lines d ++ (kinds_lines d ++ (caps_lines d ++ axes_lines d)))
+
 -- all that a description says
 unfoldable pub description_lines : Description → List Words
-description_lines d =
-    number_lines d ++ (slots_lines d ++ (kinds_lines d ++ (caps_lines d ++ axes_lines d)))
+description_lines d = plain_lines d ++ filters_lines d

@@ -5,7 +5,8 @@ use Rattle.inp_model.specs.declared.multi_touch.TheConstants.{ABS_MT_POSITION_X}
 use Rattle.inp_model.specs.declared.clock.Clock.TheVariants.{Realtime, Monotonic, Boottime}
 use Rattle.inp_model.specs.declared.axis_info.AxisInfo.{AxisInfo}
 use Rattle.inp_model.specs.Description.{Description, one_key, no_info}
-use Rattle.inp_caps.specs.Builder.{syn_alone, with_kind, with_code, with_axis, built}
+use Rattle.inp_model.specs.declared.filter.Filter.TheVariants.{Eat, Norepeat, Chord, Bounce}
+use Rattle.inp_caps.specs.Builder.{syn_alone, with_kind, with_code, with_axis, with_filter, built}
 use Rattle.inp_actors.specs.declared.command.Command as command
 use Rattle.inp_actors.specs.declared.command.Command.TheVariants as commands
 use Rattle.inp_actors.specs.declared.role.Role.{Role}
@@ -116,6 +117,31 @@ WritesCodesAscending =
     ∷ codes "cap EV_KEY 84"
     ∷ codes "cap EV_REL REL_WHEEL"
     ∷ codes "cap EV_LED LED_CAPSL"
+    ∷ [])
+
+-- filters of each kind, one of them twice, and an axis
+abbrev pub filtered : Description
+filtered =
+    let first : Description = with_filter syn_alone (Bounce 84 1000000) in
+    let second : Description = with_filter first (Chord KEY_A 48) in
+    let third : Description = with_filter (with_axis (with_kind second EV_ABS) 0 no_info) Norepeat in
+    with_filter (with_filter third (Eat EV_REL 8)) Norepeat
+
+-- behind the axes, in the order in which they were added
+abbrev pub WritesFiltersInOrder : Type 0
+WritesFiltersInOrder =
+    lines_text (description_lines filtered)
+    ≡ text_of (codes "hint 16"
+    ∷ codes "log 1048576"
+    ∷ codes "clock realtime 0"
+    ∷ codes "clock boottime 0"
+    ∷ codes "type EV_ABS"
+    ∷ codes "axis ABS_X 0 0 0 0 0 0"
+    ∷ codes "filter bounce 84 1000000"
+    ∷ codes "filter chord KEY_A KEY_B"
+    ∷ codes "filter norepeat"
+    ∷ codes "filter eat EV_REL REL_WHEEL"
+    ∷ codes "filter norepeat"
     ∷ [])
 
 -- actors of two devices

@@ -1,14 +1,15 @@
 //! The lines of a device's description.
-ghost use Rattle.std.specs.Prelude.{◌≡◌, ◌<◌, ◌≤◌, [], ◌∷◌, ◌++◌, codes, decimal, string_bytes, OnOk};
+ghost use Rattle.std.specs.Prelude.{◌≡◌, ◌<◌, ◌≤◌, [], ◌∷◌, ◌++◌, codes, decimal, length, slice_get, string_bytes, OnOk};
 ghost use Rattle.inp_model.specs.declared.event.TheConstants.{ABS_MAX};
+ghost use Rattle.inp_model.specs.declared.limits.TheConstants.{FILTERS_MAX};
 ghost use Rattle.inp_canon.specs.Words.{line_text, lines_text};
-ghost use Rattle.inp_canon.specs.Device.{clock_words, number_lines, slots_lines, kind_lines, kinds_lines, code_lines, codes_lines, caps_lines, axis_words, axis_lines, axes_lines, description_lines};
+ghost use Rattle.inp_canon.specs.Device.{clock_words, number_lines, slots_lines, kind_lines, kinds_lines, code_lines, codes_lines, caps_lines, axis_words, axis_lines, axes_lines, filter_words, filter_lines, filters_lines, plain_lines, description_lines};
 
 use crate::info_text::InfoText;
 use inp_caps::Caps;
 use inp_model::{
     ABS_MAX, AxisInfo, Clock, EV_ABS, EV_KEY, EV_LED, EV_MAX, EV_MSC, EV_REL, EV_SND, EV_SW,
-    KEY_MAX, NoMemory,
+    FILTERS_MAX, Filter, KEY_MAX, NoMemory,
 };
 use inp_texts::{ClockText, CodeText, KindText};
 use std::fmt::Write;
@@ -17,6 +18,16 @@ pub(crate) fn push_description(text: &mut String, caps: &Caps) -> Result<(), NoM
     ensures pushed { OnOk result
         (string_bytes text.new
         ≡ string_bytes text.old ++ lines_text (description_lines caps.now)) }
+{
+    push_plain(text, caps)?;
+    push_filters(text, caps)?;
+    Ok(())
+}
+
+// All but the filters.
+fn push_plain(text: &mut String, caps: &Caps) -> Result<(), NoMemory>
+    ensures pushed { OnOk result
+        (string_bytes text.new ≡ string_bytes text.old ++ lines_text (plain_lines caps.now)) }
 {
     push_numbers(text, caps)?;
     push_slots(text, caps)?;
@@ -151,5 +162,52 @@ fn push_axis_line(text: &mut String, code: u16, info: AxisInfo) -> Result<(), No
     let code = CodeText::of_axis(code);
     let info = InfoText(info);
     write!(text, "axis {code}{info}")?;
+    Ok(())
+}
+
+// The filters, in order.
+fn push_filters(text: &mut String, caps: &Caps) -> Result<(), NoMemory>
+    ensures pushed { OnOk result
+        (string_bytes text.new ≡ string_bytes text.old ++ lines_text (filters_lines caps.now)) }
+{
+    for index in 0..FILTERS_MAX {
+        push_filter_at(text, caps, index)?;
+    }
+    Ok(())
+}
+
+// The filter with this number, if there is one.
+fn push_filter_at(text: &mut String, caps: &Caps, index: u32) -> Result<(), NoMemory>
+    ensures pushed { OnOk result
+        (string_bytes text.new
+        ≡ string_bytes text.old ++ lines_text (filter_lines (slice_get caps.now.filters index))) }
+    ensures few { length caps.now.filters ≤ FILTERS_MAX }
+{
+    match caps.filter(index) {
+        Some(filter) => push_filter(text, filter),
+        None => Ok(()),
+    }
+}
+
+#[tactic(auto, unfolding(crate::specs::Device::filter_words))]
+fn push_filter(text: &mut String, filter: Filter) -> Result<(), NoMemory>
+    ensures pushed { OnOk result
+        (string_bytes text.new ≡ string_bytes text.old ++ line_text (filter_words filter)) }
+{
+    match filter {
+        Filter::Eat { kind, code } => {
+            let (kind, code) = (KindText(kind), CodeText { kind, code });
+            write!(text, "filter eat {kind} {code}\n")?;
+        }
+        Filter::Norepeat => text.push_str("filter norepeat\n")?,
+        Filter::Chord { first, second } => {
+            let (first, second) = (CodeText::of_key(first), CodeText::of_key(second));
+            write!(text, "filter chord {first} {second}\n")?;
+        }
+        Filter::Bounce { code, micros } => {
+            let code = CodeText::of_key(code);
+            write!(text, "filter bounce {code} {micros}\n")?;
+        }
+    }
     Ok(())
 }

@@ -1,5 +1,5 @@
 //! What the definitions say of a few records.
-ghost use Rattle.inp_canon.specs.Examples.{WritesAKeyboard, WritesAVersion, WritesSlots, WritesCodesAscending, WritesActorsOfTheDevice, WritesCommands};
+ghost use Rattle.inp_canon.specs.Examples.{WritesAKeyboard, WritesAVersion, WritesSlots, WritesCodesAscending, WritesFiltersInOrder, WritesActorsOfTheDevice, WritesCommands};
 
 /// What the definitions of this crate make of a few records, worked out by hand. It does nothing: its contract is the
 /// point.
@@ -8,6 +8,7 @@ pub fn examples()
     ensures version { WritesAVersion }
     ensures slots { WritesSlots }
     ensures codes { WritesCodesAscending }
+    ensures filters { WritesFiltersInOrder }
     ensures actors { WritesActorsOfTheDevice }
     ensures commands { WritesCommands }
 {}

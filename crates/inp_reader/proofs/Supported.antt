@@ -23,10 +23,9 @@ use Rattle.inp_model.specs.Frame.{frame_of, frames_of_step, cuts_of_step}
 use Rattle.inp_model.specs.Raw.{raw, raw_of_step}
 use Rattle.inp_model.specs.Past.{is_call_of, admits, clock_of}
 use Rattle.inp_model.specs.Step.{Query, query_of, is_part_of}
-use Rattle.inp_model.specs.Left.{eaten, left}
+use Rattle.inp_model.specs.Left.{eaten, is_left, left_from, left}
 use Rattle.inp_model.specs.Queue.{Entry, event_of, entry_dropped_at, put, put_all, visible, stays, flush_behind, flush_for, is_offered, entry, entries_of, entries, clock_entry, clock_changed, is_same_clock, left_by_call, queue, queue_with, taken_by, is_empty, ends_in_report}
 use Rattle.inp_model.specs.Reply.{Answer, IsAnswer, answer_by, accepted, refused, taken_of}
-use Rattle.inp_model.proofs.Lefts.{left-all}
 use Rattle.inp_reader.specs.Spare.{is_event_of}
 
 abbrev IsOf : Description → Event → Type 0
@@ -200,12 +199,22 @@ frames-of d past x = All-map (IsFrameOf d) (frame_of past x) (cuts_of_step d pas
 abbrev IsEntryOf : Description → Entry → Type 0
 IsEntryOf d e = is_event_of d (event_of e) ≡ true
 
+kept-of : (d : Description) (e : Event) (rest : List Event) (here : Bool) → IsOf d e → All (IsOf d) rest → All (IsOf d) (if here then e ∷ rest else rest)
+kept-of d e rest true h k = All-cons (IsOf d) e rest h k
+kept-of d e rest false h k = k
+
+-- so are those that are left, whatever is eaten
+left_from-of : (d : Description) (eats : ℕ → Bool) (k : ℕ) (es : List Event) → All (IsOf d) es → All (IsOf d) (left_from eats k es)
+left_from-of d eats k [] h = All-nil (IsOf d)
+left_from-of d eats k (e ∷ es) h =
+    kept-of d e (left_from eats (suc k) es) (is_left eats k e) (All-head (IsOf d) e es h) (left_from-of d eats (suc k) es (All-tail (IsOf d) e es h))
+
 entries_of-of : (d : Description) (client : ℕ) (f : Frame) → IsFrameOf d f → All (IsEntryOf d) (entries_of d client f)
 entries_of-of d client f h =
     let all : List Event = left (eaten d) f in
     let some : List Event = filter (admits f.before client) all in
     if-some (IsEntryOf d) (is_offered f.before client) (map (entry d client f) some)
-    (All-map (IsEntryOf d) (entry d client f) some (All-filter (admits f.before client) (IsOf d) all (subst (All (IsOf d)) (sym (left-all d f)) h)))
+    (All-map (IsEntryOf d) (entry d client f) some (All-filter (admits f.before client) (IsOf d) all (left_from-of d (eaten d f) 0 f.cut.events h)))
 
 entries-of : (d : Description) (client : ℕ) (fs : List Frame) → All (IsFrameOf d) fs → All (IsEntryOf d) (entries d client fs)
 entries-of d client [] h = All-nil (IsEntryOf d)

@@ -65,36 +65,36 @@ do_words name does = codes "do" ∷ name ∷ command_words does
 
 -- such a line is that of an action
 module _ (name : List ℕ) where
-  pub do_keyword : (does : command.Command) → keyword_of (codes "do") (length (do_words name does)) ≡ Some keywords.Action
+  pub do_keyword : (version : ℕ) (does : command.Command) → keyword_of version (codes "do") name (length (do_words name does)) ≡ Some keywords.Action
   unfolding keyword_of keyword_rows command_words info_text fuzz_words
-  do_keyword (commands.Event moment kind code value) = refl
-  do_keyword (commands.Tick moment) = refl
-  do_keyword (commands.Inhibit moment) = refl
-  do_keyword commands.Uninhibit = refl
-  do_keyword (commands.Stream file index) = refl
-  do_keyword (commands.Stream16 file index) = refl
-  do_keyword commands.Open = refl
-  do_keyword commands.Close = refl
-  do_keyword commands.Grab = refl
-  do_keyword commands.Ungrab = refl
-  do_keyword commands.Revoke = refl
-  do_keyword (commands.Mask kind place bits) = refl
-  do_keyword (commands.Clock clock moment) = refl
-  do_keyword (commands.Write moment kind code value) = refl
-  do_keyword (commands.SetAxis code info) = refl
-  do_keyword (commands.Read count) = refl
-  do_keyword commands.Discard = refl
-  do_keyword commands.Keys = refl
-  do_keyword commands.Switches = refl
-  do_keyword commands.Leds = refl
-  do_keyword commands.Sounds = refl
-  do_keyword commands.SyncSlots = refl
-  do_keyword (commands.Axis code) = refl
-  do_keyword (commands.Slots code) = refl
-  do_keyword (commands.Next count) = refl
-  do_keyword (commands.Skip count) = refl
-  do_keyword commands.Follow = refl
-  do_keyword commands.Force = refl
+  do_keyword version (commands.Event moment kind code value) = refl
+  do_keyword version (commands.Tick moment) = refl
+  do_keyword version (commands.Inhibit moment) = refl
+  do_keyword version commands.Uninhibit = refl
+  do_keyword version (commands.Stream file index) = refl
+  do_keyword version (commands.Stream16 file index) = refl
+  do_keyword version commands.Open = refl
+  do_keyword version commands.Close = refl
+  do_keyword version commands.Grab = refl
+  do_keyword version commands.Ungrab = refl
+  do_keyword version commands.Revoke = refl
+  do_keyword version (commands.Mask kind place bits) = refl
+  do_keyword version (commands.Clock clock moment) = refl
+  do_keyword version (commands.Write moment kind code value) = refl
+  do_keyword version (commands.SetAxis code info) = refl
+  do_keyword version (commands.Read count) = refl
+  do_keyword version commands.Discard = refl
+  do_keyword version commands.Keys = refl
+  do_keyword version commands.Switches = refl
+  do_keyword version commands.Leds = refl
+  do_keyword version commands.Sounds = refl
+  do_keyword version commands.SyncSlots = refl
+  do_keyword version (commands.Axis code) = refl
+  do_keyword version (commands.Slots code) = refl
+  do_keyword version (commands.Next count) = refl
+  do_keyword version (commands.Skip count) = refl
+  do_keyword version commands.Follow = refl
+  do_keyword version commands.Force = refl
 
 -- its verb is read again
 

@@ -4,6 +4,8 @@ use Rattle.std.specs.Prelude.{codes}
 use Rattle.std.proofs.lemmas.Bool.{and_parts, not-false, false_from_ne_true}
 use Rattle.std.proofs.lemmas.Bool.Decides.{nat_tests}
 use Rattle.std.proofs.lemmas.Slice.Eq.{bytes_eq-Decides}
+use Rattle.inp_model.specs.declared.filter.Filter as filter
+use Rattle.inp_model.specs.declared.filter.Filter.TheVariants as filters
 use Rattle.inp_actors.specs.declared.actor_text.ActorText.{ActorText}
 use Rattle.inp_actors.specs.declared.role.Role.TheVariants as roles
 use Rattle.inp_actors.specs.declared.record.TheConstants.{VERSION_MAX}
@@ -14,7 +16,7 @@ use Rattle.inp_record.specs.declared.cause.Cause.TheVariants.{NotText, BadHeader
 use Rattle.inp_record.specs.declared.refused.Refused.{Refused}
 use Rattle.inp_record.specs.declared.context.Context.{Context}
 use Rattle.inp_record.specs.declared.item.Item.{Item}
-use Rattle.inp_record.specs.declared.item.Item.TheVariants.{Header, Device, Hint, Log, Realtime, Boottime, Slots, Kind, Code, Axis, Actor, Action}
+use Rattle.inp_record.specs.declared.item.Item.TheVariants.{Header, Device, Hint, Log, Realtime, Boottime, Slots, Kind, Code, Axis, Filter, Actor, Action}
 use Rattle.inp_record.specs.declared.keyword.Keyword as keyword
 use Rattle.inp_record.specs.declared.keyword.Keyword.TheVariants as keywords
 use Rattle.inp_record.specs.Keyword.{keyword_of, keyword_rows}
@@ -24,6 +26,7 @@ use Rattle.inp_record.specs.Past.{Past, place_of, version_of, former_devices, ac
 use Rattle.inp_record.specs.Meaning.{checked, placed, item_of_words, behind, behind_words, behind_line, go_on, behind_lines, record_of, as_record, meaning}
 use Rattle.inp_record.proofs.Inversions.{IsPlaced, checked_is, words_are, keyword_for as keyword_read}
 use Rattle.inp_record.proofs.Good.{push_get, item_is}
+use Rattle.inp_record.proofs.Keywords.{is_filter_keyword, filter_is_later}
 use Rattle.inp_record.proofs.Sayable.{keyword_for, IsInPlace, IsAccepted}
 use Rattle.inp_record.proofs.SayableItems.{AreNamed, ArePlain, line_plain, item_said}
 
@@ -45,6 +48,7 @@ actors_named (Slots count ∷ past) h = actors_named past h.1
 actors_named (Kind kind ∷ past) h = actors_named past h.1
 actors_named (Code kind code ∷ past) h = actors_named past h.1
 actors_named (Axis code info ∷ past) h = actors_named past h.1
+actors_named (Filter filter ∷ past) h = actors_named past h.1
 actors_named (Actor role name ∷ past) h = λ i a e.
     let old = actors_named past h.1 in
     elim (push_get (actors_of past) (record { name = name; role = role; device = length (former_devices past) }) i a e) [
@@ -60,9 +64,9 @@ is_header_item (Header version) = true
 is_header_item (Device name) = false
 is_header_item _ = false
 
-header_keyword : (ws : List (List ℕ)) → is_header ws ≡ true → keyword_of (word 0 ws) (length ws) ≡ Some keywords.Header
+header_keyword : (version : ℕ) (ws : List (List ℕ)) → is_header ws ≡ true → keyword_of version (word 0 ws) (word 1 ws) (length ws) ≡ Some keywords.Header
 unfolding keyword_of keyword_rows
-header_keyword ws h =
+header_keyword version ws h =
     let parts = and_parts (nat_eq (length ws) 2 && bytes_eq (word 0 ws) (codes "inputrecord")) (is_some (version_word (word 1 ws))) h in
     let more = and_parts (nat_eq (length ws) 2) (bytes_eq (word 0 ws) (codes "inputrecord")) parts.0 in
     let count : length ws ≡ 2 = grind (arith, nat_tests) in
@@ -82,8 +86,8 @@ first_header : (c : Context) (ws : List (List ℕ)) (i : Item) → is_start c.pl
 unfolding item_of_words
 first_header c ws i start e = by_header (is_start c.place) (is_header ws) refl start e
   where
-    by_header : (starts is : Bool) → is_header ws ≡ is → starts ≡ true → (if starts && not is then Err BadHeader else placed c (keyword_of (word 0 ws) (length ws)) ws) ≡ Ok i → is_header_item i ≡ true
-    by_header true true h s e = header_item c ws i (subst (λ (k : Option keyword.Keyword). placed c k ws ≡ Ok i) (header_keyword ws h) e)
+    by_header : (starts is : Bool) → is_header ws ≡ is → starts ≡ true → (if starts && not is then Err BadHeader else placed c (keyword_of c.version (word 0 ws) (word 1 ws) (length ws)) ws) ≡ Ok i → is_header_item i ≡ true
+    by_header true true h s e = header_item c ws i (subst (λ (k : Option keyword.Keyword). placed c k ws ≡ Ok i) (header_keyword c.version ws h) e)
     by_header true false h s e = absurd (cc e)
     by_header false is h s e = absurd (cc s)
 
@@ -100,6 +104,7 @@ same_keyword (Slots count) = refl
 same_keyword (Kind kind) = refl
 same_keyword (Code kind code) = refl
 same_keyword (Axis code info) = refl
+same_keyword (Filter filter) = refl
 same_keyword (Actor roles.Source name) = refl
 same_keyword (Actor roles.Client name) = refl
 same_keyword (Actor roles.Tap name) = refl
@@ -111,19 +116,42 @@ keyword_allowed c ws i p = elim (item_is c.actors c.streams p.keyword ws i p.ite
   | inr h ↦ rw (sym (same_keyword i) ∙ h.0) p.in_place
 ]
 
-in_place : (past : Past) (i : Item) → (is_start (place_of past) ≡ true → is_header_item i ≡ true) → is_out_of_place (place_of past) (keyword_for i) ≡ false → IsInPlace past i
-in_place past (Header version) first allowed = not-false (is_start (place_of past)) allowed
-in_place past (Device name) first allowed = (false_from_ne_true (is_start (place_of past)) (λ s. let e : false ≡ true = first s in cc e), allowed)
-in_place past (Hint count) first allowed = (false_from_ne_true (is_start (place_of past)) (λ s. let e : false ≡ true = first s in cc e), allowed)
-in_place past (Log count) first allowed = (false_from_ne_true (is_start (place_of past)) (λ s. let e : false ≡ true = first s in cc e), allowed)
-in_place past (Realtime offset) first allowed = (false_from_ne_true (is_start (place_of past)) (λ s. let e : false ≡ true = first s in cc e), allowed)
-in_place past (Boottime offset) first allowed = (false_from_ne_true (is_start (place_of past)) (λ s. let e : false ≡ true = first s in cc e), allowed)
-in_place past (Slots count) first allowed = (false_from_ne_true (is_start (place_of past)) (λ s. let e : false ≡ true = first s in cc e), allowed)
-in_place past (Kind kind) first allowed = (false_from_ne_true (is_start (place_of past)) (λ s. let e : false ≡ true = first s in cc e), allowed)
-in_place past (Code kind code) first allowed = (false_from_ne_true (is_start (place_of past)) (λ s. let e : false ≡ true = first s in cc e), allowed)
-in_place past (Axis code info) first allowed = (false_from_ne_true (is_start (place_of past)) (λ s. let e : false ≡ true = first s in cc e), allowed)
-in_place past (Actor role name) first allowed = (false_from_ne_true (is_start (place_of past)) (λ s. let e : false ≡ true = first s in cc e), allowed)
-in_place past (Action actor command) first allowed = (false_from_ne_true (is_start (place_of past)) (λ s. let e : false ≡ true = first s in cc e), allowed)
+-- a filter line is read under a later version than 1 alone
+
+abbrev is_filter_item : Item → Bool
+is_filter_item (Filter filter) = true
+is_filter_item _ = false
+
+filter_keyworded : (f : filter.Filter) → is_filter_keyword (keyword_for (Filter f)) ≡ true
+filter_keyworded (filters.Eat kind code) = refl
+filter_keyworded filters.Norepeat = refl
+filter_keyworded (filters.Chord first second) = refl
+filter_keyworded (filters.Bounce code micros) = refl
+
+item_keyworded : (i : Item) → is_filter_item i ≡ true → is_filter_keyword (keyword_for i) ≡ true
+item_keyworded (Filter f) h = filter_keyworded f
+item_keyworded i h = absurd (cc h)
+
+filter_later : (c : Context) (ws : List (List ℕ)) (i : Item) → IsPlaced c ws i → is_filter_item i ≡ true → nat_eq c.version 1 ≡ false
+filter_later c ws i p h = elim (item_is c.actors c.streams p.keyword ws i p.item) [
+  | inl a ↦ let none : is_filter_item i ≡ false = ap is_filter_item a.2 in absurd (cc (none, h))
+  | inr a ↦ filter_is_later c.version (word 0 ws) (word 1 ws) (length ws) p.keyword p.named (ap is_filter_keyword (sym (sym (same_keyword i) ∙ a.0)) ∙ item_keyworded i h)
+]
+
+in_place : (past : Past) (i : Item) → (is_start (place_of past) ≡ true → is_header_item i ≡ true) → is_out_of_place (place_of past) (keyword_for i) ≡ false → (is_filter_item i ≡ true → nat_eq (version_of past) 1 ≡ false) → IsInPlace past i
+in_place past (Header version) first allowed later = not-false (is_start (place_of past)) allowed
+in_place past (Device name) first allowed later = (false_from_ne_true (is_start (place_of past)) (λ s. let e : false ≡ true = first s in cc e), allowed)
+in_place past (Hint count) first allowed later = (false_from_ne_true (is_start (place_of past)) (λ s. let e : false ≡ true = first s in cc e), allowed)
+in_place past (Log count) first allowed later = (false_from_ne_true (is_start (place_of past)) (λ s. let e : false ≡ true = first s in cc e), allowed)
+in_place past (Realtime offset) first allowed later = (false_from_ne_true (is_start (place_of past)) (λ s. let e : false ≡ true = first s in cc e), allowed)
+in_place past (Boottime offset) first allowed later = (false_from_ne_true (is_start (place_of past)) (λ s. let e : false ≡ true = first s in cc e), allowed)
+in_place past (Slots count) first allowed later = (false_from_ne_true (is_start (place_of past)) (λ s. let e : false ≡ true = first s in cc e), allowed)
+in_place past (Kind kind) first allowed later = (false_from_ne_true (is_start (place_of past)) (λ s. let e : false ≡ true = first s in cc e), allowed)
+in_place past (Code kind code) first allowed later = (false_from_ne_true (is_start (place_of past)) (λ s. let e : false ≡ true = first s in cc e), allowed)
+in_place past (Axis code info) first allowed later = (false_from_ne_true (is_start (place_of past)) (λ s. let e : false ≡ true = first s in cc e), allowed)
+in_place past (Filter filter) first allowed later = (false_from_ne_true (is_start (place_of past)) (λ s. let e : false ≡ true = first s in cc e), allowed, later refl)
+in_place past (Actor role name) first allowed later = (false_from_ne_true (is_start (place_of past)) (λ s. let e : false ≡ true = first s in cc e), allowed)
+in_place past (Action actor command) first allowed later = (false_from_ne_true (is_start (place_of past)) (λ s. let e : false ≡ true = first s in cc e), allowed)
 
 -- what is read is accepted
 
@@ -133,7 +161,7 @@ words_accepted past ws i were plain e =
     let p = words_are (context_of past) ws i h.read in
     record {
       sayable = item_said (actors_of past) (stream_count past) p.keyword ws i (actors_named past were) plain p.item;
-      in_place = in_place past i (λ s. first_header (context_of past) ws i s h.read) (keyword_allowed (context_of past) ws i p);
+      in_place = in_place past i (λ s. first_header (context_of past) ws i s h.read) (keyword_allowed (context_of past) ws i p) (filter_later (context_of past) ws i p);
       in_version = h.in_version;
       once = h.once;
       few = h.enough;
@@ -185,6 +213,7 @@ version_accepted (Slots count ∷ past) h = version_accepted past h.1
 version_accepted (Kind kind ∷ past) h = version_accepted past h.1
 version_accepted (Code kind code ∷ past) h = version_accepted past h.1
 version_accepted (Axis code info ∷ past) h = version_accepted past h.1
+version_accepted (Filter filter ∷ past) h = version_accepted past h.1
 version_accepted (Actor role name ∷ past) h = version_accepted past h.1
 version_accepted (Action actor command ∷ past) h = version_accepted past h.1
 

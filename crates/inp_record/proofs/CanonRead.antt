@@ -9,9 +9,9 @@ use Rattle.inp_words.specs.Line.{lines_of as text_lines}
 use Rattle.inp_record.specs.declared.cause.Cause.{Cause}
 use Rattle.inp_record.specs.declared.cause.Cause.TheVariants.{BadCommand, Twice, TooMany, Caps}
 use Rattle.inp_record.specs.declared.item.Item.{Item}
-use Rattle.inp_record.specs.declared.item.Item.TheVariants.{Header, Device, Hint, Log, Realtime, Boottime, Slots, Kind, Code, Axis, Actor, Action}
+use Rattle.inp_record.specs.declared.item.Item.TheVariants.{Header, Device, Hint, Log, Realtime, Boottime, Slots, Kind, Code, Axis, Filter, Actor, Action}
 use Rattle.inp_record.specs.Words.{is_action}
-use Rattle.inp_record.specs.Past.{Past, actors_of, stream_count, context_of}
+use Rattle.inp_record.specs.Past.{Past, latest_description, actors_of, stream_count, context_of}
 use Rattle.inp_record.specs.Meaning.{is_later_command, is_twice, is_too_many, has_too_many_slots, refusal, unless_refused, checked, item_of_words, behind, behind_words, behind_line, go_on, behind_lines}
 use Rattle.inp_record.specs.Spelling.{item_words}
 use Rattle.inp_record.proofs.Sayable.{keyword_for, IsAccepted, AreAccepted}
@@ -35,17 +35,18 @@ same_words others actors (Slots count) h = refl
 same_words others actors (Kind kind) h = refl
 same_words others actors (Code kind code) h = refl
 same_words others actors (Axis code info) h = refl
+same_words others actors (Filter filter) h = refl
 same_words others actors (Actor role name) h = refl
 same_words others actors (Action actor does) h = ap (λ (a : List ActorText). item_words a (Action actor does)) (sym (h refl))
 
 -- an item that is accepted behind a past is read there and leaves itself
 
-words_behind : (past : Past) (ws : Words) (i : Item) → IsPlainLine ws → item_of_words (context_of past) ws ≡ Ok i → is_later_command (context_of past) i ≡ false → is_twice (context_of past) i ≡ false → is_too_many (context_of past) i ≡ false → has_too_many_slots (context_of past) i ≡ false → refusal i ≡ None
+words_behind : (past : Past) (ws : Words) (i : Item) → IsPlainLine ws → item_of_words (context_of past) ws ≡ Ok i → is_later_command (context_of past) i ≡ false → is_twice (context_of past) i ≡ false → is_too_many (context_of past) i ≡ false → has_too_many_slots (context_of past) i ≡ false → refusal (latest_description past) i ≡ None
     → behind_words past ws ≡ Ok (i ∷ past)
 words_behind past [] i plain read known once few few_slots fits = absurd (cc plain.first)
 words_behind past (w ∷ ws) i plain read known once few few_slots fits =
     ap (λ (r : Result Item Cause). behind past (checked (context_of past) r)) read
-    ∙ ap (behind past) (by_tests (is_later_command (context_of past) i) (is_twice (context_of past) i) (is_too_many (context_of past) i) (has_too_many_slots (context_of past) i) (refusal i) known once few few_slots fits)
+    ∙ ap (behind past) (by_tests (is_later_command (context_of past) i) (is_twice (context_of past) i) (is_too_many (context_of past) i) (has_too_many_slots (context_of past) i) (refusal (latest_description past) i) known once few few_slots fits)
   where
     by_tests : (later twice many wide : Bool) (why : Option CapsRefused) → later ≡ false → twice ≡ false → many ≡ false → wide ≡ false → why ≡ None → (if later then Err BadCommand else if twice then Err Twice else if many then Err TooMany else if wide then Err (Caps BadSlots) else unless_refused why i) ≡ Ok i
     by_tests later twice many wide why l t m w f = rw (l, t, m, w, f) refl

@@ -1,6 +1,8 @@
 -- The canonical items of a record of accepted lines are accepted, and the record is theirs again.
 use Rattle.std.proofs.Common.{◌≡◌, ◌+◌, ℕ, Bool, true, false, ◌&&◌, ◌||◌, nat_eq, nat_lt, is_some, List, [], ◌∷◌, ◌++◌, length, map, reverse, Option, Some, None, refl, sym, ap, ◌∙◌, subst, arith, append-nil, length-append, inl, inr}
 use Rattle.std.proofs.lemmas.Bool.{not-false}
+use Rattle.inp_model.specs.declared.filter.Filter as filter
+use Rattle.inp_model.specs.declared.filter.Filter.TheVariants as filters
 use Rattle.inp_model.specs.Description.{Description}
 use Rattle.inp_caps.specs.Builder.{with_kind, with_code, built}
 use Rattle.inp_actors.specs.declared.actor_text.ActorText.{ActorText}
@@ -10,7 +12,7 @@ use Rattle.inp_actors.specs.declared.command.Command.{Command}
 use Rattle.inp_actors.specs.declared.role.Role.{Role}
 use Rattle.inp_actors.specs.declared.role.Role.TheVariants as roles
 use Rattle.inp_record.specs.declared.item.Item.{Item}
-use Rattle.inp_record.specs.declared.item.Item.TheVariants.{Header, Device, Hint, Log, Realtime, Boottime, Slots, Kind, Code, Axis, Actor, Action}
+use Rattle.inp_record.specs.declared.item.Item.TheVariants.{Header, Device, Hint, Log, Realtime, Boottime, Slots, Kind, Code, Axis, Filter, Actor, Action}
 use Rattle.inp_record.specs.declared.place.Place.{Place}
 use Rattle.inp_record.specs.declared.place.Place.TheVariants.{Start, Headed, Describing, Naming, Acting}
 use Rattle.inp_record.specs.declared.context.TheConstants.{SLOTS_OF_VERSION_1}
@@ -20,13 +22,13 @@ use Rattle.inp_record.specs.Meaning.{has_too_many_slots, record_of}
 use Rattle.inp_record.specs.Spelling.{description_items, action_item_of}
 use Rattle.inp_record.proofs.Good.{push_get}
 use Rattle.inp_record.proofs.Reading.{start_is}
-use Rattle.inp_record.proofs.Pasts.{code_slots}
-use Rattle.inp_record.proofs.Sayable.{keyword_for_role, IsAccepted, AreAccepted}
+use Rattle.inp_record.proofs.Pasts.{code_slots, code_filters}
+use Rattle.inp_record.proofs.Sayable.{keyword_for_role, keyword_for_filter, are_early, IsAccepted, AreAccepted}
 use Rattle.inp_record.proofs.CanonPasts.{WereAccepted}
 use Rattle.inp_record.proofs.CanonLists.{head_items, all_items, AreBelow, head_device, head_actor, all_action, past_of_more}
-use Rattle.inp_record.proofs.MadeDescriptions.{AreDescribed, IsMade, made, built_slots}
-use Rattle.inp_record.proofs.DescriptionItems.{accepted-append, description-accepted, description-behind}
-use Rattle.inp_record.proofs.DescriptionAgain.{built-again}
+use Rattle.inp_record.proofs.MadeDescriptions.{AreDescribed, IsMade, made, built_slots, built_filters}
+use Rattle.inp_record.proofs.DescriptionItems.{accepted-append}
+use Rattle.inp_record.proofs.DescriptionFilters.{description-accepted, description-behind, built-again}
 
 -- the past behind these items
 abbrev pub past_of : List Item → Past
@@ -147,9 +149,10 @@ pub record IsBegun (version : ℕ) (latest : Option (List ℕ)) (former : List D
 abbrev pub IsDescribing : Past → Type 0
 IsDescribing past = IsBegun (version_of past) (latest_name past) (former_devices past) (actors_of past) (lines_of past) (stream_count past) (source_count past) (reader_count past)
 
--- the latest device has no more slots than its version allows
-abbrev pub HasFewSlots : Past → Type 0
-HasFewSlots past = has_too_many_slots (context_of past) (Slots (latest_description past).slots) ≡ false
+-- the latest device has no more slots than its version allows, and filters where its version has them
+pub record FitsVersion (past : Past) : Type 0 where
+  pub slots : has_too_many_slots (context_of past) (Slots (latest_description past).slots) ≡ false
+  pub filters : are_early (version_of past) (latest_description past).filters ≡ false
 
 -- the canonical items are accepted, and what stands behind them is like the past
 pub record IsAgain (past : Past) : Type 0 where
@@ -167,7 +170,7 @@ canon_described past b =
     ∙ ap (λ (n : Option (List ℕ)). head_items (version_of past) actors (with_latest former n (latest_description past))) b.name_is
     ∙ head_device (version_of past) actors former d b.base.below
 
-again_described : (past : Past) → place_of past ≡ Describing → IsMade (built (latest_description past)) → HasFewSlots past → IsDescribing past → IsAgain past
+again_described : (past : Past) → place_of past ≡ Describing → IsMade (built (latest_description past)) → FitsVersion past → IsDescribing past → IsAgain past
 again_described past at m few b =
     let d = built (latest_description past) in
     let heads = head_items (version_of past) (actors_of past) (former_devices past) in
@@ -189,7 +192,7 @@ again_described past at m few b =
     } in
     let P : List Item → Type 0 = λ x. AreAccepted [] x in
     record {
-      accepted = subst P (sym is) (accepted-append [] heads (Device b.name ∷ description_items d) b.base.heads (b.base.device, description-accepted d b.name base m (rw (b.base.version_is, built_slots (latest_description past)) few)));
+      accepted = subst P (sym is) (accepted-append [] heads (Device b.name ∷ description_items d) b.base.heads (b.base.device, description-accepted d b.name base m (rw (b.base.version_is, built_slots (latest_description past)) few.slots) (rw (b.base.version_is, built_filters (latest_description past)) few.filters)));
       like = subst (λ (x : Past). IsLike past x) (sym (ap past_of is ∙ behind)) like;
     }
 
@@ -224,6 +227,7 @@ described (Slots count ∷ past) h = (h.0.fits, tt, described past h.1)
 described (Kind kind ∷ past) h = (h.0.fits, tt, described past h.1)
 described (Code kind code ∷ past) h = (h.0.fits, tt, described past h.1)
 described (Axis code info ∷ past) h = (h.0.fits, h.0.sayable.1, described past h.1)
+described (Filter filter ∷ past) h = (h.0.fits, tt, described past h.1)
 described (Actor role name ∷ past) h = (h.0.fits, tt, described past h.1)
 described (Action actor command ∷ past) h = (h.0.fits, tt, described past h.1)
 
@@ -249,11 +253,11 @@ few_none version = by_version (nat_eq version 1)
 few_coded : (d : Description) (version kind code : ℕ) → (nat_eq version 1 && nat_lt SLOTS_OF_VERSION_1 d.slots) ≡ false → (nat_eq version 1 && nat_lt SLOTS_OF_VERSION_1 (with_code d kind code).slots) ≡ false
 few_coded d version kind code h = rw (code_slots d kind code) h
 
-few_slots : (past : Past) → WereAccepted past → HasFewSlots past
+few_slots : (past : Past) → WereAccepted past → has_too_many_slots (context_of past) (Slots (latest_description past).slots) ≡ false
 few_slots [] h = refl
 few_slots (Header version ∷ past) h =
     let none : [] ≡ past = sym (start_is past (starting (place_of past) h.0.in_place)) in
-    let P : Past → Type 0 = λ x. HasFewSlots (Header version ∷ x) in
+    let P : Past → Type 0 = λ x. has_too_many_slots (context_of (Header version ∷ x)) (Slots (latest_description x).slots) ≡ false in
     subst P none (few_none version)
 few_slots (Device name ∷ past) h = few_none (version_of past)
 few_slots (Hint count ∷ past) h = few_slots past h.1
@@ -264,8 +268,36 @@ few_slots (Slots count ∷ past) h = h.0.few_slots
 few_slots (Kind kind ∷ past) h = few_slots past h.1
 few_slots (Code kind code ∷ past) h = few_coded (with_kind (latest_description past) kind) (version_of past) kind code (few_slots past h.1)
 few_slots (Axis code info ∷ past) h = few_slots past h.1
+few_slots (Filter filter ∷ past) h = few_slots past h.1
 few_slots (Actor role name ∷ past) h = few_slots past h.1
 few_slots (Action actor command ∷ past) h = few_slots past h.1
+
+early_pushed : (version : ℕ) (fs : List filter.Filter) (f : filter.Filter) → nat_eq version 1 ≡ false → are_early version (fs ++ f ∷ []) ≡ false
+early_pushed version [] f h = h
+early_pushed version (g ∷ fs) f h = h
+
+late_filters : (past : Past) → WereAccepted past → are_early (version_of past) (latest_description past).filters ≡ false
+late_filters [] h = refl
+late_filters (Header version ∷ past) h =
+    let none : [] ≡ past = sym (start_is past (starting (place_of past) h.0.in_place)) in
+    let P : Past → Type 0 = λ x. are_early version (latest_description x).filters ≡ false in
+    subst P none refl
+late_filters (Device name ∷ past) h = refl
+late_filters (Hint count ∷ past) h = late_filters past h.1
+late_filters (Log count ∷ past) h = late_filters past h.1
+late_filters (Realtime offset ∷ past) h = late_filters past h.1
+late_filters (Boottime offset ∷ past) h = late_filters past h.1
+late_filters (Slots count ∷ past) h = late_filters past h.1
+late_filters (Kind kind ∷ past) h = late_filters past h.1
+late_filters (Code kind code ∷ past) h =
+    ap (λ (l : List filter.Filter). are_early (version_of past) l) (code_filters (with_kind (latest_description past) kind) kind code) ∙ late_filters past h.1
+late_filters (Axis code info ∷ past) h = late_filters past h.1
+late_filters (Filter filter ∷ past) h = early_pushed (version_of past) (latest_description past).filters filter h.0.in_place.2
+late_filters (Actor role name ∷ past) h = late_filters past h.1
+late_filters (Action actor command ∷ past) h = late_filters past h.1
+
+fits_version : (past : Past) → WereAccepted past → FitsVersion past
+fits_version past h = record { slots = few_slots past h; filters = late_filters past h }
 
 kept_first : (version : ℕ) → IsAccepted [] (Header version) → IsKept (Header version ∷ [])
 kept_first version a = record {
@@ -288,7 +320,7 @@ kept_header past version a =
 
 -- a device and what describes it
 
-kept_describing : (past : Past) → place_of past ≡ Describing → IsMade (built (latest_description past)) → HasFewSlots past → IsDescribing past → IsKept past
+kept_describing : (past : Past) → place_of past ≡ Describing → IsMade (built (latest_description past)) → FitsVersion past → IsDescribing past → IsKept past
 kept_describing past at m few b =
     let one : devices_of past ≡ former_devices past ++ record { name = b.name; caps = built (latest_description past) } ∷ [] = ap (λ (n : Option (List ℕ)). with_latest (former_devices past) n (latest_description past)) b.name_is in
     let count : length (devices_of past) ≡ length (former_devices past) + 1 = ap length one ∙ length-append (former_devices past) _ in
@@ -307,7 +339,7 @@ canon_quiet past h =
     ap (λ (ls : List Line). head_items (version_of past) (actors_of past) (devices_of past) ++ map action_item_of ls) h
     ∙ append-nil (head_items (version_of past) (actors_of past) (devices_of past))
 
-kept_device : (past : Past) (name : List ℕ) → IsKept past → IsAccepted past (Device name) → IsMade (built (latest_description (Device name ∷ past))) → HasFewSlots (Device name ∷ past) → IsKept (Device name ∷ past)
+kept_device : (past : Past) (name : List ℕ) → IsKept past → IsAccepted past (Device name) → IsMade (built (latest_description (Device name ∷ past))) → FitsVersion (Device name ∷ past) → IsKept (Device name ∷ past)
 kept_device past name k a m few =
     let quiet : is_acting (place_of past) ≡ false = a.in_place.1 in
     let is = canon_quiet past (k.no_lines quiet) in
@@ -391,34 +423,44 @@ kept_action past actor command k a =
       no_streams = λ e. absurd (cc e);
     }
 
+-- a filter line stands in a description
+filter_describes : (p : Place) (f : filter.Filter) → is_out_of_place p (keyword_for_filter f) ≡ false → is_describing p ≡ true
+filter_describes p (filters.Eat kind code) h = not-false (is_describing p) h
+filter_describes p filters.Norepeat h = not-false (is_describing p) h
+filter_describes p (filters.Chord first second) h = not-false (is_describing p) h
+filter_describes p (filters.Bounce code micros) h = not-false (is_describing p) h
+
 -- a past of accepted lines that has a header keeps all this
 pub kept : (past : Past) → WereAccepted past → is_start (place_of past) ≡ false → IsKept past
 kept [] h s = absurd (cc s)
 kept (Header version ∷ past) h s = kept_header past version h.0
-kept (Device name ∷ past) h s = kept_device past name (kept past h.1 h.0.in_place.0) h.0 (described_made (Device name ∷ past) h) (few_slots (Device name ∷ past) h)
+kept (Device name ∷ past) h s = kept_device past name (kept past h.1 h.0.in_place.0) h.0 (described_made (Device name ∷ past) h) (fits_version (Device name ∷ past) h)
 kept (Hint count ∷ past) h s =
     let k = kept past h.1 h.0.in_place.0 in
-    kept_describing (Hint count ∷ past) refl (described_made (Hint count ∷ past) h) (few_slots (Hint count ∷ past) h) (k.begun (not-false (is_describing (place_of past)) h.0.in_place.1))
+    kept_describing (Hint count ∷ past) refl (described_made (Hint count ∷ past) h) (fits_version (Hint count ∷ past) h) (k.begun (not-false (is_describing (place_of past)) h.0.in_place.1))
 kept (Log count ∷ past) h s =
     let k = kept past h.1 h.0.in_place.0 in
-    kept_describing (Log count ∷ past) refl (described_made (Log count ∷ past) h) (few_slots (Log count ∷ past) h) (k.begun (not-false (is_describing (place_of past)) h.0.in_place.1))
+    kept_describing (Log count ∷ past) refl (described_made (Log count ∷ past) h) (fits_version (Log count ∷ past) h) (k.begun (not-false (is_describing (place_of past)) h.0.in_place.1))
 kept (Realtime offset ∷ past) h s =
     let k = kept past h.1 h.0.in_place.0 in
-    kept_describing (Realtime offset ∷ past) refl (described_made (Realtime offset ∷ past) h) (few_slots (Realtime offset ∷ past) h) (k.begun (not-false (is_describing (place_of past)) h.0.in_place.1))
+    kept_describing (Realtime offset ∷ past) refl (described_made (Realtime offset ∷ past) h) (fits_version (Realtime offset ∷ past) h) (k.begun (not-false (is_describing (place_of past)) h.0.in_place.1))
 kept (Boottime offset ∷ past) h s =
     let k = kept past h.1 h.0.in_place.0 in
-    kept_describing (Boottime offset ∷ past) refl (described_made (Boottime offset ∷ past) h) (few_slots (Boottime offset ∷ past) h) (k.begun (not-false (is_describing (place_of past)) h.0.in_place.1))
+    kept_describing (Boottime offset ∷ past) refl (described_made (Boottime offset ∷ past) h) (fits_version (Boottime offset ∷ past) h) (k.begun (not-false (is_describing (place_of past)) h.0.in_place.1))
 kept (Slots count ∷ past) h s =
     let k = kept past h.1 h.0.in_place.0 in
-    kept_describing (Slots count ∷ past) refl (described_made (Slots count ∷ past) h) (few_slots (Slots count ∷ past) h) (k.begun (not-false (is_describing (place_of past)) h.0.in_place.1))
+    kept_describing (Slots count ∷ past) refl (described_made (Slots count ∷ past) h) (fits_version (Slots count ∷ past) h) (k.begun (not-false (is_describing (place_of past)) h.0.in_place.1))
 kept (Kind kind ∷ past) h s =
     let k = kept past h.1 h.0.in_place.0 in
-    kept_describing (Kind kind ∷ past) refl (described_made (Kind kind ∷ past) h) (few_slots (Kind kind ∷ past) h) (k.begun (not-false (is_describing (place_of past)) h.0.in_place.1))
+    kept_describing (Kind kind ∷ past) refl (described_made (Kind kind ∷ past) h) (fits_version (Kind kind ∷ past) h) (k.begun (not-false (is_describing (place_of past)) h.0.in_place.1))
 kept (Code kind code ∷ past) h s =
     let k = kept past h.1 h.0.in_place.0 in
-    kept_describing (Code kind code ∷ past) refl (described_made (Code kind code ∷ past) h) (few_slots (Code kind code ∷ past) h) (k.begun (not-false (is_describing (place_of past)) h.0.in_place.1))
+    kept_describing (Code kind code ∷ past) refl (described_made (Code kind code ∷ past) h) (fits_version (Code kind code ∷ past) h) (k.begun (not-false (is_describing (place_of past)) h.0.in_place.1))
 kept (Axis code info ∷ past) h s =
     let k = kept past h.1 h.0.in_place.0 in
-    kept_describing (Axis code info ∷ past) refl (described_made (Axis code info ∷ past) h) (few_slots (Axis code info ∷ past) h) (k.begun (not-false (is_describing (place_of past)) h.0.in_place.1))
+    kept_describing (Axis code info ∷ past) refl (described_made (Axis code info ∷ past) h) (fits_version (Axis code info ∷ past) h) (k.begun (not-false (is_describing (place_of past)) h.0.in_place.1))
+kept (Filter filter ∷ past) h s =
+    let k = kept past h.1 h.0.in_place.0 in
+    kept_describing (Filter filter ∷ past) refl (described_made (Filter filter ∷ past) h) (fits_version (Filter filter ∷ past) h) (k.begun (filter_describes (place_of past) filter h.0.in_place.1))
 kept (Actor role name ∷ past) h s = kept_actor past role name (kept past h.1 h.0.in_place.0) h.0
 kept (Action actor command ∷ past) h s = kept_action past actor command (kept past h.1 h.0.in_place.0) h.0

@@ -1,5 +1,5 @@
--- The canonical items of a description give that description again.
-use Rattle.std.proofs.Common.{◌≡◌, ℕ, zero, suc, ◌+◌, ◌<◌, ◌≤◌, Bool, true, false, ◌&&◌, if◌then◌else◌, nat_eq, List, [], ◌∷◌, ◌++◌, length, replicate, reverse, get_or, set, refl, sym, ap, subst, ◌∙◌, inl, inr, arith}
+-- The canonical items of a description but for its filters give that description without filters.
+use Rattle.std.proofs.Common.{◌≡◌, ℕ, zero, suc, ◌+◌, ◌<◌, ◌≤◌, Bool, true, false, ◌&&◌, if◌then◌else◌, nat_eq, List, [], ◌∷◌, ◌++◌, length, replicate, get_or, set, refl, sym, ap, subst, ◌∙◌, inl, inr, arith}
 use Rattle.std.specs.List.{flat_map, range_with_len}
 use Rattle.std.proofs.lemmas.Bool.{cases_eq, cases_lt, cases_Bool, and_parts, eqb-true}
 use Rattle.std.proofs.lemmas.Bool.Decides.{nat_tests}
@@ -8,14 +8,14 @@ use Rattle.inp_model.specs.declared.event.TheConstants.{EV_SYN, EV_KEY, EV_REL, 
 use Rattle.inp_model.specs.declared.axis_info.AxisInfo.{AxisInfo}
 use Rattle.inp_model.specs.Description.{Description, no_info, has_kind, supports, info, is_kind}
 use Rattle.inp_model.proofs.Descriptions.{get_or-replicate}
-use Rattle.inp_caps.specs.Builder.{syn_alone, with_kind, with_code, with_axis, built}
+use Rattle.inp_caps.specs.Builder.{syn_alone, with_kind, with_code, with_axis}
 use Rattle.inp_canon.specs.Device.{coded_kinds}
 use Rattle.inp_record.specs.declared.item.Item.{Item}
 use Rattle.inp_record.specs.declared.item.Item.TheVariants.{Device, Slots, Kind, Code, Axis}
 use Rattle.inp_record.specs.Past.{Past, latest_description}
-use Rattle.inp_record.specs.Spelling.{number_items, slots_items, kind_items, code_items, axis_items, description_items}
+use Rattle.inp_record.specs.Spelling.{number_items, slots_items, kind_items, code_items, axis_items, plain_items}
 use Rattle.inp_record.proofs.MadeDescriptions.{IsMade, IsGathered, AreKnownKinds, AreKnownCodes, AreKnownAxes, set_again}
-use Rattle.inp_record.proofs.DescriptionItems.{behind_items, behind_items-reverse, behind_items-append}
+use Rattle.inp_record.proofs.DescriptionItems.{behind_items, behind_items-append}
 
 -- truths that are written into a list one after another
 
@@ -370,9 +370,9 @@ types_behind d past known before =
     ∙ ap (λ (e : Description). record e { kinds = put_all (has_kind d) (λ k. true) 1 EV_MAX e.kinds }) before
     ∙ ap (λ (l : List Bool). record (numbers_of d) { kinds = l }) (kinds_again d.kinds known)
 
--- a description without its axes
+-- a description without its axes and its filters
 without_axes : Description → Description
-without_axes d = record d { axes = replicate 64 false; infos = replicate 64 no_info }
+without_axes d = record d { axes = replicate 64 false; infos = replicate 64 no_info; filters = [] }
 
 all_caps_behind : (d : Description) (n : ℕ) (past : Past) → IsGathered d → 768 ≤ n → latest_description past ≡ record (numbers_of d) { kinds = d.kinds }
     → latest_description (behind_items (flat_map (λ kind. flat_map (code_items d kind) (range_with_len 0 n)) coded_kinds) past)
@@ -392,17 +392,17 @@ all_caps_behind d n past g enough before =
     (codes_again d.kinds EV_LED 64 n d.leds l.leds (omega arith))
     (codes_again d.kinds EV_SND 64 n d.sounds l.sounds (omega arith))
 
-all_axes_behind : (d : Description) (n : ℕ) (past : Past) → IsGathered d → 64 ≤ n → latest_description past ≡ without_axes d → latest_description (behind_items (flat_map (axis_items d) (range_with_len 0 n)) past) ≡ d
+all_axes_behind : (d : Description) (n : ℕ) (past : Past) → IsGathered d → 64 ≤ n → latest_description past ≡ without_axes d → latest_description (behind_items (flat_map (axis_items d) (range_with_len 0 n)) past) ≡ record d { filters = [] }
 unfolding without_axes
 all_axes_behind d n past g enough before =
     let axes = axes_again d.kinds d.axes d.infos n g.axes enough in
     let infos = infos_again d.kinds d.axes d.infos n g.axes enough in
     axes_behind d 0 n past (ap (λ (x : Description). x.kinds) before)
     ∙ ap (λ (x : Description). record x { axes = put_codes (supports d EV_ABS) 0 n x.axes; infos = put_all (supports d EV_ABS) (info d) 0 n x.infos }) before
-    ∙ λ i. record d { axes = axes i; infos = infos i }
+    ∙ λ i. record d { axes = axes i; infos = infos i; filters = [] }
 
 sections_again : (d : Description) (name : List ℕ) (past : Past) (codes axes : ℕ) → IsGathered d → 768 ≤ codes → 64 ≤ axes
-    → latest_description (behind_items (number_items d ++ (slots_items d ++ (flat_map (kind_items d) (range_with_len 1 EV_MAX) ++ (flat_map (λ kind. flat_map (code_items d kind) (range_with_len 0 codes)) coded_kinds ++ flat_map (axis_items d) (range_with_len 0 axes))))) (Device name ∷ past)) ≡ d
+    → latest_description (behind_items (number_items d ++ (slots_items d ++ (flat_map (kind_items d) (range_with_len 1 EV_MAX) ++ (flat_map (λ kind. flat_map (code_items d kind) (range_with_len 0 codes)) coded_kinds ++ flat_map (axis_items d) (range_with_len 0 axes))))) (Device name ∷ past)) ≡ record d { filters = [] }
 sections_again d name past codes axes g enough_codes enough_axes =
     let kinds_section : List Item = flat_map (kind_items d) (range_with_len 1 EV_MAX) in
     let caps_section : List Item = flat_map (λ kind. flat_map (code_items d kind) (range_with_len 0 codes)) coded_kinds in
@@ -420,13 +420,6 @@ sections_again d name past codes axes g enough_codes enough_axes =
     (all_caps_behind d codes types g enough_codes
     (types_behind d slots g.kinds (numbers_behind d name past)))
 
--- The canonical items of a description give that description again.
-pub described-again : (d : Description) (name : List ℕ) (past : Past) → IsMade d → latest_description (reverse (description_items d) ++ Device name ∷ past) ≡ d
-unfolding description_items
-described-again d name past made =
-    ap latest_description (sym (behind_items-reverse (description_items d) (Device name ∷ past)))
-    ∙ sections_again d name past (KEY_MAX + 1) (ABS_MAX + 1) made.gathered (omega arith) (omega arith)
-
--- The description that is built of them is that description too.
-pub built-again : (d : Description) (name : List ℕ) (past : Past) → IsMade d → built (latest_description (reverse (description_items d) ++ Device name ∷ past)) ≡ d
-built-again d name past made = ap built (described-again d name past made) ∙ made.whole
+pub plain-again : (d : Description) (name : List ℕ) (past : Past) → IsMade d → latest_description (behind_items (plain_items d) (Device name ∷ past)) ≡ record d { filters = [] }
+unfolding plain_items
+plain-again d name past made = sections_again d name past (KEY_MAX + 1) (ABS_MAX + 1) made.gathered (omega arith) (omega arith)

@@ -1,4 +1,4 @@
--- The canonical items of a description are accepted behind the line of its device.
+-- The canonical items of a description but for its filters are accepted behind the line of its device.
 use Rattle.std.proofs.Common.{◌≡◌, ℕ, zero, suc, ◌+◌, ◌<◌, ◌≤◌, Bool, true, false, ◌&&◌, if◌then◌else◌, nat_eq, nat_le, nat_lt, List, [], ◌∷◌, ◌++◌, reverse, get_or, Some, refl, sym, ap, subst, ◌∙◌, arith}
 use Rattle.std.specs.List.{flat_map, range_with_len, list_all, list_any}
 use Rattle.std.proofs.lemmas.Bool.{cond-true, cond-false, leb-true, le-ltb, ne_eqb, and_parts, and_from, or_from}
@@ -12,13 +12,13 @@ use Rattle.inp_model.specs.Description.{Description, has_kind, supports, info, i
 use Rattle.inp_caps.specs.Builder.{is_code}
 use Rattle.inp_canon.specs.Device.{coded_kinds}
 use Rattle.inp_record.specs.declared.item.Item.{Item}
-use Rattle.inp_record.specs.declared.item.Item.TheVariants.{Header, Device, Hint, Log, Realtime, Boottime, Slots, Kind, Code, Axis, Actor, Action}
+use Rattle.inp_record.specs.declared.item.Item.TheVariants.{Header, Device, Hint, Log, Realtime, Boottime, Slots, Kind, Code, Axis, Filter, Actor, Action}
 use Rattle.inp_record.specs.declared.place.Place.{Place}
 use Rattle.inp_record.specs.declared.place.Place.TheVariants.{Describing}
 use Rattle.inp_record.specs.Place.{is_start, is_out_of_place}
 use Rattle.inp_record.specs.Past.{Past, place_of, version_of, context_of, latest_name, former_devices, actors_of, lines_of, stream_count, source_count, reader_count, axes_of, has_slots}
 use Rattle.inp_record.specs.Meaning.{has_too_many_slots}
-use Rattle.inp_record.specs.Spelling.{number_items, slots_items, kind_items, code_items, codes_items, axis_items, description_items}
+use Rattle.inp_record.specs.Spelling.{number_items, slots_items, kind_items, code_items, codes_items, axis_items, plain_items}
 use Rattle.inp_record.proofs.Sayable.{IsAccepted, AreAccepted, keyword_for}
 use Rattle.inp_record.proofs.MadeDescriptions.{IsMade, IsGathered, AreKnownCodes}
 
@@ -51,7 +51,7 @@ accepted-append past xs ys a b =
 
 -- items that describe the latest device
 
-abbrev is_describing_item : Item → Bool
+abbrev pub is_describing_item : Item → Bool
 is_describing_item (Header version) = false
 is_describing_item (Device name) = false
 is_describing_item (Actor role name) = false
@@ -75,6 +75,7 @@ described_more : (name : List ℕ) (past new : Past) (i : Item) → is_describin
 described_more name past new (Header version) e h = absurd (cc e)
 described_more name past new (Device n) e h = absurd (cc e)
 described_more name past new (Actor role n) e h = absurd (cc e)
+described_more name past new (Filter filter) e h = record { place = refl; version = h.version; name_is = h.name_is; devices = h.devices; actors = h.actors; lines = h.lines; streams = h.streams; sources = h.sources; readers = h.readers }
 described_more name past new (Action actor command) e h = absurd (cc e)
 described_more name past new (Hint count) e h = record { place = refl; version = h.version; name_is = h.name_is; devices = h.devices; actors = h.actors; lines = h.lines; streams = h.streams; sources = h.sources; readers = h.readers }
 described_more name past new (Log count) e h = record { place = refl; version = h.version; name_is = h.name_is; devices = h.devices; actors = h.actors; lines = h.lines; streams = h.streams; sources = h.sources; readers = h.readers }
@@ -85,7 +86,7 @@ described_more name past new (Kind kind) e h = record { place = refl; version = 
 described_more name past new (Code kind code) e h = record { place = refl; version = h.version; name_is = h.name_is; devices = h.devices; actors = h.actors; lines = h.lines; streams = h.streams; sources = h.sources; readers = h.readers }
 described_more name past new (Axis code info) e h = record { place = refl; version = h.version; name_is = h.name_is; devices = h.devices; actors = h.actors; lines = h.lines; streams = h.streams; sources = h.sources; readers = h.readers }
 
-described_behind : (items : List Item) (name : List ℕ) (past new : Past) → list_all is_describing_item items ≡ true → IsDescribedBehind name past new → IsDescribedBehind name past (behind_items items new)
+pub described_behind : (items : List Item) (name : List ℕ) (past new : Past) → list_all is_describing_item items ≡ true → IsDescribedBehind name past new → IsDescribedBehind name past (behind_items items new)
 described_behind [] name past new all h = h
 described_behind (i ∷ items) name past new all h =
     let parts = and_parts (is_describing_item i) (list_all is_describing_item items) all in
@@ -106,8 +107,8 @@ all_each : (items : ℕ → List Item) → ((n : ℕ) → list_all is_describing
 all_each items each [] = refl
 all_each items each (n ∷ ns) = all_both (items n) (flat_map items ns) (each n) (all_each items each ns)
 
-all_describe : (d : Description) → list_all is_describing_item (description_items d) ≡ true
-unfolding description_items
+all_describe : (d : Description) → list_all is_describing_item (plain_items d) ≡ true
+unfolding plain_items
 all_describe d =
     let axes : List Item = flat_map (axis_items d) (range_with_len 0 (ABS_MAX + 1)) in
     let caps : List Item = flat_map (codes_items d) coded_kinds in
@@ -119,11 +120,10 @@ all_describe d =
     (all_each (codes_items d) (λ kind. all_each (code_items d kind) (λ code. all_if (supports d kind code) _ refl) (range_with_len 0 (KEY_MAX + 1))) coded_kinds)
     (all_each (axis_items d) (λ code. all_if (supports d EV_ABS code) _ refl) (range_with_len 0 (ABS_MAX + 1))))))
 
-pub description-behind : (d : Description) (name : List ℕ) (past : Past) → IsDescribedBehind name past (reverse (description_items d) ++ Device name ∷ past)
-description-behind d name past =
-    subst (λ (p : Past). IsDescribedBehind name past p) (behind_items-reverse (description_items d) (Device name ∷ past))
-    (described_behind (description_items d) name past (Device name ∷ past) (all_describe d)
-    (record { place = refl; version = refl; name_is = refl; devices = refl; actors = refl; lines = refl; streams = refl; sources = refl; readers = refl }))
+pub plain-behind : (d : Description) (name : List ℕ) (past : Past) → IsDescribedBehind name past (behind_items (plain_items d) (Device name ∷ past))
+plain-behind d name past =
+    described_behind (plain_items d) name past (Device name ∷ past) (all_describe d)
+    (record { place = refl; version = refl; name_is = refl; devices = refl; actors = refl; lines = refl; streams = refl; sources = refl; readers = refl })
 
 -- a section of lines behind which the latest device has described no axis
 
@@ -131,7 +131,7 @@ record IsOpen (past : Past) : Type 0 where
   place : place_of past ≡ Describing
   axes : axes_of past ≡ []
 
-in_place : (past : Past) (i : Item) → place_of past ≡ Describing → is_out_of_place Describing (keyword_for i) ≡ false → (is_start (place_of past) ≡ false) × (is_out_of_place (place_of past) (keyword_for i) ≡ false)
+pub in_place : (past : Past) (i : Item) → place_of past ≡ Describing → is_out_of_place Describing (keyword_for i) ≡ false → (is_start (place_of past) ≡ false) × (is_out_of_place (place_of past) (keyword_for i) ≡ false)
 in_place past i at fits = (ap is_start at, ap (λ (p : Place). is_out_of_place p (keyword_for i)) at ∙ fits)
 
 -- the types
@@ -323,7 +323,6 @@ sections_accepted d name past kinds codes axes g few_slots within =
     (accepted_then behind_types (flat_map (λ kind. flat_map (code_items d kind) (range_with_len 0 codes)) coded_kinds) (flat_map (axis_items d) (range_with_len 0 axes)) caps.0
     (axes_accepted d 0 axes g behind_caps caps.1.place below (omega arith)))))
 
--- The canonical items of a description are accepted behind the line of its device.
-pub description-accepted : (d : Description) (name : List ℕ) (past : Past) → IsMade d → has_too_many_slots (context_of past) (Slots d.slots) ≡ false → AreAccepted (Device name ∷ past) (description_items d)
-unfolding description_items
-description-accepted d name past made few_slots = sections_accepted d name past EV_MAX (KEY_MAX + 1) (ABS_MAX + 1) made.gathered few_slots (omega arith)
+pub plain-accepted : (d : Description) (name : List ℕ) (past : Past) → IsMade d → has_too_many_slots (context_of past) (Slots d.slots) ≡ false → AreAccepted (Device name ∷ past) (plain_items d)
+unfolding plain_items
+plain-accepted d name past made few_slots = sections_accepted d name past EV_MAX (KEY_MAX + 1) (ABS_MAX + 1) made.gathered few_slots (omega arith)

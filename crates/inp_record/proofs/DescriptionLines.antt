@@ -3,12 +3,14 @@ use Rattle.std.proofs.Common.{◌≡◌, ℕ, ◌+◌, Bool, true, false, if◌t
 use Rattle.std.specs.List.{flat_map, range_with_len}
 use Rattle.std.proofs.lemmas.List.{map-append}
 use Rattle.inp_model.specs.declared.event.TheConstants.{EV_ABS, EV_MAX, KEY_MAX, ABS_MAX}
+use Rattle.inp_model.specs.declared.filter.Filter as filter
 use Rattle.inp_model.specs.Description.{Description, has_kind, supports}
 use Rattle.inp_actors.specs.declared.actor_text.ActorText.{ActorText}
 use Rattle.inp_canon.specs.Words.{Words}
-use Rattle.inp_canon.specs.Device.{number_lines, slots_lines, kind_lines, kinds_lines, code_lines, codes_lines, coded_kinds, caps_lines, axis_lines, axes_lines, description_lines}
+use Rattle.inp_canon.specs.Device.{number_lines, slots_lines, kind_lines, kinds_lines, code_lines, codes_lines, coded_kinds, caps_lines, axis_lines, axes_lines, filter_words, filters_lines, plain_lines, description_lines}
 use Rattle.inp_record.specs.declared.item.Item.{Item}
-use Rattle.inp_record.specs.Spelling.{item_words, number_items, slots_items, kind_items, code_items, codes_items, axis_items, description_items}
+use Rattle.inp_record.specs.declared.item.Item.TheVariants as items
+use Rattle.inp_record.specs.Spelling.{item_words, number_items, slots_items, kind_items, code_items, codes_items, axis_items, plain_items, filter_items, description_items}
 
 -- the words of one item, where there is one
 map_if : (f : Item → Words) (b : Bool) (i : Item) → (if b then f i ∷ [] else []) ≡ map f (if b then i ∷ [] else [])
@@ -52,12 +54,25 @@ caps_are : (actors : List ActorText) (d : Description) → caps_lines d ≡ map 
 unfolding caps_lines
 caps_are actors d = map_each (item_words actors) (codes_lines d) (codes_items d) (codes_are actors d) coded_kinds
 
--- The canonical lines of a description say its items.
-pub description-lines : (actors : List ActorText) (d : Description) → description_lines d ≡ map (item_words actors) (description_items d)
-unfolding description_lines description_items
-description-lines actors d =
+plain_are : (actors : List ActorText) (d : Description) → plain_lines d ≡ map (item_words actors) (plain_items d)
+unfolding plain_lines plain_items
+plain_are actors d =
     let f = item_words actors in
     both f (number_lines d) _ (number_items d) _ (numbers_are actors d)
     (both f (slots_lines d) _ (slots_items d) _ (map_unless f (nat_eq d.slots 0) _)
     (both f (kinds_lines d) _ (flat_map (kind_items d) (range_with_len 1 EV_MAX)) _ (kinds_are actors d)
     (both f (caps_lines d) (axes_lines d) (flat_map (codes_items d) coded_kinds) (flat_map (axis_items d) (range_with_len 0 (ABS_MAX + 1))) (caps_are actors d) (axes_are actors d))))
+
+each_filter : (actors : List ActorText) (fs : List filter.Filter) → map filter_words fs ≡ map (item_words actors) (map (λ f. items.Filter f) fs)
+each_filter actors [] = refl
+each_filter actors (f ∷ fs) = ap (λ (l : List Words). filter_words f ∷ l) (each_filter actors fs)
+
+filters_are : (actors : List ActorText) (d : Description) → filters_lines d ≡ map (item_words actors) (filter_items d)
+unfolding filters_lines
+filters_are actors d = each_filter actors d.filters
+
+-- The canonical lines of a description say its items.
+pub description-lines : (actors : List ActorText) (d : Description) → description_lines d ≡ map (item_words actors) (description_items d)
+unfolding description_lines description_items
+description-lines actors d =
+    both (item_words actors) (plain_lines d) (filters_lines d) (plain_items d) (filter_items d) (plain_are actors d) (filters_are actors d)

@@ -8,6 +8,7 @@ use Rattle.std.proofs.lemmas.List.{append-nil}
 use Rattle.std.proofs.lemmas.Option.{slice_get_within}
 use Rattle.inp_model.specs.declared.stamped.Stamped.{Stamped}
 use Rattle.inp_model.specs.Description.{Description}
+use Rattle.inp_model.specs.declared.filter.Filter.TheVariants as filters
 use Rattle.inp_actors.specs.declared.actor_text.TheConstants.{ACTORS_MAX}
 use Rattle.inp_actors.specs.declared.actor_text.ActorText.{ActorText}
 use Rattle.inp_actors.specs.declared.line.Line.{Line}
@@ -24,7 +25,7 @@ use Rattle.inp_record.specs.declared.cause.Cause.{Cause}
 use Rattle.inp_record.specs.declared.cause.Cause.TheVariants.{NotText}
 use Rattle.inp_record.specs.declared.context.TheConstants.{DEVICES_MAX, SOURCES_MAX, READERS_MAX}
 use Rattle.inp_record.specs.declared.item.Item as item
-use Rattle.inp_record.specs.declared.item.Item.TheVariants.{Header, Device, Hint, Log, Realtime, Boottime, Slots, Kind, Code, Axis, Actor, Action}
+use Rattle.inp_record.specs.declared.item.Item.TheVariants.{Header, Device, Hint, Log, Realtime, Boottime, Slots, Kind, Code, Axis, Filter, Actor, Action}
 use Rattle.inp_record.specs.declared.keyword.Keyword as keyword
 use Rattle.inp_record.specs.Place.{is_describing, is_naming, is_out_of_place}
 use Rattle.inp_record.specs.Words.{item_of, action_item, or_bad_word, plain_item, is_action}
@@ -236,6 +237,10 @@ plain_added n past (Slots count) good place plain enough = described n past (Slo
 plain_added n past (Kind kind) good place plain enough = described n past (Kind kind ∷ past) good place refl refl refl refl refl refl refl
 plain_added n past (Code kind code) good place plain enough = described n past (Code kind code ∷ past) good place refl refl refl refl refl refl refl
 plain_added n past (Axis code info) good place plain enough = described n past (Axis code info ∷ past) good place refl refl refl refl refl refl refl
+plain_added n past (Filter (filters.Eat kind code)) good place plain enough = described n past (Filter (filters.Eat kind code) ∷ past) good place refl refl refl refl refl refl refl
+plain_added n past (Filter filters.Norepeat) good place plain enough = described n past (Filter filters.Norepeat ∷ past) good place refl refl refl refl refl refl refl
+plain_added n past (Filter (filters.Chord first second)) good place plain enough = described n past (Filter (filters.Chord first second) ∷ past) good place refl refl refl refl refl refl refl
+plain_added n past (Filter (filters.Bounce code micros)) good place plain enough = described n past (Filter (filters.Bounce code micros) ∷ past) good place refl refl refl refl refl refl refl
 plain_added n past (Actor roles.Source name) good place plain enough = actor_added n past roles.Source name good place enough
 plain_added n past (Actor roles.Client name) good place plain enough = actor_added n past roles.Client name good place enough
 plain_added n past (Actor roles.Tap name) good place plain enough = actor_added n past roles.Tap name good place enough

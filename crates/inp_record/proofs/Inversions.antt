@@ -2,7 +2,8 @@
 use Rattle.std.proofs.Common.{◌≡◌, ℕ, suc, Bool, true, false, ◌&&◌, not, if◌then◌else◌, bytes_eq, List, [], ◌∷◌, length, Option, Some, None, option_map, nat_eq, nat_le, ◌+◌, ◌-◌, Result, Ok, Err, refl, sym, ap, ◌∙◌, subst, arith}
 use Rattle.std.specs.Prelude.{option_and_then, slice_get}
 use Rattle.std.specs.List.{range_with_len}
-use Rattle.inp_model.specs.declared.event.TheConstants.{EV_ABS}
+use Rattle.inp_model.specs.declared.event.TheConstants.{EV_KEY, EV_ABS}
+use Rattle.inp_model.specs.declared.filter.Filter.TheVariants as filters
 use Rattle.inp_model.specs.declared.stamped.TheConstants.{MOMENT_MAX}
 use Rattle.inp_model.specs.declared.stamped.Stamped.{Stamped}
 use Rattle.inp_model.specs.declared.clock.Clock as clock
@@ -31,8 +32,9 @@ use Rattle.inp_record.specs.declared.item.Item.TheVariants as items
 use Rattle.inp_record.specs.Keyword.{keyword_of}
 use Rattle.inp_record.specs.Place.{is_start, is_out_of_place}
 use Rattle.inp_record.specs.Verb.{is_verb_of, argument_count, with_arguments, verb_of, verb_rows}
-use Rattle.inp_record.specs.Words.{word, version_word, is_header, name_word, count_word, wide_word, moment_word, clock_word, kind_and_code, info_words, stamped_words, offset_item, plain_item, actor_item, plain_command, command_of, actor_from, action_of, action_by, action_with, action_item, item_of}
+use Rattle.inp_record.specs.Words.{word, version_word, is_header, name_word, count_word, wide_word, moment_word, clock_word, micros_word, kind_and_code, info_words, stamped_words, offset_item, plain_item, actor_item, plain_command, command_of, actor_from, action_of, action_by, action_with, action_item, item_of}
 use Rattle.inp_record.specs.Past.{streams_in}
+use Rattle.inp_record.proofs.Sayable.{keyword_for_filter}
 use Rattle.inp_record.specs.Meaning.{is_later_command, is_twice, is_too_many, has_too_many_slots, refusal, unless_refused, checked, placed, item_of_words}
 use Rattle.inp_words.specs.Table.{named}
 
@@ -52,7 +54,7 @@ pub record IsChecked (c : Context) (means : Result item.Item Cause) (i : item.It
   pub once : is_twice c i ≡ false
   pub enough : is_too_many c i ≡ false
   pub few_slots : has_too_many_slots c i ≡ false
-  pub allowed : refusal i ≡ None
+  pub allowed : refusal c.builder i ≡ None
 
 checked_by : (later twice many wide : Bool) (why : Option CapsRefused) (j i : item.Item) → (if later then Err BadCommand else if twice then Err Twice else if many then Err TooMany else if wide then Err (Caps BadSlots) else unless_refused why j) ≡ Ok i
     → (later ≡ false) × (twice ≡ false) × (many ≡ false) × (wide ≡ false) × (why ≡ None) × (j ≡ i)
@@ -66,29 +68,30 @@ checked_by false false false false (Some why) j i e = absurd (cc e)
 pub checked_is : (c : Context) (means : Result item.Item Cause) (i : item.Item) → checked c means ≡ Ok i → IsChecked c means i
 checked_is c (Err cause) i e = absurd (cc e)
 checked_is c (Ok j) i e =
-    let h = checked_by (is_later_command c j) (is_twice c j) (is_too_many c j) (has_too_many_slots c j) (refusal j) j i e in
+    let h = checked_by (is_later_command c j) (is_twice c j) (is_too_many c j) (has_too_many_slots c j) (refusal c.builder j) j i e in
     record {
       read = ap (λ (x : item.Item). Ok x) h.5;
       in_version = subst (λ (x : item.Item). is_later_command c x ≡ false) h.5 h.0;
       once = subst (λ (x : item.Item). is_twice c x ≡ false) h.5 h.1;
       enough = subst (λ (x : item.Item). is_too_many c x ≡ false) h.5 h.2;
       few_slots = subst (λ (x : item.Item). has_too_many_slots c x ≡ false) h.5 h.3;
-      allowed = subst (λ (x : item.Item). refusal x ≡ None) h.5 h.4;
+      allowed = subst (λ (x : item.Item). refusal c.builder x ≡ None) h.5 h.4;
     }
 
 -- a line that is read has a keyword that may stand there
 pub record IsPlaced (c : Context) (ws : List (List ℕ)) (i : item.Item) : Type 0 where
   pub keyword : keyword.Keyword
+  pub named : keyword_of c.version (word 0 ws) (word 1 ws) (length ws) ≡ Some keyword
   pub in_place : is_out_of_place c.place keyword ≡ false
   pub item : item_of c.actors c.streams keyword ws ≡ Ok i
 
-placed_by : (c : Context) (k : keyword.Keyword) (ws : List (List ℕ)) (i : item.Item) (out : Bool) → is_out_of_place c.place k ≡ out → (if out then Err OutOfPlace else item_of c.actors c.streams k ws) ≡ Ok i → IsPlaced c ws i
-placed_by c k ws i true o e = absurd (cc e)
-placed_by c k ws i false o e = record { keyword = k; in_place = o; item = e }
+placed_by : (c : Context) (k : keyword.Keyword) (ws : List (List ℕ)) (i : item.Item) (out : Bool) → keyword_of c.version (word 0 ws) (word 1 ws) (length ws) ≡ Some k → is_out_of_place c.place k ≡ out → (if out then Err OutOfPlace else item_of c.actors c.streams k ws) ≡ Ok i → IsPlaced c ws i
+placed_by c k ws i true n o e = absurd (cc e)
+placed_by c k ws i false n o e = record { keyword = k; named = n; in_place = o; item = e }
 
-placed_is : (c : Context) (k : Option keyword.Keyword) (ws : List (List ℕ)) (i : item.Item) → placed c k ws ≡ Ok i → IsPlaced c ws i
-placed_is c None ws i e = absurd (cc e)
-placed_is c (Some k) ws i e = placed_by c k ws i (is_out_of_place c.place k) refl e
+placed_is : (c : Context) (k : Option keyword.Keyword) (ws : List (List ℕ)) (i : item.Item) → keyword_of c.version (word 0 ws) (word 1 ws) (length ws) ≡ k → placed c k ws ≡ Ok i → IsPlaced c ws i
+placed_is c None ws i n e = absurd (cc e)
+placed_is c (Some k) ws i n e = placed_by c k ws i (is_out_of_place c.place k) n refl e
 
 unheaded : (bad : Bool) (means : Result item.Item Cause) (i : item.Item) → (if bad then Err BadHeader else means) ≡ Ok i → means ≡ Ok i
 unheaded true means i e = absurd (cc e)
@@ -97,7 +100,8 @@ unheaded false means i e = e
 pub words_are : (c : Context) (ws : List (List ℕ)) (i : item.Item) → item_of_words c ws ≡ Ok i → IsPlaced c ws i
 unfolding item_of_words
 words_are c ws i e =
-    placed_is c (keyword_of (word 0 ws) (length ws)) ws i (unheaded (is_start c.place && not (is_header ws)) (placed c (keyword_of (word 0 ws) (length ws)) ws) i e)
+    let k : Option keyword.Keyword = keyword_of c.version (word 0 ws) (word 1 ws) (length ws) in
+    placed_is c k ws i refl (unheaded (is_start c.place && not (is_header ws)) (placed c k ws) i e)
 
 -- the keyword of a line with this meaning
 abbrev pub keyword_of_role : role.Role → keyword.Keyword
@@ -116,6 +120,7 @@ keyword_for (items.Slots count) = keywords.Slots
 keyword_for (items.Kind kind) = keywords.Kind
 keyword_for (items.Code kind code) = keywords.Code
 keyword_for (items.Axis code info) = keywords.Axis
+keyword_for (items.Filter filter) = keyword_for_filter filter
 keyword_for (items.Actor role name) = keyword_of_role role
 keyword_for (items.Action actor command) = keywords.Action
 
@@ -143,6 +148,16 @@ plain_keyword keywords.Code ws i e = ap keyword_for (map_is (λ (n : ℕ × ℕ)
 plain_keyword keywords.Axis ws i e =
     let h = and_then_is (λ code. option_map (λ info. items.Axis code info) (info_words 2 ws)) (code_word EV_ABS (word 1 ws)) i e in
     ap keyword_for (map_is (λ info. items.Axis h.0 info) (info_words 2 ws) i h.2).2
+plain_keyword keywords.Filter ws i e = absurd (cc e)
+plain_keyword keywords.Eat ws i e =
+    ap keyword_for (map_is (λ (n : ℕ × ℕ). items.Filter (filters.Eat n.0 n.1)) (kind_and_code (word 2 ws) (word 3 ws)) i e).2
+plain_keyword keywords.Norepeat ws i e = let same : items.Filter filters.Norepeat ≡ i = cc e in ap keyword_for (sym same)
+plain_keyword keywords.Chord ws i e =
+    let h = and_then_is (λ first. option_map (λ second. items.Filter (filters.Chord first second)) (code_word EV_KEY (word 3 ws))) (code_word EV_KEY (word 2 ws)) i e in
+    ap keyword_for (map_is (λ second. items.Filter (filters.Chord h.0 second)) (code_word EV_KEY (word 3 ws)) i h.2).2
+plain_keyword keywords.Bounce ws i e =
+    let h = and_then_is (λ code. option_map (λ micros. items.Filter (filters.Bounce code micros)) (micros_word (word 3 ws))) (code_word EV_KEY (word 2 ws)) i e in
+    ap keyword_for (map_is (λ micros. items.Filter (filters.Bounce h.0 micros)) (micros_word (word 3 ws)) i h.2).2
 plain_keyword keywords.Source ws i e = actor_keyword roles.Source (word 1 ws) i e
 plain_keyword keywords.Client ws i e = actor_keyword roles.Client (word 1 ws) i e
 plain_keyword keywords.Tap ws i e = actor_keyword roles.Tap (word 1 ws) i e

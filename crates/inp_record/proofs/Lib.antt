@@ -9,11 +9,13 @@ pub mod CanonRecords
 pub mod CanonWords
 pub mod Computing
 pub mod DescriptionAgain
+pub mod DescriptionFilters
 pub mod DescriptionItems
 pub mod DescriptionLines
 pub mod Entries
 pub mod Good
 pub mod Inversions
+pub mod Keywords
 pub mod LineNumbers
 pub mod MadeDescriptions
 pub mod Pasts

@@ -1,31 +1,30 @@
 -- The numbers of action lines, line by line.
-use Rattle.std.proofs.Common.{◌≡◌, ℕ, zero, suc, ◌+◌, ◌-◌, ◌<◌, Bool, true, false, ◌&&◌, not, if◌then◌else◌, cond, nat_eq, bytes_eq, codes, List, [], ◌∷◌, length, drop, filter, Option, Some, None, Result, Ok, Err, refl, sym, ap, subst, ◌∙◌, add-one, arith, length-append}
+use Rattle.std.proofs.Common.{◌≡◌, ℕ, zero, suc, ◌+◌, ◌-◌, ◌<◌, Bool, true, false, ◌&&◌, not, if◌then◌else◌, cond, nat_eq, codes, List, [], ◌∷◌, length, drop, filter, Option, Some, None, Result, Ok, Err, refl, sym, ap, ◌∙◌, add-one, arith, length-append}
 use Rattle.std.specs.Prelude.{slice_get}
-use Rattle.std.specs.List.{list_all, slice_split, onto_first}
+use Rattle.std.specs.List.{slice_split, onto_first}
 use Rattle.std.proofs.lemmas.Option.{slice_get-get_or}
-use Rattle.std.proofs.lemmas.Slice.Eq.{bytes_eq-Decides}
 use Rattle.std.proofs.lemmas.Bool.Decides.{nat_tests}
+use Rattle.inp_model.specs.declared.filter.Filter.TheVariants as filters
 use Rattle.inp_actors.specs.declared.actor_text.ActorText.{ActorText}
 use Rattle.inp_actors.specs.declared.line.Line.{Line}
 use Rattle.inp_actors.specs.declared.role.Role.TheVariants as roles
 use Rattle.inp_actors.specs.Record.{RecordView}
 use Rattle.inp_words.specs.Line.{lines_of as text_lines, words_of, is_blank, is_comment, is_text, is_word}
-use Rattle.inp_words.specs.Table.{named}
-use Rattle.inp_words.proofs.Booleans.{both}
 use Rattle.inp_record.specs.declared.cause.Cause.{Cause}
 use Rattle.inp_record.specs.declared.cause.Cause.TheVariants.{NotText, BadHeader, OutOfPlace}
 use Rattle.inp_record.specs.declared.refused.Refused.{Refused}
 use Rattle.inp_record.specs.declared.context.Context.{Context}
 use Rattle.inp_record.specs.declared.item.Item as item
-use Rattle.inp_record.specs.declared.item.Item.TheVariants.{Header, Device, Hint, Log, Realtime, Boottime, Slots, Kind, Code, Axis, Actor, Action}
+use Rattle.inp_record.specs.declared.item.Item.TheVariants.{Header, Device, Hint, Log, Realtime, Boottime, Slots, Kind, Code, Axis, Filter, Actor, Action}
 use Rattle.inp_record.specs.declared.keyword.Keyword as keyword
-use Rattle.inp_record.specs.Keyword.{keyword_rows, has_words, with_words, keyword_of}
+use Rattle.inp_record.specs.Keyword.{keyword_of}
 use Rattle.inp_record.specs.Place.{is_start, is_out_of_place}
 use Rattle.inp_record.specs.Words.{word, has_word, is_header, is_action, or_bad_word, action_item, plain_item, item_of}
 use Rattle.inp_record.specs.Past.{Past, lines_of, context_of}
 use Rattle.inp_record.specs.Meaning.{placed, checked, item_of_words, behind, behind_words, behind_line, go_on, behind_lines, record_of, as_record, meaning}
 use Rattle.inp_record.specs.LineNumber.{is_action_line, action_numbers}
 use Rattle.inp_record.proofs.Inversions.{keyword_for, plain_keyword, checked_is, act_is}
+use Rattle.inp_record.proofs.Keywords.{action_is_do}
 
 -- behind the first item
 get_behind : (x : ℕ) (xs : List ℕ) (k : ℕ) → 0 < k → slice_get (x ∷ xs) k ≡ slice_get xs (k - 1)
@@ -61,45 +60,6 @@ not_missed all lines n line left h z e =
 
 -- how many action lines there are
 
--- what a table says of a word passes each test that all its rows pass
-pub named_passes : {T : Type 0} (test : List ℕ × T → Bool) (rows : List (List ℕ × T)) (word : List ℕ) (x : T) → list_all test rows ≡ true → named rows word ≡ Some x → test (word, x) ≡ true
-named_passes test [] word x all e = absurd (cc e)
-named_passes {T} test (row ∷ rows) word x all e = by_word (bytes_eq row.0 word) refl (λ g. named_passes test rows word x (both _ _ all).1 g) e
-  where
-    by_word : (same : Bool) → bytes_eq row.0 word ≡ same → (named rows word ≡ Some x → test (word, x) ≡ true) → (if same then Some row.1 else named rows word) ≡ Some x → test (word, x) ≡ true
-    by_word true h more e =
-        let here : row.0 ≡ word = (bytes_eq-Decides row.0 word).0 h in
-        let says : row.1 ≡ x = cc e in
-        subst (λ (y : T). test (word, y) ≡ true) says (subst (λ (w : List ℕ). test (w, row.1) ≡ true) here (both _ _ all).0)
-    by_word false h more e = more e
-
--- the word is do exactly where the keyword is that of an action
-abbrev is_do_alone : List ℕ × keyword.Keyword → Bool
-is_do_alone row = if is_action row.1 then bytes_eq row.0 (codes "do") else not (bytes_eq row.0 (codes "do"))
-
-rows_are_do_alone : list_all is_do_alone keyword_rows ≡ true
-unfolding keyword_rows
-rows_are_do_alone = refl
-
-do_by_tests : (a b : Bool) → (if a then b else not b) ≡ true → a ≡ b
-do_by_tests true true h = refl
-do_by_tests true false h = absurd (cc h)
-do_by_tests false true h = absurd (cc h)
-do_by_tests false false h = refl
-
-with_words_is : (count : ℕ) (o : Option keyword.Keyword) (k : keyword.Keyword) → with_words count o ≡ Some k → o ≡ Some k
-with_words_is count None k e = absurd (cc e)
-with_words_is count (Some j) k e = by_count (has_words j count) e
-  where
-    by_count : (fits : Bool) → (if fits then Some j else None) ≡ Some k → Some j ≡ Some k
-    by_count true e = e
-    by_count false e = absurd (cc e)
-
-action_is_do : (word : List ℕ) (count : ℕ) (k : keyword.Keyword) → keyword_of word count ≡ Some k → is_action k ≡ bytes_eq word (codes "do")
-unfolding keyword_of
-action_is_do word count k e =
-    do_by_tests (is_action k) (bytes_eq word (codes "do")) (named_passes is_do_alone keyword_rows word k rows_are_do_alone (with_words_is count (named keyword_rows word) k e))
-
 -- an item adds a line exactly where its keyword is that of an action
 item_adds : (past : Past) (i : item.Item) → length (lines_of (i ∷ past)) ≡ length (lines_of past) + (if is_action (keyword_for i) then 1 else 0)
 item_adds past (Header version) = omega arith
@@ -112,6 +72,10 @@ item_adds past (Slots count) = omega arith
 item_adds past (Kind kind) = omega arith
 item_adds past (Code kind code) = omega arith
 item_adds past (Axis code info) = omega arith
+item_adds past (Filter (filters.Eat kind code)) = omega arith
+item_adds past (Filter filters.Norepeat) = omega arith
+item_adds past (Filter (filters.Chord first second)) = omega arith
+item_adds past (Filter (filters.Bounce code micros)) = omega arith
 item_adds past (Actor roles.Source name) = omega arith
 item_adds past (Actor roles.Client name) = omega arith
 item_adds past (Actor roles.Tap name) = omega arith
@@ -144,7 +108,8 @@ header_passed false means i e = e
 words_add : (c : Context) (ws : List (List ℕ)) (i : item.Item) → item_of_words c ws ≡ Ok i → is_action (keyword_for i) ≡ has_word ws 0 (codes "do")
 unfolding item_of_words
 words_add c ws i e =
-    placed_adds c (keyword_of (word 0 ws) (length ws)) ws i (λ k h. action_is_do (word 0 ws) (length ws) k h) (header_passed (is_start c.place && not (is_header ws)) (placed c (keyword_of (word 0 ws) (length ws)) ws) i e)
+    let k : Option keyword.Keyword = keyword_of c.version (word 0 ws) (word 1 ws) (length ws) in
+    placed_adds c k ws i (λ k h. action_is_do c.version (word 0 ws) (word 1 ws) (length ws) k h) (header_passed (is_start c.place && not (is_header ws)) (placed c k ws) i e)
 
 behind_adds : (past now : Past) (means : Result item.Item Cause) (does : Bool) → ((i : item.Item) → means ≡ Ok i → is_action (keyword_for i) ≡ does) → behind past means ≡ Ok now → length (lines_of now) ≡ length (lines_of past) + (if does then 1 else 0)
 behind_adds past now (Err cause) does is e = absurd (cc e)

@@ -1,23 +1,25 @@
 -- What a description is like that the accepted lines of a device give.
-use Rattle.std.proofs.Common.{◌≡◌, ℕ, zero, suc, ◌-◌, ◌<◌, ◌≤◌, ℤ, pos, Bool, true, false, ◌&&◌, if◌then◌else◌, nat_eq, nat_le, nat_lt, FitsSigned, w32, List, [], ◌∷◌, ◌++◌, length, replicate, get_or, set, slice_get, Option, Some, None, refl, sym, ap, subst, ◌∙◌, ◌⊎◌, inl, inr, arith}
+use Rattle.std.proofs.Common.{◌≡◌, ℕ, zero, suc, ◌-◌, ◌<◌, ◌≤◌, ℤ, pos, Bool, true, false, ◌&&◌, not, if◌then◌else◌, nat_eq, nat_le, nat_lt, FitsSigned, w32, List, [], ◌∷◌, ◌++◌, length, replicate, get_or, set, slice_get, Option, Some, None, Ok, Err, refl, sym, ap, subst, ◌∙◌, ◌⊎◌, inl, inr, arith}
 use Rattle.std.proofs.lemmas.Bool.{cases_eq, cond_both, cond-true, eqb-true, leb-true, ltb-false, and_parts}
 use Rattle.std.proofs.lemmas.Bool.Decides.{nat_tests}
 use Rattle.std.proofs.lemmas.Int.{ints}
 use Rattle.std.proofs.lemmas.List.{length-set, length-replicate, get_or-set_same, get_or-set_other, set-get_or}
 use Rattle.inp_model.specs.declared.event.TheConstants.{EV_SYN, EV_KEY, EV_REL, EV_ABS, EV_MSC, EV_SW, EV_LED, EV_SND, ABS_MAX}
 use Rattle.inp_model.specs.declared.multi_touch.TheConstants.{ABS_MT_SLOT, ABS_MT_TRACKING_ID}
-use Rattle.inp_model.specs.declared.limits.TheConstants.{SLOTS_MAX, HINT_MIN, HINT_MAX, LOG_MAX}
+use Rattle.inp_model.specs.declared.limits.TheConstants.{SLOTS_MAX, HINT_MIN, HINT_MAX, LOG_MAX, FILTERS_MAX}
 use Rattle.inp_model.specs.declared.stamped.TheConstants.{MOMENT_MAX}
 use Rattle.inp_model.specs.declared.axis_info.AxisInfo.{AxisInfo}
-use Rattle.inp_model.specs.Description.{Description, no_info, is_kind, is_bad_axis}
+use Rattle.inp_model.specs.declared.filter.Filter as filter
+use Rattle.inp_model.specs.Description.{Description, no_info, is_kind, is_bad_axis, AreFilters, is_filter}
 use Rattle.inp_model.proofs.Descriptions.{get_or-replicate, is_bad_axis-no_info}
-use Rattle.inp_caps.specs.declared.caps_refused.CapsRefused.TheVariants.{BadCode, BadAxis}
-use Rattle.inp_caps.specs.Builder.{syn_alone, is_code, with_kind, with_code, with_axis, with_default_axis, with_slot_axes, built}
+use Rattle.inp_caps.specs.declared.caps_refused.CapsRefused.TheVariants.{BadCode, BadAxis, BadFilter}
+use Rattle.inp_caps.specs.Builder.{syn_alone, is_code, with_kind, with_code, with_axis, with_filter, filter_answer, with_default_axis, with_slot_axes, built}
+use Rattle.inp_caps.proofs.Filters.{AreFilters-more}
 use Rattle.inp_actors.specs.declared.device_text.DeviceText.{DeviceText}
 use Rattle.inp_record.specs.declared.item.Item.{Item}
-use Rattle.inp_record.specs.declared.item.Item.TheVariants.{Header, Device, Hint, Log, Realtime, Boottime, Slots, Kind, Code, Axis, Actor, Action}
+use Rattle.inp_record.specs.declared.item.Item.TheVariants.{Header, Device, Hint, Log, Realtime, Boottime, Slots, Kind, Code, Axis, Filter, Actor, Action}
 use Rattle.inp_record.specs.Past.{Past, latest_name, latest_description, former_devices, devices_of, with_latest}
-use Rattle.inp_record.specs.Meaning.{refusal}
+use Rattle.inp_record.specs.Meaning.{refused_by, refusal}
 use Rattle.inp_record.proofs.Sayable.{IsSayableInfo}
 
 -- the data of an axis can be said, where a line describes one
@@ -28,7 +30,7 @@ IsSaid _ = Unit {0}
 -- no description refuses what these lines say
 abbrev pub AreDescribed : Past → Type 0
 AreDescribed [] = Unit {0}
-AreDescribed (i ∷ past) = (refusal i ≡ None) × IsSaid i × AreDescribed past
+AreDescribed (i ∷ past) = (refusal (latest_description past) i ≡ None) × IsSaid i × AreDescribed past
 
 -- sixty-four types, none of them unknown, EV_SYN among them
 pub record AreKnownKinds (kinds : List Bool) : Type 0 where
@@ -73,6 +75,7 @@ pub record IsGathered (d : Description) : Type 0 where
   pub kinds : AreKnownKinds d.kinds
   pub lists : AreKnownLists d.kinds d.keys d.relatives d.miscs d.switches d.leds d.sounds
   pub axes : AreKnownAxes d.kinds d.axes d.infos
+  pub filters : AreFilters d.filters
   pub numbers : AreNumbers d.slots d.hint d.log_limit d.realtime d.boottime
 
 -- a description of a device: with slots it has the axes that slots need
@@ -137,6 +140,7 @@ gathered_kind d kind g known = record {
   kinds = kinds_more d.kinds kind g.kinds known;
   lists = lists_retyped d.kinds d.keys d.relatives d.miscs d.switches d.leds d.sounds kind g.lists;
   axes = axes_retyped d.kinds d.axes d.infos kind g.axes;
+  filters = g.filters;
   numbers = g.numbers;
 }
 
@@ -160,17 +164,17 @@ gathered_code : (d : Description) (kind code : ℕ) → IsGathered d → is_code
 gathered_code d kind code g known typed =
     let l = g.lists in
     cond_both (nat_eq kind EV_KEY) _ _ IsGathered
-    (λ is. record { kinds = g.kinds; lists = record { keys = code_more d EV_KEY kind 768 code d.keys is l.keys known typed; relatives = l.relatives; miscs = l.miscs; switches = l.switches; leds = l.leds; sounds = l.sounds }; axes = g.axes; numbers = g.numbers })
+    (λ is. record { kinds = g.kinds; lists = record { keys = code_more d EV_KEY kind 768 code d.keys is l.keys known typed; relatives = l.relatives; miscs = l.miscs; switches = l.switches; leds = l.leds; sounds = l.sounds }; axes = g.axes; filters = g.filters; numbers = g.numbers })
     λ _. cond_both (nat_eq kind EV_REL) _ _ IsGathered
-    (λ is. record { kinds = g.kinds; lists = record { keys = l.keys; relatives = code_more d EV_REL kind 64 code d.relatives is l.relatives known typed; miscs = l.miscs; switches = l.switches; leds = l.leds; sounds = l.sounds }; axes = g.axes; numbers = g.numbers })
+    (λ is. record { kinds = g.kinds; lists = record { keys = l.keys; relatives = code_more d EV_REL kind 64 code d.relatives is l.relatives known typed; miscs = l.miscs; switches = l.switches; leds = l.leds; sounds = l.sounds }; axes = g.axes; filters = g.filters; numbers = g.numbers })
     λ _. cond_both (nat_eq kind EV_MSC) _ _ IsGathered
-    (λ is. record { kinds = g.kinds; lists = record { keys = l.keys; relatives = l.relatives; miscs = code_more d EV_MSC kind 64 code d.miscs is l.miscs known typed; switches = l.switches; leds = l.leds; sounds = l.sounds }; axes = g.axes; numbers = g.numbers })
+    (λ is. record { kinds = g.kinds; lists = record { keys = l.keys; relatives = l.relatives; miscs = code_more d EV_MSC kind 64 code d.miscs is l.miscs known typed; switches = l.switches; leds = l.leds; sounds = l.sounds }; axes = g.axes; filters = g.filters; numbers = g.numbers })
     λ _. cond_both (nat_eq kind EV_SW) _ _ IsGathered
-    (λ is. record { kinds = g.kinds; lists = record { keys = l.keys; relatives = l.relatives; miscs = l.miscs; switches = code_more d EV_SW kind 64 code d.switches is l.switches known typed; leds = l.leds; sounds = l.sounds }; axes = g.axes; numbers = g.numbers })
+    (λ is. record { kinds = g.kinds; lists = record { keys = l.keys; relatives = l.relatives; miscs = l.miscs; switches = code_more d EV_SW kind 64 code d.switches is l.switches known typed; leds = l.leds; sounds = l.sounds }; axes = g.axes; filters = g.filters; numbers = g.numbers })
     λ _. cond_both (nat_eq kind EV_LED) _ _ IsGathered
-    (λ is. record { kinds = g.kinds; lists = record { keys = l.keys; relatives = l.relatives; miscs = l.miscs; switches = l.switches; leds = code_more d EV_LED kind 64 code d.leds is l.leds known typed; sounds = l.sounds }; axes = g.axes; numbers = g.numbers })
+    (λ is. record { kinds = g.kinds; lists = record { keys = l.keys; relatives = l.relatives; miscs = l.miscs; switches = l.switches; leds = code_more d EV_LED kind 64 code d.leds is l.leds known typed; sounds = l.sounds }; axes = g.axes; filters = g.filters; numbers = g.numbers })
     λ _. cond_both (nat_eq kind EV_SND) _ _ IsGathered
-    (λ is. record { kinds = g.kinds; lists = record { keys = l.keys; relatives = l.relatives; miscs = l.miscs; switches = l.switches; leds = l.leds; sounds = code_more d EV_SND kind 64 code d.sounds is l.sounds known typed }; axes = g.axes; numbers = g.numbers })
+    (λ is. record { kinds = g.kinds; lists = record { keys = l.keys; relatives = l.relatives; miscs = l.miscs; switches = l.switches; leds = l.leds; sounds = code_more d EV_SND kind 64 code d.sounds is l.sounds known typed }; axes = g.axes; filters = g.filters; numbers = g.numbers })
     λ _. g
 
 -- what holds of each axis and of a new one holds of each axis with the new one
@@ -198,7 +202,7 @@ axes_more kinds axes infos code i a within good said typed =
     }
 
 gathered_axis : (d : Description) (code : ℕ) (i : AxisInfo) → IsGathered d → code ≤ ABS_MAX → is_bad_axis code i ≡ false → IsSayableInfo i → get_or d.kinds EV_ABS false ≡ true → IsGathered (with_axis d code i)
-gathered_axis d code i g within good said typed = record { kinds = g.kinds; lists = g.lists; axes = axes_more d.kinds d.axes d.infos code i g.axes within good said typed; numbers = g.numbers }
+gathered_axis d code i g within good said typed = record { kinds = g.kinds; lists = g.lists; axes = axes_more d.kinds d.axes d.infos code i g.axes within good said typed; filters = g.filters; numbers = g.numbers }
 
 -- EV_SYN alone
 
@@ -234,6 +238,7 @@ gathered_alone = record {
   kinds = record { length_is = refl; known = known_alone 63; syn = refl };
   lists = lists_none (true ∷ replicate 63 false);
   axes = axes_none (true ∷ replicate 63 false);
+  filters = record { few = omega arith; good = refl };
   numbers = record { slots = refl; hint = refl; log_limit = refl; realtime = refl; boottime = refl };
 }
 
@@ -250,7 +255,7 @@ axis_passes false false e = (refl, refl)
 
 gathered_numbers : (d : Description) (slots hint log_limit realtime boottime : ℕ) → IsGathered d → AreNumbers slots hint log_limit realtime boottime
     → IsGathered (record d { slots = slots; hint = hint; log_limit = log_limit; realtime = realtime; boottime = boottime })
-gathered_numbers d slots hint log_limit realtime boottime g n = record { kinds = g.kinds; lists = g.lists; axes = g.axes; numbers = n }
+gathered_numbers d slots hint log_limit realtime boottime g n = record { kinds = g.kinds; lists = g.lists; axes = g.axes; filters = g.filters; numbers = n }
 
 -- a type that is known is one of sixty-four
 kind_within : (kind : ℕ) → is_kind kind ≡ true → kind < 64
@@ -267,10 +272,22 @@ with_coded d kind code g e =
     let known = known_kind kind code e in
     gathered_code (with_kind d kind) kind code (gathered_kind d kind g known) e (kind_there d kind g known)
 
-with_described : (d : Description) (code : ℕ) (i : AxisInfo) → IsGathered d → refusal (Axis code i) ≡ None → IsSayableInfo i → IsGathered (with_axis (with_kind d EV_ABS) code i)
+with_described : (d : Description) (code : ℕ) (i : AxisInfo) → IsGathered d → refusal d (Axis code i) ≡ None → IsSayableInfo i → IsGathered (with_axis (with_kind d EV_ABS) code i)
 with_described d code i g e said =
     let passed = axis_passes (nat_lt ABS_MAX code) (is_bad_axis code i) e in
     gathered_axis (with_kind d EV_ABS) code i (gathered_kind d EV_ABS g refl) (ltb-false ABS_MAX code passed.0) passed.1 said (kind_there d EV_ABS g refl)
+
+filter_passes : (good : Bool) (full : Bool) → refused_by (if not good then Err BadCode else if full then Err BadFilter else Ok (tt {0})) ≡ None → (good ≡ true) × (full ≡ false)
+filter_passes false full e = absurd (cc e)
+filter_passes true true e = absurd (cc e)
+filter_passes true false e = (refl, refl)
+
+with_filtered : (d : Description) (f : filter.Filter) → IsGathered d → refused_by (filter_answer d f) ≡ None → IsGathered (with_filter d f)
+with_filtered d f g e =
+    let passed = filter_passes (is_filter f) (nat_eq (length d.filters) FILTERS_MAX) e in
+    let most : length d.filters ≤ FILTERS_MAX = g.filters.few in
+    let room : length d.filters < FILTERS_MAX = grind (arith, nat_tests, passed.1, most) in
+    record { kinds = g.kinds; lists = g.lists; axes = g.axes; filters = AreFilters-more d.filters f g.filters room passed.0; numbers = g.numbers }
 
 gathered : (past : Past) → AreDescribed past → IsGathered (latest_description past)
 gathered [] h = gathered_alone
@@ -300,13 +317,15 @@ gathered (Slots count ∷ past) h =
 gathered (Kind kind ∷ past) h = gathered_kind (latest_description past) kind (gathered past h.2) (passes _ _ h.0)
 gathered (Code kind code ∷ past) h = with_coded (latest_description past) kind code (gathered past h.2) (passes _ _ h.0)
 gathered (Axis code info ∷ past) h = with_described (latest_description past) code info (gathered past h.2) h.0 h.1
+gathered (Filter filter ∷ past) h = with_filtered (latest_description past) filter (gathered past h.2) h.0
 gathered (Actor role name ∷ past) h = gathered past h.2
 gathered (Action actor command ∷ past) h = gathered past h.2
 
 -- the axes that slots need
 
-default_keeps : (d : Description) (code : ℕ) (m : ℤ) → ((with_default_axis d code m).kinds ≡ d.kinds) × ((with_default_axis d code m).slots ≡ d.slots)
-default_keeps d code m = cond_both (get_or d.axes code false) _ _ (λ (x : Description). (x.kinds ≡ d.kinds) × (x.slots ≡ d.slots)) (λ e. (refl, refl)) (λ e. (refl, refl))
+default_keeps : (d : Description) (code : ℕ) (m : ℤ) → ((with_default_axis d code m).kinds ≡ d.kinds) × ((with_default_axis d code m).slots ≡ d.slots) × ((with_default_axis d code m).filters ≡ d.filters)
+default_keeps d code m =
+    cond_both (get_or d.axes code false) _ _ (λ (x : Description). (x.kinds ≡ d.kinds) × (x.slots ≡ d.slots) × (x.filters ≡ d.filters)) (λ e. (refl, refl, refl)) (λ e. (refl, refl, refl))
 
 default_axes : (d : Description) (code other : ℕ) (m : ℤ) → get_or d.axes other false ≡ true → get_or (with_default_axis d code m).axes other false ≡ true
 default_axes d code other m h = cond_both (get_or d.axes code false) _ _ (λ (x : Description). get_or x.axes other false ≡ true) (λ e. h) (λ e. set_more d.axes code other h)
@@ -331,6 +350,12 @@ pub built_slots : (d : Description) → (built d).slots ≡ d.slots
 built_slots d =
     cond_both (nat_eq d.slots 0) d (with_slot_axes d) (λ (x : Description). x.slots ≡ d.slots) (λ _. refl)
     (λ _. (default_keeps (with_default_axis (with_kind d EV_ABS) ABS_MT_SLOT (pos (d.slots - 1))) ABS_MT_TRACKING_ID (pos 65535)).1 ∙ (default_keeps (with_kind d EV_ABS) ABS_MT_SLOT (pos (d.slots - 1))).1)
+
+-- and the same filters
+pub built_filters : (d : Description) → (built d).filters ≡ d.filters
+built_filters d =
+    cond_both (nat_eq d.slots 0) d (with_slot_axes d) (λ (x : Description). x.filters ≡ d.filters) (λ _. refl)
+    (λ _. (default_keeps (with_default_axis (with_kind d EV_ABS) ABS_MT_SLOT (pos (d.slots - 1))) ABS_MT_TRACKING_ID (pos 65535)).2 ∙ (default_keeps (with_kind d EV_ABS) ABS_MT_SLOT (pos (d.slots - 1))).2)
 
 -- a description that has them
 record HasSlotAxes (d : Description) : Type 0 where
@@ -412,6 +437,7 @@ former_made (Slots count ∷ past) h = former_made past h.2
 former_made (Kind kind ∷ past) h = former_made past h.2
 former_made (Code kind code ∷ past) h = former_made past h.2
 former_made (Axis code info ∷ past) h = former_made past h.2
+former_made (Filter filter ∷ past) h = former_made past h.2
 former_made (Actor role name ∷ past) h = former_made past h.2
 former_made (Action actor command ∷ past) h = former_made past h.2
 

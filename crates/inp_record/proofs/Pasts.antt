@@ -2,7 +2,7 @@
 use Rattle.std.proofs.Common.{◌≡◌, ℕ, [], ◌∷◌, refl, ◌∙◌, unwrap_or, arith}
 use Rattle.std.proofs.lemmas.Bool.Decides.{nat_tests}
 use Rattle.inp_model.specs.Description.{Description}
-use Rattle.inp_record.specs.declared.item.Item.TheVariants.{Header, Device, Hint, Log, Realtime, Boottime, Slots, Kind, Code, Axis, Actor, Action}
+use Rattle.inp_record.specs.declared.item.Item.TheVariants.{Header, Device, Hint, Log, Realtime, Boottime, Slots, Kind, Code, Axis, Filter, Actor, Action}
 use Rattle.inp_caps.specs.Builder.{with_kind, with_code}
 use Rattle.inp_record.specs.Past.{Past, latest_description, realtime_of, boottime_of}
 
@@ -14,6 +14,9 @@ code_boottime d kind code = grind (arith, nat_tests)
 
 pub code_slots : (d : Description) (kind code : ℕ) → (with_code d kind code).slots ≡ d.slots
 code_slots d kind code = grind (arith, nat_tests)
+
+pub code_filters : (d : Description) (kind code : ℕ) → (with_code d kind code).filters ≡ d.filters
+code_filters d kind code = grind (arith, nat_tests)
 
 -- the offsets of the latest description are those that its device gave
 pub realtime_is : (past : Past) → (latest_description past).realtime ≡ unwrap_or (realtime_of past) 0
@@ -28,6 +31,7 @@ realtime_is (Slots count ∷ past) = realtime_is past
 realtime_is (Kind kind ∷ past) = realtime_is past
 realtime_is (Code kind code ∷ past) = code_realtime (with_kind (latest_description past) kind) kind code ∙ realtime_is past
 realtime_is (Axis code info ∷ past) = realtime_is past
+realtime_is (Filter filter ∷ past) = realtime_is past
 realtime_is (Actor role name ∷ past) = realtime_is past
 realtime_is (Action actor command ∷ past) = realtime_is past
 
@@ -43,5 +47,6 @@ boottime_is (Slots count ∷ past) = boottime_is past
 boottime_is (Kind kind ∷ past) = boottime_is past
 boottime_is (Code kind code ∷ past) = code_boottime (with_kind (latest_description past) kind) kind code ∙ boottime_is past
 boottime_is (Axis code info ∷ past) = boottime_is past
+boottime_is (Filter filter ∷ past) = boottime_is past
 boottime_is (Actor role name ∷ past) = boottime_is past
 boottime_is (Action actor command ∷ past) = boottime_is past

@@ -1,17 +1,17 @@
 -- The lines of a record, with another version in their header, are accepted again.
-use Rattle.std.proofs.Common.{◌≡◌, ℕ, ◌+◌, true, false, if◌then◌else◌, List, [], ◌∷◌, ◌++◌, length, Some, Ok, refl, sym, ap, ◌∙◌, subst, arith}
+use Rattle.std.proofs.Common.{◌≡◌, ℕ, ◌+◌, true, false, if◌then◌else◌, List, [], ◌∷◌, ◌++◌, length, Some, None, Ok, refl, sym, ap, ◌∙◌, subst, arith}
 use Rattle.inp_model.specs.declared.event.TheConstants.{EV_ABS}
-use Rattle.inp_caps.specs.Builder.{syn_alone, with_kind, with_code, with_axis}
+use Rattle.inp_caps.specs.Builder.{syn_alone, with_kind, with_code, with_axis, with_filter}
 use Rattle.inp_actors.specs.Command.{is_source}
 use Rattle.inp_actors.specs.Record.{RecordView}
 use Rattle.inp_canon.specs.Text.{record_text}
 use Rattle.inp_record.specs.declared.context.Context.{Context}
 use Rattle.inp_record.specs.declared.item.Item.{Item}
-use Rattle.inp_record.specs.declared.item.Item.TheVariants.{Header, Device, Hint, Log, Realtime, Boottime, Slots, Kind, Code, Axis, Actor, Action}
+use Rattle.inp_record.specs.declared.item.Item.TheVariants.{Header, Device, Hint, Log, Realtime, Boottime, Slots, Kind, Code, Axis, Filter, Actor, Action}
 use Rattle.inp_record.specs.declared.place.Place.TheVariants.{Headed, Describing, Naming, Acting}
 use Rattle.inp_record.specs.Place.{is_start, is_out_of_place}
 use Rattle.inp_record.specs.Past.{Past, place_of, version_of, with_latest, streams_in, no_given, context_of}
-use Rattle.inp_record.specs.Meaning.{is_later_command, is_twice, is_too_many, record_of, record_in, meaning}
+use Rattle.inp_record.specs.Meaning.{is_later_command, is_twice, is_too_many, refusal, record_of, record_in, meaning}
 use Rattle.inp_record.proofs.Sayable.{keyword_for, IsSayable, IsAccepted}
 use Rattle.inp_record.proofs.CanonPasts.{WereAccepted, meaning_of_past}
 use Rattle.inp_record.proofs.RoundTrip.{no_start, read_again as past_read_again}
@@ -47,6 +47,7 @@ after_item (Slots count) c = record c { place = Describing; builder = record c.b
 after_item (Kind kind) c = record c { place = Describing; builder = with_kind c.builder kind }
 after_item (Code kind code) c = record c { place = Describing; builder = with_code (with_kind c.builder kind) kind code }
 after_item (Axis code info) c = record c { place = Describing; builder = with_axis (with_kind c.builder EV_ABS) code info; given = record c.given { axes = c.given.axes ++ code ∷ [] } }
+after_item (Filter filter) c = record c { place = Describing; builder = with_filter c.builder filter }
 after_item (Actor role name) c = record c {
   place = Naming;
   sources = c.sources + (if is_source role then 1 else 0);
@@ -66,6 +67,7 @@ context_after (Slots count) past = refl
 context_after (Kind kind) past = refl
 context_after (Code kind code) past = refl
 context_after (Axis code info) past = refl
+context_after (Filter filter) past = refl
 context_after (Actor role name) past = refl
 context_after (Action actor command) past = refl
 
@@ -129,6 +131,15 @@ accepted_alike past new (Slots count) same two a = record {
   few_slots = rw (two a.in_place.0) refl;
   fits = a.fits;
 }
+accepted_alike past new (Filter filter) same two a = record {
+  sayable = a.sayable;
+  in_place = (ap (λ (c : Context). is_start c.place) same ∙ a.in_place.0, ap (λ (c : Context). is_out_of_place c.place (keyword_for (Filter filter))) same ∙ a.in_place.1, rw (two a.in_place.0) refl);
+  in_version = refl;
+  once = refl;
+  few = refl;
+  few_slots = refl;
+  fits = subst (λ (c : Context). refusal c.builder (Filter filter) ≡ None) (sym same) a.fits;
+}
 accepted_alike past new i same two a = record {
   sayable = subst (λ (c : Context). IsSayable c.actors c.streams i) (sym same) a.sayable;
   in_place = subst (λ (c : Context). (is_start c.place ≡ false) × (is_out_of_place c.place (keyword_for i) ≡ false)) (sym same) a.in_place;
@@ -136,7 +147,7 @@ accepted_alike past new i same two a = record {
   once = subst (λ (c : Context). is_twice c i ≡ false) (sym same) a.once;
   few = subst (λ (c : Context). is_too_many c i ≡ false) (sym same) a.few;
   few_slots = refl;
-  fits = a.fits;
+  fits = subst (λ (c : Context). refusal c.builder i ≡ None) (sym same) a.fits;
 }
 
 raised_accepted : (past : Past) → WereAccepted past → WereAccepted (raised past)

@@ -11,7 +11,7 @@ use Rattle.inp_record.specs.declared.line_fault.LineFault.TheVariants as line
 use Rattle.inp_record.specs.declared.refused.ParseFault.{ParseFault}
 use Rattle.inp_record.specs.declared.refused.ParseFault.TheVariants as fault
 use Rattle.inp_record.specs.declared.context.Context.{Context}
-use Rattle.inp_record.specs.declared.item.Item.TheVariants.{Header, Device, Hint, Log, Realtime, Boottime, Slots, Kind, Code, Axis, Actor, Action}
+use Rattle.inp_record.specs.declared.item.Item.TheVariants.{Header, Device, Hint, Log, Realtime, Boottime, Slots, Kind, Code, Axis, Filter, Actor, Action}
 use Rattle.inp_record.specs.declared.place.Place.TheVariants.{Start}
 use Rattle.std.proofs.lemmas.List.Splits.{length-slice_split}
 use Rattle.std.proofs.lemmas.List.Sums.{count_by-le-length}
@@ -85,6 +85,7 @@ start_is (Slots count ∷ past) e = absurd (cc)
 start_is (Kind kind ∷ past) e = absurd (cc)
 start_is (Code kind code ∷ past) e = absurd (cc)
 start_is (Axis code info ∷ past) e = absurd (cc)
+start_is (Filter filter ∷ past) e = absurd (cc)
 start_is (Actor role name ∷ past) e = absurd (cc)
 start_is (Action actor command ∷ past) e = absurd (cc)
 

@@ -7,6 +7,8 @@ use Rattle.std.proofs.lemmas.List.{map-append}
 use Rattle.std.proofs.lemmas.List.Folds.{list_all-append}
 use Rattle.inp_model.specs.declared.event.TheConstants.{EV_ABS, EV_MAX, KEY_MAX, ABS_MAX}
 use Rattle.inp_model.specs.Description.{Description, has_kind, supports}
+use Rattle.inp_model.specs.declared.filter.Filter as filter
+use Rattle.inp_model.specs.declared.filter.Filter.TheVariants as filters
 use Rattle.inp_actors.specs.declared.actor_text.ActorText.{ActorText}
 use Rattle.inp_actors.specs.declared.device_text.DeviceText.{DeviceText}
 use Rattle.inp_actors.specs.declared.line.Line.{Line}
@@ -18,13 +20,13 @@ use Rattle.inp_canon.specs.Device.{coded_kinds}
 use Rattle.inp_canon.specs.Text.{actor_lines, actors_lines, device_lines, devices_lines, action_words, record_lines, record_text}
 use Rattle.inp_words.specs.Line.{lines_of as text_lines}
 use Rattle.inp_record.specs.declared.item.Item.{Item}
-use Rattle.inp_record.specs.declared.item.Item.TheVariants.{Header, Device, Hint, Log, Realtime, Boottime, Slots, Kind, Code, Axis, Actor, Action}
+use Rattle.inp_record.specs.declared.item.Item.TheVariants.{Header, Device, Hint, Log, Realtime, Boottime, Slots, Kind, Code, Axis, Filter, Actor, Action}
 use Rattle.inp_record.specs.declared.place.Place.TheVariants.{Start}
 use Rattle.inp_record.specs.Place.{is_start}
 use Rattle.inp_record.specs.Words.{is_action}
 use Rattle.inp_record.specs.Past.{Past, place_after, place_of, version_of, actors_of, devices_of, lines_of}
 use Rattle.inp_record.specs.Meaning.{behind_lines, record_of, meaning}
-use Rattle.inp_record.specs.Spelling.{item_words, number_items, slots_items, kind_items, code_items, codes_items, axis_items, description_items, actor_items, device_items, action_item_of, RoundTrips}
+use Rattle.inp_record.specs.Spelling.{item_words, number_items, slots_items, kind_items, code_items, codes_items, axis_items, plain_items, filter_items, description_items, actor_items, device_items, action_item_of, RoundTrips}
 use Rattle.inp_record.proofs.Reading.{meaning_read, headed}
 use Rattle.inp_record.proofs.Sayable.{keyword_for}
 use Rattle.inp_record.proofs.CanonRead.{AreBehindActors, items_read}
@@ -99,9 +101,9 @@ none_each : {X : Type 0} (items : X → List Item) → ((x : X) → are_no_actio
 none_each items each [] = refl
 none_each items each (x ∷ xs) = none_both (items x) (flat_map items xs) (each x) (none_each items each xs)
 
-none_described : (d : Description) → are_no_actions (description_items d) ≡ true
-unfolding description_items
-none_described d =
+none_plain : (d : Description) → are_no_actions (plain_items d) ≡ true
+unfolding plain_items
+none_plain d =
     let kinds = flat_map (kind_items d) (range_with_len 1 EV_MAX) in
     let caps = flat_map (codes_items d) coded_kinds in
     let axes = flat_map (axis_items d) (range_with_len 0 (ABS_MAX + 1)) in
@@ -111,6 +113,20 @@ none_described d =
     (none_both caps axes
     (none_each (codes_items d) (λ kind. none_each (code_items d kind) (λ code. none_if (supports d kind code) (Code kind code) refl) (range_with_len 0 (KEY_MAX + 1))) coded_kinds)
     (none_each (axis_items d) (λ code. none_if (supports d EV_ABS code) _ refl) (range_with_len 0 (ABS_MAX + 1))))))
+
+no_filter_acts : (f : filter.Filter) → is_no_action (Filter f) ≡ true
+no_filter_acts (filters.Eat kind code) = refl
+no_filter_acts filters.Norepeat = refl
+no_filter_acts (filters.Chord first second) = refl
+no_filter_acts (filters.Bounce code micros) = refl
+
+no_filters_act : (fs : List filter.Filter) → are_no_actions (map (λ f. Filter f) fs) ≡ true
+no_filters_act [] = refl
+no_filters_act (f ∷ fs) = and_from (is_no_action (Filter f)) (are_no_actions (map (λ g. Filter g) fs)) (no_filter_acts f) (no_filters_act fs)
+
+none_described : (d : Description) → are_no_actions (description_items d) ≡ true
+unfolding description_items
+none_described d = none_both (plain_items d) (filter_items d) (none_plain d) (no_filters_act d.filters)
 
 none_of_role : (a : ActorText) → is_no_action (Actor a.role a.name) ≡ true
 none_of_role a = by_role a.role
@@ -167,6 +183,7 @@ no_start (Slots count) = refl
 no_start (Kind kind) = refl
 no_start (Code kind code) = refl
 no_start (Axis code info) = refl
+no_start (Filter filter) = refl
 no_start (Actor role name) = refl
 no_start (Action actor command) = refl
 

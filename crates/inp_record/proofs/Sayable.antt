@@ -1,7 +1,10 @@
 -- When an item can be said by words, and when a line that says it is accepted behind a past.
-use Rattle.std.proofs.Common.{◌≡◌, ◌<◌, ◌≤◌, ◌^◌, ℕ, ℤ, Bool, true, false, ◌&&◌, nat_le, List, [], ◌∷◌, slice_get, Some, None, FitsSigned, w32}
+use Rattle.std.proofs.Common.{◌≡◌, ◌<◌, ◌≤◌, ◌^◌, ℕ, ℤ, Bool, true, false, ◌&&◌, nat_eq, nat_le, List, [], ◌∷◌, slice_get, Some, None, FitsSigned, w32}
 use Rattle.std.specs.List.{list_all}
 use Rattle.inp_model.specs.declared.axis_info.AxisInfo.{AxisInfo}
+use Rattle.inp_model.specs.declared.limits.TheConstants.{BOUNCE_MAX}
+use Rattle.inp_model.specs.declared.filter.Filter as filter
+use Rattle.inp_model.specs.declared.filter.Filter.TheVariants as filters
 use Rattle.inp_actors.specs.declared.role.Role as role
 use Rattle.inp_actors.specs.declared.role.Role.TheVariants as roles
 use Rattle.inp_actors.specs.declared.actor_text.ActorText.{ActorText}
@@ -12,10 +15,10 @@ use Rattle.inp_actors.specs.Name.{is_name}
 use Rattle.inp_actors.specs.Command.{is_command_of, is_in_range}
 use Rattle.inp_words.specs.Line.{is_word}
 use Rattle.inp_record.specs.declared.item.Item.{Item}
-use Rattle.inp_record.specs.declared.item.Item.TheVariants.{Header, Device, Hint, Log, Realtime, Boottime, Slots, Kind, Code, Axis, Actor, Action}
+use Rattle.inp_record.specs.declared.item.Item.TheVariants.{Header, Device, Hint, Log, Realtime, Boottime, Slots, Kind, Code, Axis, Filter, Actor, Action}
 use Rattle.inp_record.specs.declared.keyword.Keyword as keyword
 use Rattle.inp_record.specs.declared.keyword.Keyword.TheVariants as keywords
-use Rattle.inp_record.specs.Past.{Past, place_of, actors_of, context_of, stream_count}
+use Rattle.inp_record.specs.Past.{Past, place_of, version_of, latest_description, actors_of, context_of, stream_count}
 use Rattle.inp_record.specs.Place.{is_start, is_out_of_place}
 use Rattle.inp_record.specs.Words.{actor_from}
 use Rattle.inp_record.specs.Meaning.{is_later_command, is_twice, is_too_many, has_too_many_slots, refusal}
@@ -25,6 +28,12 @@ abbrev pub keyword_for_role : role.Role → keyword.Keyword
 keyword_for_role roles.Source = keywords.Source
 keyword_for_role roles.Client = keywords.Client
 keyword_for_role roles.Tap = keywords.Tap
+
+abbrev pub keyword_for_filter : filter.Filter → keyword.Keyword
+keyword_for_filter (filters.Eat kind code) = keywords.Eat
+keyword_for_filter filters.Norepeat = keywords.Norepeat
+keyword_for_filter (filters.Chord first second) = keywords.Chord
+keyword_for_filter (filters.Bounce code micros) = keywords.Bounce
 
 abbrev pub keyword_for : Item → keyword.Keyword
 keyword_for (Header version) = keywords.Header
@@ -37,6 +46,7 @@ keyword_for (Slots count) = keywords.Slots
 keyword_for (Kind kind) = keywords.Kind
 keyword_for (Code kind code) = keywords.Code
 keyword_for (Axis code info) = keywords.Axis
+keyword_for (Filter filter) = keyword_for_filter filter
 keyword_for (Actor role name) = keyword_for_role role
 keyword_for (Action actor command) = keywords.Action
 
@@ -48,6 +58,13 @@ pub record IsSayableInfo (i : AxisInfo) : Type 0 where
   pub fuzz : FitsSigned w32 i.fuzz
   pub flat : FitsSigned w32 i.flat
   pub resolution : FitsSigned w32 i.resolution
+
+-- each number fits its word
+abbrev pub IsSayableFilter : filter.Filter → Type 0
+IsSayableFilter (filters.Eat kind code) = (kind ≤ 65535) × (code ≤ 65535)
+IsSayableFilter filters.Norepeat = Unit {0}
+IsSayableFilter (filters.Chord first second) = (first ≤ 65535) × (second ≤ 65535)
+IsSayableFilter (filters.Bounce code micros) = (code ≤ 65535) × (1 ≤ micros) × (micros ≤ BOUNCE_MAX)
 
 -- a word as a line of text has it: not empty, and each byte visible
 abbrev pub is_visible : ℕ → Bool
@@ -98,12 +115,21 @@ IsSayable actors stream (Slots count) = count < 2 ^ 32
 IsSayable actors stream (Kind kind) = kind ≤ 65535
 IsSayable actors stream (Code kind code) = (kind ≤ 65535) × (code ≤ 65535)
 IsSayable actors stream (Axis code info) = (code ≤ 65535) × IsSayableInfo info
+IsSayable actors stream (Filter filter) = IsSayableFilter filter
 IsSayable actors stream (Actor role name) = is_name name ≡ true
 IsSayable actors stream (Action actor does) = IsSayableAction actors stream actor does
 
--- a header stands first, and each other item behind one, where a line with its keyword may stand
+-- filters are there under version 1, which has none
+abbrev pub are_early : ℕ → List filter.Filter → Bool
+are_early version [] = false
+are_early version (filter ∷ more) = nat_eq version 1
+
+-- a header stands first, and each other item behind one, where a line with its keyword may stand; a filter under a
+-- later version than 1
 abbrev pub IsInPlace : Past → Item → Type 0
 IsInPlace past (Header version) = is_start (place_of past) ≡ true
+IsInPlace past (Filter filter) =
+    (is_start (place_of past) ≡ false) × (is_out_of_place (place_of past) (keyword_for_filter filter) ≡ false) × (nat_eq (version_of past) 1 ≡ false)
 IsInPlace past i = (is_start (place_of past) ≡ false) × (is_out_of_place (place_of past) (keyword_for i) ≡ false)
 
 -- A line that says the item is accepted behind the past.
@@ -114,7 +140,7 @@ pub record IsAccepted (past : Past) (i : Item) : Type 0 where
   pub once : is_twice (context_of past) i ≡ false
   pub few : is_too_many (context_of past) i ≡ false
   pub few_slots : has_too_many_slots (context_of past) i ≡ false
-  pub fits : refusal i ≡ None
+  pub fits : refusal (latest_description past) i ≡ None
 
 -- lines that say these items, one after another, are accepted behind the past
 abbrev pub AreAccepted : Past → List Item → Type 0

@@ -1,11 +1,13 @@
 -- What lines mean can be said again: each item by the words that it was read from.
-use Rattle.std.proofs.Common.{◌≡◌, ◌<◌, ◌≤◌, ◌+◌, ◌-◌, ◌^◌, ℕ, zero, suc, Bool, true, false, ◌&&◌, if◌then◌else◌, nat_eq, cond, List, [], ◌∷◌, length, filter, Option, Some, None, option_map, bytes_eq, codes, Ok, refl, sym, ap, ◌∙◌, subst, arith}
+use Rattle.std.proofs.Common.{◌≡◌, ◌<◌, ◌≤◌, ◌+◌, ◌-◌, ◌^◌, ℕ, zero, suc, Bool, true, false, ◌&&◌, if◌then◌else◌, nat_eq, nat_le, cond, List, [], ◌∷◌, length, filter, Option, Some, None, option_map, bytes_eq, codes, Ok, refl, sym, ap, ◌∙◌, subst, arith}
 use Rattle.std.specs.Prelude.{option_and_then, slice_get}
 use Rattle.std.specs.List.{list_all, slice_split, onto_first}
 use Rattle.std.proofs.lemmas.Bool.Decides.{nat_tests}
 use Rattle.std.proofs.lemmas.Bool.{and_parts, and_from}
 use Rattle.std.proofs.lemmas.Slice.Eq.{bytes_eq-Decides}
-use Rattle.inp_model.specs.declared.event.TheConstants.{EV_ABS}
+use Rattle.inp_model.specs.declared.event.TheConstants.{EV_KEY, EV_ABS}
+use Rattle.inp_model.specs.declared.limits.TheConstants.{BOUNCE_MAX}
+use Rattle.inp_model.specs.declared.filter.Filter.TheVariants as filters
 use Rattle.inp_model.specs.declared.clock.Clock as clock
 use Rattle.inp_model.specs.declared.clock.Clock.TheVariants.{Realtime, Monotonic, Boottime}
 use Rattle.inp_model.specs.declared.stamped.Stamped.{Stamped}
@@ -28,9 +30,9 @@ use Rattle.inp_record.specs.declared.verb.Verb.TheVariants as verbs
 use Rattle.inp_record.specs.declared.item.Item as item
 use Rattle.inp_record.specs.declared.item.Item.TheVariants as items
 use Rattle.inp_record.specs.Verb.{argument_count, is_verb_of, with_arguments, verb_of, verb_rows}
-use Rattle.inp_record.specs.Words.{word, version_word, name_word, count_word, wide_word, moment_word, clock_word, kind_and_code, info_words, stamped_words, offset_item, plain_item, actor_item, plain_command, command_of, actor_from, action_by, action_with, action_item, or_bad_word, is_action, item_of}
+use Rattle.inp_record.specs.Words.{word, version_word, name_word, count_word, wide_word, moment_word, clock_word, kind_and_code, info_words, stamped_words, micros_word, has_micros, offset_item, plain_item, actor_item, plain_command, command_of, actor_from, action_by, action_with, action_item, or_bad_word, is_action, item_of}
 use Rattle.inp_record.proofs.Good.{or_bad_is}
-use Rattle.inp_record.proofs.Inversions.{map_is, and_then_is, command_of_is, verb_is, action_of_is}
+use Rattle.inp_record.proofs.Inversions.{map_is, and_then_is, command_of_is, verb_is, action_of_is, act_is}
 use Rattle.inp_record.proofs.Sayable.{is_visible, IsPlainWord, IsSayableCommand, IsSayable}
 use Rattle.inp_record.proofs.SayableWords.{number_most, kind_fits, code_fits, info_fits, pair_fits, event_fits}
 
@@ -135,6 +137,18 @@ actor_said actors s r w i e =
     let h = map_is (λ name. items.Actor r name) (name_word w) i e in
     say actors s i (items.Actor r h.0) h.2 (name_said w h.0 h.1)
 
+micros_said : (w : List ℕ) (n : ℕ) → micros_word w ≡ Some n → (1 ≤ n) × (n ≤ BOUNCE_MAX)
+micros_said w n e =
+    let h = and_then_is (λ (m : ℕ). if nat_eq m 0 then None else Some m) (number BOUNCE_MAX w) n e in
+    by_zero h.0 (nat_eq h.0 0) refl (number_most BOUNCE_MAX w h.0 h.1) h.2
+  where
+    by_zero : (m : ℕ) (is : Bool) → nat_eq m 0 ≡ is → m ≤ BOUNCE_MAX → (if is then None else Some m) ≡ Some n → (1 ≤ n) × (n ≤ BOUNCE_MAX)
+    by_zero m true z most e = absurd (cc e)
+    by_zero m false z most e =
+        let same : m ≡ n = cc e in
+        let some : 1 ≤ m = grind (arith, nat_tests) in
+        (omega (arith, same, some), omega (arith, same, most))
+
 plain_said : (actors : List ActorText) (s : ℕ) (k : keyword.Keyword) (ws : List (List ℕ)) (i : item.Item) → plain_item k ws ≡ Some i → IsSayable actors s i
 unfolding plain_item
 plain_said actors s keywords.Header ws i e =
@@ -166,6 +180,20 @@ plain_said actors s keywords.Axis ws i e =
     let h = and_then_is (λ code. option_map (λ info. items.Axis code info) (info_words 2 ws)) (code_word EV_ABS (word 1 ws)) i e in
     let g = map_is (λ info. items.Axis h.0 info) (info_words 2 ws) i h.2 in
     say actors s i (items.Axis h.0 g.0) g.2 (code_fits EV_ABS (word 1 ws) h.0 h.1, info_fits 2 ws g.0 g.1)
+plain_said actors s keywords.Filter ws i e = absurd (cc e)
+plain_said actors s keywords.Eat ws i e =
+    let h = map_is (λ (n : ℕ × ℕ). items.Filter (filters.Eat n.0 n.1)) (kind_and_code (word 2 ws) (word 3 ws)) i e in
+    say actors s i (items.Filter (filters.Eat h.0.0 h.0.1)) h.2 (pair_fits (word 2 ws) (word 3 ws) h.0 h.1)
+plain_said actors s keywords.Norepeat ws i e = let same : items.Filter filters.Norepeat ≡ i = cc e in say actors s i (items.Filter filters.Norepeat) (sym same) tt
+plain_said actors s keywords.Chord ws i e =
+    let h = and_then_is (λ first. option_map (λ second. items.Filter (filters.Chord first second)) (code_word EV_KEY (word 3 ws))) (code_word EV_KEY (word 2 ws)) i e in
+    let g = map_is (λ second. items.Filter (filters.Chord h.0 second)) (code_word EV_KEY (word 3 ws)) i h.2 in
+    say actors s i (items.Filter (filters.Chord h.0 g.0)) g.2 (code_fits EV_KEY (word 2 ws) h.0 h.1, code_fits EV_KEY (word 3 ws) g.0 g.1)
+plain_said actors s keywords.Bounce ws i e =
+    let h = and_then_is (λ code. option_map (λ micros. items.Filter (filters.Bounce code micros)) (micros_word (word 3 ws))) (code_word EV_KEY (word 2 ws)) i e in
+    let g = map_is (λ micros. items.Filter (filters.Bounce h.0 micros)) (micros_word (word 3 ws)) i h.2 in
+    let range = micros_said (word 3 ws) g.0 g.1 in
+    say actors s i (items.Filter (filters.Bounce h.0 g.0)) g.2 (code_fits EV_KEY (word 2 ws) h.0 h.1, range.0, range.1)
 plain_said actors s keywords.Source ws i e = actor_said actors s roles.Source (word 1 ws) i e
 plain_said actors s keywords.Client ws i e = actor_said actors s roles.Client (word 1 ws) i e
 plain_said actors s keywords.Tap ws i e = actor_said actors s roles.Tap (word 1 ws) i e
@@ -307,3 +335,20 @@ item_said actors s k ws i names plain e = by_action (is_action k) e
     by_action : (is : Bool) → (if is then action_item actors s ws else or_bad_word (plain_item k ws)) ≡ Ok i → IsSayable actors s i
     by_action true e = action_said actors s ws i names plain e
     by_action false e = plain_said actors s k ws i (or_bad_is (plain_item k ws) i e)
+
+-- the microseconds of a filter that words mean are in their range
+
+sayable_micros : (actors : List ActorText) (s : ℕ) (i : item.Item) → IsSayable actors s i → has_micros i ≡ true
+sayable_micros actors s (items.Filter (filters.Bounce code micros)) h =
+    let some : nat_le 1 micros ≡ true = grind (arith, nat_tests, h.1) in
+    let most : nat_le micros BOUNCE_MAX ≡ true = grind (arith, nat_tests, h.2) in
+    and_from (nat_le 1 micros) (nat_le micros BOUNCE_MAX) some most
+sayable_micros actors s i h = refl
+
+pub has_micros-read : (actors : List ActorText) (s : ℕ) (k : keyword.Keyword) (ws : List (List ℕ)) (i : item.Item) → item_of actors s k ws ≡ Ok i → has_micros i ≡ true
+unfolding item_of
+has_micros-read actors s k ws i e = by_action (is_action k) e
+  where
+    by_action : (is : Bool) → (if is then action_item actors s ws else or_bad_word (plain_item k ws)) ≡ Ok i → has_micros i ≡ true
+    by_action true e = ap has_micros (act_is actors s ws i e).2
+    by_action false e = sayable_micros actors s i (plain_said actors s k ws i (or_bad_is (plain_item k ws) i e))

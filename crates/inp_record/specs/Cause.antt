@@ -1,7 +1,7 @@
 -- Causes as they are printed (docs/FORMATS.md, "Causes").
 use Rattle.std.specs.Prelude.{ℕ, List, codes}
 use Rattle.inp_caps.specs.declared.caps_refused.CapsRefused.{CapsRefused}
-use Rattle.inp_caps.specs.declared.caps_refused.CapsRefused.TheVariants.{BadCode, BadAxis, BadSlots, BadHint, BadLog, BadOffset}
+use Rattle.inp_caps.specs.declared.caps_refused.CapsRefused.TheVariants.{BadCode, BadAxis, BadSlots, BadHint, BadLog, BadOffset, BadFilter}
 use Rattle.inp_record.specs.declared.cause.Cause.{Cause}
 use Rattle.inp_record.specs.declared.cause.Cause.TheVariants.{NotText, BadHeader, BadLine, OutOfPlace, NoActor, BadCommand, BadWord, Twice, TooMany, Caps, BadStream}
 
@@ -12,6 +12,7 @@ refusal_text BadSlots = codes "bad-slots"
 refusal_text BadHint = codes "bad-hint"
 refusal_text BadLog = codes "bad-log"
 refusal_text BadOffset = codes "bad-offset"
+refusal_text BadFilter = codes "bad-filter"
 
 abbrev pub cause_text : Cause → List ℕ
 cause_text NotText = codes "not-text"

@@ -3,8 +3,9 @@ use Rattle.std.specs.Prelude.{◌≡◌, ℕ, pos, true, List, [], ◌∷◌, �
 use Rattle.std.specs.List.{flat_map}
 use Rattle.inp_model.specs.declared.clock.Clock.TheVariants.{Monotonic, Boottime}
 use Rattle.inp_model.specs.declared.stamped.Stamped.{Stamped}
+use Rattle.inp_model.specs.declared.filter.Filter.TheVariants.{Eat, Norepeat, Chord, Bounce}
 use Rattle.inp_model.specs.Description.{one_key as keyboard, no_info}
-use Rattle.inp_caps.specs.declared.caps_refused.CapsRefused.TheVariants.{BadCode, BadAxis, BadSlots, BadHint, BadLog, BadOffset}
+use Rattle.inp_caps.specs.declared.caps_refused.CapsRefused.TheVariants.{BadCode, BadAxis, BadSlots, BadHint, BadLog, BadOffset, BadFilter}
 use Rattle.inp_caps.specs.Builder.{syn_alone}
 use Rattle.inp_actors.specs.declared.command.Command as command
 use Rattle.inp_actors.specs.declared.command.Command.TheVariants as commands
@@ -187,6 +188,29 @@ pub record RefusesDescriptions : Type 0 where
   pub axis : IsRefused 3 (Caps BadAxis) (device_lines ++ codes "axis ABS_X 0 0 9 -1 0 0" ∷ [])
   pub slot_fuzz : IsRefused 3 (Caps BadAxis) (device_lines ++ codes "axis ABS_MT_SLOT 0 0 9 1 0 0" ∷ [])
 
+-- Filters that are none, that stand where they may not, or that no device has.
+pub record RefusesFilters : Type 0 where
+  pub version_1 : IsRefused 3 BadLine (device_lines ++ codes "filter norepeat" ∷ [])
+  pub version_1_first : IsRefused 2 BadLine (header_lines ++ codes "filter other" ∷ [])
+  pub alone : IsRefused 3 BadLine (later_lines ++ codes "filter" ∷ [])
+  pub more : IsRefused 3 BadLine (later_lines ++ codes "filter norepeat KEY_A" ∷ [])
+  pub less : IsRefused 3 BadLine (later_lines ++ codes "filter bounce KEY_A" ∷ [])
+  pub before_place : IsRefused 2 BadLine (codes "inputrecord 2" ∷ codes "filter eat EV_KEY" ∷ [])
+  pub place : IsRefused 2 OutOfPlace (codes "inputrecord 2" ∷ codes "filter other" ∷ [])
+  pub behind_an_actor : IsRefused 4 OutOfPlace (later_lines ++ codes "source s" ∷ codes "filter norepeat" ∷ [])
+  pub other : IsRefused 3 BadWord (later_lines ++ codes "filter other" ∷ [])
+  pub other_of_many_words : IsRefused 3 BadWord (later_lines ++ codes "filter other 1 2 3 4" ∷ [])
+  pub code : IsRefused 3 BadWord (later_lines ++ codes "filter eat EV_KEY REL_X" ∷ [])
+  pub key : IsRefused 3 BadWord (later_lines ++ codes "filter chord KEY_A REL_X" ∷ [])
+  pub no_time : IsRefused 3 BadWord (later_lines ++ codes "filter bounce KEY_A 0" ∷ [])
+  pub long_time : IsRefused 3 BadWord (later_lines ++ codes "filter bounce KEY_A 1000001" ∷ [])
+  pub report : IsRefused 3 (Caps BadCode) (later_lines ++ codes "filter eat EV_SYN SYN_REPORT" ∷ [])
+  pub key_0 : IsRefused 3 (Caps BadCode) (later_lines ++ codes "filter bounce 0 1" ∷ [])
+  pub one_key : IsRefused 3 (Caps BadCode) (later_lines ++ codes "filter chord KEY_A 30" ∷ [])
+  pub ninth : IsRefused 11 (Caps BadFilter) (later_lines ++ replicate 9 (codes "filter norepeat"))
+  pub ninth_code : IsRefused 11 (Caps BadCode) (later_lines ++ (replicate 8 (codes "filter norepeat") ++ codes "filter eat 7 0" ∷ []))
+  pub ninth_word : IsRefused 11 BadWord (later_lines ++ (replicate 8 (codes "filter norepeat") ++ codes "filter bounce KEY_A 0" ∷ []))
+
 -- What is right although it looks wrong.
 pub record AcceptsLines : Type 0 where
   pub comments : IsRead (codes "  # first" ∷ [] ∷ header_lines ++ (9 ∷ codes "#" ++ 0 ∷ 255 ∷ []) ∷ codes "  " ∷ codes "device d" ∷ [])
@@ -197,6 +221,7 @@ pub record AcceptsLines : Type 0 where
   pub supported_twice : IsRead (device_lines ++ codes "type EV_SYN" ∷ codes "type 0" ∷ codes "cap 1 KEY_A" ∷ codes "cap EV_KEY 30" ∷ codes "cap EV_REP 0" ∷ [])
   pub bounds : IsRead (device_lines ++ codes "hint 0x200" ∷ codes "log 8388608" ∷ codes "clock boottime 9000000000000000" ∷ codes "slots 64" ∷ codes "axis 0x3f -1 -2 -3 1073741824 -4 -5" ∷ [])
   pub slots_of_version_2 : IsRead (later_lines ++ codes "slots 256" ∷ [])
+  pub filters_of_each : IsRead (later_lines ++ (replicate 8 (codes "filter norepeat") ++ codes "device e" ∷ replicate 8 (codes "filter eat EV_REP 1")))
   pub moment : IsRead (actor_lines ++ codes "do s tick 9000000000000000" ∷ [])
   pub streams : IsRead (device_lines ++ codes "source s" ∷ replicate 16 (codes "do s stream f"))
 
@@ -241,6 +266,15 @@ pub record MeansRecords : Type 0 where
   pub header : meaning (codes "inputrecord 1") ≡ Ok (record { version = 1; devices = []; actors = []; lines = []; streams = [] })
   pub later_header : meaning (codes "inputrecord 2") ≡ Ok (record { version = 2; devices = []; actors = []; lines = []; streams = [] })
   pub device : meaning (text_of device_lines) ≡ Ok (record { version = 1; devices = record { name = codes "d"; caps = syn_alone } ∷ []; actors = []; lines = []; streams = [] })
+  pub filters :
+      meaning (text_of (later_lines ++ codes "filter chord KEY_A 0x30" ∷ codes "filter norepeat" ∷ codes "filter bounce 30 001000" ∷ codes "filter norepeat" ∷ codes "filter eat 2 REL_WHEEL" ∷ []))
+      ≡ Ok (record {
+        version = 2;
+        devices = record { name = codes "d"; caps = record syn_alone { filters = Chord 30 48 ∷ Norepeat ∷ Bounce 30 1000 ∷ Norepeat ∷ Eat 2 8 ∷ [] } } ∷ [];
+        actors = [];
+        lines = [];
+        streams = [];
+      })
   pub one_key : meaning (text_of stroke_lines) ≡ Ok stroke_record
   pub loose : meaning loose_stroke ≡ Ok stroke_record
 

@@ -1,8 +1,8 @@
--- The first words of lines (docs/FORMATS.md, "The lines").
-use Rattle.std.specs.Prelude.{ℕ, Bool, if◌then◌else◌, nat_eq, nat_le, List, [], ◌∷◌, codes, Option, Some, None}
+-- The words that say what a line is (docs/FORMATS.md, "The lines").
+use Rattle.std.specs.Prelude.{ℕ, Bool, if◌then◌else◌, nat_eq, nat_le, List, [], ◌∷◌, codes, Option, Some, None, option_and_then, unwrap_or}
 use Rattle.inp_words.specs.Table.{named}
 use Rattle.inp_record.specs.declared.keyword.Keyword.{Keyword}
-use Rattle.inp_record.specs.declared.keyword.Keyword.TheVariants.{Header, Device, Hint, Log, Clock, Slots, Kind, Code, Axis, Source, Client, Tap, Action}
+use Rattle.inp_record.specs.declared.keyword.Keyword.TheVariants.{Header, Device, Hint, Log, Clock, Slots, Kind, Code, Axis, Filter, Eat, Norepeat, Chord, Bounce, Source, Client, Tap, Action}
 
 unfoldable pub keyword_rows : List (List ℕ × Keyword)
 keyword_rows =
@@ -15,17 +15,37 @@ keyword_rows =
     ∷ (codes "type", Kind)
     ∷ (codes "cap", Code)
     ∷ (codes "axis", Axis)
+    ∷ (codes "filter", Filter)
     ∷ (codes "source", Source)
     ∷ (codes "client", Client)
     ∷ (codes "tap", Tap)
     ∷ (codes "do", Action)
     ∷ []
 
+-- the kinds of filters, each with its name
+unfoldable pub filter_rows : List (List ℕ × Keyword)
+filter_rows =
+    (codes "eat", Eat) ∷ (codes "norepeat", Norepeat) ∷ (codes "chord", Chord) ∷ (codes "bounce", Bounce) ∷ []
+
+-- the keyword of a filter line with this second word
+abbrev pub filter_keyword : List ℕ → Keyword
+filter_keyword second = unwrap_or (named filter_rows second) Filter
+
+-- the keyword of a line whose first word names this one: under version 1 there is no filter line, and under a later one
+-- its second word says what kind of filter it is
+abbrev pub with_kind : ℕ → List ℕ → Keyword → Option Keyword
+with_kind version second Filter = if nat_eq version 1 then None else Some (filter_keyword second)
+with_kind version second keyword = Some keyword
+
 -- a line of this keyword has so many words
 abbrev pub has_words : Keyword → ℕ → Bool
 has_words Clock count = nat_eq count 3
 has_words Code count = nat_eq count 3
 has_words Axis count = nat_eq count 8
+has_words Eat count = nat_eq count 4
+has_words Chord count = nat_eq count 4
+has_words Bounce count = nat_eq count 4
+has_words Filter count = nat_le 2 count
 has_words Action count = nat_le 3 count
 has_words _ count = nat_eq count 2
 
@@ -34,6 +54,7 @@ abbrev pub with_words : ℕ → Option Keyword → Option Keyword
 with_words count None = None
 with_words count (Some keyword) = if has_words keyword count then Some keyword else None
 
--- the keyword of a line with this first word and so many words
-unfoldable pub keyword_of : List ℕ → ℕ → Option Keyword
-keyword_of first count = with_words count (named keyword_rows first)
+-- the keyword of a line under this version, with these first two words and so many words
+unfoldable pub keyword_of : ℕ → List ℕ → List ℕ → ℕ → Option Keyword
+keyword_of version first second count =
+    with_words count (option_and_then (λ keyword. with_kind version second keyword) (named keyword_rows first))

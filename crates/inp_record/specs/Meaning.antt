@@ -4,10 +4,10 @@ use Rattle.std.specs.List.{list_any}
 use Rattle.inp_model.specs.declared.event.TheConstants.{ABS_MAX}
 use Rattle.inp_model.specs.declared.limits.TheConstants.{SLOTS_MAX, HINT_MIN, HINT_MAX, LOG_MAX}
 use Rattle.inp_model.specs.declared.stamped.TheConstants.{MOMENT_MAX}
-use Rattle.inp_model.specs.Description.{is_kind, is_bad_axis}
+use Rattle.inp_model.specs.Description.{Description, is_kind, is_bad_axis}
 use Rattle.inp_caps.specs.declared.caps_refused.CapsRefused.{CapsRefused}
 use Rattle.inp_caps.specs.declared.caps_refused.CapsRefused.TheVariants.{BadCode, BadAxis, BadSlots, BadHint, BadLog, BadOffset}
-use Rattle.inp_caps.specs.Builder.{is_code, syn_alone}
+use Rattle.inp_caps.specs.Builder.{is_code, filter_answer, syn_alone}
 use Rattle.inp_actors.specs.declared.role.Role.{Role}
 use Rattle.inp_actors.specs.Command.{is_source}
 use Rattle.inp_actors.specs.Record.{RecordView}
@@ -23,11 +23,11 @@ use Rattle.inp_record.specs.declared.context.Context.{Context}
 use Rattle.inp_record.specs.declared.context.TheConstants.{DEVICES_MAX, SOURCES_MAX, READERS_MAX, STREAMS_MAX, SLOTS_OF_VERSION_1}
 use Rattle.inp_record.specs.declared.keyword.Keyword.{Keyword}
 use Rattle.inp_record.specs.declared.item.Item.{Item}
-use Rattle.inp_record.specs.declared.item.Item.TheVariants.{Device, Hint, Log, Realtime, Boottime, Slots, Kind, Code, Axis, Actor, Action}
+use Rattle.inp_record.specs.declared.item.Item.TheVariants.{Device, Hint, Log, Realtime, Boottime, Slots, Kind, Code, Axis, Filter, Actor, Action}
 use Rattle.inp_record.specs.Keyword.{keyword_of}
 use Rattle.inp_record.specs.Place.{is_start, is_out_of_place}
 use Rattle.inp_record.specs.Words.{word, is_header, item_of}
-use Rattle.inp_record.specs.Past.{Past, streams_in, is_later, version_of, with_latest, devices_of, actors_of, lines_of, stream_count, context_of}
+use Rattle.inp_record.specs.Past.{Past, streams_in, is_later, version_of, latest_description, with_latest, devices_of, actors_of, lines_of, stream_count, context_of}
 
 -- the text is there and is this one
 abbrev pub is_text_of : List ℕ → Option (List ℕ) → Bool
@@ -76,18 +76,24 @@ abbrev pub has_too_many_slots : Context → Item → Bool
 has_too_many_slots c (Slots count) = nat_eq c.version 1 && nat_lt SLOTS_OF_VERSION_1 count
 has_too_many_slots c _ = false
 
--- why no description can have what a line says
-abbrev pub refusal : Item → Option CapsRefused
-refusal (Hint count) = if nat_le HINT_MIN count && nat_le count HINT_MAX then None else Some BadHint
-refusal (Log count) = if nat_le 1 count && nat_le count LOG_MAX then None else Some BadLog
-refusal (Realtime offset) = if nat_le offset MOMENT_MAX then None else Some BadOffset
-refusal (Boottime offset) = if nat_le offset MOMENT_MAX then None else Some BadOffset
-refusal (Slots count) = if nat_le 1 count && nat_le count SLOTS_MAX then None else Some BadSlots
-refusal (Kind kind) = if is_kind kind then None else Some BadCode
-refusal (Code kind code) = if is_code kind code then None else Some BadCode
-refusal (Axis code info) =
+-- why a builder's call was refused, if it was
+abbrev pub refused_by : Result (Unit {0}) CapsRefused → Option CapsRefused
+refused_by (Ok done) = None
+refused_by (Err why) = Some why
+
+-- why this description can not have what a line says too
+abbrev pub refusal : Description → Item → Option CapsRefused
+refusal d (Hint count) = if nat_le HINT_MIN count && nat_le count HINT_MAX then None else Some BadHint
+refusal d (Log count) = if nat_le 1 count && nat_le count LOG_MAX then None else Some BadLog
+refusal d (Realtime offset) = if nat_le offset MOMENT_MAX then None else Some BadOffset
+refusal d (Boottime offset) = if nat_le offset MOMENT_MAX then None else Some BadOffset
+refusal d (Slots count) = if nat_le 1 count && nat_le count SLOTS_MAX then None else Some BadSlots
+refusal d (Kind kind) = if is_kind kind then None else Some BadCode
+refusal d (Code kind code) = if is_code kind code then None else Some BadCode
+refusal d (Axis code info) =
     if nat_lt ABS_MAX code then Some BadCode else if is_bad_axis code info then Some BadAxis else None
-refusal _ = None
+refusal d (Filter filter) = refused_by (filter_answer d filter)
+refusal d _ = None
 
 -- the item, unless a description refuses it
 abbrev pub unless_refused : Option CapsRefused → Item → Result Item Cause
@@ -108,7 +114,7 @@ checked c (Ok item) =
     else if is_twice c item then Err Twice
     else if is_too_many c item then Err TooMany
     else if has_too_many_slots c item then Err (Caps BadSlots)
-    else unless_refused (refusal item) item
+    else unless_refused (refusal c.builder item) item
 
 -- what the words of a line with this keyword are, if it may stand there
 abbrev pub placed : Context → Option Keyword → List (List ℕ) → Result Item Cause
@@ -120,7 +126,7 @@ placed c (Some keyword) ws =
 unfoldable pub item_of_words : Context → List (List ℕ) → Result Item Cause
 item_of_words c ws =
     if is_start c.place && not (is_header ws) then Err BadHeader
-    else placed c (keyword_of (word 0 ws) (length ws)) ws
+    else placed c (keyword_of c.version (word 0 ws) (word 1 ws) (length ws)) ws
 
 -- the past behind a line of this meaning
 abbrev pub behind : Past → Result Item Cause → Result Past Cause
@@ -185,8 +191,9 @@ meaning bytes = as_record (length (text_lines bytes)) (behind_lines 1 (text_line
 
 -- what a line leaves, where it is entered into what was before it, unless memory ran out
 abbrev pub IsEntered : Result (Unit {0}) LineFault → Past → Item → Context → Type 0
-IsEntered (Ok done) past item now = (refusal item ≡ None) × (now ≡ context_of (item ∷ past))
-IsEntered (Err (line.Refused cause)) past item now = unless_refused (refusal item) item ≡ Err cause
+IsEntered (Ok done) past item now = (refusal (latest_description past) item ≡ None) × (now ≡ context_of (item ∷ past))
+IsEntered (Err (line.Refused cause)) past item now =
+    unless_refused (refusal (latest_description past) item) item ≡ Err cause
 IsEntered (Err line.NoMemory) past item now = Unit {0}
 
 -- what a line leaves behind these lines, unless memory ran out

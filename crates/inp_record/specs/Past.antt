@@ -3,7 +3,7 @@ use Rattle.std.specs.Prelude.{ℕ, ◌+◌, ◌≤◌, Bool, true, false, if◌t
 use Rattle.inp_model.specs.declared.event.TheConstants.{EV_ABS}
 use Rattle.inp_model.specs.declared.stamped.TheConstants.{MOMENT_MAX}
 use Rattle.inp_model.specs.Description.{Description}
-use Rattle.inp_caps.specs.Builder.{syn_alone, with_kind, with_code, with_axis, built}
+use Rattle.inp_caps.specs.Builder.{syn_alone, with_kind, with_code, with_axis, with_filter, built}
 use Rattle.inp_actors.specs.declared.device_text.DeviceText.{DeviceText}
 use Rattle.inp_actors.specs.declared.actor_text.ActorText.{ActorText}
 use Rattle.inp_actors.specs.declared.line.Line as line
@@ -11,7 +11,7 @@ use Rattle.inp_actors.specs.declared.command.Command as command
 use Rattle.inp_actors.specs.declared.command.Command.TheVariants.{Stream, Stream16}
 use Rattle.inp_actors.specs.Command.{is_source}
 use Rattle.inp_record.specs.declared.item.Item as item
-use Rattle.inp_record.specs.declared.item.Item.TheVariants.{Header, Device, Hint, Log, Realtime, Boottime, Slots, Kind, Code, Axis, Actor, Action}
+use Rattle.inp_record.specs.declared.item.Item.TheVariants.{Header, Device, Hint, Log, Realtime, Boottime, Slots, Kind, Code, Axis, Filter, Actor, Action}
 use Rattle.inp_record.specs.declared.place.Place as place
 use Rattle.inp_record.specs.declared.place.Place.TheVariants.{Start, Headed, Describing, Naming, Acting}
 use Rattle.inp_record.specs.declared.context.Context.{Context}
@@ -59,6 +59,7 @@ latest_description (Slots count ∷ past) = record (latest_description past) { s
 latest_description (Kind kind ∷ past) = with_kind (latest_description past) kind
 latest_description (Code kind code ∷ past) = with_code (with_kind (latest_description past) kind) kind code
 latest_description (Axis code info ∷ past) = with_axis (with_kind (latest_description past) EV_ABS) code info
+latest_description (Filter filter ∷ past) = with_filter (latest_description past) filter
 latest_description (Header version ∷ past) = latest_description past
 latest_description (_ ∷ past) = latest_description past
 

@@ -11,10 +11,10 @@ use Rattle.inp_actors.specs.declared.line.Line as line
 use Rattle.inp_actors.specs.Record.{RecordView}
 use Rattle.inp_texts.specs.Texts.{kind_text, code_text, clock_text, role_text}
 use Rattle.inp_canon.specs.Words.{Words}
-use Rattle.inp_canon.specs.Device.{axis_words, coded_kinds}
+use Rattle.inp_canon.specs.Device.{axis_words, filter_words, coded_kinds}
 use Rattle.inp_canon.specs.Text.{action_words, record_text}
 use Rattle.inp_record.specs.declared.item.Item.{Item}
-use Rattle.inp_record.specs.declared.item.Item.TheVariants.{Header, Device, Hint, Log, Realtime, Boottime, Slots, Kind, Code, Axis, Actor, Action}
+use Rattle.inp_record.specs.declared.item.Item.TheVariants.{Header, Device, Hint, Log, Realtime, Boottime, Slots, Kind, Code, Axis, Filter, Actor, Action}
 use Rattle.inp_record.specs.Meaning.{meaning}
 
 -- the words by which a line says this, where the actors are these
@@ -29,6 +29,7 @@ item_words actors (Slots count) = codes "slots" ∷ decimal count ∷ []
 item_words actors (Kind kind) = codes "type" ∷ kind_text kind ∷ []
 item_words actors (Code kind code) = codes "cap" ∷ kind_text kind ∷ code_text kind code ∷ []
 item_words actors (Axis code i) = axis_words code i
+item_words actors (Filter filter) = filter_words filter
 item_words actors (Actor role name) = role_text role ∷ name ∷ []
 item_words actors (Action actor command) = action_words actors (record { actor = actor; command = command })
 
@@ -51,13 +52,20 @@ codes_items d kind = flat_map (code_items d kind) (range_with_len 0 (KEY_MAX + 1
 abbrev pub axis_items : Description → ℕ → List Item
 axis_items d code = if supports d EV_ABS code then Axis code (info d code) ∷ [] else []
 
-unfoldable pub description_items : Description → List Item
-description_items d =
+-- all but the filters
+unfoldable pub plain_items : Description → List Item
+plain_items d =
     number_items d
     ++ (slots_items d
     ++ (flat_map (kind_items d) (range_with_len 1 EV_MAX)
     ++ (flat_map (codes_items d) coded_kinds
     ++ flat_map (axis_items d) (range_with_len 0 (ABS_MAX + 1)))))
+
+abbrev pub filter_items : Description → List Item
+filter_items d = map (λ filter. Filter filter) d.filters
+
+unfoldable pub description_items : Description → List Item
+description_items d = plain_items d ++ filter_items d
 
 -- the actors of the device with this number
 abbrev pub actor_items : ℕ → ActorText → List Item

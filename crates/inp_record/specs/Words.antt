@@ -1,7 +1,10 @@
 -- What the words of a line mean (docs/FORMATS.md, "The lines").
 use Rattle.std.specs.Borrow.{Bor}
-use Rattle.std.specs.Prelude.{ℕ, suc, ◌+◌, ◌-◌, ◌^◌, ℤ, map, Bool, true, false, ◌&&◌, if◌then◌else◌, nat_eq, List, [], ◌∷◌, codes, bytes_eq, length, slice_index_or, Option, Some, None, is_some, option_map, option_and_then, Result, Ok, Err}
-use Rattle.inp_model.specs.declared.event.TheConstants.{EV_ABS}
+use Rattle.std.specs.Prelude.{ℕ, suc, ◌+◌, ◌-◌, ◌^◌, ℤ, map, Bool, true, false, ◌&&◌, if◌then◌else◌, nat_eq, nat_le, List, [], ◌∷◌, codes, bytes_eq, length, slice_index_or, Option, Some, None, is_some, option_map, option_and_then, Result, Ok, Err}
+use Rattle.inp_model.specs.declared.event.TheConstants.{EV_KEY, EV_ABS}
+use Rattle.inp_model.specs.declared.limits.TheConstants.{BOUNCE_MAX}
+use Rattle.inp_model.specs.declared.filter.Filter as filter
+use Rattle.inp_model.specs.declared.filter.Filter.TheVariants as filters
 use Rattle.inp_model.specs.declared.stamped.TheConstants.{MOMENT_MAX}
 use Rattle.inp_model.specs.declared.stamped.Stamped.{Stamped}
 use Rattle.inp_model.specs.declared.axis_info.AxisInfo.{AxisInfo}
@@ -92,6 +95,33 @@ offset_item Boottime offset = Some (items.Boottime offset)
 abbrev pub actor_item : role.Role → List ℕ → Option item.Item
 actor_item role w = option_map (λ name. items.Actor role name) (name_word w)
 
+-- the microseconds of a filter, of which there is one or more
+abbrev pub micros_word : List ℕ → Option ℕ
+micros_word w = option_and_then (λ n. if nat_eq n 0 then None else Some n) (number BOUNCE_MAX w)
+
+-- filters of three kinds, from their third word on
+abbrev pub eat_item : List (List ℕ) → Option item.Item
+eat_item ws = option_map (λ named. items.Filter (filters.Eat named.0 named.1)) (kind_and_code (word 2 ws) (word 3 ws))
+
+abbrev pub chord_item : List (List ℕ) → Option item.Item
+chord_item ws =
+    option_and_then (λ first. option_map (λ second. items.Filter (filters.Chord first second))
+    (code_word EV_KEY (word 3 ws))) (code_word EV_KEY (word 2 ws))
+
+abbrev pub bounce_item : List (List ℕ) → Option item.Item
+bounce_item ws =
+    option_and_then (λ code. option_map (λ micros. items.Filter (filters.Bounce code micros))
+    (micros_word (word 3 ws))) (code_word EV_KEY (word 2 ws))
+
+-- the microseconds of a filter are in their range
+abbrev pub are_micros : filter.Filter → Bool
+are_micros (filters.Bounce code micros) = nat_le 1 micros && nat_le micros BOUNCE_MAX
+are_micros _ = true
+
+abbrev pub has_micros : item.Item → Bool
+has_micros (items.Filter filter) = are_micros filter
+has_micros _ = true
+
 -- the meaning of a line that is no action, if its words have their forms
 unfoldable pub plain_item : keyword.Keyword → List (List ℕ) → Option item.Item
 plain_item keywords.Header ws = option_map (λ version. items.Header version) (version_word (word 1 ws))
@@ -105,6 +135,11 @@ plain_item keywords.Kind ws = option_map (λ kind. items.Kind kind) (kind_word (
 plain_item keywords.Code ws = option_map (λ named. items.Code named.0 named.1) (kind_and_code (word 1 ws) (word 2 ws))
 plain_item keywords.Axis ws =
     option_and_then (λ code. option_map (λ info. items.Axis code info) (info_words 2 ws)) (code_word EV_ABS (word 1 ws))
+plain_item keywords.Filter ws = None
+plain_item keywords.Eat ws = eat_item ws
+plain_item keywords.Norepeat ws = Some (items.Filter filters.Norepeat)
+plain_item keywords.Chord ws = chord_item ws
+plain_item keywords.Bounce ws = bounce_item ws
 plain_item keywords.Source ws = actor_item roles.Source (word 1 ws)
 plain_item keywords.Client ws = actor_item roles.Client (word 1 ws)
 plain_item keywords.Tap ws = actor_item roles.Tap (word 1 ws)

@@ -66,6 +66,7 @@ fn refusal_text(why: CapsRefused) -> &'static str
         CapsRefused::BadHint => "bad-hint",
         CapsRefused::BadLog => "bad-log",
         CapsRefused::BadOffset => "bad-offset",
+        CapsRefused::BadFilter => "bad-filter",
     }
 }
 

@@ -5,6 +5,8 @@ ghost use Rattle.std.specs.Str.{bytes_eq};
 ghost use Rattle.inp_actors.specs.Record.{IsRecord};
 ghost use Rattle.inp_record.specs.Past.{Past, context_of, no_given, HasRoom, streams_in, is_later};
 ghost use Rattle.inp_record.specs.Meaning.{is_twice, is_too_many, is_later_command, has_too_many_slots, is_text_of, has_device, has_all, device_count, IsEntered, closed, record_in};
+ghost use Rattle.inp_caps.specs.Builder.{with_filter, filter_answer};
+ghost use Rattle.inp_record.specs.Words.{has_micros};
 ghost use Rattle.inp_record.specs.declared.item.Item.TheVariants as items;
 
 use crate::Cause;
@@ -14,8 +16,8 @@ use crate::place::Place;
 use inp_actors::{
     ActorText, Actors, Command, DeviceText, Devices, Line, Lines, Name, Record, Role, Streams,
 };
-use inp_caps::CapsBuilder;
-use inp_model::{AxisInfo, Items, NoMemory};
+use inp_caps::{CapsBuilder, CapsRefused};
+use inp_model::{AxisInfo, Filter, Items, NoMemory};
 use std::alloc::Global;
 use std::mem;
 
@@ -107,6 +109,7 @@ impl Context {
     pub(crate) fn enter(&mut self, alloc: Global, item: Item) -> Result<(), LineFault>
         requires room { HasRoom self.old }
         requires enough { is_too_many self.old item ≡ false }
+        requires micros { has_micros item ≡ true }
         ensures entered { (past : Past) → self.old ≡ context_of past
             → IsEntered result past item self.new }
         ensures actors { OnOk result (length self.new.actors ≤ length self.old.actors + 1) }
@@ -125,6 +128,7 @@ impl Context {
             Item::Kind { kind } => self.add_kind(kind),
             Item::Code { kind, code } => self.add_code(kind, code),
             Item::Axis { code, info } => self.add_axis(code, info),
+            Item::Filter { filter } => self.add_filter(filter),
         }
     }
 
@@ -250,6 +254,20 @@ impl Context {
         }
         if self.given.axes.push(code).is_err() {
             return Err(LineFault::NoMemory);
+        }
+        self.place = Place::Describing;
+        Ok(())
+    }
+
+    fn add_filter(&mut self, filter: Filter) -> Result<(), LineFault>
+        requires { has_micros (items.Filter filter) ≡ true }
+        ensures entered { (past : Past) → self.old ≡ context_of past
+            → IsEntered result past (items.Filter filter) self.new }
+        ensures room { OnOk result (HasRoom self.old → HasRoom self.new) }
+        ensures actors { OnOk result (self.new.actors ≡ self.old.actors) }
+    {
+        if let Err(why) = add_filter(&mut self.builder, filter) {
+            return Err(LineFault::Refused(Cause::Caps(why)));
         }
         self.place = Place::Describing;
         Ok(())
@@ -438,6 +456,20 @@ impl Context {
             ..
         } = self;
         Ok(Record::new(version, devices, actors, lines, streams))
+    }
+}
+
+/// Adds a filter to a description, behind its others.
+fn add_filter(builder: &mut CapsBuilder, filter: Filter) -> Result<(), CapsRefused>
+    requires { has_micros (items.Filter filter) ≡ true }
+    ensures answer { result ≡ filter_answer builder.old filter }
+    ensures ok { OnOk result (builder.new ≡ with_filter builder.old filter) }
+{
+    match filter {
+        Filter::Eat { kind, code } => builder.eat(kind, code),
+        Filter::Norepeat => builder.norepeat(),
+        Filter::Chord { first, second } => builder.chord(first, second),
+        Filter::Bounce { code, micros } => builder.bounce(code, micros),
     }
 }
 

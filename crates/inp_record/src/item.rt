@@ -1,7 +1,7 @@
 //! What one line means.
 
 use inp_actors::{Command, Name, Role};
-use inp_model::AxisInfo;
+use inp_model::{AxisInfo, Filter};
 
 /// What one line means.
 #[derive(Drop)]
@@ -16,6 +16,7 @@ pub(crate) enum Item {
     Kind { kind: u16 },
     Code { kind: u16, code: u16 },
     Axis { code: u16, info: AxisInfo },
+    Filter { filter: Filter },
     Actor { role: Role, name: Name },
     Action { actor: u32, command: Command },
 }

@@ -2,13 +2,13 @@
 ghost use Rattle.std.specs.Prelude.{◌≡◌, ◌+◌, ◌<◌, ◌≤◌, ◌^◌, length, true};
 ghost use Rattle.inp_words.specs.Number.{number};
 ghost use Rattle.inp_record.specs.Keyword.{has_words};
-ghost use Rattle.inp_record.specs.Words.{texts, word, version_word, is_header, name_word, count_word, kind_and_code, three_numbers, info_words, offset_item, actor_item, plain_item};
+ghost use Rattle.inp_record.specs.Words.{texts, word, version_word, is_header, name_word, count_word, kind_and_code, three_numbers, info_words, offset_item, actor_item, micros_word, eat_item, chord_item, bounce_item, plain_item};
 
 use crate::item::Item;
 use crate::keyword::Keyword;
 use crate::verb::clock_word;
 use inp_actors::{Name, Role, is_name};
-use inp_model::{AxisInfo, Clock, EV_ABS};
+use inp_model::{AxisInfo, BOUNCE_MAX, Clock, EV_ABS, EV_KEY, Filter};
 use inp_words::{code_word, kind_word, number, signed_number};
 
 /// The word at a place.
@@ -112,6 +112,48 @@ fn offset_item(clock: Clock, offset: u64) -> Option<Item>
     }
 }
 
+/// The microseconds of a filter, of which there is one or more.
+fn micros_word(word: &[u8]) -> Option<u32>
+    ensures { result ≡ micros_word word.now }
+{
+    match number(word, u64::from(BOUNCE_MAX)) {
+        Some(0) | None => None,
+        Some(micros) => Some(micros as u32),
+    }
+}
+
+/// A filter that eats one code.
+fn eat_item(words: &[&[u8]]) -> Option<Item>
+    requires { 3 < length words.now }
+    ensures { result ≡ eat_item (texts words.now) }
+{
+    let (kind, code) = kind_and_code(word(words, 2), word(words, 3))?;
+    let filter = Filter::Eat { kind, code };
+    Some(Item::Filter { filter })
+}
+
+/// A filter for chords of two keys.
+fn chord_item(words: &[&[u8]]) -> Option<Item>
+    requires { 3 < length words.now }
+    ensures { result ≡ chord_item (texts words.now) }
+{
+    let first = code_word(EV_KEY, word(words, 2))?;
+    let second = code_word(EV_KEY, word(words, 3))?;
+    let filter = Filter::Chord { first, second };
+    Some(Item::Filter { filter })
+}
+
+/// A filter for a key that bounces.
+fn bounce_item(words: &[&[u8]]) -> Option<Item>
+    requires { 3 < length words.now }
+    ensures { result ≡ bounce_item (texts words.now) }
+{
+    let code = code_word(EV_KEY, word(words, 2))?;
+    let micros = micros_word(word(words, 3))?;
+    let filter = Filter::Bounce { code, micros };
+    Some(Item::Filter { filter })
+}
+
 /// The meaning of a line that is no action.
 #[tactic(auto, unfolding(crate::specs::Words::plain_item))]
 pub(crate) fn plain_item(keyword: Keyword, words: &[&[u8]]) -> Option<Item>
@@ -157,6 +199,13 @@ pub(crate) fn plain_item(keyword: Keyword, words: &[&[u8]]) -> Option<Item>
             let info = info_words(words, 2)?;
             Some(Item::Axis { code, info })
         }
+        Keyword::Filter => None,
+        Keyword::Eat => eat_item(words),
+        Keyword::Norepeat => Some(Item::Filter {
+            filter: Filter::Norepeat,
+        }),
+        Keyword::Chord => chord_item(words),
+        Keyword::Bounce => bounce_item(words),
         Keyword::Source => actor_item(Role::Source, word(words, 1)),
         Keyword::Client => actor_item(Role::Client, word(words, 1)),
         Keyword::Tap => actor_item(Role::Tap, word(words, 1)),

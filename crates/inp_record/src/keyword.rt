@@ -1,11 +1,11 @@
-//! The first words of lines.
+//! The words that say what a line is.
 ghost use Rattle.std.specs.Prelude.{◌≡◌, true, IfSome};
 ghost use Rattle.inp_words.specs.Table.{rows_of};
-ghost use Rattle.inp_record.specs.Keyword.{keyword_rows, has_words, keyword_of};
+ghost use Rattle.inp_record.specs.Keyword.{keyword_rows, filter_rows, filter_keyword, with_kind, has_words, keyword_of};
 
 use inp_words::named;
 
-/// What the first word of a line says that the line is.
+/// What a line is, as its first word says, and in a filter line the second one.
 #[derive(Clone, Copy, Debug, PartialEq, Eq)]
 pub(crate) enum Keyword {
     Header,
@@ -17,6 +17,12 @@ pub(crate) enum Keyword {
     Kind,
     Code,
     Axis,
+    /// A filter line whose second word names no kind of filter.
+    Filter,
+    Eat,
+    Norepeat,
+    Chord,
+    Bounce,
     Source,
     Client,
     Tap,
@@ -28,7 +34,7 @@ pub(crate) enum Keyword {
 fn keyword_rows() -> &'static [(&'static str, Keyword)]
     ensures { rows_of result.now ≡ keyword_rows }
 {
-    static ROWS: [(&str, Keyword); 13] = [
+    static ROWS: [(&str, Keyword); 14] = [
         ("inputrecord", Keyword::Header),
         ("device", Keyword::Device),
         ("hint", Keyword::Hint),
@@ -38,12 +44,50 @@ fn keyword_rows() -> &'static [(&'static str, Keyword)]
         ("type", Keyword::Kind),
         ("cap", Keyword::Code),
         ("axis", Keyword::Axis),
+        ("filter", Keyword::Filter),
         ("source", Keyword::Source),
         ("client", Keyword::Client),
         ("tap", Keyword::Tap),
         ("do", Keyword::Action),
     ];
     &ROWS
+}
+
+/// Each kind of filter, as the second word of a line names it.
+#[tactic(auto, unfolding(crate::specs::Keyword::filter_rows))]
+fn filter_rows() -> &'static [(&'static str, Keyword)]
+    ensures { rows_of result.now ≡ filter_rows }
+{
+    static ROWS: [(&str, Keyword); 4] = [
+        ("eat", Keyword::Eat),
+        ("norepeat", Keyword::Norepeat),
+        ("chord", Keyword::Chord),
+        ("bounce", Keyword::Bounce),
+    ];
+    &ROWS
+}
+
+/// The keyword of a filter line with this second word.
+fn filter_keyword(second: &[u8]) -> Keyword
+    ensures { result ≡ filter_keyword second.now }
+{
+    match named(filter_rows(), second) {
+        Some(keyword) => keyword,
+        None => Keyword::Filter,
+    }
+}
+
+/// The keyword of a line whose first word names this one, if the version has such a line.
+fn with_kind(version: u32, second: &[u8], keyword: Keyword) -> Option<Keyword>
+    ensures { result ≡ with_kind version second.now keyword }
+{
+    if keyword != Keyword::Filter {
+        return Some(keyword);
+    }
+    if version == 1 {
+        return None;
+    }
+    Some(filter_keyword(second))
 }
 
 /// Whether a line of this keyword has so many words.
@@ -53,18 +97,22 @@ fn has_words(keyword: Keyword, count: usize) -> bool
     match keyword {
         Keyword::Clock | Keyword::Code => count == 3,
         Keyword::Axis => count == 8,
+        Keyword::Eat | Keyword::Chord | Keyword::Bounce => count == 4,
+        Keyword::Filter => count >= 2,
         Keyword::Action => count >= 3,
         _ => count == 2,
     }
 }
 
-/// The keyword of a line with this first word and so many words.
+/// The keyword of a line under this version, with these first two words and so many words. A line of one word has no
+/// keyword, whatever is passed for its second one.
 #[tactic(auto, unfolding(crate::specs::Keyword::keyword_of))]
-pub(crate) fn keyword_of(first: &[u8], count: usize) -> Option<Keyword>
-    ensures keyword { result ≡ keyword_of first.now count }
+pub(crate) fn keyword_of(version: u32, first: &[u8], second: &[u8], count: usize) -> Option<Keyword>
+    ensures keyword { result ≡ keyword_of version first.now second.now count }
     ensures count { IfSome result (λ keyword. has_words keyword count ≡ true) }
 {
     let keyword = named(keyword_rows(), first)?;
+    let keyword = with_kind(version, second, keyword)?;
     if has_words(keyword, count) {
         Some(keyword)
     } else {

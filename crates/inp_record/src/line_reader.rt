@@ -3,7 +3,7 @@ ghost use Rattle.std.specs.Prelude.{◌≡◌, ◌+◌, ◌<◌, ◌≤◌, ◌^
 ghost use Rattle.inp_words.specs.Line.{AreText};
 ghost use Rattle.inp_record.specs.Fault.{IsReading};
 ghost use Rattle.inp_record.specs.Keyword.{has_words};
-ghost use Rattle.inp_record.specs.Words.{texts, item_of};
+ghost use Rattle.inp_record.specs.Words.{texts, word, item_of};
 ghost use Rattle.inp_record.specs.Past.{Past, context_of, HasRoom};
 ghost use Rattle.inp_record.specs.Meaning.{item_of_words, behind_words, behind_line, IsBehind};
 
@@ -43,6 +43,17 @@ fn item_of(
     }
 }
 
+/// The second word, or an empty one where there is none.
+fn second_word<'a>(words: &[&'a [u8]]) -> &'a [u8]
+    ensures { result.now ≡ word 1 (texts words.now) }
+{
+    if words.len() > 1 {
+        word(words, 1)
+    } else {
+        b"".as_slice()
+    }
+}
+
 /// What the words of a line are, of which there is one.
 #[tactic(auto, unfolding(crate::specs::Meaning::item_of_words))]
 fn item_of_words(context: &Context, alloc: Global, words: &[&[u8]]) -> Result<Item, LineFault>
@@ -54,7 +65,8 @@ fn item_of_words(context: &Context, alloc: Global, words: &[&[u8]]) -> Result<It
     if context.place == Place::Start && !is_header(words) {
         return Err(LineFault::Refused(Cause::BadHeader));
     }
-    let Some(keyword) = keyword_of(word(words, 0), words.len()) else {
+    let (first, second) = (word(words, 0), second_word(words));
+    let Some(keyword) = keyword_of(context.version, first, second, words.len()) else {
         return Err(LineFault::Refused(Cause::BadLine));
     };
     if is_out_of_place(context.place, keyword) {

@@ -9,7 +9,7 @@ use inp_actors::{
 use inp_caps::CapsBuilder;
 use inp_model::NoMemory;
 use inp_record::{ParseFault, parse};
-use std::alloc::Global;
+use std::alloc::{AllocError, Global};
 
 /// The key A goes down at 1.5 seconds.
 pub const PRESS: [u8; 24] = [
@@ -25,6 +25,20 @@ pub fn read(alloc: Global, text: &str) -> Result<Record, ParseFault> {
         return Err(ParseFault::NoMemory);
     }
     parse(alloc, text.as_bytes())
+}
+
+/// The line that is refused and the printed cause, of a text in two parts.
+pub fn fault_of(
+    alloc: Global,
+    front: &str,
+    rest: &str,
+) -> Result<Option<(u32, &'static str)>, AllocError> {
+    let mut text = String::from_str(alloc, front)?;
+    text.push_str(rest)?;
+    Ok(match read(alloc, text.as_str()) {
+        Err(ParseFault::Refused(refused)) => Some((refused.line, refused.cause.text())),
+        _ => None,
+    })
 }
 
 /// A record of one device, whose source has two lines, a stream of each form. Neither is loaded.

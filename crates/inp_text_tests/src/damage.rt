@@ -1,9 +1,9 @@
 //! Records that were cut or damaged, and streams. Each cause of a refused line is shown by `tests/test_statuses.py`.
 
-use crate::common::{PRESS, PRESS16, read, stream_record};
+use crate::common::{PRESS, PRESS16, fault_of, stream_record};
 use inp_model::NoMemory;
-use inp_record::{LoadFault, ParseFault, load};
-use std::alloc::{AllocError, Global};
+use inp_record::{LoadFault, load};
+use std::alloc::Global;
 use std::test::Fail;
 
 /// The first line of a record.
@@ -20,20 +20,6 @@ source s
 tap t
 do t open
 ";
-
-/// The line that is refused and the printed cause, of a text in two parts.
-fn fault_of(
-    alloc: Global,
-    front: &str,
-    rest: &str,
-) -> Result<Option<(u32, &'static str)>, AllocError> {
-    let mut text = String::from_str(alloc, front)?;
-    text.push_str(rest)?;
-    Ok(match read(alloc, text.as_str()) {
-        Err(ParseFault::Refused(refused)) => Some((refused.line, refused.cause.text())),
-        _ => None,
-    })
-}
 
 #[test]
 fn cut_and_damaged_lines_are_refused(rt: HostRuntime) -> Result<(), Fail> {

@@ -1,11 +1,11 @@
 //! A code of a type of events, as it is written.
 ghost use Rattle.std.specs.Prelude.{◌≡◌, ◌++◌, string_bytes, OnOk};
-ghost use Rattle.inp_model.specs.declared.event.TheConstants.{EV_ABS};
+ghost use Rattle.inp_model.specs.declared.event.TheConstants.{EV_KEY, EV_ABS};
 ghost use Rattle.inp_texts.specs.Texts.{code_text};
 
 use crate::numbers::push_number;
 use inp_codes::name_of;
-use inp_model::{EV_ABS, NoMemory};
+use inp_model::{EV_ABS, EV_KEY, NoMemory};
 use std::fmt;
 use std::fmt::Write;
 
@@ -25,6 +25,13 @@ impl CodeText {
         ensures axis { result ≡ record { kind = EV_ABS; code = code } }
     {
         CodeText { kind: EV_ABS, code }
+    }
+
+    /// The text of a key.
+    pub fn of_key(code: u16) -> CodeText
+        ensures key { result ≡ record { kind = EV_KEY; code = code } }
+    {
+        CodeText { kind: EV_KEY, code }
     }
 }
 

@@ -1,15 +1,9 @@
-use Rattle.std.proofs.Common.{◌++◌}
-use Rattle.inp_canon.specs.Device.{number_lines, slots_lines, kinds_lines, caps_lines, axes_lines, description_lines}
+use Rattle.inp_canon.specs.Device.{plain_lines, filters_lines, description_lines}
 use Rattle.inp_canon.proofs.Written.{sections}
 use Rattle.inp_canon.proofs.devices.push_description.Goals as goal
 
 pub returns : goal.returns
 unfolding description_lines
-returns c =
-    let d = c.args.caps.now in
-    record {
-      pushed = sections _ _ _ (number_lines d) (slots_lines d ++ (kinds_lines d ++ (caps_lines d ++ axes_lines d))) c.in_ok-push_numbers.ensures.pushed
-          (sections _ _ _ (slots_lines d) (kinds_lines d ++ (caps_lines d ++ axes_lines d)) c.in_ok-push_slots.ensures.pushed
-          (sections _ _ _ (kinds_lines d) (caps_lines d ++ axes_lines d) c.in_ok-push_kinds.ensures.pushed
-          (sections _ _ _ (caps_lines d) (axes_lines d) c.in_ok-push_caps.ensures.pushed c.in_ok-push_axes.ensures.pushed)));
-    }
+returns c = record {
+  pushed = sections _ _ _ (plain_lines c.args.caps.now) (filters_lines c.args.caps.now) c.in_ok-push_plain.ensures.pushed c.in_ok-push_filters.ensures.pushed;
+}

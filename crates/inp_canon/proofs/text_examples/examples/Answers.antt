@@ -18,6 +18,10 @@ pub returns-clause-codes : goal.returns-clause-codes
 unfolding computing
 returns-clause-codes c = refl
 
+pub returns-clause-filters : goal.returns-clause-filters
+unfolding computing
+returns-clause-filters c = refl
+
 pub returns-clause-actors : goal.returns-clause-actors
 unfolding computing
 returns-clause-actors c = record { first = refl; second = refl }

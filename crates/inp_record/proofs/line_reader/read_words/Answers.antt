@@ -2,7 +2,15 @@ use Rattle.std.proofs.Common.{◌<◌, length, rules}
 use Rattle.inp_record.specs.Words.{texts}
 use Rattle.inp_record.proofs.Texts.{some_texts}
 use Rattle.inp_record.proofs.Behind.{entered_behind}
+use Rattle.inp_record.proofs.Inversions.{words_are}
+use Rattle.inp_record.proofs.SayableItems.{has_micros-read}
 use Rattle.inp_record.proofs.line_reader.read_words.Goals as goal
+
+pub enter-requires-clause-micros : goal.enter-requires-clause-micros
+enter-requires-clause-micros c =
+    let ws = texts c.args.words.now in
+    let p = words_are c.args.context.now ws c.in_ok-item.item c.in_ok-item.ensures in
+    has_micros-read c.args.context.now.actors c.args.context.now.streams p.keyword ws c.in_ok-item.item p.item
 
 pub returns-clause-behind : goal.returns-clause-behind
 returns-clause-behind c = λ past e.

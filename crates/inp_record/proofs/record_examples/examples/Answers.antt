@@ -44,13 +44,17 @@ pub returns-clause-descriptions : goal.returns-clause-descriptions
 unfolding record_computing
 returns-clause-descriptions c = record { hint = refl; wide_hint = refl; log = refl; realtime = refl; boottime = refl; slots = refl; slots_of_version_1 = refl; slots_of_version_2 = refl; type_line = refl; cap = refl; cap_of_no_kind = refl; cap_of_axis = refl; axis_code = refl; axis = refl; slot_fuzz = refl }
 
+pub returns-clause-filters : goal.returns-clause-filters
+unfolding record_computing
+returns-clause-filters c = record { version_1 = refl; version_1_first = refl; alone = refl; more = refl; less = refl; before_place = refl; place = refl; behind_an_actor = refl; other = refl; other_of_many_words = refl; code = refl; key = refl; no_time = refl; long_time = refl; report = refl; key_0 = refl; one_key = refl; ninth = refl; ninth_code = refl; ninth_word = refl }
+
 pub returns-clause-accepted : goal.returns-clause-accepted
 unfolding record_computing
-returns-clause-accepted c = record { comments = refl; devices = refl; again = refl; name_spaces = refl; long_name = refl; supported_twice = refl; bounds = refl; slots_of_version_2 = refl; moment = refl; streams = refl }
+returns-clause-accepted c = record { comments = refl; devices = refl; again = refl; name_spaces = refl; long_name = refl; supported_twice = refl; bounds = refl; slots_of_version_2 = refl; filters_of_each = refl; moment = refl; streams = refl }
 
 pub returns-clause-records : goal.returns-clause-records
 unfolding record_computing
-returns-clause-records c = record { header = refl; later_header = refl; device = refl; one_key = refl; loose = refl }
+returns-clause-records c = record { header = refl; later_header = refl; device = refl; filters = refl; one_key = refl; loose = refl }
 
 pub returns-clause-actions : goal.returns-clause-actions
 unfolding record_computing

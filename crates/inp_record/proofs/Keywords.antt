@@ -1,0 +1,128 @@
+-- What the keyword of a line tells of its words and of the version.
+use Rattle.std.proofs.Common.{◌≡◌, ℕ, Bool, true, false, not, if◌then◌else◌, nat_eq, bytes_eq, codes, List, [], ◌∷◌, Option, Some, None, unwrap_or, refl, sym, ap, subst, ◌∙◌}
+use Rattle.std.specs.Prelude.{option_and_then}
+use Rattle.std.specs.List.{list_all}
+use Rattle.std.proofs.lemmas.Slice.Eq.{bytes_eq-Decides}
+use Rattle.inp_words.specs.Table.{named}
+use Rattle.inp_words.proofs.Booleans.{both}
+use Rattle.inp_record.specs.declared.keyword.Keyword as keyword
+use Rattle.inp_record.specs.declared.keyword.Keyword.TheVariants as keywords
+use Rattle.inp_record.specs.Keyword.{keyword_rows, filter_rows, filter_keyword, with_kind, has_words, with_words, keyword_of}
+use Rattle.inp_record.specs.Words.{is_action}
+use Rattle.inp_record.proofs.Inversions.{and_then_is}
+
+-- what a table says of a word passes each test that all its rows pass
+pub named_passes : {T : Type 0} (test : List ℕ × T → Bool) (rows : List (List ℕ × T)) (word : List ℕ) (x : T) → list_all test rows ≡ true → named rows word ≡ Some x → test (word, x) ≡ true
+named_passes test [] word x all e = absurd (cc e)
+named_passes {T} test (row ∷ rows) word x all e = by_word (bytes_eq row.0 word) refl (λ g. named_passes test rows word x (both _ _ all).1 g) e
+  where
+    by_word : (same : Bool) → bytes_eq row.0 word ≡ same → (named rows word ≡ Some x → test (word, x) ≡ true) → (if same then Some row.1 else named rows word) ≡ Some x → test (word, x) ≡ true
+    by_word true h more e =
+        let here : row.0 ≡ word = (bytes_eq-Decides row.0 word).0 h in
+        let says : row.1 ≡ x = cc e in
+        subst (λ (y : T). test (word, y) ≡ true) says (subst (λ (w : List ℕ). test (w, row.1) ≡ true) here (both _ _ all).0)
+    by_word false h more e = more e
+
+-- the word is do exactly where the keyword is that of an action
+abbrev is_do_alone : List ℕ × keyword.Keyword → Bool
+is_do_alone row = if is_action row.1 then bytes_eq row.0 (codes "do") else not (bytes_eq row.0 (codes "do"))
+
+rows_are_do_alone : list_all is_do_alone keyword_rows ≡ true
+unfolding keyword_rows
+rows_are_do_alone = refl
+
+do_by_tests : (a b : Bool) → (if a then b else not b) ≡ true → a ≡ b
+do_by_tests true true h = refl
+do_by_tests true false h = absurd (cc h)
+do_by_tests false true h = absurd (cc h)
+do_by_tests false false h = refl
+
+with_words_is : (count : ℕ) (o : Option keyword.Keyword) (k : keyword.Keyword) → with_words count o ≡ Some k → o ≡ Some k
+with_words_is count None k e = absurd (cc e)
+with_words_is count (Some j) k e = by_count (has_words j count) e
+  where
+    by_count : (fits : Bool) → (if fits then Some j else None) ≡ Some k → Some j ≡ Some k
+    by_count true e = e
+    by_count false e = absurd (cc e)
+
+-- the keyword that the first word names, and what the second one makes of it
+keyword_from : (version : ℕ) (first second : List ℕ) (count : ℕ) (k : keyword.Keyword) → keyword_of version first second count ≡ Some k
+    → (base : keyword.Keyword) × (named keyword_rows first ≡ Some base) × (with_kind version second base ≡ Some k)
+unfolding keyword_of
+keyword_from version first second count k e =
+    and_then_is (λ base. with_kind version second base) (named keyword_rows first) k (with_words_is count (option_and_then (λ base. with_kind version second base) (named keyword_rows first)) k e)
+
+-- a filter line is no action
+abbrev is_no_action : List ℕ × keyword.Keyword → Bool
+is_no_action row = not (is_action row.1)
+
+kinds_do_nothing : list_all is_no_action filter_rows ≡ true
+unfolding filter_rows
+kinds_do_nothing = refl
+
+no_action : (b : Bool) → not b ≡ true → b ≡ false
+no_action true h = absurd (cc h)
+no_action false h = refl
+
+kind_does_nothing : (second : List ℕ) → is_action (filter_keyword second) ≡ false
+kind_does_nothing second = by_kind (named filter_rows second) refl
+  where
+    by_kind : (o : Option keyword.Keyword) → named filter_rows second ≡ o → is_action (unwrap_or o keywords.Filter) ≡ false
+    by_kind None h = refl
+    by_kind (Some k) h = no_action (is_action k) (named_passes is_no_action filter_rows second k kinds_do_nothing h)
+
+same_action : (version : ℕ) (second : List ℕ) (base k : keyword.Keyword) → with_kind version second base ≡ Some k → is_action k ≡ is_action base
+same_action version second keywords.Filter k e = by_version (nat_eq version 1) e
+  where
+    by_version : (early : Bool) → (if early then None else Some (filter_keyword second)) ≡ Some k → is_action k ≡ false
+    by_version true e = absurd (cc e)
+    by_version false e = let same : filter_keyword second ≡ k = cc e in ap is_action (sym same) ∙ kind_does_nothing second
+same_action version second base k e = let same : base ≡ k = cc e in ap is_action (sym same)
+
+pub action_is_do : (version : ℕ) (first second : List ℕ) (count : ℕ) (k : keyword.Keyword) → keyword_of version first second count ≡ Some k → is_action k ≡ bytes_eq first (codes "do")
+action_is_do version first second count k e =
+    let h = keyword_from version first second count k e in
+    same_action version second h.0 k h.2
+    ∙ do_by_tests (is_action h.0) (bytes_eq first (codes "do")) (named_passes is_do_alone keyword_rows first h.0 rows_are_do_alone h.1)
+
+-- there is no filter line under version 1
+
+abbrev pub is_filter_keyword : keyword.Keyword → Bool
+is_filter_keyword keywords.Filter = true
+is_filter_keyword keywords.Eat = true
+is_filter_keyword keywords.Norepeat = true
+is_filter_keyword keywords.Chord = true
+is_filter_keyword keywords.Bounce = true
+is_filter_keyword _ = false
+
+-- the second word of a line names these alone
+abbrev is_first : keyword.Keyword → Bool
+is_first keywords.Eat = false
+is_first keywords.Norepeat = false
+is_first keywords.Chord = false
+is_first keywords.Bounce = false
+is_first _ = true
+
+rows_are_first : list_all (λ (row : List ℕ × keyword.Keyword). is_first row.1) keyword_rows ≡ true
+unfolding keyword_rows
+rows_are_first = refl
+
+kept_version : (version : ℕ) (second : List ℕ) (base k : keyword.Keyword) → with_kind version second base ≡ Some k → is_first base ≡ true → is_filter_keyword k ≡ true → nat_eq version 1 ≡ false
+kept_version version second keywords.Filter k e row h = by_version (nat_eq version 1) e
+  where
+    by_version : (early : Bool) → (if early then None else Some (filter_keyword second)) ≡ Some k → early ≡ false
+    by_version true e = absurd (cc e)
+    by_version false e = refl
+kept_version version second keywords.Eat k e row h = absurd (cc row)
+kept_version version second keywords.Norepeat k e row h = absurd (cc row)
+kept_version version second keywords.Chord k e row h = absurd (cc row)
+kept_version version second keywords.Bounce k e row h = absurd (cc row)
+kept_version version second base k e row h =
+    let same : base ≡ k = cc e in
+    let none : is_filter_keyword base ≡ is_filter_keyword k = ap is_filter_keyword same in
+    absurd (cc (none, h))
+
+pub filter_is_later : (version : ℕ) (first second : List ℕ) (count : ℕ) (k : keyword.Keyword) → keyword_of version first second count ≡ Some k → is_filter_keyword k ≡ true → nat_eq version 1 ≡ false
+filter_is_later version first second count k e h =
+    let f = keyword_from version first second count k e in
+    kept_version version second f.0 k f.2 (named_passes (λ (row : List ℕ × keyword.Keyword). is_first row.1) keyword_rows first f.0 rows_are_first f.1) h
