@@ -5,7 +5,7 @@ use Rattle.inp_model.specs.DeviceView.{DeviceView}
 use Rattle.inp_model.specs.History.{IsHistory}
 use Rattle.inp_model.specs.Injecting.{history_with}
 use Rattle.inp_device.specs.declared.present.Present.{Present}
-use Rattle.inp_device.proofs.Injecting.{HasEntered, no_stamped, entered-none, entered-room, entered-more}
+use Rattle.inp_device.proofs.Injecting.{no_stamped, entered-none, entered-room, entered-more}
 use Rattle.inp_device.proofs.device.Device.inject_all.Goals as goal
 
 pub loop-stamped-init : goal.loop-stamped-init
