@@ -11,8 +11,8 @@ use Rattle.inp_model.specs.declared.clock.Clock.{Clock}
 use Rattle.inp_model.specs.declared.step.Step.{Step}
 use Rattle.inp_model.specs.declared.step.Step.TheVariants.{Inject, Tick, Open, Close, Read, Discard, GetKeys, GetSwitches, GetLeds, GetSounds, GetAxis, SetAxis, GetSlots, SyncSlots, Write, Grab, Ungrab, Mask, Clock as ToClock, Revoke, Inhibit, Uninhibit, End}
 use Rattle.inp_model.specs.Description.{Description, ring}
-use Rattle.inp_model.specs.Step.{Query, Codes, Slots, client_of, query_of, is_part_of, moment_of}
-use Rattle.inp_model.specs.Past.{opens, is_open, open_clients, is_revoked, holder, clock_of, mask_bit, mask_words}
+use Rattle.inp_model.specs.Step.{Query, Codes, Slots, client_of, query_of, is_part_of}
+use Rattle.inp_model.specs.Past.{opens, is_open, open_clients, is_revoked, clock_of, mask_bit, mask_words}
 use Rattle.inp_model.specs.Cut.{cuts}
 use Rattle.inp_model.specs.Raw.{raw_of_step}
 use Rattle.inp_model.specs.Frame.{cuts_of_step, frames_of_step}
@@ -261,9 +261,9 @@ map_map f g (n ∷ ns) = ap (λ xs. f (g n) ∷ xs) (map_map f g ns)
 -- the clients were offered the frames of the step
 framed : (d : Description) (past : List Step) (x : Step) → MasksEnd past → open_clients (x ∷ past) ≡ open_clients past
     → ((k : ℕ) → client_after d (x ∷ past) k ≡ client_with d past k (put_all model.event_of entry_dropped_at (ring d) (queue d past k) (entries d k (frames_of_step d past x))))
-    → map (after_offers d (moment_of x) (length past) (holder past) (cuts_of_step d past x)) (clients_after d past) ≡ clients_after d (x ∷ past)
+    → map (after_offers d (frames_of_step d past x)) (clients_after d past) ≡ clients_after d (x ∷ past)
 framed d past x ends same is =
-    let offers = after_offers d (moment_of x) (length past) (holder past) (cuts_of_step d past x) in
+    let offers = after_offers d (frames_of_step d past x) in
     map_map offers (client_after d past) (open_clients past)
     ∙ map-filter_same (λ k. offers (client_after d past k)) (client_after d (x ∷ past)) (is_open past) (range_with_len 0 (opens past))
     (λ k opened. after_offers-with d past k x (cuts_of_step d past x) (queue d past k) opened (ends k) ∙ sym (is k))
@@ -277,7 +277,7 @@ makes_events (Tick now) = true
 makes_events (Inhibit now) = true
 makes_events _ = false
 
-pub clients_after-frames : (d : Description) (past : List Step) (x : Step) → makes_events x ≡ true → MasksEnd past → map (after_offers d (moment_of x) (length past) (holder past) (cuts_of_step d past x)) (clients_after d past) ≡ clients_after d (x ∷ past)
+pub clients_after-frames : (d : Description) (past : List Step) (x : Step) → makes_events x ≡ true → MasksEnd past → map (after_offers d (frames_of_step d past x)) (clients_after d past) ≡ clients_after d (x ∷ past)
 unfolding opens is_open is_revoked clock_of mask_bit queue_with
 clients_after-frames d past (Inject e now) h ends = framed d past (Inject e now) ends refl (λ k. refl)
 clients_after-frames d past (Tick now) h ends = framed d past (Tick now) ends refl (λ k. refl)

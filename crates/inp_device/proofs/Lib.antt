@@ -8,6 +8,8 @@ pub mod MaskWords
 pub mod Named
 pub mod Offers
 pub mod Calls
+pub mod Passing
+pub mod WholeFrames
 pub mod Standing
 pub mod Stored
 pub mod Making

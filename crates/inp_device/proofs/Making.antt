@@ -17,6 +17,7 @@ use Rattle.inp_model.specs.Event.{is_report}
 use Rattle.inp_model.specs.Step.{Query, Codes, client_of, query_of, is_open_step, is_close_of, is_end_step, is_same}
 use Rattle.inp_model.specs.Past.{opens, is_open, open_clients, is_revoked, holder, clock_of, mask_bit, ends}
 use Rattle.inp_model.specs.Raw.{raw}
+use Rattle.inp_model.specs.Left.{given_in}
 use Rattle.inp_model.specs.Queue as model
 use Rattle.inp_model.specs.Queue.{Entry, visible, queue, taken_by}
 use Rattle.inp_model.specs.Reply.{Answer, alone, accepted, done_answer, bits_answer, cells_answer, took_answer, words_of, code_on, axis_answer, taken_of, written, is_bad_client, is_no_device, finds_nothing}
@@ -25,10 +26,12 @@ use Rattle.inp_frames.proofs.Keeping.{makes_no_events}
 use Rattle.inp_handles.specs.Handles.{HandleState}
 use Rattle.inp_device.specs.declared.handler.Handler.{Handler}
 use Rattle.inp_device.specs.declared.present.Present.{Present}
-use Rattle.inp_device.specs.Handler.{fresh_handler}
+use Rattle.inp_device.specs.FrameFilters.{FilterView}
+use Rattle.inp_device.specs.Handler.{IsFreshHandler}
 use Rattle.inp_bits.proofs.Indices.{All-filter_range}
 use Rattle.inp_ring.specs.declared.cell.Cell.{Cell}
 use Rattle.inp_ring.specs.Store.{event_of}
+use Rattle.inp_filter.specs.FilterState.{FiltersStandFor}
 use Rattle.inp_client.specs.Client.{ClientView, new_client, after_take, after_flush}
 use Rattle.inp_client.specs.Clients.{has_client, has_revoked_client, events_of, map_client, with_client}
 use Rattle.inp_client.specs.Read.{taken_event, client_on, clients_on}
@@ -39,7 +42,8 @@ use Rattle.inp_model.proofs.Opens.{opens-le}
 use Rattle.inp_device.proofs.Queues.{visible-map}
 use Rattle.inp_model.proofs.Allowed.{allowed, named_open}
 use Rattle.inp_device.proofs.Calls.{makes_events, leaves_clients, has_client-after, has_revoked_client-after, events_of-after, clients_after-read, clients_after-discard, clients_after-query, clients_after-open, clients_after-left}
-use Rattle.inp_device.proofs.Standing.{takes, leaves_grab, stands_called, stands_framed, holder-keeps, opens-keeps, opens-open, ends-keeps, ends-end, ends-le, handler_stands, no_holder, own_grab, holder-grab, holder-ungrab}
+use Rattle.inp_device.proofs.Passing.{takes, filters-left}
+use Rattle.inp_device.proofs.Standing.{leaves_grab, stands_called, stands_framed, holder-keeps, opens-keeps, opens-open, ends-keeps, ends-end, ends-le, handler_stands, no_holder, own_grab, holder-grab, holder-ungrab}
 
 -- the clients that are kept, with what they read of their cells
 abbrev pub shown : Present → List (ClientView Taken)
@@ -77,15 +81,16 @@ named_events history x old client ready named =
 
 -- a call that asks the core for nothing, and opens no client
 pub called : (history : List Step) (x : Step) (old new : Present) → IsReadyFor history x old → makes_no_events x ≡ true → is_open_step x ≡ false → is_end_step x ≡ false
-    → new.caps ≡ old.caps → new.core ≡ old.core → new.handler.caps ≡ old.handler.caps → new.opens ≡ old.opens → new.ends ≡ old.ends
+    → new.caps ≡ old.caps → new.core ≡ old.core → new.handler.caps ≡ old.handler.caps → new.handler.filters ≡ old.handler.filters → new.opens ≡ old.opens → new.ends ≡ old.ends
     → clients_on old.caps new.handler.clients.list ≡ clients_after old.caps (x ∷ reverse history) → new.handles.holder ≡ holder (x ∷ reverse history) → StandsFor old.caps (x ∷ reverse history) new
-called history x old new ready none opening ending caps core handler opened ended clients grab =
+called history x old new ready none opening ending caps core handler filters opened ended clients grab =
     let past : List Step = reverse history in
     stands_called old.caps past x old new ready.stands (allowed old.caps past x ready.allowed) none
     (record {
       caps = caps;
       core = core;
       handler = handler;
+      filters = filters;
       clients = clients;
       holder = grab;
       opens = opened ∙ ready.stands.opens ∙ sym (opens-keeps past x opening);
@@ -125,7 +130,8 @@ stands_in_core history x old new ready leaves free opening ending caps core made
       caps = caps;
       core = core;
       made = made;
-      handler = handler_stands old.caps past x old.handler new.handler (allowed old.caps past x ready.allowed) ready.stands.handler (ap (λ (h : Handler). h.caps) handler) (ap (λ (h : Handler). clients_on old.caps h.clients.list) handler ∙ clients_same history x old ready leaves);
+      handler = handler_stands old.caps past x old.handler new.handler (allowed old.caps past x ready.allowed) ready.stands.handler (ap (λ (h : Handler). h.caps) handler) (ap (λ (h : Handler). clients_on old.caps h.clients.list) handler ∙ clients_same history x old ready leaves)
+          (filters-left old.caps past x old.handler new.handler (ap (λ (h : Handler). h.filters) handler) ready.stands.handler.filters leaves);
       holder = grab ∙ holder_same history x old ready free;
       opens = opened ∙ ready.stands.opens ∙ sym (opens-keeps past x opening);
       ends = ended ∙ ready.stands.ends ∙ sym (ends-keeps past x ending);
@@ -141,6 +147,7 @@ stands_ended history old new ready caps core handler grab opened ended =
       caps = caps;
       core = core;
       handler = ap (λ (h : Handler). h.caps) handler;
+      filters = ap (λ (h : Handler). h.filters) handler;
       clients = ap (λ (h : Handler). clients_on old.caps h.clients.list) handler ∙ clients_same history End old ready refl;
       holder = grab ∙ holder_same history End old ready refl;
       opens = opened ∙ ready.stands.opens ∙ sym (opens-keeps past End refl);
@@ -278,10 +285,10 @@ opens_few history old ready =
     let open_few : length (open_clients past) < CLIENTS_MAX = le_true CLIENTS_MAX (length (open_clients past)) (allowed old.caps past Open ready.allowed).few in
     omega (arith, open_few, length-on old.caps old.handler.clients.list, ap length ready.stands.handler.clients, length-map (open_clients past) (client_after old.caps past))
 
-pub made_open : (history : List Step) (old new : Present) (places : ℕ) → IsReadyFor history Open old → places ≡ ring old.caps → new.caps ≡ old.caps → new.core ≡ old.core → new.handler.caps ≡ old.handler.caps
+pub made_open : (history : List Step) (old new : Present) (places : ℕ) → IsReadyFor history Open old → places ≡ ring old.caps → new.caps ≡ old.caps → new.core ≡ old.core → new.handler.caps ≡ old.handler.caps → new.handler.filters ≡ old.handler.filters
     → new.handler.clients.list ≡ with_client (new_client old.opens places) old.handler.clients.list → new.handles.holder ≡ old.handles.holder → new.opens ≡ old.opens + 1 → new.ends ≡ old.ends
     → IsMade history Open old (Opened (length history) old.opens places) [] [] [] [] new
-made_open history old new places ready ringed caps core handler clients grab opened ended =
+made_open history old new places ready ringed caps core handler filters clients grab opened ended =
     let past : List Step = reverse history in
     let more : opens past + 1 ≡ suc (opens past) = omega arith in
     let le : opens past ≤ opens past = omega arith in
@@ -294,6 +301,7 @@ made_open history old new places ready ringed caps core handler clients grab ope
       caps = caps;
       core = core;
       handler = handler;
+      filters = filters;
       clients = ap (clients_on old.caps) clients
           ∙ with_client-on old.caps (new_client old.opens places) old.handler.clients.list
           ∙ with_client_above (new_client old.opens places) (shown old) (opens_above history old ready)
@@ -307,13 +315,13 @@ made_open history old new places ready ringed caps core handler clients grab ope
     }))
 
 -- nothing changed
-pub stands_same : (d : Description) (past : List Step) (old new : Present) → StandsFor d past old → new.caps ≡ old.caps → new.core ≡ old.core → new.handler.caps ≡ old.handler.caps → new.handler.clients ≡ old.handler.clients
+pub stands_same : (d : Description) (past : List Step) (old new : Present) → StandsFor d past old → new.caps ≡ old.caps → new.core ≡ old.core → new.handler.caps ≡ old.handler.caps → new.handler.filters ≡ old.handler.filters → new.handler.clients ≡ old.handler.clients
     → new.handles.holder ≡ old.handles.holder → new.opens ≡ old.opens → new.ends ≡ old.ends → StandsFor d past new
-stands_same d past old new was caps core handler clients grab opened ended = record {
+stands_same d past old new was caps core handler filters clients grab opened ended = record {
   caps = caps ∙ was.caps;
   core = subst (CoreStandsFor d past) (sym core) was.core;
   made = subst (IsFor d) (sym core) was.made;
-  handler = record { caps = handler ∙ was.handler.caps; clients = ap (λ v. clients_on d v.list) clients ∙ was.handler.clients; masks = was.handler.masks; fresh = was.handler.fresh };
+  handler = record { caps = handler ∙ was.handler.caps; clients = ap (λ v. clients_on d v.list) clients ∙ was.handler.clients; filters = subst (λ (f : FilterView). FiltersStandFor d.filters (given_in d past) f.kept) (sym filters) was.handler.filters; masks = was.handler.masks; fresh = was.handler.fresh };
   holder = grab ∙ was.holder;
   opens = opened ∙ was.opens;
   ends = ended ∙ was.ends;
@@ -409,15 +417,16 @@ nothing_found d past p x client count seen stands is there test =
 
 -- Before any step
 
-pub stands_first : (d : Description) (p : Present) → p.caps ≡ d → CoreStandsFor d [] p.core → IsFor d p.core → p.handler ≡ fresh_handler d → p.handles.holder ≡ None → p.opens ≡ 0 → p.ends ≡ 0 → StandsFor d [] p
-unfolding opens ends holder mask_bit clock_of is_revoked
+pub stands_first : (d : Description) (p : Present) → p.caps ≡ d → CoreStandsFor d [] p.core → IsFor d p.core → IsFreshHandler d p.handler → p.handles.holder ≡ None → p.opens ≡ 0 → p.ends ≡ 0 → StandsFor d [] p
+unfolding opens ends holder mask_bit clock_of is_revoked given_in
 stands_first d p caps core made handler grab opened ended = record {
   caps = caps;
   core = core;
   made = made;
   handler = record {
-    caps = ap (λ (h : Handler). h.caps) handler;
-    clients = ap (λ (h : Handler). clients_on d h.clients.list) handler;
+    caps = handler.caps;
+    clients = ap (clients_on d) handler.clients;
+    filters = handler.filters;
     masks = λ client kind index h. refl;
     fresh = λ client h. record { bits = λ kind index. refl; clock = refl; revoked = refl };
   };

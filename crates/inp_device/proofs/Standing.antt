@@ -4,31 +4,27 @@ use Rattle.std.specs.Prelude.{unwrap_or}
 use Rattle.std.specs.Int.{bit_at}
 use Rattle.std.proofs.lemmas.Bool.{not-false}
 use Rattle.std.proofs.lemmas.Bool.Decides.{nat_tests}
-use Rattle.inp_model.specs.declared.event.Event.{Event}
 use Rattle.inp_model.specs.declared.step.Step.{Step}
 use Rattle.inp_model.specs.declared.step.Step.TheVariants.{Open, Close, Grab, Ungrab, Mask, Clock as ToClock, Revoke, End}
 use Rattle.inp_model.specs.Description.{Description}
-use Rattle.inp_model.specs.Step.{is_open_step, is_end_step, ends_grab_of, is_same, moment_of}
+use Rattle.inp_model.specs.Step.{is_open_step, is_end_step, ends_grab_of, is_same}
 use Rattle.inp_model.specs.Past.{opens, is_revoked, holder, holder_kept, clock_of, mask_bit, ends}
 use Rattle.inp_model.specs.Reply.{is_busy, is_not_grabber}
-use Rattle.inp_model.specs.RawItem.{Cut}
-use Rattle.inp_model.specs.Frame.{cuts_of_step}
+use Rattle.inp_model.specs.Frame.{frames_of_step}
+use Rattle.inp_model.specs.Left.{given_in}
 use Rattle.inp_model.proofs.Allowed.{IsAllowed, named_open, mask_kind, mask_word}
 use Rattle.inp_model.proofs.Opens.{is_open-lt}
 use Rattle.inp_frames.specs.Core.{CoreStandsFor, IsFor, IsEntered}
-use Rattle.inp_frames.specs.Frames.{TakesAll}
 use Rattle.inp_frames.proofs.Keeping.{makes_no_events, CoreStandsFor-keeps}
-use Rattle.inp_client.specs.Client.{ClientView, after_offer}
-use Rattle.inp_client.specs.Read.{clients_on, read_after_offer}
-use Rattle.inp_client.proofs.OnClock.{clients_on-map, on_offer}
-use Rattle.inp_model.specs.declared.taken.Taken.{Taken}
+use Rattle.inp_filter.specs.FilterState.{FiltersStandFor}
+use Rattle.inp_client.specs.Read.{clients_on}
 use Rattle.inp_device.specs.declared.handler.Handler.{Handler}
 use Rattle.inp_device.specs.declared.present.Present.{Present}
-use Rattle.inp_device.specs.Handler.{IsAfterFrame}
 use Rattle.inp_device.specs.Present.{clients_after, MasksEnd, IsFresh, AreFresh, HandlerStandsFor, StandsFor}
 use Rattle.inp_device.proofs.MaskWords.{MasksEnd-mask}
 use Rattle.inp_device.proofs.Offers.{after_offers}
 use Rattle.inp_device.proofs.Calls.{clients_after-frames, makes_events}
+use Rattle.inp_device.proofs.Passing.{takes, IsPassed, passed_all, filters-called}
 
 -- Clients that no step named
 
@@ -63,10 +59,11 @@ MasksEnd-step d past (Mask client kind word bits) ok was = MasksEnd-mask past cl
 MasksEnd-step d past x ok was = was
 
 -- the handler stands for the past with the step
-pub handler_stands : (d : Description) (past : List Step) (x : Step) (old new : Handler) → IsAllowed d past x → HandlerStandsFor d past old → new.caps ≡ old.caps → clients_on d new.clients.list ≡ clients_after d (x ∷ past) → HandlerStandsFor d (x ∷ past) new
-handler_stands d past x old new ok was caps clients = record {
+pub handler_stands : (d : Description) (past : List Step) (x : Step) (old new : Handler) → IsAllowed d past x → HandlerStandsFor d past old → new.caps ≡ old.caps → clients_on d new.clients.list ≡ clients_after d (x ∷ past) → FiltersStandFor d.filters (given_in d (x ∷ past)) new.filters.kept → HandlerStandsFor d (x ∷ past) new
+handler_stands d past x old new ok was caps clients filters = record {
   caps = caps ∙ was.caps;
   clients = clients;
+  filters = filters;
   masks = MasksEnd-step d past x ok was.masks;
   fresh = AreFresh-step d past x ok was.fresh;
 }
@@ -165,6 +162,7 @@ pub record Leaves (d : Description) (past : List Step) (x : Step) (old new : Pre
   pub caps : new.caps ≡ old.caps
   pub core : new.core ≡ old.core
   pub handler : new.handler.caps ≡ old.handler.caps
+  pub filters : new.handler.filters ≡ old.handler.filters
   pub clients : clients_on d new.handler.clients.list ≡ clients_after d (x ∷ past)
   pub holder : new.handles.holder ≡ holder (x ∷ past)
   pub opens : new.opens ≡ opens (x ∷ past)
@@ -175,7 +173,7 @@ stands_called d past x old new was ok none is = record {
   caps = is.caps ∙ was.caps;
   core = subst (CoreStandsFor d (x ∷ past)) (sym is.core) (CoreStandsFor-keeps d past x old.core none was.core);
   made = subst (IsFor d) (sym is.core) was.made;
-  handler = handler_stands d past x old.handler new.handler ok was.handler is.handler is.clients;
+  handler = handler_stands d past x old.handler new.handler ok was.handler is.handler is.clients (filters-called d past x old.handler new.handler is.filters was.handler.filters none);
   holder = is.holder;
   opens = is.opens;
   ends = is.ends;
@@ -183,56 +181,25 @@ stands_called d past x old new was ok none is = record {
 
 -- A step that may end frames
 
-map_id : (cs : List (ClientView Taken)) → map (λ c. c) cs ≡ cs
-map_id [] = refl
-map_id (c ∷ cs) = ap (λ (xs : List (ClientView Taken)). c ∷ xs) (map_id cs)
-
-map_map : (f g : ClientView Taken → ClientView Taken) (cs : List (ClientView Taken)) → map f (map g cs) ≡ map (λ c. f (g c)) cs
-map_map f g [] = refl
-map_map f g (c ∷ cs) = ap (λ (xs : List (ClientView Taken)). f (g c) ∷ xs) (map_map f g cs)
-
--- how the handler takes frames
-abbrev pub takes : Handler → List Event → ℕ → Handler → Type 0
-takes before events now after = IsAfterFrame before events now after
-
--- all frames of a step were offered
-record AreOffered (d : Description) (now : ℕ) (cs : List Cut) (old new : Handler) : Type 0 where
-  clients : clients_on d new.clients.list ≡ map (after_offers d now old.place old.holder cs) (clients_on d old.clients.list)
-  caps : new.caps ≡ old.caps
-
-took_all : (d : Description) (now : ℕ) (cs : List Cut) (old new : Handler) → TakesAll takes now cs old new → AreOffered d now cs old new
-took_all d now [] old new took = record { clients = ap (λ (h : Handler). clients_on d h.clients.list) took ∙ sym (map_id (clients_on d old.clients.list)); caps = ap (λ (h : Handler). h.caps) took }
-took_all d now (c ∷ cs) old new took =
-    let rest : AreOffered d now cs took.0 new = took_all d now cs took.0 new took.2 in
-    let first : clients_on d took.0.clients.list ≡ map (read_after_offer d c.events now old.place old.holder) (clients_on d old.clients.list) =
-    ap (clients_on d) took.1.clients
-    ∙ clients_on-map d (after_offer c.events now old.place old.holder) (read_after_offer d c.events now old.place old.holder) (on_offer d c.events now old.place old.holder) old.clients.list in
-    record {
-      clients = rest.clients
-          ∙ ap (λ (p : ℕ). map (after_offers d now p took.0.holder cs) (clients_on d took.0.clients.list)) took.1.place
-          ∙ ap (λ (o : Option ℕ). map (after_offers d now old.place o cs) (clients_on d took.0.clients.list)) took.1.holder
-          ∙ ap (map (after_offers d now old.place old.holder cs)) first
-          ∙ map_map (after_offers d now old.place old.holder cs) (read_after_offer d c.events now old.place old.holder) (clients_on d old.clients.list);
-      caps = rest.caps ∙ took.1.caps;
-    }
-
 pub stands_framed : (d : Description) (past : List Step) (x : Step) (old new : Present) (begun : Handler) → StandsFor d past old → IsAllowed d past x → makes_events x ≡ true
     → begun ≡ record old.handler { place = length past; holder = old.handles.holder } → IsEntered d past x new.core takes begun new.handler → IsFor d new.core
     → new.caps ≡ old.caps → new.handles.holder ≡ old.handles.holder → new.opens ≡ old.opens → new.ends ≡ old.ends
     → leaves_grab x ≡ true → is_open_step x ≡ false → is_end_step x ≡ false → StandsFor d (x ∷ past) new
 stands_framed d past x old new begun was ok makes begins entered made caps handles opened ended grab opening ending =
-    let all : AreOffered d (moment_of x) (cuts_of_step d past x) begun new.handler = took_all d (moment_of x) (cuts_of_step d past x) begun new.handler entered.takes_all in
+    let filters : FiltersStandFor d.filters (given_in d past) begun.filters.kept =
+    subst (λ (h : Handler). FiltersStandFor d.filters (given_in d past) h.filters.kept) (sym begins) was.handler.filters in
+    let all : IsPassed d past x begun new.handler =
+    passed_all d past x begun new.handler (ap (λ (h : Handler). h.place) begins) (ap (λ (h : Handler). h.holder) begins ∙ was.holder) filters entered.takes_all in
     let clients : clients_on d new.handler.clients.list ≡ clients_after d (x ∷ past) =
     all.clients
-    ∙ ap (λ (h : Handler). map (after_offers d (moment_of x) h.place h.holder (cuts_of_step d past x)) (clients_on d h.clients.list)) begins
-    ∙ ap (λ o. map (after_offers d (moment_of x) (length past) o (cuts_of_step d past x)) (clients_on d old.handler.clients.list)) was.holder
-    ∙ ap (map (after_offers d (moment_of x) (length past) (holder past) (cuts_of_step d past x))) was.handler.clients
+    ∙ ap (λ (h : Handler). map (after_offers d (frames_of_step d past x)) (clients_on d h.clients.list)) begins
+    ∙ ap (map (after_offers d (frames_of_step d past x))) was.handler.clients
     ∙ clients_after-frames d past x makes was.handler.masks in
     record {
       caps = caps ∙ was.caps;
       core = entered.stands_for;
       made = made;
-      handler = handler_stands d past x old.handler new.handler ok was.handler (all.caps ∙ ap (λ (h : Handler). h.caps) begins) clients;
+      handler = handler_stands d past x old.handler new.handler ok was.handler (all.caps ∙ ap (λ (h : Handler). h.caps) begins) clients all.filters;
       holder = handles ∙ was.holder ∙ sym (holder-keeps past x grab);
       opens = opened ∙ was.opens ∙ sym (opens-keeps past x opening);
       ends = ended ∙ was.ends ∙ sym (ends-keeps past x ending);

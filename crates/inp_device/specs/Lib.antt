@@ -1,2 +1,3 @@
+pub mod FrameFilters
 pub mod Handler
 pub mod Present

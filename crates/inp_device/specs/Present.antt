@@ -12,9 +12,11 @@ use Rattle.inp_model.specs.Description.{Description, ring}
 use Rattle.inp_model.specs.History.{IsHistory}
 use Rattle.inp_model.specs.Step.{client_of, query_of, Codes}
 use Rattle.inp_model.specs.Past.{opens, open_clients, is_revoked, holder, clock_of, mask_bit, has_mask, mask_words, ends}
+use Rattle.inp_model.specs.Left.{given_in}
 use Rattle.inp_model.specs.Queue.{queue}
 use Rattle.inp_model.specs.Reply.{refused, accepted, taken_of, written}
 use Rattle.inp_frames.specs.Core.{CoreStandsFor, IsFor}
+use Rattle.inp_filter.specs.FilterState.{FiltersStandFor}
 use Rattle.inp_client.specs.Masks.{masks_with}
 use Rattle.inp_ring.specs.declared.cell.Cell.{Cell}
 use Rattle.inp_client.specs.Client.{ClientView}
@@ -59,10 +61,11 @@ pub record IsFresh (past : List Step) (client : ℕ) : Type 0 where
 abbrev pub AreFresh : List Step → Type 0
 AreFresh past = (client : ℕ) → opens past ≤ client → IsFresh past client
 
--- the handler stands for the clients of a past, with what they read of their cells
+-- The handler stands for the clients of a past, with what they read of their cells, and for what came to the filters.
 pub record HandlerStandsFor (d : Description) (past : List Step) (h : Handler) : Type 0 where
   pub caps : h.caps ≡ d
   pub clients : clients_on d h.clients.list ≡ clients_after d past
+  pub filters : FiltersStandFor d.filters (given_in d past) h.filters.kept
   pub masks : MasksEnd past
   pub fresh : AreFresh past
 

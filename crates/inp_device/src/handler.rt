@@ -1,19 +1,22 @@
 //! The handler of the device's frames.
 ghost use Rattle.std.specs.Prelude.{◌≡◌, ◌≤◌, ℕ, Option, IfOk};
 
+use crate::frame_filters::FrameFilters;
 use inp_caps::Caps;
 use inp_client::Clients;
 use inp_frames::Frames;
 use inp_model::{Event, NoMemory};
 use std::alloc::Global;
 
-/// It offers the frames of a device to its clients (the kernel's evdev handler).
+/// It offers what the filters of a device leave of its frames to its clients (the kernel's evdev handler, behind its filter
+/// handlers). While a client holds the grab, frames pass the filters by and are offered whole.
 ///
 /// The place and the holder of the grab are those of the step whose frames come next.
 #[derive(Drop)]
 pub struct Handler {
     pub caps: Caps,
     pub clients: Clients,
+    pub filters: FrameFilters,
     pub place: u32,
     pub holder: Option<u32>,
 }
@@ -24,21 +27,31 @@ impl Frames for Handler {
     ghost takes = { IsAfterFrame };
 
     fn pass(&mut self, events: &[Event], now: u64) {
-        self.clients
-            .offer(&self.caps, events, now, self.place, self.holder);
+        let frame_is_whole = self.holder.is_some() || self.filters.is_empty();
+        if frame_is_whole {
+            self.clients
+                .offer(&self.caps, events, now, self.place, self.holder);
+        } else {
+            self.filters.pass(events, now);
+            let left = self.filters.left();
+            self.clients
+                .offer(&self.caps, left, now, self.place, self.holder);
+        }
     }
 }
 
 impl Handler {
-    ghost use Rattle.inp_device.specs.Handler.{fresh_handler};
+    ghost use Rattle.inp_device.specs.Handler.{IsFreshHandler};
 
-    /// A handler without clients, with memory for the list of them.
+    /// A handler without clients, with memory for the list of them, for what is kept of the filters and for what they leave
+    /// of a frame.
     pub fn new(alloc: Global, caps: &Caps) -> Result<Handler, NoMemory>
-        ensures fresh { IfOk result (λ handler. handler ≡ fresh_handler caps.now) }
+        ensures fresh { IfOk result (λ handler. IsFreshHandler caps.now handler) }
     {
         Ok(Handler {
             caps: caps.copy(),
             clients: Clients::new(alloc)?,
+            filters: FrameFilters::new(alloc, caps)?,
             place: 0,
             holder: None,
         })

@@ -3,8 +3,8 @@
 //! This crate is for whoever plays steps on a device: `Device::new` makes a device of a description, and
 //! `Device::step` makes one step and answers it. It stands on `inp_model`, whose definitions say the exact answer to
 //! each step after each history, on `inp_caps` for the description, on `inp_frames` for the state and the frames (with
-//! `inp_state` and `inp_slots` for what queries answer), on `inp_client` for the clients and `inp_handles` for the grab,
-//! and on `inp_bits` for the lists of codes.
+//! `inp_state` and `inp_slots` for what queries answer), on `inp_filter` for what filters leave of frames, on `inp_client`
+//! for the clients and `inp_handles` for the grab, and on `inp_bits` for the lists of codes.
 //!
 //! Its contract: the reply, what is written to the caller's buffers and the history after the call are the model's, for
 //! every description and every history. The code keeps the present state and never looks back at its history.
@@ -19,6 +19,7 @@
 mod cells;
 mod client_steps;
 mod device;
+mod frame_filters;
 mod frame_steps;
 mod handler;
 mod kept;

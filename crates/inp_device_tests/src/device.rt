@@ -49,25 +49,26 @@ pub fn five() -> [Stamped; 5]
 }
 
 /// These events are injected at this moment.
-fn inject(rt: &impl Abort, device: &mut Device, now: u64, events: &[Event]) {
+pub fn inject(rt: &impl Abort, device: &mut Device, now: u64, events: &[Event]) {
     for event in events {
         done(rt, device, Step::Inject { event: *event, now });
     }
 }
 
 /// This step is done.
-fn done(rt: &impl Abort, device: &mut Device, step: Step) {
+pub fn done(rt: &impl Abort, device: &mut Device, step: Step) {
     let at = length(rt, device);
     answers(rt, device, step, Reply::Done { at });
 }
 
-fn opens(rt: &impl Abort, device: &mut Device, client: u32, ring: u32) {
+/// A client opens, and has this number and so many places.
+pub fn opens(rt: &impl Abort, device: &mut Device, client: u32, ring: u32) {
     let at = length(rt, device);
     answers(rt, device, Step::Open, Reply::Opened { at, client, ring });
 }
 
 /// This client finds nothing to read, when so many sources are done.
-fn finds_nothing(rt: &impl Abort, device: &mut Device, client: u32, ends: u32) {
+pub fn finds_nothing(rt: &impl Abort, device: &mut Device, client: u32, ends: u32) {
     let at = length(rt, device);
     let step = Step::Read { client, count: 0 };
     answers(rt, device, step, Reply::Again { at, ends });

@@ -1,7 +1,8 @@
 -- Short histories worked out by hand: when a client is synchronised and undisturbed, and what its view shows then.
 use Rattle.std.specs.Prelude.{◌≡◌, ℕ, ℤ, pos, Bool, true, false, nat_lt, List, [], ◌∷◌, ◌++◌, map, replicate, reverse, Option, Some, None, ◌&&◌, not, is_some, take}
-use Rattle.inp_model.specs.declared.event.TheConstants.{EV_KEY, EV_REL}
+use Rattle.inp_model.specs.declared.event.TheConstants.{EV_KEY, EV_REL, KEY_A}
 use Rattle.inp_model.specs.declared.event.Event.{Event}
+use Rattle.inp_model.specs.declared.filter.Filter.TheVariants.{Eat}
 use Rattle.inp_model.specs.declared.step.Step.{Step}
 use Rattle.inp_model.specs.declared.step.Step.TheVariants.{Open, Read, Discard, GetKeys, GetAxis, SyncSlots, Grab, Ungrab, Mask, Clock as ToClock, SetAxis, End}
 use Rattle.inp_model.specs.declared.clock.Clock.TheVariants.{Monotonic}
@@ -161,6 +162,24 @@ masked = Open ∷ GetKeys 0 ∷ GetAxis 0 0 ∷ Mask 0 EV_KEY 0 without_a ∷ in
 abbrev pub NeedsNoMask : Type 0
 NeedsNoMask =
     Judges board masked true true false × ShowsKey board masked 30 false true × ShowsKey board masked 48 true true
+
+-- the same with a filter that eats the key A
+abbrev pub eats_a : Description
+eats_a = record board { filters = Eat EV_KEY KEY_A ∷ [] }
+
+-- A key that a filter eats is not known to be down.
+abbrev pub filtered : List Step
+filtered = Open ∷ GetKeys 0 ∷ GetAxis 0 0 ∷ inject_all (key (pos 1) ∷ key_b ∷ report ∷ [])
+
+abbrev pub NeedsNoFilter : Type 0
+NeedsNoFilter =
+    Judges eats_a filtered true true false × ShowsKey eats_a filtered 30 false true × ShowsKey eats_a filtered 48 true true
+
+-- What was eaten before the client asked is told, and of the frames since nothing was eaten.
+abbrev pub FollowsBehindAFilter : Type 0
+FollowsBehindAFilter =
+    Judges eats_a followed true true true
+    × ShowsKey eats_a followed 30 true true × ShowsKey eats_a followed 48 true true × ShowsX eats_a followed (pos 5) (pos 5)
 
 -- A contact in slot 1, then X 5 there and Y 7 in slot 0, which are asked for while the batch is open. The slot told is
 -- that of the last frame, so the batch, which is read later, is understood.

@@ -1,5 +1,5 @@
 //! What the definitions compute of a few events and answers.
-ghost use Rattle.inp_recon.specs.FaithfulExamples.{FollowsTheDevice, MeetsTheLaw, FollowsSlots, NeedsALaterFrame, IsRightFromTheNextFrameOn, NeedsAllQueries, NeedsNoLoss, NeedsNoGrab, NeedsNoGrabOfKeys, NeedsNoMask, NeedsNoDescriptionInTheBatch, NeedsNoDescriptionSince, FollowsUpToADescription, FollowsFromADescriptionOn, PromisesNothingWithoutAFrame, FindsTheRead, ViewsEachEvent};
+ghost use Rattle.inp_recon.specs.FaithfulExamples.{FollowsTheDevice, MeetsTheLaw, FollowsSlots, NeedsALaterFrame, IsRightFromTheNextFrameOn, NeedsAllQueries, NeedsNoLoss, NeedsNoGrab, NeedsNoGrabOfKeys, NeedsNoMask, NeedsNoFilter, FollowsBehindAFilter, NeedsNoDescriptionInTheBatch, NeedsNoDescriptionSince, FollowsUpToADescription, FollowsFromADescriptionOn, PromisesNothingWithoutAFrame, FindsTheRead, ViewsEachEvent};
 ghost use Rattle.inp_recon.specs.Examples.{BeginsWithoutContacts, TakesNoRepeat, TakesSwitchesAndLeds, TakesAnAxis, TakesNoOther, TakesNoOtherSlot, GoesOnInTheSlotTold, TellsKeys, TellsAnAxis, TellsNoOther};
 
 /// What the definitions of this crate compute of a few events and answers that were worked out by hand. It does
@@ -30,6 +30,8 @@ pub fn faithful_examples()
     ensures grab { NeedsNoGrab }
     ensures grab_of_keys { NeedsNoGrabOfKeys }
     ensures mask { NeedsNoMask }
+    ensures filter { NeedsNoFilter }
+    ensures behind_filter { FollowsBehindAFilter }
     ensures described { NeedsNoDescriptionInTheBatch }
     ensures described_since { NeedsNoDescriptionSince }
     ensures described_later { FollowsUpToADescription }

@@ -29,8 +29,8 @@ const WRITE_FAULT: u8 = 4;
 ///
 /// On each device, however the threads interleave, every reply is the one-thread device's at its place in one kept history;
 /// SYN_DROPPED is queued only at a full ring or a clock change; and at each SYN_REPORT queued after a client's last
-/// synchronisation, nothing since lost, masked, grabbed away or described anew, the client's reconstructed keys, switches,
-/// LEDs, axes and slots equal the device's at that frame's end.
+/// synchronisation, nothing since lost, masked, filtered, grabbed away or described anew, the client's reconstructed keys,
+/// switches, LEDs, axes and slots equal the device's at that frame's end.
 ///
 /// The words are those after the program's name, as `inp_args` reads them. The gate is called on threads alone, before each
 /// call that a job makes on its device. The statuses of `End` are tried in this order: 2 where the words are not accepted; 3 or 7 for FILE, and 1 for its lines; stream by stream, in

@@ -36,6 +36,14 @@ pub returns-clause-mask : goal.returns-clause-mask
 unfolding computing
 returns-clause-mask c = ((refl, refl, refl, refl), (refl, refl), (refl, refl))
 
+pub returns-clause-filter : goal.returns-clause-filter
+unfolding computing
+returns-clause-filter c = ((refl, refl, refl, refl), (refl, refl), (refl, refl))
+
+pub returns-clause-behind_filter : goal.returns-clause-behind_filter
+unfolding computing
+returns-clause-behind_filter c = ((refl, refl, refl, refl), (refl, refl), (refl, refl), (refl, refl))
+
 pub returns-clause-grab_of_keys : goal.returns-clause-grab_of_keys
 unfolding computing
 returns-clause-grab_of_keys c = ((refl, refl, refl, refl), (refl, refl), (refl, refl))

@@ -12,10 +12,10 @@ overflow_add-self c = omega (arith, opens_fit c.args.history.now Open c.args.sel
 
 pub returns-in-Ok : goal.returns-in-Ok
 returns-in-Ok c = record {
-  made = made_open c.args.history.now c.args.self.now _ c.ring-ring.result c.requires.ready c.ring-ring.ensures.ring refl refl refl c.in-Ok.ensures.ok refl refl refl;
+  made = made_open c.args.history.now c.args.self.now _ c.ring-ring.result c.requires.ready c.ring-ring.ensures.ring refl refl refl refl c.in-Ok.ensures.ok refl refl refl;
 }
 
 pub returns-in-Err-NoMemory : goal.returns-in-Err-NoMemory
 returns-in-Err-NoMemory c = record {
-  made = (refl, refl, refl, stands_same c.args.self.now.caps (reverse c.args.history.now) c.args.self.now _ c.requires.ready.stands refl refl refl c.in-Err-NoMemory.ensures.err refl refl refl);
+  made = (refl, refl, refl, stands_same c.args.self.now.caps (reverse c.args.history.now) c.args.self.now _ c.requires.ready.stands refl refl refl refl c.in-Err-NoMemory.ensures.err refl refl refl);
 }

@@ -1,0 +1,60 @@
+-- A frame that passes the filters by is offered whole; another one is offered as the filters leave it.
+use Rattle.std.proofs.Common.{◌≡◌, ℕ, true, List, map, Option, None, sym, ap, subst, ◌∙◌, refl}
+use Rattle.inp_model.specs.declared.event.Event.{Event}
+use Rattle.inp_model.specs.declared.filter.Filter.{Filter}
+use Rattle.inp_model.specs.Filter.{Timed}
+use Rattle.inp_model.specs.Queue.{is_empty}
+use Rattle.inp_filter.specs.FilterState.{FiltersStandFor}
+use Rattle.inp_client.specs.Client.{after_offer}
+use Rattle.inp_device.specs.Handler.{offered_of, given_with}
+use Rattle.inp_device.proofs.WholeFrames.{whole_offered, whole_given, nobody_holds, somebody_holds}
+use Rattle.inp_device.proofs.handler.HandlerFrames.pass.Goals.{then-is_some, else-is_some}
+use Rattle.inp_device.proofs.handler.HandlerFrames.pass.Goals as goal
+
+-- where nobody holds the grab there is no filter
+passes_by : (c : goal.After-offer) (fs : List Filter) (given : List Timed) → FiltersStandFor fs given c.args.self.now.filters.kept → c.args.self.now.holder ≡ None → is_empty fs ≡ true
+passes_by c fs given stands none =
+    elim c.if-is_some.branch [
+      | then-is_some w ↦ absurd (somebody_holds c.args.self.now.holder c.is_some.result c.is_some.ensures w.if-is_some.true none)
+      | else-is_some w ↦ sym (w.is_empty-frame_is_whole.ensures fs given stands) ∙ sym w.frame_is_whole-is ∙ c.if-frame_is_whole.true
+    ]
+
+pub returns-then-frame_is_whole : goal.returns-then-frame_is_whole
+returns-then-frame_is_whole c =
+    let h = c.args.self.now in
+    record {
+      taken = record {
+        clients = λ fs given stands.
+            c.offer.ensures.offered
+            ∙ ap (λ (es : List Event). map (after_offer es c.args.now h.place h.holder) h.clients.list) (sym (whole_offered h.holder fs c.args.now given c.args.events.now (passes_by c fs given stands)));
+        filters = λ fs given stands. whole_given h.holder fs c.args.now given c.args.events.now h.filters.kept (passes_by c fs given stands) stands;
+        caps = refl;
+        place = refl;
+        holder = refl;
+      };
+    }
+
+-- nobody holds the grab
+is_free : (c : goal.After-offer-else-frame_is_whole) → c.args.self.now.holder ≡ None
+is_free c =
+    elim c.if-is_some.branch [
+      | then-is_some w ↦ absurd (cc (w.frame_is_whole-is, c.if-frame_is_whole.false))
+      | else-is_some w ↦ nobody_holds c.args.self.now.holder c.is_some.result c.is_some.ensures w.if-is_some.false
+    ]
+
+pub returns-else-frame_is_whole : goal.returns-else-frame_is_whole
+returns-else-frame_is_whole c =
+    let h = c.args.self.now in
+    record {
+      taken = record {
+        clients = λ fs given stands.
+            c.offer-else-frame_is_whole.ensures.offered
+            ∙ ap (λ (es : List Event). map (after_offer es c.args.now h.place h.holder) h.clients.list)
+            (c.left-left.ensures ∙ c.pass.ensures.left fs given stands ∙ ap (λ (o : Option ℕ). offered_of o fs c.args.now given c.args.events.now) (sym (is_free c)));
+        filters = λ fs given stands.
+            subst (λ (o : Option ℕ). FiltersStandFor fs (given_with o c.args.now given c.args.events.now) c.pass.new.self.kept) (sym (is_free c)) (c.pass.ensures.stands fs given stands);
+        caps = refl;
+        place = refl;
+        holder = refl;
+      };
+    }
