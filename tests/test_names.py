@@ -20,7 +20,7 @@ PROVED = re.compile(r"^\s*(?:abbrev |unfoldable )?pub (?:record |data )?([^\s:]+
 SECTION = re.compile(r"^##+ (.*)$", re.M)
 QUOTED = r'"([^"]+)"'
 CITED = re.compile(rf"(?:docs/)?([A-Z]+)\.md`?,\s+({QUOTED}(?:(?:,| and|, and)\s+{QUOTED})*)")
-CITED_HERE = re.compile(rf"\({QUOTED}(?: below)?\)")
+CITED_HERE = re.compile(r"\(\"([A-Z][^\"]+)\"(?: below)?\)")
 MARK = re.compile(r"^\s*(?:--|//[/!]?) ?", re.M)
 
 
@@ -59,6 +59,11 @@ def cited(text):
             yield page, name
 
 
+def anchor(name):
+    """How a link within a page names a section."""
+    return re.sub(r"[^a-z0-9 -]", "", name.lower()).replace(" ", "-")
+
+
 class Names(unittest.TestCase):
     def test_each_definition_that_a_page_names_is_there(self):
         names, count = given(), 0
@@ -94,6 +99,11 @@ class Sections(unittest.TestCase):
             text = re.sub(r"\s+", " ", page.read_text())
             for name in CITED_HERE.findall(text):
                 self.assertIn(name, sections(page), page.name)
+
+    def test_the_contents_of_the_rules_are_its_sections(self):
+        page = TOP / "docs" / "RULES.md"
+        links = re.findall(r"\[([^\]]+)\]\(#([^)]+)\)", page.read_text())
+        self.assertEqual([(name, anchor(name)) for name in sections(page)], links)
 
     def test_what_it_finds_in_a_comment(self):
         comment = '-- one (docs/RULES.md,\n-- "Queries" and\n-- "What a\n-- device has"); `docs/FORMATS.md`, "Words"'
