@@ -1,0 +1,349 @@
+"""Reads the definitions (specs/*.antt) and the declarations (src/*.rt) of the crates, item by item.
+
+Each item has its lines, the names that it gives (its own, its constructors, its fields), and the items that it uses: those
+whose names stand in it, by the file's imports. So an import that an item does not name does not count for it. A variable
+of the same name as an item of its file counts as that item, which is too much and never too little.
+
+Of a type that contracts see by a model (`impl Model`) what counts is of what kind the model's values are, and not how the
+type keeps them, unless a definition looks inside it. Of a function the contract counts, and not the body.
+"""
+
+import re
+from collections import namedtuple
+from functools import cached_property, lru_cache, partial
+from pathlib import Path
+
+# Where an item is: a crate, the path of its file in the crate, and the item's name.
+Key = namedtuple("Key", "crate path name")
+
+WORD = r"[^\W\dλ][\w'?!]*(?:-[^\W\dλ][\w'?!]*)*"
+# A name with what is read of it behind dots, as `line.command`.
+DOTTED = re.compile(rf"(?<![\w.◌']){WORD}(?:\.(?:{WORD}|\d+))*")
+# What says nothing of a line: texts, and a comment at its end.
+SILENT = re.compile(r'"(?:[^"\\]|\\.)*"|\s(?:--|//)\s.*$')
+COMMENT = re.compile(r"^\s*(--|//)")
+
+SPEC_HEAD = re.compile(rf"^(?:abbrev |unfoldable )?(?:pub )?(?:(record|data) )?({WORD})")
+CODE_HEAD = re.compile(r"^(?:pub(?:\([a-z]+\))? )?(const|struct|enum|trait|type|fn) (\w+)")
+MODEL_HEAD = re.compile(r"^impl(?:<.*?>)? Model for (\w+)")
+SPEC_USE = re.compile(r"^\s*(?:ghost )?use ([\w.]+?)(?:\.\{(.*)\}| as (\w+));?$")
+CODE_USE = re.compile(r"^(?:pub )?use ([\w:]+?)(?:::\{(.*?)\}| as (\w+))?;", re.S)
+
+
+class Item:
+    """One definition, or one declaration."""
+
+    def __init__(self, key, kind):
+        self.key, self.kind = key, kind
+        # the numbers of its lines, and of the comments in it and right above it
+        self.lines, self.comments = [], []
+        # its constructors or variants, and its fields or ghost members
+        self.variants, self.fields = [], []
+        # what gives the keys of the items that it uses
+        self.find_uses = set
+
+    @cached_property
+    def uses(self):
+        return self.find_uses()
+
+
+class Repository:
+    """The crates below one folder, and what their names mean."""
+
+    def __init__(self, top):
+        self.top = Path(top)
+        rows = (self.top / "crates.txt").read_text().splitlines()
+        deps = dict(row.split(":", 1) for row in rows if row.strip() and not row.startswith("#"))
+        self.deps = {crate: [dep for dep in text.split() if dep in deps] for crate, text in deps.items()}
+        self.crates = self.in_order(self.deps, self.deps.__getitem__)
+
+    @staticmethod
+    def in_order(roots, below):
+        """All that is reached from the roots, each behind what is below it."""
+        order, seen = [], set()
+
+        def visit(one):
+            if one not in seen:
+                seen.add(one)
+                for other in below(one):
+                    visit(other)
+                order.append(one)
+
+        for root in roots:
+            visit(root)
+        return order
+
+    @lru_cache(maxsize=None)
+    def file(self, crate, path):
+        reader = Definitions if path.endswith(".antt") else Code
+        return reader(self, crate, path)
+
+    @lru_cache(maxsize=None)
+    def paths(self, crate, folder, ending):
+        root = self.top / "crates" / crate
+        return sorted(str(path.relative_to(root)) for path in (root / folder).rglob(f"*.{ending}"))
+
+    @lru_cache(maxsize=None)
+    def declared(self, crate, name):
+        """The declaration of this name in a crate, wherever it stands there."""
+        for path in self.paths(crate, "src", "rt"):
+            item = self.file(crate, path).items.get(name)
+            if item and item.kind != "fn":
+                return item.key
+        return None
+
+    def module(self, path):
+        """What a module of definitions gives for a name, as a function; None for one of the toolchain."""
+        parts = path.split(".")
+        if len(parts) < 4 or parts[0] != "Rattle" or parts[1] not in self.deps or parts[2] != "specs":
+            return None
+        crate, rest = parts[1], parts[3:]
+        if rest[0] not in ("declared", "contracts"):
+            file = self.file(crate, "specs/" + "/".join(rest) + ".antt")
+            return lambda name: file.given(name)
+        kind = rest[-1] if rest[-1].startswith("The") else None
+        rest = rest[1:-1] if kind else rest[1:]
+        if kind == "TheConstants":
+            return lambda name: Key(crate, f"src/{'/'.join(rest)}.rt", name)
+        owner = Key(crate, f"src/{'/'.join(rest[:-1])}.rt", rest[-1])
+        if kind == "TheInside":
+            return lambda name: owner._replace(name=owner.name + "(inside)")
+        return lambda name: owner
+
+    def item(self, key):
+        file = self.file(key.crate, key.path)
+        found = file.items.get(key.name)
+        if found is None:
+            raise KeyError(f"{key.crate}/{key.path} has no {key.name}")
+        return found
+
+    def reached(self, roots):
+        """The items that the roots rest on, roots included."""
+        seen, waiting = {}, list(roots)
+        while waiting:
+            key = waiting.pop()
+            if key not in seen:
+                seen[key] = self.item(key)
+                waiting.extend(seen[key].uses)
+        return seen
+
+
+class SourceFile:
+    """A file of a crate, as its items."""
+
+    def __init__(self, repository, crate, path):
+        self.repository, self.crate, self.path = repository, crate, path
+        self.rows = (repository.top / "crates" / crate / path).read_text().splitlines()
+        self.items, self.owners = {}, {}
+        # what it imports: a name -> its key or None; an alias of a module -> what gives its names
+        self.names, self.modules = {}, {}
+
+    def add(self, kind, name):
+        item = Item(Key(self.crate, self.path, name), kind)
+        self.items[name] = item
+        return item
+
+    def given(self, name):
+        """The key of the item that gives this name here."""
+        return Key(self.crate, self.path, self.owners.get(name, name))
+
+    def imports(self, row):
+        """Takes an import of definitions; whether the line is one."""
+        found = SPEC_USE.match(row)
+        if found is None:
+            return False
+        path, names, alias = found.groups()
+        module = self.repository.module(path)
+        if alias:
+            self.modules[alias] = module
+        for name in (names or "").split(","):
+            name, _, other = name.strip().partition(" as ")
+            if name and "◌" not in name:
+                self.names[other or name] = module(name) if module else None
+        return True
+
+    def meanings(self, dotted):
+        """The keys of what a name with dots may mean; None for a variable, and for what is not the repository's."""
+        first, *rest = dotted.split(".")
+        if first in self.modules:
+            module = self.modules[first]
+            return [module(rest[0]) if module and rest else None]
+        if first in self.owners or first in self.items:
+            return [self.given(first)]
+        return [self.names.get(first)]
+
+    def keys(self, item, words):
+        """What an item uses by these names."""
+        keys = {key for word in words for key in self.meanings(word)}
+        return keys - {None, item.key}
+
+
+class Definitions(SourceFile):
+    """A file of specs/."""
+
+    def __init__(self, repository, crate, path):
+        super().__init__(repository, crate, path)
+        item, above, bodies = None, [], {}
+        # the rows of the modules that a line stands in; what is in one is indented by two more
+        modules = []
+        for number, row in enumerate(self.rows):
+            if not row.strip() or self.imports(row) or row.startswith("pub mod "):
+                above = []
+                continue
+            if COMMENT.match(row):
+                above.append(number)
+                continue
+            while modules and not row.startswith("  " * len(modules)):
+                modules.pop()
+            flat = row[2 * len(modules) :]
+            if flat.startswith("module "):
+                modules.append(flat)
+                above = []
+                continue
+            head = SPEC_HEAD.match(flat) if flat.startswith(("abbrev ", "unfoldable ", "pub ")) else None
+            if head:
+                item = self.add(head[1] or "definition", head[2])
+                bodies[item.key.name] = list(modules)
+            if item is None:
+                raise ValueError(f"{crate}/{path}:{number + 1}: a line of no definition")
+            item.lines.append(number)
+            item.comments += above
+            above = []
+            bodies[item.key.name].append(flat)
+            member = re.match(rf"^  (?:pub )?({WORD}) :", flat)
+            if member and item.kind in ("record", "data") and not head:
+                (item.fields if item.kind == "record" else item.variants).append(member[1])
+                if item.kind == "data":
+                    self.owners[member[1]] = item.key.name
+        for name, rows in bodies.items():
+            self.items[name].find_uses = partial(self.uses_of, self.items[name], rows)
+
+    def uses_of(self, item, rows):
+        """The items whose names stand in the lines of one, but for what is read of something behind a dot."""
+        words = {dotted for row in rows for dotted in DOTTED.findall(SILENT.sub("", row))}
+        return self.keys(item, words)
+
+
+class Code(SourceFile):
+    """A file of src/: its types, constants and traits, and the contracts of its functions."""
+
+    def __init__(self, repository, crate, path):
+        super().__init__(repository, crate, path)
+        # what it imports from code: a name -> a crate and a name there
+        self.imported = {}
+        self.crate_uses("\n".join(self.rows))
+        item, above, models, model = None, [], {}, None
+        for number, row in enumerate(self.rows):
+            if SPEC_USE.match(row):
+                # What an impl imports is for it alone.
+                if not row.startswith(" "):
+                    self.imports(row)
+                elif model is not None:
+                    model.append(row)
+                continue
+            if COMMENT.match(row) or row.startswith("#["):
+                above.append(number)
+                continue
+            if not row.strip():
+                above = []
+                continue
+            head, model_head = CODE_HEAD.match(row), MODEL_HEAD.match(row)
+            if head:
+                item, model = self.add(head[1], head[2]), None
+            elif model_head:
+                item, model = None, models.setdefault(model_head[1], [])
+            elif not row.startswith((" ", "}", "{", ")")):
+                item = model = None
+            if model is not None:
+                model.append(row)
+            if item:
+                if item.kind == "fn" and row == "{":
+                    item = None
+                    continue
+                item.lines.append(number)
+                item.comments += above
+                self.member(item, row)
+            above = []
+        # what stands inside a model's type is another item, for definitions that look there
+        for name, rows in models.items():
+            if name in self.items:
+                seen, inside = self.items[name], self.add("struct", name + "(inside)")
+                inside.lines, inside.comments, inside.fields = seen.lines, seen.comments, seen.fields
+        for name, item in self.items.items():
+            item.find_uses = partial(self.uses_of, item, models.get(name))
+
+    def member(self, item, row):
+        if item.kind == "struct":
+            found = re.match(r"^    (?:pub(?:\([a-z]+\))? )?(\w+):", row)
+            item.fields += [found[1]] if found else []
+        if item.kind == "enum":
+            found = re.match(r"^    ([A-Z]\w*)", row)
+            if found:
+                item.variants.append(found[1])
+        if item.kind == "trait":
+            found = re.match(r"^    (?:ghost |fn )(\w+)", row)
+            item.fields += [found[1]] if found else []
+
+    def crate_uses(self, text):
+        """Takes the imports of types and constants from this crate and others."""
+        for start in re.finditer(r"^(?:pub )?use ", text, re.M):
+            found = CODE_USE.match(text[start.start() :])
+            if not found:
+                continue
+            path, names, alias = found.groups()
+            parts = path.split("::")
+            if names is None:
+                names = parts.pop()
+            crate = self.crate if parts and parts[0] == "crate" else parts[0] if parts else names
+            if crate not in self.repository.deps:
+                continue
+            for name in names.split(","):
+                name, _, other = name.strip().partition(" as ")
+                if name:
+                    self.imported[other or alias or name] = (crate, name)
+
+    def meanings(self, dotted):
+        # A definition, a declaration elsewhere and one here may have one name. A function is no declaration.
+        first = dotted.split(".")[0]
+        found = [self.names.get(first)]
+        if first in self.imported:
+            found.append(self.repository.declared(*self.imported[first]))
+        if first in self.items and self.items[first].kind != "fn":
+            found.append(self.given(first))
+        return found
+
+    def uses_of(self, item, model):
+        """The items whose names stand in a declaration, or in the clauses of a contract."""
+        if model is not None:
+            return self.uses_of_model(item, model)
+        rows = [self.rows[number] for number in item.lines]
+        text = "\n".join(SILENT.sub("", row) for row in rows)
+        if item.kind == "fn":
+            return self.keys(item, self.words_of_contract(text))
+        if item.kind == "enum":
+            text = re.sub(r"^    [A-Z]\w*", "", text, flags=re.M)
+        return self.keys(item, DOTTED.findall(text))
+
+    def uses_of_model(self, item, model):
+        """What the values are as which contracts see a type."""
+        names, self.names = self.names, dict(self.names)
+        for row in model:
+            self.imports(row)
+        keys = self.keys(item, DOTTED.findall("\n".join(row for row in model if "ghost Value" in row)))
+        self.names = names
+        return keys
+
+    @staticmethod
+    def words_of_contract(text):
+        """The names in the clauses of a contract, and in the types of what these speak of."""
+        start = re.search(r"^\s*(?:ensures|requires) ", text, re.M)
+        if not start:
+            return set()
+        head, words = text[: start.start()], set(DOTTED.findall(text[start.start() :]))
+        bounds = dict(re.findall(r"(\w+): ((?:\w+ ?\+? ?)+)", head.split("(")[0]))
+        types = dict(re.findall(r"(\w+): ([^,)]+)", head.split("(", 1)[1]))
+        types["result"] = head.rsplit("->", 1)[-1]
+        for meant in (types, bounds):
+            for first in {word.split(".")[0] for word in words}:
+                words.update(re.findall(r"\w+", meant.get(first, "")))
+        return words

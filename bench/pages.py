@@ -1,0 +1,19 @@
+"""Writes the part of a page that a script makes: what stands between its two marks."""
+
+
+def marks(script):
+    """The lines before and behind what a script of bench/ writes."""
+    return (
+        f"<!-- what follows is written by bench/{script} --write -->",
+        f"<!-- what was written by bench/{script} ends here -->",
+    )
+
+
+def write(top, page, script, rows):
+    """Puts rows between the marks of a page, in place of what stood there."""
+    begin, end = marks(script)
+    before, has_begin, rest = (top / page).read_text().partition(begin)
+    _, has_end, after = rest.partition(end)
+    if not (has_begin and has_end):
+        raise ValueError(f"{page} has not both marks of what is written there")
+    (top / page).write_text("\n".join([before + begin, *rows, end]) + after)

@@ -1,0 +1,247 @@
+"""What bench/believed finds in a small repository that the test writes; and that docs/PROMISES.md has its table."""
+
+import re
+import subprocess
+import sys
+
+from playing import TOP, FolderCase
+
+SCRIPT = TOP / "bench" / "believed"
+sys.path.insert(0, str(TOP / "bench"))
+
+from definitions import Key, Repository  # noqa: E402  (bench/ has to be on the path first)
+
+# A crate `low`, and a crate `high` that stands on it. What counts for `call` has `yes` in a comment beside it.
+FILES = {
+    "crates.txt": "# crates\nhigh: low clap\nlow:\n",
+    "crates/low/src/lib.rt": "mod color;\nmod kept;\n",
+    "crates/low/src/color.rt": """\
+//! Colors.
+use crate::kept::Kept;
+
+/// yes
+#[derive(Debug)]
+pub enum Color {
+    Red,
+    // what it is mixed of
+    Mixed { parts: Kept },
+}
+
+/// yes
+pub const LAST: u8 = 7;
+
+pub const FIRST: u8 = 1;
+
+pub struct Other {
+    pub color: Color,
+}
+
+pub struct Unnamed;
+""",
+    "crates/low/src/kept.rt": """\
+use crate::color::Unnamed;
+
+/// yes
+pub struct Kept {
+    list: Unnamed,
+}
+
+impl Model for Kept {
+    ghost use Rattle.low.specs.Seen.{Seen, how};
+
+    ghost Value = { Seen };
+
+    ghost view = { how };
+}
+""",
+    "crates/low/specs/Seen.antt": """\
+-- What is seen.
+use Rattle.std.specs.Prelude.{List}
+
+-- yes
+pub record Seen : Type 0 where
+  pub size : List Seen
+
+abbrev pub how : List Seen
+how = []
+""",
+    "crates/low/specs/Mixing.antt": """\
+-- Mixing.
+use Rattle.std.specs.Prelude.{List}
+use Rattle.low.specs.declared.color.Color.{Color}
+use Rattle.low.specs.declared.color.Color.TheVariants.{Red as Plain}
+use Rattle.low.specs.declared.color.TheConstants.{LAST, FIRST}
+
+pub data Mood : Type 0 where
+  -- the constructor counts for its type
+  Calm : Mood
+
+module _ {E : Type 0} where
+  -- yes
+  abbrev pub mixed : E → Color
+  mixed e =
+      -- a comment that is counted
+      Plain
+
+  abbrev pub unused : Mood
+  unused = Calm
+
+-- yes
+abbrev pub calm : Mood
+calm = if first_of "unused first" then Calm else Calm -- unused
+
+abbrev pub first : Color
+first = FIRST
+""",
+    "crates/high/src/top.rt": """\
+ghost use Rattle.high.specs.Promise.{Promise, Unpromised};
+ghost use Rattle.low.specs.Mixing.{first};
+
+use crate::ways::{Giver, Taker};
+use low::Other;
+
+/// What is promised.
+pub fn call<G: Giver, T: Taker>(giver: G, taker: T, other: Other) -> bool
+    // first
+    ensures promise { Promise (G.left giver.now) }
+{
+    first(other)
+}
+
+fn inner() -> bool
+    ensures { Unpromised }
+{
+    true
+}
+""",
+    "crates/high/src/ways.rt": """\
+ghost use Rattle.low.specs.declared.color.TheConstants.{LAST};
+
+/// yes
+pub trait Giver {
+    ghost left: { Self → Bits LAST };
+}
+
+pub trait Taker {
+    fn take(&self);
+}
+""",
+    "crates/high/specs/Promise.antt": """\
+-- What is promised.
+use Rattle.clap.specs.Walk.{Rule}
+use Rattle.low.specs.Mixing as behind
+use Rattle.low.specs.Mixing.{first}
+
+-- yes
+abbrev pub Promise : Rule
+Promise = behind.mixed behind.calm
+
+abbrev pub Unpromised : Rule
+Unpromised = first
+""",
+}
+
+# Lines, lines with comments, and the names, worked out by hand.
+WANTED = """\
+     2      3  low/specs/Seen.antt  Seen
+     3      4  low/src/kept.rt  Kept
+     5      9  low/src/color.rt  Color LAST
+     7     11  low/specs/Mixing.antt  Mood mixed calm
+     3      4  high/src/ways.rt  Giver
+     2      3  high/specs/Promise.antt  Promise
+    22     34  6 files
+"""
+
+
+class Believed(FolderCase):
+    def setUp(self):
+        super().setUp()
+        for name, text in FILES.items():
+            self.write(name, text)
+
+    def write(self, name, text):
+        path = self.folder / name
+        path.parent.mkdir(parents=True, exist_ok=True)
+        path.write_text(text)
+
+    def believed(self, *words):
+        command = [sys.executable, SCRIPT, *words]
+        return subprocess.run(command, capture_output=True, text=True, check=False)
+
+    def small(self, *words):
+        return self.believed("--top", self.folder, *(words or ("high", "top.rt", "call")))
+
+    def test_small_repository(self):
+        came = self.small()
+        self.assertEqual((0, WANTED, ""), (came.returncode, came.stdout, came.stderr))
+
+    def test_another_contract(self):
+        self.assertIn("color.rt  Color FIRST\n", self.small("high", "top.rt", "inner").stdout)
+        self.assertNotIn("FIRST", self.small().stdout)
+
+    def test_a_definition_that_looks_inside_a_type(self):
+        self.write("crates/high/specs/Promise.antt", """\
+-- What is promised.
+use Rattle.low.specs.declared.kept.Kept.TheInside.{Inside}
+
+abbrev pub Promise : Inside
+Promise = Inside
+""")
+        self.assertIn("low/src/color.rt  LAST Unnamed\n", self.small().stdout)
+
+    def test_page(self):
+        page = (TOP / "docs" / "PROMISES.md").read_text()
+        came = self.believed("--page")
+        self.assertEqual((0, ""), (came.returncode, came.stderr))
+        self.assertIn(f"\n{came.stdout}<!--", page, "'bench/believed --write' writes the table anew")
+
+    def test_write(self):
+        page = self.folder / "docs" / "PROMISES.md"
+        self.write("docs/PROMISES.md", "Page\n")
+        self.rename_to_top_call()
+        came = self.small("--write")
+        self.assertEqual((2, "", "bench/believed: docs/PROMISES.md has not both marks of what is written there\n"),
+                         (came.returncode, came.stdout, came.stderr))
+        marks = re.findall(r"^<!-- .* -->$", (TOP / "docs" / "PROMISES.md").read_text(), re.M)
+        self.write("docs/PROMISES.md", "\n".join(["Page", marks[0], "old", marks[1], "end"]))
+        self.assertEqual(0, self.small("--write").returncode)
+        table = self.small("--page").stdout
+        self.assertEqual("\n".join(["Page", marks[0], table + marks[1], "end"]), page.read_text())
+        self.assertIn("| `low` | `Kept`, `Color`, the numbers in `color.rt` | `Seen`, `Mixing` | 17 | 27 |\n", table)
+        self.assertIn("| `inp_tool` | `Giver` | `Promise` | 5 | 7 |\n", table)
+
+    def rename_to_top_call(self):
+        """Makes the small repository's function that of the page."""
+        (self.folder / "crates" / "high").rename(self.folder / "crates" / "inp_tool")
+        for path in ["crates.txt", "crates/inp_tool/src/top.rt"]:
+            text = (self.folder / path).read_text()
+            self.write(path, text.replace("high", "inp_tool").replace("pub fn call<", "pub fn inputplay<"))
+
+    def test_wrong_input(self):
+        for words, line in [
+            (["nix", "top.rt", "call"], f"{self.folder}/crates/nix/src/top.rt is not there"),
+            (["high", "nix.rt", "call"], f"{self.folder}/crates/high/src/nix.rt is not there"),
+            (["high", "top.rt", "nix"], "high/src/top.rt has no nix"),
+        ]:
+            with self.subTest(line):
+                came = self.small(*words)
+                self.assertEqual((2, "", f"bench/believed: {line}\n"), (came.returncode, came.stdout, came.stderr))
+
+    def test_help_and_options(self):
+        self.assertIn("FUNCTION", self.believed("--help").stdout)
+        self.assertEqual(2, self.believed("--page", "inp_recon", "laws.rt", "faithful").returncode)
+
+
+class Numbers(FolderCase):
+    def test_each_number_stands_twice_but_those_that_the_page_names(self):
+        repository = Repository(TOP)
+        reached = repository.reached([Key("inp_tool", "src/top.rt", "inputplay")])
+        numbers = [key for key, item in reached.items() if item.kind == "const"]
+        self.assertGreater(len(numbers), 40)
+        once = {key.name for key in numbers if not self.is_proved(repository, key)}
+        paragraph = re.search(r"Beside each constant.*?\n\n", (TOP / "docs" / "PROMISES.md").read_text(), re.S)[0]
+        self.assertEqual(once, set(re.findall(r"`(\w+)`", paragraph)))
+
+    def is_proved(self, repository, key):
+        rows = repository.file(key.crate, key.path).rows
+        return any(row.startswith(f"const _: () = prove!({key.name} == ") for row in rows)

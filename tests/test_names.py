@@ -1,0 +1,110 @@
+"""What documents and crates name is there: definitions, files of definitions, and sections of pages."""
+
+import re
+import sys
+import unittest
+
+from playing import TOP
+
+sys.path.insert(0, str(TOP / "bench"))
+
+from definitions import Repository  # noqa: E402  (bench/ has to be on the path first)
+
+PAGES = sorted(TOP.glob("docs/*.md")) + [TOP / "README.md", TOP / "bench" / "README.md", TOP / "examples" / "README.md"]
+
+# `Module.name`, or a type with a field, a variant or a ghost member; and `Module.antt`.
+NAME = re.compile(r"`(?:[\w/]*/)?([A-Z]\w*)\.([^\s`.()]+)`")
+PAGE_NAMES = {page.stem for page in PAGES} | {"FILE", "NAME"}
+PROVED = re.compile(r"^\s*(?:abbrev |unfoldable )?pub (?:record |data )?([^\s:]+)", re.M)
+
+SECTION = re.compile(r"^##+ (.*)$", re.M)
+QUOTED = r'"([^"]+)"'
+CITED = re.compile(rf"(?:docs/)?([A-Z]+)\.md`?,\s+({QUOTED}(?:(?:,| and|, and)\s+{QUOTED})*)")
+CITED_HERE = re.compile(r"\(\"([A-Z][^\"]+)\"(?: below)?\)")
+MARK = re.compile(r"^\s*(?:--|//[/!]?) ?", re.M)
+
+
+def given():
+    """What each module of definitions or proofs gives, and each type: a name -> the names behind its dot."""
+    repository, names = Repository(TOP), {}
+    for crate in repository.crates:
+        for path in repository.paths(crate, "specs", "antt") + repository.paths(crate, "src", "rt"):
+            file = repository.file(crate, path)
+            module = names.setdefault(path.rsplit("/", 1)[-1].removesuffix(".antt"), set())
+            module.add("antt")
+            for name, item in file.items.items():
+                module.update([name, *item.variants])
+                names.setdefault(name, set()).update(item.fields + item.variants)
+    for path in TOP.glob("crates/*/proofs/**/*.antt"):
+        names.setdefault(path.stem, set()).update(["antt", *PROVED.findall(path.read_text())])
+    return names
+
+
+def named(text):
+    """The names with a dot that a page means, with their lines."""
+    for number, row in enumerate(text.splitlines(), 1):
+        for first, name in NAME.findall(row):
+            if first not in PAGE_NAMES:
+                yield number, first, name
+
+
+def sections(page):
+    return SECTION.findall(page.read_text())
+
+
+def cited(text):
+    """The sections of pages that a text cites: the page's name, and the section's."""
+    for page, names, *_ in CITED.findall(re.sub(r"\s+", " ", MARK.sub("", text))):
+        for name in re.findall(QUOTED, names):
+            yield page, name
+
+
+def anchor(name):
+    """How a link within a page names a section."""
+    return re.sub(r"[^a-z0-9 -]", "", name.lower()).replace(" ", "-")
+
+
+class Names(unittest.TestCase):
+    def test_each_definition_that_a_page_names_is_there(self):
+        names, count = given(), 0
+        for page in PAGES:
+            for number, first, name in named(page.read_text()):
+                count += 1
+                self.assertIn(name, names.get(first, ()), f"{page.relative_to(TOP)}:{number}: `{first}.{name}`")
+        self.assertGreater(count, 400)
+
+    def test_what_it_finds_in_a_page(self):
+        page = "see `Past.is_open` (`proofs/Calls.antt`)\nand `RULES.md`, `a.b`, `Device::step`, `Past.x y`"
+        self.assertEqual([(1, "Past", "is_open"), (1, "Calls", "antt")], list(named(page)))
+        self.assertNotIn("is_opened", given()["Past"])
+        self.assertIn("is_open", given()["Past"])
+        self.assertIn("within", given()["IsRun"])
+
+
+class Sections(unittest.TestCase):
+    def test_each_section_that_a_crate_or_a_page_cites_is_there(self):
+        files = [path for kind in ("src/**/*.rt", "specs/*.antt", "proofs/**/*.antt") for path in TOP.glob(f"crates/*/{kind}")]
+        there = {page.stem: sections(page) for page in sorted(TOP.glob("docs/*.md"))}
+        missing, count = [], 0
+        for path in files + PAGES:
+            for page, name in cited(path.read_text()):
+                count += 1
+                if name not in there.get(page, ()):
+                    missing.append(f'{path.relative_to(TOP)}: {page}.md, "{name}"')
+        self.assertEqual([], missing)
+        self.assertGreater(count, 150)
+
+    def test_each_section_that_a_page_cites_of_itself_is_there(self):
+        for page in PAGES:
+            text = re.sub(r"\s+", " ", page.read_text())
+            for name in CITED_HERE.findall(text):
+                self.assertIn(name, sections(page), page.name)
+
+    def test_the_contents_of_the_rules_are_its_sections(self):
+        page = TOP / "docs" / "RULES.md"
+        links = re.findall(r"\[([^\]]+)\]\(#([^)]+)\)", page.read_text())
+        self.assertEqual([(name, anchor(name)) for name in sections(page)], links)
+
+    def test_what_it_finds_in_a_comment(self):
+        comment = '-- one (docs/RULES.md,\n-- "Queries" and\n-- "What a\n-- device has"); `docs/FORMATS.md`, "Words"'
+        self.assertEqual([("RULES", "Queries"), ("RULES", "What a device has"), ("FORMATS", "Words")], list(cited(comment)))
