@@ -91,6 +91,54 @@ do s stream keys.bin
 """,
     ),
     (
+        "two devices, a carriage return, a tab, and no line feed at the end",
+        b"""# two devices
+inputrecord 1
+device kbd
+hint 8
+cap EV_KEY KEY_A
+source s\r
+tap\tt
+
+device pad
+clock boottime 7
+slots 2
+axis ABS_MT_POSITION_X 0 0 99 0 0 0
+client c
+do t open
+do s event 1000 EV_KEY KEY_A 1
+do c next 3
+do s stream keys.bin
+do t mask EV_KEY 0 0xff""",
+        b"""inputrecord 2
+device kbd
+hint 8
+log 1048576
+clock realtime 0
+clock boottime 0
+type EV_KEY
+cap EV_KEY KEY_A
+source s
+tap t
+device pad
+hint 16
+log 1048576
+clock realtime 0
+clock boottime 7
+slots 2
+type EV_ABS
+axis ABS_MT_SLOT 0 0 1 0 0 0
+axis ABS_MT_POSITION_X 0 0 99 0 0 0
+axis ABS_MT_TRACKING_ID 0 0 65535 0 0 0
+client c
+do t open
+do s event 1000 EV_KEY KEY_A 1
+do c next 3
+do s stream keys.bin
+do t mask EV_KEY 0 0x00000000000000ff
+""",
+    ),
+    (
         "streams of both forms",
         b"""inputrecord 2
 device d

@@ -1,23 +1,21 @@
-//! Clients, against queues worked out by hand.
+//! Clients: how many events are kept for all of them, against queues worked out by hand. What each reads under masks, grabs
+//! and clocks is shown by the records of `tests/records`.
 ghost use Rattle.std.specs.Prelude.{◌≡◌, ◌<◌, true};
 ghost use Rattle.inp_model.specs.Past.{has_mask, mask_words};
 
 use inp_caps::{Caps, CapsBuilder};
 use inp_client::{Clients, OpenRefused};
 use inp_core_tests::common::{A, B, LOSS, REPORT, axis, key};
-use inp_model::{ABS_MT_SLOT, CLIENTS_MAX, Clock, EV_KEY, EV_MSC, EV_REP, EV_SYN, Event, Taken};
+use inp_model::{Clock, EV_KEY, Event, Taken};
 use std::process::Abort;
 use std::test::Fail;
 
 /// How far the realtime clock is ahead in the tests, in microseconds.
 const REALTIME: u64 = 1_000_000;
 
-/// How far the clock that counts the time asleep is ahead in the tests, in microseconds.
-const BOOTTIME: u64 = 50;
-
 fn caps() -> Result<Caps, Fail> {
     let mut builder = CapsBuilder::new();
-    builder.offsets(REALTIME, BOOTTIME)?;
+    builder.offsets(REALTIME, 0)?;
     Ok(builder.build())
 }
 
@@ -91,287 +89,10 @@ fn set_clock(
     clients.set_clock(caps, number, clock, u64::from(now), 7);
 }
 
-fn visible(rt: &impl Abort, clients: &Clients, number: u32) -> u32 {
-    assert!(rt; clients.is_open(number), "client {number}");
-    clients.visible(number)
-}
-
-#[test]
-fn masks_say_what_is_admitted(rt: HostRuntime) -> Result<(), Fail> {
-    let caps = caps()?;
-    let mut clients = three(&rt)?;
-    // All keys but A; all types but EV_SYN and EV_REP; no code of EV_MSC.
-    set_mask(&rt, &mut clients, 0, EV_KEY, 0, 0xffff_ffff_bfff_ffff);
-    set_mask(&rt, &mut clients, 1, EV_SYN, 0, !0x10_0001);
-    set_mask(&rt, &mut clients, 2, EV_MSC, 0, 0);
-
-    offer(&mut clients, &caps, &[key(A, 1), REPORT], 1, None);
-    expect(&rt, &mut clients, &caps, 0, &[]);
-    expect(
-        &rt,
-        &mut clients,
-        &caps,
-        1,
-        &[at(key(A, 1), 1), at(REPORT, 1)],
-    );
-    expect(
-        &rt,
-        &mut clients,
-        &caps,
-        2,
-        &[at(key(A, 1), 1), at(REPORT, 1)],
-    );
-
-    offer(
-        &mut clients,
-        &caps,
-        &[key(A, 0), key(B, 1), REPORT],
-        2,
-        None,
-    );
-    expect(
-        &rt,
-        &mut clients,
-        &caps,
-        0,
-        &[at(key(B, 1), 2), at(REPORT, 2)],
-    );
-
-    let delay = Event {
-        kind: EV_REP,
-        code: 0,
-        value: 300,
-    };
-    let scan = Event {
-        kind: EV_MSC,
-        code: 4,
-        value: 9,
-    };
-    offer(&mut clients, &caps, &[delay, scan, REPORT], 3, None);
-    expect(
-        &rt,
-        &mut clients,
-        &caps,
-        0,
-        &[at(delay, 3), at(scan, 3), at(REPORT, 3)],
-    );
-    let left = [
-        at(key(A, 0), 2),
-        at(key(B, 1), 2),
-        at(REPORT, 2),
-        at(scan, 3),
-        at(REPORT, 3),
-    ];
-    expect(&rt, &mut clients, &caps, 1, &left);
-    let left = [
-        at(key(A, 0), 2),
-        at(key(B, 1), 2),
-        at(REPORT, 2),
-        at(delay, 3),
-        at(REPORT, 3),
-    ];
-    expect(&rt, &mut clients, &caps, 2, &left);
-    Ok(())
-}
-
-#[test]
-fn a_mask_leaves_what_is_queued(rt: HostRuntime) -> Result<(), Fail> {
-    let caps = caps()?;
-    let mut clients = three(&rt)?;
-    offer(&mut clients, &caps, &[key(A, 1), REPORT], 1, None);
-    set_mask(&rt, &mut clients, 0, EV_KEY, 0, 0);
-    set_mask(&rt, &mut clients, 0, EV_KEY, 11, 0);
-    offer(
-        &mut clients,
-        &caps,
-        &[key(A, 0), key(0x2ff, 1), REPORT],
-        2,
-        None,
-    );
-    expect(
-        &rt,
-        &mut clients,
-        &caps,
-        0,
-        &[at(key(A, 1), 1), at(REPORT, 1)],
-    );
-
-    // The bit is set again.
-    set_mask(&rt, &mut clients, 0, EV_KEY, 0, u64::MAX);
-    offer(&mut clients, &caps, &[key(A, 1), REPORT], 3, None);
-    expect(
-        &rt,
-        &mut clients,
-        &caps,
-        0,
-        &[at(key(A, 1), 3), at(REPORT, 3)],
-    );
-    Ok(())
-}
-
-#[test]
-fn the_holder_gets_frames_alone_and_a_revoked_client_none(rt: HostRuntime) -> Result<(), Fail> {
-    let caps = caps()?;
-    let mut clients = three(&rt)?;
-    offer(&mut clients, &caps, &[key(A, 1), REPORT], 1, Some(1));
-    expect(&rt, &mut clients, &caps, 0, &[]);
-    expect(
-        &rt,
-        &mut clients,
-        &caps,
-        1,
-        &[at(key(A, 1), 1), at(REPORT, 1)],
-    );
-    expect(&rt, &mut clients, &caps, 2, &[]);
-
-    offer(&mut clients, &caps, &[key(A, 0), REPORT], 2, None);
-    assert!(rt; clients.is_open(1) && !clients.is_revoked(1));
-    clients.revoke(1);
-    assert!(rt; clients.is_open(1) && clients.is_revoked(1));
-    assert!(rt; clients.is_open(2) && !clients.is_revoked(2));
-    offer(&mut clients, &caps, &[key(B, 1), REPORT], 3, None);
-    offer(&mut clients, &caps, &[key(B, 0), REPORT], 4, Some(1));
-    expect(
-        &rt,
-        &mut clients,
-        &caps,
-        1,
-        &[at(key(A, 0), 2), at(REPORT, 2)],
-    );
-    let left = [
-        at(key(A, 0), 2),
-        at(REPORT, 2),
-        at(key(B, 1), 3),
-        at(REPORT, 3),
-    ];
-    expect(&rt, &mut clients, &caps, 0, &left);
-    expect(&rt, &mut clients, &caps, 2, &left);
-    assert_eq!(rt; clients.count(), 3, "a revoked client is open");
-    Ok(())
-}
-
-#[test]
-fn another_clock_empties_a_queue(rt: HostRuntime) -> Result<(), Fail> {
-    let caps = caps()?;
-    let mut clients = three(&rt)?;
-    set_clock(&rt, &mut clients, &caps, 0, Clock::Monotonic, 5);
-    assert_eq!(rt; visible(&rt, &clients, 0), 0);
-    offer(&mut clients, &caps, &[key(A, 1), REPORT], 10, None);
-    expect(
-        &rt,
-        &mut clients,
-        &caps,
-        0,
-        &[timed(key(A, 1), 10, 0), timed(REPORT, 10, 0)],
-    );
-
-    // The same clock again, and another one.
-    set_clock(&rt, &mut clients, &caps, 1, Clock::Realtime, 20);
-    set_clock(&rt, &mut clients, &caps, 2, Clock::Boottime, 20);
-    assert_eq!(rt;
-        visible(&rt, &clients, 2),
-        0,
-        "SYN_DROPPED has no report yet"
-    );
-    offer(&mut clients, &caps, &[REPORT], 30, None);
-    expect(&rt, &mut clients, &caps, 0, &[]);
-    expect(
-        &rt,
-        &mut clients,
-        &caps,
-        1,
-        &[at(key(A, 1), 10), at(REPORT, 10)],
-    );
-    expect(
-        &rt,
-        &mut clients,
-        &caps,
-        2,
-        &[timed(LOSS, 20, BOOTTIME), timed(REPORT, 30, BOOTTIME)],
-    );
-    Ok(())
-}
-
-#[test]
-fn one_clients_queue_is_flushed_and_discarded(rt: HostRuntime) -> Result<(), Fail> {
-    let caps = caps()?;
-    let mut clients = three(&rt)?;
-    let slot = axis(ABS_MT_SLOT, 1);
-    offer(&mut clients, &caps, &[key(A, 1), REPORT], 1, None);
-    offer(&mut clients, &caps, &[slot, key(B, 1), REPORT], 2, None);
-    assert!(rt; clients.is_open(0));
-    clients.flush(0, EV_KEY);
-    assert!(rt; clients.is_open(1));
-    clients.flush_slots(1);
-    expect(
-        &rt,
-        &mut clients,
-        &caps,
-        0,
-        &[at(REPORT, 1), at(slot, 2), at(REPORT, 2)],
-    );
-    let left = [
-        at(key(A, 1), 1),
-        at(REPORT, 1),
-        at(key(B, 1), 2),
-        at(REPORT, 2),
-    ];
-    expect(&rt, &mut clients, &caps, 1, &left);
-
-    offer(&mut clients, &caps, &[key(A, 0)], 3, None);
-    assert!(rt; clients.is_open(2));
-    assert_eq!(rt; clients.discard(2), 5);
-    assert_eq!(rt; visible(&rt, &clients, 2), 0, "A 0 has no report yet");
-    Ok(())
-}
-
 /// Closes a client.
 fn close_one(rt: &impl Abort, clients: &mut Clients, number: u32) {
     assert!(rt; clients.is_open(number), "client {number}");
     clients.close(number);
-}
-
-#[test]
-fn sixty_four_clients_with_a_mask_each(rt: HostRuntime) -> Result<(), Fail> {
-    let caps = caps()?;
-    let mut clients = Clients::new(rt.alloc())?;
-    open_up_to(&rt, &mut clients, 0, 64)?;
-    assert_eq!(rt;
-        open_up_to(&rt, &mut clients, 64, 65),
-        Err(OpenRefused::TooMany)
-    );
-    for half in 0..32 {
-        close_one(&rt, &mut clients, 2 * half);
-    }
-    assert_eq!(rt; clients.count(), 32);
-    open_up_to(&rt, &mut clients, 65, 97)?;
-    assert_eq!(rt; clients.count(), CLIENTS_MAX);
-    assert_eq!(rt;
-        open_up_to(&rt, &mut clients, 97, 98),
-        Err(OpenRefused::TooMany)
-    );
-
-    // The client `number` admits the key `number % 64` alone, of the first 64.
-    for number in 0..97 {
-        if clients.is_open(number) {
-            clients.set_mask(number, EV_KEY, 0, 1 << (number % 64));
-        }
-    }
-    offer(
-        &mut clients,
-        &caps,
-        &[key(1, 1), key(6, 1), key(9, 1), REPORT],
-        5,
-        None,
-    );
-    for number in 0..98 {
-        let is_there = number < 64 && number % 2 == 1 || number >= 65 && number < 97;
-        assert_eq!(rt; clients.is_open(number), is_there, "client {number}");
-        if is_there {
-            expect_own_key(&rt, &mut clients, &caps, number);
-        }
-    }
-    Ok(())
 }
 
 #[test]
@@ -393,34 +114,6 @@ fn a_client_is_opened_under_any_number_that_is_not_open(rt: HostRuntime) -> Resu
     }
     assert_eq!(rt; clients.count(), 5);
     Ok(())
-}
-
-/// Reads what a client has of the keys 1, 6 and 9, where it admits the key `number % 64` alone.
-fn expect_own_key(rt: &impl Abort, clients: &mut Clients, caps: &Caps, number: u32) {
-    match number % 64 {
-        1 => expect(
-            rt,
-            clients,
-            caps,
-            number,
-            &[at(key(1, 1), 5), at(REPORT, 5)],
-        ),
-        6 => expect(
-            rt,
-            clients,
-            caps,
-            number,
-            &[at(key(6, 1), 5), at(REPORT, 5)],
-        ),
-        9 => expect(
-            rt,
-            clients,
-            caps,
-            number,
-            &[at(key(9, 1), 5), at(REPORT, 5)],
-        ),
-        _ => expect(rt, clients, caps, number, &[]),
-    }
 }
 
 /// Offers so many frames of A and a report to all clients, at the moments from 10 on.

@@ -4,12 +4,9 @@
 ghost use Rattle.inp_model.specs.Injecting.{AreInTime};
 
 use inp_caps::{Caps, CapsBuilder, CapsRefused};
-use inp_core_tests::common::{A, A_DOWN, REPORT, axis, axis_info, key};
+use inp_core_tests::common::{A, A_DOWN, REPORT, key};
 use inp_device::Device;
-use inp_model::{
-    ABS_MT_POSITION_X, AxisInfo, EV_KEY, Event, FUZZ_MAX, Injected, MOMENT_MAX, Refusal, Reply,
-    Stamped, Step, Taken,
-};
+use inp_model::{EV_KEY, Event, Injected, MOMENT_MAX, Refusal, Reply, Stamped, Step, Taken};
 use std::process::Abort;
 use std::test::Fail;
 
@@ -49,30 +46,6 @@ pub fn five() -> [Stamped; 5]
         now: 2,
     };
     [press, report, press, report, press]
-}
-
-/// The axis `ABS_X`.
-const X: u16 = 0;
-
-/// A slider: the axis X from 0 to 100 without fuzz.
-fn slider() -> Result<Caps, CapsRefused> {
-    let mut builder = CapsBuilder::new();
-    builder.axis(X, axis_info(0, 100, 0))?;
-    Ok(builder.build())
-}
-
-/// A touchpad: the axis X, and two slots with the horizontal position of a contact.
-fn touchpad() -> Result<Caps, CapsRefused> {
-    let mut builder = CapsBuilder::new();
-    builder.axis(X, axis_info(0, 100, 0))?;
-    builder.axis(ABS_MT_POSITION_X, axis_info(0, 100, 0))?;
-    builder.slots(2)?;
-    Ok(builder.build())
-}
-
-/// A client describes an axis anew.
-fn set_axis(client: u32, code: u16, info: AxisInfo) -> Step {
-    Step::SetAxis { client, code, info }
 }
 
 /// These events are injected at this moment.
@@ -226,81 +199,5 @@ fn sixty_four_clients_share_the_events_that_are_kept(rt: HostRuntime) -> Result<
     assert_eq!(rt; device.stored(), 62, "each event once");
     inject(&rt, &mut device, 0, &[key(A, 0), REPORT]);
     assert_eq!(rt; device.stored(), 65, "a loss for each, and one report");
-    Ok(())
-}
-
-#[test]
-fn an_axis_is_described_anew(rt: HostRuntime) -> Result<(), Fail> {
-    let mut device = Device::new(rt.alloc(), slider()?)?;
-    let wide = axis_info(10, 200, 8);
-    opens(&rt, &mut device, 0, 128);
-    inject(&rt, &mut device, 0, &[axis(X, 50), REPORT]);
-    answers(
-        &rt,
-        &mut device,
-        set_axis(0, X, wide),
-        Reply::Done { at: 3 },
-    );
-    let told = Reply::Axis { at: 4, info: wide };
-    let query = Step::GetAxis { client: 0, code: X };
-    answers(&rt, &mut device, query, told);
-    discards(&rt, &mut device, 0, 2);
-    inject(&rt, &mut device, 0, &[axis(X, 13), REPORT]);
-    finds_nothing(&rt, &mut device, 0, 0);
-    inject(&rt, &mut device, 0, &[axis(X, 14), REPORT]);
-    let mut out = [NO_EVENT; 4];
-    let read = Step::Read {
-        client: 0,
-        count: 4,
-    };
-    let given = make(&rt, &mut device, read, &mut out, &mut []);
-    assert_eq!(rt; given, Reply::Took { at: 10, count: 2 });
-    assert_eq!(rt; (out[0].event, out[1].event), (axis(X, 11), REPORT));
-    Ok(())
-}
-
-#[test]
-fn an_axis_is_described_while_the_device_is_inhibited(rt: HostRuntime) -> Result<(), Fail> {
-    let mut device = Device::new(rt.alloc(), slider()?)?;
-    let low = axis_info(-700, 200, 0);
-    opens(&rt, &mut device, 0, 128);
-    done(&rt, &mut device, Step::Inhibit { now: 0 });
-    done(&rt, &mut device, set_axis(0, X, low));
-    done(&rt, &mut device, Step::Uninhibit);
-    let told = Reply::Axis { at: 4, info: low };
-    let query = Step::GetAxis { client: 0, code: X };
-    answers(&rt, &mut device, query, told);
-    Ok(())
-}
-
-#[test]
-fn descriptions_are_refused(rt: HostRuntime) -> Result<(), Fail> {
-    let mut device = Device::new(rt.alloc(), touchpad()?)?;
-    let (wide, negative) = (axis_info(10, 200, 8), axis_info(0, 0, -1));
-    let greatest = axis_info(0, 0, FUZZ_MAX);
-    opens(&rt, &mut device, 0, 128);
-    opens(&rt, &mut device, 1, 128);
-    done(&rt, &mut device, Step::Revoke { client: 1 });
-    let rows = [
-        (7, X, wide, Refusal::BadClient),
-        (1, X, wide, Refusal::NoDevice),
-        (0, ABS_MT_POSITION_X, wide, Refusal::BadCode),
-        (0, X + 1, wide, Refusal::BadCode),
-        (0, 64, negative, Refusal::BadCode),
-        (0, X, negative, Refusal::BadInfo),
-        (0, X, axis_info(0, 0, FUZZ_MAX + 1), Refusal::BadInfo),
-    ];
-    for (client, code, info, why) in rows {
-        refuses(&rt, &mut device, set_axis(client, code, info), why);
-    }
-    done(&rt, &mut device, set_axis(0, X, greatest));
-    let mut keyboard = Device::new(rt.alloc(), small_keyboard()?)?;
-    opens(&rt, &mut keyboard, 0, 64);
-    refuses(
-        &rt,
-        &mut keyboard,
-        set_axis(0, 64, negative),
-        Refusal::BadKind,
-    );
     Ok(())
 }

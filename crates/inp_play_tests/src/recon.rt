@@ -1,13 +1,11 @@
-//! Views of a touchpad with two slots, worked by hand.
+//! Views of a touchpad with two slots, worked by hand. What queries tell a view is shown by the records of `tests/records`.
 
 use inp_caps::{Caps, CapsBuilder, CapsRefused};
 use inp_model::{
-    ABS_MT_POSITION_X, ABS_MT_POSITION_Y, ABS_MT_SLOT, ABS_MT_TRACKING_ID, AxisInfo, EV_ABS,
-    EV_KEY, EV_LED, EV_REL, EV_SND, EV_SW, EV_SYN, Event, KEY_A, NoMemory, Refusal, Reply,
-    SYN_DROPPED, Step,
+    ABS_MT_POSITION_X, ABS_MT_SLOT, ABS_MT_TRACKING_ID, EV_ABS, EV_KEY, EV_LED, EV_REL, EV_SND,
+    EV_SW, EV_SYN, Event, KEY_A, SYN_DROPPED,
 };
 use inp_recon::View;
-use std::alloc::Global;
 use std::test::Fail;
 
 // The parts of a view that the tests look at.
@@ -82,142 +80,33 @@ fn takes_events(rt: HostRuntime) -> Result<(), Fail> {
     Ok(())
 }
 
-// The values of two slots: Y 7 in slot 0; X 5 and a contact in slot 1.
-fn two_slots() -> [i32; 28] {
-    let mut cells = [0; 28];
-    cells[6] = 7;
-    cells[9] = -1;
-    cells[19] = 5;
-    cells[23] = 11;
-    cells
-}
-
-// Takes over the answer to a synchronisation of slots, which tells the slot.
-fn synchronise(view: &mut View, cells: &[i32], slot: i32) {
-    if view.cells.len() <= cells.len() {
-        let step = Step::SyncSlots { client: 0 };
-        let reply = Reply::Cells {
-            at: 8,
-            count: 28,
-            slot,
-        };
-        view.answer(step, reply, cells);
-    }
-}
-
-// Takes over multi-touch events.
-fn touch(view: &mut View, events: &[(u16, i32)]) {
-    for (code, value) in events {
-        view.take_event(Event {
-            kind: EV_ABS,
-            code: *code,
-            value: *value,
-        });
-    }
-}
-
-// What the slots are: the current one, X and Y of slot 0, X, Y and the tracking id of slot 1.
-fn slots_of(view: &View) -> [i32; 6] {
-    [
-        view.slot,
-        value_of(view, Part::Cell(5)),
-        value_of(view, Part::Cell(6)),
-        value_of(view, Part::Cell(19)),
-        value_of(view, Part::Cell(20)),
-        value_of(view, Part::Cell(23)),
-    ]
-}
-
-#[test]
-fn goes_on_in_the_slot_that_was_told(rt: HostRuntime) -> Result<(), Fail> {
-    let mut view = View::new(rt.alloc(), &touchpad()?)?;
-    synchronise(&mut view, &two_slots(), 1);
-    assert_eq!(rt; slots_of(&view), [1, 0, 7, 5, 0, 11]);
-    // The events of the batch that was open come again.
-    touch(
-        &mut view,
-        &[
-            (ABS_MT_POSITION_X, 5),
-            (ABS_MT_SLOT, 0),
-            (ABS_MT_POSITION_Y, 7),
-        ],
-    );
-    assert_eq!(rt; slots_of(&view), [0, 0, 7, 5, 0, 11]);
-    Ok(())
-}
-
-const INFO: AxisInfo = AxisInfo {
-    value: 70,
-    minimum: 0,
-    maximum: 0,
-    fuzz: 0,
-    flat: 0,
-    resolution: 0,
-};
-
-// Bit 1 is set, of the first word alone.
-fn bits() -> Reply {
-    Reply::Bits {
-        at: 0,
-        words: [2, 0, 0, 0, 0, 0, 0, 0, 0, 0, 0, 0],
-    }
-}
-
-// Keys, switches, LEDs, an axis and a multi-touch axis of the view, as far as the answers tell them.
-fn told(view: &View) -> [i32; 5] {
-    [
-        value_of(view, Part::Key(1)),
-        value_of(view, Part::Switch(1)),
-        value_of(view, Part::Led(1)),
-        value_of(view, Part::Axis(1)),
-        value_of(view, Part::Axis(53)),
-    ]
-}
-
-#[test]
-fn takes_over_what_is_told_alone(rt: HostRuntime) -> Result<(), Fail> {
-    let mut view = View::new(rt.alloc(), &touchpad()?)?;
-    let axis = Reply::Axis { at: 0, info: INFO };
-    let full = Reply::Refused {
-        at: 0,
-        why: Refusal::LogFull,
-    };
-    view.answer(Step::GetSounds { client: 0 }, bits(), &[]);
-    view.answer(Step::GetKeys { client: 0 }, full, &[]);
-    assert_eq!(rt; told(&view), [0, 0, 0, 0, 0]);
-    view.answer(Step::GetSwitches { client: 0 }, bits(), &[]);
-    assert_eq!(rt; told(&view), [0, 1, 0, 0, 0]);
-    view.answer(Step::GetLeds { client: 0 }, bits(), &[]);
-    assert_eq!(rt; told(&view), [0, 1, 1, 0, 0]);
-    view.answer(Step::GetKeys { client: 0 }, bits(), &[]);
-    assert_eq!(rt; told(&view), [1, 1, 1, 0, 0]);
-    view.answer(Step::GetAxis { client: 0, code: 1 }, axis, &[]);
-    view.answer(
-        Step::GetAxis {
-            client: 0,
-            code: 53,
-        },
-        axis,
-        &[],
-    );
-    assert_eq!(rt; told(&view), [1, 1, 1, 70, 0]);
-    Ok(())
-}
-
 #[test]
 fn copies_a_view(rt: HostRuntime) -> Result<(), Fail> {
     let mut view = View::new(rt.alloc(), &touchpad()?)?;
     let mut other = View::new(rt.alloc(), &touchpad()?)?;
-    view.take_event(Event {
-        kind: EV_LED,
-        code: 1,
-        value: 1,
-    });
-    touch(&mut view, &[(ABS_MT_SLOT, 1), (ABS_MT_POSITION_X, 5)]);
+    for (kind, code) in [
+        (EV_LED, 1),
+        (EV_ABS, ABS_MT_SLOT),
+        (EV_ABS, ABS_MT_POSITION_X),
+    ] {
+        view.take_event(Event {
+            kind,
+            code,
+            value: 1,
+        });
+    }
     if view.cells.len() == other.cells.len() {
         other.copy_from(&view);
     }
-    assert_eq!(rt; told(&other), [0, 0, 1, 0, 0]);
-    assert_eq!(rt; slots_of(&other), [1, 0, 0, 5, 0, -1]);
+    // A part, and what it is in the copy.
+    let rows = [
+        (Part::Key(1), 0),
+        (Part::Led(1), 1),
+        (Part::Slot, 1),
+        (Part::Cell(19), 1),
+    ];
+    for (part, seen) in rows {
+        assert_eq!(rt; value_of(&other, part), seen, "{part:?}");
+    }
     Ok(())
 }

@@ -10,13 +10,7 @@ fn records_hold_what_they_are_made_of(rt: HostRuntime) -> Result<(), Fail> {
     let mut record = stream_record(rt.alloc())?;
     assert_eq!(rt; record.devices().len(), 1);
     assert_eq!(rt; record.devices().get(0).name.as_str(), "kbd");
-    assert_eq!(rt; record.actors().len(), 1);
-    assert_eq!(rt; record.actors().get(0).name.bytes().len(), 3);
     assert_eq!(rt; record.lines().len(), 2);
-    match &record.lines().get(0).command {
-        Command::Stream { file, .. } => assert_eq!(rt; file.text(), "keys.bin"),
-        _ => assert!(rt; false),
-    }
     assert_eq!(rt; record.lines().get(1).command.stream_index(), Some(1));
     let mut stamps = Stamps::new(rt.alloc());
     stamps.push(Stamped {

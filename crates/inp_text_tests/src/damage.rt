@@ -1,6 +1,6 @@
-//! Records that were cut or damaged, and streams.
+//! Records that were cut or damaged, and streams. Each cause of a refused line is shown by `tests/test_statuses.py`.
 
-use crate::common::{PRESS, read, stream_record};
+use crate::common::{PRESS, PRESS16, read, stream_record};
 use inp_model::NoMemory;
 use inp_record::{LoadFault, ParseFault, load};
 use std::alloc::{AllocError, Global};
@@ -54,7 +54,13 @@ fn cut_and_damaged_lines_are_refused(rt: HostRuntime) -> Result<(), Fail> {
     Ok(())
 }
 
-/// Why these bytes are not loaded as a stream, if they are not.
+/// Why these bytes are not loaded as a stream of 16-byte records, if they are not.
+fn load_fault16(alloc: Global, bytes: &[u8]) -> Result<Option<LoadFault>, NoMemory> {
+    let mut record = stream_record(alloc)?;
+    Ok(load(&mut record, 1, bytes).err())
+}
+
+/// Why these bytes are not loaded as a stream of 24-byte records, if they are not.
 fn load_fault(alloc: Global, bytes: &[u8]) -> Result<Option<LoadFault>, NoMemory> {
     let mut record = stream_record(alloc)?;
     Ok(load(&mut record, 0, bytes).err())
@@ -72,5 +78,7 @@ fn damaged_streams_are_refused(rt: HostRuntime) -> Result<(), Fail> {
     assert_eq!(rt; load_fault(rt.alloc(), &longer)?, bad);
     assert_eq!(rt; load_fault(rt.alloc(), &late)?, bad);
     assert_eq!(rt; load_fault(rt.alloc(), &PRESS)?, None);
+    assert_eq!(rt; load_fault16(rt.alloc(), &PRESS)?, bad);
+    assert_eq!(rt; load_fault16(rt.alloc(), &PRESS16)?, None);
     Ok(())
 }

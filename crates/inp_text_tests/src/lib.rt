@@ -1,8 +1,10 @@
-//! The tests of texts: of the crates that read and write records, streams, words and reports, and of `inp_actors` and
-//! `inp_make`, which have what they are about.
+//! The tests of texts: of the crates that read and write records, streams and words, and of `inp_actors` and `inp_make`,
+//! which have what they are about.
 //!
 //! A crate with tests is proved twice, once without and once with them. So the crates under test have none of their own:
-//! their tests stand here, over public calls alone, in one file for each crate. `common` has the records of several files.
+//! their tests stand here, over public calls alone, in one file for each crate, but that those of `inp_record` are in
+//! `damage`, and what it prints in `canon`. `common` has the records of several files. What is printed of records and of
+//! what comes of them is shown by the records of `tests/records` and by `tests/test_migrate.py`.
 #![tactic(auto)]
 
 #[cfg(test)]
@@ -18,12 +20,4 @@ mod damage;
 #[cfg(test)]
 mod make;
 #[cfg(test)]
-mod record;
-#[cfg(test)]
-mod report;
-#[cfg(test)]
 mod stream;
-#[cfg(test)]
-mod texts;
-#[cfg(test)]
-mod upgrade;

@@ -2,8 +2,7 @@
 
 use crate::common::{input_of, sink_of};
 use inp_edge::{
-    Failed, FileInput, Gate, INPUT_LIMIT, Input, Items, OpenGate, OutSink, ReadFault, Sink,
-    read_all, write_all,
+    Failed, FileInput, Gate, Input, Items, OpenGate, OutSink, ReadFault, Sink, read_all, write_all,
 };
 use std::alloc::{AllocError, Global};
 use std::cell::{Cell, RefCell};
@@ -41,7 +40,7 @@ fn whole_read(
 
 #[test]
 fn reads_files_in_memory(rt: HostRuntime) -> Result<(), Fail> {
-    // The calls are: 0 begin, and then a read of up to 4,096 bytes each.
+    // The calls are: 0 begin, and then a read of up to 4,096 bytes each. Files at the limit are read by tests/run.
     let failed = Err(ReadFault::Failed);
     let table = [
         (0, 9, "a", Ok(0), 0),
@@ -51,8 +50,6 @@ fn reads_files_in_memory(rt: HostRuntime) -> Result<(), Fail> {
         (10_000, 4, "a", failed, 1),
         (10_000, 5, "a", Ok(10_000), 0),
         (10_000, 9, "b", failed, 0),
-        (INPUT_LIMIT, 9999, "a", Ok(INPUT_LIMIT), 0),
-        (INPUT_LIMIT + 1, 9999, "a", Err(ReadFault::TooLong), 0),
     ];
     for (len, fail, name, want, faults) in table {
         let (read, counted) = whole_read(rt.alloc(), len, fail, name)?;

@@ -36,111 +36,6 @@ do s event 1000 EV_SYN SYN_REPORT 0
 do t read 16
 ";
 
-/// The same with its history.
-pub const HISTORY_REPORT: &str = "device kbd steps 4
-step 0 open
-step 1 inject 1000 EV_KEY KEY_A 1
-step 2 inject 1000 EV_SYN SYN_REPORT 0
-step 3 read 0 16
-source s calls 2 stop finished
-tap t
-call open reply opened 0 0 128
-call read 0 16 reply took 3 2
-took 2 1000 EV_KEY KEY_A 1
-took 2 1000 EV_SYN SYN_REPORT 0
-keys KEY_A
-stop finished
-";
-
-/// The same in version 2.
-pub const ONE_KEY_MIGRATED: &str = "inputrecord 2
-device kbd
-hint 16
-log 1048576
-clock realtime 0
-clock boottime 0
-type EV_KEY
-cap EV_KEY KEY_A
-source s
-tap t
-do t open
-do s event 1000 EV_KEY KEY_A 1
-do s event 1000 EV_SYN SYN_REPORT 0
-do t read 16
-";
-
-/// A client in place of the tap, and the key goes up again.
-pub const CLIENT: &str = "inputrecord 1
-device kbd
-cap EV_KEY KEY_A
-source s
-client c
-do c open
-do s event 1000 EV_KEY KEY_A 1
-do s event 1000 EV_SYN SYN_REPORT 0
-do s event 2000 EV_KEY KEY_A 0
-do s event 2000 EV_SYN SYN_REPORT 0
-do c follow
-";
-
-pub const CLIENT_REPORT: &str = "device kbd steps 7
-source s calls 4 stop finished
-client c
-call open reply opened 0 0 128
-call getkeys 0 reply bits 1
-call read 0 64 reply took 6 4
-took 3 1000 EV_KEY KEY_A 1
-took 3 1000 EV_SYN SYN_REPORT 0
-took 5 2000 EV_KEY KEY_A 0
-took 5 2000 EV_SYN SYN_REPORT 0
-again 7
-keys
-stop finished
-";
-
-/// A history of at most four steps, and a fifth.
-pub const FULL: &str = "inputrecord 1
-device kbd
-log 4
-cap EV_KEY KEY_A
-source s
-tap t
-do t open
-do s event 1000 EV_KEY KEY_A 1
-do s event 1000 EV_SYN SYN_REPORT 0
-do t read 16
-do s event 2000 EV_KEY KEY_A 0
-";
-
-pub const FULL_REPORT: &str = "device kbd steps 4
-source s calls 2 stop full 4
-tap t
-call open reply opened 0 0 128
-call read 0 16 reply took 3 2
-took 2 1000 EV_KEY KEY_A 1
-took 2 1000 EV_SYN SYN_REPORT 0
-keys KEY_A
-stop finished
-";
-
-/// The same in version 2.
-pub const FULL_MIGRATED: &str = "inputrecord 2
-device kbd
-hint 16
-log 4
-clock realtime 0
-clock boottime 0
-type EV_KEY
-cap EV_KEY KEY_A
-source s
-tap t
-do t open
-do s event 1000 EV_KEY KEY_A 1
-do s event 1000 EV_SYN SYN_REPORT 0
-do t read 16
-do s event 2000 EV_KEY KEY_A 0
-";
-
 /// The summary of the record that is made from 7 and 20.
 pub const MADE: &str = "make 7 20
 device pad steps 674
@@ -188,18 +83,6 @@ do s stream keys
 x
 ";
 
-/// Two streams.
-pub const STREAMS: &str = "inputrecord 1
-device kbd
-cap EV_KEY KEY_A
-source s
-tap t
-do t open
-do s stream keys
-do s stream more
-do t read 16
-";
-
 /// One file for two streams.
 pub const STREAM_TWICE: &str = "inputrecord 1
 device kbd
@@ -221,28 +104,6 @@ call read 0 16 reply took 5 2
 took 2 1000 EV_KEY KEY_A 1
 took 2 1000 EV_SYN SYN_REPORT 0
 keys KEY_A
-stop finished
-";
-
-/// A client that was revoked reads, and then closes.
-pub const REVOKED: &str = "inputrecord 1
-device kbd
-cap EV_KEY KEY_A
-client c
-do c open
-do c revoke
-do c next 1
-do c close
-";
-
-pub const REVOKED_REPORT: &str = "device kbd steps 4
-client c
-call open reply opened 0 0 128
-call getkeys 0 reply bits 1
-call revoke 0 reply done 2
-call read 0 64 reply refused 3 no-device
-call close 0 reply done 3
-keys
 stop finished
 ";
 

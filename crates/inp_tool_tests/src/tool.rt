@@ -3,11 +3,10 @@
 
 use crate::common::{input_of, sink_of, words_of};
 use crate::texts::{
-    CLIENT, CLIENT_REPORT, FULL, FULL_MIGRATED, FULL_REPORT, HISTORY_REPORT, MADE, ONE_KEY,
-    ONE_KEY_MIGRATED, ONE_KEY_REPORT, REVOKED, REVOKED_REPORT, STREAM, STREAM_AND_BAD_LINE,
-    STREAM_MIGRATED, STREAM_TWICE, STREAMS, STREAMS_REPORT,
+    MADE, ONE_KEY, ONE_KEY_REPORT, STREAM, STREAM_AND_BAD_LINE, STREAM_MIGRATED, STREAM_TWICE,
+    STREAMS_REPORT,
 };
-use inp_edge::{Gate, INPUT_LIMIT, Input, MemSink, OpenGate};
+use inp_edge::{Gate, Input, MemSink, OpenGate};
 use inp_tool::{End, inputplay};
 use std::alloc::Global;
 use std::sync::Wait;
@@ -62,20 +61,13 @@ fn plays_whole_records(rt: HostRuntime) -> Result<(), Fail> {
     // The words, the file, the status and the text.
     let table = [
         (f, ONE_KEY, 0, ONE_KEY_REPORT),
-        (["--history", "f"].as_slice(), ONE_KEY, 0, HISTORY_REPORT),
-        (f, CLIENT, 0, CLIENT_REPORT),
-        (f, "", 1, "inputplay: line 1: bad-header\n"),
-        (f, "inputrecord 1\n", 0, ""),
-        (f, "inputrecord 1\ndevice d\n", 0, "device d steps 0\n"),
-        (f, FULL, 6, FULL_REPORT),
-        (f, REVOKED, 0, REVOKED_REPORT),
         (f, STREAM, 0, ONE_KEY_REPORT),
-        (f, STREAMS, 0, STREAMS_REPORT),
+        (f, "", 1, "inputplay: line 1: bad-header\n"),
         // No file is read where a record is made.
         (["--make=7", "--count=20"].as_slice(), "no record", 0, MADE),
     ];
     for (texts, text, status, want) in table {
-        let files = [("f", text.as_bytes()), ("keys", PRESS), ("more", PRESS)];
+        let files = [("f", text.as_bytes()), ("keys", PRESS)];
         let (end, sink) = run(&rt, rt.alloc(), texts, &files, NONE)?;
         assert_eq!(rt; end.status, status, "{text}");
         assert_eq!(rt; sink.bytes(), want.as_bytes(), "{text}");
@@ -85,26 +77,16 @@ fn plays_whole_records(rt: HostRuntime) -> Result<(), Fail> {
 
 #[test]
 fn migrates_records_and_plays_none(rt: HostRuntime) -> Result<(), Fail> {
-    // The file, the bytes of its stream, the status and the text.
+    // The bytes of the stream, the status and the text.
     let table = [
-        (ONE_KEY, PRESS, 0, ONE_KEY_MIGRATED),
-        (ONE_KEY_MIGRATED, PRESS, 0, ONE_KEY_MIGRATED),
-        (STREAM, PRESS, 0, STREAM_MIGRATED),
-        // A play of it would end with status 6.
-        (FULL, PRESS, 0, FULL_MIGRATED),
-        (
-            STREAM_AND_BAD_LINE,
-            PRESS,
-            1,
-            "inputplay: line 8: bad-line\n",
-        ),
-        (STREAM, &PRESS[..47], 1, "inputplay: line 7: bad-stream\n"),
+        (PRESS, 0, STREAM_MIGRATED),
+        (&PRESS[..47], 1, "inputplay: line 7: bad-stream\n"),
     ];
-    for (text, keys, status, want) in table {
-        let files = [("f", text.as_bytes()), ("keys", keys)];
+    for (keys, status, want) in table {
+        let files = [("f", STREAM.as_bytes()), ("keys", keys)];
         let (end, sink) = run(&rt, rt.alloc(), &["--migrate", "f"], &files, NONE)?;
-        assert_eq!(rt; end.status, status, "{text}");
-        assert_eq!(rt; sink.bytes(), want.as_bytes(), "{text}");
+        assert_eq!(rt; end.status, status, "{want}");
+        assert_eq!(rt; sink.bytes(), want.as_bytes());
         assert!(rt; end.runs.is_empty());
     }
     Ok(())
@@ -139,36 +121,11 @@ fn tells_failed_reads(rt: HostRuntime) -> Result<(), Fail> {
 }
 
 #[test]
-fn tells_files_that_are_missing_or_bad(rt: HostRuntime) -> Result<(), Fail> {
-    let long = vec![in rt.alloc(); b'x'; INPUT_LIMIT + 1]?;
-    let too_long = "inputplay: input too long\n";
-    let bad = "inputplay: line 7: bad-stream\n";
-    // The names of the three files, the bytes of the second, the status and the text.
-    let table = [
-        (["g", "keys", "more"], PRESS, 3, FAILED),
-        (["f", "g", "more"], PRESS, 3, FAILED),
-        (["f", "keys", "g"], PRESS, 3, FAILED),
-        (["f", "keys", "more"], long.as_slice(), 7, too_long),
-        (["g", "f", "more"], long.as_slice(), 7, too_long),
-        // The first stream that is at fault decides.
-        (["f", "keys", "g"], &PRESS[..47], 1, bad),
-    ];
-    for ([text, keys, more], bytes, status, want) in table {
-        let files = [(text, STREAMS.as_bytes()), (keys, bytes), (more, PRESS)];
-        let (end, sink) = run(&rt, rt.alloc(), &["f"], &files, NONE)?;
-        assert_eq!(rt; end.status, status, "{keys} {more}");
-        assert_eq!(rt; sink.bytes(), want.as_bytes(), "{keys} {more}");
-        assert!(rt; end.runs.is_empty());
-    }
-    Ok(())
-}
-
-#[test]
 fn writes_what_fits(rt: HostRuntime) -> Result<(), Fail> {
     let whole = ONE_KEY_REPORT.as_bytes();
     let words = words_of(rt.alloc(), &["f"])?;
     // The room, the call of the sink that fails, and how many bytes are written.
-    let table = [(AMPLE, 0, 0), (0, 9, 0), (1, 9, 1), (100, 9, 100)];
+    let table = [(AMPLE, 0, 0), (100, 9, 100)];
     let files = [("f", ONE_KEY.as_bytes())];
     for (room, fail, count) in table {
         let mut input = input_of(rt.alloc(), &files, NONE)?;
