@@ -141,6 +141,15 @@ Unpromised = first
 """,
 }
 
+# A definition that looks at what a type keeps.
+LOOKING_INSIDE = """\
+-- What is promised.
+use Rattle.low.specs.declared.kept.Kept.TheInside.{Inside}
+
+abbrev pub Promise : Inside
+Promise = Inside
+"""
+
 # Lines, lines with comments, and the names, worked out by hand.
 WANTED = """\
      2      3  low/specs/Seen.antt  Seen
@@ -180,13 +189,7 @@ class Believed(FolderCase):
         self.assertNotIn("FIRST", self.small().stdout)
 
     def test_a_definition_that_looks_inside_a_type(self):
-        self.write("crates/high/specs/Promise.antt", """\
--- What is promised.
-use Rattle.low.specs.declared.kept.Kept.TheInside.{Inside}
-
-abbrev pub Promise : Inside
-Promise = Inside
-""")
+        self.write("crates/high/specs/Promise.antt", LOOKING_INSIDE)
         self.assertIn("low/src/color.rt  LAST Unnamed\n", self.small().stdout)
 
     def test_page(self):
@@ -200,8 +203,8 @@ Promise = Inside
         self.write("docs/PROMISES.md", "Page\n")
         self.rename_to_top_call()
         came = self.small("--write")
-        self.assertEqual((2, "", "bench/believed: docs/PROMISES.md has not both marks of what is written there\n"),
-                         (came.returncode, came.stdout, came.stderr))
+        line = "bench/believed: docs/PROMISES.md has not both marks of what is written there\n"
+        self.assertEqual((2, "", line), (came.returncode, came.stdout, came.stderr))
         marks = re.findall(r"^<!-- .* -->$", (TOP / "docs" / "PROMISES.md").read_text(), re.M)
         self.write("docs/PROMISES.md", "\n".join(["Page", marks[0], "old", marks[1], "end"]))
         self.assertEqual(0, self.small("--write").returncode)

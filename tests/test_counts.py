@@ -116,10 +116,8 @@ class Counts(FolderCase):
         page = self.folder / "docs" / "TESTING.md"
         self.write("docs/TESTING.md", "Page\n")
         came = self.small("--write")
-        self.assertEqual(
-            (2, "", "bench/counts: docs/TESTING.md has not both marks of what is written there\n"),
-            (came.returncode, came.stdout, came.stderr),
-        )
+        line = "bench/counts: docs/TESTING.md has not both marks of what is written there\n"
+        self.assertEqual((2, "", line), (came.returncode, came.stdout, came.stderr))
         marks = re.findall(r"^<!-- .* -->$", (TOP / "docs" / "TESTING.md").read_text(), re.M)
         self.write("docs/TESTING.md", "\n".join(["Page", marks[0], "old", marks[1], "end"]))
         self.assertEqual(0, self.small("--write").returncode)

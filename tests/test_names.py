@@ -30,7 +30,7 @@ def given():
     for crate in repository.crates:
         for path in repository.paths(crate, "specs", "antt") + repository.paths(crate, "src", "rt"):
             file = repository.file(crate, path)
-            module = names.setdefault(path.rsplit("/", 1)[-1].removesuffix(".antt"), set())
+            module = names.setdefault(path.rsplit("/", 1)[-1].replace(".antt", ""), set())
             module.add("antt")
             for name, item in file.items.items():
                 module.update([name, *item.variants])
