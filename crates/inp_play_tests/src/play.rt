@@ -64,9 +64,12 @@ fn lines_are_done_in_file_order(rt: HostRuntime) -> Result<(), Fail> {
     assert_eq!(rt; runs.len(), 2);
     assert_eq!(rt; runs.get(0).history.len(), 1);
     let right = runs.get(1);
+    assert_eq!(rt; right.history.len(), 2);
     assert_eq!(rt; *right.history.get(0), Step::Open);
+    assert_eq!(rt; right.jobs.len(), 2);
     let tap = right.jobs.get(0);
     assert_eq!(rt; *tap.stop(), Stop::Finished);
+    assert_eq!(rt; tap.sight().len(), 2);
     assert!(rt; matches!(tap.sight().get(1), Sight::Again { at: 2, ends: 0 }));
     Ok(())
 }

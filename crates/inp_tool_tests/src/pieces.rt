@@ -4,7 +4,7 @@ ghost use Rattle.std.specs.Prelude.{◌≤◌};
 use crate::common::{fails_of, files_of, words_of};
 use crate::texts::{COMMENT, ONE_KEY, ONE_KEY_REPORT};
 use crate::tool::{AMPLE, FAILED, call};
-use inp_edge::{MemInput, MemSink};
+use inp_edge::{MemInput, MemSink, OpenGate};
 use inp_tool::End;
 use std::alloc::Global;
 use std::sync::Wait;
@@ -27,7 +27,7 @@ fn run<R: Threads + Wait + Sync>(
     let files = files_of(alloc, &[("f", text)])?;
     let mut input = MemInput::in_pieces(files, fails_of(alloc, &[fail])?, piece);
     let mut sink = MemSink::in_pieces(alloc, room, fails_of(alloc, &[])?, piece)?;
-    let end = call(rt, alloc, &words, &mut input, &mut sink);
+    let end = call(rt, alloc, &words, &mut input, &mut sink, &OpenGate);
     Ok((end, sink))
 }
 
@@ -66,11 +66,12 @@ fn the_front_that_has_room_is_written(rt: HostRuntime) -> Result<(), Fail> {
     let whole = ONE_KEY_REPORT.as_bytes();
     for room in 0..whole.len() {
         let (end, sink) = run(&rt, rt.alloc(), ONE_KEY.as_bytes(), 7, NEVER, room)?;
-        assert_eq!(rt; end.status, 4, "{room}");
+        assert_eq!(rt; (end.status, end.runs.len()), (4, 1), "{room}");
         assert_eq!(rt; sink.bytes(), &whole[..room]);
     }
-    // A record that is refused.
-    let (end, sink) = run(&rt, rt.alloc(), b"device d\n", 7, NEVER, 0)?;
-    assert_eq!(rt; (end.status, sink.bytes().len()), (4, 0));
+    // A record that is refused leaves no runs.
+    let (end, sink) = run(&rt, rt.alloc(), b"device d\n", 7, NEVER, 3)?;
+    assert_eq!(rt; (end.status, end.runs.len()), (4, 0));
+    assert_eq!(rt; sink.bytes(), b"inp".as_slice());
     Ok(())
 }

@@ -2,8 +2,8 @@
 
 use crate::common::{input_of, sink_of, words_of};
 use crate::texts::{ALONE, ALONE_REPORT, TWO_TAPS};
+use crate::tool::call;
 use inp_edge::{Gate, OpenGate};
-use inp_tool::inputplay;
 use std::sync::atomic::{AtomicU64, Ordering};
 use std::test::Fail;
 
@@ -53,7 +53,7 @@ fn jobs_run_side_by_side(rt: HostRuntime) -> Result<(), Fail> {
         second: AtomicU64::new(0),
         gave_up: AtomicU64::new(0),
     };
-    let end = inputplay(&rt, rt.alloc(), &words, &mut input, &mut sink, &meeting);
+    let end = call(&rt, rt.alloc(), &words, &mut input, &mut sink, &meeting);
     assert_eq!(rt; end.status, 0);
     assert_eq!(rt;
         meeting.gave_up.load(Ordering::SeqCst),
@@ -68,7 +68,7 @@ fn a_source_says_that_it_is_done(rt: HostRuntime) -> Result<(), Fail> {
     let words = words_of(rt.alloc(), &["--threads", "f"])?;
     let mut input = input_of(rt.alloc(), &[("f", ALONE.as_bytes())], &[])?;
     let mut sink = sink_of(rt.alloc(), 1000, &[])?;
-    let end = inputplay(&rt, rt.alloc(), &words, &mut input, &mut sink, &OpenGate);
+    let end = call(&rt, rt.alloc(), &words, &mut input, &mut sink, &OpenGate);
     assert_eq!(rt; end.status, 0);
     assert_eq!(rt; sink.bytes(), ALONE_REPORT.as_bytes());
     Ok(())

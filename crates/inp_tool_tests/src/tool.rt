@@ -30,14 +30,15 @@ const PRESS: &[u8] = &[
 ];
 
 /// The call, without what its contract says: these tests look at what it does.
-pub fn call<R: Threads + Wait + Sync, I: Input>(
+pub fn call<R: Threads + Wait + Sync, I: Input, G: Gate>(
     rt: &R,
     alloc: Global,
     words: &[String],
     input: &mut I,
     sink: &mut MemSink,
+    gate: &G,
 ) -> End {
-    inputplay(rt, alloc, words, input, sink, &OpenGate)
+    inputplay(rt, alloc, words, input, sink, gate)
 }
 
 /// The end of a call of these words over these files, and what it wrote.
@@ -51,7 +52,7 @@ fn run<R: Threads + Wait + Sync>(
     let words = words_of(alloc, texts)?;
     let mut input = input_of(alloc, files, fails)?;
     let mut sink = sink_of(alloc, AMPLE, NONE)?;
-    let end = call(rt, alloc, &words, &mut input, &mut sink);
+    let end = call(rt, alloc, &words, &mut input, &mut sink, &OpenGate);
     Ok((end, sink))
 }
 
@@ -94,12 +95,8 @@ fn migrates_records_and_plays_none(rt: HostRuntime) -> Result<(), Fail> {
 
 #[test]
 fn tells_failed_reads(rt: HostRuntime) -> Result<(), Fail> {
-    // The file, the call of the input that fails, the status and the text.
+    // The file, the call of the input that fails, the status and the text. Each read of a record fails in `pieces`.
     let table = [
-        (ONE_KEY, 0, 3, FAILED),
-        (ONE_KEY, 1, 3, FAILED),
-        (ONE_KEY, 2, 3, FAILED),
-        (ONE_KEY, 3, 0, ONE_KEY_REPORT),
         // The stream is read after the text.
         (STREAM, 3, 3, FAILED),
         (STREAM, 5, 3, FAILED),
@@ -117,31 +114,6 @@ fn tells_failed_reads(rt: HostRuntime) -> Result<(), Fail> {
         assert_eq!(rt; end.status, status, "{text}");
         assert_eq!(rt; sink.bytes(), want.as_bytes(), "{text}");
     }
-    Ok(())
-}
-
-#[test]
-fn writes_what_fits(rt: HostRuntime) -> Result<(), Fail> {
-    let whole = ONE_KEY_REPORT.as_bytes();
-    let words = words_of(rt.alloc(), &["f"])?;
-    // The room, the call of the sink that fails, and how many bytes are written.
-    let table = [(AMPLE, 0, 0), (100, 9, 100)];
-    let files = [("f", ONE_KEY.as_bytes())];
-    for (room, fail, count) in table {
-        let mut input = input_of(rt.alloc(), &files, NONE)?;
-        let mut sink = sink_of(rt.alloc(), room, &[fail])?;
-        let end = call(&rt, rt.alloc(), &words, &mut input, &mut sink);
-        assert_eq!(rt; end.status, 4);
-        assert_eq!(rt; sink.bytes(), &whole[..count]);
-        assert_eq!(rt; end.runs.len(), 1);
-    }
-    // A fault's text that is cut off leaves no runs.
-    let mut input = input_of(rt.alloc(), &[], NONE)?;
-    let mut sink = sink_of(rt.alloc(), 3, NONE)?;
-    let end = call(&rt, rt.alloc(), &words, &mut input, &mut sink);
-    assert_eq!(rt; end.status, 4);
-    assert_eq!(rt; sink.bytes(), b"inp".as_slice());
-    assert!(rt; end.runs.is_empty());
     Ok(())
 }
 
@@ -169,7 +141,7 @@ fn passes_no_gate_on_one_thread(rt: HostRuntime) -> Result<(), Fail> {
         calls: AtomicU64::new(0),
     };
     gate.before(0, 0);
-    let end = inputplay(&rt, rt.alloc(), &words, &mut input, &mut sink, &gate);
+    let end = call(&rt, rt.alloc(), &words, &mut input, &mut sink, &gate);
     assert_eq!(rt; end.status, 0);
     assert_eq!(rt; sink.bytes(), ONE_KEY_REPORT.as_bytes());
     assert_eq!(rt;
