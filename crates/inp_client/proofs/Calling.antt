@@ -1,13 +1,11 @@
 -- What a call on one client leaves of all that is kept.
-use Rattle.std.proofs.Common.{◌≡◌, ◌≢◌, ◌≤◌, ◌<◌, ℕ, zero, ◌+◌, Bool, true, false, ◌||◌, if◌then◌else◌, nat_eq, List, [], ◌∷◌, ◌++◌, length, map, drop, get_or, set, Contains, Option, Some, None, IsSome, refl, sym, ap, ◌∙◌, subst, inl, inr, arith}
-use Rattle.std.specs.Prelude.{All, sum_by}
+use Rattle.std.proofs.Common.{◌≡◌, ◌≢◌, ◌≤◌, ◌<◌, ℕ, ◌+◌, Bool, true, false, ◌||◌, if◌then◌else◌, nat_eq, List, [], ◌∷◌, length, map, get_or, set, Contains, Option, Some, None, IsSome, refl, sym, ap, ◌∙◌, subst, inl, inr, arith}
 use Rattle.std.specs.Option.{option_map_or, option_map}
 use Rattle.std.proofs.lemmas.Bool.{cases_lt}
 use Rattle.std.proofs.lemmas.List.Sums.{sum_by-set}
 use Rattle.std.proofs.lemmas.List.Elements.{All-drop, All-append, All-cons, All-nil, All-head, All-tail}
-use Rattle.slab.specs.Slab.{Slab, get, with_value}
+use Rattle.slab.specs.Slab.{get, with_value}
 use Rattle.inp_model.specs.declared.stamped.TheConstants.{MOMENT_MAX}
-use Rattle.inp_model.specs.declared.event.Event.{Event}
 use Rattle.inp_model.specs.declared.taken.Taken.{Taken}
 use Rattle.inp_model.specs.declared.clock.Clock.{Clock}
 use Rattle.inp_model.specs.Description.{Description, offset}
@@ -17,11 +15,11 @@ use Rattle.inp_model.specs.Queue.{stays, flush_behind, is_same_clock, clock_chan
 use Rattle.inp_ring.specs.declared.cell.Cell.{Cell}
 use Rattle.inp_ring.specs.declared.cell.Held.{Held}
 use Rattle.inp_ring.specs.Store.{StoreView, entry, holders, holders_of, event_of, taken_of, HasCell, IsIdle, IsIdleSlot}
-use Rattle.inp_ring.specs.Ring.{times, cell_at, AreFit, AreHeld, IsRing}
-use Rattle.inp_ring.proofs.Moves.{moved_none, held_there}
+use Rattle.inp_ring.specs.Ring.{cell_at, AreFit, AreHeld, IsRing}
+use Rattle.inp_ring.proofs.Moves.{moved_none}
 use Rattle.inp_client.specs.declared.clients.Clients.TheInside.{Inside}
-use Rattle.inp_client.specs.Client.{ClientView, new_client, with_events, cell_of_event, after_take, after_flush, after_mask, after_clock, after_revoke}
-use Rattle.inp_client.specs.Clients.{ClientsView, has_number, has_client, client_named, events_of, has_revoked_client, map_client}
+use Rattle.inp_client.specs.Client.{ClientView, new_client, cell_of_event, after_take, after_flush, after_mask, after_clock, after_revoke}
+use Rattle.inp_client.specs.Clients.{ClientsView, has_client, client_named, events_of, has_revoked_client, map_client}
 use Rattle.inp_client.specs.Read.{client_on, clients_on}
 use Rattle.inp_client.specs.Member.{Member, ring_of, client_in, cells_in, times_in, wanted, AreStored, IsWritten}
 use Rattle.inp_client.specs.Locations.{client_at, clients_in}

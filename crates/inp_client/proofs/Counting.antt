@@ -1,12 +1,12 @@
 -- How many cells a store has, by the numbers that name them.
-use Rattle.std.proofs.Common.{◌≡◌, ◌≢◌, ◌≤◌, ◌<◌, ℕ, zero, suc, ◌+◌, ◌*◌, Bool, true, false, cond, if◌then◌else◌, nat_eq, nat_lt, List, [], ◌∷◌, ◌++◌, length, map, get_or, Option, Some, None, is_some, IsSome, refl, sym, ap, ◌∙◌, inl, inr, arith}
-use Rattle.std.specs.Prelude.{count_by, sum_by, All, flat_map}
+use Rattle.std.proofs.Common.{◌≡◌, ◌≤◌, ◌<◌, ℕ, zero, suc, ◌+◌, ◌*◌, cond, if◌then◌else◌, nat_lt, List, [], ◌∷◌, length, get_or, Option, Some, None, is_some, IsSome, refl, sym, ap, inl, inr, arith}
+use Rattle.std.specs.Prelude.{count_by, sum_by, All}
 use Rattle.std.proofs.lemmas.Bool.{cases_eq, cases_lt, lt-ltb, le-ltb}
 use Rattle.std.proofs.lemmas.List.{get_or_past, length-append}
 use Rattle.std.proofs.lemmas.List.Sums.{sum_by-cons}
 use Rattle.std.proofs.lemmas.List.Elements.{All-head, All-tail}
 use Rattle.inp_ring.specs.declared.cell.Held.{Held}
-use Rattle.inp_ring.specs.Store.{StoreView, entry, cell_count, holders, HasCell}
+use Rattle.inp_ring.specs.Store.{StoreView, entry, cell_count, HasCell}
 use Rattle.inp_ring.specs.Ring.{times, AreDifferent, IsRing}
 use Rattle.inp_ring.proofs.Times.{once, once_same, once_other, times-append}
 use Rattle.inp_client.specs.Clients.{distinct}

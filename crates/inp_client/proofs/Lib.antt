@@ -11,3 +11,4 @@ pub mod Calling
 pub mod Offers
 pub mod Opening
 pub mod Stored
+pub mod Runs

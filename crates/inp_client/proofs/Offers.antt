@@ -1,26 +1,26 @@
 -- A frame is offered event by event.
-use Rattle.std.proofs.Common.{◌≡◌, ◌≢◌, ◌≤◌, ◌<◌, ℕ, zero, suc, ◌+◌, Bool, true, false, ◌&&◌, if◌then◌else◌, nat_eq, List, [], ◌∷◌, ◌++◌, length, map, drop, get_or, Option, Some, None, IsSome, refl, sym, ap, ◌∙◌, subst, inl, inr, arith}
+use Rattle.std.proofs.Common.{◌≡◌, ◌≤◌, ◌<◌, ℕ, ◌+◌, Bool, true, false, ◌&&◌, if◌then◌else◌, List, [], ◌∷◌, length, map, drop, get_or, Option, Some, None, refl, sym, ap, ◌∙◌, subst, inl, inr, arith}
 use Rattle.std.specs.Prelude.{filter}
-use Rattle.std.proofs.lemmas.Bool.{cases_eq, cases_lt, cond-true, cond-false}
-use Rattle.std.proofs.lemmas.List.{drop_more, drop_all, map-id}
+use Rattle.std.proofs.lemmas.Bool.{cases_eq, cond-true, cond-false}
+use Rattle.std.proofs.lemmas.List.{drop_more, drop_all}
 use Rattle.slab.specs.Slab.{Slab}
 use Rattle.inp_model.specs.declared.event.Event.{Event}
 use Rattle.inp_model.specs.Queue.{put, put_all}
 use Rattle.inp_ring.specs.declared.cell.Cell.{Cell}
 use Rattle.inp_ring.specs.declared.cell.Held.{Held}
-use Rattle.inp_ring.specs.Store.{StoreView, entry, cell_in, cell_of, holders, holders_of, cell_count, held_by, held_more, event_of, dropped_at, HasCell, IsIdle, IsIdleSlot, IsPut}
+use Rattle.inp_ring.specs.Store.{StoreView, entry, cell_in, cell_of, holders, holders_of, cell_count, held_by, held_more, event_of, dropped_at, IsIdle, IsIdleSlot, IsPut}
 use Rattle.inp_ring.proofs.Moves.{idle_none}
 use Rattle.inp_client.specs.declared.location.Location.{Location}
 use Rattle.inp_client.specs.Masks.{admits_of}
-use Rattle.inp_client.specs.Client.{ClientView, with_events, is_offered_to, cell_of_event, admitted_cells, after_offer}
+use Rattle.inp_client.specs.Client.{ClientView, with_events, is_offered_to, cell_of_event, after_offer}
 use Rattle.inp_client.specs.Member.{Member, cells_in, times_in, wanted, after_event, AreStored}
 use Rattle.inp_client.specs.Locations.{clients_in}
-use Rattle.inp_client.specs.Offered.{AreShared, IsEnteredTo, owing}
+use Rattle.inp_client.specs.Offered.{AreShared, IsEnteredTo}
 use Rattle.inp_client.proofs.Lists.{map_over}
 use Rattle.inp_client.proofs.Sharing.{stored_stays, cells_stay, spare_some}
 use Rattle.inp_client.proofs.Calling.{kept_known}
 use Rattle.inp_client.proofs.Locating.{members_long}
-use Rattle.inp_client.proofs.Offering.{owing_same, owing_other, entered_all}
+use Rattle.inp_client.proofs.Offering.{owing_same, owing_other}
 
 -- A new cell is in no ring.
 module _ {locations : List Location} {slab : Slab Member} {s after : StoreView} (shared : AreShared locations slab s) (number : ℕ) (cell : Cell) (new : entry s number ≡ None) (put : IsPut s after number (held_by 0 cell)) where

@@ -1,5 +1,5 @@
 -- What is said of cells, said of what clients read.
-use Rattle.std.proofs.Common.{◌≡◌, ℕ, suc, ◌+◌, Bool, true, false, ◌&&◌, ◌||◌, not, if◌then◌else◌, nat_eq, nat_lt, List, [], ◌∷◌, ◌++◌, length, map, drop, Option, Some, None, refl, sym, ap, ◌∙◌}
+use Rattle.std.proofs.Common.{◌≡◌, ℕ, suc, ◌+◌, Bool, true, false, ◌&&◌, ◌||◌, not, if◌then◌else◌, nat_eq, nat_lt, List, [], ◌∷◌, ◌++◌, length, map, Option, Some, None, refl, sym, ap, ◌∙◌}
 use Rattle.std.specs.Prelude.{filter}
 use Rattle.std.specs.Option.{option_map, option_map_or}
 use Rattle.std.proofs.lemmas.List.{length-map, map_push, drop-map}
@@ -15,7 +15,7 @@ use Rattle.inp_model.specs.Queue.{is_empty, ends_in_report, put, put_all, visibl
 use Rattle.inp_ring.specs.declared.cell.Cell.{Cell}
 use Rattle.inp_ring.specs.Store.{event_of, dropped_at, taken_of}
 use Rattle.inp_client.specs.Masks.{admits_of}
-use Rattle.inp_client.specs.Client.{ClientView, with_events, is_offered_to, new_client, cell_of_event, admitted_cells, after_offer, after_take, after_flush, after_mask, after_clock, after_revoke, map_events}
+use Rattle.inp_client.specs.Client.{ClientView, with_events, is_offered_to, cell_of_event, admitted_cells, after_offer, after_take, after_flush, after_clock}
 use Rattle.inp_client.specs.Clients.{has_number, has_client, client_named, has_revoked_client, events_of, map_client, with_client, without_client}
 use Rattle.inp_client.specs.Read.{taken_event, client_on, clients_on, taken_at, admitted_events, read_after_offer, read_after_clock}
 

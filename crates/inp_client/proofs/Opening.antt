@@ -1,16 +1,14 @@
 -- What an open and a close leave of all that is kept.
-use Rattle.std.proofs.Common.{◌≡◌, ◌≢◌, ◌≤◌, ◌<◌, ℕ, ◌+◌, ◌-◌, ◌*◌, List, [], ◌∷◌, length, map, get_or, Option, Some, None, refl, sym, ap, ◌∙◌, subst, arith}
-use Rattle.std.specs.Prelude.{All, sum_by}
+use Rattle.std.proofs.Common.{◌≡◌, ◌≢◌, ◌≤◌, ◌<◌, ℕ, ◌+◌, ◌-◌, ◌*◌, List, [], length, get_or, Some, None, refl, sym, ap, ◌∙◌, subst, arith}
 use Rattle.std.specs.List.{remove, insert}
 use Rattle.std.proofs.lemmas.List.Sums.{sum_by-remove, sum_by-insert, get_or-le-sum_by}
-use Rattle.slab.specs.Slab.{Slab, get, slab_len, Updates}
+use Rattle.slab.specs.Slab.{Slab, get, Updates}
 use Rattle.inp_model.specs.declared.limits.TheConstants.{CLIENTS_MAX}
-use Rattle.inp_ring.specs.declared.cell.Cell.{Cell}
 use Rattle.inp_ring.specs.Store.{StoreView, cell_count, IsIdle}
-use Rattle.inp_ring.specs.Ring.{times, AreHeld, AreDifferent, IsRing}
+use Rattle.inp_ring.specs.Ring.{times, AreHeld, IsRing}
 use Rattle.inp_client.specs.declared.clients.Clients.TheInside.{Inside}
 use Rattle.inp_client.specs.declared.location.Location.{Location}
-use Rattle.inp_client.specs.Client.{ClientView, new_client, with_events}
+use Rattle.inp_client.specs.Client.{new_client, with_events}
 use Rattle.inp_client.specs.Clients.{without_client, with_client}
 use Rattle.inp_client.specs.Member.{Member, ring_of, client_in, cells_in, wanted, AreStored, IsWritten}
 use Rattle.inp_client.specs.Locations.{client_at, clients_in, IsPlaceFor}

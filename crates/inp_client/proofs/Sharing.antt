@@ -1,23 +1,22 @@
 -- What a call on one client leaves of the store and of the others.
-use Rattle.std.proofs.Common.{◌≡◌, ◌≢◌, ◌≤◌, ◌<◌, ℕ, zero, suc, ◌+◌, ◌-◌, ◌*◌, Bool, true, false, if◌then◌else◌, nat_eq, List, [], ◌∷◌, ◌++◌, length, map, get_or, set, Option, Some, None, IsSome, refl, sym, ap, ◌∙◌, subst, inl, inr, arith}
+use Rattle.std.proofs.Common.{◌≡◌, ◌≢◌, ◌≤◌, ◌<◌, ℕ, zero, suc, ◌+◌, ◌-◌, if◌then◌else◌, nat_eq, List, [], ◌∷◌, length, map, get_or, set, Some, refl, sym, ap, ◌∙◌, subst, inl, inr, arith}
 use Rattle.std.specs.Prelude.{sum_by, All}
-use Rattle.std.specs.List.{find, filter, remove, insert, AllPairs, AllWithin}
-use Rattle.std.proofs.lemmas.Bool.{cases_eq, cases_lt, cases_order, eq-eqb, ne_eqb, cond-true, cond-false}
+use Rattle.std.specs.List.{remove, insert, AllWithin}
+use Rattle.std.proofs.lemmas.Bool.{cases_eq, cases_lt, eq-eqb, ne_eqb, cond-true, cond-false}
 use Rattle.std.proofs.lemmas.List.{length-set, length-map, get_or-map, get_or-set_same, get_or-set_other, same_lists}
 use Rattle.std.proofs.lemmas.List.Sums.{sum_by-set, sum_by-remove, sum_by-insert, get_or-le-sum_by}
 use Rattle.std.proofs.lemmas.List.Edits.{length-remove, get_or-remove_below, get_or-remove_above}
 use Rattle.std.proofs.lemmas.List.Elements.{All-get_or, All-set, All-from_get_or, All-head, All-tail, All-cons, All-nil}
 use Rattle.inp_model.specs.declared.stamped.TheConstants.{MOMENT_MAX}
 use Rattle.inp_ring.specs.declared.cell.Cell.{Cell}
-use Rattle.inp_ring.specs.Store.{StoreView, entry, cell_in, holders, cell_count, HasCell, IsIdle}
+use Rattle.inp_ring.specs.Store.{StoreView, cell_in, holders, cell_count, HasCell}
 use Rattle.inp_ring.specs.Ring.{times, cell_at, AreFit, AreHeld, IsRing, IsMoved}
 use Rattle.inp_ring.proofs.Times.{times_first}
-use Rattle.inp_ring.proofs.Moves.{idle_none, held_there}
 use Rattle.inp_ring.proofs.Rings.{queue_stays}
-use Rattle.inp_client.specs.Client.{ClientView, Queued, map_events}
-use Rattle.inp_client.specs.Clients.{has_number, map_client, without_client, with_client, client_named, has_client}
+use Rattle.inp_client.specs.Client.{ClientView}
+use Rattle.inp_client.specs.Clients.{has_number, map_client, without_client, with_client, client_named}
 use Rattle.inp_client.specs.Member.{Member, ring_of, client_in, cells_in, times_in, wanted, numbers_in, AreStored}
-use Rattle.inp_client.proofs.Lists.{map_over, map_same, find_at, one_removed, All-insert}
+use Rattle.inp_client.proofs.Lists.{map_same, find_at, one_removed, All-insert}
 use Rattle.inp_client.proofs.ClientLists.{map-insert}
 use Rattle.inp_client.proofs.Counting.{cells_few, times-numbers_in, numbers_fit}
 

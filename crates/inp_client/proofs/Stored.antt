@@ -1,11 +1,11 @@
 -- How many cells are kept.
-use Rattle.std.proofs.Common.{◌≡◌, ◌≤◌, ◌<◌, ℕ, ◌+◌, List, [], ◌∷◌, length, map, get_or, refl, sym, ap, ◌∙◌, arith}
+use Rattle.std.proofs.Common.{◌≡◌, ◌≤◌, ◌<◌, ℕ, List, [], ◌∷◌, length, get_or, refl, arith}
 use Rattle.std.specs.Prelude.{All, sum_by}
 use Rattle.std.proofs.lemmas.List.{length-map}
 use Rattle.std.proofs.lemmas.List.Sums.{sum_by-cons, get_or-le-sum_by}
 use Rattle.std.proofs.lemmas.List.Elements.{All-map, All-get_or}
 use Rattle.inp_ring.specs.declared.cell.Cell.{Cell}
-use Rattle.inp_ring.specs.Store.{StoreView, cell_count, HasCell}
+use Rattle.inp_ring.specs.Store.{cell_count, HasCell}
 use Rattle.inp_ring.specs.Ring.{times, cell_at, IsRing}
 use Rattle.inp_ring.proofs.Moves.{held_there}
 use Rattle.inp_client.specs.declared.clients.Clients.TheInside.{Inside}

@@ -1,5 +1,5 @@
 -- The list of the open clients, ascending by number, and the cells that they share.
-use Rattle.std.specs.Prelude.{ℕ, Bool, true, false, not, if◌then◌else◌, nat_eq, nat_lt, List, [], ◌∷◌, length, map, filter, Option}
+use Rattle.std.specs.Prelude.{ℕ, Bool, false, not, if◌then◌else◌, nat_eq, nat_lt, List, [], ◌∷◌, map, filter, Option}
 use Rattle.std.specs.List.{find, list_any}
 use Rattle.std.specs.Option.{option_map_or}
 use Rattle.inp_ring.specs.declared.cell.Cell.{Cell}

@@ -1,5 +1,5 @@
 -- A client as it is kept: its ring has numbers of cells, and a store has the cells.
-use Rattle.std.specs.Prelude.{◌≡◌, ◌≤◌, ◌+◌, ◌&&◌, if◌then◌else◌, ℕ, Bool, List, map, flat_map, sum_by, All, Option}
+use Rattle.std.specs.Prelude.{◌≡◌, ◌≤◌, ◌+◌, ◌&&◌, if◌then◌else◌, ℕ, List, map, flat_map, sum_by, All, Option}
 use Rattle.inp_model.specs.Queue.{put}
 use Rattle.inp_ring.specs.declared.cell.Cell.{Cell}
 use Rattle.inp_ring.specs.Store.{StoreView, holders, cell_count, event_of, dropped_at}

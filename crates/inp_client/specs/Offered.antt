@@ -1,11 +1,14 @@
 -- A frame is offered event by event: a cell for each, whose number comes into one ring after the other.
-use Rattle.std.specs.Prelude.{◌≡◌, ◌≤◌, ◌<◌, ◌+◌, ℕ, if◌then◌else◌, nat_eq, nat_lt, List, length, get_or, Option, Some}
+use Rattle.std.specs.Prelude.{◌≡◌, ◌≤◌, ◌<◌, ◌+◌, ◌&&◌, ◌++◌, ℕ, Bool, true, not, if◌then◌else◌, nat_eq, nat_lt, List, [], ◌∷◌, length, count_by, get_or, All, Option, None}
 use Rattle.slab.specs.Slab.{Slab}
 use Rattle.inp_ring.specs.declared.cell.Cell.{Cell}
-use Rattle.inp_ring.specs.Store.{StoreView, entry, held_by, IsIdle}
-use Rattle.inp_ring.specs.Ring.{times}
+use Rattle.inp_ring.specs.Store.{StoreView, entry, holders, cell_count, held_by, IsIdle}
+use Rattle.inp_ring.specs.Ring.{times, queue_in, AreDifferent}
 use Rattle.inp_client.specs.declared.location.Location.{Location}
-use Rattle.inp_client.specs.Client.{new_client}
+use Rattle.inp_model.specs.declared.event.Event.{Event}
+use Rattle.inp_model.specs.Event.{is_report}
+use Rattle.inp_client.specs.Masks.{full_masks}
+use Rattle.inp_client.specs.Client.{new_client, with_events, is_offered_to}
 use Rattle.inp_client.specs.Member.{Member, client_in, wanted, after_event, AreStored}
 use Rattle.inp_client.specs.Locations.{clients_in, AreLocated}
 
@@ -14,6 +17,42 @@ pub record AreShared (locations : List Location) (slab : Slab Member) (store : S
   pub located : AreLocated locations slab
   pub stored : AreStored store (clients_in locations slab) (λ n. 0)
   pub none_idle : (n : ℕ) → IsIdle store n → ⊥
+
+-- No report of a frame follows a report; where one is behind the frame, none stands first.
+abbrev pub are_reports_apart : Bool → List Event → Bool
+are_reports_apart behind [] = true
+are_reports_apart behind (e ∷ frame) = not (is_report e && behind) && are_reports_apart (is_report e) frame
+
+-- a client that is offered a frame of so many events admits them all, and has room for them
+abbrev pub TakesAll : Option ℕ → ℕ → Member → Type 0
+TakesAll holder count m = is_offered_to holder m ≡ true → (m.masks ≡ full_masks) × (length m.ring.events + count < m.ring.places)
+
+-- how many clients a frame is offered to
+abbrev pub takers_in : Option ℕ → List Member → ℕ
+takers_in holder ms = count_by (is_offered_to holder) ms
+
+-- A frame can be put in one run into the rings of the clients that it is offered to, which are so many.
+pub record IsRun (locations : List Location) (slab : Slab Member) (store : StoreView) (frame : List Event) (holder : Option ℕ) (takers : ℕ) : Type 0 where
+  pub short : length frame ≤ 16
+  pub spare : length frame ≤ store.spare
+  pub apart : are_reports_apart true frame ≡ true
+  pub some : 0 < takers
+  pub takers_are : takers ≡ takers_in holder (clients_in locations slab)
+  pub all : All (TakesAll holder (length frame)) (clients_in locations slab)
+
+-- cells were added, each with so many holders, under numbers that had none
+pub record AreAdded (old new : StoreView) (cells : List Cell) (count : ℕ) (numbers : List ℕ) : Type 0 where
+  pub long : length numbers ≡ length cells
+  pub fresh : (n : ℕ) → 1 ≤ times n numbers → entry old n ≡ None
+  pub different : AreDifferent numbers
+  pub there : queue_in new numbers ≡ cells
+  pub held : (n : ℕ) → 1 ≤ times n numbers → holders new n ≡ count
+  pub others : (n : ℕ) → times n numbers ≡ 0 → entry new n ≡ entry old n
+  pub room : cell_count new + new.spare ≡ cell_count old + old.spare
+
+-- a client whose ring has the numbers of a frame's cells, where it was offered the frame
+abbrev pub with_run : Option ℕ → List ℕ → Member → Member
+with_run holder numbers m = if is_offered_to holder m then with_events (m.ring.events ++ numbers) m else m
 
 -- so many holders are owed to one number
 abbrev pub owing : ℕ → ℕ → ℕ → ℕ

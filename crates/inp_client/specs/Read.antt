@@ -1,5 +1,5 @@
 -- What clients read: each event on the client's clock. The calls of `Client.antt` say it of the cells that they share.
-use Rattle.std.specs.Prelude.{ℕ, ◌+◌, Bool, if◌then◌else◌, List, [], map, filter, Option}
+use Rattle.std.specs.Prelude.{ℕ, ◌+◌, if◌then◌else◌, List, map, filter, Option}
 use Rattle.inp_model.specs.declared.event.Event.{Event}
 use Rattle.inp_model.specs.declared.taken.Taken.{Taken}
 use Rattle.inp_model.specs.declared.clock.Clock.{Clock}

@@ -1,5 +1,5 @@
 //! One open client.
-ghost use Rattle.std.specs.Prelude.{◌≡◌, ◌≢◌, ◌≤◌, ◌<◌, ◌+◌, ◌&&◌, ℕ, if◌then◌else◌, [], true, length, min, map, take, Some, IfOk};
+ghost use Rattle.std.specs.Prelude.{◌≡◌, ◌≢◌, ◌≤◌, ◌<◌, ◌+◌, ◌&&◌, ◌++◌, ℕ, if◌then◌else◌, [], true, length, min, map, take, Some, IfOk};
 ghost use Rattle.std.specs.Option.{option_map};
 ghost use Rattle.inp_model.specs.declared.event.TheConstants.{EV_SYN};
 ghost use Rattle.inp_model.specs.declared.stamped.TheConstants.{MOMENT_MAX};
@@ -9,9 +9,10 @@ ghost use Rattle.inp_model.specs.Queue.{visible, is_same_clock, put};
 ghost use Rattle.inp_model.specs.Reply.{written};
 ghost use Rattle.inp_model.specs.Step.{Codes, Slots};
 ghost use Rattle.inp_ring.specs.Store.{event_of, dropped_at, taken_of, cell_in};
-ghost use Rattle.inp_ring.specs.Ring.{times, cell_at, AreFit, AreHeld, IsEntered, IsRing};
+ghost use Rattle.inp_ring.specs.Ring.{times, cell_at, AreFit, AreHeld, AreDifferent, IsEntered, IsRing};
 ghost use Rattle.inp_client.specs.Masks.{admits_of, full_masks};
 ghost use Rattle.inp_client.specs.Client.{new_client, with_events, is_offered_to, after_take, after_flush, after_mask, after_clock, after_revoke};
+ghost use Rattle.inp_client.specs.Offered.{with_run};
 ghost use Rattle.inp_client.specs.Member.{ring_of, client_in, after_event, IsWritten};
 
 use crate::masks::Masks;
@@ -201,6 +202,27 @@ impl Client {
         is_in
     }
 
+    /// Whether its ring has room for so many events of a frame, and its masks admit all of them.
+    pub fn takes_all(&self, count: usize) -> bool
+        requires few { count ≤ 4096 }
+        ensures full { result ≡ true → self.now.masks ≡ full_masks }
+        ensures room { result ≡ true → length self.now.ring.events + count < self.now.ring.places }
+    {
+        self.masks.is_full() && self.ring.has_room_for(count)
+    }
+
+    /// Puts the numbers of a frame's cells into its ring, unless the frame is not offered to it. It adds no holder.
+    pub fn append_all(&mut self, numbers: &[u32], holder: Option<u32>)
+        requires room { is_offered_to holder self.old ≡ true
+            → length self.old.ring.events + length numbers.now < self.old.ring.places }
+        requires different { AreDifferent (self.old.ring.events ++ numbers.now) }
+        ensures appended { self.new ≡ with_run holder numbers.now self.old }
+    {
+        if self.is_offered_to(holder) {
+            self.ring.append_all(numbers);
+        }
+    }
+
     /// Whether its masks admit an event. Where no mask was set, that is seen at once.
     fn admits(&self, event: Event) -> bool
         ensures admits { result ≡ admits_of self.now.masks event }
@@ -209,7 +231,7 @@ impl Client {
     }
 
     /// Whether a frame is offered to it, given who holds the grab.
-    fn is_offered_to(&self, holder: Option<u32>) -> bool
+    pub fn is_offered_to(&self, holder: Option<u32>) -> bool
         ensures { result ≡ is_offered_to holder self.now }
     {
         !self.revoked && !is_other(holder, self.number)

@@ -1,5 +1,5 @@
 //! The open clients of a device.
-ghost use Rattle.std.specs.Prelude.{◌≡◌, ◌≢◌, ℕ, ◌≤◌, ◌<◌, ◌↔◌, [], true, false, length, min, map, take, sum_by, All, Contains, Err, IfOk, OnOk, OnErr};
+ghost use Rattle.std.specs.Prelude.{◌≡◌, ◌≢◌, ℕ, ◌≤◌, ◌<◌, ◌↔◌, ◌++◌, [], true, false, length, min, map, take, sum_by, All, Contains, Err, IfOk, IfSome, OnOk, OnErr};
 ghost use Rattle.slab.specs.Slab.{ContainsKey};
 ghost use Rattle.inp_model.specs.declared.event.TheConstants.{EV_SYN};
 ghost use Rattle.inp_model.specs.declared.limits.TheConstants.{CLIENTS_MAX};
@@ -14,7 +14,8 @@ ghost use Rattle.inp_client.specs.Clients.{distinct, has_client, has_revoked_cli
 ghost use Rattle.inp_client.specs.Read.{clients_on};
 ghost use Rattle.inp_client.specs.Locations.{clients_in, AreLocated};
 ghost use Rattle.inp_client.specs.Member.{cells_in, wanted, after_event, AreStored};
-ghost use Rattle.inp_client.specs.Offered.{AreShared, IsEnteredTo, owing};
+ghost use Rattle.inp_ring.specs.Ring.{AreDifferent};
+ghost use Rattle.inp_client.specs.Offered.{AreShared, IsEnteredTo, owing, IsRun, AreAdded, TakesAll, takers_in, with_run, are_reports_apart};
 ghost use Rattle.inp_client.specs.declared.open_refused.OpenRefused.TheVariants.{TooMany};
 
 use crate::client::Client;
@@ -256,7 +257,7 @@ impl Clients {
         if self.locations.is_empty() {
             return;
         }
-        offer_events(
+        offer_frame(
             &self.locations,
             &mut self.slab,
             &mut self.store,
@@ -268,7 +269,178 @@ impl Clients {
     }
 }
 
-// Offers the events of a frame to the client in each location. There must be a client.
+// A frame of at most so many events is put into the rings in one run.
+const RUN_MAX: usize = 16;
+
+// Offers a frame to the client in each location, in one run where it can be. There must be a client.
+fn offer_frame(
+    locations: &[Location],
+    slab: &mut Slab<Client>,
+    store: &mut Store,
+    frame: &[Event],
+    now: u64,
+    place: u32,
+    holder: Option<u32>,
+)
+    requires before { AreShared locations.now slab.old store.old }
+    requires some { 0 < length locations.now }
+    requires few { length locations.now ≤ CLIENTS_MAX }
+    requires moment { now ≤ MOMENT_MAX }
+    ensures after { AreShared locations.now slab.new store.new }
+    ensures offered { cells_in store.new (clients_in locations.now slab.new)
+        ≡ map (after_offer frame.now now place holder)
+        (cells_in store.old (clients_in locations.now slab.old)) }
+    ensures wanted { wanted (clients_in locations.now slab.new)
+        ≡ wanted (clients_in locations.now slab.old) }
+    ensures capacity { slab.new.capacity ≡ slab.old.capacity }
+{
+    match takers_of_all(locations, slab, store, frame, holder) {
+        Some(takers) => offer_run(locations, slab, store, frame, now, place, holder, takers),
+        None => offer_events(locations, slab, store, frame, now, place, holder),
+    }
+}
+
+// How many clients take a frame, where each that is offered it takes all of it. None tells nothing.
+fn takers_of_all(
+    locations: &[Location],
+    slab: &Slab<Client>,
+    store: &Store,
+    frame: &[Event],
+    holder: Option<u32>,
+) -> Option<u32>
+    requires located { AreLocated locations.now slab.now }
+    requires few { length locations.now ≤ CLIENTS_MAX }
+    ensures all { IfSome result (IsRun locations.now slab.now store.now frame.now holder) }
+{
+    if frame.len() > RUN_MAX || frame.len() > store.spare() as usize || !are_reports_apart(frame) {
+        return None;
+    }
+    let takers = takers_of(locations, slab, frame.len(), holder)?;
+    if takers == 0 {
+        return None;
+    }
+    Some(takers)
+}
+
+// Whether no SYN_REPORT of a frame stands first or behind another one.
+fn are_reports_apart(frame: &[Event]) -> bool
+    ensures apart { result ≡ are_reports_apart true frame.now }
+{
+    let mut behind = true;
+    for event in frame {
+        let is_report = event.is_report();
+        if is_report && behind {
+            return false;
+        }
+        behind = is_report;
+    }
+    true
+}
+
+// How many clients are offered a frame of so many events, where each of them takes all. None tells nothing.
+fn takers_of(
+    locations: &[Location],
+    slab: &Slab<Client>,
+    count: usize,
+    holder: Option<u32>,
+) -> Option<u32>
+    requires located { AreLocated locations.now slab.now }
+    requires few { length locations.now ≤ CLIENTS_MAX }
+    requires short { count ≤ 4096 }
+    ensures takers { IfSome result (λ takers.
+        takers ≡ takers_in holder (clients_in locations.now slab.now)) }
+    ensures all { IfSome result (λ takers.
+        All (TakesAll holder count) (clients_in locations.now slab.now)) }
+{
+    let mut takers = 0;
+    for location in locations {
+        let client = &slab[location.key];
+        if !client.is_offered_to(holder) {
+            continue;
+        }
+        if !client.takes_all(count) {
+            return None;
+        }
+        takers += 1;
+    }
+    Some(takers)
+}
+
+// Puts a frame in one run into the ring of each client that is offered it, which all take all of it.
+fn offer_run(
+    locations: &[Location],
+    slab: &mut Slab<Client>,
+    store: &mut Store,
+    frame: &[Event],
+    now: u64,
+    place: u32,
+    holder: Option<u32>,
+    takers: u32,
+)
+    requires before { AreShared locations.now slab.old store.old }
+    requires run { IsRun locations.now slab.old store.old frame.now holder takers }
+    requires moment { now ≤ MOMENT_MAX }
+    ensures after { AreShared locations.now slab.new store.new }
+    ensures offered { cells_in store.new (clients_in locations.now slab.new)
+        ≡ map (after_offer frame.now now place holder)
+        (cells_in store.old (clients_in locations.now slab.old)) }
+    ensures wanted { wanted (clients_in locations.now slab.new)
+        ≡ wanted (clients_in locations.now slab.old) }
+    ensures capacity { slab.new.capacity ≡ slab.old.capacity }
+{
+    let mut numbers = [0; RUN_MAX];
+    add_cells(store, frame, now, place, takers, &mut numbers);
+    append_each(locations, slab, &numbers[..frame.len()], holder);
+}
+
+// Adds a cell for each event of a frame, which so many rings hold, and writes their numbers to the front of a buffer.
+fn add_cells(
+    store: &mut Store,
+    frame: &[Event],
+    now: u64,
+    place: u32,
+    holders: u32,
+    numbers: &mut [u32],
+)
+    requires spare { length frame.now ≤ store.old.spare }
+    requires room { length frame.now ≤ length numbers.old }
+    requires some { 0 < holders }
+    ensures added { AreAdded store.old store.new (map (cell_of_event now place) frame.now) holders
+        (take (length frame.now) numbers.new) }
+    ensures long { length numbers.new ≡ length numbers.old }
+{
+    for at in 0..frame.len() {
+        let cell = Cell {
+            event: frame[at],
+            now,
+            place,
+        };
+        numbers[at] = store.add_held_by(cell, holders);
+    }
+}
+
+// Puts the numbers of a frame's cells into the ring of each client that the frame is offered to.
+fn append_each(
+    locations: &[Location],
+    slab: &mut Slab<Client>,
+    numbers: &[u32],
+    holder: Option<u32>,
+)
+    requires located { AreLocated locations.now slab.old }
+    requires room { All (TakesAll holder (length numbers.now)) (clients_in locations.now slab.old) }
+    requires different { All (λ m. AreDifferent (m.ring.events ++ numbers.now))
+        (clients_in locations.now slab.old) }
+    ensures located { AreLocated locations.now slab.new }
+    ensures members { clients_in locations.now slab.new
+        ≡ map (with_run holder numbers.now) (clients_in locations.now slab.old) }
+    ensures capacity { slab.new.capacity ≡ slab.old.capacity }
+{
+    for location in locations {
+        slab[location.key].append_all(numbers, holder);
+    }
+}
+
+// Offers the events of a frame to the client in each location, one by one. There must be a client.
 fn offer_events(
     locations: &[Location],
     slab: &mut Slab<Client>,

@@ -1,11 +1,13 @@
 -- What holds of a ring and its queue after each change of its numbers.
-use Rattle.std.proofs.Common.{◌≡◌, ◌≤◌, ◌<◌, ℕ, zero, suc, Bool, ◌||◌, List, [], ◌∷◌, ◌++◌, length, drop, get_or, slice_get, Some, refl, sym, ap, ◌∙◌, arith}
-use Rattle.std.proofs.lemmas.List.{length-drop, length_push, drop-map}
+use Rattle.std.proofs.Common.{◌≡◌, ◌≤◌, ◌<◌, ℕ, zero, suc, ◌+◌, Bool, ◌||◌, List, [], ◌∷◌, ◌++◌, length, take, drop, ◌-◌, get_or, slice_get, Some, refl, sym, ap, ◌∙◌, arith}
+use Rattle.std.proofs.lemmas.List.{length-append, length-drop, length_push, drop-map}
+use Rattle.std.specs.Prelude.{min}
+use Rattle.std.proofs.Math.Seq.{take-length}
 use Rattle.circular_buffer.specs.Buffer.{Buffer, buffer, keep_last}
 use Rattle.inp_model.specs.declared.event.Event.{Event}
 use Rattle.inp_model.specs.Queue.{is_empty, ends_in_report, flush}
 use Rattle.inp_ring.specs.Store.{StoreView, event_of, cell_in}
-use Rattle.inp_ring.specs.Ring.{times, ring_in, IsRing, IsTakenOut, cell_at, some_cell, queue_in}
+use Rattle.inp_ring.specs.Ring.{times, ring_in, IsRing, AreDifferent, IsTakenOut, cell_at, some_cell, queue_in}
 use Rattle.inp_ring.proofs.Times.{times-drop-le, times-le-length, times_first, AreDifferent_push}
 use Rattle.inp_ring.proofs.Kept.{keep_last-push}
 use Rattle.inp_ring.proofs.Walks.{event_at, flush-length, flush-times, flush-map}
@@ -16,6 +18,17 @@ pub ring_push : (b new : Buffer ℕ) (m : ℕ) → IsRing (ring_in b) → suc (l
 ring_push b new m h room absent e =
     let same : new ≡ buffer (b.items ++ m ∷ []) b.capacity = e ∙ ap (λ q. buffer q b.capacity) (keep_last-push b.capacity b.items m (omega arith)) in
     rw same (record { least = h.least; most = h.most; room = omega (arith, length_push b.items m); different = AreDifferent_push m b.items h.different absent })
+
+-- several numbers more
+pub all_pushed : (b new : Buffer ℕ) (ns : List ℕ) (count : ℕ) → length b.items + length ns < b.capacity → count ≡ min (length ns) (b.capacity - length b.items) → new ≡ buffer (b.items ++ take count ns) b.capacity → new ≡ buffer (b.items ++ ns) b.capacity
+all_pushed b new ns count room is e =
+    let all : count ≡ length ns = omega (arith, is, room) in
+    e ∙ ap (λ k. buffer (b.items ++ take k ns) b.capacity) all ∙ ap (λ l. buffer (b.items ++ l) b.capacity) (take-length ns)
+
+pub ring_push_all : (b new : Buffer ℕ) (ns : List ℕ) (count : ℕ) → IsRing (ring_in b) → length b.items + length ns < b.capacity → AreDifferent (b.items ++ ns) → count ≡ min (length ns) (b.capacity - length b.items) →
+    new ≡ buffer (b.items ++ take count ns) b.capacity → IsRing (ring_in new)
+ring_push_all b new ns count h room different is e =
+    rw (all_pushed b new ns count room is e) (record { least = h.least; most = h.most; room = omega (arith, room, length-append b.items ns); different = different })
 
 -- the oldest ones less
 pub ring_rest : (b new : Buffer ℕ) (n : ℕ) → IsRing (ring_in b) → new ≡ buffer (drop n b.items) b.capacity → IsRing (ring_in new)

@@ -10,7 +10,7 @@ ghost use Rattle.inp_model.specs.Reply.{written};
 ghost use Rattle.inp_model.specs.Step.{is_part_of, Codes, Slots};
 ghost use Rattle.inp_ring.specs.Class.{query_of};
 ghost use Rattle.inp_ring.specs.Store.{entry, cell_in, event_of, dropped_at, taken_of, holders, HasCell};
-ghost use Rattle.inp_ring.specs.Ring.{times, cell_at, queue_in, IsRing, AreFit, AreHeld, EntersAlone, HoldsAllButOne, IsMoved, IsTakenOut, IsEntered};
+ghost use Rattle.inp_ring.specs.Ring.{times, cell_at, queue_in, IsRing, AreFit, AreHeld, AreDifferent, EntersAlone, HoldsAllButOne, IsMoved, IsTakenOut, IsEntered};
 
 use crate::cell::Cell;
 use crate::class::Class;
@@ -126,6 +126,25 @@ impl Ring {
         self.make_room(store, number);
         self.append(number);
         true
+    }
+
+    /// Whether so many more numbers leave a place free.
+    pub fn has_room_for(&self, count: usize) -> bool
+        requires few { count ≤ 4096 }
+        ensures room { result ≡ nat_lt (length self.now.numbers + count) self.now.places }
+    {
+        self.numbers.len() + count < self.numbers.capacity()
+    }
+
+    /// Puts the numbers of cells at the end, in order and in one run, and adds no holder. It takes no memory.
+    ///
+    /// They must leave a place free, and neither be in this ring nor be the same.
+    pub fn append_all(&mut self, numbers: &[u32])
+        requires room { length self.old.numbers + length numbers.now < self.old.places }
+        requires different { AreDifferent (self.old.numbers ++ numbers.now) }
+        ensures appended { self.new ≡ record self.old { numbers = self.old.numbers ++ numbers.now } }
+    {
+        self.numbers.fill_from_slice(numbers);
     }
 
     /// Removes the events of a type, as the answer to a query of its codes does. Each SYN_REPORT that is left with

@@ -87,6 +87,24 @@ impl Store {
         self.slab.insert_reserved(Held { cell, holders: 1 }) as u32
     }
 
+    /// Adds a cell that so many rings hold, as [`add`](Store::add) does one that nobody holds.
+    pub fn add_held_by(&mut self, cell: Cell, holders: u32) -> u32
+        requires room { 0 < self.old.spare }
+        ensures new { entry self.old result ≡ None }
+        ensures added { IsPut self.old self.new result (held_by holders cell) }
+        ensures spare { self.new.spare + 1 ≡ self.old.spare }
+        ensures count { cell_count self.new ≡ cell_count self.old + 1 }
+    {
+        self.slab.insert_reserved(Held { cell, holders }) as u32
+    }
+
+    /// How many more cells fit without memory.
+    pub fn spare(&self) -> u32
+        ensures spare { result ≡ self.now.spare }
+    {
+        (self.slab.capacity() - self.slab.len()) as u32
+    }
+
     /// The cell under a number. There must be one.
     pub fn get(&self, number: u32) -> Cell
         requires there { HasCell self.now number }

@@ -1,5 +1,4 @@
-use Rattle.std.proofs.Common.{◌+◌, ℕ, refl, sym, ap, ◌∙◌, subst, arith}
-use Rattle.inp_client.specs.Offered.{IsEnteredTo}
+use Rattle.std.proofs.Common.{refl, ◌∙◌}
 use Rattle.inp_client.proofs.Offering.{entered_none, enter_absent, enter_spare, enter_held, entered_more, flag_counts}
 use Rattle.inp_client.proofs.clients.enter_each.Goals as goal
 

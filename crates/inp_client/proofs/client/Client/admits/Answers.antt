@@ -1,5 +1,5 @@
-use Rattle.std.proofs.Common.{true, refl, sym, ap, ◌∙◌}
-use Rattle.inp_client.specs.Masks.{admits_of, full_masks}
+use Rattle.std.proofs.Common.{sym, ap, ◌∙◌}
+use Rattle.inp_client.specs.Masks.{admits_of}
 use Rattle.inp_client.proofs.MaskBits.{admits_of-full_masks}
 use Rattle.inp_client.proofs.client.Client.admits.Goals as goal
 

@@ -1,6 +1,6 @@
 use Rattle.std.proofs.Common.{◌≡◌, ◌+◌, ◌-◌, sym, ap, ◌∙◌, arith}
 use Rattle.std.proofs.lemmas.List.Edits.{length-remove}
-use Rattle.inp_client.specs.Clients.{ClientsView, has_client, without_client}
+use Rattle.inp_client.specs.Clients.{ClientsView, without_client}
 use Rattle.inp_client.specs.Kept.{view_of}
 use Rattle.inp_client.proofs.Locating.{has_client-clients_in, key_in_slab, located_after_removal}
 use Rattle.inp_client.proofs.Searching.{index_is_some, index_is}

@@ -1,10 +1,10 @@
-use Rattle.std.proofs.Common.{ap, ◌∙◌, sym}
+use Rattle.std.proofs.Common.{ap, ◌∙◌}
 use Rattle.inp_model.specs.Step.{Slots}
 use Rattle.inp_ring.specs.Store.{event_of}
 use Rattle.inp_client.specs.Client.{after_flush}
 use Rattle.inp_client.specs.Clients.{ClientsView, map_client}
 use Rattle.inp_client.specs.Member.{client_in}
-use Rattle.inp_client.proofs.Calling.{call_open, call_held, call_timed, call_spare, call_events, call_read, kept_after_call, list_after_call, written_revoke, written_mask, timed_take, timed_flush, timed_clock}
+use Rattle.inp_client.proofs.Calling.{call_open, call_held, call_timed, kept_after_call, list_after_call, timed_flush}
 use Rattle.inp_client.proofs.clients.Clients.flush_slots.Goals as goal
 
 pub key_of-key-requires-clause-open : goal.key_of-key-requires-clause-open

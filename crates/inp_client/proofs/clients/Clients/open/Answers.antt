@@ -1,7 +1,7 @@
-use Rattle.std.proofs.Common.{◌≡◌, ◌+◌, ap, ◌∙◌, refl, arith}
+use Rattle.std.proofs.Common.{ap, ◌∙◌, refl, arith}
 use Rattle.std.proofs.lemmas.List.Edits.{length-insert}
 use Rattle.inp_client.specs.Client.{new_client}
-use Rattle.inp_client.specs.Clients.{ClientsView, has_client, with_client}
+use Rattle.inp_client.specs.Clients.{ClientsView, with_client}
 use Rattle.inp_client.proofs.Locating.{located_after_insert}
 use Rattle.inp_client.proofs.Calling.{call_closed}
 use Rattle.inp_client.proofs.Opening.{new_ring, cells_few, stored_open, idle_open, counted_open, list_open}

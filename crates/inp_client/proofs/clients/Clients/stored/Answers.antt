@@ -1,4 +1,4 @@
-use Rattle.std.proofs.Common.{◌≡◌, ◌≤◌, ◌<◌, ℕ, length, map, List, get_or, sym, ap, ◌∙◌, arith}
+use Rattle.std.proofs.Common.{length, ap, ◌∙◌}
 use Rattle.inp_client.specs.Clients.{ClientsView, distinct}
 use Rattle.inp_client.proofs.Stored.{stored_exactly, stored_least, stored_most}
 use Rattle.inp_client.proofs.clients.Clients.stored.Goals as goal

@@ -1,0 +1,431 @@
+-- A frame is put in one run into the rings of all clients that it is offered to.
+use Rattle.std.proofs.Common.{◌≡◌, ◌≢◌, ◌≤◌, ◌<◌, ℕ, zero, suc, ◌+◌, Bool, true, false, ◌&&◌, ◌||◌, not, if◌then◌else◌, nat_lt, List, [], ◌∷◌, ◌++◌, length, map, take, get_or, set, Option, Some, None, refl, sym, ap, ◌∙◌, subst, inl, inr, arith}
+use Rattle.std.specs.Prelude.{filter, All}
+use Rattle.std.proofs.lemmas.Bool.{cases_eq, cases_lt, cond-true, cond-false, lt-ltb, le-ltb}
+use Rattle.std.proofs.lemmas.List.{take_more, length-map, length_push, length-append, get_or-map, get_or-set_same, get_or-set_other, same_lists, append_assoc, append-nil, map_push, map-append}
+use Rattle.std.proofs.lemmas.List.Sums.{sum_by-cons, get_or-le-sum_by, count_by_more_no, count_by_more_yes}
+use Rattle.std.proofs.lemmas.List.Elements.{All-from_get_or, All-get_or, All-append, All-push, All-nil, All-cons}
+use Rattle.slab.specs.Slab.{Slab, get, with_value}
+use Rattle.inp_model.specs.declared.stamped.TheConstants.{MOMENT_MAX}
+use Rattle.inp_model.specs.declared.event.Event.{Event}
+use Rattle.inp_model.specs.Event.{is_report}
+use Rattle.inp_model.specs.Queue.{is_empty, ends_in_report, put, put_all}
+use Rattle.inp_ring.specs.declared.cell.Cell.{Cell}
+use Rattle.inp_ring.specs.declared.cell.Held.{Held}
+use Rattle.inp_ring.specs.Store.{StoreView, entry, cell_of, holders, holders_of, cell_count, held_by, event_of, dropped_at, IsIdleSlot, IsPut}
+use Rattle.inp_ring.specs.Ring.{times, cell_at, some_cell, AreFit, AreDifferent, IsRing}
+use Rattle.inp_ring.proofs.Times.{once, times-append, times_push, once_same, once_other, AreDifferent_push}
+use Rattle.inp_ring.proofs.Moves.{idle_none}
+use Rattle.inp_ring.proofs.Rings.{queue_stays}
+use Rattle.inp_client.specs.declared.location.Location.{Location}
+use Rattle.inp_client.specs.Masks.{MaskView, admits_of, full_masks}
+use Rattle.inp_client.specs.Client.{ClientView, new_client, with_events, is_offered_to, cell_of_event, after_offer}
+use Rattle.inp_client.specs.Member.{Member, ring_of, client_in, cells_in, times_in, wanted, AreStored}
+use Rattle.inp_client.specs.Locations.{client_at, clients_in, AreLocated}
+use Rattle.inp_client.specs.Offered.{AreShared, IsRun, AreAdded, TakesAll, takers_in, with_run, are_reports_apart, member_at}
+use Rattle.inp_client.proofs.MaskBits.{admits_of-full_masks}
+use Rattle.inp_client.proofs.Locating.{client_at_found, located_after_write, members_after_write, members_long, member_in_location}
+
+-- A frame whose reports are apart
+
+apart_first : (a b : Bool) → (not a && b) ≡ true → a ≡ false
+apart_first true b h = cc
+apart_first false b h = refl
+
+apart_rest : (a b : Bool) → (not a && b) ≡ true → b ≡ true
+apart_rest true b h = cc
+apart_rest false b h = h
+
+weaker : (r b rest : Bool) → (not (r && true) && rest) ≡ true → (not (r && b) && rest) ≡ true
+weaker true b rest h = cc
+weaker false b rest h = h
+
+apart_any : (es : List Event) (b : Bool) → are_reports_apart true es ≡ true → are_reports_apart b es ≡ true
+apart_any [] b h = refl
+apart_any (e ∷ es) b h = weaker (is_report e) b (are_reports_apart (is_report e) es) h
+
+-- how the flag of the loop goes on
+pub apart_next : (e : Event) (es : List Event) (behind : Bool) → (is_report e && behind) ≡ false → are_reports_apart behind (e ∷ es) ≡ are_reports_apart (is_report e) es
+apart_next e es behind h = ap (λ (b : Bool). not b && are_reports_apart (is_report e) es) h
+
+pub apart_not : (e : Event) (es : List Event) (behind : Bool) → (is_report e && behind) ≡ true → are_reports_apart behind (e ∷ es) ≡ false
+apart_not e es behind h = ap (λ (b : Bool). not b && are_reports_apart (is_report e) es) h
+
+abbrev ends : List Cell → Bool
+ends q = is_empty q || ends_in_report event_of q
+
+ends_push : (q : List Cell) (cell : Cell) → ends (q ++ cell ∷ []) ≡ is_report cell.event
+ends_push [] cell = refl
+ends_push (x ∷ []) cell = refl
+ends_push (x ∷ y ∷ q) cell = ends_push (y ∷ q) cell
+
+put_apart : (places : ℕ) (q : List Cell) (es : List Event) (now place : ℕ) → are_reports_apart (ends q) es ≡ true → length q + length es < places
+    → put_all event_of dropped_at places q (map (cell_of_event now place) es) ≡ q ++ map (cell_of_event now place) es
+put_apart places q [] now place apart room = sym (append-nil q)
+put_apart places q (e ∷ es) now place apart room =
+    let cell = cell_of_event now place e in
+    let rest = map (cell_of_event now place) es in
+    let first : (is_report e && ends q) ≡ false = apart_first (is_report e && ends q) (are_reports_apart (is_report e) es) apart in
+    let others : are_reports_apart (is_report e) es ≡ true = apart_rest (is_report e && ends q) (are_reports_apart (is_report e) es) apart in
+    let fits : nat_lt (suc (length q)) places ≡ true = lt-ltb (suc (length q)) places (omega (arith, room)) in
+    let is_put : put event_of dropped_at places q cell ≡ q ++ cell ∷ [] =
+    cond-false (is_report e && ends q) q (if nat_lt (suc (length q)) places then q ++ cell ∷ [] else dropped_at cell ∷ cell ∷ []) first
+    ∙ cond-true (nat_lt (suc (length q)) places) (q ++ cell ∷ []) (dropped_at cell ∷ cell ∷ []) fits in
+    ap (λ (r : List Cell). put_all event_of dropped_at places r rest) is_put
+    ∙ put_apart places (q ++ cell ∷ []) es now place (subst (λ (b : Bool). are_reports_apart b es ≡ true) (sym (ends_push q cell)) others) (omega (arith, room, length_push q cell))
+    ∙ append_assoc q (cell ∷ []) rest
+
+admits_all : (masks : MaskView) (es : List Event) → masks ≡ full_masks → filter (admits_of masks) es ≡ es
+admits_all masks [] full = refl
+admits_all masks (e ∷ es) full =
+    cond-true (admits_of masks e) (e ∷ filter (admits_of masks) es) (filter (admits_of masks) es) (ap (λ (m : MaskView). admits_of m e) full ∙ admits_of-full_masks e)
+    ∙ ap (λ l. e ∷ l) (admits_all masks es full)
+
+-- a client that takes all of a frame that it is offered
+taken_whole : (frame : List Event) (now place : ℕ) (holder : Option ℕ) (c : ClientView Cell) → is_offered_to holder c ≡ true → c.masks ≡ full_masks → are_reports_apart true frame ≡ true → length c.ring.events + length frame < c.ring.places
+    → after_offer frame now place holder c ≡ with_events (c.ring.events ++ map (cell_of_event now place) frame) c
+taken_whole frame now place holder c is_to full apart room =
+    cond-true (is_offered_to holder c) _ _ is_to
+    ∙ ap (λ (es : List Event). with_events (put_all event_of dropped_at c.ring.places c.ring.events (map (cell_of_event now place) es)) c) (admits_all c.masks frame full)
+    ∙ ap (λ (q : List Cell). with_events q c) (put_apart c.ring.places c.ring.events frame now place (apart_any frame (ends c.ring.events) apart) room)
+
+-- Cells that are added one by one
+
+pub added_none : (s : StoreView) (count : ℕ) → AreAdded s s [] count []
+added_none s count = record {
+  long = refl;
+  fresh = λ n there. absurd (omega (arith, there));
+  different = λ n. omega arith;
+  there = refl;
+  held = λ n there. absurd (omega (arith, there));
+  others = λ n none. refl;
+  room = refl;
+}
+
+pub added_more : {first s : StoreView} {cells : List Cell} {count : ℕ} {numbers : List ℕ} (to : AreAdded first s cells count numbers) (some : 0 < count) (x : ℕ) (cell : Cell) (new : StoreView) → entry s x ≡ None → IsPut s new x (held_by count cell)
+    → cell_count new + new.spare ≡ cell_count s + s.spare → AreAdded first new (cells ++ cell ∷ []) count (numbers ++ x ∷ [])
+added_more {first} {s} {cells} {count} {numbers} to some x cell new none put room = record {
+  long = omega (arith, to.long, length_push numbers x, length_push cells cell);
+  fresh = λ n there. elim (cases_eq n x) [
+    | inl e ↦ subst (λ (k : ℕ). entry first k ≡ None) (sym e) (sym (to.others x absent) ∙ none)
+    | inr d ↦ to.fresh n (omega (arith, there, times_push n x numbers, once_other n x (λ e. d (sym e))))
+  ];
+  different = AreDifferent_push x numbers to.different absent;
+  there =
+      map_push (cell_at new) numbers x
+      ∙ ap (λ (q : List Cell). q ++ cell_at new x ∷ []) (queue_stays s new numbers (λ n there. ap cell_of (put.others n (apart n there))) ∙ to.there)
+      ∙ ap (λ (o : Option Held). cells ++ some_cell (cell_of o) ∷ []) put.changed;
+  held = λ n there. elim (cases_eq n x) [
+    | inl e ↦ ap (λ (k : ℕ). holders new k) e ∙ ap holders_of put.changed
+    | inr d ↦ ap holders_of (put.others n d) ∙ to.held n (omega (arith, there, times_push n x numbers, once_other n x (λ e. d (sym e))))
+  ];
+  others = λ n out. elim (cases_eq n x) [
+    | inl e ↦ absurd (omega (arith, out, times_push n x numbers, ap (λ (k : ℕ). once k x) e, once_same x))
+    | inr d ↦ put.others n d ∙ to.others n (omega (arith, out, times_push n x numbers))
+  ];
+  room = room ∙ to.room;
+}
+  where
+    absent : times x numbers ≡ 0
+    absent = elim (cases_lt 0 (times x numbers)) [
+      | inl there ↦ absurd (omega (arith, some, to.held x (omega (arith, there)), ap holders_of none))
+      | inr out ↦ omega (arith, out)
+    ]
+
+    apart : (n : ℕ) → 1 ≤ times n numbers → n ≢ x
+    apart n there e = omega (arith, there, absent, ap (λ (k : ℕ). times k numbers) e)
+
+-- Numbers that are put into one ring after the other
+
+pub record IsAppendedTo (count : ℕ) (holder : Option ℕ) (numbers : List ℕ) (locations : List Location) (before slab : Slab Member) : Type 0 where
+  pub located : AreLocated locations slab
+  pub changed : (j : ℕ) → j < length locations → member_at locations slab j
+      ≡ (if nat_lt j count then with_run holder numbers (member_at locations before j) else member_at locations before j)
+  pub capacity : slab.capacity ≡ before.capacity
+
+pub appended_none : (holder : Option ℕ) (numbers : List ℕ) (locations : List Location) (slab : Slab Member) → AreLocated locations slab → IsAppendedTo 0 holder numbers locations slab slab
+appended_none holder numbers locations slab located = record {
+  located = located;
+  changed = λ j in_j. sym (cond-false (nat_lt j 0) _ _ (le-ltb j 0 (omega arith)));
+  capacity = refl;
+}
+
+module _ {holder : Option ℕ} {numbers : List ℕ} {locations : List Location} {before slab : Slab Member} {i : ℕ} (to : IsAppendedTo i holder numbers locations before slab) (in_i : i < length locations) where
+  module _ (key : ℕ) (old : Member) (at : (get_or locations i (record { number = 0; key = 0 })).key ≡ key) (found : get slab key ≡ Some old) where
+    pub old_is : member_at locations before i ≡ old
+    old_is =
+        sym (to.changed i in_i ∙ cond-false (nat_lt i i) _ _ (le-ltb i i (omega arith)))
+        ∙ member_in_location to.located i (record { number = 0; key = 0 }) (new_client 0 0) in_i ∙ ap (client_at slab) at ∙ client_at_found to.located key old found
+
+    module _ (new : Member) (is : new ≡ with_run holder numbers old) (numbered : new.number ≡ old.number) where
+      abbrev next_slab : Slab Member
+      next_slab = with_value slab key new
+
+      members_next : clients_in locations next_slab ≡ set (clients_in locations slab) i new
+      members_next = members_after_write to.located i (record { number = 0; key = 0 }) key old new in_i at found
+
+      here : member_at locations next_slab i ≡ new
+      here = ap (λ (ms : List Member). get_or ms i (new_client 0 0)) members_next ∙ get_or-set_same (clients_in locations slab) i new (new_client 0 0) (omega (arith, in_i, members_long to.located))
+
+      other : (j : ℕ) → j ≢ i → member_at locations next_slab j ≡ member_at locations slab j
+      other j d = ap (λ (ms : List Member). get_or ms j (new_client 0 0)) members_next ∙ get_or-set_other (clients_in locations slab) i j new (new_client 0 0) d
+
+      pub appended_more : IsAppendedTo (i + 1) holder numbers locations before next_slab
+      appended_more = record {
+        located = located_after_write to.located i (record { number = 0; key = 0 }) key old new in_i at found numbered;
+        changed = λ j in_j. elim (cases_eq j i) [
+          | inl e ↦
+              ap (λ (k : ℕ). member_at locations next_slab k) e ∙ here ∙ is ∙ ap (with_run holder numbers) (sym old_is ∙ ap (member_at locations before) (sym e))
+              ∙ sym (cond-true (nat_lt j (i + 1)) _ _ (lt-ltb j (i + 1) (omega (arith, e))))
+          | inr d ↦ other j d ∙ to.changed j in_j ∙ ap (λ (b : Bool). if b then with_run holder numbers (member_at locations before j) else member_at locations before j) (later j d)
+        ];
+        capacity = to.capacity;
+      }
+        where
+          later : (j : ℕ) → j ≢ i → nat_lt j i ≡ nat_lt j (i + 1)
+          later j differs = elim (cases_lt j i) [
+            | inl below ↦ lt-ltb j i below ∙ sym (lt-ltb j (i + 1) (omega arith))
+            | inr above ↦ le-ltb j i above ∙ sym (le-ltb j (i + 1) (omega (arith, differs)))
+          ]
+
+pub appended_all : {holder : Option ℕ} {numbers : List ℕ} {locations : List Location} {before slab : Slab Member} {count : ℕ} → IsAppendedTo count holder numbers locations before slab → length locations ≤ count
+    → clients_in locations slab ≡ map (with_run holder numbers) (clients_in locations before)
+appended_all {holder} {numbers} {locations} {before} {slab} {count} to past =
+    same_lists (clients_in locations slab) (map (with_run holder numbers) (clients_in locations before))
+    (omega (arith, long_now, length-map (clients_in locations before) (with_run holder numbers), long_before))
+    (λ j e within. each j e (omega (arith, within, long_now)))
+  where
+    long_now : length (clients_in locations slab) ≡ length locations
+    long_now = length-map locations (λ s. client_at slab s.key)
+
+    long_before : length (clients_in locations before) ≡ length locations
+    long_before = length-map locations (λ s. client_at before s.key)
+
+    same_default : (ms : List Member) (j : ℕ) (d e : Member) → j < length ms → get_or ms j d ≡ get_or ms j e
+    same_default [] j d e h = absurd (omega (arith, h))
+    same_default (m ∷ ms) zero d e h = refl
+    same_default (m ∷ ms) (suc j) d e h = same_default ms j d e (omega (arith, h))
+
+    each : (j : ℕ) (e : Member) → j < length locations → get_or (clients_in locations slab) j e ≡ get_or (map (with_run holder numbers) (clients_in locations before)) j e
+    each j e in_j =
+        same_default (clients_in locations slab) j e (new_client 0 0) (omega (arith, in_j, long_now))
+        ∙ to.changed j in_j
+        ∙ cond-true (nat_lt j count) _ _ (lt-ltb j count (omega arith))
+        ∙ sym (get_or-map (with_run holder numbers) (clients_in locations before) j (new_client 0 0) e (omega (arith, in_j, long_before)))
+
+-- Who takes it
+
+module _ {locations : List Location} {slab : Slab Member} (located : AreLocated locations slab) (holder : Option ℕ) (i : ℕ) (in_i : i < length locations) (key : ℕ) (client : Member) (at : (get_or locations i (record { number = 0; key = 0 })).key ≡ key) (found : get slab key ≡ Some client) where
+  abbrev among : List Member
+  among = clients_in locations slab
+
+  in_among : i < length among
+  in_among = omega (arith, in_i, members_long located)
+
+  next_is : get_or among i (new_client 0 0) ≡ client
+  next_is = member_in_location located i (record { number = 0; key = 0 }) (new_client 0 0) in_i ∙ ap (client_at slab) at ∙ client_at_found located key client found
+
+  pub takers_same : (takers : ℕ) → takers ≡ takers_in holder (take i among) → is_offered_to holder client ≡ false → takers ≡ takers_in holder (take (i + 1) among)
+  takers_same takers is not_to = is ∙ sym (count_by_more_no (is_offered_to holder) among i (new_client 0 0) in_among (ap (is_offered_to holder) next_is ∙ not_to))
+
+  pub takers_more : (takers : ℕ) → takers ≡ takers_in holder (take i among) → is_offered_to holder client ≡ true → takers + 1 ≡ takers_in holder (take (i + 1) among)
+  takers_more takers is is_to = ap (λ (n : ℕ). n + 1) is ∙ sym (count_by_more_yes (is_offered_to holder) among i (new_client 0 0) in_among (ap (is_offered_to holder) next_is ∙ is_to))
+
+  pub takes_more : (count : ℕ) → All (TakesAll holder count) (take i among) → TakesAll holder count client → All (TakesAll holder count) (take (i + 1) among)
+  takes_more count all one =
+      let next : take (i + 1) among ≡ take i among ++ client ∷ [] = take_more among i (new_client 0 0) in_among ∙ ap (λ (m : Member). take i among ++ m ∷ []) next_is in
+      subst (λ (l : List Member). All (TakesAll holder count) l) (sym next) (All-push (TakesAll holder count) (take i among) client all one)
+
+-- What all of it leaves
+
+module _ (holder : Option ℕ) (numbers : List ℕ) where
+  -- a ring that is put a number once has it once more
+  gains : (n : ℕ) (m : Member) (t : ℕ) → times n numbers ≡ t → times n (with_run holder numbers m).ring.events ≡ times n m.ring.events + (if is_offered_to holder m then t else 0)
+  gains n m t is = either (is_offered_to holder m)
+    where
+      either : (b : Bool) → times n (if b then with_events (m.ring.events ++ numbers) m else m).ring.events ≡ times n m.ring.events + (if b then t else 0)
+      either true = omega (arith, times-append n m.ring.events numbers, is)
+      either false = omega arith
+
+  zero_or : (b : Bool) (t : ℕ) → t ≡ 0 → (if b then t else 0) ≡ 0
+  zero_or true t is = is
+  zero_or false t is = refl
+
+  times_out : (n : ℕ) (ms : List Member) → times n numbers ≡ 0 → times_in n (map (with_run holder numbers) ms) ≡ times_in n ms
+  times_out n [] out = refl
+  times_out n (m ∷ ms) out =
+      omega (
+        arith,
+        sum_by-cons (λ (x : Member). times n x.ring.events) (with_run holder numbers m) (map (with_run holder numbers) ms),
+        sum_by-cons (λ (x : Member). times n x.ring.events) m ms,
+        gains n m 0 out,
+        zero_or (is_offered_to holder m) 0 refl,
+        times_out n ms out,
+      )
+
+  times_one : (n : ℕ) (ms : List Member) → times n numbers ≡ 1 → times_in n (map (with_run holder numbers) ms) ≡ times_in n ms + takers_in holder ms
+  times_one n [] one = refl
+  times_one n (m ∷ ms) one =
+      omega (
+        arith,
+        sum_by-cons (λ (x : Member). times n x.ring.events) (with_run holder numbers m) (map (with_run holder numbers) ms),
+        sum_by-cons (λ (x : Member). times n x.ring.events) m ms,
+        sum_by-cons (λ (x : Member). if is_offered_to holder x then 1 else 0) m ms,
+        gains n m 1 one,
+        times_one n ms one,
+      )
+
+  same_places : (m : Member) → (with_run holder numbers m).ring.places ≡ m.ring.places
+  same_places m = either (is_offered_to holder m)
+    where
+      either : (b : Bool) → (if b then with_events (m.ring.events ++ numbers) m else m).ring.places ≡ m.ring.places
+      either true = refl
+      either false = refl
+
+  pub same_number : (m : Member) → (with_run holder numbers m).number ≡ m.number
+  same_number m = either (is_offered_to holder m)
+    where
+      either : (b : Bool) → (if b then with_events (m.ring.events ++ numbers) m else m).number ≡ m.number
+      either true = refl
+      either false = refl
+
+  wanted_same : (ms : List Member) → wanted (map (with_run holder numbers) ms) ≡ wanted ms
+  wanted_same [] = refl
+  wanted_same (m ∷ ms) =
+      omega (
+        arith,
+        sum_by-cons (λ (x : Member). x.ring.places + 1) (with_run holder numbers m) (map (with_run holder numbers) ms),
+        sum_by-cons (λ (x : Member). x.ring.places + 1) m ms,
+        same_places m,
+        wanted_same ms,
+      )
+
+module _ {locations : List Location} {before : Slab Member} {first store : StoreView} {frame : List Event} (now place : ℕ) {takers : ℕ} {holder : Option ℕ} {numbers : List ℕ}
+    (shared : AreShared locations before first) (run : IsRun locations before first frame holder takers) (added : AreAdded first store (map (cell_of_event now place) frame) takers numbers) where
+  abbrev ms : List Member
+  ms = clients_in locations before
+
+  abbrev cells : List Cell
+  cells = map (cell_of_event now place) frame
+
+  count_is : length numbers ≡ length frame
+  count_is = added.long ∙ length-map frame (cell_of_event now place)
+
+  -- a new number is in no ring
+  in_none : (n : ℕ) → 1 ≤ times n numbers → times_in n ms ≡ 0
+  in_none n there = omega (arith, shared.stored.held n, ap holders_of (added.fresh n there))
+
+  apart_from : (j : ℕ) → j < length ms → (n : ℕ) → 1 ≤ times n (get_or ms j (new_client 0 0)).ring.events → times n numbers ≡ 0
+  apart_from j in_j n there = elim (cases_lt 0 (times n numbers)) [
+    | inl new ↦ absurd (omega (arith, there, in_none n (omega (arith, new)), get_or-le-sum_by (λ (m : Member). times n m.ring.events) ms j (new_client 0 0) in_j))
+    | inr out ↦ omega (arith, out)
+  ]
+
+  module _ (j : ℕ) (in_j : j < length ms) where
+    abbrev m : Member
+    m = get_or ms j (new_client 0 0)
+
+    pub different_with : AreDifferent (m.ring.events ++ numbers)
+    different_with n = elim (cases_lt 0 (times n m.ring.events)) [
+      | inl there ↦ omega (arith, times-append n m.ring.events numbers, apart_from j in_j n (omega (arith, there)), (All-get_or (λ (x : Member). IsRing (ring_of x)) ms j (new_client 0 0) in_j shared.stored.rings).different n)
+      | inr out ↦ omega (arith, times-append n m.ring.events numbers, out, added.different n)
+    ]
+
+    takes : TakesAll holder (length frame) m
+    takes = All-get_or (TakesAll holder (length frame)) ms j (new_client 0 0) in_j run.all
+
+    stays : map (cell_at store) m.ring.events ≡ map (cell_at first) m.ring.events
+    stays = queue_stays first store m.ring.events (λ n there. ap cell_of (added.others n (apart_from j in_j n there)))
+
+    queue_with : map (cell_at store) (m.ring.events ++ numbers) ≡ map (cell_at first) m.ring.events ++ cells
+    queue_with = map-append (cell_at store) m.ring.events numbers ∙ ap (λ (q : List Cell). q ++ map (cell_at store) numbers) stays ∙ ap (λ (q : List Cell). map (cell_at first) m.ring.events ++ q) added.there
+
+    was : IsRing (ring_of m)
+    was = All-get_or (λ (x : Member). IsRing (ring_of x)) ms j (new_client 0 0) in_j shared.stored.rings
+
+    was_fit : AreFit (map (cell_at first) m.ring.events)
+    was_fit = All-get_or (λ (x : Member). AreFit (map (cell_at first) x.ring.events)) ms j (new_client 0 0) in_j shared.stored.timed
+
+    sound_with : IsRing (ring_of (with_run holder numbers m))
+    sound_with = either (is_offered_to holder m) refl
+      where
+        either : (b : Bool) → is_offered_to holder m ≡ b → IsRing (ring_of (if b then with_events (m.ring.events ++ numbers) m else m))
+        either true h = record { least = was.least; most = was.most; room = omega (arith, (takes h).1, length-append m.ring.events numbers, count_is); different = different_with }
+        either false h = was
+
+    cells_fit : now ≤ MOMENT_MAX → (es : List Event) → AreFit (map (cell_of_event now place) es)
+    cells_fit fits [] = All-nil (λ (cell : Cell). cell.now ≤ MOMENT_MAX)
+    cells_fit fits (e ∷ es) = All-cons (λ (cell : Cell). cell.now ≤ MOMENT_MAX) (cell_of_event now place e) (map (cell_of_event now place) es) fits (cells_fit fits es)
+
+    timed_with : now ≤ MOMENT_MAX → AreFit (map (cell_at store) (with_run holder numbers m).ring.events)
+    timed_with fits = either (is_offered_to holder m)
+      where
+        either : (b : Bool) → AreFit (map (cell_at store) (if b then with_events (m.ring.events ++ numbers) m else m).ring.events)
+        either true = let P : List Cell → Type 0 = λ q. AreFit q in subst P (sym queue_with) (All-append (λ (cell : Cell). cell.now ≤ MOMENT_MAX) (map (cell_at first) m.ring.events) cells was_fit (cells_fit fits frame))
+        either false = let P : List Cell → Type 0 = λ q. AreFit q in subst P (sym stays) was_fit
+
+    seen_with : client_in store (with_run holder numbers m) ≡ after_offer frame now place holder (client_in first m)
+    seen_with = either (is_offered_to holder m) refl
+      where
+        either : (b : Bool) → is_offered_to holder m ≡ b → client_in store (if b then with_events (m.ring.events ++ numbers) m else m) ≡ after_offer frame now place holder (client_in first m)
+        either true h =
+            ap (λ (q : List Cell). with_events q (client_in first m)) queue_with
+            ∙ sym (taken_whole frame now place holder (client_in first m) h (takes h).0 run.apart (omega (arith, (takes h).1, length-map m.ring.events (cell_at first))))
+        either false h = ap (λ (q : List Cell). with_events q (client_in first m)) stays ∙ sym (cond-false (is_offered_to holder (client_in first m)) _ _ h)
+
+  module _ {slab : Slab Member} (located : AreLocated locations slab) (members : clients_in locations slab ≡ map (with_run holder numbers) ms) (fits : now ≤ MOMENT_MAX) where
+    long_next : length (map (with_run holder numbers) ms) ≡ length ms
+    long_next = length-map ms (with_run holder numbers)
+
+    next_at : (j : ℕ) → j < length ms → get_or (map (with_run holder numbers) ms) j (new_client 0 0) ≡ with_run holder numbers (get_or ms j (new_client 0 0))
+    next_at j in_j = get_or-map (with_run holder numbers) ms j (new_client 0 0) (new_client 0 0) in_j
+
+    held_with : (n : ℕ) → holders store n + 0 ≡ times_in n (map (with_run holder numbers) ms)
+    held_with n = elim (cases_lt 0 (times n numbers)) [
+      | inl new ↦
+          let one : times n numbers ≡ 1 = omega (arith, new, added.different n) in
+          omega (arith, added.held n (omega (arith, new)), in_none n (omega (arith, new)), times_one holder numbers n ms one, run.takers_are)
+      | inr out ↦
+          let none : times n numbers ≡ 0 = omega (arith, out) in
+          omega (arith, ap holders_of (added.others n none), shared.stored.held n, times_out holder numbers n ms none)
+    ]
+
+    stored_with : AreStored store (map (with_run holder numbers) ms) (λ n. 0)
+    stored_with = record {
+      held = held_with;
+      rings = All-from_get_or (λ (x : Member). IsRing (ring_of x)) (map (with_run holder numbers) ms) (new_client 0 0) (λ j in_j.
+          let P : Member → Type 0 = λ x. IsRing (ring_of x) in
+          let in_ms : j < length ms = omega (arith, in_j, long_next) in
+          subst P (sym (next_at j in_ms)) (sound_with j in_ms));
+      timed = All-from_get_or (λ (x : Member). AreFit (map (cell_at store) x.ring.events)) (map (with_run holder numbers) ms) (new_client 0 0) (λ j in_j.
+          let P : Member → Type 0 = λ x. AreFit (map (cell_at store) x.ring.events) in
+          let in_ms : j < length ms = omega (arith, in_j, long_next) in
+          subst P (sym (next_at j in_ms)) (timed_with j in_ms fits));
+      room = omega (arith, shared.stored.room, added.room, wanted_same holder numbers ms);
+    }
+
+    pub shared_with : AreShared locations slab store
+    shared_with = record {
+      located = located;
+      stored = let P : List Member → Type 0 = λ l. AreStored store l (λ n. 0) in subst P (sym members) stored_with;
+      none_idle = λ n idle. elim (cases_lt 0 (times n numbers)) [
+        | inl new ↦ omega (arith, run.some, added.held n (omega (arith, new)), idle_none store n idle)
+        | inr out ↦ shared.none_idle n (subst IsIdleSlot (added.others n (omega (arith, out))) idle)
+      ];
+    }
+
+    pub offered_with : cells_in store (clients_in locations slab) ≡ map (after_offer frame now place holder) (cells_in first ms)
+    offered_with =
+        ap (cells_in store) members
+        ∙ same_lists (cells_in store (map (with_run holder numbers) ms)) (map (after_offer frame now place holder) (cells_in first ms))
+        (omega (arith, length-map (map (with_run holder numbers) ms) (client_in store), long_next, length-map (cells_in first ms) (after_offer frame now place holder), length-map ms (client_in first)))
+        (λ j e within.
+        let in_ms : j < length ms = omega (arith, within, length-map (map (with_run holder numbers) ms) (client_in store), long_next) in
+        get_or-map (client_in store) (map (with_run holder numbers) ms) j (new_client 0 0) e (omega (arith, in_ms, long_next))
+        ∙ ap (client_in store) (next_at j in_ms)
+        ∙ seen_with j in_ms
+        ∙ sym (get_or-map (after_offer frame now place holder) (cells_in first ms) j (client_in first (new_client 0 0)) e (omega (arith, in_ms, length-map ms (client_in first)))
+        ∙ ap (after_offer frame now place holder) (get_or-map (client_in first) ms j (new_client 0 0) (client_in first (new_client 0 0)) in_ms)))
+
+    pub wanted_with : wanted (clients_in locations slab) ≡ wanted ms
+    wanted_with = ap wanted members ∙ wanted_same holder numbers ms
