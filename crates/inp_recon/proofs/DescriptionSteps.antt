@@ -1,12 +1,11 @@
 -- Steps that describe an axis: they end no frame and leave the queue; where they stand, and since when there was none.
-use Rattle.std.proofs.Common.{◌≡◌, ◌<◌, ◌≤◌, ℕ, suc, Bool, true, false, ◌||◌, if◌then◌else◌, List, [], ◌∷◌, ◌++◌, length, map, refl, sym, ap, subst, ◌∙◌, inl, inr, arith}
+use Rattle.std.proofs.Common.{◌≡◌, ◌<◌, ◌≤◌, ℕ, suc, Bool, true, false, if◌then◌else◌, List, [], ◌∷◌, ◌++◌, length, map, refl, sym, ap, subst, ◌∙◌, inl, inr, arith}
 use Rattle.std.proofs.lemmas.Bool.{cases_lt}
 use Rattle.std.proofs.lemmas.List.{append-nil}
 use Rattle.inp_model.specs.declared.event.Event.{Event}
-use Rattle.inp_model.specs.declared.axis_info.AxisInfo.{AxisInfo}
 use Rattle.inp_model.specs.declared.step.Step.{Step}
 use Rattle.inp_model.specs.declared.step.Step.TheVariants.{Open, Discard, SetAxis}
-use Rattle.inp_model.specs.RawItem.{RawItem, Occurred, Described, Cut, Frame}
+use Rattle.inp_model.specs.RawItem.{RawItem, Occurred, Described, Cut}
 use Rattle.inp_model.specs.Description.{Description}
 use Rattle.inp_model.specs.Step.{is_description}
 use Rattle.inp_model.specs.Past.{description_places}

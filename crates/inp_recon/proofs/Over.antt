@@ -1,5 +1,5 @@
 -- A value that events change one after another.
-use Rattle.std.proofs.Common.{◌≡◌, Bool, true, false, List, [], ◌∷◌, ◌++◌, filter, refl, sym, ap, ◌∙◌, cond}
+use Rattle.std.proofs.Common.{◌≡◌, List, [], ◌∷◌, ◌++◌, refl, ◌∙◌}
 use Rattle.inp_model.specs.declared.event.Event.{Event}
 use Rattle.inp_recon.proofs.Each.{Each}
 

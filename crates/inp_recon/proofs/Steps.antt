@@ -10,7 +10,7 @@ use Rattle.inp_model.specs.Past.{opens, is_opening, is_open, is_revoked}
 use Rattle.inp_model.specs.Cut.{raw_after, cut_for, cuts}
 use Rattle.inp_model.specs.Raw.{raw, raw_and_timer, raw_of_step}
 use Rattle.inp_model.specs.Frame.{place, frame_of, frames_of_step, frames}
-use Rattle.inp_model.specs.Left.{Eats, left}
+use Rattle.inp_model.specs.Left.{Eats}
 use Rattle.inp_model.specs.Queue.{Entry, event_of, visible, entry, entries_of_with, entries_with, queue_with, is_offered}
 use Rattle.inp_recon.specs.Synchronised.{is_dropped, is_start, is_query_of, start_place, sync_place}
 use Rattle.inp_recon.proofs.Each.{Each, Each-append, Each-weaker, Each-drop}

@@ -1,5 +1,5 @@
 -- When a client's view is the device's state (docs/RULES.md, "Faithful views").
-use Rattle.std.specs.Prelude.{ℕ, suc, ◌≡◌, ◌<◌, pos, true, false, List, [], ◌∷◌, map, take, slice_get, slice_index_or, Some, None}
+use Rattle.std.specs.Prelude.{ℕ, suc, ◌≡◌, ◌<◌, pos, true, false, List, ◌∷◌, map, take, slice_get, slice_index_or, Some}
 use Rattle.inp_model.specs.declared.step.Step.{Step}
 use Rattle.inp_model.specs.declared.step.Step.TheVariants.{Read}
 use Rattle.inp_model.specs.RawItem.{RawItem, Frame}
