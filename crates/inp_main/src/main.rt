@@ -6,8 +6,6 @@
 #![tactic(auto)]
 
 mod program;
-#[cfg(test)]
-mod program_tests;
 
 use inp_edge::{FileInput, OpenGate, OutSink};
 use program::{collected, run};

@@ -1,8 +1,7 @@
 //! The one call on threads.
 
-use crate::common::{input_of, sink_of, words_of};
 use crate::texts::{ALONE, ALONE_REPORT, TWO_TAPS};
-use crate::tool::call;
+use crate::tool::run;
 use inp_edge::{Gate, OpenGate};
 use std::sync::atomic::{AtomicU64, Ordering};
 use std::test::Fail;
@@ -45,15 +44,14 @@ impl Gate for Meeting {
 
 #[test]
 fn jobs_run_side_by_side(rt: HostRuntime) -> Result<(), Fail> {
-    let words = words_of(rt.alloc(), &["--threads", "f"])?;
-    let mut input = input_of(rt.alloc(), &[("f", TWO_TAPS.as_bytes())], &[])?;
-    let mut sink = sink_of(rt.alloc(), 1000, &[])?;
     let meeting = Meeting {
         first: AtomicU64::new(0),
         second: AtomicU64::new(0),
         gave_up: AtomicU64::new(0),
     };
-    let end = call(&rt, rt.alloc(), &words, &mut input, &mut sink, &meeting);
+    let words = ["--threads", "f"];
+    let files = [("f", TWO_TAPS.as_bytes())];
+    let (end, _) = run(&rt, rt.alloc(), &words, &files, &[], &meeting)?;
     assert_eq!(rt; end.status, 0);
     assert_eq!(rt;
         meeting.gave_up.load(Ordering::SeqCst),
@@ -65,10 +63,9 @@ fn jobs_run_side_by_side(rt: HostRuntime) -> Result<(), Fail> {
 
 #[test]
 fn a_source_says_that_it_is_done(rt: HostRuntime) -> Result<(), Fail> {
-    let words = words_of(rt.alloc(), &["--threads", "f"])?;
-    let mut input = input_of(rt.alloc(), &[("f", ALONE.as_bytes())], &[])?;
-    let mut sink = sink_of(rt.alloc(), 1000, &[])?;
-    let end = call(&rt, rt.alloc(), &words, &mut input, &mut sink, &OpenGate);
+    let words = ["--threads", "f"];
+    let files = [("f", ALONE.as_bytes())];
+    let (end, sink) = run(&rt, rt.alloc(), &words, &files, &[], &OpenGate)?;
     assert_eq!(rt; end.status, 0);
     assert_eq!(rt; sink.bytes(), ALONE_REPORT.as_bytes());
     Ok(())

@@ -9,6 +9,7 @@ use crate::texts::{
 use inp_edge::{Gate, Input, MemSink, OpenGate};
 use inp_tool::{End, inputplay};
 use std::alloc::Global;
+use std::process::Abort;
 use std::sync::Wait;
 use std::sync::atomic::{AtomicU64, Ordering};
 use std::test::Fail;
@@ -42,18 +43,35 @@ pub fn call<R: Threads + Wait + Sync, I: Input, G: Gate>(
 }
 
 /// The end of a call of these words over these files, and what it wrote.
-fn run<R: Threads + Wait + Sync>(
+pub fn run<R: Threads + Wait + Sync, G: Gate>(
     rt: &R,
     alloc: Global,
     texts: &[&str],
     files: &[(&str, &[u8])],
     fails: &[u64],
+    gate: &G,
 ) -> Result<(End, MemSink), Fail> {
     let words = words_of(alloc, texts)?;
     let mut input = input_of(alloc, files, fails)?;
     let mut sink = sink_of(alloc, AMPLE, NONE)?;
-    let end = call(rt, alloc, &words, &mut input, &mut sink, &OpenGate);
+    let end = call(rt, alloc, &words, &mut input, &mut sink, gate);
     Ok((end, sink))
+}
+
+/// A call of these words over these files ends with this status and this text.
+fn ends<R: Threads + Wait + Abort + Sync>(
+    rt: &R,
+    alloc: Global,
+    texts: &[&str],
+    files: &[(&str, &[u8])],
+    fails: &[u64],
+    status: u8,
+    text: &str,
+) -> Result<(), Fail> {
+    let (end, sink) = run(rt, alloc, texts, files, fails, &OpenGate)?;
+    assert_eq!(rt; end.status, status, "{text}");
+    assert_eq!(rt; sink.bytes(), text.as_bytes(), "{text}");
+    Ok(())
 }
 
 #[test]
@@ -69,9 +87,7 @@ fn plays_whole_records(rt: HostRuntime) -> Result<(), Fail> {
     ];
     for (texts, text, status, want) in table {
         let files = [("f", text.as_bytes()), ("keys", PRESS)];
-        let (end, sink) = run(&rt, rt.alloc(), texts, &files, NONE)?;
-        assert_eq!(rt; end.status, status, "{text}");
-        assert_eq!(rt; sink.bytes(), want.as_bytes(), "{text}");
+        ends(&rt, rt.alloc(), texts, &files, NONE, status, want)?;
     }
     Ok(())
 }
@@ -85,7 +101,14 @@ fn migrates_records_and_plays_none(rt: HostRuntime) -> Result<(), Fail> {
     ];
     for (keys, status, want) in table {
         let files = [("f", STREAM.as_bytes()), ("keys", keys)];
-        let (end, sink) = run(&rt, rt.alloc(), &["--migrate", "f"], &files, NONE)?;
+        let (end, sink) = run(
+            &rt,
+            rt.alloc(),
+            &["--migrate", "f"],
+            &files,
+            NONE,
+            &OpenGate,
+        )?;
         assert_eq!(rt; end.status, status, "{want}");
         assert_eq!(rt; sink.bytes(), want.as_bytes());
         assert!(rt; end.runs.is_empty());
@@ -110,9 +133,7 @@ fn tells_failed_reads(rt: HostRuntime) -> Result<(), Fail> {
     ];
     for (text, fail, status, want) in table {
         let files = [("f", text.as_bytes()), ("keys", PRESS)];
-        let (end, sink) = run(&rt, rt.alloc(), &["f"], &files, &[fail])?;
-        assert_eq!(rt; end.status, status, "{text}");
-        assert_eq!(rt; sink.bytes(), want.as_bytes(), "{text}");
+        ends(&rt, rt.alloc(), &["f"], &files, &[fail], status, want)?;
     }
     Ok(())
 }
@@ -133,17 +154,13 @@ impl Gate for CountingGate {
 
 #[test]
 fn passes_no_gate_on_one_thread(rt: HostRuntime) -> Result<(), Fail> {
-    let files = [("f", STREAM.as_bytes()), ("keys", PRESS)];
-    let mut input = input_of(rt.alloc(), &files, NONE)?;
-    let mut sink = sink_of(rt.alloc(), AMPLE, NONE)?;
-    let words = words_of(rt.alloc(), &["f"])?;
     let gate = CountingGate {
         calls: AtomicU64::new(0),
     };
     gate.before(0, 0);
-    let end = call(&rt, rt.alloc(), &words, &mut input, &mut sink, &gate);
+    let files = [("f", STREAM.as_bytes()), ("keys", PRESS)];
+    let (end, _) = run(&rt, rt.alloc(), &["f"], &files, NONE, &gate)?;
     assert_eq!(rt; end.status, 0);
-    assert_eq!(rt; sink.bytes(), ONE_KEY_REPORT.as_bytes());
     assert_eq!(rt;
         gate.calls.load(Ordering::SeqCst),
         1,
@@ -157,7 +174,7 @@ fn passes_no_gate_on_one_thread(rt: HostRuntime) -> Result<(), Fail> {
 #[test]
 fn ends_in_its_report_or_in_want_of_memory(rt: HostRuntime) -> Result<(), Fail> {
     let files = [("f", STREAM.as_bytes()), ("keys", PRESS)];
-    let (end, sink) = run(&rt, rt.alloc(), &["f"], &files, NONE)?;
+    let (end, sink) = run(&rt, rt.alloc(), &["f"], &files, NONE, &OpenGate)?;
     let want = match end.status {
         0 => ONE_KEY_REPORT,
         5 => "inputplay: out of memory\n",
