@@ -23,10 +23,9 @@ use Rattle.inp_model.specs.Frame.{frame_of, frames_of_step, cuts_of_step}
 use Rattle.inp_model.specs.Raw.{raw, raw_of_step}
 use Rattle.inp_model.specs.Past.{is_call_of, admits, clock_of}
 use Rattle.inp_model.specs.Step.{Query, query_of, is_part_of}
-use Rattle.inp_model.specs.Left.{eaten, left}
+use Rattle.inp_model.specs.Left.{eaten, is_left, left_from, left}
 use Rattle.inp_model.specs.Queue.{Entry, event_of, entry_dropped_at, put, put_all, visible, stays, flush_behind, flush_for, is_offered, entry, entries_of, entries, clock_entry, clock_changed, is_same_clock, left_by_call, queue, queue_with, taken_by, is_empty, ends_in_report}
 use Rattle.inp_model.specs.Reply.{Answer, IsAnswer, answer_by, accepted, refused, taken_of}
-use Rattle.inp_model.proofs.Lefts.{left-all}
 use Rattle.inp_reader.specs.Spare.{is_event_of}
 
 abbrev IsOf : Description → Event → Type 0
@@ -145,6 +144,10 @@ if-some : {X : Type 0} (P : X → Type 0) (b : Bool) (xs : List X) → All P xs 
 if-some P true xs h = h
 if-some P false xs h = All-nil P
 
+one-of : {X : Type 0} (P : X → Type 0) (b : Bool) (xs ys : List X) → All P xs → All P ys → All P (if b then xs else ys)
+one-of P true xs ys h k = h
+one-of P false xs ys h k = k
+
 pending-of : (d : Description) (r : List RawItem) → All (IsOf d) (pending d r)
 unfolding pending
 pending-of d [] = All-nil (IsOf d)
@@ -200,12 +203,19 @@ frames-of d past x = All-map (IsFrameOf d) (frame_of past x) (cuts_of_step d pas
 abbrev IsEntryOf : Description → Entry → Type 0
 IsEntryOf d e = is_event_of d (event_of e) ≡ true
 
+-- what is left of a frame is of the device too
+left_from-of : (d : Description) (eats : ℕ → Bool) (k : ℕ) (es : List Event) → All (IsOf d) es → All (IsOf d) (left_from eats k es)
+left_from-of d eats k [] h = All-nil (IsOf d)
+left_from-of d eats k (e ∷ es) h =
+    let rest : All (IsOf d) (left_from eats (suc k) es) = left_from-of d eats (suc k) es (All-tail (IsOf d) e es h) in
+    one-of (IsOf d) (is_left eats k e) (e ∷ left_from eats (suc k) es) (left_from eats (suc k) es) (All-cons (IsOf d) e (left_from eats (suc k) es) (All-head (IsOf d) e es h) rest) rest
+
 entries_of-of : (d : Description) (client : ℕ) (f : Frame) → IsFrameOf d f → All (IsEntryOf d) (entries_of d client f)
 entries_of-of d client f h =
     let all : List Event = left (eaten d) f in
     let some : List Event = filter (admits f.before client) all in
     if-some (IsEntryOf d) (is_offered f.before client) (map (entry d client f) some)
-    (All-map (IsEntryOf d) (entry d client f) some (All-filter (admits f.before client) (IsOf d) all (subst (All (IsOf d)) (sym (left-all d f)) h)))
+    (All-map (IsEntryOf d) (entry d client f) some (All-filter (admits f.before client) (IsOf d) all (left_from-of d (eaten d f) 0 f.cut.events h)))
 
 entries-of : (d : Description) (client : ℕ) (fs : List Frame) → All (IsFrameOf d) fs → All (IsEntryOf d) (entries d client fs)
 entries-of d client [] h = All-nil (IsEntryOf d)
@@ -248,10 +258,6 @@ left_by_call-of d past (Read client count) q h = All-drop (IsEntryOf d) (min cou
 left_by_call-of d past (Discard client) q h = All-drop (IsEntryOf d) (visible event_of q) q h
 left_by_call-of d past (ToClock client clock now) q h = clock_changed-of d (is_same_clock (clock_of past client) clock) past clock now q h
 left_by_call-of d past x q h = flush_for-of d (query_of x) q h
-
-one-of : {X : Type 0} (P : X → Type 0) (b : Bool) (xs ys : List X) → All P xs → All P ys → All P (if b then xs else ys)
-one-of P true xs ys h k = h
-one-of P false xs ys h k = k
 
 queue-of : (d : Description) (past : List Step) (client : ℕ) → All (IsEntryOf d) (queue d past client)
 unfolding queue_with
