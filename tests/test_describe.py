@@ -238,6 +238,11 @@ class Describe(DeskCase):
         self.assertEqual(MOUSE_LINES.splitlines(), self.lines(path, "--device", "Logitech M705"))
         self.refused("describe", path, "--device", "3", because='no one device "3"')
 
+    def test_filters_of_a_record_stay(self):
+        text = b"inputrecord 2\ndevice x\nfilter  chord KEY_A KEY_B\ncap EV_KEY KEY_A\nfilter norepeat\ntap t\n"
+        lines = self.lines(self.file("filtered.rec", text))
+        self.assertEqual(["filter chord KEY_A KEY_B", "filter norepeat"], [line for line in lines if "filter" in line])
+
     def test_wrong_input(self):
         for content, because in (
             (b"", "the file is empty"),

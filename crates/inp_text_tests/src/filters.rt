@@ -20,6 +20,7 @@ filter eat 1 BTN_LEFT
 #[test]
 fn filters_are_read(rt: HostRuntime) -> Result<(), Fail> {
     let record = read(rt.alloc(), FILTERS)?;
+    assert_eq!(rt; record.devices().len(), 1);
     let caps = &record.devices().get(0).caps;
     let (first, second) = (30, 48);
     assert_eq!(rt; caps.filter(0), Some(Filter::Chord { first, second }));
