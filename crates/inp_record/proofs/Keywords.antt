@@ -7,7 +7,7 @@ use Rattle.inp_words.specs.Table.{named}
 use Rattle.inp_words.proofs.Booleans.{both}
 use Rattle.inp_record.specs.declared.keyword.Keyword as keyword
 use Rattle.inp_record.specs.declared.keyword.Keyword.TheVariants as keywords
-use Rattle.inp_record.specs.Keyword.{keyword_rows, filter_rows, filter_keyword, with_kind, has_words, with_words, keyword_of}
+use Rattle.inp_record.specs.Keyword.{keyword_rows, filter_rows, filter_keyword, keyword_under, has_words, with_words, keyword_of}
 use Rattle.inp_record.specs.Words.{is_action}
 use Rattle.inp_record.proofs.Inversions.{and_then_is}
 
@@ -47,10 +47,10 @@ with_words_is count (Some j) k e = by_count (has_words j count) e
 
 -- the keyword that the first word names, and what the second one makes of it
 keyword_from : (version : ℕ) (first second : List ℕ) (count : ℕ) (k : keyword.Keyword) → keyword_of version first second count ≡ Some k
-    → (base : keyword.Keyword) × (named keyword_rows first ≡ Some base) × (with_kind version second base ≡ Some k)
+    → (base : keyword.Keyword) × (named keyword_rows first ≡ Some base) × (keyword_under version second base ≡ Some k)
 unfolding keyword_of
 keyword_from version first second count k e =
-    and_then_is (λ base. with_kind version second base) (named keyword_rows first) k (with_words_is count (option_and_then (λ base. with_kind version second base) (named keyword_rows first)) k e)
+    and_then_is (λ base. keyword_under version second base) (named keyword_rows first) k (with_words_is count (option_and_then (λ base. keyword_under version second base) (named keyword_rows first)) k e)
 
 -- a filter line is no action
 abbrev is_no_action : List ℕ × keyword.Keyword → Bool
@@ -71,7 +71,7 @@ kind_does_nothing second = by_kind (named filter_rows second) refl
     by_kind None h = refl
     by_kind (Some k) h = no_action (is_action k) (named_passes is_no_action filter_rows second k kinds_do_nothing h)
 
-same_action : (version : ℕ) (second : List ℕ) (base k : keyword.Keyword) → with_kind version second base ≡ Some k → is_action k ≡ is_action base
+same_action : (version : ℕ) (second : List ℕ) (base k : keyword.Keyword) → keyword_under version second base ≡ Some k → is_action k ≡ is_action base
 same_action version second keywords.Filter k e = by_version (nat_eq version 1) e
   where
     by_version : (early : Bool) → (if early then None else Some (filter_keyword second)) ≡ Some k → is_action k ≡ false
@@ -107,7 +107,7 @@ rows_are_first : list_all (λ (row : List ℕ × keyword.Keyword). is_first row.
 unfolding keyword_rows
 rows_are_first = refl
 
-kept_version : (version : ℕ) (second : List ℕ) (base k : keyword.Keyword) → with_kind version second base ≡ Some k → is_first base ≡ true → is_filter_keyword k ≡ true → nat_eq version 1 ≡ false
+kept_version : (version : ℕ) (second : List ℕ) (base k : keyword.Keyword) → keyword_under version second base ≡ Some k → is_first base ≡ true → is_filter_keyword k ≡ true → nat_eq version 1 ≡ false
 kept_version version second keywords.Filter k e row h = by_version (nat_eq version 1) e
   where
     by_version : (early : Bool) → (if early then None else Some (filter_keyword second)) ≡ Some k → early ≡ false

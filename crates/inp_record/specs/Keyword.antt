@@ -33,9 +33,9 @@ filter_keyword second = unwrap_or (named filter_rows second) Filter
 
 -- the keyword of a line whose first word names this one: under version 1 there is no filter line, and under a later one
 -- its second word says what kind of filter it is
-abbrev pub with_kind : ℕ → List ℕ → Keyword → Option Keyword
-with_kind version second Filter = if nat_eq version 1 then None else Some (filter_keyword second)
-with_kind version second keyword = Some keyword
+abbrev pub keyword_under : ℕ → List ℕ → Keyword → Option Keyword
+keyword_under version second Filter = if nat_eq version 1 then None else Some (filter_keyword second)
+keyword_under version second keyword = Some keyword
 
 -- a line of this keyword has so many words
 abbrev pub has_words : Keyword → ℕ → Bool
@@ -57,4 +57,4 @@ with_words count (Some keyword) = if has_words keyword count then Some keyword e
 -- the keyword of a line under this version, with these first two words and so many words
 unfoldable pub keyword_of : ℕ → List ℕ → List ℕ → ℕ → Option Keyword
 keyword_of version first second count =
-    with_words count (option_and_then (λ keyword. with_kind version second keyword) (named keyword_rows first))
+    with_words count (option_and_then (λ keyword. keyword_under version second keyword) (named keyword_rows first))

@@ -1,7 +1,7 @@
 //! The words that say what a line is.
 ghost use Rattle.std.specs.Prelude.{◌≡◌, true, IfSome};
 ghost use Rattle.inp_words.specs.Table.{rows_of};
-ghost use Rattle.inp_record.specs.Keyword.{keyword_rows, filter_rows, filter_keyword, with_kind, has_words, keyword_of};
+ghost use Rattle.inp_record.specs.Keyword.{keyword_rows, filter_rows, filter_keyword, keyword_under, has_words, keyword_of};
 
 use inp_words::named;
 
@@ -78,8 +78,8 @@ fn filter_keyword(second: &[u8]) -> Keyword
 }
 
 /// The keyword of a line whose first word names this one, if the version has such a line.
-fn with_kind(version: u32, second: &[u8], keyword: Keyword) -> Option<Keyword>
-    ensures { result ≡ with_kind version second.now keyword }
+fn keyword_under(version: u32, second: &[u8], keyword: Keyword) -> Option<Keyword>
+    ensures { result ≡ keyword_under version second.now keyword }
 {
     if keyword != Keyword::Filter {
         return Some(keyword);
@@ -112,7 +112,7 @@ pub(crate) fn keyword_of(version: u32, first: &[u8], second: &[u8], count: usize
     ensures count { IfSome result (λ keyword. has_words keyword count ≡ true) }
 {
     let keyword = named(keyword_rows(), first)?;
-    let keyword = with_kind(version, second, keyword)?;
+    let keyword = keyword_under(version, second, keyword)?;
     if has_words(keyword, count) {
         Some(keyword)
     } else {
