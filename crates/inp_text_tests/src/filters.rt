@@ -67,10 +67,16 @@ fn what_is_no_filter_is_refused(rt: HostRuntime) -> Result<(), Fail> {
         assert_eq!(rt; fault, Some((3, cause)));
     }
     let table = [
-        ("inputrecord 1\ndevice d\nfilter norepeat\n", (3, "bad-line")),
+        (
+            "inputrecord 1\ndevice d\nfilter norepeat\n",
+            (3, "bad-line"),
+        ),
         ("inputrecord 1\nfilter other\n", (2, "bad-line")),
         ("inputrecord 2\nfilter other\n", (2, "out-of-place")),
-        ("inputrecord 2\ndevice d\ntap t\nfilter norepeat\n", (4, "out-of-place")),
+        (
+            "inputrecord 2\ndevice d\ntap t\nfilter norepeat\n",
+            (4, "out-of-place"),
+        ),
     ];
     for (text, want) in table {
         assert_eq!(rt; fault_of(rt.alloc(), text, "")?, Some(want));
