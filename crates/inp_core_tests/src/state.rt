@@ -4,7 +4,7 @@ use crate::common::{A, axis_info};
 use bitflags::Flags;
 use inp_caps::{Caps, CapsBuilder, CapsRefused};
 use inp_model::{EV_ABS, EV_KEY, EV_LED, EV_MSC, EV_REL, EV_REP, EV_SND, EV_SW, EV_SYN, Event};
-use inp_state::{Disposition, State, defuzz};
+use inp_state::State;
 use std::test::Fail;
 
 // A key, an LED, a switch and the like; the axis begins at 100 and has a fuzz of 8.
@@ -63,14 +63,6 @@ static ROWS: [(u16, u16, i32, u8, i32); 21] = [
 fn takes_events_one_by_one(rt: HostRuntime) -> Result<(), Fail> {
     let caps = panel()?;
     let mut state = State::new(&caps);
-    assert_eq!(rt;
-        (
-            Disposition::TO_HANDLERS.bits(),
-            Disposition::TO_DEVICE.bits(),
-            Disposition::FLUSH.bits()
-        ),
-        (HANDLERS, DEVICE, FLUSH)
-    );
     for (kind, code, value, flags, passed) in ROWS {
         let event = Event { kind, code, value };
         assert!(rt; !event.is_multi_touch());
@@ -81,17 +73,6 @@ fn takes_events_one_by_one(rt: HostRuntime) -> Result<(), Fail> {
             "at {event:?}"
         );
     }
-    assert!(rt;
-        state.keys().get(30)
-            && state.leds().get(0)
-            && state.switches().get(0)
-            && state.sounds().get(0)
-    );
-    assert_eq!(rt;
-        (state.axis(0), state.delay(), state.period()),
-        (106, 250, 0)
-    );
-    assert_eq!(rt; defuzz(104, 100, 8), 101);
     Ok(())
 }
 

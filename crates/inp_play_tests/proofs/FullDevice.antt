@@ -1,7 +1,6 @@
 -- What a device answers whose history has the one step that it may have, and no client.
 use Rattle.std.proofs.Common.{◌≡◌, ℕ, Bool, true, false, not, if◌then◌else◌, List, [], ◌∷◌, Option, Some, None, refl, sym, ap, ◌∙◌, arith, inl, ℤ, IsTrue}
 use Rattle.std.specs.List.{slice_get}
-use Rattle.inp_actors.specs.declared.device_text.DeviceText.{DeviceText}
 use Rattle.inp_actors.specs.Record.{RecordView}
 use Rattle.inp_script.specs.Doing.{HasActor}
 use Rattle.inp_script.specs.Job.{ActorView}
@@ -20,7 +19,7 @@ use Rattle.inp_model.specs.Past.{is_open, opens}
 use Rattle.inp_model.specs.Reply.{Answer, alone, answer, answer_by, accepted, is_bad_client}
 use Rattle.inp_model.specs.Step.{client_of}
 
-abbrev pub full : Description
+abbrev full : Description
 full = record one_key { log_limit = 1 }
 
 abbrev pub full_view : EvdevView
@@ -98,10 +97,6 @@ full-client x client out cells h = full-call x BadClient out cells (refuses_clie
 
 pub full-other : (x : Step) (out : List Taken) (cells : List ℤ) → client_of x ≡ None → IsEvdevCall full_view full_view x (Refused 1 LogFull) out out cells cells
 full-other x out cells h = full-call x LogFull out cells (refuses_others x h)
-
--- devices of which each is such
-abbrev pub AreFull : List DeviceText → Type 0
-AreFull devices = (i : ℕ) (d : DeviceText) → slice_get devices i ≡ Some d → d.caps ≡ full
 
 -- an actor after a line is still one of its record
 pub has-after : (r : RecordView) (a b : ActorView) → b ≡ record a { job = b.job } → HasActor r a → HasActor r b

@@ -1,4 +1,5 @@
-//! The tests of playing: of `inp_recon`, `inp_reader`, `inp_script` and `inp_play`.
+//! The tests of playing: of `inp_recon`, `inp_reader` and `inp_script`. Whole plays are shown by the records of
+//! `tests/records`.
 //!
 //! A crate with tests is proved twice, once without and once with them. So the crates under test have none of their own:
 //! their tests stand here, over public calls alone, in one file for each crate, and in `waiting` that of a client of
@@ -7,8 +8,6 @@
 
 #[cfg(test)]
 mod common;
-#[cfg(test)]
-mod play;
 #[cfg(test)]
 mod reader;
 #[cfg(test)]
