@@ -90,16 +90,14 @@ const LONG: &str = "inputrecord 1\ndevice k\ncap EV_KEY KEY_A\nsource s\ndo s st
 
 #[test]
 fn a_long_stream_comes_in_three_calls(rt: HostRuntime) -> Result<(), Fail> {
-    let words = words_of(rt.alloc(), &["--threads", "f"])?;
+    let words = ["--threads", "f"];
     // 2,500 records of 24 bytes, each of which is a report at the moment 0
     let events = [0; 60_000];
     let files = [("f", LONG.as_bytes()), ("events", &events[..])];
-    let mut input = input_of(rt.alloc(), &files, &[])?;
-    let mut sink = sink_of(rt.alloc(), 100_000, &[])?;
     let gate = Counting {
         calls: AtomicU64::new(0),
     };
-    let end = inputplay(&rt, rt.alloc(), &words, &mut input, &mut sink, &gate);
+    let (end, _) = run(&rt, rt.alloc(), &words, &files, &[], &gate)?;
     assert_eq!(rt; end.status, 0);
     assert_eq!(rt;
         gate.calls.load(Ordering::SeqCst),
