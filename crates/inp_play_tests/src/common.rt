@@ -7,21 +7,27 @@ use inp_actors::{ActorText, Name, Role};
 use inp_caps::{Caps, CapsBuilder};
 use inp_model::{EV_KEY, KEY_A};
 
-/// A keyboard with the key A.
-pub fn keyboard() -> Caps
+/// The builder of a keyboard with the key A.
+fn keyboard_builder() -> CapsBuilder
     ensures description { result ≡ one_key }
 {
     let mut builder = CapsBuilder::new();
     builder.code(EV_KEY, KEY_A).unwrap();
-    builder.build()
+    builder
+}
+
+/// A keyboard with the key A.
+pub fn keyboard() -> Caps
+    ensures description { result ≡ one_key }
+{
+    keyboard_builder().build()
 }
 
 /// A keyboard with the key A whose history has at most one step.
 pub fn full_keyboard() -> Caps
     ensures description { result ≡ record one_key { log_limit = 1 } }
 {
-    let mut builder = CapsBuilder::new();
-    builder.code(EV_KEY, KEY_A).unwrap();
+    let mut builder = keyboard_builder();
     builder.log(1).unwrap();
     builder.build()
 }
