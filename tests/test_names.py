@@ -100,10 +100,15 @@ class Sections(unittest.TestCase):
             for name in CITED_HERE.findall(text):
                 self.assertIn(name, sections(page), page.name)
 
-    def test_the_contents_of_the_rules_are_its_sections(self):
-        page = TOP / "docs" / "RULES.md"
-        links = re.findall(r"\[([^\]]+)\]\(#([^)]+)\)", page.read_text())
-        self.assertEqual([(name, anchor(name)) for name in sections(page)], links)
+    def test_the_contents_of_the_rules_are_their_sections(self):
+        for page in (TOP / "docs" / "RULES.md", TOP / "docs" / "READER.md"):
+            links = re.findall(r"\[([^\]]+)\]\(#([^)]+)\)", page.read_text())
+            self.assertEqual([(name, anchor(name)) for name in sections(page)], links, page.name)
+
+    def test_what_the_rules_say_of_readers_leads_there(self):
+        rules = (TOP / "docs" / "RULES.md").read_text()
+        led = re.findall(r"^## (.*)\n\nIn \[`READER\.md`, \"([^\"]+)\"\]\(READER\.md#([^)]+)\)\.$", rules, re.M)
+        self.assertEqual([(name, name, anchor(name)) for name in sections(TOP / "docs" / "READER.md")], led)
 
     def test_what_it_finds_in_a_comment(self):
         comment = '-- one (docs/RULES.md,\n-- "Queries" and\n-- "What a\n-- device has"); `docs/FORMATS.md`, "Words"'

@@ -1,7 +1,7 @@
 """Random records, and ones at the bounds of what is allowed, are played by the program and by a second one.
 
-The second program (bench/model) is in Python, was written from docs/RULES.md and docs/FORMATS.md alone, and
-shares no code with the first. Both must write the same report, byte for byte. Each run has the same records.
+The second program (bench/model) is in Python, was written from docs/RULES.md, docs/READER.md and docs/FORMATS.md alone,
+and shares no code with the first. Both must write the same report, byte for byte. Each run has the same records.
 """
 
 import sys

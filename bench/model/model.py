@@ -1,8 +1,8 @@
 #!/usr/bin/env python3
 """Plays a record as `inputplay FILE` does, and prints its report: a second program, to compare the first one with.
 
-It was written from docs/RULES.md and docs/FORMATS.md and shares no code with the program. It takes the record for one that
-has a meaning, and plays on one thread.
+It was written from docs/RULES.md, docs/READER.md and docs/FORMATS.md and shares no code with the program. It takes the record
+for one that has a meaning, and plays on one thread.
 
 usage: model.py [--history] FILE
 """

@@ -1,4 +1,4 @@
-"""What a client knows of its device, and a reader that keeps it right, by the rules of docs/RULES.md."""
+"""What a client knows of its device, and a reader that keeps it right, by the rules of docs/READER.md."""
 
 import copy
 
