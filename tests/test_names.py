@@ -21,6 +21,7 @@ SECTION = re.compile(r"^##+ (.*)$", re.M)
 QUOTED = r'"([^"]+)"'
 CITED = re.compile(rf"(?:docs/)?([A-Z]+)\.md`?,\s+({QUOTED}(?:(?:,| and|, and)\s+{QUOTED})*)")
 CITED_HERE = re.compile(r"\(\"([A-Z][^\"]+)\"(?: below)?\)")
+QUOTED_CODE = re.compile(r"From\s`([^`]+)`,[^:]*:\n\n```rust\n(.*?)^```$", re.M | re.S)
 MARK = re.compile(r"^\s*(?:--|//[/!]?) ?", re.M)
 
 
@@ -57,6 +58,18 @@ def cited(text):
     for page, names, *_ in CITED.findall(re.sub(r"\s+", " ", MARK.sub("", text))):
         for name in re.findall(QUOTED, names):
             yield page, name
+
+
+def quoted(text):
+    """The pieces of code that a page quotes, each with its file: what stands between blank lines and lines `// ..`."""
+    for path, code in QUOTED_CODE.findall(text):
+        for piece in re.split(r"^\s*(?:// \.\.)?$", code, flags=re.M):
+            if piece.strip():
+                yield path, unindented(piece)
+
+
+def unindented(code):
+    return "\n".join(line.strip() for line in code.strip("\n").split("\n"))
 
 
 def anchor(name):
@@ -113,3 +126,16 @@ class Sections(unittest.TestCase):
     def test_what_it_finds_in_a_comment(self):
         comment = '-- one (docs/RULES.md,\n-- "Queries" and\n-- "What a\n-- device has"); `docs/FORMATS.md`, "Words"'
         self.assertEqual([("RULES", "Queries"), ("RULES", "What a device has"), ("FORMATS", "Words")], list(cited(comment)))
+
+
+class Callers(unittest.TestCase):
+    def test_each_caller_is_quoted_as_it_stands(self):
+        count = 0
+        for path, piece in quoted((TOP / "docs" / "CALLING.md").read_text()):
+            count += 1
+            self.assertIn(f"\n{piece}\n", f"\n{unindented((TOP / path).read_text())}\n", path)
+        self.assertGreater(count, 20)
+
+    def test_what_it_finds_in_a_page(self):
+        page = "A caller. From\n`a.rt`, `f`:\n\n```rust\nfn f() {\n    g();\n    // ..\n}\n\nfn g() {}\n```\n"
+        self.assertEqual([("a.rt", "fn f() {\ng();"), ("a.rt", "}"), ("a.rt", "fn g() {}")], list(quoted(page)))
