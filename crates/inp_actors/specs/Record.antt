@@ -32,8 +32,8 @@ pub record IsRecord (r : RecordView) : Type 0 where
   pub actors : (i : ℕ) (line : Line) → slice_get r.lines i ≡ Some line → line.actor < length r.actors
   -- each line's command is one that its actor's role has
   pub commands : (i : ℕ) (line : Line) (actor : ActorText) → slice_get r.lines i ≡ Some line → slice_get r.actors line.actor ≡ Some actor → is_command_of actor.role line.command ≡ true
-  -- each number is one that a line may have
-  pub ranges : (i : ℕ) (line : Line) → slice_get r.lines i ≡ Some line → is_in_range line.command ≡ true
+  -- each number is one that a line of its actor may have
+  pub ranges : (i : ℕ) (line : Line) (actor : ActorText) → slice_get r.lines i ≡ Some line → slice_get r.actors line.actor ≡ Some actor → is_in_range actor.role line.command ≡ true
   -- the stream commands have the streams, in line order
   pub numbered : streams_of r.lines ≡ range_with_len 0 (length r.streams)
   pub in_time : (i : ℕ) (stamps : List Stamped) → slice_get r.streams i ≡ Some stamps → AreInTime stamps

@@ -3,8 +3,8 @@
 use crate::{Name, Role};
 use inp_model::Items;
 
-/// The greatest number of actors of a record: on each of 8 devices 8 sources, and 128 clients and taps (this project's
-/// choice).
+/// The greatest number of actors of a record: on each of 8 devices 8 sources, and 128 clients, taps and joysticks (this
+/// project's choice).
 pub const ACTORS_MAX: u32 = 1088;
 
 const _: () = prove!(ACTORS_MAX == 8 * (8 + 128));

@@ -5,7 +5,7 @@ ghost use Rattle.inp_actors.specs.Command.{is_command_of, stream_of, first_of};
 use crate::{FileName, Role};
 use inp_model::{AxisInfo, Clock};
 
-/// The greatest number of events that a tap may ask for at once (this project's choice).
+/// The greatest number of events that a tap may ask for at once (this project's choice). A joystick's read has no such limit.
 pub const READ_MAX: u32 = 4096;
 
 const _: () = prove!(READ_MAX == 4 * 1024);
@@ -41,7 +41,7 @@ pub enum Command {
         file: FileName,
         index: u32,
     },
-    /// A tap opens a client; a client opens one and asks for the device's whole state.
+    /// A tap opens a client; a client and a joystick open one and ask for the device's whole state.
     Open,
     /// The client is closed.
     Close,
@@ -74,7 +74,8 @@ pub enum Command {
         code: u16,
         info: AxisInfo,
     },
-    /// A tap reads at most `count` events, of 0 to `READ_MAX`.
+    /// A tap reads at most `count` events, of 0 to `READ_MAX`. A joystick reads until it has handed out `count` records, of
+    /// any number, or nothing is there.
     Read {
         count: u32,
     },
@@ -124,17 +125,16 @@ impl Command {
             | Command::Uninhibit
             | Command::Stream { .. }
             | Command::Stream16 { .. } => role == Role::Source,
-            Command::Open
-            | Command::Close
-            | Command::Grab
+            Command::Open | Command::Close => role != Role::Source,
+            Command::Grab
             | Command::Ungrab
             | Command::Revoke
             | Command::Mask { .. }
             | Command::Clock { .. }
             | Command::Write { .. }
-            | Command::SetAxis { .. } => role != Role::Source,
-            Command::Read { .. }
-            | Command::Discard
+            | Command::SetAxis { .. } => matches!(role, Role::Client | Role::Tap),
+            Command::Read { .. } => matches!(role, Role::Tap | Role::Joy),
+            Command::Discard
             | Command::Keys
             | Command::Switches
             | Command::Leds

@@ -9,4 +9,6 @@ pub enum Role {
     Client,
     /// It makes a client's calls one by one.
     Tap,
+    /// It reads as a joystick, as the kernel's joydev has it.
+    Joy,
 }
