@@ -10,7 +10,7 @@ use Rattle.inp_caps.specs.Builder.{syn_alone, with_kind, with_code, with_axis, w
 use Rattle.inp_actors.specs.declared.command.Command as command
 use Rattle.inp_actors.specs.declared.command.Command.TheVariants as commands
 use Rattle.inp_actors.specs.declared.role.Role.{Role}
-use Rattle.inp_actors.specs.declared.role.Role.TheVariants.{Source, Client, Tap}
+use Rattle.inp_actors.specs.declared.role.Role.TheVariants.{Source, Client, Tap, Joy}
 use Rattle.inp_actors.specs.declared.device_text.DeviceText.{DeviceText}
 use Rattle.inp_actors.specs.declared.actor_text.ActorText.{ActorText}
 use Rattle.inp_actors.specs.declared.line.Line.{Line}
@@ -48,6 +48,7 @@ keyboard = record {
   streams = [];
 }
 
+-- its whole text, with the defaults
 abbrev pub WritesAKeyboard : Type 0
 WritesAKeyboard =
     record_text keyboard
@@ -146,11 +147,16 @@ WritesFiltersInOrder =
 
 -- actors of two devices
 abbrev pub actors : List ActorText
-actors = actor Source (codes "a") 0 ∷ actor Client (codes "b") 1 ∷ actor Tap (codes "c") 0 ∷ []
+actors =
+    actor Source (codes "a") 0
+    ∷ actor Client (codes "b") 1
+    ∷ actor Tap (codes "c") 0
+    ∷ actor Joy (codes "d") 1
+    ∷ []
 
 pub record WritesActorsOfTheDevice : Type 0 where
   pub first : lines_text (actors_lines actors 0) ≡ text_of (codes "source a" ∷ codes "tap c" ∷ [])
-  pub second : lines_text (actors_lines actors 1) ≡ text_of (codes "client b" ∷ [])
+  pub second : lines_text (actors_lines actors 1) ≡ text_of (codes "client b" ∷ codes "joy d" ∷ [])
 
 -- the line of a command alone
 abbrev pub IsWritten : command.Command → List ℕ → Type 0
@@ -177,6 +183,7 @@ pub record WritesCommands : Type 0 where
   pub write : IsWritten (commands.Write 7 7 300 (pos 1)) (codes "write 7 7 300 1")
   pub describe : IsWritten (commands.SetAxis 0 (record no_info { value = pos 10; maximum = pos 200; fuzz = pos 8; flat = negsuc 2 })) (codes "setaxis ABS_X 10 0 200 8 -3 0")
   pub read : IsWritten (commands.Read 0) (codes "read 0")
+  pub read_all : IsWritten (commands.Read 4294967295) (codes "read 4294967295")
   pub discard : IsWritten commands.Discard (codes "discard")
   pub keys : IsWritten commands.Keys (codes "keys")
   pub switches : IsWritten commands.Switches (codes "switches")

@@ -14,6 +14,7 @@ use inp_model::{
 use inp_texts::{ClockText, CodeText, KindText};
 use std::fmt::Write;
 
+// Appends the lines of a description.
 pub(crate) fn push_description(text: &mut String, caps: &Caps) -> Result<(), NoMemory>
     ensures pushed { OnOk result
         (string_bytes text.new

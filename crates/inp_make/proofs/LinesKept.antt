@@ -18,7 +18,7 @@ use Rattle.inp_make.proofs.Counts.{length-lines}
 pub record IsKept (line : Line) : Type 0 where
   pub actor : line.actor < 4
   pub command : (actor : ActorText) → slice_get actors line.actor ≡ Some actor → is_command_of actor.role line.command ≡ true
-  pub range : is_in_range line.command ≡ true
+  pub range : (role : Role) → is_in_range role line.command ≡ true
   pub stream : stream_of line.command ≡ []
 
 all-append : (xs ys : List Line) → AllByRecursion IsKept xs → AllByRecursion IsKept ys → AllByRecursion IsKept (xs ++ ys)
@@ -58,32 +58,32 @@ injected_kept : (frame : ℕ) (e : Event) → frame < 10000 → IsKept (injected
 injected_kept frame e within = record {
   actor = omega arith;
   command = λ actor is. of_actor _ actor is_source is refl;
-  range = grind (arith, nat_tests);
+  range = λ role. grind (arith, nat_tests);
   stream = refl;
 }
 
 -- a line of a client
-client_kept : (number : ℕ) (does : Command) → number < 4 → ((actor : ActorText) → slice_get actors number ≡ Some actor → is_command_of actor.role does ≡ true) → is_in_range does ≡ true
+client_kept : (number : ℕ) (does : Command) → number < 4 → ((actor : ActorText) → slice_get actors number ≡ Some actor → is_command_of actor.role does ≡ true) → ((role : Role) → is_in_range role does ≡ true)
     → stream_of does ≡ [] → IsKept (line number does)
 client_kept number does few is range stream = record { actor = few; command = is; range = range; stream = stream }
 
 opens_kept : AllByRecursion IsKept opens
 opens_kept = (
-  client_kept fast Open (omega arith) (λ actor is. of_actor _ actor is_reading is refl) refl refl,
+  client_kept fast Open (omega arith) (λ actor is. of_actor _ actor is_reading is refl) (λ role. refl) refl,
   (
-    client_kept mid Open (omega arith) (λ actor is. of_actor _ actor is_reading is refl) refl refl,
-    (client_kept slow Open (omega arith) (λ actor is. of_actor _ actor is_reading is refl) refl refl, tt),
+    client_kept mid Open (omega arith) (λ actor is. of_actor _ actor is_reading is refl) (λ role. refl) refl,
+    (client_kept slow Open (omega arith) (λ actor is. of_actor _ actor is_reading is refl) (λ role. refl) refl, tt),
   ),
 )
 
 fast_kept : IsKept (line fast Follow)
-fast_kept = client_kept fast Follow (omega arith) (λ actor is. of_actor _ actor is_client is refl) refl refl
+fast_kept = client_kept fast Follow (omega arith) (λ actor is. of_actor _ actor is_client is refl) (λ role. refl) refl
 
 mid_kept : IsKept (line mid Follow)
-mid_kept = client_kept mid Follow (omega arith) (λ actor is. of_actor _ actor is_client is refl) refl refl
+mid_kept = client_kept mid Follow (omega arith) (λ actor is. of_actor _ actor is_client is refl) (λ role. refl) refl
 
 slow_kept : IsKept (line slow Follow)
-slow_kept = client_kept slow Follow (omega arith) (λ actor is. of_actor _ actor is_client is refl) refl refl
+slow_kept = client_kept slow Follow (omega arith) (λ actor is. of_actor _ actor is_client is refl) (λ role. refl) refl
 
 follows_kept : (frame : ℕ) → AllByRecursion IsKept (follows frame)
 follows_kept frame = (fast_kept, tenth (nat_eq (frame % 10) 9))
@@ -124,7 +124,7 @@ IsRecord-generated number count few =
       devices = at IsOfPad actors actors_kept;
       actors = λ i line is. (at IsKept (lines number count) kept i line is).actor;
       commands = λ i line actor is by. (at IsKept (lines number count) kept i line is).command actor by;
-      ranges = λ i line is. (at IsKept (lines number count) kept i line is).range;
+      ranges = λ i line actor is by. (at IsKept (lines number count) kept i line is).range actor.role;
       numbered = no_streams (lines number count) kept;
       in_time = λ i stamps is. absurd (none_is_some stamps is);
       few_devices = omega arith;

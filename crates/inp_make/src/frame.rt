@@ -10,7 +10,7 @@ use inp_model::{
     Event, NoMemory, SYN_REPORT,
 };
 
-/// The number of the source.
+/// The number of the actor `finger`, the source.
 pub(crate) const FINGER: u32 = 0;
 
 /// The number of the client that reads after each frame.
@@ -22,7 +22,7 @@ pub(crate) const MID: u32 = 2;
 /// The number of the client that reads at the end.
 pub(crate) const SLOW: u32 = 3;
 
-/// How many fingers touch.
+/// How many fingers touch the pad in each frame.
 const FINGERS: u16 = 10;
 
 /// The time between two frames, in microseconds (this project's choice).

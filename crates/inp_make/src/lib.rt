@@ -23,8 +23,9 @@
 //!
 //! Frames are counted from 0, and all events of frame f have the moment 10000 (f + 1), in microseconds.
 //!
-//! Its contract: the record is `generated number count` of `specs/Generated.antt`, unless memory runs out.
-//! [`examples`] shows what that definition says of a few frames, and how many lines there are.
+//! Its contract: the record is `generated number count` of `specs/Generated.antt`, for every number and for each count
+//! of frames up to 10,000, unless memory runs out. [`examples`] shows what that definition says: where the fingers are,
+//! the events of a finger, the moments, and how many events a frame and how many lines each actor has.
 #![tactic(auto)]
 
 mod frame;

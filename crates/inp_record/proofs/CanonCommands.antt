@@ -1,5 +1,5 @@
 -- Commands, written and read again.
-use Rattle.std.proofs.Common.{◌≡◌, ℕ, ◌-◌, ◌^◌, ◌≤◌, ℤ, true, nat_eq, nat_le, List, ◌∷◌, length, codes, decimal, Option, Some, option_map, Ok, refl, sym, ap, ◌∙◌, arith}
+use Rattle.std.proofs.Common.{◌≡◌, ℕ, ◌-◌, ◌^◌, ◌≤◌, ◌<◌, ℤ, true, nat_eq, nat_le, List, ◌∷◌, length, codes, decimal, Option, Some, option_map, Ok, refl, sym, ap, ◌∙◌, arith}
 use Rattle.std.specs.Prelude.{option_and_then}
 use Rattle.std.specs.List.{list_all}
 use Rattle.std.proofs.lemmas.Bool.Decides.{nat_tests}
@@ -12,10 +12,12 @@ use Rattle.inp_canon.specs.Words.{Words}
 use Rattle.inp_canon.specs.Device.{fuzz_words, info_words as info_text}
 use Rattle.inp_canon.specs.Command.{event_words, command_words}
 use Rattle.inp_actors.specs.declared.role.Role as role
+use Rattle.inp_actors.specs.declared.role.Role.TheVariants as roles
 use Rattle.inp_actors.specs.declared.command.TheConstants.{READ_MAX}
 use Rattle.inp_actors.specs.declared.command.Command as command
 use Rattle.inp_actors.specs.declared.command.Command.TheVariants as commands
-use Rattle.inp_actors.specs.Command.{is_command_of, is_in_range}
+use Rattle.inp_actors.specs.Command.{is_command_of, is_count_of, is_in_range}
+use Rattle.inp_words.specs.Number.{number}
 use Rattle.inp_words.specs.Code.{code_word}
 use Rattle.inp_record.specs.declared.item.Item.TheVariants as items
 use Rattle.inp_record.specs.declared.keyword.Keyword.TheVariants as keywords
@@ -23,7 +25,7 @@ use Rattle.inp_record.specs.declared.verb.Verb as verb
 use Rattle.inp_record.specs.declared.verb.Verb.TheVariants as verbs
 use Rattle.inp_record.specs.Keyword.{keyword_rows, keyword_of}
 use Rattle.inp_record.specs.Verb.{verb_rows, is_verb_of, argument_count, with_arguments, verb_of}
-use Rattle.inp_record.specs.Words.{word, moment_word, kind_and_code, info_words, stamped_words, plain_command, command_of, action_by, action_of}
+use Rattle.inp_record.specs.Words.{word, moment_word, kind_and_code, info_words, stamped_words, count_max, plain_command, command_of, action_by, action_of}
 use Rattle.inp_record.proofs.Sayable.{IsSayableEvent, IsSayableCommand}
 use Rattle.inp_record.proofs.CanonLines.{is_plain}
 use Rattle.inp_record.proofs.CanonWords.{decimal_read, decimal_plain, signed_read, signed_plain, bits_read, bits_plain, kind_read, kind_plain, code_read, code_plain, clock_read, clock_plain, info_read_behind, info_plain, is_plain-word}
@@ -152,8 +154,17 @@ unfolding stamped_words
 event_read first name second moment kind code value h s =
     rw (moment_read moment h, kind_and_code_read kind code s.kind_fits s.code_fits, signed_read value s.value_fits) refl
 
-module _ (name : List ℕ) (stream : ℕ) where
-  words_read : (does : command.Command) → is_in_range does ≡ true → IsSayableCommand stream does → command_of stream (verb_for does) (do_words name does) ≡ Some does
+few_read : (count : ℕ) → nat_le count READ_MAX ≡ true → number READ_MAX (decimal count) ≡ Some count
+few_read count h = let within : count ≤ READ_MAX = grind (arith, nat_tests) in decimal_read READ_MAX count within (omega arith)
+
+count_read : (r : role.Role) (count : ℕ) → is_count_of r count ≡ true → count < 2 ^ 32 → number (count_max r) (decimal count) ≡ Some count
+count_read roles.Source count h s = few_read count h
+count_read roles.Client count h s = few_read count h
+count_read roles.Tap count h s = few_read count h
+count_read roles.Joy count h s = decimal_read (2 ^ 32 - 1) count (omega arith) (omega arith)
+
+module _ (name : List ℕ) (stream : ℕ) (r : role.Role) where
+  words_read : (does : command.Command) → is_in_range r does ≡ true → IsSayableCommand stream does → command_of stream r (verb_for does) (do_words name does) ≡ Some does
   unfolding command_of plain_command command_words
   words_read (commands.Event moment kind code value) h s = ap (option_map (λ (s : Stamped). commands.Event s.now s.event.kind s.event.code s.event.value)) (event_read (codes "do") name (codes "event") moment kind code value h s)
   words_read (commands.Tick moment) h s = ap (option_map (λ (n : ℕ). commands.Tick n)) (moment_read moment h)
@@ -172,7 +183,7 @@ module _ (name : List ℕ) (stream : ℕ) where
   words_read (commands.SetAxis code info) h s =
       ap (λ (o : Option ℕ). option_and_then (λ (n : ℕ). option_map (λ (i : AxisInfo). commands.SetAxis n i) (info_words 4 (do_words name (commands.SetAxis code info)))) o) (code_read EV_ABS code s.0)
       ∙ ap (option_map (λ (i : AxisInfo). commands.SetAxis code i)) (info_read_behind (codes "do") name info s.1 (codes "setaxis") (code_text EV_ABS code))
-  words_read (commands.Read count) h s = let within : count ≤ READ_MAX = grind (arith, nat_tests) in ap (option_map (λ (n : ℕ). commands.Read n)) (decimal_read READ_MAX count within (omega arith))
+  words_read (commands.Read count) h s = ap (option_map (λ (n : ℕ). commands.Read n)) (count_read r count h s)
   words_read commands.Discard h s = refl
   words_read commands.Keys h s = refl
   words_read commands.Switches h s = refl
@@ -187,44 +198,44 @@ module _ (name : List ℕ) (stream : ℕ) where
   words_read commands.Force h s = refl
 
 -- a command that can be said is read again
-pub command_read : (name : List ℕ) (stream actor : ℕ) (r : role.Role) (does : command.Command) → is_command_of r does ≡ true → is_in_range does ≡ true → IsSayableCommand stream does
-    → action_by stream actor (verb_of r (word 2 (do_words name does)) (length (do_words name does) - 3)) (do_words name does) ≡ Ok (items.Action actor does)
+pub command_read : (name : List ℕ) (stream actor : ℕ) (r : role.Role) (does : command.Command) → is_command_of r does ≡ true → is_in_range r does ≡ true → IsSayableCommand stream does
+    → action_by stream (actor, r) (verb_of r (word 2 (do_words name does)) (length (do_words name does) - 3)) (do_words name does) ≡ Ok (items.Action actor does)
 command_read name stream actor r does h k s =
-    ap (λ (v : Option verb.Verb). action_by stream actor v (do_words name does)) (verb_read name r does h)
-    ∙ ap (action_of actor) (words_read name stream does k s)
+    ap (λ (v : Option verb.Verb). action_by stream (actor, r) v (do_words name does)) (verb_read name r does h)
+    ∙ ap (action_of actor) (words_read name stream r does k s)
 
 -- its words are plain
 
 event_plain : (verb : List ℕ) (moment kind code : ℕ) (value : ℤ) → is_plain verb ≡ true → nat_le moment MOMENT_MAX ≡ true → IsSayableEvent kind code value → list_all is_plain (verb ∷ event_words moment kind code value) ≡ true
 event_plain verb moment kind code value v h s = rw (v, moment_plain moment h, kind_plain kind s.kind_fits, code_plain kind code s.code_fits, signed_plain value s.value_fits) refl
 
-pub command_plain : (stream : ℕ) (does : command.Command) → is_in_range does ≡ true → IsSayableCommand stream does → list_all is_plain (command_words does) ≡ true
+pub command_plain : (stream : ℕ) (r : role.Role) (does : command.Command) → is_in_range r does ≡ true → IsSayableCommand stream does → list_all is_plain (command_words does) ≡ true
 unfolding command_words
-command_plain stream (commands.Event moment kind code value) h s = event_plain (codes "event") moment kind code value refl h s
-command_plain stream (commands.Tick moment) h s = rw (moment_plain moment h) refl
-command_plain stream (commands.Inhibit moment) h s = rw (moment_plain moment h) refl
-command_plain stream commands.Uninhibit h s = refl
-command_plain stream (commands.Stream file index) h s = rw (is_plain-word file s.0) refl
-command_plain stream (commands.Stream16 file index) h s = rw (is_plain-word file s.0) refl
-command_plain stream commands.Open h s = refl
-command_plain stream commands.Close h s = refl
-command_plain stream commands.Grab h s = refl
-command_plain stream commands.Ungrab h s = refl
-command_plain stream commands.Revoke h s = refl
-command_plain stream (commands.Mask kind place bits) h s = rw (kind_plain kind s.0, decimal_plain place (omega (arith, s.1)), bits_plain bits s.2) refl
-command_plain stream (commands.Clock clock moment) h s = rw (clock_plain clock, moment_plain moment h) refl
-command_plain stream (commands.Write moment kind code value) h s = event_plain (codes "write") moment kind code value refl h s
-command_plain stream (commands.SetAxis code info) h s = rw (code_plain EV_ABS code s.0, info_plain info s.1) refl
-command_plain stream (commands.Read count) h s = let within : count ≤ READ_MAX = grind (arith, nat_tests) in rw (decimal_plain count (omega arith)) refl
-command_plain stream commands.Discard h s = refl
-command_plain stream commands.Keys h s = refl
-command_plain stream commands.Switches h s = refl
-command_plain stream commands.Leds h s = refl
-command_plain stream commands.Sounds h s = refl
-command_plain stream commands.SyncSlots h s = refl
-command_plain stream (commands.Axis code) h s = rw (code_plain EV_ABS code s) refl
-command_plain stream (commands.Slots code) h s = rw (code_plain EV_ABS code s) refl
-command_plain stream (commands.Next count) h s = rw (decimal_plain count (omega arith)) refl
-command_plain stream (commands.Skip count) h s = rw (decimal_plain count (omega arith)) refl
-command_plain stream commands.Follow h s = refl
-command_plain stream commands.Force h s = refl
+command_plain stream r (commands.Event moment kind code value) h s = event_plain (codes "event") moment kind code value refl h s
+command_plain stream r (commands.Tick moment) h s = rw (moment_plain moment h) refl
+command_plain stream r (commands.Inhibit moment) h s = rw (moment_plain moment h) refl
+command_plain stream r commands.Uninhibit h s = refl
+command_plain stream r (commands.Stream file index) h s = rw (is_plain-word file s.0) refl
+command_plain stream r (commands.Stream16 file index) h s = rw (is_plain-word file s.0) refl
+command_plain stream r commands.Open h s = refl
+command_plain stream r commands.Close h s = refl
+command_plain stream r commands.Grab h s = refl
+command_plain stream r commands.Ungrab h s = refl
+command_plain stream r commands.Revoke h s = refl
+command_plain stream r (commands.Mask kind place bits) h s = rw (kind_plain kind s.0, decimal_plain place (omega (arith, s.1)), bits_plain bits s.2) refl
+command_plain stream r (commands.Clock clock moment) h s = rw (clock_plain clock, moment_plain moment h) refl
+command_plain stream r (commands.Write moment kind code value) h s = event_plain (codes "write") moment kind code value refl h s
+command_plain stream r (commands.SetAxis code info) h s = rw (code_plain EV_ABS code s.0, info_plain info s.1) refl
+command_plain stream r (commands.Read count) h s = rw (decimal_plain count (omega arith)) refl
+command_plain stream r commands.Discard h s = refl
+command_plain stream r commands.Keys h s = refl
+command_plain stream r commands.Switches h s = refl
+command_plain stream r commands.Leds h s = refl
+command_plain stream r commands.Sounds h s = refl
+command_plain stream r commands.SyncSlots h s = refl
+command_plain stream r (commands.Axis code) h s = rw (code_plain EV_ABS code s) refl
+command_plain stream r (commands.Slots code) h s = rw (code_plain EV_ABS code s) refl
+command_plain stream r (commands.Next count) h s = rw (decimal_plain count (omega arith)) refl
+command_plain stream r (commands.Skip count) h s = rw (decimal_plain count (omega arith)) refl
+command_plain stream r commands.Follow h s = refl
+command_plain stream r commands.Force h s = refl

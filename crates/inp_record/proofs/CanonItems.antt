@@ -21,6 +21,7 @@ use Rattle.inp_actors.specs.declared.actor_text.ActorText.{ActorText}
 use Rattle.inp_actors.specs.declared.command.Command as command
 use Rattle.inp_actors.specs.declared.record.TheConstants.{VERSION_MAX}
 use Rattle.inp_actors.specs.Name.{is_name}
+use Rattle.inp_actors.specs.Command.{is_joy}
 use Rattle.inp_record.specs.declared.cause.Cause.TheVariants.{BadHeader, OutOfPlace}
 use Rattle.inp_record.specs.declared.item.Item.{Item}
 use Rattle.inp_record.specs.declared.item.Item.TheVariants.{Header, Device, Hint, Log, Realtime, Boottime, Slots, Kind, Code, Axis, Filter, Actor, Action}
@@ -110,6 +111,7 @@ module _ (actors : List ActorText) (streams : ℕ) where
   actor_read roles.Source first name h = ap (λ (o : Option (List ℕ)). or_bad_word (option_map (λ name. Actor roles.Source name) o)) (name_read name h)
   actor_read roles.Client first name h = ap (λ (o : Option (List ℕ)). or_bad_word (option_map (λ name. Actor roles.Client name) o)) (name_read name h)
   actor_read roles.Tap first name h = ap (λ (o : Option (List ℕ)). or_bad_word (option_map (λ name. Actor roles.Tap name) o)) (name_read name h)
+  actor_read roles.Joy first name h = ap (λ (o : Option (List ℕ)). or_bad_word (option_map (λ name. Actor roles.Joy name) o)) (name_read name h)
 
   action_read : (actor : ℕ) (does : command.Command) → (s : IsSayableAction actors streams actor does) → item_of actors streams keywords.Action (do_words s.text.name does) ≡ Ok (Action actor does)
   unfolding item_of
@@ -117,11 +119,12 @@ module _ (actors : List ActorText) (streams : ℕ) where
       ap (λ (o : Option (ℕ × role.Role)). action_with streams o (do_words s.text.name does)) s.first
       ∙ command_read s.text.name streams actor s.text.role does s.of_role s.in_range s.sayable
 
-role_keyword : (version : ℕ) (r : role.Role) (name : List ℕ) → keyword_of version (role_text r) name 2 ≡ Some (keyword_for_role r)
+role_keyword : (version : ℕ) (r : role.Role) (name : List ℕ) → (is_joy r && nat_eq version 1) ≡ false → keyword_of version (role_text r) name 2 ≡ Some (keyword_for_role r)
 unfolding role_text keyword_of keyword_rows
-role_keyword version roles.Source name = refl
-role_keyword version roles.Client name = refl
-role_keyword version roles.Tap name = refl
+role_keyword version roles.Source name later = refl
+role_keyword version roles.Client name later = refl
+role_keyword version roles.Tap name later = refl
+role_keyword version roles.Joy name later = let late : nat_eq version 1 ≡ false = later in rw late refl
 
 axis_keyword : (version code : ℕ) (i : AxisInfo) → keyword_of version (codes "axis") (code_text EV_ABS code) (length (axis_words code i)) ≡ Some keywords.Axis
 unfolding keyword_of keyword_rows info_text fuzz_words
@@ -176,7 +179,7 @@ item_read past (Kind kind) s p = placed_read past keywords.Kind (codes "type" �
 item_read past (Code kind code) s p = placed_read past keywords.Code (codes "cap" ∷ kind_text kind ∷ code_text kind code ∷ []) (Code kind code) refl p.0 p.1 (code_item_read (actors_of past) (stream_count past) kind code s.0 s.1)
 item_read past (Axis code i) s p = placed_read past keywords.Axis (axis_words code i) (Axis code i) (axis_keyword (version_of past) code i) p.0 p.1 (axis_read (actors_of past) (stream_count past) code i s.0 s.1)
 item_read past (Filter f) s p = placed_read past (keyword_for_filter f) (filter_words f) (Filter f) (filter_keyword (version_of past) f p.2) p.0 p.1 (filter_read (actors_of past) (stream_count past) f s)
-item_read past (Actor r name) s p = placed_read past (keyword_for_role r) (role_text r ∷ name ∷ []) (Actor r name) (role_keyword (version_of past) r name) p.0 p.1 (actor_read (actors_of past) (stream_count past) r (role_text r) name s)
+item_read past (Actor r name) s p = placed_read past (keyword_for_role r) (role_text r ∷ name ∷ []) (Actor r name) (role_keyword (version_of past) r name p.2) p.0 p.1 (actor_read (actors_of past) (stream_count past) r (role_text r) name s)
 item_read past (Action actor does) s p =
     ap (item_of_words (context_of past)) (action_said (actors_of past) (stream_count past) actor does s)
     ∙ placed_read past keywords.Action (do_words s.text.name does) (Action actor does) (do_keyword s.text.name (version_of past) does) p.0 p.1 (action_read (actors_of past) (stream_count past) actor does s)
@@ -188,6 +191,7 @@ unfolding role_text
 role_first roles.Source ws h = record { first = refl; plain = h }
 role_first roles.Client ws h = record { first = refl; plain = h }
 role_first roles.Tap ws h = record { first = refl; plain = h }
+role_first roles.Joy ws h = record { first = refl; plain = h }
 
 filter_plain : (f : filter.Filter) → IsSayableFilter f → IsPlainLine (filter_words f)
 unfolding filter_words
@@ -210,4 +214,4 @@ item_plain actors streams (Axis code i) s = record { first = refl; plain = rw (c
 item_plain actors streams (Filter f) s = filter_plain f s
 item_plain actors streams (Actor r name) s = role_first r (name ∷ []) (rw (is_plain-name name s) refl)
 item_plain actors streams (Action actor does) s =
-    record { first = refl; plain = ap (list_all is_plain) (action_said actors streams actor does s) ∙ rw (is_plain-name s.text.name s.name) (command_plain streams does s.in_range s.sayable) }
+    record { first = refl; plain = ap (list_all is_plain) (action_said actors streams actor does s) ∙ rw (is_plain-name s.text.name s.name) (command_plain streams s.text.role does s.in_range s.sayable) }

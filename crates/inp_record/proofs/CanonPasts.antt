@@ -8,6 +8,7 @@ use Rattle.inp_model.specs.declared.filter.Filter as filter
 use Rattle.inp_model.specs.declared.filter.Filter.TheVariants as filters
 use Rattle.inp_actors.specs.declared.actor_text.ActorText.{ActorText}
 use Rattle.inp_actors.specs.declared.role.Role.TheVariants as roles
+use Rattle.inp_actors.specs.Command.{is_joy}
 use Rattle.inp_actors.specs.declared.record.TheConstants.{VERSION_MAX}
 use Rattle.inp_actors.specs.Record.{RecordView}
 use Rattle.inp_words.specs.Line.{is_comment, is_text, words_of, lines_of as text_lines}
@@ -26,7 +27,7 @@ use Rattle.inp_record.specs.Past.{Past, place_of, version_of, former_devices, ac
 use Rattle.inp_record.specs.Meaning.{checked, placed, item_of_words, behind, behind_words, behind_line, go_on, behind_lines, record_of, as_record, meaning}
 use Rattle.inp_record.proofs.Inversions.{IsPlaced, checked_is, words_are, keyword_for as keyword_read}
 use Rattle.inp_record.proofs.Good.{push_get, item_is}
-use Rattle.inp_record.proofs.Keywords.{is_filter_keyword, filter_is_later}
+use Rattle.inp_record.proofs.Keywords.{is_later_keyword, keyword_is_later}
 use Rattle.inp_record.proofs.Sayable.{keyword_for, IsInPlace, IsAccepted}
 use Rattle.inp_record.proofs.SayableItems.{AreNamed, ArePlain, line_plain, item_said}
 
@@ -108,6 +109,7 @@ same_keyword (Filter filter) = refl
 same_keyword (Actor roles.Source name) = refl
 same_keyword (Actor roles.Client name) = refl
 same_keyword (Actor roles.Tap name) = refl
+same_keyword (Actor roles.Joy name) = refl
 same_keyword (Action actor command) = refl
 
 keyword_allowed : (c : Context) (ws : List (List ℕ)) (i : Item) → IsPlaced c ws i → is_out_of_place c.place (keyword_for i) ≡ false
@@ -116,29 +118,36 @@ keyword_allowed c ws i p = elim (item_is c.actors c.streams p.keyword ws i p.ite
   | inr h ↦ rw (sym (same_keyword i) ∙ h.0) p.in_place
 ]
 
--- a filter line is read under a later version than 1 alone
+-- a filter line and a joystick are read under a later version than 1 alone
 
-abbrev is_filter_item : Item → Bool
-is_filter_item (Filter filter) = true
-is_filter_item _ = false
+abbrev is_later_item : Item → Bool
+is_later_item (Filter filter) = true
+is_later_item (Actor role name) = is_joy role
+is_later_item _ = false
 
-filter_keyworded : (f : filter.Filter) → is_filter_keyword (keyword_for (Filter f)) ≡ true
+filter_keyworded : (f : filter.Filter) → is_later_keyword (keyword_for (Filter f)) ≡ true
 filter_keyworded (filters.Eat kind code) = refl
 filter_keyworded filters.Norepeat = refl
 filter_keyworded (filters.Chord first second) = refl
 filter_keyworded (filters.Bounce code micros) = refl
 
-item_keyworded : (i : Item) → is_filter_item i ≡ true → is_filter_keyword (keyword_for i) ≡ true
+item_keyworded : (i : Item) → is_later_item i ≡ true → is_later_keyword (keyword_for i) ≡ true
 item_keyworded (Filter f) h = filter_keyworded f
+item_keyworded (Actor roles.Joy name) h = refl
 item_keyworded i h = absurd (cc h)
 
-filter_later : (c : Context) (ws : List (List ℕ)) (i : Item) → IsPlaced c ws i → is_filter_item i ≡ true → nat_eq c.version 1 ≡ false
-filter_later c ws i p h = elim (item_is c.actors c.streams p.keyword ws i p.item) [
-  | inl a ↦ let none : is_filter_item i ≡ false = ap is_filter_item a.2 in absurd (cc (none, h))
-  | inr a ↦ filter_is_later c.version (word 0 ws) (word 1 ws) (length ws) p.keyword p.named (ap is_filter_keyword (sym (sym (same_keyword i) ∙ a.0)) ∙ item_keyworded i h)
+item_later : (c : Context) (ws : List (List ℕ)) (i : Item) → IsPlaced c ws i → is_later_item i ≡ true → nat_eq c.version 1 ≡ false
+item_later c ws i p h = elim (item_is c.actors c.streams p.keyword ws i p.item) [
+  | inl a ↦ let none : is_later_item i ≡ false = ap is_later_item a.2 in absurd (cc (none, h))
+  | inr a ↦ keyword_is_later c.version (word 0 ws) (word 1 ws) (length ws) p.keyword p.named (ap is_later_keyword (sym (sym (same_keyword i) ∙ a.0)) ∙ item_keyworded i h)
 ]
 
-in_place : (past : Past) (i : Item) → (is_start (place_of past) ≡ true → is_header_item i ≡ true) → is_out_of_place (place_of past) (keyword_for i) ≡ false → (is_filter_item i ≡ true → nat_eq (version_of past) 1 ≡ false) → IsInPlace past i
+-- where the first holds the second does not, so both never hold
+pub never_both : (a b : Bool) → (a ≡ true → b ≡ false) → (a && b) ≡ false
+never_both true b h = h refl
+never_both false b h = refl
+
+in_place : (past : Past) (i : Item) → (is_start (place_of past) ≡ true → is_header_item i ≡ true) → is_out_of_place (place_of past) (keyword_for i) ≡ false → (is_later_item i ≡ true → nat_eq (version_of past) 1 ≡ false) → IsInPlace past i
 in_place past (Header version) first allowed later = not-false (is_start (place_of past)) allowed
 in_place past (Device name) first allowed later = (false_from_ne_true (is_start (place_of past)) (λ s. let e : false ≡ true = first s in cc e), allowed)
 in_place past (Hint count) first allowed later = (false_from_ne_true (is_start (place_of past)) (λ s. let e : false ≡ true = first s in cc e), allowed)
@@ -150,7 +159,7 @@ in_place past (Kind kind) first allowed later = (false_from_ne_true (is_start (p
 in_place past (Code kind code) first allowed later = (false_from_ne_true (is_start (place_of past)) (λ s. let e : false ≡ true = first s in cc e), allowed)
 in_place past (Axis code info) first allowed later = (false_from_ne_true (is_start (place_of past)) (λ s. let e : false ≡ true = first s in cc e), allowed)
 in_place past (Filter filter) first allowed later = (false_from_ne_true (is_start (place_of past)) (λ s. let e : false ≡ true = first s in cc e), allowed, later refl)
-in_place past (Actor role name) first allowed later = (false_from_ne_true (is_start (place_of past)) (λ s. let e : false ≡ true = first s in cc e), allowed)
+in_place past (Actor role name) first allowed later = (false_from_ne_true (is_start (place_of past)) (λ s. let e : false ≡ true = first s in cc e), allowed, never_both (is_joy role) (nat_eq (version_of past) 1) later)
 in_place past (Action actor command) first allowed later = (false_from_ne_true (is_start (place_of past)) (λ s. let e : false ≡ true = first s in cc e), allowed)
 
 -- what is read is accepted
@@ -161,7 +170,7 @@ words_accepted past ws i were plain e =
     let p = words_are (context_of past) ws i h.read in
     record {
       sayable = item_said (actors_of past) (stream_count past) p.keyword ws i (actors_named past were) plain p.item;
-      in_place = in_place past i (λ s. first_header (context_of past) ws i s h.read) (keyword_allowed (context_of past) ws i p) (filter_later (context_of past) ws i p);
+      in_place = in_place past i (λ s. first_header (context_of past) ws i s h.read) (keyword_allowed (context_of past) ws i p) (item_later (context_of past) ws i p);
       in_version = h.in_version;
       once = h.once;
       few = h.enough;

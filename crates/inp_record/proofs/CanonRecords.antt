@@ -78,7 +78,7 @@ device_like past new name h a = record {
 actor_like : (past new : Past) (role : Role) (name : List ℕ) → IsLike past new → IsAccepted past (Actor role name) → IsAccepted new (Actor role name)
 actor_like past new role name h a = record {
   sayable = a.sayable;
-  in_place = rw h.place a.in_place;
+  in_place = rw (h.place, h.version) a.in_place;
   in_version = refl;
   once = rw h.actors a.once;
   few = rw (h.sources, h.readers) a.few;
@@ -371,6 +371,7 @@ actor_place : (role : Role) (p : Place) → is_out_of_place p (keyword_for_role 
 actor_place roles.Source p e = not-false (is_describing p || is_naming p) e
 actor_place roles.Client p e = not-false (is_describing p || is_naming p) e
 actor_place roles.Tap p e = not-false (is_describing p || is_naming p) e
+actor_place roles.Joy p e = not-false (is_describing p || is_naming p) e
 
 not_acting : (p : Place) → (is_describing p || is_naming p) ≡ true → is_acting p ≡ false
 not_acting Start e = refl

@@ -66,7 +66,7 @@ pub record IsGood (n : ℕ) (past : Past) : Type 0 where
   pub devices : (i : ℕ) (a : ActorText) → slice_get (actors_of past) i ≡ Some a → a.device < length (devices_of past)
   pub actors : (i : ℕ) (l : Line) → slice_get (lines_of past) i ≡ Some l → l.actor < length (actors_of past)
   pub commands : (i : ℕ) (l : Line) (a : ActorText) → slice_get (lines_of past) i ≡ Some l → slice_get (actors_of past) l.actor ≡ Some a → is_command_of a.role l.command ≡ true
-  pub ranges : (i : ℕ) (l : Line) → slice_get (lines_of past) i ≡ Some l → is_in_range l.command ≡ true
+  pub ranges : (i : ℕ) (l : Line) (a : ActorText) → slice_get (lines_of past) i ≡ Some l → slice_get (actors_of past) l.actor ≡ Some a → is_in_range a.role l.command ≡ true
   pub numbered : streams_of (lines_of past) ≡ range_with_len 0 (stream_count past)
   pub few_devices : length (devices_of past) ≤ n
   pub few_actors : HasFewActors past
@@ -81,7 +81,7 @@ goes_on n past new good named a l s d few = record {
   devices = λ i x h. omega (arith, d, good.devices i x (rw a at h));
   actors = λ i x h. omega (arith, ap length a, good.actors i x (rw l at h));
   commands = λ i x y h g. good.commands i x y (rw l at h) (rw a at g);
-  ranges = λ i x h. good.ranges i x (rw l at h);
+  ranges = λ i x y h g. good.ranges i x y (rw l at h) (rw a at g);
   numbered = rw (l, s) good.numbered;
   few_devices = omega (arith, good.few_devices);
   few_actors = few;
@@ -168,7 +168,7 @@ actor_added n past r name good place enough =
       ];
       actors = λ i x h. omega (arith, size, good.actors i x h);
       commands = λ i x y h g. good.commands i x y h (front_get (actors_of past) (new ∷ []) x.actor y (good.actors i x h) g);
-      ranges = good.ranges;
+      ranges = λ i x y h g. good.ranges i x y h (front_get (actors_of past) (new ∷ []) x.actor y (good.actors i x h) g);
       numbered = good.numbered;
       few_devices = omega (arith, good.few_devices);
       few_actors = record {
@@ -193,6 +193,10 @@ action_added n past actor c good act =
     let new : Line = record { actor = actor; command = c } in
     let size : length (lines_of past ++ new ∷ []) ≡ length (lines_of past) + 1 = length-append (lines_of past) (new ∷ []) in
     let within : actor < length (actors_of past) = slice_get_within (actors_of past) actor act.who act.named in
+    let by_new : (x : Line) (y : ActorText) → x ≡ new → slice_get (actors_of past) x.actor ≡ Some y → (y ≡ act.who) × (x.command ≡ c) = λ x y e g.
+    let at : x.actor ≡ actor = ap (λ (z : Line). z.actor) e in
+    let who : slice_get (actors_of past) actor ≡ Some y = subst (λ (k : ℕ). slice_get (actors_of past) k ≡ Some y) at g in
+    (cc (who, act.named), ap (λ (z : Line). z.command) e) in
     record {
       named = λ h. absurd (cc h);
       devices = good.devices;
@@ -202,15 +206,11 @@ action_added n past actor c good act =
       ];
       commands = λ i x y h g. elim (push_get (lines_of past) new i x h) [
         | inl k ↦ good.commands i x y k g
-        | inr e ↦ let at : x.actor ≡ actor = ap (λ (z : Line). z.actor) e in
-            let who : slice_get (actors_of past) actor ≡ Some y = subst (λ (k : ℕ). slice_get (actors_of past) k ≡ Some y) at g in
-            let same : y ≡ act.who = cc (who, act.named) in
-            let is : x.command ≡ c = ap (λ (z : Line). z.command) e in
-            rw (same, is) act.command
+        | inr e ↦ let is = by_new x y e g in rw (is.0, is.1) act.command
       ];
-      ranges = λ i x h. elim (push_get (lines_of past) new i x h) [
-        | inl g ↦ good.ranges i x g
-        | inr e ↦ let is : x.command ≡ c = ap (λ (z : Line). z.command) e in rw is act.range
+      ranges = λ i x y h g. elim (push_get (lines_of past) new i x h) [
+        | inl k ↦ good.ranges i x y k g
+        | inr e ↦ let is = by_new x y e g in rw (is.0, is.1) act.range
       ];
       numbered = flat_map-append (λ (l : Line). stream_of l.command) (lines_of past) (new ∷ [])
           ∙ ap (λ (l : List ℕ). streams_of (lines_of past) ++ l) (append-nil (stream_of c))
@@ -244,6 +244,7 @@ plain_added n past (Filter (filters.Bounce code micros)) good place plain enough
 plain_added n past (Actor roles.Source name) good place plain enough = actor_added n past roles.Source name good place enough
 plain_added n past (Actor roles.Client name) good place plain enough = actor_added n past roles.Client name good place enough
 plain_added n past (Actor roles.Tap name) good place plain enough = actor_added n past roles.Tap name good place enough
+plain_added n past (Actor roles.Joy name) good place plain enough = actor_added n past roles.Joy name good place enough
 plain_added n past (Action actor command) good place plain enough = absurd (cc plain)
 
 pub or_bad_is : (o : Option item.Item) (i : item.Item) → or_bad_word o ≡ Ok i → o ≡ Some i
@@ -325,7 +326,7 @@ none_good = record {
   devices = λ i x h. absurd (cc h);
   actors = λ i x h. absurd (cc h);
   commands = λ i x y h g. absurd (cc h);
-  ranges = λ i x h. absurd (cc h);
+  ranges = λ i x y h g. absurd (cc h);
   numbered = refl;
   few_devices = omega arith;
   few_actors = record { devices = omega arith; sources = omega arith; readers = omega arith; latest = omega arith; all = omega arith };

@@ -19,7 +19,7 @@ use Rattle.inp_actors.specs.declared.role.Role.TheVariants as roles
 use Rattle.inp_actors.specs.declared.command.Command as command
 use Rattle.inp_actors.specs.declared.command.Command.TheVariants as commands
 use Rattle.inp_actors.specs.declared.actor_text.ActorText.{ActorText}
-use Rattle.inp_actors.specs.Command.{is_command_of, is_in_range, stream_of}
+use Rattle.inp_actors.specs.Command.{is_command_of, is_count_of, is_in_range, stream_of}
 use Rattle.inp_record.specs.declared.cause.Cause.{Cause}
 use Rattle.inp_record.specs.declared.cause.Cause.TheVariants.{BadHeader, OutOfPlace, BadCommand, Twice, TooMany, Caps}
 use Rattle.inp_record.specs.declared.context.Context.{Context}
@@ -32,7 +32,7 @@ use Rattle.inp_record.specs.declared.item.Item.TheVariants as items
 use Rattle.inp_record.specs.Keyword.{keyword_of}
 use Rattle.inp_record.specs.Place.{is_start, is_out_of_place}
 use Rattle.inp_record.specs.Verb.{is_verb_of, argument_count, with_arguments, verb_of, verb_rows}
-use Rattle.inp_record.specs.Words.{word, version_word, is_header, name_word, count_word, wide_word, moment_word, clock_word, micros_word, kind_and_code, info_words, stamped_words, offset_item, plain_item, actor_item, plain_command, command_of, actor_from, action_of, action_by, action_with, action_item, item_of}
+use Rattle.inp_record.specs.Words.{word, version_word, is_header, name_word, count_word, wide_word, moment_word, clock_word, micros_word, kind_and_code, info_words, stamped_words, offset_item, plain_item, actor_item, count_max, plain_command, command_of, actor_from, action_of, action_by, action_with, action_item, item_of}
 use Rattle.inp_record.specs.Past.{streams_in}
 use Rattle.inp_record.proofs.Sayable.{keyword_for_filter}
 use Rattle.inp_record.specs.Meaning.{is_later_command, is_twice, is_too_many, has_too_many_slots, refusal, unless_refused, checked, placed, item_of_words}
@@ -108,6 +108,7 @@ abbrev pub keyword_of_role : role.Role → keyword.Keyword
 keyword_of_role roles.Source = keywords.Source
 keyword_of_role roles.Client = keywords.Client
 keyword_of_role roles.Tap = keywords.Tap
+keyword_of_role roles.Joy = keywords.Joy
 
 abbrev pub keyword_for : item.Item → keyword.Keyword
 keyword_for (items.Header version) = keywords.Header
@@ -161,16 +162,17 @@ plain_keyword keywords.Bounce ws i e =
 plain_keyword keywords.Source ws i e = actor_keyword roles.Source (word 1 ws) i e
 plain_keyword keywords.Client ws i e = actor_keyword roles.Client (word 1 ws) i e
 plain_keyword keywords.Tap ws i e = actor_keyword roles.Tap (word 1 ws) i e
+plain_keyword keywords.Joy ws i e = actor_keyword roles.Joy (word 1 ws) i e
 plain_keyword keywords.Action ws i e = absurd (cc e)
 
--- a command is one of its verb
-pub record IsOfVerb (v : verb.Verb) (c : command.Command) : Type 0 where
+-- a command of an actor of this role is one of its verb
+pub record IsOfVerb (by : role.Role) (v : verb.Verb) (c : command.Command) : Type 0 where
   pub role : (r : role.Role) → is_command_of r c ≡ is_verb_of r v
-  pub range : is_in_range c ≡ true
+  pub range : is_in_range by c ≡ true
   pub stream : (s : ℕ) → stream_of c ≡ range_with_len s (streams_in c)
 
-of_verb : (v : verb.Verb) (c d : command.Command) → c ≡ d → IsOfVerb v d → IsOfVerb v c
-of_verb v c d e h = let P : command.Command → Type 0 = λ x. IsOfVerb v x in subst P (sym e) h
+of_verb : (by : role.Role) (v : verb.Verb) (c d : command.Command) → c ≡ d → IsOfVerb by v d → IsOfVerb by v c
+of_verb by v c d e h = let P : command.Command → Type 0 = λ x. IsOfVerb by v x in subst P (sym e) h
 
 moment_within : (ws : List (List ℕ)) (s : Stamped) → stamped_words ws ≡ Some s → nat_le s.now MOMENT_MAX ≡ true
 unfolding stamped_words
@@ -183,79 +185,86 @@ moment_within ws s e =
     let now : s.now ≡ h.0 = ap (λ (x : Stamped). x.now) f.2 in
     rw now (number_within MOMENT_MAX (word 3 ws) h.0 h.1)
 
-pub command_is : (v : verb.Verb) (ws : List (List ℕ)) (c : command.Command) → plain_command v ws ≡ Some c → IsOfVerb v c
+-- a count of a read is one that the role may have
+count_within : (by : role.Role) (w : List ℕ) (n : ℕ) → number (count_max by) w ≡ Some n → is_count_of by n ≡ true
+count_within roles.Source w n e = number_within READ_MAX w n e
+count_within roles.Client w n e = number_within READ_MAX w n e
+count_within roles.Tap w n e = number_within READ_MAX w n e
+count_within roles.Joy w n e = refl
+
+pub command_is : (by : role.Role) (v : verb.Verb) (ws : List (List ℕ)) (c : command.Command) → plain_command by v ws ≡ Some c → IsOfVerb by v c
 unfolding plain_command
-command_is verbs.Event ws c e =
+command_is by verbs.Event ws c e =
     let h = map_is (λ (s : Stamped). commands.Event s.now s.event.kind s.event.code s.event.value) (stamped_words ws) c e in
-    of_verb verbs.Event c (commands.Event h.0.now h.0.event.kind h.0.event.code h.0.event.value) h.2 (record { role = λ r. refl; range = moment_within ws h.0 h.1; stream = λ s. refl })
-command_is verbs.Tick ws c e =
+    of_verb by verbs.Event c (commands.Event h.0.now h.0.event.kind h.0.event.code h.0.event.value) h.2 (record { role = λ r. refl; range = moment_within ws h.0 h.1; stream = λ s. refl })
+command_is by verbs.Tick ws c e =
     let h = map_is (λ moment. commands.Tick moment) (moment_word (word 3 ws)) c e in
-    of_verb verbs.Tick c (commands.Tick h.0) h.2 (record { role = λ r. refl; range = number_within MOMENT_MAX (word 3 ws) h.0 h.1; stream = λ s. refl })
-command_is verbs.Inhibit ws c e =
+    of_verb by verbs.Tick c (commands.Tick h.0) h.2 (record { role = λ r. refl; range = number_within MOMENT_MAX (word 3 ws) h.0 h.1; stream = λ s. refl })
+command_is by verbs.Inhibit ws c e =
     let h = map_is (λ moment. commands.Inhibit moment) (moment_word (word 3 ws)) c e in
-    of_verb verbs.Inhibit c (commands.Inhibit h.0) h.2 (record { role = λ r. refl; range = number_within MOMENT_MAX (word 3 ws) h.0 h.1; stream = λ s. refl })
-command_is verbs.Uninhibit ws c e = let h : commands.Uninhibit ≡ c = cc e in of_verb verbs.Uninhibit c commands.Uninhibit (sym h) (record { role = λ r. refl; range = refl; stream = λ s. refl })
-command_is verbs.Stream ws c e = absurd (cc e)
-command_is verbs.Stream16 ws c e = absurd (cc e)
-command_is verbs.Open ws c e = let h : commands.Open ≡ c = cc e in of_verb verbs.Open c commands.Open (sym h) (record { role = λ r. refl; range = refl; stream = λ s. refl })
-command_is verbs.Close ws c e = let h : commands.Close ≡ c = cc e in of_verb verbs.Close c commands.Close (sym h) (record { role = λ r. refl; range = refl; stream = λ s. refl })
-command_is verbs.Grab ws c e = let h : commands.Grab ≡ c = cc e in of_verb verbs.Grab c commands.Grab (sym h) (record { role = λ r. refl; range = refl; stream = λ s. refl })
-command_is verbs.Ungrab ws c e = let h : commands.Ungrab ≡ c = cc e in of_verb verbs.Ungrab c commands.Ungrab (sym h) (record { role = λ r. refl; range = refl; stream = λ s. refl })
-command_is verbs.Revoke ws c e = let h : commands.Revoke ≡ c = cc e in of_verb verbs.Revoke c commands.Revoke (sym h) (record { role = λ r. refl; range = refl; stream = λ s. refl })
-command_is verbs.Mask ws c e =
+    of_verb by verbs.Inhibit c (commands.Inhibit h.0) h.2 (record { role = λ r. refl; range = number_within MOMENT_MAX (word 3 ws) h.0 h.1; stream = λ s. refl })
+command_is by verbs.Uninhibit ws c e = let h : commands.Uninhibit ≡ c = cc e in of_verb by verbs.Uninhibit c commands.Uninhibit (sym h) (record { role = λ r. refl; range = refl; stream = λ s. refl })
+command_is by verbs.Stream ws c e = absurd (cc e)
+command_is by verbs.Stream16 ws c e = absurd (cc e)
+command_is by verbs.Open ws c e = let h : commands.Open ≡ c = cc e in of_verb by verbs.Open c commands.Open (sym h) (record { role = λ r. refl; range = refl; stream = λ s. refl })
+command_is by verbs.Close ws c e = let h : commands.Close ≡ c = cc e in of_verb by verbs.Close c commands.Close (sym h) (record { role = λ r. refl; range = refl; stream = λ s. refl })
+command_is by verbs.Grab ws c e = let h : commands.Grab ≡ c = cc e in of_verb by verbs.Grab c commands.Grab (sym h) (record { role = λ r. refl; range = refl; stream = λ s. refl })
+command_is by verbs.Ungrab ws c e = let h : commands.Ungrab ≡ c = cc e in of_verb by verbs.Ungrab c commands.Ungrab (sym h) (record { role = λ r. refl; range = refl; stream = λ s. refl })
+command_is by verbs.Revoke ws c e = let h : commands.Revoke ≡ c = cc e in of_verb by verbs.Revoke c commands.Revoke (sym h) (record { role = λ r. refl; range = refl; stream = λ s. refl })
+command_is by verbs.Mask ws c e =
     let h = and_then_is (λ kind. option_and_then (λ place. option_map (λ bits. commands.Mask kind place bits) (wide_word (word 5 ws))) (number 65535 (word 4 ws))) (kind_word (word 3 ws)) c e in
     let g = and_then_is (λ place. option_map (λ bits. commands.Mask h.0 place bits) (wide_word (word 5 ws))) (number 65535 (word 4 ws)) c h.2 in
     let f = map_is (λ bits. commands.Mask h.0 g.0 bits) (wide_word (word 5 ws)) c g.2 in
-    of_verb verbs.Mask c (commands.Mask h.0 g.0 f.0) f.2 (record { role = λ r. refl; range = refl; stream = λ s. refl })
-command_is verbs.Clock ws c e =
+    of_verb by verbs.Mask c (commands.Mask h.0 g.0 f.0) f.2 (record { role = λ r. refl; range = refl; stream = λ s. refl })
+command_is by verbs.Clock ws c e =
     let h = and_then_is (λ clock. option_map (λ moment. commands.Clock clock moment) (moment_word (word 4 ws))) (clock_word (word 3 ws)) c e in
     let g = map_is (λ moment. commands.Clock h.0 moment) (moment_word (word 4 ws)) c h.2 in
-    of_verb verbs.Clock c (commands.Clock h.0 g.0) g.2 (record { role = λ r. refl; range = number_within MOMENT_MAX (word 4 ws) g.0 g.1; stream = λ s. refl })
-command_is verbs.Write ws c e =
+    of_verb by verbs.Clock c (commands.Clock h.0 g.0) g.2 (record { role = λ r. refl; range = number_within MOMENT_MAX (word 4 ws) g.0 g.1; stream = λ s. refl })
+command_is by verbs.Write ws c e =
     let h = map_is (λ (s : Stamped). commands.Write s.now s.event.kind s.event.code s.event.value) (stamped_words ws) c e in
-    of_verb verbs.Write c (commands.Write h.0.now h.0.event.kind h.0.event.code h.0.event.value) h.2 (record { role = λ r. refl; range = moment_within ws h.0 h.1; stream = λ s. refl })
-command_is verbs.SetAxis ws c e =
+    of_verb by verbs.Write c (commands.Write h.0.now h.0.event.kind h.0.event.code h.0.event.value) h.2 (record { role = λ r. refl; range = moment_within ws h.0 h.1; stream = λ s. refl })
+command_is by verbs.SetAxis ws c e =
     let h = and_then_is (λ code. option_map (λ info. commands.SetAxis code info) (info_words 4 ws)) (code_word EV_ABS (word 3 ws)) c e in
     let g = map_is (λ info. commands.SetAxis h.0 info) (info_words 4 ws) c h.2 in
-    of_verb verbs.SetAxis c (commands.SetAxis h.0 g.0) g.2 (record { role = λ r. refl; range = refl; stream = λ s. refl })
-command_is verbs.Read ws c e =
-    let h = map_is (λ count. commands.Read count) (number READ_MAX (word 3 ws)) c e in
-    of_verb verbs.Read c (commands.Read h.0) h.2 (record { role = λ r. refl; range = number_within READ_MAX (word 3 ws) h.0 h.1; stream = λ s. refl })
-command_is verbs.Discard ws c e = let h : commands.Discard ≡ c = cc e in of_verb verbs.Discard c commands.Discard (sym h) (record { role = λ r. refl; range = refl; stream = λ s. refl })
-command_is verbs.Keys ws c e = let h : commands.Keys ≡ c = cc e in of_verb verbs.Keys c commands.Keys (sym h) (record { role = λ r. refl; range = refl; stream = λ s. refl })
-command_is verbs.Switches ws c e = let h : commands.Switches ≡ c = cc e in of_verb verbs.Switches c commands.Switches (sym h) (record { role = λ r. refl; range = refl; stream = λ s. refl })
-command_is verbs.Leds ws c e = let h : commands.Leds ≡ c = cc e in of_verb verbs.Leds c commands.Leds (sym h) (record { role = λ r. refl; range = refl; stream = λ s. refl })
-command_is verbs.Sounds ws c e = let h : commands.Sounds ≡ c = cc e in of_verb verbs.Sounds c commands.Sounds (sym h) (record { role = λ r. refl; range = refl; stream = λ s. refl })
-command_is verbs.SyncSlots ws c e = let h : commands.SyncSlots ≡ c = cc e in of_verb verbs.SyncSlots c commands.SyncSlots (sym h) (record { role = λ r. refl; range = refl; stream = λ s. refl })
-command_is verbs.Axis ws c e =
+    of_verb by verbs.SetAxis c (commands.SetAxis h.0 g.0) g.2 (record { role = λ r. refl; range = refl; stream = λ s. refl })
+command_is by verbs.Read ws c e =
+    let h = map_is (λ count. commands.Read count) (number (count_max by) (word 3 ws)) c e in
+    of_verb by verbs.Read c (commands.Read h.0) h.2 (record { role = λ r. refl; range = count_within by (word 3 ws) h.0 h.1; stream = λ s. refl })
+command_is by verbs.Discard ws c e = let h : commands.Discard ≡ c = cc e in of_verb by verbs.Discard c commands.Discard (sym h) (record { role = λ r. refl; range = refl; stream = λ s. refl })
+command_is by verbs.Keys ws c e = let h : commands.Keys ≡ c = cc e in of_verb by verbs.Keys c commands.Keys (sym h) (record { role = λ r. refl; range = refl; stream = λ s. refl })
+command_is by verbs.Switches ws c e = let h : commands.Switches ≡ c = cc e in of_verb by verbs.Switches c commands.Switches (sym h) (record { role = λ r. refl; range = refl; stream = λ s. refl })
+command_is by verbs.Leds ws c e = let h : commands.Leds ≡ c = cc e in of_verb by verbs.Leds c commands.Leds (sym h) (record { role = λ r. refl; range = refl; stream = λ s. refl })
+command_is by verbs.Sounds ws c e = let h : commands.Sounds ≡ c = cc e in of_verb by verbs.Sounds c commands.Sounds (sym h) (record { role = λ r. refl; range = refl; stream = λ s. refl })
+command_is by verbs.SyncSlots ws c e = let h : commands.SyncSlots ≡ c = cc e in of_verb by verbs.SyncSlots c commands.SyncSlots (sym h) (record { role = λ r. refl; range = refl; stream = λ s. refl })
+command_is by verbs.Axis ws c e =
     let h = map_is (λ code. commands.Axis code) (code_word EV_ABS (word 3 ws)) c e in
-    of_verb verbs.Axis c (commands.Axis h.0) h.2 (record { role = λ r. refl; range = refl; stream = λ s. refl })
-command_is verbs.Slots ws c e =
+    of_verb by verbs.Axis c (commands.Axis h.0) h.2 (record { role = λ r. refl; range = refl; stream = λ s. refl })
+command_is by verbs.Slots ws c e =
     let h = map_is (λ code. commands.Slots code) (code_word EV_ABS (word 3 ws)) c e in
-    of_verb verbs.Slots c (commands.Slots h.0) h.2 (record { role = λ r. refl; range = refl; stream = λ s. refl })
-command_is verbs.Next ws c e =
+    of_verb by verbs.Slots c (commands.Slots h.0) h.2 (record { role = λ r. refl; range = refl; stream = λ s. refl })
+command_is by verbs.Next ws c e =
     let h = map_is (λ count. commands.Next count) (count_word (word 3 ws)) c e in
-    of_verb verbs.Next c (commands.Next h.0) h.2 (record { role = λ r. refl; range = refl; stream = λ s. refl })
-command_is verbs.Skip ws c e =
+    of_verb by verbs.Next c (commands.Next h.0) h.2 (record { role = λ r. refl; range = refl; stream = λ s. refl })
+command_is by verbs.Skip ws c e =
     let h = map_is (λ count. commands.Skip count) (count_word (word 3 ws)) c e in
-    of_verb verbs.Skip c (commands.Skip h.0) h.2 (record { role = λ r. refl; range = refl; stream = λ s. refl })
-command_is verbs.Follow ws c e = let h : commands.Follow ≡ c = cc e in of_verb verbs.Follow c commands.Follow (sym h) (record { role = λ r. refl; range = refl; stream = λ s. refl })
-command_is verbs.Force ws c e = let h : commands.Force ≡ c = cc e in of_verb verbs.Force c commands.Force (sym h) (record { role = λ r. refl; range = refl; stream = λ s. refl })
+    of_verb by verbs.Skip c (commands.Skip h.0) h.2 (record { role = λ r. refl; range = refl; stream = λ s. refl })
+command_is by verbs.Follow ws c e = let h : commands.Follow ≡ c = cc e in of_verb by verbs.Follow c commands.Follow (sym h) (record { role = λ r. refl; range = refl; stream = λ s. refl })
+command_is by verbs.Force ws c e = let h : commands.Force ≡ c = cc e in of_verb by verbs.Force c commands.Force (sym h) (record { role = λ r. refl; range = refl; stream = λ s. refl })
 
 -- what an action is of these actors, behind so many streams
 pub record IsAct (actors : List ActorText) (streams : ℕ) (actor : ℕ) (c : command.Command) : Type 0 where
   pub who : ActorText
   pub named : slice_get actors actor ≡ Some who
   pub command : is_command_of who.role c ≡ true
-  pub range : is_in_range c ≡ true
+  pub range : is_in_range who.role c ≡ true
   pub stream : stream_of c ≡ range_with_len streams (streams_in c)
 
-pub command_of_is : (s : ℕ) (v : verb.Verb) (ws : List (List ℕ)) (c : command.Command) → command_of s v ws ≡ Some c
-    → ((r : role.Role) → is_command_of r c ≡ is_verb_of r v) × (is_in_range c ≡ true) × (stream_of c ≡ range_with_len s (streams_in c))
+pub command_of_is : (s : ℕ) (by : role.Role) (v : verb.Verb) (ws : List (List ℕ)) (c : command.Command) → command_of s by v ws ≡ Some c
+    → ((r : role.Role) → is_command_of r c ≡ is_verb_of r v) × (is_in_range by c ≡ true) × (stream_of c ≡ range_with_len s (streams_in c))
 unfolding command_of
-command_of_is s verbs.Stream ws c e = let same : commands.Stream (word 3 ws) s ≡ c = cc e in (λ r. rw (← same) refl, rw (← same) refl, rw (← same) refl)
-command_of_is s verbs.Stream16 ws c e = let same : commands.Stream16 (word 3 ws) s ≡ c = cc e in (λ r. rw (← same) refl, rw (← same) refl, rw (← same) refl)
-command_of_is s v ws c e = let f = command_is v ws c e in (f.role, f.range, f.stream s)
+command_of_is s by verbs.Stream ws c e = let same : commands.Stream (word 3 ws) s ≡ c = cc e in (λ r. rw (← same) refl, rw (← same) refl, rw (← same) refl)
+command_of_is s by verbs.Stream16 ws c e = let same : commands.Stream16 (word 3 ws) s ≡ c = cc e in (λ r. rw (← same) refl, rw (← same) refl, rw (← same) refl)
+command_of_is s by v ws c e = let f = command_is by v ws c e in (f.role, f.range, f.stream s)
 
 if_some : {A : Type 0} (b : Bool) (x y : A) → (if b then Some x else None) ≡ Some y → (b ≡ true) × (x ≡ y)
 if_some true x y e = (refl, cc e)
@@ -293,12 +302,12 @@ action_of_is actor (Some c) i e = (c, refl, cc e)
 pub act_is : (actors : List ActorText) (s : ℕ) (ws : List (List ℕ)) (i : item.Item) → action_item actors s ws ≡ Ok i → (actor : ℕ) × (c : command.Command) × (i ≡ items.Action actor c) × IsAct actors s actor c
 act_is actors s ws i e = by_actor (actor_from 0 actors (word 1 ws)) refl e
   where
-    by_verb : (a : ℕ × role.Role) → actor_from 0 actors (word 1 ws) ≡ Some a → (o : Option verb.Verb) → verb_of a.1 (word 2 ws) (length ws - 3) ≡ o → action_by s a.0 o ws ≡ Ok i → (actor : ℕ) × (c : command.Command) × (i ≡ items.Action actor c) × IsAct actors s actor c
+    by_verb : (a : ℕ × role.Role) → actor_from 0 actors (word 1 ws) ≡ Some a → (o : Option verb.Verb) → verb_of a.1 (word 2 ws) (length ws - 3) ≡ o → action_by s a o ws ≡ Ok i → (actor : ℕ) × (c : command.Command) × (i ≡ items.Action actor c) × IsAct actors s actor c
     by_verb a h None g e = absurd (cc e)
     by_verb a h (Some v) g e =
-        let k = action_of_is a.0 (command_of s v ws) i e in
+        let k = action_of_is a.0 (command_of s a.1 v ws) i e in
         let c = k.0 in
-        let f = command_of_is s v ws c k.1 in
+        let f = command_of_is s a.1 v ws c k.1 in
         let who = actor_is 0 actors (word 1 ws) a h in
         let at : a.0 ≡ who.0 = omega (arith, who.2) in (
           a.0,
@@ -308,7 +317,7 @@ act_is actors s ws i e = by_actor (actor_from 0 actors (word 1 ws)) refl e
             who = who.1;
             named = subst (λ (k : ℕ). slice_get actors k ≡ Some who.1) (sym at) who.3;
             command = rw who.4 (f.0 a.1 ∙ verb_is a.1 (word 2 ws) (length ws - 3) v g);
-            range = f.1;
+            range = rw who.4 f.1;
             stream = f.2;
           },
         )

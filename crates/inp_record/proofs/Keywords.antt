@@ -71,12 +71,14 @@ kind_does_nothing second = by_kind (named filter_rows second) refl
     by_kind None h = refl
     by_kind (Some k) h = no_action (is_action k) (named_passes is_no_action filter_rows second k kinds_do_nothing h)
 
+-- the keyword of a line that no record of version 1 has
+later_is : (early : Bool) (j k : keyword.Keyword) → (if early then None else Some j) ≡ Some k → (early ≡ false) × (k ≡ j)
+later_is true j k e = absurd (cc e)
+later_is false j k e = (refl, cc e)
+
 same_action : (version : ℕ) (second : List ℕ) (base k : keyword.Keyword) → keyword_under version second base ≡ Some k → is_action k ≡ is_action base
-same_action version second keywords.Filter k e = by_version (nat_eq version 1) e
-  where
-    by_version : (early : Bool) → (if early then None else Some (filter_keyword second)) ≡ Some k → is_action k ≡ false
-    by_version true e = absurd (cc e)
-    by_version false e = let same : filter_keyword second ≡ k = cc e in ap is_action (sym same) ∙ kind_does_nothing second
+same_action version second keywords.Filter k e = ap is_action (later_is (nat_eq version 1) (filter_keyword second) k e).1 ∙ kind_does_nothing second
+same_action version second keywords.Joy k e = ap is_action (later_is (nat_eq version 1) keywords.Joy k e).1
 same_action version second base k e = let same : base ≡ k = cc e in ap is_action (sym same)
 
 pub action_is_do : (version : ℕ) (first second : List ℕ) (count : ℕ) (k : keyword.Keyword) → keyword_of version first second count ≡ Some k → is_action k ≡ bytes_eq first (codes "do")
@@ -85,15 +87,16 @@ action_is_do version first second count k e =
     same_action version second h.0 k h.2
     ∙ do_by_tests (is_action h.0) (bytes_eq first (codes "do")) (named_passes is_do_alone keyword_rows first h.0 rows_are_do_alone h.1)
 
--- there is no filter line under version 1
+-- there is no filter line and no joystick under version 1
 
-abbrev pub is_filter_keyword : keyword.Keyword → Bool
-is_filter_keyword keywords.Filter = true
-is_filter_keyword keywords.Eat = true
-is_filter_keyword keywords.Norepeat = true
-is_filter_keyword keywords.Chord = true
-is_filter_keyword keywords.Bounce = true
-is_filter_keyword _ = false
+abbrev pub is_later_keyword : keyword.Keyword → Bool
+is_later_keyword keywords.Filter = true
+is_later_keyword keywords.Eat = true
+is_later_keyword keywords.Norepeat = true
+is_later_keyword keywords.Chord = true
+is_later_keyword keywords.Bounce = true
+is_later_keyword keywords.Joy = true
+is_later_keyword _ = false
 
 -- the second word of a line names these alone
 abbrev is_first : keyword.Keyword → Bool
@@ -107,22 +110,19 @@ rows_are_first : list_all (λ (row : List ℕ × keyword.Keyword). is_first row.
 unfolding keyword_rows
 rows_are_first = refl
 
-kept_version : (version : ℕ) (second : List ℕ) (base k : keyword.Keyword) → keyword_under version second base ≡ Some k → is_first base ≡ true → is_filter_keyword k ≡ true → nat_eq version 1 ≡ false
-kept_version version second keywords.Filter k e row h = by_version (nat_eq version 1) e
-  where
-    by_version : (early : Bool) → (if early then None else Some (filter_keyword second)) ≡ Some k → early ≡ false
-    by_version true e = absurd (cc e)
-    by_version false e = refl
+kept_version : (version : ℕ) (second : List ℕ) (base k : keyword.Keyword) → keyword_under version second base ≡ Some k → is_first base ≡ true → is_later_keyword k ≡ true → nat_eq version 1 ≡ false
+kept_version version second keywords.Filter k e row h = (later_is (nat_eq version 1) (filter_keyword second) k e).0
+kept_version version second keywords.Joy k e row h = (later_is (nat_eq version 1) keywords.Joy k e).0
 kept_version version second keywords.Eat k e row h = absurd (cc row)
 kept_version version second keywords.Norepeat k e row h = absurd (cc row)
 kept_version version second keywords.Chord k e row h = absurd (cc row)
 kept_version version second keywords.Bounce k e row h = absurd (cc row)
 kept_version version second base k e row h =
     let same : base ≡ k = cc e in
-    let none : is_filter_keyword base ≡ is_filter_keyword k = ap is_filter_keyword same in
+    let none : is_later_keyword base ≡ is_later_keyword k = ap is_later_keyword same in
     absurd (cc (none, h))
 
-pub filter_is_later : (version : ℕ) (first second : List ℕ) (count : ℕ) (k : keyword.Keyword) → keyword_of version first second count ≡ Some k → is_filter_keyword k ≡ true → nat_eq version 1 ≡ false
-filter_is_later version first second count k e h =
+pub keyword_is_later : (version : ℕ) (first second : List ℕ) (count : ℕ) (k : keyword.Keyword) → keyword_of version first second count ≡ Some k → is_later_keyword k ≡ true → nat_eq version 1 ≡ false
+keyword_is_later version first second count k e h =
     let f = keyword_from version first second count k e in
     kept_version version second f.0 k f.2 (named_passes (λ (row : List ℕ × keyword.Keyword). is_first row.1) keyword_rows first f.0 rows_are_first f.1) h

@@ -79,6 +79,7 @@ item_adds past (Filter (filters.Bounce code micros)) = omega arith
 item_adds past (Actor roles.Source name) = omega arith
 item_adds past (Actor roles.Client name) = omega arith
 item_adds past (Actor roles.Tap name) = omega arith
+item_adds past (Actor roles.Joy name) = omega arith
 item_adds past (Action actor command) = omega (arith, length-append (lines_of past) (record { actor = actor; command = command } ∷ []))
 
 or_bad_is : (o : Option item.Item) (i : item.Item) → or_bad_word o ≡ Ok i → o ≡ Some i

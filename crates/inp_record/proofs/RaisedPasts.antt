@@ -1,8 +1,8 @@
 -- The lines of a record, with another version in their header, are accepted again.
-use Rattle.std.proofs.Common.{◌≡◌, ℕ, ◌+◌, true, false, if◌then◌else◌, List, [], ◌∷◌, ◌++◌, length, Some, None, Ok, refl, sym, ap, ◌∙◌, subst, arith}
+use Rattle.std.proofs.Common.{◌≡◌, ℕ, ◌+◌, true, false, if◌then◌else◌, nat_eq, List, [], ◌∷◌, ◌++◌, length, Some, None, Ok, refl, sym, ap, ◌∙◌, subst, arith}
 use Rattle.inp_model.specs.declared.event.TheConstants.{EV_ABS}
 use Rattle.inp_caps.specs.Builder.{syn_alone, with_kind, with_code, with_axis, with_filter}
-use Rattle.inp_actors.specs.Command.{is_source}
+use Rattle.inp_actors.specs.Command.{is_source, is_joy}
 use Rattle.inp_actors.specs.Record.{RecordView}
 use Rattle.inp_canon.specs.Text.{record_text}
 use Rattle.inp_record.specs.declared.context.Context.{Context}
@@ -13,7 +13,7 @@ use Rattle.inp_record.specs.Place.{is_start, is_out_of_place}
 use Rattle.inp_record.specs.Past.{Past, place_of, version_of, with_latest, streams_in, no_given, context_of}
 use Rattle.inp_record.specs.Meaning.{is_later_command, is_twice, is_too_many, refusal, record_of, record_in, meaning}
 use Rattle.inp_record.proofs.Sayable.{keyword_for, IsSayable, IsAccepted}
-use Rattle.inp_record.proofs.CanonPasts.{WereAccepted, meaning_of_past}
+use Rattle.inp_record.proofs.CanonPasts.{WereAccepted, never_both, meaning_of_past}
 use Rattle.inp_record.proofs.RoundTrip.{no_start, read_again as past_read_again}
 
 -- an item, with version 2 where it is a header
@@ -139,6 +139,19 @@ accepted_alike past new (Filter filter) same two a = record {
   few = refl;
   few_slots = refl;
   fits = subst (λ (c : Context). refusal c.builder (Filter filter) ≡ None) (sym same) a.fits;
+}
+accepted_alike past new (Actor role name) same two a = record {
+  sayable = a.sayable;
+  in_place = (
+    ap (λ (c : Context). is_start c.place) same ∙ a.in_place.0,
+    ap (λ (c : Context). is_out_of_place c.place (keyword_for (Actor role name))) same ∙ a.in_place.1,
+    never_both (is_joy role) (nat_eq (version_of new) 1) (λ _. rw (two a.in_place.0) refl),
+  );
+  in_version = refl;
+  once = subst (λ (c : Context). is_twice c (Actor role name) ≡ false) (sym same) a.once;
+  few = subst (λ (c : Context). is_too_many c (Actor role name) ≡ false) (sym same) a.few;
+  few_slots = refl;
+  fits = refl;
 }
 accepted_alike past new i same two a = record {
   sayable = subst (λ (c : Context). IsSayable c.actors c.streams i) (sym same) a.sayable;

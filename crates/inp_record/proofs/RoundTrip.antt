@@ -135,6 +135,7 @@ none_of_role a = by_role a.role
     by_role roles.Source = refl
     by_role roles.Client = refl
     by_role roles.Tap = refl
+    by_role roles.Joy = refl
 
 none_of_device : (actors : List ActorText) (d : ℕ × DeviceText) → are_no_actions (device_items actors d) ≡ true
 unfolding device_items

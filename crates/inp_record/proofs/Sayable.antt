@@ -12,7 +12,7 @@ use Rattle.inp_actors.specs.declared.command.Command as command
 use Rattle.inp_actors.specs.declared.command.Command.TheVariants as commands
 use Rattle.inp_actors.specs.declared.record.TheConstants.{VERSION_MAX}
 use Rattle.inp_actors.specs.Name.{is_name}
-use Rattle.inp_actors.specs.Command.{is_command_of, is_in_range}
+use Rattle.inp_actors.specs.Command.{is_joy, is_command_of, is_in_range}
 use Rattle.inp_words.specs.Line.{is_word}
 use Rattle.inp_record.specs.declared.item.Item.{Item}
 use Rattle.inp_record.specs.declared.item.Item.TheVariants.{Header, Device, Hint, Log, Realtime, Boottime, Slots, Kind, Code, Axis, Filter, Actor, Action}
@@ -28,6 +28,7 @@ abbrev pub keyword_for_role : role.Role → keyword.Keyword
 keyword_for_role roles.Source = keywords.Source
 keyword_for_role roles.Client = keywords.Client
 keyword_for_role roles.Tap = keywords.Tap
+keyword_for_role roles.Joy = keywords.Joy
 
 abbrev pub keyword_for_filter : filter.Filter → keyword.Keyword
 keyword_for_filter (filters.Eat kind code) = keywords.Eat
@@ -89,6 +90,7 @@ IsSayableCommand stream (commands.Mask kind place bits) = (kind ≤ 65535) × (p
 IsSayableCommand stream (commands.SetAxis code info) = (code ≤ 65535) × IsSayableInfo info
 IsSayableCommand stream (commands.Axis code) = code ≤ 65535
 IsSayableCommand stream (commands.Slots code) = code ≤ 65535
+IsSayableCommand stream (commands.Read count) = count < 2 ^ 32
 IsSayableCommand stream (commands.Next count) = count < 2 ^ 32
 IsSayableCommand stream (commands.Skip count) = count < 2 ^ 32
 IsSayableCommand stream _ = Unit {0}
@@ -100,7 +102,7 @@ pub record IsSayableAction (actors : List ActorText) (stream actor : ℕ) (does 
   pub first : actor_from 0 actors text.name ≡ Some (actor, text.role)
   pub name : is_name text.name ≡ true
   pub of_role : is_command_of text.role does ≡ true
-  pub in_range : is_in_range does ≡ true
+  pub in_range : is_in_range text.role does ≡ true
   pub sayable : IsSayableCommand stream does
 
 -- the item can be said, where these actors are there and so many streams
@@ -124,12 +126,14 @@ abbrev pub are_early : ℕ → List filter.Filter → Bool
 are_early version [] = false
 are_early version (filter ∷ more) = nat_eq version 1
 
--- a header stands first, and each other item behind one, where a line with its keyword may stand; a filter under a
--- later version than 1
+-- a header stands first, and each other item behind one, where a line with its keyword may stand; a filter and a joystick
+-- under a later version than 1
 abbrev pub IsInPlace : Past → Item → Type 0
 IsInPlace past (Header version) = is_start (place_of past) ≡ true
 IsInPlace past (Filter filter) =
     (is_start (place_of past) ≡ false) × (is_out_of_place (place_of past) (keyword_for_filter filter) ≡ false) × (nat_eq (version_of past) 1 ≡ false)
+IsInPlace past (Actor role name) =
+    (is_start (place_of past) ≡ false) × (is_out_of_place (place_of past) (keyword_for_role role) ≡ false) × ((is_joy role && nat_eq (version_of past) 1) ≡ false)
 IsInPlace past i = (is_start (place_of past) ≡ false) × (is_out_of_place (place_of past) (keyword_for i) ≡ false)
 
 -- A line that says the item is accepted behind the past.

@@ -30,7 +30,7 @@ use Rattle.inp_record.specs.declared.verb.Verb.TheVariants as verbs
 use Rattle.inp_record.specs.declared.item.Item as item
 use Rattle.inp_record.specs.declared.item.Item.TheVariants as items
 use Rattle.inp_record.specs.Verb.{argument_count, is_verb_of, with_arguments, verb_of, verb_rows}
-use Rattle.inp_record.specs.Words.{word, version_word, name_word, count_word, wide_word, moment_word, clock_word, kind_and_code, info_words, stamped_words, micros_word, has_micros, offset_item, plain_item, actor_item, plain_command, command_of, actor_from, action_by, action_with, action_item, or_bad_word, is_action, item_of}
+use Rattle.inp_record.specs.Words.{word, version_word, name_word, count_word, wide_word, moment_word, clock_word, kind_and_code, info_words, stamped_words, micros_word, has_micros, offset_item, plain_item, actor_item, count_max, plain_command, command_of, actor_from, action_by, action_with, action_item, or_bad_word, is_action, item_of}
 use Rattle.inp_record.proofs.Good.{or_bad_is}
 use Rattle.inp_record.proofs.Inversions.{map_is, and_then_is, command_of_is, verb_is, action_of_is, act_is}
 use Rattle.inp_record.proofs.Sayable.{is_visible, IsPlainWord, IsSayableCommand, IsSayable}
@@ -197,6 +197,7 @@ plain_said actors s keywords.Bounce ws i e =
 plain_said actors s keywords.Source ws i e = actor_said actors s roles.Source (word 1 ws) i e
 plain_said actors s keywords.Client ws i e = actor_said actors s roles.Client (word 1 ws) i e
 plain_said actors s keywords.Tap ws i e = actor_said actors s roles.Tap (word 1 ws) i e
+plain_said actors s keywords.Joy ws i e = actor_said actors s roles.Joy (word 1 ws) i e
 plain_said actors s keywords.Action ws i e = absurd (cc e)
 
 -- actions
@@ -204,64 +205,70 @@ plain_said actors s keywords.Action ws i e = absurd (cc e)
 command_say : (s : ℕ) (c d : command.Command) → c ≡ d → IsSayableCommand s d → IsSayableCommand s c
 command_say s c d e h = let P : command.Command → Type 0 = λ x. IsSayableCommand s x in subst P (sym e) h
 
-command_said : (s : ℕ) (v : verb.Verb) (ws : List (List ℕ)) (c : command.Command) → plain_command v ws ≡ Some c → IsSayableCommand s c
+read_said : (by : role.Role) (w : List ℕ) (n : ℕ) → number (count_max by) w ≡ Some n → n < 2 ^ 32
+read_said roles.Source w n e = omega (arith, number_most READ_MAX w n e)
+read_said roles.Client w n e = omega (arith, number_most READ_MAX w n e)
+read_said roles.Tap w n e = omega (arith, number_most READ_MAX w n e)
+read_said roles.Joy w n e = omega (arith, number_most (2 ^ 32 - 1) w n e)
+
+command_said : (s : ℕ) (by : role.Role) (v : verb.Verb) (ws : List (List ℕ)) (c : command.Command) → plain_command by v ws ≡ Some c → IsSayableCommand s c
 unfolding plain_command
-command_said s verbs.Event ws c e =
+command_said s by verbs.Event ws c e =
     let h = map_is (λ (s : Stamped). commands.Event s.now s.event.kind s.event.code s.event.value) (stamped_words ws) c e in
     command_say s c (commands.Event h.0.now h.0.event.kind h.0.event.code h.0.event.value) h.2 (event_fits ws h.0 h.1)
-command_said s verbs.Tick ws c e =
+command_said s by verbs.Tick ws c e =
     let h = map_is (λ moment. commands.Tick moment) (moment_word (word 3 ws)) c e in
     command_say s c (commands.Tick h.0) h.2 tt
-command_said s verbs.Inhibit ws c e =
+command_said s by verbs.Inhibit ws c e =
     let h = map_is (λ moment. commands.Inhibit moment) (moment_word (word 3 ws)) c e in
     command_say s c (commands.Inhibit h.0) h.2 tt
-command_said s verbs.Uninhibit ws c e = let h : commands.Uninhibit ≡ c = cc e in command_say s c commands.Uninhibit (sym h) tt
-command_said s verbs.Stream ws c e = absurd (cc e)
-command_said s verbs.Stream16 ws c e = absurd (cc e)
-command_said s verbs.Open ws c e = let h : commands.Open ≡ c = cc e in command_say s c commands.Open (sym h) tt
-command_said s verbs.Close ws c e = let h : commands.Close ≡ c = cc e in command_say s c commands.Close (sym h) tt
-command_said s verbs.Grab ws c e = let h : commands.Grab ≡ c = cc e in command_say s c commands.Grab (sym h) tt
-command_said s verbs.Ungrab ws c e = let h : commands.Ungrab ≡ c = cc e in command_say s c commands.Ungrab (sym h) tt
-command_said s verbs.Revoke ws c e = let h : commands.Revoke ≡ c = cc e in command_say s c commands.Revoke (sym h) tt
-command_said s verbs.Mask ws c e =
+command_said s by verbs.Uninhibit ws c e = let h : commands.Uninhibit ≡ c = cc e in command_say s c commands.Uninhibit (sym h) tt
+command_said s by verbs.Stream ws c e = absurd (cc e)
+command_said s by verbs.Stream16 ws c e = absurd (cc e)
+command_said s by verbs.Open ws c e = let h : commands.Open ≡ c = cc e in command_say s c commands.Open (sym h) tt
+command_said s by verbs.Close ws c e = let h : commands.Close ≡ c = cc e in command_say s c commands.Close (sym h) tt
+command_said s by verbs.Grab ws c e = let h : commands.Grab ≡ c = cc e in command_say s c commands.Grab (sym h) tt
+command_said s by verbs.Ungrab ws c e = let h : commands.Ungrab ≡ c = cc e in command_say s c commands.Ungrab (sym h) tt
+command_said s by verbs.Revoke ws c e = let h : commands.Revoke ≡ c = cc e in command_say s c commands.Revoke (sym h) tt
+command_said s by verbs.Mask ws c e =
     let h = and_then_is (λ kind. option_and_then (λ place. option_map (λ bits. commands.Mask kind place bits) (wide_word (word 5 ws))) (number 65535 (word 4 ws))) (kind_word (word 3 ws)) c e in
     let g = and_then_is (λ place. option_map (λ bits. commands.Mask h.0 place bits) (wide_word (word 5 ws))) (number 65535 (word 4 ws)) c h.2 in
     let f = map_is (λ bits. commands.Mask h.0 g.0 bits) (wide_word (word 5 ws)) c g.2 in
     command_say s c (commands.Mask h.0 g.0 f.0) f.2 (kind_fits (word 3 ws) h.0 h.1, number_most 65535 (word 4 ws) g.0 g.1, wide_said (word 5 ws) f.0 f.1)
-command_said s verbs.Clock ws c e =
+command_said s by verbs.Clock ws c e =
     let h = and_then_is (λ clock. option_map (λ moment. commands.Clock clock moment) (moment_word (word 4 ws))) (clock_word (word 3 ws)) c e in
     let g = map_is (λ moment. commands.Clock h.0 moment) (moment_word (word 4 ws)) c h.2 in
     command_say s c (commands.Clock h.0 g.0) g.2 tt
-command_said s verbs.Write ws c e =
+command_said s by verbs.Write ws c e =
     let h = map_is (λ (s : Stamped). commands.Write s.now s.event.kind s.event.code s.event.value) (stamped_words ws) c e in
     command_say s c (commands.Write h.0.now h.0.event.kind h.0.event.code h.0.event.value) h.2 (event_fits ws h.0 h.1)
-command_said s verbs.SetAxis ws c e =
+command_said s by verbs.SetAxis ws c e =
     let h = and_then_is (λ code. option_map (λ info. commands.SetAxis code info) (info_words 4 ws)) (code_word EV_ABS (word 3 ws)) c e in
     let g = map_is (λ info. commands.SetAxis h.0 info) (info_words 4 ws) c h.2 in
     command_say s c (commands.SetAxis h.0 g.0) g.2 (code_fits EV_ABS (word 3 ws) h.0 h.1, info_fits 4 ws g.0 g.1)
-command_said s verbs.Read ws c e =
-    let h = map_is (λ count. commands.Read count) (number READ_MAX (word 3 ws)) c e in
-    command_say s c (commands.Read h.0) h.2 tt
-command_said s verbs.Discard ws c e = let h : commands.Discard ≡ c = cc e in command_say s c commands.Discard (sym h) tt
-command_said s verbs.Keys ws c e = let h : commands.Keys ≡ c = cc e in command_say s c commands.Keys (sym h) tt
-command_said s verbs.Switches ws c e = let h : commands.Switches ≡ c = cc e in command_say s c commands.Switches (sym h) tt
-command_said s verbs.Leds ws c e = let h : commands.Leds ≡ c = cc e in command_say s c commands.Leds (sym h) tt
-command_said s verbs.Sounds ws c e = let h : commands.Sounds ≡ c = cc e in command_say s c commands.Sounds (sym h) tt
-command_said s verbs.SyncSlots ws c e = let h : commands.SyncSlots ≡ c = cc e in command_say s c commands.SyncSlots (sym h) tt
-command_said s verbs.Axis ws c e =
+command_said s by verbs.Read ws c e =
+    let h = map_is (λ count. commands.Read count) (number (count_max by) (word 3 ws)) c e in
+    command_say s c (commands.Read h.0) h.2 (read_said by (word 3 ws) h.0 h.1)
+command_said s by verbs.Discard ws c e = let h : commands.Discard ≡ c = cc e in command_say s c commands.Discard (sym h) tt
+command_said s by verbs.Keys ws c e = let h : commands.Keys ≡ c = cc e in command_say s c commands.Keys (sym h) tt
+command_said s by verbs.Switches ws c e = let h : commands.Switches ≡ c = cc e in command_say s c commands.Switches (sym h) tt
+command_said s by verbs.Leds ws c e = let h : commands.Leds ≡ c = cc e in command_say s c commands.Leds (sym h) tt
+command_said s by verbs.Sounds ws c e = let h : commands.Sounds ≡ c = cc e in command_say s c commands.Sounds (sym h) tt
+command_said s by verbs.SyncSlots ws c e = let h : commands.SyncSlots ≡ c = cc e in command_say s c commands.SyncSlots (sym h) tt
+command_said s by verbs.Axis ws c e =
     let h = map_is (λ code. commands.Axis code) (code_word EV_ABS (word 3 ws)) c e in
     command_say s c (commands.Axis h.0) h.2 (code_fits EV_ABS (word 3 ws) h.0 h.1)
-command_said s verbs.Slots ws c e =
+command_said s by verbs.Slots ws c e =
     let h = map_is (λ code. commands.Slots code) (code_word EV_ABS (word 3 ws)) c e in
     command_say s c (commands.Slots h.0) h.2 (code_fits EV_ABS (word 3 ws) h.0 h.1)
-command_said s verbs.Next ws c e =
+command_said s by verbs.Next ws c e =
     let h = map_is (λ count. commands.Next count) (count_word (word 3 ws)) c e in
     command_say s c (commands.Next h.0) h.2 (count_said (word 3 ws) h.0 h.1)
-command_said s verbs.Skip ws c e =
+command_said s by verbs.Skip ws c e =
     let h = map_is (λ count. commands.Skip count) (count_word (word 3 ws)) c e in
     command_say s c (commands.Skip h.0) h.2 (count_said (word 3 ws) h.0 h.1)
-command_said s verbs.Follow ws c e = let h : commands.Follow ≡ c = cc e in command_say s c commands.Follow (sym h) tt
-command_said s verbs.Force ws c e = let h : commands.Force ≡ c = cc e in command_say s c commands.Force (sym h) tt
+command_said s by verbs.Follow ws c e = let h : commands.Follow ≡ c = cc e in command_say s c commands.Follow (sym h) tt
+command_said s by verbs.Force ws c e = let h : commands.Force ≡ c = cc e in command_say s c commands.Force (sym h) tt
 
 -- a command has as many words as its verb takes
 arguments_are : (r : role.Role) (count : ℕ) (o : Option verb.Verb) (v : verb.Verb) → with_arguments r count o ≡ Some v → argument_count v ≡ count
@@ -277,13 +284,13 @@ verb_arguments : (r : role.Role) (w : List ℕ) (count : ℕ) (v : verb.Verb) �
 unfolding verb_of
 verb_arguments r w count v e = arguments_are r count (named verb_rows w) v e
 
-any_command_said : (s : ℕ) (v : verb.Verb) (ws : List (List ℕ)) (c : command.Command) → ArePlain ws → argument_count v ≡ length ws - 3 → command_of s v ws ≡ Some c → IsSayableCommand s c
+any_command_said : (s : ℕ) (by : role.Role) (v : verb.Verb) (ws : List (List ℕ)) (c : command.Command) → ArePlain ws → argument_count v ≡ length ws - 3 → command_of s by v ws ≡ Some c → IsSayableCommand s c
 unfolding command_of
-any_command_said s verbs.Stream ws c plain count e =
+any_command_said s by verbs.Stream ws c plain count e =
     let same : commands.Stream (word 3 ws) s ≡ c = cc e in command_say s c (commands.Stream (word 3 ws) s) (sym same) (plain_at ws 3 plain (omega arith), refl)
-any_command_said s verbs.Stream16 ws c plain count e =
+any_command_said s by verbs.Stream16 ws c plain count e =
     let same : commands.Stream16 (word 3 ws) s ≡ c = cc e in command_say s c (commands.Stream16 (word 3 ws) s) (sym same) (plain_at ws 3 plain (omega arith), refl)
-any_command_said s v ws c plain count e = command_said s v ws c e
+any_command_said s by v ws c plain count e = command_said s by v ws c e
 
 -- the actor that was found has this name
 named_is : (n : ℕ) (actors : List ActorText) (w : List ℕ) (a : ℕ × role.Role) → actor_from n actors w ≡ Some a
@@ -304,12 +311,12 @@ AreNamed actors = (i : ℕ) (a : ActorText) → slice_get actors i ≡ Some a �
 action_said : (actors : List ActorText) (s : ℕ) (ws : List (List ℕ)) (i : item.Item) → AreNamed actors → ArePlain ws → action_item actors s ws ≡ Ok i → IsSayable actors s i
 action_said actors s ws i names plain e = by_actor (actor_from 0 actors (word 1 ws)) refl e
   where
-    by_verb : (a : ℕ × role.Role) → actor_from 0 actors (word 1 ws) ≡ Some a → (o : Option verb.Verb) → verb_of a.1 (word 2 ws) (length ws - 3) ≡ o → action_by s a.0 o ws ≡ Ok i → IsSayable actors s i
+    by_verb : (a : ℕ × role.Role) → actor_from 0 actors (word 1 ws) ≡ Some a → (o : Option verb.Verb) → verb_of a.1 (word 2 ws) (length ws - 3) ≡ o → action_by s a o ws ≡ Ok i → IsSayable actors s i
     by_verb a h None g e = absurd (cc e)
     by_verb a h (Some v) g e =
-        let k = action_of_is a.0 (command_of s v ws) i e in
+        let k = action_of_is a.0 (command_of s a.1 v ws) i e in
         let c = k.0 in
-        let f = command_of_is s v ws c k.1 in
+        let f = command_of_is s a.1 v ws c k.1 in
         let who = named_is 0 actors (word 1 ws) a h in
         let at : who.0 ≡ a.0 = omega (arith, who.2) in
         let there : slice_get actors a.0 ≡ Some who.1 = subst (λ (k : ℕ). slice_get actors k ≡ Some who.1) at who.3 in
@@ -319,8 +326,8 @@ action_said actors s ws i names plain e = by_actor (actor_from 0 actors (word 1 
           first = rw (who.4, who.5) h;
           name = names a.0 who.1 there;
           of_role = rw who.5 (f.0 a.1 ∙ verb_is a.1 (word 2 ws) (length ws - 3) v g);
-          in_range = f.1;
-          sayable = any_command_said s v ws c plain (verb_arguments a.1 (word 2 ws) (length ws - 3) v g) k.1;
+          in_range = rw who.5 f.1;
+          sayable = any_command_said s a.1 v ws c plain (verb_arguments a.1 (word 2 ws) (length ws - 3) v g) k.1;
         })
 
     by_actor : (o : Option (ℕ × role.Role)) → actor_from 0 actors (word 1 ws) ≡ o → action_with s o ws ≡ Ok i → IsSayable actors s i

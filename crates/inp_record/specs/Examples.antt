@@ -211,6 +211,32 @@ pub record RefusesFilters : Type 0 where
   pub ninth_code : IsRefused 11 (Caps BadCode) (later_lines ++ (replicate 8 (codes "filter norepeat") ++ codes "filter eat 7 0" ∷ []))
   pub ninth_word : IsRefused 11 BadWord (later_lines ++ (replicate 8 (codes "filter norepeat") ++ codes "filter bounce KEY_A 0" ∷ []))
 
+-- with a joystick
+abbrev pub joy_lines : List (List ℕ)
+joy_lines = later_lines ++ codes "joy j" ∷ []
+
+-- Joysticks under version 1, which has none; joysticks that stand where they may not; commands that joysticks do not have.
+pub record RefusesJoysticks : Type 0 where
+  pub version_1 : IsRefused 3 BadLine (device_lines ++ codes "joy j" ∷ [])
+  pub version_1_first : IsRefused 2 BadLine (header_lines ++ codes "joy J J" ∷ [])
+  pub alone : IsRefused 3 BadLine (later_lines ++ codes "joy" ∷ [])
+  pub more : IsRefused 3 BadLine (later_lines ++ codes "joy a b" ∷ [])
+  pub place : IsRefused 2 OutOfPlace (codes "inputrecord 2" ∷ codes "joy J" ∷ [])
+  pub behind_an_action : IsRefused 5 OutOfPlace (joy_lines ++ codes "do j open" ∷ codes "joy k" ∷ [])
+  pub description_behind : IsRefused 4 OutOfPlace (joy_lines ++ codes "hint 16" ∷ [])
+  pub name : IsRefused 3 BadWord (later_lines ++ codes "joy J" ∷ [])
+  pub again : IsRefused 4 Twice (joy_lines ++ codes "tap j" ∷ [])
+  pub grab : IsRefused 4 BadCommand (joy_lines ++ codes "do j grab" ∷ [])
+  pub clock : IsRefused 4 BadCommand (joy_lines ++ codes "do j clock utc 0" ∷ [])
+  pub next : IsRefused 4 BadCommand (joy_lines ++ codes "do j next 1" ∷ [])
+  pub keys : IsRefused 4 BadCommand (joy_lines ++ codes "do j keys" ∷ [])
+  pub tick : IsRefused 4 BadCommand (joy_lines ++ codes "do j tick 1" ∷ [])
+  pub less : IsRefused 4 BadCommand (joy_lines ++ codes "do j read" ∷ [])
+  pub open_more : IsRefused 4 BadCommand (joy_lines ++ codes "do j open 1" ∷ [])
+  pub count : IsRefused 4 BadWord (joy_lines ++ codes "do j read 4294967296" ∷ [])
+  pub negative : IsRefused 4 BadWord (joy_lines ++ codes "do j read -1" ∷ [])
+  pub count_of_a_tap : IsRefused 5 BadWord (joy_lines ++ codes "tap t" ∷ codes "do t read 4097" ∷ [])
+
 -- What is right although it looks wrong.
 pub record AcceptsLines : Type 0 where
   pub comments : IsRead (codes "  # first" ∷ [] ∷ header_lines ++ (9 ∷ codes "#" ++ 0 ∷ 255 ∷ []) ∷ codes "  " ∷ codes "device d" ∷ [])
@@ -222,6 +248,7 @@ pub record AcceptsLines : Type 0 where
   pub bounds : IsRead (device_lines ++ codes "hint 0x200" ∷ codes "log 8388608" ∷ codes "clock boottime 9000000000000000" ∷ codes "slots 64" ∷ codes "axis 0x3f -1 -2 -3 1073741824 -4 -5" ∷ [])
   pub slots_of_version_2 : IsRead (later_lines ++ codes "slots 256" ∷ [])
   pub filters_of_each : IsRead (later_lines ++ (replicate 8 (codes "filter norepeat") ++ codes "device e" ∷ replicate 8 (codes "filter eat EV_REP 1")))
+  pub joystick_of_each : IsRead (joy_lines ++ codes "source s" ∷ codes "device j" ∷ codes "joy d" ∷ [])
   pub moment : IsRead (actor_lines ++ codes "do s tick 9000000000000000" ∷ [])
   pub streams : IsRead (device_lines ++ codes "source s" ∷ replicate 16 (codes "do s stream f"))
 
@@ -308,6 +335,15 @@ pub record MeansActions : Type 0 where
   pub tap : AreActions
       (codes "do t read 4096" ∷ codes "do t discard" ∷ codes "do t keys" ∷ codes "do t switches" ∷ codes "do t leds" ∷ codes "do t sounds" ∷ codes "do t syncslots" ∷ codes "do t axis ABS_X" ∷ codes "do t slots 0x35" ∷ [])
       ((2, commands.Read 4096) ∷ (2, commands.Discard) ∷ (2, commands.Keys) ∷ (2, commands.Switches) ∷ (2, commands.Leds) ∷ (2, commands.Sounds) ∷ (2, commands.SyncSlots) ∷ (2, commands.Axis 0) ∷ (2, commands.Slots 53) ∷ [])
+  pub joystick :
+      meaning (text_of (joy_lines ++ codes "tap t" ∷ codes "do j open" ∷ codes "do j read 4294967295" ∷ codes "do j read 0x1001" ∷ codes "do t read 4096" ∷ codes "do j read 0" ∷ codes "do j close" ∷ []))
+      ≡ Ok (record {
+        version = 2;
+        devices = record { name = codes "d"; caps = syn_alone } ∷ [];
+        actors = record { name = codes "j"; role = roles.Joy; device = 0 } ∷ record { name = codes "t"; role = roles.Tap; device = 0 } ∷ [];
+        lines = map (λ (action : ℕ × command.Command). record { actor = action.0; command = action.1 }) ((0, commands.Open) ∷ (0, commands.Read 4294967295) ∷ (0, commands.Read 4097) ∷ (1, commands.Read 4096) ∷ (0, commands.Read 0) ∷ (0, commands.Close) ∷ []);
+        streams = [];
+      })
   pub of_version_2 :
       meaning (text_of (later_lines ++ codes "source s" ∷ codes "do s stream16 a" ∷ codes "do s stream b" ∷ codes "do s stream16 b" ∷ []))
       ≡ Ok (record {

@@ -59,7 +59,8 @@ device_count c = length c.devices + (if is_some c.name then 1 else 0)
 abbrev pub has_all : Context → Role → Bool
 has_all c role = if is_source role then nat_le SOURCES_MAX c.sources else nat_le READERS_MAX c.readers
 
--- a ninth device, a ninth source of a device, a client or tap of a device that has 128 of them, a seventeenth stream
+-- a ninth device, a ninth source of a device, a client, tap or joystick of a device that has 128 of them together, a
+-- seventeenth stream
 abbrev pub is_too_many : Context → Item → Bool
 is_too_many c (Device name) = nat_le DEVICES_MAX (device_count c)
 is_too_many c (Actor role name) = has_all c role

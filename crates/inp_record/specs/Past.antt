@@ -1,4 +1,7 @@
 -- What came before a line: the meanings of the lines before it, the newest first.
+--
+-- A header gives the version and where the next line stands, and nothing else. So in each other definition its equation says
+-- what the last one says of all items that are not named.
 use Rattle.std.specs.Prelude.{ℕ, ◌+◌, ◌≤◌, Bool, true, false, if◌then◌else◌, is_some, unwrap_or, List, [], ◌∷◌, ◌++◌, length, Option, Some, None}
 use Rattle.inp_model.specs.declared.event.TheConstants.{EV_ABS}
 use Rattle.inp_model.specs.declared.stamped.TheConstants.{MOMENT_MAX}
@@ -116,7 +119,7 @@ source_count (Actor role name ∷ past) = source_count past + (if is_source role
 source_count (Header version ∷ past) = source_count past
 source_count (_ ∷ past) = source_count past
 
--- how many clients and taps the latest device has
+-- how many clients, taps and joysticks the latest device has
 abbrev pub reader_count : Past → ℕ
 reader_count [] = 0
 reader_count (Device name ∷ past) = 0

@@ -1,7 +1,7 @@
 -- Where a line may stand (docs/FORMATS.md, "The lines").
 use Rattle.std.specs.Prelude.{Bool, true, false, ◌||◌, not}
 use Rattle.inp_record.specs.declared.keyword.Keyword.{Keyword}
-use Rattle.inp_record.specs.declared.keyword.Keyword.TheVariants.{Header, Device, Source, Client, Tap, Action}
+use Rattle.inp_record.specs.declared.keyword.Keyword.TheVariants.{Header, Device, Source, Client, Tap, Joy, Action}
 use Rattle.inp_record.specs.declared.place.Place.{Place}
 use Rattle.inp_record.specs.declared.place.Place.TheVariants.{Start, Describing, Naming, Acting}
 
@@ -29,5 +29,6 @@ is_out_of_place place Device = is_acting place
 is_out_of_place place Source = not (is_describing place || is_naming place)
 is_out_of_place place Client = not (is_describing place || is_naming place)
 is_out_of_place place Tap = not (is_describing place || is_naming place)
+is_out_of_place place Joy = not (is_describing place || is_naming place)
 is_out_of_place place Action = false
 is_out_of_place place _ = not (is_describing place)

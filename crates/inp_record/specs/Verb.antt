@@ -1,9 +1,9 @@
 -- The commands of actors, as words (docs/FORMATS.md, "Action lines").
-use Rattle.std.specs.Prelude.{ℕ, Bool, ◌&&◌, if◌then◌else◌, nat_eq, List, [], ◌∷◌, codes, Option, Some, None}
+use Rattle.std.specs.Prelude.{ℕ, Bool, ◌&&◌, ◌||◌, if◌then◌else◌, nat_eq, List, [], ◌∷◌, codes, Option, Some, None}
 use Rattle.inp_model.specs.declared.clock.Clock as clock
 use Rattle.inp_model.specs.declared.clock.Clock.TheVariants.{Realtime, Monotonic, Boottime}
 use Rattle.inp_actors.specs.declared.role.Role.{Role}
-use Rattle.inp_actors.specs.Command.{is_source, is_client, is_tap, is_reading}
+use Rattle.inp_actors.specs.Command.{is_source, is_client, is_tap, is_joy, is_calling, is_reading}
 use Rattle.inp_words.specs.Table.{named}
 use Rattle.inp_record.specs.declared.verb.Verb.{Verb}
 use Rattle.inp_record.specs.declared.verb.Verb.TheVariants.{Event, Tick, Inhibit, Uninhibit, Stream, Stream16, Open, Close, Grab, Ungrab, Revoke, Mask, Clock, Write, SetAxis, Read, Discard, Keys, Switches, Leds, Sounds, SyncSlots, Axis, Slots, Next, Skip, Follow, Force}
@@ -50,13 +50,14 @@ is_verb_of role Stream = is_source role
 is_verb_of role Stream16 = is_source role
 is_verb_of role Open = is_reading role
 is_verb_of role Close = is_reading role
-is_verb_of role Grab = is_reading role
-is_verb_of role Ungrab = is_reading role
-is_verb_of role Revoke = is_reading role
-is_verb_of role Mask = is_reading role
-is_verb_of role Clock = is_reading role
-is_verb_of role Write = is_reading role
-is_verb_of role SetAxis = is_reading role
+is_verb_of role Grab = is_calling role
+is_verb_of role Ungrab = is_calling role
+is_verb_of role Revoke = is_calling role
+is_verb_of role Mask = is_calling role
+is_verb_of role Clock = is_calling role
+is_verb_of role Write = is_calling role
+is_verb_of role SetAxis = is_calling role
+is_verb_of role Read = is_tap role || is_joy role
 is_verb_of role Next = is_client role
 is_verb_of role Skip = is_client role
 is_verb_of role Follow = is_client role

@@ -143,6 +143,7 @@ plain_item keywords.Bounce ws = bounce_item ws
 plain_item keywords.Source ws = actor_item roles.Source (word 1 ws)
 plain_item keywords.Client ws = actor_item roles.Client (word 1 ws)
 plain_item keywords.Tap ws = actor_item roles.Tap (word 1 ws)
+plain_item keywords.Joy ws = actor_item roles.Joy (word 1 ws)
 plain_item keywords.Action ws = None
 
 -- a word of a mask: its type, its place and its bits
@@ -155,49 +156,55 @@ abbrev pub clock_words : List (List ℕ) → Option command.Command
 clock_words ws =
     option_and_then (λ clock. option_map (λ moment. commands.Clock clock moment) (moment_word (word 4 ws))) (clock_word (word 3 ws))
 
-abbrev pub read_word : List ℕ → Option command.Command
-read_word w = option_map (λ count. commands.Read count) (number READ_MAX w)
+-- the greatest count of a read of this role
+abbrev pub count_max : role.Role → ℕ
+count_max roles.Joy = 2 ^ 32 - 1
+count_max _ = READ_MAX
+
+abbrev pub read_word : role.Role → List ℕ → Option command.Command
+read_word role w = option_map (λ count. commands.Read count) (number (count_max role) w)
 
 abbrev pub set_axis_words : List (List ℕ) → Option command.Command
 set_axis_words ws =
     option_and_then (λ code. option_map (λ info. commands.SetAxis code info) (info_words 4 ws)) (code_word EV_ABS (word 3 ws))
 
--- a command other than a stream with its words, if these have their forms
-unfoldable pub plain_command : verb.Verb → List (List ℕ) → Option command.Command
-plain_command verbs.Event ws = option_map (λ s. commands.Event s.now s.event.kind s.event.code s.event.value) (stamped_words ws)
-plain_command verbs.Tick ws = option_map (λ moment. commands.Tick moment) (moment_word (word 3 ws))
-plain_command verbs.Inhibit ws = option_map (λ moment. commands.Inhibit moment) (moment_word (word 3 ws))
-plain_command verbs.Uninhibit ws = Some commands.Uninhibit
-plain_command verbs.Stream ws = None
-plain_command verbs.Stream16 ws = None
-plain_command verbs.Open ws = Some commands.Open
-plain_command verbs.Close ws = Some commands.Close
-plain_command verbs.Grab ws = Some commands.Grab
-plain_command verbs.Ungrab ws = Some commands.Ungrab
-plain_command verbs.Revoke ws = Some commands.Revoke
-plain_command verbs.Mask ws = mask_words ws
-plain_command verbs.Clock ws = clock_words ws
-plain_command verbs.Write ws = option_map (λ s. commands.Write s.now s.event.kind s.event.code s.event.value) (stamped_words ws)
-plain_command verbs.SetAxis ws = set_axis_words ws
-plain_command verbs.Read ws = read_word (word 3 ws)
-plain_command verbs.Discard ws = Some commands.Discard
-plain_command verbs.Keys ws = Some commands.Keys
-plain_command verbs.Switches ws = Some commands.Switches
-plain_command verbs.Leds ws = Some commands.Leds
-plain_command verbs.Sounds ws = Some commands.Sounds
-plain_command verbs.SyncSlots ws = Some commands.SyncSlots
-plain_command verbs.Axis ws = option_map (λ code. commands.Axis code) (code_word EV_ABS (word 3 ws))
-plain_command verbs.Slots ws = option_map (λ code. commands.Slots code) (code_word EV_ABS (word 3 ws))
-plain_command verbs.Next ws = option_map (λ count. commands.Next count) (count_word (word 3 ws))
-plain_command verbs.Skip ws = option_map (λ count. commands.Skip count) (count_word (word 3 ws))
-plain_command verbs.Follow ws = Some commands.Follow
-plain_command verbs.Force ws = Some commands.Force
+-- a command other than a stream with its words, of an actor of this role, if these have their forms
+unfoldable pub plain_command : role.Role → verb.Verb → List (List ℕ) → Option command.Command
+plain_command role verbs.Event ws = option_map (λ s. commands.Event s.now s.event.kind s.event.code s.event.value) (stamped_words ws)
+plain_command role verbs.Tick ws = option_map (λ moment. commands.Tick moment) (moment_word (word 3 ws))
+plain_command role verbs.Inhibit ws = option_map (λ moment. commands.Inhibit moment) (moment_word (word 3 ws))
+plain_command role verbs.Uninhibit ws = Some commands.Uninhibit
+plain_command role verbs.Stream ws = None
+plain_command role verbs.Stream16 ws = None
+plain_command role verbs.Open ws = Some commands.Open
+plain_command role verbs.Close ws = Some commands.Close
+plain_command role verbs.Grab ws = Some commands.Grab
+plain_command role verbs.Ungrab ws = Some commands.Ungrab
+plain_command role verbs.Revoke ws = Some commands.Revoke
+plain_command role verbs.Mask ws = mask_words ws
+plain_command role verbs.Clock ws = clock_words ws
+plain_command role verbs.Write ws = option_map (λ s. commands.Write s.now s.event.kind s.event.code s.event.value) (stamped_words ws)
+plain_command role verbs.SetAxis ws = set_axis_words ws
+plain_command role verbs.Read ws = read_word role (word 3 ws)
+plain_command role verbs.Discard ws = Some commands.Discard
+plain_command role verbs.Keys ws = Some commands.Keys
+plain_command role verbs.Switches ws = Some commands.Switches
+plain_command role verbs.Leds ws = Some commands.Leds
+plain_command role verbs.Sounds ws = Some commands.Sounds
+plain_command role verbs.SyncSlots ws = Some commands.SyncSlots
+plain_command role verbs.Axis ws = option_map (λ code. commands.Axis code) (code_word EV_ABS (word 3 ws))
+plain_command role verbs.Slots ws = option_map (λ code. commands.Slots code) (code_word EV_ABS (word 3 ws))
+plain_command role verbs.Next ws = option_map (λ count. commands.Next count) (count_word (word 3 ws))
+plain_command role verbs.Skip ws = option_map (λ count. commands.Skip count) (count_word (word 3 ws))
+plain_command role verbs.Follow ws = Some commands.Follow
+plain_command role verbs.Force ws = Some commands.Force
 
--- a command with its words, if these have their forms; a stream takes any word as its file, and has this number
-unfoldable pub command_of : ℕ → verb.Verb → List (List ℕ) → Option command.Command
-command_of stream verbs.Stream ws = Some (commands.Stream (word 3 ws) stream)
-command_of stream verbs.Stream16 ws = Some (commands.Stream16 (word 3 ws) stream)
-command_of stream verb ws = plain_command verb ws
+-- a command with its words, of an actor of this role, if these have their forms; a stream takes any word as its file, and
+-- has this number
+unfoldable pub command_of : ℕ → role.Role → verb.Verb → List (List ℕ) → Option command.Command
+command_of stream role verbs.Stream ws = Some (commands.Stream (word 3 ws) stream)
+command_of stream role verbs.Stream16 ws = Some (commands.Stream16 (word 3 ws) stream)
+command_of stream role verb ws = plain_command role verb ws
 
 -- the number of the actor with this name, and its role; the first of them has the number n
 unfoldable pub actor_from : ℕ → List ActorText → List ℕ → Option (ℕ × role.Role)
@@ -208,13 +215,13 @@ abbrev pub action_of : ℕ → Option command.Command → Result item.Item Cause
 action_of actor None = Err BadWord
 action_of actor (Some command) = Ok (items.Action actor command)
 
-abbrev pub action_by : ℕ → ℕ → Option verb.Verb → List (List ℕ) → Result item.Item Cause
+abbrev pub action_by : ℕ → ℕ × role.Role → Option verb.Verb → List (List ℕ) → Result item.Item Cause
 action_by stream actor None ws = Err BadCommand
-action_by stream actor (Some verb) ws = action_of actor (command_of stream verb ws)
+action_by stream actor (Some verb) ws = action_of actor.0 (command_of stream actor.1 verb ws)
 
 abbrev pub action_with : ℕ → Option (ℕ × role.Role) → List (List ℕ) → Result item.Item Cause
 action_with stream None ws = Err NoActor
-action_with stream (Some actor) ws = action_by stream actor.0 (verb_of actor.1 (word 2 ws) (length ws - 3)) ws
+action_with stream (Some actor) ws = action_by stream actor (verb_of actor.1 (word 2 ws) (length ws - 3)) ws
 
 -- the meaning of an action line, where these actors are there and so many streams
 abbrev pub action_item : List ActorText → ℕ → List (List ℕ) → Result item.Item Cause

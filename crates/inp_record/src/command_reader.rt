@@ -3,7 +3,7 @@ ghost use Rattle.std.specs.Prelude.{◌≡◌, ◌+◌, ◌<◌, ◌≤◌, ◌^
 ghost use Rattle.inp_words.specs.Line.{AreText, is_text};
 ghost use Rattle.inp_record.specs.Fault.{IsReading};
 ghost use Rattle.inp_record.specs.Verb.{argument_count};
-ghost use Rattle.inp_record.specs.Words.{texts, moment_word, stamped_words, mask_words, clock_words, set_axis_words, read_word, plain_command, command_of, actor_from, action_item};
+ghost use Rattle.inp_record.specs.Words.{texts, moment_word, stamped_words, mask_words, clock_words, set_axis_words, count_max, read_word, plain_command, command_of, actor_from, action_item};
 
 use crate::Cause;
 use crate::item::Item;
@@ -70,21 +70,32 @@ fn set_axis_words(words: &[&[u8]]) -> Option<Command>
     Some(Command::SetAxis { code, info })
 }
 
-/// How many events a tap reads.
-fn read_word(word: &[u8]) -> Option<Command>
-    ensures { result ≡ read_word word.now }
+/// The greatest count of a read of this role.
+fn count_max(role: Role) -> u64
+    ensures count { result ≡ count_max role }
+    ensures fits { result < 2 ^ 32 }
 {
-    let count = number(word, u64::from(READ_MAX))?;
+    match role {
+        Role::Joy => u64::from(u32::MAX),
+        _ => u64::from(READ_MAX),
+    }
+}
+
+/// How many events a tap reads, or how many records a joystick hands out.
+fn read_word(role: Role, word: &[u8]) -> Option<Command>
+    ensures { result ≡ read_word role word.now }
+{
+    let count = number(word, count_max(role))?;
     Some(Command::Read {
         count: count as u32,
     })
 }
 
-/// A command with its words, other than a stream.
+/// A command with its words, other than a stream, of an actor of this role.
 #[tactic(auto, unfolding(crate::specs::Words::plain_command))]
-fn plain_command(verb: Verb, words: &[&[u8]]) -> Option<Command>
+fn plain_command(role: Role, verb: Verb, words: &[&[u8]]) -> Option<Command>
     requires { argument_count verb + 3 ≡ length words.now }
-    ensures { result ≡ plain_command verb (texts words.now) }
+    ensures { result ≡ plain_command role verb (texts words.now) }
 {
     match verb {
         Verb::Event => {
@@ -123,7 +134,7 @@ fn plain_command(verb: Verb, words: &[&[u8]]) -> Option<Command>
             })
         }
         Verb::SetAxis => set_axis_words(words),
-        Verb::Read => read_word(word(words, 3)),
+        Verb::Read => read_word(role, word(words, 3)),
         Verb::Discard => Some(Command::Discard),
         Verb::Keys => Some(Command::Keys),
         Verb::Switches => Some(Command::Switches),
@@ -160,17 +171,18 @@ fn file_name(alloc: Global, word: &[u8]) -> Result<FileName, NoMemory>
     Ok(FileName::new(String::from_str(alloc, text)?))
 }
 
-/// A command with its words. A stream has this number.
+/// A command with its words, of an actor of this role. A stream has this number.
 #[tactic(auto, unfolding(crate::specs::Words::command_of))]
 fn command_of(
     alloc: Global,
     index: u32,
+    role: Role,
     verb: Verb,
     words: &[&[u8]],
 ) -> Result<Option<Command>, NoMemory>
     requires arguments { argument_count verb + 3 ≡ length words.now }
     requires text { AreText (texts words.now) }
-    ensures { IfOk result (λ command. command ≡ command_of index verb (texts words.now)) }
+    ensures { IfOk result (λ command. command ≡ command_of index role verb (texts words.now)) }
 {
     match verb {
         Verb::Stream => {
@@ -181,7 +193,7 @@ fn command_of(
             let file = file_name(alloc, word(words, 3))?;
             Ok(Some(Command::Stream16 { file, index }))
         }
-        _ => Ok(plain_command(verb, words)),
+        _ => Ok(plain_command(role, verb, words)),
     }
 }
 
@@ -217,7 +229,7 @@ pub(crate) fn action_item(
     let Some(verb) = verb_of(role, word(words, 2), words.len() - 3) else {
         return Err(LineFault::Refused(Cause::BadCommand));
     };
-    match command_of(alloc, stream, verb, words) {
+    match command_of(alloc, stream, role, verb, words) {
         Ok(Some(command)) => Ok(Item::Action { actor, command }),
         Ok(None) => Err(LineFault::Refused(Cause::BadWord)),
         Err(_) => Err(LineFault::NoMemory),

@@ -31,7 +31,7 @@ pub(crate) const SOURCES_MAX: u32 = 8;
 
 const _: () = prove!(SOURCES_MAX == 2 * 4);
 
-/// The greatest number of clients and taps of a device (this project's choice).
+/// The greatest number of clients, taps and joysticks of a device together (this project's choice).
 pub(crate) const READERS_MAX: u32 = 128;
 
 const _: () = prove!(READERS_MAX == 2 * 64);
@@ -72,7 +72,7 @@ pub(crate) struct Context {
     pub(crate) given: Given,
     /// How many sources it has.
     pub(crate) sources: u32,
-    /// How many clients and taps it has.
+    /// How many clients, taps and joysticks it has.
     pub(crate) readers: u32,
     /// The devices before it.
     pub(crate) devices: Devices,

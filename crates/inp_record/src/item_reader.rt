@@ -209,6 +209,7 @@ pub(crate) fn plain_item(keyword: Keyword, words: &[&[u8]]) -> Option<Item>
         Keyword::Source => actor_item(Role::Source, word(words, 1)),
         Keyword::Client => actor_item(Role::Client, word(words, 1)),
         Keyword::Tap => actor_item(Role::Tap, word(words, 1)),
+        Keyword::Joy => actor_item(Role::Joy, word(words, 1)),
         Keyword::Action => None,
     }
 }

@@ -26,6 +26,7 @@ pub(crate) enum Keyword {
     Source,
     Client,
     Tap,
+    Joy,
     Action,
 }
 
@@ -34,7 +35,7 @@ pub(crate) enum Keyword {
 fn keyword_rows() -> &'static [(&'static str, Keyword)]
     ensures { rows_of result.now ≡ keyword_rows }
 {
-    static ROWS: [(&str, Keyword); 14] = [
+    static ROWS: [(&str, Keyword); 15] = [
         ("inputrecord", Keyword::Header),
         ("device", Keyword::Device),
         ("hint", Keyword::Hint),
@@ -48,6 +49,7 @@ fn keyword_rows() -> &'static [(&'static str, Keyword)]
         ("source", Keyword::Source),
         ("client", Keyword::Client),
         ("tap", Keyword::Tap),
+        ("joy", Keyword::Joy),
         ("do", Keyword::Action),
     ];
     &ROWS
@@ -81,13 +83,11 @@ fn filter_keyword(second: &[u8]) -> Keyword
 fn keyword_under(version: u32, second: &[u8], keyword: Keyword) -> Option<Keyword>
     ensures { result ≡ keyword_under version second.now keyword }
 {
-    if keyword != Keyword::Filter {
-        return Some(keyword);
+    match keyword {
+        Keyword::Filter | Keyword::Joy if version == 1 => None,
+        Keyword::Filter => Some(filter_keyword(second)),
+        _ => Some(keyword),
     }
-    if version == 1 {
-        return None;
-    }
-    Some(filter_keyword(second))
 }
 
 /// Whether a line of this keyword has so many words.

@@ -10,12 +10,21 @@
 //! the line's words are, an `Item`; then the context says whether that was said before, is one too many, or is refused by
 //! the description, and else takes it in.
 //!
-//! Its contract: `meaning` of `specs/Meaning.antt` says what bytes mean. It never speaks of a context that changes: what
-//! came before a line is the list of the items before it, a past, and each thing that the next line depends on is read off
-//! that list (`specs/Past.antt`). The causes stand in `specs/Meaning.antt` as one chain in their order, and what the words
-//! of each line are in `specs/Words.antt`. `specs/Spelling.antt` says what the lines of the canonical text mean, and that the
-//! text of each record that some bytes are is read again as that record, which [`print`] promises. [`examples`] shows what
-//! the definitions say of short records.
+//! Its contract: `meaning` of `specs/Meaning.antt` says what bytes mean, and [`parse`] gives just that, unless memory
+//! ran out (`IsParsing`). `meaning` never speaks of a context that changes: what came before a line is the list of the
+//! items before it, a past, and each thing that the next line depends on is read off that list (`specs/Past.antt`). The
+//! causes stand in `specs/Meaning.antt` as one chain in their order, and what the words of each line are in
+//! `specs/Words.antt`. `specs/Spelling.antt` says what the lines of the canonical text mean, and that the text of each
+//! record that some bytes are is read again as that record, which [`print`] promises (`RoundTrips`): so [`parse`] gives
+//! the record of a printed text, or want of memory.
+//!
+//! [`load`] (`IsLoaded`): the stream of a line is the records of the bytes, of 24 bytes for `stream` and of 16 for
+//! `stream16`. It is refused as none only where they are no whole records or one has a time that is none, and loaded
+//! only where they are; memory may run out at both, and the record is unchanged after a refusal. [`line_number`] is the
+//! number of an action line in its text.
+//!
+//! [`examples`] shows what the definitions say of short records: each cause at each line that can have it, of two
+//! causes that one line has the one that comes first, and what whole records mean.
 #![tactic(auto)]
 
 mod cause;

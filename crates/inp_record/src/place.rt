@@ -26,7 +26,7 @@ pub(crate) fn is_out_of_place(place: Place, keyword: Keyword) -> bool
     match keyword {
         Keyword::Header => place != Place::Start,
         Keyword::Device => place == Place::Acting,
-        Keyword::Source | Keyword::Client | Keyword::Tap => {
+        Keyword::Source | Keyword::Client | Keyword::Tap | Keyword::Joy => {
             place != Place::Describing && place != Place::Naming
         }
         Keyword::Action => false,

@@ -103,15 +103,15 @@ fn is_verb_of(role: Role, verb: Verb) -> bool
         | Verb::Uninhibit
         | Verb::Stream
         | Verb::Stream16 => role == Role::Source,
-        Verb::Open
-        | Verb::Close
-        | Verb::Grab
+        Verb::Open | Verb::Close => role != Role::Source,
+        Verb::Grab
         | Verb::Ungrab
         | Verb::Revoke
         | Verb::Mask
         | Verb::Clock
         | Verb::Write
-        | Verb::SetAxis => role != Role::Source,
+        | Verb::SetAxis => matches!(role, Role::Client | Role::Tap),
+        Verb::Read => matches!(role, Role::Tap | Role::Joy),
         Verb::Next | Verb::Skip | Verb::Follow | Verb::Force => role == Role::Client,
         _ => role == Role::Tap,
     }

@@ -4,7 +4,7 @@ use inp_actors::Role;
 use std::fmt;
 use std::fmt::Write;
 
-/// Writes what an actor is: `source`, `client` or `tap` (this project's choice).
+/// Writes what an actor is: `source`, `client`, `tap` or `joy` (this project's choice).
 #[derive(Drop)]
 pub struct RoleText(pub Role);
 
@@ -20,6 +20,7 @@ impl fmt::Display for RoleText {
             Role::Source => f.write_str("source"),
             Role::Client => f.write_str("client"),
             Role::Tap => f.write_str("tap"),
+            Role::Joy => f.write_str("joy"),
         }
     }
 }

@@ -50,6 +50,7 @@ returns-clause-commands c =
       write = refl;
       describe = refl;
       read = refl;
+      read_all = refl;
       discard = refl;
       keys = refl;
       switches = refl;

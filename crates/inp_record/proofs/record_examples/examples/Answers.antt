@@ -48,9 +48,13 @@ pub returns-clause-filters : goal.returns-clause-filters
 unfolding record_computing
 returns-clause-filters c = record { version_1 = refl; version_1_first = refl; alone = refl; more = refl; less = refl; before_place = refl; place = refl; behind_an_actor = refl; other = refl; other_of_many_words = refl; code = refl; key = refl; no_time = refl; long_time = refl; report = refl; key_0 = refl; one_key = refl; ninth = refl; ninth_code = refl; ninth_word = refl }
 
+pub returns-clause-joysticks : goal.returns-clause-joysticks
+unfolding record_computing
+returns-clause-joysticks c = record { version_1 = refl; version_1_first = refl; alone = refl; more = refl; place = refl; behind_an_action = refl; description_behind = refl; name = refl; again = refl; grab = refl; clock = refl; next = refl; keys = refl; tick = refl; less = refl; open_more = refl; count = refl; negative = refl; count_of_a_tap = refl }
+
 pub returns-clause-accepted : goal.returns-clause-accepted
 unfolding record_computing
-returns-clause-accepted c = record { comments = refl; devices = refl; again = refl; name_spaces = refl; long_name = refl; supported_twice = refl; bounds = refl; slots_of_version_2 = refl; filters_of_each = refl; moment = refl; streams = refl }
+returns-clause-accepted c = record { comments = refl; devices = refl; again = refl; name_spaces = refl; long_name = refl; supported_twice = refl; bounds = refl; slots_of_version_2 = refl; filters_of_each = refl; joystick_of_each = refl; moment = refl; streams = refl }
 
 pub returns-clause-records : goal.returns-clause-records
 unfolding record_computing
@@ -58,7 +62,7 @@ returns-clause-records c = record { header = refl; later_header = refl; device =
 
 pub returns-clause-actions : goal.returns-clause-actions
 unfolding record_computing
-returns-clause-actions c = record { source = refl; client = refl; reading = refl; tap = refl; of_version_2 = refl }
+returns-clause-actions c = record { source = refl; client = refl; reading = refl; tap = refl; joystick = refl; of_version_2 = refl }
 
 pub returns-clause-streams : goal.returns-clause-streams
 unfolding stamps_from
