@@ -9,7 +9,11 @@ pub mod Nexts
 pub mod ReaderCalls
 pub mod Turning
 pub mod TurnEnds
+pub mod LessToDo
 pub mod Devices
 pub mod Outcomes
 pub mod Passing
+pub mod MoreTurns
 pub mod NewJoys
+pub mod TurnCases
+pub mod Records

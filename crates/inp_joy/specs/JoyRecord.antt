@@ -1,6 +1,6 @@
 -- The records that a joystick client hands out (docs/RULES.md, "Joystick clients").
-use Rattle.std.specs.Prelude.{ℕ, ◌+◌, ◌/◌, ◌%◌, ◌^◌, ℤ, pos, negsuc, int_lt, Bool, ◌||◌, if◌then◌else◌, nat_eq, List, [], ◌∷◌, ◌++◌}
-use Rattle.std.specs.Int.{w16, w32, to_le_bytes, cast_unsigned}
+use Rattle.std.specs.Prelude.{ℕ, ◌+◌, ◌/◌, ◌%◌, ◌^◌, ℤ, pos, negsuc, slice_index_or, take, drop, int_lt, Bool, ◌||◌, if◌then◌else◌, nat_eq, List, [], ◌∷◌, ◌++◌}
+use Rattle.std.specs.Int.{w16, w32, to_le_bytes, from_le_bytes, cast_unsigned, cast_signed}
 use Rattle.inp_model.specs.declared.taken.Taken.{Taken}
 use Rattle.inp_model.specs.Event.{is_set}
 use Rattle.inp_reader.specs.Synthesis.{bit_value}
@@ -10,6 +10,15 @@ use Rattle.inp_joy.specs.declared.joy_record.TheConstants.{JS_EVENT_BUTTON, JS_E
 -- the eight bytes of a record: time, value, type and number, each lowest byte first
 abbrev pub bytes_of : JoyRecord → List ℕ
 bytes_of r = to_le_bytes w32 r.time ++ to_le_bytes w16 (cast_unsigned w16 r.value) ++ r.kind ∷ r.number ∷ []
+
+-- the record that eight bytes are
+abbrev pub record_in : List ℕ → JoyRecord
+record_in bytes = record {
+  time = from_le_bytes w32 (take 4 bytes);
+  value = cast_signed w16 (from_le_bytes w16 (take 2 (drop 4 bytes)));
+  kind = slice_index_or bytes 6 0;
+  number = slice_index_or bytes 7 0;
+}
 
 -- the value of an axis, cut to those of 16 bits that have a negative
 abbrev pub cut : ℤ → ℤ

@@ -18,7 +18,7 @@ use Rattle.inp_joy.specs.declared.turn_end.TurnEnd.TheVariants.{Hands, Stops, Go
 use Rattle.inp_joy.specs.Codes.{buttons, axes, startup_len}
 use Rattle.inp_joy.specs.Joying.{Joying, JoyView, JoyAnswer, Turn, gives, goes_on, stop_with, is_long, turns}
 use Rattle.inp_joy.specs.Picture.{seen_as}
-use Rattle.inp_joy.specs.Reads.{IsPictured, PicturesTheDevice, agains_after_read}
+use Rattle.inp_joy.specs.Reads.{IsPictured, PicturesTheDevice, IsReadLess, agains_after_read}
 
 abbrev pub joying_of : JoyState → Joying
 joying_of s = record { reading = s.reader.reading; handed = s.handed; picture = seen_as s.picture }
@@ -56,10 +56,11 @@ abbrev pub is_end : Description → TurnEnd → Joying → ℕ → Bool
 is_end d GoesOn j n = is_long d j n
 is_end d _ j n = true
 
--- a turn that goes on leaves less to do
+-- a turn that goes on leaves less to do, and one that stops leaves what its read does
 abbrev pub IsTurnEndLess : TurnEnd → ℕ → ℕ → Type 0
+IsTurnEndLess (Hands r) after before = Unit {0}
+IsTurnEndLess (Stops read) after before = IsReadLess read after before
 IsTurnEndLess GoesOn after before = after < before
-IsTurnEndLess _ after before = Unit {0}
 
 -- the count of answers Again after a turn
 abbrev pub agains_after_turn : TurnEnd → ℕ → ℕ

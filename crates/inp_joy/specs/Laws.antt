@@ -1,11 +1,15 @@
 -- The laws of startups and pictures (docs/RULES.md, "Joystick clients").
-use Rattle.std.specs.Prelude.{◌≡◌, ◌≤◌, ◌+◌, List, length}
+use Rattle.std.specs.Prelude.{◌≡◌, ◌≤◌, ◌<◌, ◌+◌, ◌^◌, List, length}
+use Rattle.std.specs.Int.{w16}
+use Rattle.std.specs.Int.RustNames.{FitsSigned}
 use Rattle.inp_model.specs.RawItem.{RawItem}
 use Rattle.inp_model.specs.declared.taken.Taken.{Taken}
 use Rattle.inp_model.specs.Description.{Description}
 use Rattle.inp_recon.specs.declared.view.View.{View}
 use Rattle.inp_recon.specs.Faithful.{IsDeviceState}
 use Rattle.inp_recon.specs.View.{IsSizedFor, view_after_event}
+use Rattle.inp_joy.specs.declared.joy_record.JoyRecord.{JoyRecord}
+use Rattle.inp_joy.specs.JoyRecord.{bytes_of, record_in}
 use Rattle.inp_joy.specs.Codes.{startup_len}
 use Rattle.inp_joy.specs.Joying.{startup, record_of}
 use Rattle.inp_joy.specs.Picture.{blank_picture, picture_after_all, picture_after_if, picture_of_view, picture_of_device}
@@ -33,3 +37,7 @@ EventLeadsToItsView =
 abbrev pub ViewHasTheDevicesPicture : Type 0
 ViewHasTheDevicesPicture =
     (d : Description) (r : List RawItem) (v : View) → IsDeviceState d r v → picture_of_view d v ≡ picture_of_device d r
+
+-- the bytes of a record tell it, where its time has 32 bits and its value 16 with a sign
+abbrev pub BytesTellTheRecord : Type 0
+BytesTellTheRecord = (r : JoyRecord) → r.time < 2 ^ 32 → FitsSigned w16 r.value → record_in (bytes_of r) ≡ r

@@ -1,5 +1,5 @@
 -- What `read` of a joystick client promises (docs/RULES.md, "Joystick clients").
-use Rattle.std.specs.Prelude.{◌≡◌, ℕ, ◌+◌, ◌-◌, ◌^◌, nat_lt, if◌then◌else◌, false, List, [], reverse, map, drop, slice_get, Option, Some, None}
+use Rattle.std.specs.Prelude.{◌≡◌, ℕ, ◌+◌, ◌-◌, ◌^◌, ◌<◌, nat_lt, if◌then◌else◌, false, List, [], reverse, map, drop, slice_get, Option, Some, None}
 use Rattle.inp_model.specs.declared.step.Step.{Step}
 use Rattle.inp_model.specs.declared.taken.Taken.{Taken}
 use Rattle.inp_model.specs.Description.{Description}
@@ -14,7 +14,7 @@ use Rattle.inp_reader.specs.Says.{Says}
 use Rattle.inp_reader.specs.Showing.{index_handed_out}
 use Rattle.inp_reader.specs.Standing.{StandsAt, is_needed}
 use Rattle.inp_joy.specs.declared.joy_read.JoyRead.{JoyRead}
-use Rattle.inp_joy.specs.declared.joy_read.JoyRead.TheVariants.{Frame, Again}
+use Rattle.inp_joy.specs.declared.joy_read.JoyRead.TheVariants.{Frame, Again, More}
 use Rattle.inp_joy.specs.declared.joy_record.JoyRecord.{JoyRecord}
 use Rattle.inp_joy.specs.JoyRecord.{bytes_of}
 use Rattle.inp_joy.specs.Picture.{picture_after_all, picture_of_view, picture_of_device}
@@ -37,6 +37,13 @@ pub record IsRead (before after : EvdevView) (d : Description) (old new : Joying
 abbrev pub agains_after_read : JoyRead → ℕ → ℕ
 agains_after_read (Again at ends) n = if nat_lt n (2 ^ 64 - 1) then n + 1 else n
 agains_after_read _ n = n
+
+-- A read that ended a frame, or that was long, leaves its reader less to do (a number, its effort); of the others nothing is
+-- said. By this a caller's loop over `read` that counts its records ends.
+abbrev pub IsReadLess : JoyRead → ℕ → ℕ → Type 0
+IsReadLess (Frame place) after before = after < before
+IsReadLess More after before = after < before
+IsReadLess _ after before = Unit {0}
 
 -- What is left of a startup leads the picture to the view's buttons and cut axes; after the startup it shows them.
 abbrev pub IsPictured : Description → Joying → Type 0

@@ -2,6 +2,7 @@
 ghost use Rattle.std.specs.Prelude.{◌≡◌, ◌≤◌, true, [], length, IfOk};
 ghost use Rattle.inp_reader.specs.declared.phase.Phase.TheVariants.{Plain};
 ghost use Rattle.inp_reader.specs.declared.reader.TheConstants.{NO_CLIENT};
+ghost use Rattle.inp_reader.specs.Effort.{effort};
 ghost use Rattle.inp_reader.specs.Leaving.{LeavesMade};
 ghost use Rattle.inp_reader.specs.Says.{Says};
 ghost use Rattle.inp_reader.specs.Standing.{IsAlone, has_opened};
@@ -9,7 +10,7 @@ ghost use Rattle.inp_recon.specs.View.{first_view};
 ghost use Rattle.inp_joy.specs.Codes.{startup_len};
 ghost use Rattle.inp_joy.specs.Joying.{joy_start};
 ghost use Rattle.inp_joy.specs.Picture.{blank_picture, seen_as};
-ghost use Rattle.inp_joy.specs.Reads.{IsRead, IsPictured, JoyStands, ReadPictures, agains_after_read};
+ghost use Rattle.inp_joy.specs.Reads.{IsRead, IsPictured, IsReadLess, JoyStands, ReadPictures, agains_after_read};
 
 use crate::code_list::CodeList;
 use crate::joy_calls::JoyCalls;
@@ -129,6 +130,9 @@ impl Joy {
     /// `Again` alone. A client that stood at the end of what was seen before stands at the end of what is seen afterwards, if
     /// nobody else used it in between. Where it answers `Frame`, its picture is then the device's at the end of that frame, if
     /// the client could follow the device up to there.
+    ///
+    /// A loop over `read` that ends after so many records, and at any answer but `Record`, `Frame` and `More`, ends, since a
+    /// read that answers `Frame` or `More` leaves the reader less to do than before (a number, its effort).
     pub fn read<E: Evdev>(&mut self, dev: &mut E, out: &mut [u8; 8]) -> JoyRead
         requires description { (E.told dev.old).description ≡ self.old.description }
         ensures says { IsRead (E.told dev.old) (E.told dev.new)
@@ -137,6 +141,9 @@ impl Joy {
         ensures joy { self.new.description ≡ self.old.description }
         ensures left { LeavesMade (E.told dev.old) (E.told dev.new) self.new.made }
         ensures agains { (E.told dev.new).agains ≡ agains_after_read result (E.told dev.old).agains }
+        ensures less { IsReadLess result
+            (effort (E.told dev.new) self.new.joying.reading)
+            (effort (E.told dev.old) self.old.joying.reading) }
         ensures few { length self.new.made ≤ 128 }
         ensures stands { JoyStands (E.told dev.old) self.old
             → IsAlone (E.told dev.old) (E.told dev.new) self.new.joying.reading.client self.new.made

@@ -1,6 +1,6 @@
 //! The records that a joystick client hands out.
 ghost use Rattle.std.specs.Prelude.{◌≡◌};
-ghost use Rattle.inp_joy.specs.JoyRecord.{bytes_of, is_of_button, is_of_axis, startup_button, startup_axis, button_record, axis_record, cut, milliseconds};
+ghost use Rattle.inp_joy.specs.JoyRecord.{bytes_of, record_in, is_of_button, is_of_axis, startup_button, startup_axis, button_record, axis_record, cut, milliseconds};
 ghost use Rattle.inp_reader.specs.Synthesis.{bit_value};
 
 use inp_model::Taken;
@@ -41,6 +41,19 @@ impl JoyRecord {
         let [t0, t1, t2, t3] = self.time.to_le_bytes();
         let [v0, v1] = self.value.to_le_bytes();
         [t0, t1, t2, t3, v0, v1, self.kind, self.number]
+    }
+
+    /// The record that these eight bytes are. Of the bytes of a record that a client handed out it is that record.
+    pub fn from_bytes(bytes: [u8; 8]) -> JoyRecord
+        ensures joy_record { result ≡ record_in bytes }
+    {
+        let [t0, t1, t2, t3, v0, v1, kind, number] = bytes;
+        JoyRecord {
+            time: u32::from_le_bytes([t0, t1, t2, t3]),
+            value: i16::from_le_bytes([v0, v1]),
+            kind,
+            number,
+        }
     }
 
     // Whether it is about a button.

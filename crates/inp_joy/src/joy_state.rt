@@ -11,7 +11,7 @@ ghost use Rattle.inp_joy.specs.Codes.{number_of, startup_len};
 ghost use Rattle.inp_joy.specs.Joying.{startup, startup_buttons, startup_axes, with_startup, without_startup, is_startup_over, is_long, hand_out_record, record_of, record_of_key, record_of_axis, last_value, after_event, after_next, after_start, sync_turn, event_turn, next_in_startup, record_or_turn, turn_talk, joy_start, gives};
 ghost use Rattle.inp_joy.specs.Kept.{joying_of, IsJoyState, answer_of, turn_of, is_end, IsTurnEndLess, agains_after_turn, ReaderCalls, TurnEndShows, TurnEndPictures, HasTurned, StateStands};
 ghost use Rattle.inp_joy.specs.Picture.{seen_as};
-ghost use Rattle.inp_joy.specs.Reads.{IsPictured, IsRead, ReadPictures, agains_after_read};
+ghost use Rattle.inp_joy.specs.Reads.{IsPictured, IsRead, IsReadLess, ReadPictures, agains_after_read};
 
 use crate::code_list::CodeList;
 use crate::joy_calls::JoyCalls;
@@ -386,6 +386,9 @@ impl JoyState {
             (TurnEndPictures (E.told dev.new) self.old.reader.description
             (joying_of self.new) result) }
         ensures agains { (E.told dev.new).agains ≡ agains_after_turn result (E.told dev.old).agains }
+        ensures less { IsTurnEndLess result
+            (effort (E.told dev.new) self.new.reader.reading)
+            (effort (E.told dev.old) self.old.reader.reading) }
         ensures state { IsJoyState self.old.reader.description self.new }
         ensures pictured { IsPictured self.old.reader.description (joying_of self.new) }
         ensures few { length self.new.made ≤ 128 }
@@ -410,6 +413,9 @@ impl JoyState {
             self.old.reader.description self.old.reader.reading self.new.reader.reading
             (ReadPictures (E.told dev.new) self.old.reader.description (joying_of self.new) result) }
         ensures agains { (E.told dev.new).agains ≡ agains_after_read result (E.told dev.old).agains }
+        ensures less { IsReadLess result
+            (effort (E.told dev.new) self.new.reader.reading)
+            (effort (E.told dev.old) self.old.reader.reading) }
         ensures state { IsJoyState self.old.reader.description self.new }
         ensures pictured { IsPictured self.old.reader.description (joying_of self.new) }
         ensures few { length self.new.made ≤ 128 }

@@ -4,6 +4,7 @@ use Rattle.inp_joy.proofs.CodeLists.{length-buttons, length-axes}
 use Rattle.inp_joy.proofs.Devices.{device-pictured}
 use Rattle.inp_joy.proofs.Events.{event-pictured}
 use Rattle.inp_joy.proofs.Pictures.{startup-pictured}
+use Rattle.inp_joy.proofs.Records.{record-back}
 use Rattle.inp_joy.proofs.Startups.{length-startup}
 use Rattle.inp_joy.proofs.laws.pictures.Goals as goal
 
@@ -14,4 +15,5 @@ returns c = record {
   startup = startup-pictured;
   event = λ d v taken sized. event-pictured d v taken sized.keys sized.axes;
   device = device-pictured;
+  bytes = λ r time value. record-back r (record { time = time; value = value });
 }

@@ -5,6 +5,7 @@ use Rattle.inp_joy.specs.declared.joy_state.JoyState.{JoyState}
 use Rattle.inp_joy.specs.Joying.{sync_turn, goes_on}
 use Rattle.inp_joy.specs.Kept.{joying_of, ReaderCalls}
 use Rattle.inp_joy.proofs.ReaderCalls.{calls-weaker}
+use Rattle.inp_joy.proofs.LessToDo.{stop-less}
 use Rattle.inp_joy.proofs.Outcomes.{sync-shows}
 use Rattle.inp_joy.proofs.Turning.{says-sync_stopped, says-sync_whole}
 use Rattle.inp_joy.proofs.joy_state.JoyState.synchronise.Goals as goal
@@ -30,3 +31,6 @@ returns-clause-calls g c =
     let a = g.E.Evdev.told c.args.dev.now in
     let b = g.E.Evdev.told c.next-next.new.dev in
     subst (λ (s : JoyState). ReaderCalls a b c.args.self.now.made s.made c.args.self.now.reader.description c.args.self.now.reader.reading s.reader.reading (Unit {0})) (sym c.begin_startup.ensures.rest) (calls-weaker a b _ _ _ _ _ _ (Unit {0}) (λ shown. tt) c.next-next.ensures.calls)
+
+pub returns-in-Some-clause-less : goal.returns-in-Some-clause-less
+returns-in-Some-clause-less g c = stop-less c.next-next.result c.in-Some.read _ _ c.in-Some.ensures

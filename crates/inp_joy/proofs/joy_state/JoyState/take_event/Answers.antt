@@ -1,11 +1,13 @@
-use Rattle.std.proofs.Common.{◌≡◌, List, sym, ap, subst}
+use Rattle.std.proofs.Common.{◌≡◌, List, refl, sym, ap, subst, arith}
 use Rattle.inp_model.specs.Description.{Description}
 use Rattle.inp_reader.specs.declared.call_made.CallMade.{CallMade}
+use Rattle.inp_reader.specs.Effort.{effort}
 use Rattle.inp_reader.specs.Says.{Says}
 use Rattle.inp_joy.specs.declared.joy_state.JoyState.{JoyState}
 use Rattle.inp_joy.specs.Joying.{after_next, event_turn, sync_turn}
-use Rattle.inp_joy.specs.Kept.{joying_of, turn_of, ReaderCalls, TurnEndShows}
+use Rattle.inp_joy.specs.Kept.{joying_of, turn_of, IsTurnEndLess, ReaderCalls, TurnEndShows}
 use Rattle.inp_joy.proofs.ReaderCalls.{calls-then, calls-weaker}
+use Rattle.inp_joy.proofs.LessToDo.{lost-less, next-less, less-then}
 use Rattle.inp_joy.proofs.Nexts.{lost-needed}
 use Rattle.inp_joy.proofs.Outcomes.{next-shows}
 use Rattle.inp_joy.proofs.Turning.{says-event_lost, says-event}
@@ -49,3 +51,16 @@ returns-else-is_lost-clause-calls g c =
     let mid = c.next-next.new.self in
     subst (λ (s : JoyState). ReaderCalls a b c.args.self.now.made s.made c.args.self.now.reader.description c.args.self.now.reader.reading s.reader.reading (TurnEndShows b s.reader c.after_next.result)) (sym c.after_next.ensures.rest)
     (calls-weaker a b _ _ _ _ _ _ _ (λ shown. next-shows b mid.reader mid.reader.description (joying_of mid) (joying_of c.after_next.new.self) c.next-next.result c.after_next.result c.after_next.ensures.turn shown) c.next-next.ensures.calls)
+
+pub returns-then-is_lost-clause-less : goal.returns-then-is_lost-clause-less
+returns-then-is_lost-clause-less g c =
+    let less = lost-less c.next-next.result _ _ (sym c.if-is_lost.ensures) (c.next-next.ensures.less refl) in
+    less-then c.synchronise.result _ _ _ c.synchronise.ensures.less (omega (arith, less))
+
+pub returns-else-is_lost-clause-less : goal.returns-else-is_lost-clause-less
+returns-else-is_lost-clause-less g c =
+    let a = g.E.Evdev.told c.args.dev.now in
+    let b = g.E.Evdev.told c.next-next.new.dev in
+    let mid = c.next-next.new.self in
+    subst (λ (s : JoyState). IsTurnEndLess c.after_next.result (effort b s.reader.reading) (effort a c.args.self.now.reader.reading)) (sym c.after_next.ensures.rest)
+    (next-less mid.reader.description (joying_of mid) (joying_of c.after_next.new.self) c.next-next.result c.after_next.result _ _ c.after_next.ensures.turn (c.next-next.ensures.less refl))

@@ -6,7 +6,8 @@ use Rattle.inp_joy.specs.Joying.{turn_talk}
 use Rattle.inp_joy.specs.Kept.{joying_of, IsJoyState, turn_of, is_end, ReaderCalls, TurnEndPictures}
 use Rattle.inp_joy.specs.Reads.{IsPictured}
 use Rattle.inp_joy.proofs.ReaderCalls.{calls-none, calls-then, calls-weaker}
-use Rattle.inp_joy.proofs.Passing.{passed-none, passed-more, passed-last, on-short, on-agains}
+use Rattle.inp_joy.proofs.LessToDo.{less-then}
+use Rattle.inp_joy.proofs.Passing.{passed-none, passed-more, passed-last, on-less, on-short, on-agains}
 use Rattle.inp_joy.proofs.joy_state.JoyState.take_turns.Goals as goal
 
 pub loop-outcome-init : goal.loop-outcome-init
@@ -18,6 +19,7 @@ loop-outcome-init g c =
       passed = passed-none a d (joying_of c.args.self.now) c.args.self.now.made c.requires.anew;
       calls = subst (λ (ms : List CallMade). ReaderCalls a a ms c.args.self.now.made d r r (Unit {0})) c.requires.anew (calls-none a c.args.self.now.made d r (Unit {0}) tt);
       agains = refl;
+      less = omega arith;
       state = c.requires.state;
       pictured = c.requires.pictured;
       short = λ over. omega (arith, ap length c.requires.anew);
@@ -45,6 +47,9 @@ returns-then-is_end-clause-calls g c =
     calls-then _ m b _ _ _ d _ _ _ _ _ c.loop-outcome.invariant.calls
     (subst (λ (e : Description). ReaderCalls m b c.loop-outcome.self.made c.turn-outcome.new.self.made e c.loop-outcome.self.reader.reading c.turn-outcome.new.self.reader.reading (TurnEndPictures b e next c.turn-outcome.result)) c.loop-outcome.invariant.state.description c.turn-outcome.ensures.calls)
 
+pub returns-then-is_end-clause-less : goal.returns-then-is_end-clause-less
+returns-then-is_end-clause-less g c = less-then c.turn-outcome.result _ _ _ c.turn-outcome.ensures.less c.loop-outcome.invariant.less
+
 pub loop-outcome-preserved : goal.loop-outcome-preserved
 loop-outcome-preserved g c =
     let m = g.E.Evdev.told c.loop-outcome.dev in
@@ -63,6 +68,7 @@ loop-outcome-preserved g c =
           (calls-then _ m b _ _ _ d _ _ _ (TurnEndPictures b d next c.turn-outcome.result) (Unit {0}) c.loop-outcome.invariant.calls
           (subst (λ (e : Description). ReaderCalls m b c.loop-outcome.self.made new.made e c.loop-outcome.self.reader.reading new.reader.reading (TurnEndPictures b e next c.turn-outcome.result)) same c.turn-outcome.ensures.calls));
       agains = c.turn-outcome.ensures.agains ∙ on-agains d c.turn-outcome.result next (length new.made) _ on ∙ c.loop-outcome.invariant.agains;
+      less = omega (arith, on-less d c.turn-outcome.result next (length new.made) _ _ on c.turn-outcome.ensures.less, c.loop-outcome.invariant.less);
       state = subst (λ (e : Description). IsJoyState e new) same c.turn-outcome.ensures.state;
       pictured = subst (λ (e : Description). IsPictured e next) same c.turn-outcome.ensures.pictured;
       short = λ over. on-short d c.turn-outcome.result next (length new.made) on over;

@@ -11,6 +11,7 @@ invariant-loop-outcome g l = record {
   passed : Passed (g.E.Evdev.told l.initial.dev) (g.E.Evdev.told l.dev) l.initial.self.reader.description (joying_of l.initial.self) (joying_of l.self) l.self.made;
   calls : ReaderCalls (g.E.Evdev.told l.initial.dev) (g.E.Evdev.told l.dev) [] l.self.made l.initial.self.reader.description l.initial.self.reader.reading l.self.reader.reading (Unit {0});
   agains : (g.E.Evdev.told l.dev).agains ≡ (g.E.Evdev.told l.initial.dev).agains;
+  less : effort (g.E.Evdev.told l.dev) l.self.reader.reading ≤ effort (g.E.Evdev.told l.initial.dev) l.initial.self.reader.reading;
   state : IsJoyState l.initial.self.reader.description l.self;
   pictured : IsPictured l.initial.self.reader.description (joying_of l.self);
   short : is_startup_over l.initial.self.reader.description (joying_of l.self) ≡ true → length l.self.made < 64;

@@ -4,6 +4,7 @@ use Rattle.inp_joy.specs.Joying.{next_in_startup}
 use Rattle.inp_joy.specs.Kept.{joying_of, turn_of, ReaderCalls, TurnEndPictures}
 use Rattle.inp_joy.proofs.ReaderCalls.{calls-none, calls-weaker}
 use Rattle.inp_joy.proofs.Outcomes.{hand_out_record-pictures, shows-pictures}
+use Rattle.inp_joy.proofs.LessToDo.{startup-less}
 use Rattle.inp_joy.proofs.TurnEnds.{over-none, startup_over, record-pictured, turn-pictured, outcome-pictured, IsTurnPictured}
 use Rattle.inp_joy.proofs.Turning.{says-turn, says-startup}
 use Rattle.inp_joy.proofs.joy_state.JoyState.turn.Goals as goal
@@ -49,3 +50,7 @@ returns-in-None-clause-pictured g c =
     let k = joying_of c.go_on.new.self in
     outcome-pictured d k c.go_on.result
     (turn-pictured d (joying_of c.args.self.now) c.go_on.ensures.says.calls (turn_of c.go_on.result k) c.requires.state.view.sized c.requires.pictured c.in-None.ensures.found c.go_on.ensures.says.talk_ends)
+
+pub returns-in-Some-clause-less : goal.returns-in-Some-clause-less
+returns-in-Some-clause-less g c =
+    startup-less (next_in_startup (joying_of c.args.self.now)) (joying_of c.hand_startup.new.self) c.in-Some.joy_record c.hand_startup.result _ _ c.hand_startup.ensures.turn

@@ -1,0 +1,192 @@
+-- The records that a joystick client hands out: their bytes tell them.
+use Rattle.std.proofs.Common.{◌≡◌, ℕ, zero, suc, ◌<◌, ◌+◌, ◌%◌, ◌/◌, ◌^◌, ℤ, pos, negsuc, Bool, true, false, if◌then◌else◌, nat_lt, nat_eq, int_eq, List, [], ◌∷◌, ◌++◌, map, Some, None, refl, ap, subst, ◌∙◌, arith}
+use Rattle.std.specs.Prelude.{Option, slice_get}
+use Rattle.std.specs.Int.{w16, cast_unsigned, cast_signed}
+use Rattle.std.specs.Int.RustNames.{FitsSigned}
+use Rattle.std.proofs.lemmas.Bool.Decides.{nat_tests}
+use Rattle.std.proofs.lemmas.Int.{to_z-of_z}
+use Rattle.std.proofs.lemmas.Nat.{from_le_bytes-to_le_bytes_2, from_le_bytes-to_le_bytes_4}
+use Rattle.inp_model.specs.declared.taken.Taken.{Taken}
+use Rattle.inp_model.specs.declared.event.TheConstants.{EV_KEY, EV_ABS}
+use Rattle.inp_model.specs.Description.{Description}
+use Rattle.inp_model.specs.Event.{is_repeat, is_report, is_set}
+use Rattle.inp_model.specs.Run.{Call}
+use Rattle.inp_recon.specs.declared.view.View.{View}
+use Rattle.inp_reader.specs.declared.next.Next.{Next}
+use Rattle.inp_reader.specs.declared.next.Next.TheVariants.{Success, Dropped, Sync, Again as NothingVisible, Synced, NoDevice as Revoked, Closed as NotOpen, Full as FullHistory}
+use Rattle.inp_reader.specs.Synthesis.{bit_value}
+use Rattle.inp_reader.specs.Talk.{EndsWith}
+use Rattle.inp_joy.specs.declared.joy_read.JoyRead.{JoyRead}
+use Rattle.inp_joy.specs.declared.joy_read.JoyRead.TheVariants.{Record, Frame, Again, NoDevice, Closed, Full, More}
+use Rattle.inp_joy.specs.declared.joy_record.JoyRecord.{JoyRecord}
+use Rattle.inp_joy.specs.JoyRecord.{bytes_of, record_in, cut, startup_button, startup_axis, button_record, axis_record}
+use Rattle.inp_joy.specs.Codes.{buttons, axes, number_of}
+use Rattle.inp_joy.specs.Joying.{Joying, JoyAnswer, Turn, gives, goes_on, hand_out_record, next_in_startup, map_numbered, startup, last_value, record_of_key, record_of_axis, record_of, record_or_on, event_or_on, stop_of, event_of, stop_or_event, after_next, stop_or_startup, turns, stop_with, with_reading}
+use Rattle.inp_joy.specs.Picture.{PictureView, is_down_in, value_in}
+use Rattle.inp_joy.proofs.TurnCases.{Synchronises, TurnCase, of_startup, of_sync, of_loss, of_next, turn-case, turns-all}
+
+-- A record fits its bytes: its time has 32 bits, and its value 16 with a sign. Its type and number are bytes as they are.
+pub record FitsBytes (r : JoyRecord) : Type 0 where
+  pub time : r.time < 2 ^ 32
+  pub value : FitsSigned w16 r.value
+
+unsigned-below : (value : ℤ) → FitsSigned w16 value → cast_unsigned w16 value < 2 ^ 16
+unsigned-below (pos n) h = omega (arith, h.sfits)
+unsigned-below (negsuc n) h = omega arith
+
+-- its bytes are read as the record
+pub record-back : (r : JoyRecord) → FitsBytes r → record_in (bytes_of r) ≡ r
+record-back r h =
+    let value_back : cast_signed w16 _ ≡ r.value = ap (λ (n : ℕ). cast_signed w16 n) (from_le_bytes-to_le_bytes_2 (cast_unsigned w16 r.value) (unsigned-below r.value h.value)) ∙ to_z-of_z w16 r.value h.value in
+    λ i. record { time = from_le_bytes-to_le_bytes_4 r.time h.time i; value = value_back i; kind = r.kind; number = r.number }
+
+-- Each record that a client makes
+
+cut-fits : (value : ℤ) → FitsSigned w16 (cut value)
+cut-fits (pos n) = by_flag (nat_lt 32767 n) refl
+  where
+    by_flag : (b : Bool) → nat_lt 32767 n ≡ b → FitsSigned w16 (if b then pos 32767 else pos n)
+    by_flag true is = record { sfits = omega arith }
+    by_flag false is = let most : n < 32768 = grind (arith, nat_tests, is) in record { sfits = omega (arith, most) }
+cut-fits (negsuc n) = by_flag (nat_lt 32766 n) refl
+  where
+    by_flag : (b : Bool) → nat_lt 32766 n ≡ b → FitsSigned w16 (if b then negsuc 32766 else negsuc n)
+    by_flag true is = record { sfits = omega arith }
+    by_flag false is = let most : n < 32767 = grind (arith, nat_tests, is) in record { sfits = omega (arith, most) }
+
+bit-fits : (b : Bool) → FitsSigned w16 (bit_value b)
+bit-fits true = record { sfits = omega arith }
+bit-fits false = record { sfits = omega arith }
+
+-- each of these records fits
+abbrev pub AllFit : List JoyRecord → Type 0
+AllFit records = (k : ℕ) (r : JoyRecord) → slice_get records k ≡ Some r → FitsBytes r
+
+fit-append : (xs ys : List JoyRecord) → AllFit xs → AllFit ys → AllFit (xs ++ ys)
+fit-append [] ys h l k r is = l k r is
+fit-append (x ∷ xs) ys h l zero r is = h zero r is
+fit-append (x ∷ xs) ys h l (suc k) r is = fit-append xs ys (λ m s e. h (suc m) s e) l k r is
+
+buttons-fit : (n : ℕ) (downs : List Bool) → AllFit (map_numbered startup_button n downs)
+buttons-fit n [] k r is = absurd cc
+buttons-fit n (down ∷ downs) zero r is = let same : startup_button n down ≡ r = cc in subst (λ (s : JoyRecord). FitsBytes s) same (record { time = omega arith; value = bit-fits down })
+buttons-fit n (down ∷ downs) (suc k) r is = buttons-fit (n + 1) downs k r is
+
+axes-fit : (n : ℕ) (value : ℕ → ℤ) (codes : List ℕ) → AllFit (map_numbered startup_axis n (map (λ code. cut (value code)) codes))
+axes-fit n value [] k r is = absurd cc
+axes-fit n value (code ∷ codes) zero r is = let same : startup_axis n (cut (value code)) ≡ r = cc in subst (λ (s : JoyRecord). FitsBytes s) same (record { time = omega arith; value = cut-fits (value code) })
+axes-fit n value (code ∷ codes) (suc k) r is = axes-fit (n + 1) value codes k r is
+
+pub startup-fits : (d : Description) (v : View) → AllFit (startup d v)
+unfolding startup
+startup-fits d v =
+    fit-append (map_numbered startup_button 0 (map (is_down_in v) (buttons d))) (map_numbered startup_axis 0 (map (λ code. cut (value_in v code)) (axes d)))
+    (buttons-fit 0 (map (is_down_in v) (buttons d))) (axes-fit 0 (value_in v) (axes d))
+
+abbrev pub FitsIf : Option JoyRecord → Type 0
+FitsIf None = Unit {0}
+FitsIf (Some r) = FitsBytes r
+
+milliseconds-below : (time : ℕ) → time / 1000 % 2 ^ 32 < 2 ^ 32
+milliseconds-below time = omega arith
+
+key-fits : (number : Option ℕ) (taken : Taken) → FitsIf (record_of_key number taken)
+key-fits None taken = tt
+key-fits (Some number) taken = by_flag (is_repeat taken.event)
+  where
+    by_flag : (b : Bool) → FitsIf (if b then None else Some (button_record number taken))
+    by_flag true = tt
+    by_flag false = record { time = milliseconds-below taken.time; value = bit-fits (is_set taken.event) }
+
+axis-fits : (p : PictureView) (number : Option ℕ) (taken : Taken) → FitsIf (record_of_axis p number taken)
+axis-fits p None taken = tt
+axis-fits p (Some number) taken = by_flag (int_eq (cut taken.event.value) (last_value p number))
+  where
+    by_flag : (b : Bool) → FitsIf (if b then None else Some (axis_record number taken))
+    by_flag true = tt
+    by_flag false = record { time = milliseconds-below taken.time; value = cut-fits taken.event.value }
+
+pub event-fits : (d : Description) (p : PictureView) (taken : Taken) → FitsIf (record_of d p taken)
+event-fits d p taken = by_flags (nat_eq taken.event.kind EV_KEY) (nat_eq taken.event.kind EV_ABS)
+  where
+    by_flags : (key axis : Bool) → FitsIf (if key then record_of_key (number_of taken.event.code (buttons d)) taken else if axis then record_of_axis p (number_of taken.event.code (axes d)) taken else None)
+    by_flags true axis = key-fits (number_of taken.event.code (buttons d)) taken
+    by_flags false true = axis-fits p (number_of taken.event.code (axes d)) taken
+    by_flags false false = tt
+
+-- Answers
+
+-- an answer hands out a record where it says so and else none, and its record fits its bytes
+abbrev pub HandsOutAsSaid : JoyRead → Option JoyRecord → Type 0
+HandsOutAsSaid Record None = ⊥
+HandsOutAsSaid Record (Some r) = FitsBytes r
+HandsOutAsSaid (Frame place) None = Unit {0}
+HandsOutAsSaid (Frame place) (Some r) = ⊥
+HandsOutAsSaid (Again at ends) None = Unit {0}
+HandsOutAsSaid (Again at ends) (Some r) = ⊥
+HandsOutAsSaid NoDevice None = Unit {0}
+HandsOutAsSaid NoDevice (Some r) = ⊥
+HandsOutAsSaid Closed None = Unit {0}
+HandsOutAsSaid Closed (Some r) = ⊥
+HandsOutAsSaid (Full at) None = Unit {0}
+HandsOutAsSaid (Full at) (Some r) = ⊥
+HandsOutAsSaid More None = Unit {0}
+HandsOutAsSaid More (Some r) = ⊥
+
+abbrev pub IsAnswerAsSaid : JoyAnswer → Type 0
+IsAnswerAsSaid answer = HandsOutAsSaid answer.read answer.record_out
+
+abbrev pub IsTurnAsSaid : Turn → Type 0
+IsTurnAsSaid (gives answer) = IsAnswerAsSaid answer
+IsTurnAsSaid (goes_on j) = Unit {0}
+
+turn-same : (t u : Turn) → t ≡ u → IsTurnAsSaid t → IsTurnAsSaid u
+turn-same t u e h = subst (λ (x : Turn). IsTurnAsSaid x) e h
+
+-- the answers of a reader that end a read hand out no record
+stopped-said : (next : Next) (read : JoyRead) → stop_of next ≡ Some read → HandsOutAsSaid read None
+stopped-said (NothingVisible at ends) read h = let e : Again at ends ≡ read = cc in subst (λ (x : JoyRead). HandsOutAsSaid x None) e tt
+stopped-said Revoked read h = let e : NoDevice ≡ read = cc in subst (λ (x : JoyRead). HandsOutAsSaid x None) e tt
+stopped-said NotOpen read h = let e : Closed ≡ read = cc in subst (λ (x : JoyRead). HandsOutAsSaid x None) e tt
+stopped-said (FullHistory at) read h = let e : Full at ≡ read = cc in subst (λ (x : JoyRead). HandsOutAsSaid x None) e tt
+stopped-said (Success taken) read h = absurd cc
+stopped-said (Dropped taken) read h = absurd cc
+stopped-said (Sync event) read h = absurd cc
+stopped-said Synced read h = absurd cc
+
+sync-said : (j : Joying) (next : Next) (stop : Option JoyRead) → stop_of next ≡ stop → IsTurnAsSaid (stop_or_startup j stop)
+sync-said j next None is = tt
+sync-said j next (Some read) is = stopped-said next read is
+
+sync_turn-said : (d : Description) (j : Joying) (calls : List Call) (t : Turn) → Synchronises d j calls t → IsTurnAsSaid t
+sync_turn-said d j calls t s = turn-same (stop_or_startup (with_reading j s.reading) (stop_of s.next)) t s.comes_to (sync-said (with_reading j s.reading) s.next (stop_of s.next) refl)
+
+made-said : (j : Joying) (o : Option JoyRecord) → FitsIf o → IsTurnAsSaid (record_or_on j o)
+made-said j None h = tt
+made-said j (Some r) h = h
+
+event-said : (d : Description) (j : Joying) (event : Option Taken) → IsTurnAsSaid (event_or_on d j event)
+event-said d j None = tt
+event-said d j (Some taken) = by_flag (is_report taken.event)
+  where
+    by_flag : (b : Bool) → IsTurnAsSaid (if b then gives (stop_with (Frame taken.place) j) else record_or_on j (record_of d j.picture taken))
+    by_flag true = tt
+    by_flag false = made-said j (record_of d j.picture taken) (event-fits d j.picture taken)
+
+next-said : (d : Description) (j : Joying) (next : Next) (stop : Option JoyRead) (event : Option Taken) → stop_of next ≡ stop → IsTurnAsSaid (stop_or_event d j stop event)
+next-said d j next None event is = event-said d j event
+next-said d j next (Some read) event is = stopped-said next read is
+
+turn-said : (d : Description) (j : Joying) (calls : List Call) (t : Turn) → TurnCase d j calls t → IsTurnAsSaid t
+turn-said d j calls t (of_startup r at none is) = turn-same (gives (hand_out_record (next_in_startup j) r)) t is (startup-fits d j.reading.view j.handed r at)
+turn-said d j calls t (of_sync needed s) = sync_turn-said d j calls t s
+turn-said d j calls t (of_loss first second next r plain whole h lost s) = sync_turn-said d (with_reading j r) second t s
+turn-said d j calls t (of_next next r plain h kept is) = turn-same (after_next d (with_reading j r) next) t is (next-said d (with_reading j r) next (stop_of next) (event_of next) refl)
+
+-- each answer of a read
+pub turns-said : (d : Description) (n count : ℕ) (j : Joying) (calls : List Call) (answer : JoyAnswer) → EndsWith (turns d n count j) calls (Some answer) → IsAnswerAsSaid answer
+turns-said d n count j calls answer h =
+    turns-all d (λ i cs a. IsAnswerAsSaid a)
+    (λ i cs a e. turn-said d i cs (gives a) (turn-case d i cs (gives a) e))
+    (λ i k cs e. tt)
+    (λ i k cs more a e p. p) n count j calls answer h
