@@ -1,13 +1,17 @@
--- What a source does at a command, by the command.
-use Rattle.std.proofs.Common.{◌≡◌, ℕ, zero, suc, List, [], ◌∷◌, refl, ap, ◌∙◌, Some, None}
+-- What a source and a joystick do at a command, by the command.
+use Rattle.std.proofs.Common.{◌≡◌, ℕ, zero, suc, List, [], ◌∷◌, refl, ap, ◌∙◌, true, Some, None}
 use Rattle.std.specs.List.{slice_get}
 use Rattle.inp_model.specs.declared.stamped.Stamped.{Stamped}
+use Rattle.inp_model.specs.declared.step.Step.TheVariants.{Close as ToClose}
+use Rattle.inp_model.specs.Description.{Description}
 use Rattle.inp_actors.specs.declared.command.Command.{Command}
-use Rattle.inp_actors.specs.declared.command.Command.TheVariants.{Stream, Stream16}
-use Rattle.inp_actors.specs.Command.{stream_of, first_of}
+use Rattle.inp_actors.specs.declared.command.Command.TheVariants.{Stream, Stream16, Open, Close, Read}
+use Rattle.inp_actors.specs.declared.role.Role.TheVariants.{Joy}
+use Rattle.inp_actors.specs.Command.{is_command_of, stream_of, first_of}
 use Rattle.inp_reader.specs.declared.reader.TheConstants.{NO_CLIENT}
 use Rattle.inp_script.specs.Job.{Job}
-use Rattle.inp_script.specs.Line.{step_of, stream_at, source_talk, call_if, stream_talk}
+use Rattle.inp_script.specs.Joystick.{joystick_talk}
+use Rattle.inp_script.specs.Line.{step_of, stream_at, source_talk, call_talk, call_if, stream_talk}
 
 -- the stream of a number that is there
 pub stream_at-slice_get : (streams : List (List Stamped)) (index : ℕ) (stream : List Stamped) → slice_get streams index ≡ Some stream → stream_at streams index ≡ stream
@@ -31,3 +35,10 @@ pub source_talk-stream : (streams : List (List Stamped)) (command : Command) (in
 source_talk-stream streams (Stream file at) index stream j e is = stream_is streams at index stream j e is
 source_talk-stream streams (Stream16 file at) index stream j e is = stream_is streams at index stream j e is
 source_talk-stream streams _ index stream j e is = absurd (cc e)
+
+-- a joystick that neither opens nor reads closes
+pub joystick_talk-close : (d : Description) (n : ℕ) (command : Command) (j : Job) → is_command_of Joy command ≡ true → (command ≡ Open → ⊥) → ((count : ℕ) → command ≡ Read count → ⊥) → call_talk j (ToClose j.reading.client) ≡ joystick_talk d n command j
+joystick_talk-close d n Close j of_role no_open no_read = refl
+joystick_talk-close d n Open j of_role no_open no_read = absurd (no_open refl)
+joystick_talk-close d n (Read count) j of_role no_open no_read = absurd (no_read count refl)
+joystick_talk-close d n command j of_role no_open no_read = absurd cc

@@ -11,7 +11,7 @@ use Rattle.inp_model.specs.Run.{Call}
 use Rattle.inp_model.specs.Leaves.{AreCalls, places_of}
 use Rattle.inp_model.proofs.Leaves.{own-grown}
 use Rattle.inp_script.specs.declared.sight.Sight.{Sight}
-use Rattle.inp_script.specs.declared.sight.Sight.TheVariants.{Call as Called, Took, Made, Again}
+use Rattle.inp_script.specs.declared.sight.Sight.TheVariants.{Call as Called, Took, Made, Again, Record as HandedOut}
 use Rattle.inp_script.specs.Doing.{Holds, DoesLine}
 use Rattle.inp_script.specs.Job.{Job, ActorView}
 use Rattle.inp_script.specs.Legal.{entries_of, is_call_entry, places_in, IsLegalSight, LeavesOut, GainsPlaces}
@@ -40,6 +40,7 @@ places_in-append (Called x reply ∷ sight) more = ap (λ (ps : List ℕ). own_a
 places_in-append (Took taken ∷ sight) more = places_in-append sight more
 places_in-append (Made event ∷ sight) more = places_in-append sight more
 places_in-append (Again at ends ∷ sight) more = places_in-append sight more
+places_in-append (HandedOut bytes ∷ sight) more = places_in-append sight more
 
 -- events have none
 places_in-entries : (sight : List Sight) → places_in (filter is_call_entry sight) ≡ places_in sight
@@ -48,6 +49,7 @@ places_in-entries (Called x reply ∷ sight) = ap (λ (ps : List ℕ). own_after
 places_in-entries (Took taken ∷ sight) = places_in-entries sight
 places_in-entries (Made event ∷ sight) = places_in-entries sight
 places_in-entries (Again at ends ∷ sight) = places_in-entries sight
+places_in-entries (HandedOut bytes ∷ sight) = places_in-entries sight
 
 again_sight-places : (reply : Reply) → places_in (again_sight reply) ≡ []
 again_sight-places (NothingVisible at ends) = refl

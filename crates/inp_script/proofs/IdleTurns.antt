@@ -6,8 +6,6 @@ use Rattle.inp_model.specs.declared.step.Step.{Step}
 use Rattle.inp_model.specs.declared.step.Step.TheVariants.{Inject}
 use Rattle.inp_model.specs.declared.reply.Reply.{Reply}
 use Rattle.inp_model.specs.declared.reply.Reply.TheVariants.{Again as NothingVisible, Refused as StepRefused}
-use Rattle.inp_model.specs.declared.reply.Refusal.{Refusal}
-use Rattle.inp_model.specs.declared.reply.Refusal.TheVariants.{LogFull}
 use Rattle.inp_model.specs.Description.{Description}
 use Rattle.inp_model.specs.Evdev.{EvdevView, is_again, agains_after}
 use Rattle.inp_model.specs.Reply.{is_accepted}
@@ -15,11 +13,10 @@ use Rattle.inp_model.specs.Run.{Call}
 use Rattle.inp_actors.specs.declared.command.Command.{Command}
 use Rattle.inp_actors.specs.declared.command.Command.TheVariants.{Stream, Stream16, Open, Next as ToNext, Skip, Follow, Force}
 use Rattle.inp_actors.specs.declared.role.Role.{Role}
-use Rattle.inp_actors.specs.declared.role.Role.TheVariants.{Source, Client, Tap}
+use Rattle.inp_actors.specs.declared.role.Role.TheVariants.{Source, Client, Tap, Joy}
 use Rattle.inp_reader.specs.declared.next.Next.{Next}
 use Rattle.inp_reader.specs.declared.next.Next.TheVariants.{Success, Dropped, Sync, Again, Synced, NoDevice, Closed, Full}
 use Rattle.inp_reader.specs.declared.started.Started.{Started}
-use Rattle.inp_reader.specs.declared.started.Started.TheVariants as started
 use Rattle.inp_reader.specs.declared.reader.TheConstants.{NO_CLIENT}
 use Rattle.inp_reader.specs.Reading.{Reading, start_talk, next_talk}
 use Rattle.inp_model.specs.Leaves.{AreCalls}
@@ -36,6 +33,7 @@ use Rattle.inp_script.specs.Legal.{CountsTurns}
 use Rattle.inp_script.specs.Line.{step_of, after_call, unless_lacking, call_talk, call_if, stream_talk, stream_at, source_talk, after_tap_call, tap_call_if}
 use Rattle.inp_script.specs.Sight.{noted, stop_after, stop_after_start, lacks_memory, start_lacks_memory}
 use Rattle.inp_actors.specs.Record.{RecordView}
+use Rattle.inp_script.proofs.JoyStops.{IsNotIdle, reply-not_idle, started-not_idle, joystick-not_idle}
 use Rattle.inp_script.proofs.LastAgain.{EndsIn, finish-only, and_then-parts, next-last}
 use Rattle.inp_script.proofs.LineTold.{memory_there}
 use Rattle.inp_script.proofs.Told.{noted-back}
@@ -95,13 +93,12 @@ Idles calls stop = (turns at : ℕ) → stop ≡ Some (Idle turns at) → turns 
 no_stop : (calls : List Call) → Idles calls None
 no_stop calls turns at h = absurd cc
 
+-- it did not stop as idle
+not_idle : (calls : List Call) (stop : Option Stop) → IsNotIdle stop → Idles calls stop
+not_idle calls stop n turns at h = absurd (n turns at h)
+
 after_reply : (calls : List Call) (reply : Reply) → Idles calls (stop_after reply)
-after_reply calls (StepRefused place why) turns at h = by_cause why h
-  where
-    by_cause : (w : Refusal) → stop_after (StepRefused place w) ≡ Some (Idle turns at) → turns ≤ again_count calls
-    by_cause LogFull e = absurd cc
-    by_cause _ e = absurd cc
-after_reply calls _ turns at h = absurd cc
+after_reply calls reply = not_idle calls (stop_after reply) (reply-not_idle reply)
 
 same-idles : (j k : Job) (calls : List Call) → j.stop ≡ None → EndsWith (finish (Some j)) calls (Some k) → Idles calls k.stop
 same-idles j k calls none h =
@@ -162,12 +159,7 @@ tap_call-idles j k (Some x) (call ∷ calls) none h =
     subst (λ (s : Option Stop). Idles (call ∷ calls) s) (ap (λ (y : Job). y.stop) same) (after_reply (call ∷ calls) call.answer.reply)
 
 after_started : (calls : List Call) (s : Started) → Idles calls (stop_after_start s)
-after_started calls (started.Refused place why) turns at h = by_cause why h
-  where
-    by_cause : (w : Refusal) → stop_after_start (started.Refused place w) ≡ Some (Idle turns at) → turns ≤ again_count calls
-    by_cause LogFull e = absurd cc
-    by_cause _ e = absurd cc
-after_started calls _ turns at h = absurd cc
+after_started calls s = not_idle calls (stop_after_start s) (started-not_idle s)
 
 start-idles : (d : Description) (j k : Job) (calls : List Call) → EndsWith (start_job d j) calls (Some k) → Idles calls k.stop
 unfolding start_job
@@ -267,6 +259,7 @@ command-idles : (role : Role) (d : Description) (streams : List (List Stamped)) 
 command-idles Source d streams wait n command j k calls none h = source-idles streams command j k calls none h
 command-idles Client d streams wait n command j k calls none h = client-idles d wait n command j k calls none h
 command-idles Tap d streams wait n command j k calls none h = tap_call-idles j k (step_of j.reading.client command) calls none h
+command-idles Joy d streams wait n command j k calls none h = not_idle calls k.stop (joystick-not_idle d n command j k calls none h)
 
 line-idles : (role : Role) (d : Description) (streams : List (List Stamped)) (wait : Option Waiting) (n : ℕ) (command : Command) (j k : Job) (calls : List Call) → j.stop ≡ None → EndsWith (line_talk role d streams wait n command j) calls (Some k) → Idles calls k.stop
 unfolding line_talk

@@ -30,7 +30,7 @@ pub record EndsIn (calls : List Call) (reply : Reply) : Type 0 where
   pub whole : calls ≡ front ++ last ∷ []
   pub replied : last.answer.reply ≡ reply
 
-ends_in-behind : (before calls : List Call) (reply : Reply) → EndsIn calls reply → EndsIn (before ++ calls) reply
+pub ends_in-behind : (before calls : List Call) (reply : Reply) → EndsIn calls reply → EndsIn (before ++ calls) reply
 ends_in-behind before calls reply e = record {
   front = before ++ e.front;
   last = e.last;

@@ -13,9 +13,16 @@ pub mod Lines
 pub mod Runs
 pub mod Told
 pub mod LastAgain
+pub mod JoyLast
+pub mod JoyTold
+pub mod JoyStops
+pub mod JoyReads
+pub mod JoyLonger
 pub mod LineTold
 pub mod Gains
 pub mod Folds
 pub mod ClientFolds
+pub mod JoyFolds
 pub mod LineFolds
 pub mod LinesDone
+pub mod Endings

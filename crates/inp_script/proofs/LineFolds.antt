@@ -14,7 +14,7 @@ use Rattle.inp_model.specs.Run.{Call, HasPlace, place_of}
 use Rattle.inp_actors.specs.declared.command.Command.{Command}
 use Rattle.inp_actors.specs.declared.command.Command.TheVariants.{Stream, Stream16, Open as OpenLine, Close, Grab, Ungrab, Revoke, Mask, Clock, Write, SetAxis, Next as NextLine, Skip, Follow, Force}
 use Rattle.inp_actors.specs.declared.role.Role.{Role}
-use Rattle.inp_actors.specs.declared.role.Role.TheVariants.{Source, Client, Tap}
+use Rattle.inp_actors.specs.declared.role.Role.TheVariants.{Source, Client, Tap, Joy}
 use Rattle.inp_actors.specs.Command.{is_command_of}
 use Rattle.inp_actors.specs.Record.{RecordView}
 use Rattle.inp_recon.specs.declared.view.View.{View}
@@ -34,12 +34,14 @@ use Rattle.inp_script.specs.declared.stop.Stop.TheVariants.{Idle}
 use Rattle.inp_script.specs.declared.waiting.Waiting.{Waiting}
 use Rattle.inp_script.specs.Client.{Going, Turn, goes_on, ends_with, start_job, start_ends, after_start, handed, one_less, is_done, patience, after_again, turn_after, after_next, mode_of, with_sight, with_stop, next_round, on_turn, rounds, hand_talk, forced, client_talk}
 use Rattle.inp_script.specs.Doing.{command_talk, unless_stopped, line_talk, DoesLine}
+use Rattle.inp_script.specs.JoyFold.{joy_fold}
 use Rattle.inp_script.specs.Fold.{Folding, settled, after_first_call, client_fold, tap_fold, IsFolded, StaysFolded}
 use Rattle.inp_script.specs.Job.{Job, ActorView, first_job}
 use Rattle.inp_script.specs.Line.{step_of, after_call, call_talk, call_if, stream_talk, stream_at, source_talk, end_talk}
 use Rattle.inp_script.specs.Sight.{noted, call_sight, again_sight, taken_sight, sight_of_call, start_lacks_memory}
 use Rattle.inp_script.proofs.ClientFolds.{client_fold-append, start-folds, next-folds, entries_of_next, placed-left, placed-right}
 use Rattle.inp_script.proofs.Folds.{ArePlaced, tap-folds}
+use Rattle.inp_script.proofs.JoyFolds.{joystick-folds}
 use Rattle.inp_script.proofs.LastAgain.{finish-only, and_then-parts}
 use Rattle.inp_script.proofs.LineTold.{memory_there}
 use Rattle.inp_script.proofs.Replies.{is_answer_has}
@@ -246,6 +248,7 @@ command-fold : (role : Role) (d : Description) (h : List Step) (streams : List (
 command-fold Source d h streams wait n command j k calls of_role placed ends fold = ap (λ (r : Reading). r.view) (source-view streams command j k calls ends) ∙ fold
 command-fold Client d h streams wait n command j k calls of_role placed ends fold = client-fold d h (first_view d) wait n command j k calls of_role placed ends fold
 command-fold Tap d h streams wait n command j k calls of_role placed ends fold = tap-folds d h (first_view d) j k command calls placed ends fold
+command-fold Joy d h streams wait n command j k calls of_role placed ends fold = joystick-folds d h n command j k calls of_role placed ends fold
 
 stopped-fold : (role : Role) (d : Description) (h : List Step) (stop : Option Stop) (j k : Job) (talk : Talk (Option Job)) (calls : List Call) → (EndsWith talk calls (Some k) → IsFolded role d h j → IsFolded role d h k) → EndsWith (unless_stopped stop j talk) calls (Some k) → IsFolded role d h j → IsFolded role d h k
 stopped-fold role d h None j k talk calls more ends fold = more ends fold
@@ -276,11 +279,12 @@ end-folds b role d old new calls source ends =
     by_stop (Some stop) e = let f = finish-only (Some old) (Some new) calls e in let same : old ≡ new = (let w = f.1 in cc) in ap (λ (y : Job). y.reading) (sym same)
 
 -- before its first line
-first_folded : (role : Role) (d : Description) (h : List Step) → IsFolded role d h (first_job d)
-unfolding client_fold tap_fold
+first_folded : (role : Role) (d : Description) (h : List Step) → IsFolded role d h (first_job role d)
+unfolding client_fold tap_fold joy_fold
 first_folded Source d h = refl
 first_folded Client d h = refl
 first_folded Tap d h = refl
+first_folded Joy d h = refl
 
-pub is_folded-first : (role : Role) (d : Description) (h : List Step) (j : Job) → j ≡ first_job d → IsFolded role d h j
+pub is_folded-first : (role : Role) (d : Description) (h : List Step) (j : Job) → j ≡ first_job role d → IsFolded role d h j
 is_folded-first role d h j same = subst (λ (y : Job). IsFolded role d h y) (sym same) (first_folded role d h)

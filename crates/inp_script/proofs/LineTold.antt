@@ -10,7 +10,7 @@ use Rattle.inp_model.specs.Run.{Call}
 use Rattle.inp_actors.specs.declared.command.Command.{Command}
 use Rattle.inp_actors.specs.declared.command.Command.TheVariants.{Stream, Stream16, Open, Next as ToNext, Skip, Follow, Force}
 use Rattle.inp_actors.specs.declared.role.Role.{Role}
-use Rattle.inp_actors.specs.declared.role.Role.TheVariants.{Source, Client, Tap}
+use Rattle.inp_actors.specs.declared.role.Role.TheVariants.{Source, Client, Tap, Joy}
 use Rattle.inp_reader.specs.declared.mode.Mode.{Mode}
 use Rattle.inp_reader.specs.declared.next.Next.{Next}
 use Rattle.inp_reader.specs.declared.next.Next.TheVariants.{Success, Dropped, Sync, Again, Synced, NoDevice, Closed, Full}
@@ -26,29 +26,12 @@ use Rattle.inp_script.specs.declared.waiting.Waiting.{Waiting}
 use Rattle.inp_script.specs.Client.{Going, Turn, goes_on, ends_with, start_job, start_ends, after_start, handed, one_less, is_done, patience, after_again, turn_after, after_next, mode_of, with_sight, with_stop, next_round, on_turn, rounds, hand_talk, forced, client_talk}
 use Rattle.inp_script.specs.Doing.{command_talk, unless_stopped, line_talk}
 use Rattle.inp_script.specs.Job.{Job}
-use Rattle.inp_script.specs.Line.{step_of, after_call, unless_lacking, call_talk, call_if, stream_talk, stream_at, source_talk, end_talk, after_tap_call, tap_call_if}
+use Rattle.inp_script.specs.Line.{step_of, after_call, unless_lacking, stream_talk, stream_at, source_talk, end_talk, after_tap_call, tap_call_if}
 use Rattle.inp_script.specs.Sight.{noted, lacks_memory, start_lacks_memory}
 use Rattle.inp_script.proofs.LastAgain.{EndsIn, finish-only, and_then-parts, next-last}
-use Rattle.inp_script.proofs.Told.{Tells, tells-none, tells-then, tells-event, tells-call, tells-noted, tells-again, noted-back, noted_sight}
-
--- no call, and nothing is added
-same-told : (j k : Job) (calls : List Call) → EndsWith (finish (Some j)) calls (Some k) → Tells calls j.sight k.sight
-same-told j k calls h =
-    let f = finish-only (Some j) (Some k) calls h in
-    let same : j ≡ k = (let e = f.1 in cc) in
-    subst (λ (cs : List Call). Tells cs j.sight k.sight) (sym f.0) (subst (λ (x : Job). Tells [] j.sight x.sight) same (tells-none j.sight))
-
-call-told : (j k : Job) (x : Step) (calls : List Call) → EndsWith (call_talk j x) calls (Some k) → Tells calls j.sight k.sight
-unfolding LeadsTo
-call-told j k x [] h = absurd cc
-call-told j k x (call ∷ calls) h =
-    let f = finish-only (Some (after_call j x call.answer)) (Some k) calls h.1 in
-    let same : after_call j x call.answer ≡ k = (let e = f.1 in cc) in
-    subst (λ (cs : List Call). Tells (call ∷ cs) j.sight k.sight) (sym f.0) (subst (λ (y : Job). Tells (call ∷ []) j.sight y.sight) same (tells-call x call j.sight h.0))
-
-call_if-told : (j k : Job) (o : Option Step) (calls : List Call) → EndsWith (call_if j o) calls (Some k) → Tells calls j.sight k.sight
-call_if-told j k None calls h = same-told j k calls h
-call_if-told j k (Some x) calls h = call-told j k x calls h
+use Rattle.inp_script.proofs.Told.{Tells, tells-then, tells-event, tells-call, tells-noted, tells-again, noted-back, noted_sight, same-told, call-told, call_if-told, calls_alone}
+pub use Rattle.inp_script.proofs.Told.{memory_there}
+use Rattle.inp_script.proofs.JoyTold.{joystick-told}
 
 stream-told : (stream : List Stamped) (j k : Job) (calls : List Call) → EndsWith (stream_talk stream j) calls (Some k) → Tells calls j.sight k.sight
 unfolding LeadsTo stream_talk
@@ -73,10 +56,6 @@ pub end-told : (stop : Option Stop) (j k : Job) (calls : List Call) → EndsWith
 end-told None j k calls h = call-told j k End calls h
 end-told (Some stop) j k calls h = same-told j k calls h
 
-pub memory_there : (lacks : Bool) (j k : Job) → (if lacks then None else Some j) ≡ Some k → j ≡ k
-memory_there true j k h = absurd cc
-memory_there false j k h = cc
-
 tap_call-told : (j k : Job) (o : Option Step) (calls : List Call) → EndsWith (tap_call_if j o) calls (Some k) → Tells calls j.sight k.sight
 unfolding LeadsTo
 tap_call-told j k None calls h = same-told j k calls h
@@ -87,13 +66,6 @@ tap_call-told j k (Some x) (call ∷ calls) h =
     subst (λ (cs : List Call). Tells (call ∷ cs) j.sight k.sight) (sym f.0) (subst (λ (y : Job). Tells (call ∷ []) j.sight y.sight) same (tells-call x call j.sight h.0))
 
 -- Clients
-
-calls_alone : (first second : List Call) (old new : List Sight) → second ≡ [] → Tells first old new → Tells (first ++ second) old new
-calls_alone first second old new none t = subst (λ (cs : List Call). Tells (first ++ cs) old new) (sym none) (subst (λ (cs : List Call). Tells cs old new) (sym (nil_behind first)) t)
-  where
-    nil_behind : (cs : List Call) → cs ++ [] ≡ cs
-    nil_behind [] = refl
-    nil_behind (c ∷ cs) = ap (λ (ds : List Call). c ∷ ds) (nil_behind cs)
 
 start-told : (d : Description) (j k : Job) (calls : List Call) → EndsWith (start_job d j) calls (Some k) → Tells calls j.sight k.sight
 unfolding start_job
@@ -192,6 +164,7 @@ command-told : (role : Role) (d : Description) (streams : List (List Stamped)) (
 command-told Source d streams wait n command j k calls h = source-told streams command j k calls h
 command-told Client d streams wait n command j k calls h = client-told d wait n command j k calls h
 command-told Tap d streams wait n command j k calls h = tap_call-told j k (step_of j.reading.client command) calls h
+command-told Joy d streams wait n command j k calls h = joystick-told d n command j k calls h
 
 stopped-told : (stop : Option Stop) (j k : Job) (talk : Talk (Option Job)) (calls : List Call) → (EndsWith talk calls (Some k) → Tells calls j.sight k.sight) → EndsWith (unless_stopped stop j talk) calls (Some k) → Tells calls j.sight k.sight
 stopped-told None j k talk calls more h = more h

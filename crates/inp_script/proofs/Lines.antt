@@ -11,7 +11,7 @@ use Rattle.inp_actors.specs.declared.command.Command.{Command}
 use Rattle.inp_actors.specs.declared.command.Command.TheVariants.{Stream, Stream16}
 use Rattle.inp_actors.specs.declared.line.Line.{Line}
 use Rattle.inp_actors.specs.declared.role.Role.{Role}
-use Rattle.inp_actors.specs.Command.{is_command_of, stream_of}
+use Rattle.inp_actors.specs.Command.{is_command_of, is_in_range, stream_of}
 use Rattle.inp_model.specs.Injecting.{AreInTime}
 use Rattle.inp_actors.specs.Record.{RecordView, IsRecord, streams_of}
 use Rattle.inp_reader.specs.Reading.{Reading}
@@ -20,9 +20,9 @@ use Rattle.inp_script.specs.declared.notes.Notes.{Notes}
 use Rattle.inp_script.specs.declared.stop.Stop.{Stop}
 use Rattle.inp_script.specs.declared.waiting.Waiting.{Waiting}
 use Rattle.inp_script.specs.Doing.{Holds, Begins, DoesCommand, DoesLine, BeginsLine, IsCommandFor, HasStream, command_talk, unless_stopped, line_talk}
-use Rattle.inp_script.specs.Job.{Job, ActorView}
+use Rattle.inp_script.specs.Job.{Job, Stick, ActorView}
 use Rattle.inp_script.specs.Line.{stream_at, end_talk, call_talk}
-use Rattle.inp_script.specs.Noting.{job_of, IsMade, IsNoted}
+use Rattle.inp_script.specs.Noting.{job_with, IsMade, IsNoted}
 use Rattle.inp_script.proofs.Holding.{holds-nothing, holds-same, begins-same}
 use Rattle.inp_script.proofs.Streams.{holds-noted, begins-call_if}
 
@@ -70,7 +70,7 @@ has_stream r _ is below = λ index e. absurd (cc e)
 pub is_command_for : (r : RecordView) (number : ℕ) (line : Line) (text : ActorText) (role : Role) → IsRecord r → slice_get r.lines number ≡ Some line → slice_get r.actors line.actor ≡ Some text → text.role ≡ role → IsCommandFor role r.streams line.command
 is_command_for r number line text role is has_line has_text same = record {
   of_role = ap (λ (x : Role). is_command_of x line.command) (sym same) ∙ is.commands number line text has_line has_text;
-  in_range = is.ranges number line has_line;
+  in_range = ap (λ (x : Role). is_in_range x line.command) (sym same) ∙ is.ranges number line text has_line has_text;
   has_stream =
       let all : AllBelow (length r.streams) (streams_of r.lines) = subst (λ (is : List ℕ). AllBelow (length r.streams) is) (sym is.numbered) (below-range (length r.streams) 0 (length r.streams) (omega arith)) in
       has_stream r line.command is (below-line (length r.streams) r.lines number line all has_line);
@@ -128,9 +128,9 @@ end_going (Some stop) j h = absurd cc
 pub ends-nothing : (told : EvdevView) (j : Job) → is_some j.stop ≡ true → Holds told told (end_talk j.stop j) (Some j)
 ends-nothing told j h = holds-nothing told (end_talk j.stop j) (Some j) (end_stopped j.stop j h)
 
-pub ends-noted : (before after : EvdevView) (r : Reading) (reply : Reply) (old new : Notes) → is_some old.stop ≡ false → IsNoted before after End reply old new → Holds before after (end_talk old.stop (job_of r old)) (Some (job_of r new))
-ends-noted before after r reply old new h n = holds-same before after (call_talk (job_of r old) End) (end_talk old.stop (job_of r old)) (Some (job_of r new)) (sym (end_going old.stop (job_of r old) h)) (holds-noted before after End reply old new r n)
+pub ends-noted : (before after : EvdevView) (r : Reading) (stick : Stick) (reply : Reply) (old new : Notes) → is_some old.stop ≡ false → IsNoted before after End reply old new → Holds before after (end_talk old.stop (job_with r stick old)) (Some (job_with r stick new))
+ends-noted before after r stick reply old new h n = holds-same before after (call_talk (job_with r stick old) End) (end_talk old.stop (job_with r stick old)) (Some (job_with r stick new)) (sym (end_going old.stop (job_with r stick old) h)) (holds-noted before after End reply old new r stick n)
 
-pub ends-begun : (before after : EvdevView) (r : Reading) (old : Notes) → is_some old.stop ≡ false → IsMade before after End → Begins before after (end_talk old.stop (job_of r old))
-ends-begun before after r old h made =
-    begins-same before after (call_talk (job_of r old) End) (end_talk old.stop (job_of r old)) (sym (end_going old.stop (job_of r old) h)) (begins-call_if before after End (Some End) (job_of r old) refl made)
+pub ends-begun : (before after : EvdevView) (r : Reading) (stick : Stick) (old : Notes) → is_some old.stop ≡ false → IsMade before after End → Begins before after (end_talk old.stop (job_with r stick old))
+ends-begun before after r stick old h made =
+    begins-same before after (call_talk (job_with r stick old) End) (end_talk old.stop (job_with r stick old)) (sym (end_going old.stop (job_with r stick old) h)) (begins-call_if before after End (Some End) (job_with r stick old) refl made)

@@ -6,6 +6,7 @@ use Rattle.inp_model.specs.declared.reply.Reply.{Reply}
 use Rattle.inp_model.specs.Description.{Description}
 use Rattle.inp_model.specs.Evdev.{EvdevView, is_again}
 use Rattle.inp_model.specs.Run.{Call}
+use Rattle.inp_joy.specs.Joying.{Joying, joy_start}
 use Rattle.inp_reader.specs.declared.call_made.CallMade.{CallMade}
 use Rattle.inp_reader.specs.declared.mode.Mode.{Mode}
 use Rattle.inp_reader.specs.declared.next.Next.{Next}
@@ -19,8 +20,9 @@ use Rattle.inp_script.specs.declared.sight.Sight.TheVariants.{Call as Called}
 use Rattle.inp_script.specs.declared.waiting.Waiting.{Waiting}
 use Rattle.inp_script.specs.Client.{Going, Turn, start_job, start_ends, after_start, unless_start_lacks, next_round, after_next, mode_of}
 use Rattle.inp_script.specs.Doing.{Holds, Begins}
-use Rattle.inp_script.specs.Job.{Job}
-use Rattle.inp_script.specs.Noting.{job_of}
+use Rattle.inp_script.specs.Job.{Job, no_stick}
+use Rattle.inp_script.specs.Joystick.{after_joy_start, start_joystick}
+use Rattle.inp_script.specs.Noting.{job_of, joy_job, IsStartNoted}
 use Rattle.inp_script.specs.Sight.{call_sight, made_sight, noted, stop_after_start, start_lacks_memory}
 use Rattle.inp_script.proofs.Holding.{holds-nothing, holds-then, begins-then}
 
@@ -63,18 +65,21 @@ holds-reader {A = A} before after made talk sight a s = record {
 memory_was_there : (started : Started) (j : Job) → start_lacks_memory started ≡ false → unless_start_lacks started j ≡ Some j
 memory_was_there started j h = ap (λ (b : Bool). if b then None else Some j) h
 
+-- what is noted of a start, by the calls that were made
+start-notes : (started : Started) (made kept : List CallMade) (old new : Notes) → kept ≡ made → IsStartNoted started kept old new → new ≡ record { sight = old.sight ++ map made_sight made; stop = stop_after_start started }
+start-notes started made kept old new same n = n.noted ∙ ap (λ (ms : List CallMade). let notes : Notes = record { sight = old.sight ++ map made_sight ms; stop = stop_after_start started } in notes) same
+
 -- a start
-pub start-noted : (before after : EvdevView) (d : Description) (r s : Reading) (old : Notes) (made : List CallMade) (sight : List Sight) (started : Started) → Says before after [] made (start_talk d r) (started, s) → start_lacks_memory started ≡ false
-    → sight ≡ old.sight ++ map made_sight made → Holds before after (start_job d (job_of r old)) (Some (job_of s (record { sight = sight; stop = stop_after_start started })))
+pub start-noted : (before after : EvdevView) (d : Description) (r s : Reading) (old new : Notes) (made kept : List CallMade) (started : Started) → Says before after [] made (start_talk d r) (started, s) → kept ≡ made → IsStartNoted started kept old new → Holds before after (start_job d (job_of r old)) (Some (job_of s new))
 unfolding start_job
-start-noted before after d r s old made sight started says memory noted_is =
+start-noted before after d r s old new made kept started says same n =
     let entries : List Sight = old.sight ++ map made_sight made in
     let o : (Started × Reading) × List Sight = ((started, s), entries) in
-    holds-then before after after (noted (start_talk d r) old.sight) (λ (p : (Started × Reading) × List Sight). finish (start_ends p)) o (Some (job_of s (record { sight = sight; stop = stop_after_start started })))
+    holds-then before after after (noted (start_talk d r) old.sight) (λ (p : (Started × Reading) × List Sight). finish (start_ends p)) o (Some (job_of s new))
     (holds-reader before after made (start_talk d r) old.sight (started, s) says)
-    (holds-nothing after (finish (start_ends o)) (Some (job_of s (record { sight = sight; stop = stop_after_start started })))
-    (ap (λ (j : Option Job). finish j) (memory_was_there started (after_start started s entries) memory)
-    ∙ ap (λ (es : List Sight). finish (Some (after_start started s es))) (sym noted_is)))
+    (holds-nothing after (finish (start_ends o)) (Some (job_of s new))
+    (ap (λ (j : Option Job). finish j) (memory_was_there started (after_start started s entries) n.memory)
+    ∙ ap (λ (notes : Notes). finish (Some (job_of s notes))) (sym (start-notes started made kept old new same n))))
 
 -- one of which nothing was noted
 pub start-begun : (before after : EvdevView) (d : Description) (r s : Reading) (old : Notes) (made : List CallMade) (started : Started) → Says before after [] made (start_talk d r) (started, s) → Begins before after (start_job d (job_of r old))
@@ -82,6 +87,26 @@ unfolding start_job
 start-begun before after d r s old made started says =
     begins-then before after (noted (start_talk d r) old.sight) (λ (p : (Started × Reading) × List Sight). finish (start_ends p)) ((started, s), old.sight ++ map made_sight made)
     (holds-reader before after made (start_talk d r) old.sight (started, s) says)
+
+-- a start of a joystick client
+pub joystick-noted : (before after : EvdevView) (d : Description) (k l : Joying) (old new : Notes) (made kept : List CallMade) (started : Started) → Says before after [] made (joy_start d k) (started, l) → kept ≡ made → IsStartNoted started kept old new
+    → Holds before after (start_joystick d (joy_job k old)) (Some (joy_job l new))
+unfolding start_joystick
+joystick-noted before after d k l old new made kept started says same n =
+    let entries : List Sight = old.sight ++ map made_sight made in
+    let o : (Started × Joying) × List Sight = ((started, l), entries) in
+    holds-then before after after (noted (joy_start d k) old.sight) (λ (p : (Started × Joying) × List Sight). finish (after_joy_start (joy_job k old) p)) o (Some (joy_job l new))
+    (holds-reader before after made (joy_start d k) old.sight (started, l) says)
+    (holds-nothing after (finish (after_joy_start (joy_job k old) o)) (Some (joy_job l new))
+    (ap (λ (j : Option Job). finish j) (memory_was_there started (joy_job l (record { sight = entries; stop = stop_after_start started })) n.memory)
+    ∙ ap (λ (notes : Notes). finish (Some (joy_job l notes))) (sym (start-notes started made kept old new same n))))
+
+-- one of which nothing was noted
+pub joystick-begun : (before after : EvdevView) (d : Description) (k l : Joying) (old : Notes) (made : List CallMade) (started : Started) → Says before after [] made (joy_start d k) (started, l) → Begins before after (start_joystick d (joy_job k old))
+unfolding start_joystick
+joystick-begun before after d k l old made started says =
+    begins-then before after (noted (joy_start d k) old.sight) (λ (p : (Started × Joying) × List Sight). finish (after_joy_start (joy_job k old) p)) ((started, l), old.sight ++ map made_sight made)
+    (holds-reader before after made (joy_start d k) old.sight (started, l) says)
 
 -- one round
 pub round-noted : (before after : EvdevView) (d : Description) (wait : Option Waiting) (skips : Bool) (r s : Reading) (old mid : Notes) (made : List CallMade) (left : Option ℕ) (agains : ℕ) (next : Next) (turn : Turn)
@@ -96,7 +121,7 @@ round-noted before after d wait skips r s old mid made left agains next turn say
     let seen : mid.sight ≡ old.sight ++ map made_sight made = ap (λ (n : Notes). n.sight) noted_is in
     let same : after_next wait g o ≡ turn =
     ap (λ (es : List Sight). after_next wait g ((next, s), es)) (sym seen)
-    ∙ ap (λ (n : Notes). after_next wait (record { job = record { reading = r; sight = n.sight; stop = n.stop }; left = left; agains = agains }) ((next, s), mid.sight)) (let e : record { sight = old.sight; stop = old.stop } ≡ record { sight = old.sight; stop = mid.stop } = ap (λ (x : _). record { sight = old.sight; stop = x }) (sym stays) in e)
+    ∙ ap (λ (n : Notes). after_next wait (record { job = record { reading = r; sight = n.sight; stop = n.stop; stick = no_stick }; left = left; agains = agains }) ((next, s), mid.sight)) (let e : record { sight = old.sight; stop = old.stop } ≡ record { sight = old.sight; stop = mid.stop } = ap (λ (x : _). record { sight = old.sight; stop = x }) (sym stays) in e)
     ∙ is in
     holds-then before after after (noted (next_talk d (mode_of skips r.phase) r) old.sight) (λ (p : (Next × Reading) × List Sight). finish (after_next wait g p)) o turn
     (holds-reader before after made (next_talk d (mode_of skips r.phase) r) old.sight (next, s) says)

@@ -15,19 +15,19 @@ use Rattle.inp_reader.specs.Talk.{Talk, finish, LeadsTo}
 use Rattle.inp_reader.proofs.Talks.{LeadsTo-append}
 use Rattle.inp_script.specs.declared.notes.Notes.{Notes}
 use Rattle.inp_script.specs.Doing.{Holds, Begins}
-use Rattle.inp_script.specs.Job.{Job}
+use Rattle.inp_script.specs.Job.{Job, Stick}
 use Rattle.inp_script.specs.Line.{after_call, call_talk, call_if, stream_talk}
-use Rattle.inp_script.specs.Noting.{job_of, IsMade, IsNoted, notes_after, AreMade, AreNoted}
+use Rattle.inp_script.specs.Noting.{job_of, job_with, IsMade, IsNoted, notes_after, AreMade, AreNoted}
 use Rattle.inp_script.proofs.Holding.{holds-one, begins-one, begins-same}
 
 -- a call that was noted leaves the job that the definition says
-pub noted-job : (before after : EvdevView) (x : Step) (reply : Reply) (old new : Notes) (r : Reading) (n : IsNoted before after x reply old new) → after_call (job_of r old) x n.answer ≡ job_of r new
-noted-job before after x reply old new r n = ap (λ (notes : Notes). job_of r notes) (sym n.noted)
+pub noted-job : (before after : EvdevView) (x : Step) (reply : Reply) (old new : Notes) (r : Reading) (stick : Stick) (n : IsNoted before after x reply old new) → after_call (job_with r stick old) x n.answer ≡ job_with r stick new
+noted-job before after x reply old new r stick n = ap (λ (notes : Notes). job_with r stick notes) (sym n.noted)
 
-pub holds-noted : (before after : EvdevView) (x : Step) (reply : Reply) (old new : Notes) (r : Reading) → IsNoted before after x reply old new → Holds before after (call_talk (job_of r old) x) (Some (job_of r new))
-holds-noted before after x reply old new r n =
-    holds-one before after x n.answer (λ (answer : Answer). finish (Some (after_call (job_of r old) x answer))) (Some (job_of r new)) n.is_call
-    (ap (λ (j : Job). finish (Some j)) (noted-job before after x reply old new r n))
+pub holds-noted : (before after : EvdevView) (x : Step) (reply : Reply) (old new : Notes) (r : Reading) (stick : Stick) → IsNoted before after x reply old new → Holds before after (call_talk (job_with r stick old) x) (Some (job_with r stick new))
+holds-noted before after x reply old new r stick n =
+    holds-one before after x n.answer (λ (answer : Answer). finish (Some (after_call (job_with r stick old) x answer))) (Some (job_with r stick new)) n.is_call
+    (ap (λ (j : Job). finish (Some j)) (noted-job before after x reply old new r stick n))
 
 -- such a call, whether it was noted or not
 pub begins-call_if : (before after : EvdevView) (x : Step) (o : Option Step) (j : Job) → Some x ≡ o → IsMade before after x → Begins before after (call_if j o)

@@ -17,7 +17,7 @@ use Rattle.inp_reader.specs.Talk.{finish}
 use Rattle.inp_reader.proofs.Answering.{view-answered}
 use Rattle.inp_script.specs.declared.notes.Notes.{Notes}
 use Rattle.inp_script.specs.Doing.{Holds, Begins}
-use Rattle.inp_script.specs.Job.{Job}
+use Rattle.inp_script.specs.Job.{Job, no_stick}
 use Rattle.inp_script.specs.Line.{event_of_taken, view_after_call, client_after, after_tap_call, tap_call, unless_lacking}
 use Rattle.inp_script.specs.Noting.{job_of, count_taken}
 use Rattle.inp_script.specs.Sight.{lacks_memory, sight_of_call, stop_after}
@@ -73,10 +73,10 @@ tap-noted before after x reply old new r s view out events m memory read same no
     let a : Answer = m.answer in
     let there : lacks_memory a.reply ≡ false = ap lacks_memory (sym m.replied) ∙ memory in
     let kept : after_tap_call (job_of r old) x a ≡ job_of s new =
-    ap (λ (rep : Reply). record { reading = record r { client = client_after x rep r.client; view = view_after_call r.view x a }; sight = old.sight ++ sight_of_call x rep a.events; stop = stop_after rep }) (sym m.replied)
-    ∙ ap (λ (v : View). record { reading = record r { client = client_after x reply r.client; view = v }; sight = old.sight ++ sight_of_call x reply a.events; stop = stop_after reply }) (sym m.view)
-    ∙ ap (λ (t : Reading). record { reading = t; sight = old.sight ++ sight_of_call x reply a.events; stop = stop_after reply }) (sym same)
-    ∙ ap (λ (es : List Taken). record { reading = s; sight = old.sight ++ sight_of_call x reply es; stop = stop_after reply }) (sym (read ∙ m.events))
+    ap (λ (rep : Reply). record { reading = record r { client = client_after x rep r.client; view = view_after_call r.view x a }; sight = old.sight ++ sight_of_call x rep a.events; stop = stop_after rep; stick = no_stick }) (sym m.replied)
+    ∙ ap (λ (v : View). record { reading = record r { client = client_after x reply r.client; view = v }; sight = old.sight ++ sight_of_call x reply a.events; stop = stop_after reply; stick = no_stick }) (sym m.view)
+    ∙ ap (λ (t : Reading). record { reading = t; sight = old.sight ++ sight_of_call x reply a.events; stop = stop_after reply; stick = no_stick }) (sym same)
+    ∙ ap (λ (es : List Taken). record { reading = s; sight = old.sight ++ sight_of_call x reply es; stop = stop_after reply; stick = no_stick }) (sym (read ∙ m.events))
     ∙ ap (λ (n : Notes). job_of s n) (sym noted) in
     holds-one before after x a (λ (answer : Answer). finish (unless_lacking answer.reply (after_tap_call (job_of r old) x answer))) (Some (job_of s new)) m.is_call
     (ap (λ (o : Option Job). finish o) (memory_was_there a.reply (after_tap_call (job_of r old) x a) there ∙ ap (λ (j : Job). Some j) kept))

@@ -1,4 +1,4 @@
--- What the lines of clients do, which read by a reader (docs/RULES.md, "Jobs" and "Waiting").
+-- What the lines of clients do, which read by a reader (docs/READER.md, "Jobs" and "Waiting").
 use Rattle.std.specs.Prelude.{ℕ, zero, suc, ◌-◌, Bool, true, false, if◌then◌else◌, nat_eq, nat_lt, nat_le, List, [], ◌∷◌, ◌++◌, Option, Some, None}
 use Rattle.inp_model.specs.Description.{Description}
 use Rattle.inp_actors.specs.declared.command.Command.{Command}
@@ -17,7 +17,7 @@ use Rattle.inp_script.specs.declared.sight.Sight.TheVariants.{Took, Made, Again}
 use Rattle.inp_script.specs.declared.stop.Stop.{Stop}
 use Rattle.inp_script.specs.declared.stop.Stop.TheVariants.{Idle, Full}
 use Rattle.inp_script.specs.declared.waiting.Waiting.{Waiting}
-use Rattle.inp_script.specs.Job.{Job}
+use Rattle.inp_script.specs.Job.{Job, no_stick}
 use Rattle.inp_script.specs.Line.{step_of, call_if}
 use Rattle.inp_script.specs.Sight.{noted, stop_after_start, start_lacks_memory}
 
@@ -25,7 +25,7 @@ use Rattle.inp_script.specs.Sight.{noted, stop_after_start, start_lacks_memory}
 
 -- a job after a start of its reader
 abbrev pub after_start : Started → Reading → List Sight → Job
-after_start started reading sight = record { reading = reading; sight = sight; stop = stop_after_start started }
+after_start started reading sight = record { reading = reading; sight = sight; stop = stop_after_start started; stick = no_stick }
 
 -- it is given up where memory ran out
 abbrev pub unless_start_lacks : Started → Job → Option Job

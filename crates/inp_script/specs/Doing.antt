@@ -1,4 +1,4 @@
--- What it means that a line was done (docs/RULES.md, "Jobs").
+-- What it means that a line was done (docs/READER.md, "Jobs").
 use Rattle.std.specs.Prelude.{◌≡◌, ◌<◌, ◌≤◌, ℕ, Bool, ◌&&◌, nat_eq, true, List, length, Option, Some, None, slice_get}
 use Rattle.std.specs.List.{count_by}
 use Rattle.inp_model.specs.declared.stamped.Stamped.{Stamped}
@@ -10,7 +10,7 @@ use Rattle.inp_actors.specs.declared.command.Command.{Command}
 use Rattle.inp_actors.specs.declared.device_text.DeviceText.{DeviceText}
 use Rattle.inp_actors.specs.declared.line.Line.{Line}
 use Rattle.inp_actors.specs.declared.role.Role.{Role}
-use Rattle.inp_actors.specs.declared.role.Role.TheVariants.{Source, Client, Tap}
+use Rattle.inp_actors.specs.declared.role.Role.TheVariants.{Source, Client, Tap, Joy}
 use Rattle.inp_actors.specs.Command.{is_command_of, is_in_range, is_source, stream_of, first_of}
 use Rattle.inp_actors.specs.Record.{RecordView}
 use Rattle.inp_model.specs.Injecting.{AreInTime}
@@ -20,6 +20,7 @@ use Rattle.inp_script.specs.declared.stop.Stop.{Stop}
 use Rattle.inp_script.specs.declared.waiting.Waiting.{Waiting}
 use Rattle.inp_script.specs.Client.{client_talk, hand_talk}
 use Rattle.inp_script.specs.Job.{Job, ActorView}
+use Rattle.inp_script.specs.Joystick.{joystick_talk}
 use Rattle.inp_script.specs.Line.{stream_at, source_talk, tap_talk}
 
 -- what an actor of a role does at a command
@@ -27,6 +28,7 @@ abbrev pub command_talk : Role → Description → List (List Stamped) → Optio
 command_talk Source d streams wait n command j = source_talk streams command j
 command_talk Client d streams wait n command j = client_talk d wait n command j
 command_talk Tap d streams wait n command j = tap_talk command j
+command_talk Joy d streams wait n command j = joystick_talk d n command j
 
 -- a job that stopped does nothing more
 abbrev pub unless_stopped : Option Stop → Job → Talk (Option Job) → Talk (Option Job)
@@ -89,7 +91,7 @@ HasStream streams command =
 -- actors of the role have the command, and each of its numbers is one that a line may have
 pub record IsCommandFor (role : Role) (streams : List (List Stamped)) (command : Command) : Type 0 where
   pub of_role : is_command_of role command ≡ true
-  pub in_range : is_in_range command ≡ true
+  pub in_range : is_in_range role command ≡ true
   pub has_stream : HasStream streams command
 
 -- the line of this number is one of this actor

@@ -1,20 +1,22 @@
 -- Short records, worked out by hand: what two actors of one device see on a one-thread device, and how they stop.
-use Rattle.std.specs.Prelude.{ℕ, ◌≡◌, ◌+◌, pos, true, List, [], ◌∷◌, ◌++◌, replicate, reverse, Option, Some, None}
-use Rattle.inp_model.specs.declared.event.TheConstants.{EV_SYN, EV_KEY, SYN_REPORT, KEY_A}
+use Rattle.std.specs.Prelude.{ℕ, ◌≡◌, ◌+◌, pos, true, false, List, [], ◌∷◌, ◌++◌, replicate, reverse, Option, Some, None}
+use Rattle.inp_model.specs.declared.event.TheConstants.{EV_SYN, EV_KEY, EV_ABS, SYN_REPORT, KEY_A}
 use Rattle.inp_model.specs.declared.step.Step.{Step}
-use Rattle.inp_model.specs.declared.step.Step.TheVariants.{Inject, Open as ToOpen, Read as ToRead, Discard as ToDiscard, GetKeys, GetAxis}
+use Rattle.inp_model.specs.declared.step.Step.TheVariants.{Inject, Open as ToOpen, Read as ToRead, Discard as ToDiscard, GetKeys, GetAxis, Revoke}
 use Rattle.inp_model.specs.declared.reply.Reply.TheVariants.{Done, Opened, Took as Taken, Discarded, Bits, Axis, Refused}
-use Rattle.inp_model.specs.declared.reply.Refusal.TheVariants.{LogFull, BadClient}
+use Rattle.inp_model.specs.declared.reply.Refusal.TheVariants.{LogFull, BadClient, NoDevice}
 use Rattle.inp_model.specs.Description.{Description, one_key, no_info}
 use Rattle.inp_model.specs.Event.{syn_dropped}
 use Rattle.inp_model.specs.Examples.{key, report, at}
 use Rattle.inp_actors.specs.declared.command.Command.{Command}
 use Rattle.inp_actors.specs.declared.command.Command.TheVariants.{Event, Open, Read, Next as ToNext, Skip, Follow, Force}
 use Rattle.inp_actors.specs.declared.role.Role.{Role}
-use Rattle.inp_actors.specs.declared.role.Role.TheVariants.{Source, Client, Tap}
+use Rattle.inp_actors.specs.declared.role.Role.TheVariants.{Source, Client, Tap, Joy}
+use Rattle.inp_joy.specs.Examples.{stick}
+use Rattle.inp_joy.specs.Picture.{PictureView, up_to_64}
 use Rattle.inp_reader.specs.Examples.{played, slider, slides, axis}
 use Rattle.inp_script.specs.declared.sight.Sight.{Sight}
-use Rattle.inp_script.specs.declared.sight.Sight.TheVariants.{Call, Took, Made, Again}
+use Rattle.inp_script.specs.declared.sight.Sight.TheVariants.{Call, Took, Made, Again, Record}
 use Rattle.inp_script.specs.declared.stop.Stop.TheVariants.{Idle, Full}
 use Rattle.inp_script.specs.declared.waiting.Waiting.{Waiting}
 use Rattle.inp_script.specs.Doing.{line_talk}
@@ -48,12 +50,12 @@ abbrev pub after_acts : Description → Role → Option Waiting → ℕ → Stag
 after_acts d role wait n s [] = s
 after_acts d role wait n s (act ∷ acts) = after_acts d role wait n (after_act d role wait n s act) acts
 
-abbrev pub first_stage : Description → Stage
-first_stage d = record { past = []; source = first_job d; other = first_job d }
+abbrev pub first_stage : Role → Description → Stage
+first_stage role d = record { past = []; source = first_job Source d; other = first_job role d }
 
 -- after these acts, on one thread
 abbrev pub after_all : Description → Role → List Act → Stage
-after_all d role acts = after_acts d role None 16 (first_stage d) acts
+after_all d role acts = after_acts d role None 16 (first_stage role d) acts
 
 abbrev pub press : ℕ → ℕ → Act
 press now value = by_source (Event now EV_KEY KEY_A (pos value))
@@ -88,15 +90,22 @@ FollowsToTheEnd =
     ∷ Again 7 0 ∷ [])
     × (s.source.sight ≡ stroke_sight 2 1000 1 ++ stroke_sight 4 2000 0) × (s.other.stop ≡ None)
 
--- a client that opened and then lost all events but the last report
+-- an actor that opened and then lost all events but the last report
+abbrev pub losing_as : Role → Stage
+losing_as role = let s = after_all slider role (by_other Open ∷ []) in record s { past = reverse (slides 33 true) ++ s.past }
+
 abbrev pub losing : Stage
-losing = let s = after_all slider Client (by_other Open ∷ []) in record s { past = reverse (slides 33 true) ++ s.past }
+losing = losing_as Client
+
+-- what an actor sees that opens the slider
+abbrev pub open_sight : List Sight
+open_sight = Call ToOpen (Opened 0 0 64) ∷ Call (GetAxis 0 0) (Axis 1 (record no_info { value = pos 5; maximum = pos 100 })) ∷ []
 
 -- what it sees of the calls until it has synchronised
 abbrev pub loss_sight : List Sight
 loss_sight =
-    Call ToOpen (Opened 0 0 64) ∷ Call (GetAxis 0 0) (Axis 1 (record no_info { value = pos 5; maximum = pos 100 }))
-    ∷ Call (ToRead 0 64) (Taken 68 4) ∷ Took (at 65 0 syn_dropped) ∷ Call (ToDiscard 0) (Discarded 69 0)
+    open_sight
+    ++ Call (ToRead 0 64) (Taken 68 4) ∷ Took (at 65 0 syn_dropped) ∷ Call (ToDiscard 0) (Discarded 69 0)
     ∷ Call (GetAxis 0 0) (Axis 70 (record no_info { value = pos 6; maximum = pos 100 })) ∷ []
 
 -- it is handed the events that its reader makes, and goes on after them in the same line
@@ -128,6 +137,63 @@ GoesOnAfterRefusals =
 -- A client waits for a source that is not done, as often as it may. It sees the last answer alone.
 abbrev pub StopsWhereNothingComes : Type 0
 StopsWhereNothingComes =
-    let s = after_acts one_key Client (Some (record { idle = 5; sources = 1 })) 16 (first_stage one_key) (by_other Open ∷ by_other Follow ∷ by_other Follow ∷ []) in
+    let s = after_acts one_key Client (Some (record { idle = 5; sources = 1 })) 16 (first_stage Client one_key) (by_other Open ∷ by_other Follow ∷ by_other Follow ∷ []) in
     (s.other.sight ≡ Call ToOpen (Opened 0 0 128) ∷ Call (GetKeys 0) (Bits 1 (replicate 12 0)) ∷ Again 2 0 ∷ [])
     × (s.other.stop ≡ Some (Idle 5 2))
+
+-- Joysticks
+
+-- a joystick with the axis X alone shows it at this value
+abbrev pub axis_at : ℕ → PictureView
+axis_at value = record { buttons = up_to_64 false []; axes = up_to_64 (pos 0) (pos value ∷ []) }
+
+-- the record of a startup that tells of it
+abbrev pub axis_begins : ℕ → Sight
+axis_begins value = Record (0 ∷ 0 ∷ 0 ∷ 0 ∷ value ∷ 0 ∷ 0x82 ∷ 0 ∷ [])
+
+-- A stick with a trigger and an axis is opened. The trigger is pressed, and the axis is moved past its range. Then a line
+-- reads more records than there are: the two of the startup, and those of the press and the move, two seconds and a half in.
+abbrev pub JoystickTells : Type 0
+JoystickTells =
+    let move = by_source (Event 2500000 EV_KEY 288 (pos 1)) ∷ by_source (Event 2500000 EV_ABS 0 (pos 40000)) ∷ end_frame 2500000 ∷ [] in
+    let s = after_all stick Joy (by_other Open ∷ move ++ by_other (Read 16) ∷ []) in
+    (s.other.sight
+    ≡ Call ToOpen (Opened 0 0 64) ∷ Call (GetKeys 0) (Bits 1 (replicate 12 0))
+    ∷ Call (GetAxis 0 0) (Axis 2 (record no_info { value = pos 5; maximum = pos 100 }))
+    ∷ Record (0 ∷ 0 ∷ 0 ∷ 0 ∷ 0 ∷ 0 ∷ 0x81 ∷ 0 ∷ []) ∷ axis_begins 5
+    ∷ Call (ToRead 0 64) (Taken 6 3)
+    ∷ Record (0xc4 ∷ 9 ∷ 0 ∷ 0 ∷ 1 ∷ 0 ∷ 1 ∷ 0 ∷ []) ∷ Record (0xc4 ∷ 9 ∷ 0 ∷ 0 ∷ 0xff ∷ 0x7f ∷ 2 ∷ 0 ∷ [])
+    ∷ Again 7 0 ∷ [])
+    × (s.other.stick.picture ≡ record { buttons = up_to_64 false (true ∷ []); axes = up_to_64 (pos 0) (pos 32767 ∷ []) })
+    × (s.other.stop ≡ None)
+
+-- A joystick that lost events hands out the rest of its startup first. Then it synchronises, and another startup begins.
+abbrev pub JoystickBeginsAnew : Type 0
+JoystickBeginsAnew =
+    let s = after_acts slider Joy None 16 (losing_as Joy) (by_other (Read 16) ∷ []) in
+    (s.other.sight
+    ≡ open_sight ++ axis_begins 5 ∷ Call (ToRead 0 64) (Taken 68 4) ∷ Call (ToDiscard 0) (Discarded 69 0)
+    ∷ Call (GetAxis 0 0) (Axis 70 (record no_info { value = pos 6; maximum = pos 100 })) ∷ axis_begins 6 ∷ Again 71 0 ∷ [])
+    × (s.other.stick.picture ≡ axis_at 6)
+
+-- a joystick that is opened, and hands out its startup
+abbrev pub startup_read : List Act
+startup_read = by_other Open ∷ by_other (Read 1) ∷ []
+
+abbrev pub startup_sight : List Sight
+startup_sight = open_sight ++ axis_begins 5 ∷ []
+
+-- one that is opened again, and refused at a query: its picture stays
+abbrev pub RefusedQueryKeepsThePicture : Type 0
+RefusedQueryKeepsThePicture =
+    let s = after_all (record slider { log_limit = 3 }) Joy (startup_read ++ by_other Open ∷ []) in
+    (s.other.sight ≡ startup_sight ++ Call ToOpen (Opened 2 1 64) ∷ Call (GetAxis 1 0) (Refused 3 LogFull) ∷ [])
+    × (s.other.stick.picture ≡ axis_at 5) × (s.other.stop ≡ Some (Full 3))
+
+-- One that was revoked: its read ends the line, and its picture stays.
+abbrev pub RevokedKeepsThePicture : Type 0
+RevokedKeepsThePicture =
+    let opened = after_all slider Joy startup_read in
+    let s = after_acts slider Joy None 16 (record opened { past = Revoke 0 ∷ opened.past }) (by_other (Read 1) ∷ []) in
+    (s.other.sight ≡ startup_sight ++ Call (ToRead 0 64) (Refused 3 NoDevice) ∷ [])
+    × (s.other.stick.picture ≡ axis_at 5) × (s.other.stop ≡ None)

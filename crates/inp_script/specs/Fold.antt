@@ -1,5 +1,5 @@
 -- What a sight says that the device is: the fold of the answers and the events that it tells of, over the history of the
--- device, which holds what a synchronisation of slots wrote (docs/RULES.md, "What a sight tells of the device").
+-- device, which holds what a synchronisation of slots wrote (docs/READER.md, "What a sight tells of the device").
 use Rattle.std.specs.Prelude.{◌≡◌, if◌then◌else◌, List, [], ◌∷◌}
 use Rattle.inp_model.specs.declared.taken.Taken.{Taken}
 use Rattle.inp_model.specs.declared.step.Step.{Step}
@@ -12,13 +12,14 @@ use Rattle.inp_model.specs.Past.{past_at}
 use Rattle.inp_model.specs.Reply.{answer, is_accepted}
 use Rattle.inp_model.specs.Run.{place_of}
 use Rattle.inp_actors.specs.declared.role.Role.{Role}
-use Rattle.inp_actors.specs.declared.role.Role.TheVariants.{Source, Client, Tap}
+use Rattle.inp_actors.specs.declared.role.Role.TheVariants.{Source, Client, Tap, Joy}
 use Rattle.inp_recon.specs.declared.view.View.{View}
 use Rattle.inp_recon.specs.View.{first_view, view_after_answer, view_after_event}
 use Rattle.inp_reader.specs.Reading.{queries}
 use Rattle.inp_script.specs.declared.sight.Sight.{Sight}
-use Rattle.inp_script.specs.declared.sight.Sight.TheVariants.{Call, Took, Made, Again}
+use Rattle.inp_script.specs.declared.sight.Sight.TheVariants.{Call, Took, Made, Again, Record}
 use Rattle.inp_script.specs.Job.{Job}
+use Rattle.inp_script.specs.JoyFold.{joy_fold, shown, blank_shown}
 
 -- a view after an answer, with the cells that the one-thread device wrote at its place
 abbrev pub view_told : Description → List Step → View → Step → Reply → View
@@ -31,6 +32,7 @@ view_after_entry d history view (Call x reply) = view_told d history view x repl
 view_after_entry d history view (Took taken) = view_after_event view taken.event
 view_after_entry d history view (Made event) = view
 view_after_entry d history view (Again at ends) = view
+view_after_entry d history view (Record bytes) = view
 
 unfoldable pub tap_fold : Description → List Step → View → List Sight → View
 tap_fold d history view [] = view
@@ -77,16 +79,18 @@ after_client_entry d history f (Call x reply) = after_client_call d history f x 
 after_client_entry d history f (Took taken) = after_client_event f taken
 after_client_entry d history f (Made event) = f
 after_client_entry d history f (Again at ends) = f
+after_client_entry d history f (Record bytes) = f
 
 unfoldable pub client_fold : Description → List Step → Folding → List Sight → Folding
 client_fold d history f [] = f
 client_fold d history f (entry ∷ sight) = client_fold d history (after_client_entry d history f entry) sight
 
--- The view of a job is the fold of its whole sight, from the view that has seen nothing.
+-- The view of a job is the fold of its whole sight, from the view that has seen nothing; of a joystick's job its picture is.
 abbrev pub IsFolded : Role → Description → List Step → Job → Type 0
 IsFolded Source d history j = j.reading.view ≡ first_view d
 IsFolded Tap d history j = tap_fold d history (first_view d) j.sight ≡ j.reading.view
 IsFolded Client d history j = client_fold d history (settled (first_view d)) j.sight ≡ settled j.reading.view
+IsFolded Joy d history j = joy_fold d blank_shown j.sight ≡ shown j.stick.picture
 
 -- it is so of each history that begins with what was seen, where it was before
 abbrev pub StaysFolded : Role → Description → EvdevView → Job → Job → Type 0

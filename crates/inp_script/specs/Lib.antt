@@ -6,11 +6,15 @@ pub mod Client
 pub mod Doing
 pub mod Noting
 pub mod Legal
+pub mod JoyFold
 pub mod Fold
+pub mod Joystick
 pub mod Tap
 pub mod Going
 pub mod Effort
+pub mod Reaching
 pub mod RoleState
+pub mod Ended
 pub mod Actor
 pub mod Runs
 pub mod Examples

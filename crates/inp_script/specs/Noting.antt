@@ -1,5 +1,5 @@
 -- What single calls leave of what a job keeps.
-use Rattle.std.specs.Prelude.{◌≡◌, ℕ, suc, ◌+◌, Bool, nat_le, List, [], ◌∷◌, ◌++◌, length}
+use Rattle.std.specs.Prelude.{◌≡◌, ℕ, suc, ◌+◌, Bool, false, nat_le, List, [], ◌∷◌, ◌++◌, length, map}
 use Rattle.inp_model.specs.declared.stamped.Stamped.{Stamped}
 use Rattle.inp_model.specs.declared.step.Step.{Step}
 use Rattle.inp_model.specs.declared.reply.Reply.{Reply}
@@ -9,14 +9,25 @@ use Rattle.inp_model.specs.Injecting.{entered_call, calls_of}
 use Rattle.inp_model.specs.Leaves.{AreCalls}
 use Rattle.inp_model.specs.Reply.{Answer}
 use Rattle.inp_model.specs.Run.{Call}
+use Rattle.inp_joy.specs.Joying.{Joying}
+use Rattle.inp_reader.specs.declared.call_made.CallMade.{CallMade}
+use Rattle.inp_reader.specs.declared.started.Started.{Started}
 use Rattle.inp_reader.specs.Reading.{Reading}
 use Rattle.inp_script.specs.declared.notes.Notes.{Notes}
-use Rattle.inp_script.specs.Job.{Job}
-use Rattle.inp_script.specs.Sight.{sight_of_call, stop_after}
+use Rattle.inp_script.specs.Job.{Job, Stick, no_stick}
+use Rattle.inp_script.specs.Sight.{made_sight, sight_of_call, stop_after, stop_after_start, start_lacks_memory}
 
--- a job by what it reads as and what is noted of it
+-- a job by what it reads as, what it keeps of a joystick, and what is noted of it
+abbrev pub job_with : Reading → Stick → Notes → Job
+job_with r stick notes = record { reading = r; sight = notes.sight; stop = notes.stop; stick = stick }
+
+-- that of a role which keeps nothing of a joystick
 abbrev pub job_of : Reading → Notes → Job
-job_of r notes = record { reading = r; sight = notes.sight; stop = notes.stop }
+job_of r notes = job_with r no_stick notes
+
+-- that of a joystick
+abbrev pub joy_job : Joying → Notes → Job
+joy_job k notes = job_with k.reading (record { handed = k.handed; picture = k.picture }) notes
 
 -- how many events a reply says were read
 abbrev pub count_taken : Reply → ℕ
@@ -34,6 +45,11 @@ pub record IsNoted (before after : EvdevView) (x : Step) (reply : Reply) (old ne
   pub replied : reply ≡ answer.reply
   pub is_call : IsCall before after (record { step = x; answer = answer })
   pub noted : new ≡ record { sight = old.sight ++ sight_of_call x answer.reply answer.events; stop = stop_after answer.reply }
+
+-- A start of a reader was noted, in which memory did not run out.
+pub record IsStartNoted (started : Started) (made : List CallMade) (old new : Notes) : Type 0 where
+  pub memory : start_lacks_memory started ≡ false
+  pub noted : new ≡ record { sight = old.sight ++ map made_sight made; stop = stop_after_start started }
 
 -- what is noted after these calls
 abbrev pub notes_after : List Call → Notes → Notes

@@ -1,12 +1,13 @@
 -- Which runs are those of a record.
-use Rattle.std.specs.Prelude.{◌≡◌, ℕ, Bool, false, nat_eq, List, length, map, filter, slice_get, Option, Some, None}
+use Rattle.std.specs.Prelude.{◌≡◌, ℕ, Bool, false, not, nat_eq, List, length, map, filter, flat_map, slice_get, Option, Some, None}
 use Rattle.std.specs.List.{range_with_len}
 use Rattle.inp_actors.specs.declared.actor_text.ActorText.{ActorText}
 use Rattle.inp_actors.specs.declared.device_text.DeviceText.{DeviceText}
+use Rattle.inp_actors.specs.Command.{is_joy}
 use Rattle.inp_actors.specs.Record.{RecordView}
 use Rattle.inp_recon.specs.View.{IsSizedFor}
 use Rattle.inp_script.specs.declared.run.Run.{Run}
-use Rattle.inp_script.specs.Job.{JobView}
+use Rattle.inp_script.specs.Job.{JobView, JoyJobView}
 
 abbrev pub is_on_device : ℕ → Option ActorText → Bool
 is_on_device device None = false
@@ -16,12 +17,34 @@ is_on_device device (Some actor) = nat_eq actor.device device
 abbrev pub actors_of : List ActorText → ℕ → List ℕ
 actors_of actors device = filter (λ i. is_on_device device (slice_get actors i)) (range_with_len 0 (length actors))
 
--- What came of a device: one job for each of its actors, in order, whose view has the device's slots.
+-- an actor is a joystick
+abbrev pub is_joystick : Option ActorText → Bool
+is_joystick None = false
+is_joystick (Some actor) = is_joy actor.role
+
+-- those of them that are no joysticks
+abbrev pub jobs_of : List ActorText → ℕ → List ℕ
+jobs_of actors device = filter (λ i. not (is_joystick (slice_get actors i))) (actors_of actors device)
+
+-- and those that are
+abbrev pub joysticks_of : List ActorText → ℕ → List ℕ
+joysticks_of actors device = filter (λ i. is_joystick (slice_get actors i)) (actors_of actors device)
+
+-- What came of a device: one job for each of its actors but joysticks, in order, whose view has the device's slots.
 pub record IsRunOf (actors : List ActorText) (number : ℕ) (device : DeviceText) (run : Run) : Type 0 where
-  pub jobs : map (λ (job : JobView). job.actor) run.jobs ≡ actors_of actors number
+  pub jobs : map (λ (job : JobView). job.actor) run.jobs ≡ jobs_of actors number
   pub views : (i : ℕ) (job : JobView) → slice_get run.jobs i ≡ Some job → IsSizedFor device.caps.slots job.view
 
 -- What came of a record: one run for each device, in order.
 pub record AreRunsOf (r : RecordView) (runs : List Run) : Type 0 where
   pub devices : length runs ≡ length r.devices
   pub each : (i : ℕ) (device : DeviceText) (run : Run) → slice_get r.devices i ≡ Some device → slice_get runs i ≡ Some run → IsRunOf r.actors i device run
+
+-- the numbers of the actors of joysticks' jobs
+abbrev pub joy_actors : List JoyJobView → List ℕ
+joy_actors joys = map (λ (joy : JoyJobView). joy.actor) joys
+
+-- What came of a record's joysticks: one job for each, device by device, and on a device in the order of its actors. In a
+-- record's text the actors of a device stand behind it, so this is the order of the text.
+abbrev pub AreJoysOf : RecordView → List JoyJobView → Type 0
+AreJoysOf r joys = joy_actors joys ≡ flat_map (joysticks_of r.actors) (range_with_len 0 (length r.devices))

@@ -1,28 +1,30 @@
 //! An actor of a record at work.
 ghost use Rattle.inp_model.specs.declared.step.Step.{Step as AStep};
-ghost use Rattle.std.specs.Prelude.{◌≡◌, ◌<◌, ◌*◌, List, length, OnOk, IfOk, IfSome, Some};
+ghost use Rattle.std.specs.Prelude.{◌≡◌, ◌<◌, List, length, OnOk, IfOk, IfSome, Some};
 ghost use Rattle.inp_model.specs.Leaves.{IsLeft};
 ghost use Rattle.inp_actors.specs.declared.role.Role.TheVariants.{Source};
 ghost use Rattle.inp_script.specs.Doing.{Begins, BeginsLine, DoesLine, Holds, HasActor, IsLineOf, IsWaiting};
 ghost use Rattle.inp_script.specs.Legal.{CountsTurns, GainsPlaces, StaysLegal};
 ghost use Rattle.inp_script.specs.Fold.{IsFolded, StaysFolded};
-ghost use Rattle.inp_script.specs.Job.{first_job, job_end};
+ghost use Rattle.inp_script.specs.Ended.{HasCells, ended_as};
+ghost use Rattle.inp_script.specs.Job.{first_job};
 ghost use Rattle.inp_script.specs.Line.{end_talk};
 
 use crate::notes::Notes;
 use crate::role_state::RoleState;
 use crate::stops::last_stop;
-use crate::{JobEnd, Sights, Waiting};
+use crate::{Ended, Sights, Waiting};
 use inp_actors::Record;
 use inp_caps::Caps;
 use inp_model::{Evdev, NoMemory, Step};
 use std::alloc::Global;
 use std::marker::Model;
 
-/// An actor of a record at work: it does its lines one by one over whatever evdev it is lent, and keeps what it saw.
+/// An actor of a record at work: a source, a tap, a client or a joystick. It does its lines one by one over whatever evdev it
+/// is lent, and keeps what it saw.
 ///
-/// A contract sees its number, its role, its device's description and its job: the reader or the client that it reads
-/// as, what it saw, and why it stopped, if it did. After a call answered `NoMemory` the actor is given up: no contract
+/// A contract sees its number, its role, its device's description and its job: the reader, the client or the joystick client
+/// that it reads as, what it saw, and why it stopped, if it did. After a call answered `NoMemory` the actor is given up: no contract
 /// says what it saw in that call. Which calls were made, and what they left of the evdev, is said then too.
 #[derive(Drop)]
 pub struct Actor {
@@ -53,7 +55,7 @@ impl Actor {
         requires actor { actor < length rec.now.actors }
         ensures number { IfOk result (λ new. new.actor ≡ actor) }
         ensures actor { IfOk result (HasActor rec.now) }
-        ensures job { IfOk result (λ new. new.job ≡ first_job new.description) }
+        ensures job { IfOk result (λ new. new.job ≡ first_job new.role new.description) }
         ensures view { IfOk result (λ new. (history : List AStep) →
             IsFolded new.role new.description history new.job) }
     {
@@ -145,9 +147,9 @@ impl Actor {
     }
 
     /// What came of the job. An actor that did not stop has finished. It takes no memory.
-    pub fn finish(self) -> JobEnd
-        ensures job { result ≡ job_end self }
-        ensures cells { length result.view.cells ≡ 14 * self.description.slots }
+    pub fn finish(self) -> Ended
+        ensures ended { result ≡ ended_as self.role self }
+        ensures cells { HasCells self.description result }
     {
         let Actor {
             actor,
@@ -156,6 +158,6 @@ impl Actor {
             state,
         } = self;
         let Notes { sight, stop } = notes;
-        JobEnd::new(actor, sight, state.into_view(&caps), last_stop(stop))
+        state.end(actor, &caps, sight, last_stop(stop))
     }
 }

@@ -14,7 +14,6 @@ ghost use Rattle.inp_script.specs.Noting.{job_of};
 
 use crate::notes::Notes;
 use crate::steps::step_of;
-use crate::stops::{start_lacks_memory, stop_after_start};
 use crate::{Sight, Stop, Waiting};
 use inp_actors::Command;
 use inp_model::{Evdev, NoMemory};
@@ -47,12 +46,7 @@ fn start<E: Evdev>(dev: &mut E, reader: &mut Reader, notes: &mut Notes) -> Resul
     ensures reader { reader.new.description ≡ reader.old.description }
 {
     let started = reader.start(dev);
-    if start_lacks_memory(started) {
-        return Err(NoMemory);
-    }
-    notes.push_made(reader.made())?;
-    notes.stop = stop_after_start(started);
-    Ok(())
+    notes.note_start(started, reader.made())
 }
 
 // How a line asks its reader: one that skips what the reader makes itself, or another one by the phase.
@@ -240,7 +234,7 @@ pub(crate) fn do_client_command<E: Evdev>(
     wait: Option<Waiting>,
 ) -> Result<(), NoMemory>
     requires of_role { is_command_of Client command.now ≡ true }
-    requires in_range { is_in_range command.now ≡ true }
+    requires in_range { is_in_range Client command.now ≡ true }
     requires description { (E.told dev.old).description ≡ reader.old.description }
     ensures done { OnOk result (DoesClientCommand (E.told dev.old) (E.told dev.new)
         reader.old.description wait command.now
@@ -271,7 +265,7 @@ fn call<E: Evdev>(
     command: &Command,
 ) -> Result<(), NoMemory>
     requires of_role { is_command_of Client command.now ≡ true }
-    requires in_range { is_in_range command.now ≡ true }
+    requires in_range { is_in_range Client command.now ≡ true }
     ensures done { OnOk result (Holds (E.told dev.old) (E.told dev.new)
         (call_if (job_of reader.now.reading notes.old)
         (step_of reader.now.reading.client command.now))

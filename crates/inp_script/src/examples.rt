@@ -1,5 +1,5 @@
 //! What the definitions compute on short records.
-ghost use Rattle.inp_script.specs.Examples.{ReadsByHand, FollowsToTheEnd, HandsOutWhatIsMade, SkipsWhatIsMade, StopsAtTheLimit, GoesOnAfterRefusals, StopsWhereNothingComes};
+ghost use Rattle.inp_script.specs.Examples.{ReadsByHand, FollowsToTheEnd, HandsOutWhatIsMade, SkipsWhatIsMade, StopsAtTheLimit, GoesOnAfterRefusals, StopsWhereNothingComes, JoystickTells, JoystickBeginsAnew, RefusedQueryKeepsThePicture, RevokedKeepsThePicture};
 
 /// What the definitions of this crate compute on short records that were worked out by hand. It does nothing: its
 /// contract is the point.
@@ -11,4 +11,8 @@ pub fn examples_of_jobs()
     ensures full { StopsAtTheLimit }
     ensures refused { GoesOnAfterRefusals }
     ensures idle { StopsWhereNothingComes }
+    ensures joystick { JoystickTells }
+    ensures anew { JoystickBeginsAnew }
+    ensures picture { RefusedQueryKeepsThePicture }
+    ensures revoked { RevokedKeepsThePicture }
 {}

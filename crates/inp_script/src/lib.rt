@@ -1,28 +1,48 @@
 //! Jobs: what an actor of a record does, line by line, over any evdev, and what it sees.
 //!
-//! This crate is for whoever plays a record. An [`Actor`] does the lines of a source, a tap or a client, and keeps what it
-//! saw: each call with its reply, each event that it read or that its reader made, and where nothing was visible. It
-//! stands on `inp_actors` for records, on `inp_reader` and `inp_recon` for readers and views, on `inp_edge` for gates,
-//! and on `inp_model` for steps, replies and `Evdev`.
+//! This crate is for whoever plays a record. An [`Actor`] does the lines of a source, a tap, a client or a joystick,
+//! and keeps what it saw: each call with its reply, each event that it read or that its reader made, each record of a
+//! joystick that it handed out, and where nothing was visible. It stands on `inp_actors` for records, on `inp_reader`
+//! and `inp_recon` for readers and views, on `inp_joy` for joystick clients, on `inp_edge` for gates, and on
+//! `inp_model` for steps, replies and `Evdev`.
 //!
-//! Its contract: `specs/Line.antt` and `specs/Client.antt` say what each command asks of an evdev, one step by the
-//! answers before it, and what the job is afterwards (a `Talk` of `inp_reader`); `specs/Sight.antt` says what enters the
-//! sight. [`Actor::line`] promises that the calls it made are those of that talk, in some number of rounds, and that the
-//! actor's job is its result (`DoesLine`, `specs/Doing.antt`). Where memory ran out it promises that the calls it made are
-//! the first ones of that talk (`BeginsLine`), and that they are all that it did with the evdev (`IsLeft` of `inp_model`),
-//! which so can be handed on. [`examples_of_jobs`] shows what these definitions compute on short records.
+//! Its contract: `specs/Line.antt`, `specs/Client.antt` and `specs/Joystick.antt` say what each command asks of an
+//! evdev, one step by the answers before it, and what the job is afterwards (a `Talk` of `inp_reader`);
+//! `specs/Sight.antt` says what enters the sight. [`Actor::line`] promises that the calls it made are those of that
+//! talk, in some number of rounds, and that the actor's job is its result (`DoesLine`, `specs/Doing.antt`): what it
+//! saw, its client and its view, of a joystick its picture, and whether it stopped. An actor that has stopped does
+//! nothing. Where memory ran out it promises that the calls it made are the first ones of that talk (`BeginsLine`), and
+//! that they are all that it did with the evdev (`IsLeft` of `inp_model`), which so can be handed on: the description
+//! and the tie stay, the own places grow by those of the calls, and the calls are a legal run.
+//!
+//! Besides, what an actor saw grows by entries of accepted calls whose places are those that the evdev gained as its
+//! own, in order (`GainsPlaces`); its calls stay a legal run of the history (`StaysLegal`); its view stays the fold of
+//! what it saw (`StaysFolded`); and where it stops as idle, at least as many reads were answered Again as it says, or
+//! their count stands at its end (`CountsTurns`). [`Actor::end`] makes the step End, or nothing where the actor has
+//! stopped (`end_talk`), unless memory ran out, and makes no other call then either. [`Actor::finish`] gives the end
+//! that `job_end` makes of the actor, a joystick's apart. [`examples_of_jobs`] shows what these definitions compute on
+//! short records.
 //!
 //! A line that hands out events ends whatever the evdev answers: each round makes a call that takes a place of the
 //! history, which is bounded, or hands out an event that was read or made before, or counts one answer Again of those
-//! that it may wait for (`specs/Effort.antt` here and in `inp_reader`). An actor takes memory when it is made, at an
-//! open, and for what it sees.
+//! that it may wait for (`specs/Effort.antt` here and in `inp_reader`). So does a line that reads records of a
+//! joystick: a read that hands out none and does not end the line leaves its reader less to do. An actor takes memory
+//! when it is made, at an open, and for what it sees.
+//!
+//! A call of [`Gated`] is one of the evdev behind the gate (`IsEvdevCall`), and so is one that injects many events.
+//! After it, over any gate, the gate's `passed` holds of the job's number and the count of the calls before, and the
+//! count is one more, whatever the number of events. That the gate was passed before the call and not after it, and how
+//! often, is not said.
 #![tactic(auto)]
 
 mod actor;
 mod client;
+mod ended;
 mod examples;
 mod gated;
 mod job_end;
+mod joy_end;
+mod joystick;
 mod notes;
 mod role_state;
 mod run;
@@ -35,10 +55,12 @@ mod tap;
 mod waiting;
 
 pub use actor::Actor;
+pub use ended::Ended;
 pub use examples::examples_of_jobs;
 pub use gated::Gated;
 pub use job_end::JobEnd;
-pub use run::{Jobs, Run, Runs};
-pub use sight::{Sight, Sights};
+pub use joy_end::JoyEnd;
+pub use run::{DeviceRun, Jobs, JoyRuns, Played, Run, Runs};
+pub use sight::{JoySight, JoySights, Sight, Sights};
 pub use stop::Stop;
 pub use waiting::Waiting;

@@ -4,13 +4,13 @@ ghost use Rattle.inp_model.specs.declared.stamped.TheConstants.{MOMENT_MAX};
 ghost use Rattle.inp_model.specs.Step.{moment_of};
 ghost use Rattle.inp_model.specs.Reply.{HasRoom};
 ghost use Rattle.inp_model.specs.Injecting.{AreInTime, inject_of};
-ghost use Rattle.inp_script.specs.Noting.{IsMade, IsNoted, AreMade, AreNoted, notes_after, entered_calls};
+ghost use Rattle.inp_script.specs.Noting.{IsMade, IsNoted, IsStartNoted, AreMade, AreNoted, notes_after, entered_calls};
 ghost use Rattle.inp_script.specs.Sight.{taken_sight, made_sight, sight_of_call, stop_after};
 
-use crate::stops::stop_after;
+use crate::stops::{start_lacks_memory, stop_after, stop_after_start};
 use crate::{Sight, Sights, Stop};
 use inp_model::{Evdev, NoMemory, Refusal, Reply, Stamped, Step, Taken};
-use inp_reader::CallMade;
+use inp_reader::{CallMade, Started};
 
 /// What a job saw, and why it stopped, if it did.
 #[derive(Drop)]
@@ -42,6 +42,19 @@ impl Notes {
                 reply: call.reply,
             })?;
         }
+        Ok(())
+    }
+
+    // Adds the calls of a start, and stops the job where it was refused for the limit. `NoMemory` comes too where memory ran
+    // out in that start.
+    pub(crate) fn note_start(&mut self, started: Started, made: &[CallMade]) -> Result<(), NoMemory>
+        ensures { OnOk result (IsStartNoted started made.now self.old self.new) }
+    {
+        if start_lacks_memory(started) {
+            return Err(NoMemory);
+        }
+        self.push_made(made)?;
+        self.stop = stop_after_start(started);
         Ok(())
     }
 

@@ -1,17 +1,19 @@
 //! What an actor keeps by its role.
-ghost use Rattle.std.specs.Prelude.{◌≡◌, ◌*◌, ℕ, length, OnOk, IfOk};
+ghost use Rattle.std.specs.Prelude.{◌≡◌, ℕ, OnOk, IfOk};
 ghost use Rattle.inp_script.specs.Doing.{Begins, DoesCommand, IsCommandFor, command_talk};
-ghost use Rattle.inp_script.specs.Job.{first_reading};
-ghost use Rattle.inp_script.specs.Noting.{job_of};
-ghost use Rattle.inp_script.specs.RoleState.{role_of, reading_of, IsSized};
+ghost use Rattle.inp_script.specs.Job.{first_reading, first_stick};
+ghost use Rattle.inp_script.specs.Ended.{HasCells, ended_with};
+ghost use Rattle.inp_script.specs.RoleState.{role_of, reading_of, stick_of, job_in, IsSized};
 
-use crate::Waiting;
 use crate::client::do_client_command;
+use crate::joystick::do_joystick_command;
 use crate::notes::Notes;
 use crate::source::do_source_command;
 use crate::tap::Tap;
+use crate::{Ended, JobEnd, JoyEnd, Sights, Stop, Waiting};
 use inp_actors::{Command, Record, Role};
 use inp_caps::Caps;
+use inp_joy::Joy;
 use inp_model::{Evdev, NoMemory};
 use inp_reader::Reader;
 use inp_recon::View;
@@ -26,6 +28,8 @@ pub(crate) enum RoleState {
     Tap { tap: Tap },
     /// A client reads by a reader. The view is room for the reader's at the end.
     Client { reader: Reader, view: View },
+    /// A joystick reads as one.
+    Joy { joy: Joy },
 }
 
 impl RoleState {
@@ -33,6 +37,7 @@ impl RoleState {
     pub(crate) fn new(alloc: Global, caps: &Caps, role: Role) -> Result<RoleState, NoMemory>
         ensures role { IfOk result (λ state. role_of state ≡ role) }
         ensures reading { IfOk result (λ state. reading_of state ≡ first_reading caps.now) }
+        ensures stick { IfOk result (λ state. stick_of state ≡ first_stick role caps.now) }
         ensures sized { IfOk result (IsSized caps.now) }
     {
         match role {
@@ -45,6 +50,9 @@ impl RoleState {
             Role::Client => Ok(RoleState::Client {
                 reader: Reader::new(alloc, caps)?,
                 view: View::new(alloc, caps)?,
+            }),
+            Role::Joy => Ok(RoleState::Joy {
+                joy: Joy::new(alloc, caps)?,
             }),
         }
     }
@@ -64,10 +72,10 @@ impl RoleState {
         requires sized { IsSized caps.now self.old }
         ensures done { OnOk result (DoesCommand (E.told dev.old) (E.told dev.new)
             (role_of self.old) caps.now rec.now.streams wait command.now
-            (job_of (reading_of self.old) notes.old) (job_of (reading_of self.new) notes.new)) }
+            (job_in self.old notes.old) (job_in self.new notes.new)) }
         ensures begun { (rounds : ℕ) × Begins (E.told dev.old) (E.told dev.new)
             (command_talk (role_of self.old) caps.now rec.now.streams wait rounds command.now
-            (job_of (reading_of self.old) notes.old)) }
+            (job_in self.old notes.old)) }
         ensures role { role_of self.new ≡ role_of self.old }
         ensures sized { IsSized caps.now self.new }
     {
@@ -77,22 +85,29 @@ impl RoleState {
             RoleState::Client { reader, .. } => do_client_command(
                 dev, reader, notes, command, wait,
             ),
+            RoleState::Joy { joy } => do_joystick_command(dev, joy, notes, command),
         }
     }
 
-    // What the device is, as far as the actor saw. It takes no memory.
-    pub(crate) fn into_view(self, caps: &Caps) -> View
+    // What comes of an actor of this number that saw this and ended so. It takes no memory.
+    pub(crate) fn end(self, actor: u32, caps: &Caps, sight: Sights, stop: Stop) -> Ended
         requires sized { IsSized caps.now self }
-        ensures view { result ≡ (reading_of self).view }
-        ensures cells { length result.cells ≡ 14 * caps.now.slots }
+        ensures ended { result ≡ ended_with self actor sight stop }
+        ensures cells { HasCells caps.now result }
     {
-        match self {
+        let view = match self {
             RoleState::Source { view } => view,
             RoleState::Tap { tap } => tap.into_view(),
             RoleState::Client { reader, mut view } => {
                 view.copy_from(reader.view());
                 view
             }
-        }
+            RoleState::Joy { joy } => {
+                let end = JoyEnd::new(actor, sight, *joy.picture(), stop);
+                return Ended::Joy { end };
+            }
+        };
+        let end = JobEnd::new(actor, sight, view, stop);
+        Ended::Job { end }
     }
 }

@@ -13,7 +13,15 @@ pub enum Sight {
     Made { event: Event },
     /// Nothing was visible to it: the history's length, and how many sources were done.
     Again { at: u32, ends: u32 },
+    /// It handed out this record of a joystick. Only a joystick's job does.
+    Record { bytes: [u8; 8] },
 }
 
 /// What a job saw, in order.
 pub type Sights = Items<Sight>;
+
+/// One entry of what a joystick's job saw: a call, a record that it handed out, or that nothing was visible to it.
+pub type JoySight = Sight;
+
+/// What a joystick's job saw, in order.
+pub type JoySights = Items<JoySight>;

@@ -95,7 +95,7 @@ impl Tap {
         command: &Command,
     ) -> Result<(), NoMemory>
         requires of_role { is_command_of TapRole command.now ≡ true }
-        requires in_range { is_in_range command.now ≡ true }
+        requires in_range { is_in_range TapRole command.now ≡ true }
         requires sized { IsSizedTap (E.told dev.old).description self.old }
         ensures done { OnOk result (Holds (E.told dev.old) (E.told dev.new)
             (tap_talk command.now (job_of (tap_reading self.old) notes.old))

@@ -2,6 +2,7 @@ use Rattle.std.proofs.Common.{◌≡◌, ◌∙◌, sym, ap, ℕ}
 use Rattle.std.specs.Prelude.{Option, Some, None}
 use Rattle.inp_model.specs.declared.step.Step.{Step}
 use Rattle.inp_script.specs.Line.{call_if, step_of}
+use Rattle.inp_script.specs.Job.{no_stick}
 use Rattle.inp_script.specs.Noting.{job_of}
 use Rattle.inp_script.proofs.Holding.{holds-same, holds-nothing, begins-none}
 use Rattle.inp_script.proofs.Streams.{holds-noted, begins-call_if}
@@ -20,7 +21,7 @@ returns-clause-done g c =
     let some : Some c.in-Some.step ≡ step_of c.args.reader.now.reading.client c.args.command.now =
     sym c.in-Some.is ∙ c.step_of.ensures ∙ ap (λ (n : ℕ). step_of n c.args.command.now) c.client.ensures.client in
     holds-same _ _ _ _ _ (ap (λ (x : Option Step). call_if j x) some)
-    (holds-noted _ _ c.in-Some.step c.in_ok-call.field-0 c.args.notes.now c.call.new.self c.args.reader.now.reading c.in_ok-call.ensures.noted)
+    (holds-noted _ _ c.in-Some.step c.in_ok-call.field-0 c.args.notes.now c.call.new.self c.args.reader.now.reading no_stick c.in_ok-call.ensures.noted)
 
 pub returns-in_default-clause-begun : goal.returns-in_default-clause-begun
 returns-in_default-clause-begun g c = begins-none _ _

@@ -2,7 +2,7 @@
 use Rattle.std.proofs.Common.{refl}
 use Rattle.inp_model.proofs.Computing.{computing}
 use Rattle.inp_reader.proofs.Computing.{computing_reader}
-use Rattle.inp_script.proofs.Computing.{computing_jobs}
+use Rattle.inp_script.proofs.Computing.{computing_jobs, computing_joysticks}
 use Rattle.inp_script.proofs.examples.examples_of_jobs.Goals as goal
 
 pub returns-clause-tap : goal.returns-clause-tap
@@ -32,3 +32,19 @@ returns-clause-refused c = (refl, refl)
 pub returns-clause-idle : goal.returns-clause-idle
 unfolding computing computing_reader computing_jobs
 returns-clause-idle c = (refl, refl)
+
+pub returns-clause-joystick : goal.returns-clause-joystick
+unfolding computing computing_reader computing_jobs computing_joysticks
+returns-clause-joystick c = (refl, refl, refl)
+
+pub returns-clause-anew : goal.returns-clause-anew
+unfolding computing computing_reader computing_jobs computing_joysticks
+returns-clause-anew c = (refl, refl)
+
+pub returns-clause-picture : goal.returns-clause-picture
+unfolding computing computing_reader computing_jobs computing_joysticks
+returns-clause-picture c = (refl, refl, refl)
+
+pub returns-clause-revoked : goal.returns-clause-revoked
+unfolding computing computing_reader computing_jobs computing_joysticks
+returns-clause-revoked c = (refl, refl, refl)

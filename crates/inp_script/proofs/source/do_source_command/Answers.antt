@@ -1,6 +1,7 @@
 use Rattle.std.proofs.Common.{◌≡◌, ℕ, Option, Some, None, refl, ◌∙◌, sym, ap}
 use Rattle.std.proofs.lemmas.Result.{on_ok_weaker}
 use Rattle.inp_model.specs.declared.step.Step.{Step}
+use Rattle.inp_script.specs.Job.{no_stick}
 use Rattle.inp_script.specs.Noting.{job_of}
 use Rattle.inp_script.specs.Line.{call_if}
 use Rattle.inp_script.proofs.Commands.{source_talk-single, source_talk-stream}
@@ -27,7 +28,7 @@ pub returns-clause-done : goal.returns-clause-done
 returns-clause-done g c r =
     holds-same _ _ _ _ _
     (sym (source_talk-single c.args.rec.now.streams c.args.command.now (job_of r c.args.notes.now) (sym c.stream_index.ensures.index ∙ none_of c.stream_index.result c.in_default.not-Some) ∙ ap (λ (x : Option Step). call_if (job_of r c.args.notes.now) x) (sym c.in-Some-step_of.ensures)))
-    (holds-noted _ _ c.in-Some-step_of.step c.in_ok-call.field-0 c.args.notes.now c.call.new.self r c.in_ok-call.ensures.noted)
+    (holds-noted _ _ c.in-Some-step_of.step c.in_ok-call.field-0 c.args.notes.now c.call.new.self r no_stick c.in_ok-call.ensures.noted)
 
 pub returns-clause-begun : goal.returns-clause-begun
 returns-clause-begun g c r =

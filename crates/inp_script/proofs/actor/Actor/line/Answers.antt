@@ -7,8 +7,7 @@ use Rattle.inp_model.proofs.Leaves.{left-none}
 use Rattle.inp_actors.specs.declared.line.Line.{Line}
 use Rattle.inp_script.specs.Doing.{Begins, BeginsLine, DoesCommand, IsCommandFor, command_talk}
 use Rattle.inp_script.specs.Job.{Job, ActorView}
-use Rattle.inp_script.specs.Noting.{job_of}
-use Rattle.inp_script.specs.RoleState.{reading_of}
+use Rattle.inp_script.specs.RoleState.{job_in}
 use Rattle.inp_script.proofs.Holding.{begins-none, begins-left}
 use Rattle.inp_script.proofs.Lines.{begins-line}
 use Rattle.inp_script.proofs.LinesDone.{IsLineDone, command-of, line-stopped, line-went_on}
@@ -48,7 +47,7 @@ returns g c =
     let b = g.E.Evdev.told c.do_command.new.dev in
     let r = c.args.rec.now in
     let actor : ActorView = c.args.self.now in
-    let new : Job = job_of (reading_of c.do_command.new.self) c.do_command.new.notes in
+    let new : Job = job_in c.do_command.new.self c.do_command.new.notes in
     let got : Line = c.get.result.now in
     let is_line : slice_get r.lines c.args.line ≡ Some got = ap (λ (lines : List Line). slice_get lines c.args.line) (sym c.lines.ensures.lines) ∙ c.get.ensures.item in
     let same : c.requires.line.line ≡ got = cc (c.requires.line.is_line, is_line) in

@@ -3,8 +3,8 @@ use Rattle.std.specs.Prelude.{Some}
 use Rattle.std.proofs.lemmas.Result.{on_ok_weaker}
 use Rattle.inp_script.specs.declared.role_state.RoleState.{RoleState}
 use Rattle.inp_script.specs.Doing.{Begins, Holds, command_talk}
-use Rattle.inp_script.specs.Noting.{job_of}
-use Rattle.inp_script.specs.RoleState.{role_of, reading_of}
+use Rattle.inp_script.specs.Noting.{job_with}
+use Rattle.inp_script.specs.RoleState.{role_of, reading_of, stick_of}
 use Rattle.inp_script.proofs.role_state.RoleState.do_command.Goals as goal
 
 pub returns-in-Source-clause-done : goal.returns-in-Source-clause-done
@@ -15,7 +15,7 @@ returns-in-Source-clause-done g c =
     on_ok_weaker c.do_source_command.result
     (λ h. record {
       rounds = 0;
-      holds = subst (λ (x : RoleState). Holds a b (command_talk (role_of x) c.args.caps.now c.args.rec.now.streams c.args.wait 0 c.args.command.now (job_of r c.args.notes.now)) (Some (job_of r c.do_source_command.new.notes))) (sym c.in-Source.is) (h r);
+      holds = subst (λ (x : RoleState). Holds a b (command_talk (role_of x) c.args.caps.now c.args.rec.now.streams c.args.wait 0 c.args.command.now (job_with r (stick_of x) c.args.notes.now)) (Some (job_with r (stick_of x) c.do_source_command.new.notes))) (sym c.in-Source.is) (h r);
     })
     c.do_source_command.ensures.done
 
@@ -24,4 +24,4 @@ returns-in-Source-clause-begun g c =
     let a = g.E.Evdev.told c.args.dev.now in
     let b = g.E.Evdev.told c.do_source_command.new.dev in
     let r = reading_of c.args.self.now in
-    (0, subst (λ (x : RoleState). Begins a b (command_talk (role_of x) c.args.caps.now c.args.rec.now.streams c.args.wait 0 c.args.command.now (job_of r c.args.notes.now))) (sym c.in-Source.is) (c.do_source_command.ensures.begun r))
+    (0, subst (λ (x : RoleState). Begins a b (command_talk (role_of x) c.args.caps.now c.args.rec.now.streams c.args.wait 0 c.args.command.now (job_with r (stick_of x) c.args.notes.now))) (sym c.in-Source.is) (c.do_source_command.ensures.begun r))

@@ -1,0 +1,455 @@
+-- The picture of a joystick's job is the fold of its sight.
+use Rattle.std.proofs.Common.{◌≡◌, ℕ, zero, suc, Bool, true, false, if◌then◌else◌, List, [], ◌∷◌, ◌++◌, map, refl, sym, ap, subst, ◌∙◌, append-nil, append_assoc, Option, Some, None}
+use Rattle.std.specs.Prelude.{Result, Ok, Err}
+use Rattle.std.proofs.lemmas.Bool.{true≢false}
+use Rattle.inp_model.specs.declared.taken.Taken.{Taken}
+use Rattle.inp_model.specs.declared.step.Step.{Step}
+use Rattle.inp_model.specs.declared.step.Step.TheVariants.{Open as ToOpen, Read as ToRead, Discard, Close as ToClose}
+use Rattle.inp_model.specs.declared.reply.Reply.{Reply}
+use Rattle.inp_model.specs.declared.reply.Reply.TheVariants.{Opened, Again as NothingVisible, Refused as StepRefused}
+use Rattle.inp_model.specs.declared.reply.Refusal.{Refusal}
+use Rattle.inp_model.specs.declared.reply.Refusal.TheVariants.{NoDevice as RefusedNoDevice, LogFull}
+use Rattle.inp_model.specs.Description.{Description}
+use Rattle.inp_model.specs.Evdev.{is_again}
+use Rattle.inp_model.specs.Event.{is_report}
+use Rattle.inp_model.specs.Past.{past_at}
+use Rattle.inp_model.specs.Reply.{Answer, is_accepted, IsAnswer}
+use Rattle.inp_model.specs.Run.{Call, place_of}
+use Rattle.inp_actors.specs.declared.command.Command.{Command}
+use Rattle.inp_actors.specs.declared.command.Command.TheVariants.{Open, Close, Read}
+use Rattle.inp_actors.specs.declared.role.Role.TheVariants.{Joy}
+use Rattle.inp_actors.specs.Command.{is_command_of}
+use Rattle.inp_joy.specs.declared.joy_read.JoyRead.{JoyRead}
+use Rattle.inp_joy.specs.declared.joy_read.JoyRead.TheVariants.{Record as HandedOut, Frame, Again, NoDevice, Closed, Full, More}
+use Rattle.inp_joy.specs.declared.joy_record.JoyRecord.{JoyRecord}
+use Rattle.inp_joy.specs.JoyRecord.{bytes_of}
+use Rattle.inp_joy.specs.Joying.{Joying, JoyAnswer, Turn, gives, goes_on, hand_out_record, next_in_startup, stop_with, stop_of, event_of, record_of, record_or_on, event_or_on, stop_or_event, after_next, stop_or_startup, turn_talk, turns, with_reading, without_startup, after_start, joy_started, joy_start}
+use Rattle.inp_joy.specs.Picture.{PictureView, blank_picture, picture_after}
+use Rattle.inp_joy.proofs.Nexts.{lost-needed}
+use Rattle.inp_joy.proofs.Records.{FitsBytes, record-back, startup-fits, FitsIf, event-fits}
+use Rattle.inp_joy.proofs.TurnCases.{Synchronises, TurnCase, of_startup, of_sync, of_loss, of_next, turn-case, turns-all}
+use Rattle.inp_recon.specs.declared.view.View.{View}
+use Rattle.inp_recon.specs.View.{view_after_answer}
+use Rattle.inp_reader.specs.declared.mode.Mode.TheVariants.{Normal, Sync as Synchronising}
+use Rattle.inp_reader.specs.declared.next.Next.{Next}
+use Rattle.inp_reader.specs.declared.phase.Phase.{Phase}
+use Rattle.inp_reader.specs.declared.phase.Phase.TheVariants.{Plain, Needed, Handing}
+use Rattle.inp_reader.specs.declared.started.Started.{Started}
+use Rattle.inp_reader.specs.Reading.{Reading, ask_each, queries, start_talk, after_open, after_queries, start_stop_of, stop_of as reader_stop, hand_out_event, after_read as after_reading, read_or_hand_out, read_talk, as_plain, handing, hand_synthesised, after_full_sync, after_failed_sync, go_on_after, sync_talk, talk_in}
+use Rattle.inp_reader.specs.Standing.{is_needed}
+use Rattle.inp_reader.specs.Talk.{Talk, finish, LeadsTo, EndsWith}
+use Rattle.inp_script.specs.declared.sight.Sight.{Sight}
+use Rattle.inp_script.specs.declared.sight.Sight.TheVariants.{Call as Called, Again as AgainSight, Record}
+use Rattle.inp_script.specs.declared.stop.Stop.TheVariants.{Full as FullHistory}
+use Rattle.inp_script.specs.Client.{with_sight, with_stop}
+use Rattle.inp_script.specs.Job.{Job, joying_of}
+use Rattle.inp_script.specs.Joystick.{Reach, handed_out, line_ends, start_joystick, record_sight, after_joy_answer, after_read, after_turns, read_on, on_reach, read_records, joystick_talk}
+use Rattle.inp_script.specs.JoyFold.{Showing, shown, asking, blank_shown, asked_on, after_first_call, after_joy_call, after_joy_entry, joy_fold}
+use Rattle.inp_script.specs.Line.{after_call, call_talk}
+use Rattle.inp_script.specs.Sight.{call_sight, again_sight, taken_sight, sight_of_call, noted}
+use Rattle.inp_script.proofs.ClientFolds.{AllNoRead, no_read-queries, not_again, placed-left, placed-right}
+use Rattle.inp_script.proofs.Folds.{ArePlaced}
+use Rattle.inp_script.proofs.JoyTold.{job_of_reach, starts}
+use Rattle.inp_script.proofs.LastAgain.{finish-only, and_then-parts}
+use Rattle.inp_script.proofs.Told.{noted-back, noted_sight, noted_sight-append}
+
+pub joy_fold-append : (d : Description) (s : Showing) (sight more : List Sight) → joy_fold d s (sight ++ more) ≡ joy_fold d (joy_fold d s sight) more
+unfolding joy_fold
+joy_fold-append d s [] more = refl
+joy_fold-append d s (entry ∷ sight) more = joy_fold-append d (after_joy_entry d s entry) sight more
+
+-- Queries
+
+-- the picture once asking ended
+abbrev asked_picture : PictureView → Result View Reply → PictureView
+asked_picture p (Ok view) = blank_picture
+asked_picture p (Err reply) = p
+
+-- the entry of a call that was not answered Again
+told_once : (d : Description) (s : Showing) (x : Step) (reply : Reply) (sight : List Sight) → is_again reply ≡ false → joy_fold d s (call_sight x reply ++ sight) ≡ joy_fold d (after_joy_call d s x reply) sight
+unfolding joy_fold
+told_once d s x reply sight e = ap (λ (b : Bool). joy_fold d s ((if b then [] else Called x reply ∷ []) ++ sight)) e
+
+-- where asking ended so
+asked-shows : (d : Description) (s : Showing) (p : PictureView) (asked result : Result View Reply) (calls : List Call) → s ≡ shown (asked_picture p asked) → EndsWith (finish asked) calls result → joy_fold d s (noted_sight calls) ≡ shown (asked_picture p result)
+unfolding joy_fold
+asked-shows d s p asked result calls is ends =
+    let f = finish-only asked result calls ends in
+    ap (λ (cs : List Call). joy_fold d s (noted_sight cs)) f.0 ∙ is ∙ ap (λ (r : Result View Reply). shown (asked_picture p r)) f.1
+
+ask-shows : (d : Description) (h : List Step) (xs : List Step) (p : PictureView) (view : View) (calls : List Call) (result : Result View Reply) → AllNoRead xs → ArePlaced d h calls → EndsWith (ask_each xs view) calls result → joy_fold d (asked_on p xs) (noted_sight calls) ≡ shown (asked_picture p result)
+unfolding LeadsTo ask_each
+ask-shows d h [] p view calls result no_reads placed ends = asked-shows d blank_shown p (Ok view) result calls refl ends
+ask-shows d h (x ∷ xs) p view [] result no_reads placed ends = absurd cc
+ask-shows d h (x ∷ xs) p view (call ∷ calls) result no_reads placed ends =
+    let a : Answer = call.answer in
+    let is : IsAnswer d (past_at h (place_of a.reply)) x a = subst (λ (y : Step). IsAnswer d (past_at h (place_of a.reply)) y a) ends.0 placed.0.exact in
+    told_once d (asking p (x ∷ xs)) call.step a.reply (noted_sight calls) (not_again d (past_at h (place_of a.reply)) x a is no_reads.0)
+    ∙ by_flag (is_accepted a.reply) (λ w e. ask-shows d h xs p w calls result no_reads.1 placed.1 e) ends.1
+  where
+    by_flag : (b : Bool) → ((w : View) → EndsWith (ask_each xs w) calls result → joy_fold d (asked_on p xs) (noted_sight calls) ≡ shown (asked_picture p result))
+        → EndsWith (if b then ask_each xs (view_after_answer view x call.answer.reply call.answer.cells) else finish (Err call.answer.reply)) calls result
+        → joy_fold d (if b then asked_on p xs else shown p) (noted_sight calls) ≡ shown (asked_picture p result)
+    by_flag true more e = more (view_after_answer view x call.answer.reply call.answer.cells) e
+    by_flag false more e = asked-shows d (shown p) p (Err call.answer.reply) result calls refl e
+
+discard-shows : (d : Description) (h : List Step) (client : ℕ) (p : PictureView) (view : View) (calls : List Call) (result : Result View Reply) → ArePlaced d h calls → EndsWith (ask_each (Discard client ∷ queries d client) view) calls result → joy_fold d (shown p) (noted_sight calls) ≡ shown (asked_picture p result)
+unfolding LeadsTo ask_each
+discard-shows d h client p view [] result placed ends = absurd cc
+discard-shows d h client p view (call ∷ calls) result placed ends =
+    let a : Answer = call.answer in
+    let is : IsAnswer d (past_at h (place_of a.reply)) (Discard client) a = subst (λ (y : Step). IsAnswer d (past_at h (place_of a.reply)) y a) ends.0 placed.0.exact in
+    told_once d (shown p) call.step a.reply (noted_sight calls) (not_again d (past_at h (place_of a.reply)) (Discard client) a is refl)
+    ∙ ap (λ (y : Step). joy_fold d (after_first_call d p y a.reply) (noted_sight calls)) ends.0
+    ∙ by_flag (is_accepted a.reply) (view_after_answer view (Discard client) a.reply a.cells) ends.1
+  where
+    by_flag : (b : Bool) (w : View) → EndsWith (if b then ask_each (queries d client) w else finish (Err call.answer.reply)) calls result → joy_fold d (if b then asked_on p (queries d client) else shown p) (noted_sight calls) ≡ shown (asked_picture p result)
+    by_flag true w e = ask-shows d h (queries d client) p w calls result (no_read-queries d client) placed.1 e
+    by_flag false w e = asked-shows d (shown p) p (Err call.answer.reply) result calls refl e
+
+-- A start
+
+-- a start that was refused leaves the picture
+refused-picture : (d : Description) (j : Joying) (r : Reading) (reply : Reply) → (after_start d (with_reading j r) (start_stop_of reply)).picture ≡ j.picture
+refused-picture d j r (StepRefused at why) = by_flag (is_needed r.phase)
+  where
+    by_flag : (b : Bool) → (if b then without_startup d (with_reading j r) else with_reading j r).picture ≡ j.picture
+    by_flag true = refl
+    by_flag false = refl
+refused-picture d j r _ = by_flag (is_needed r.phase)
+  where
+    by_flag : (b : Bool) → (if b then without_startup d (with_reading j r) else with_reading j r).picture ≡ j.picture
+    by_flag true = refl
+    by_flag false = refl
+
+asked-picture : (d : Description) (j : Joying) (client ring : ℕ) (result : Result View Reply) → (joy_started d j (after_queries client ring j.reading result)).1.picture ≡ asked_picture j.picture result
+asked-picture d j client ring (Ok view) = refl
+asked-picture d j client ring (Err reply) = refused-picture d j (record { client = client; queue = []; view = j.reading.view; phase = Needed; left = [] }) reply
+
+opened-shows : (d : Description) (h : List Step) (j : Joying) (o : Started × Reading) (reply : Reply) (calls : List Call) → ArePlaced d h calls → EndsWith (after_open d j.reading reply) calls o → joy_fold d (shown j.picture) (call_sight ToOpen reply ++ noted_sight calls) ≡ shown (joy_started d j o).1.picture
+unfolding joy_fold
+opened-shows d h j o (Opened at client ring) calls placed ends =
+    let next : Result View Reply → Talk (Started × Reading) = λ asked. finish (after_queries client ring j.reading asked) in
+    let p = and_then-parts (ask_each (queries d client) j.reading.view) next calls o ends in
+    let f = finish-only (after_queries client ring j.reading p.mid) o p.second p.second_ends in
+    let first : ArePlaced d h p.first = placed-left d h p.first p.second (subst (λ (cs : List Call). ArePlaced d h cs) p.whole placed) in
+    ap (λ (cs : List Call). joy_fold d (asked_on j.picture (queries d client)) (noted_sight cs)) (p.whole ∙ ap (λ (cs : List Call). p.first ++ cs) f.0 ∙ append-nil p.first)
+    ∙ ask-shows d h (queries d client) j.picture j.reading.view p.first p.mid (no_read-queries d client) first p.first_ends
+    ∙ ap (λ (q : PictureView). shown q) (sym (asked-picture d j client ring p.mid) ∙ ap (λ (q : Started × Reading). (joy_started d j q).1.picture) f.1)
+opened-shows d h j o (NothingVisible at n) calls placed ends =
+    let f = finish-only (start_stop_of (NothingVisible at n), j.reading) o calls ends in
+    ap (λ (cs : List Call). joy_fold d (shown j.picture) (noted_sight cs)) f.0
+    ∙ ap (λ (q : PictureView). shown q) (sym (refused-picture d j j.reading (NothingVisible at n)) ∙ ap (λ (q : Started × Reading). (joy_started d j q).1.picture) f.1)
+opened-shows d h j o reply calls placed ends =
+    let f = finish-only (start_stop_of reply, j.reading) o calls ends in
+    ap (λ (cs : List Call). joy_fold d (shown j.picture) (noted_sight cs)) f.0
+    ∙ ap (λ (q : PictureView). shown q) (sym (refused-picture d j j.reading reply) ∙ ap (λ (q : Started × Reading). (joy_started d j q).1.picture) f.1)
+
+reader_start-shows : (d : Description) (h : List Step) (j : Joying) (o : Started × Reading) (calls : List Call) → ArePlaced d h calls → EndsWith (start_talk d j.reading) calls o → joy_fold d (shown j.picture) (noted_sight calls) ≡ shown (joy_started d j o).1.picture
+unfolding LeadsTo start_talk
+reader_start-shows d h j o [] placed ends = absurd cc
+reader_start-shows d h j o (call ∷ calls) placed ends =
+    ap (λ (y : Step). joy_fold d (shown j.picture) (call_sight y call.answer.reply ++ noted_sight calls)) ends.0
+    ∙ opened-shows d h j o call.answer.reply calls placed.1 ends.1
+
+joy_start-shows : (d : Description) (h : List Step) (j : Joying) (o : Started × Joying) (calls : List Call) → ArePlaced d h calls → EndsWith (joy_start d j) calls o → joy_fold d (shown j.picture) (noted_sight calls) ≡ shown o.1.picture
+unfolding joy_start
+joy_start-shows d h j o calls placed ends =
+    let next : Started × Reading → Talk (Started × Joying) = λ q. finish (joy_started d j q) in
+    let p = and_then-parts (start_talk d j.reading) next calls o ends in
+    let f = finish-only (joy_started d j p.mid) o p.second p.second_ends in
+    let first : ArePlaced d h p.first = placed-left d h p.first p.second (subst (λ (cs : List Call). ArePlaced d h cs) p.whole placed) in
+    ap (λ (cs : List Call). joy_fold d (shown j.picture) (noted_sight cs)) (p.whole ∙ ap (λ (cs : List Call). p.first ++ cs) f.0 ∙ append-nil p.first)
+    ∙ reader_start-shows d h j p.mid p.first first p.first_ends
+    ∙ ap (λ (q : Started × Joying). shown q.1.picture) f.1
+
+-- A synchronisation
+
+-- one that was stopped leaves the picture, and with another one a startup begins
+abbrev synced_picture : PictureView → Option JoyRead → PictureView
+synced_picture p None = blank_picture
+synced_picture p (Some read) = p
+
+abbrev IsStopped : Option JoyRead → Type 0
+IsStopped None = ⊥
+IsStopped (Some read) = Unit {0}
+
+refused-stops : (at : ℕ) (why : Refusal) → IsStopped (stop_of (reader_stop (StepRefused at why)))
+refused-stops at RefusedNoDevice = tt
+refused-stops at LogFull = tt
+refused-stops at _ = tt
+
+reply-stops : (reply : Reply) → IsStopped (stop_of (reader_stop reply))
+reply-stops (NothingVisible at ends) = tt
+reply-stops (StepRefused at why) = refused-stops at why
+reply-stops _ = tt
+
+stopped-picture : (p : PictureView) (stop : Option JoyRead) → IsStopped stop → p ≡ synced_picture p stop
+stopped-picture p None h = absurd h
+stopped-picture p (Some read) h = refl
+
+synthesised-picture : (p : PictureView) (r : Reading) (left : List _) → blank_picture ≡ synced_picture p (stop_of (hand_synthesised r left).0)
+synthesised-picture p r [] = refl
+synthesised-picture p r (event ∷ left) = refl
+
+after_sync-shows : (d : Description) (p : PictureView) (r : Reading) (asked : Result View Reply) (calls : List Call) (o : Next × Reading) → EndsWith (go_on_after Synchronising r asked) calls o → (calls ≡ []) × (asked_picture p asked ≡ synced_picture p (stop_of o.0))
+after_sync-shows d p r (Ok view) calls o ends =
+    let s : Reading = after_full_sync r view in
+    let f = finish-only (handing s) o calls ends in
+    (f.0, synthesised-picture p s s.left ∙ ap (λ (q : Next × Reading). synced_picture p (stop_of q.0)) f.1)
+after_sync-shows d p r (Err reply) calls o ends =
+    let f = finish-only (reader_stop reply, after_failed_sync r) o calls ends in
+    (f.0, stopped-picture p (stop_of (reader_stop reply)) (reply-stops reply) ∙ ap (λ (q : Next × Reading). synced_picture p (stop_of q.0)) f.1)
+
+needed-shows : (d : Description) (h : List Step) (p : PictureView) (phase : Phase) (r : Reading) (calls : List Call) (o : Next × Reading) → is_needed phase ≡ true → ArePlaced d h calls → EndsWith (talk_in d Synchronising phase r) calls o → joy_fold d (shown p) (noted_sight calls) ≡ shown (synced_picture p (stop_of o.0))
+unfolding sync_talk
+needed-shows d h p Plain r calls o needed placed ends = absurd (true≢false (sym needed))
+needed-shows d h p Handing r calls o needed placed ends = absurd (true≢false (sym needed))
+needed-shows d h p Needed r calls o needed placed ends =
+    let q = and_then-parts (ask_each (Discard r.client ∷ queries d r.client) r.view) (go_on_after Synchronising r) calls o ends in
+    let first : ArePlaced d h q.first = placed-left d h q.first q.second (subst (λ (cs : List Call). ArePlaced d h cs) q.whole placed) in
+    let after = after_sync-shows d p r q.mid q.second o q.second_ends in
+    ap (λ (cs : List Call). joy_fold d (shown p) (noted_sight cs)) (q.whole ∙ ap (λ (cs : List Call). q.first ++ cs) after.0 ∙ append-nil q.first)
+    ∙ discard-shows d h r.client p r.view q.first q.mid first q.first_ends
+    ∙ ap (λ (w : PictureView). shown w) after.1
+
+-- Turns
+
+-- the record that a turn hands out, and what is kept then
+abbrev out_of : Turn → Option JoyRecord
+out_of (gives answer) = answer.record_out
+out_of (goes_on j) = None
+
+abbrev joying_after : Turn → Joying
+joying_after (gives answer) = answer.joying
+joying_after (goes_on j) = j
+
+-- these calls and the record behind them make the picture of what is kept
+abbrev Shows : Description → PictureView → List Sight → Turn → Type 0
+Shows d p sight t = joy_fold d (shown p) (sight ++ record_sight (out_of t)) ≡ shown (joying_after t).picture
+
+turn-same : (d : Description) (p : PictureView) (sight : List Sight) (t u : Turn) → t ≡ u → Shows d p sight t → Shows d p sight u
+turn-same d p sight t u e h = subst (λ (x : Turn). Shows d p sight x) e h
+
+-- no record is handed out
+bare : (d : Description) (p : PictureView) (sight : List Sight) (q : PictureView) → joy_fold d (shown p) sight ≡ shown q → joy_fold d (shown p) (sight ++ []) ≡ shown q
+bare d p sight q h = ap (λ (es : List Sight). joy_fold d (shown p) es) (append-nil sight) ∙ h
+
+stop_or_startup-shows : (d : Description) (sight : List Sight) (j : Joying) (stop : Option JoyRead) → joy_fold d (shown j.picture) sight ≡ shown (synced_picture j.picture stop) → Shows d j.picture sight (stop_or_startup j stop)
+stop_or_startup-shows d sight j None h = bare d j.picture sight blank_picture h
+stop_or_startup-shows d sight j (Some read) h = bare d j.picture sight j.picture h
+
+synchronises-shows : (d : Description) (h : List Step) (j : Joying) (calls : List Call) (t : Turn) → is_needed j.reading.phase ≡ true → ArePlaced d h calls → Synchronises d j calls t → Shows d j.picture (noted_sight calls) t
+synchronises-shows d h j calls t needed placed s =
+    turn-same d j.picture (noted_sight calls) (stop_or_startup (with_reading j s.reading) (stop_of s.next)) t s.comes_to
+    (stop_or_startup-shows d (noted_sight calls) (with_reading j s.reading) (stop_of s.next)
+    (needed-shows d h j.picture j.reading.phase j.reading calls (s.next, s.reading) needed placed s.talk_ends))
+
+-- a record that was handed out moves the picture
+record-shows : (d : Description) (p : PictureView) (r : JoyRecord) → FitsBytes r → joy_fold d (shown p) (Record (bytes_of r) ∷ []) ≡ shown (picture_after p r)
+unfolding joy_fold
+record-shows d p r fits = ap (λ (x : JoyRecord). shown (picture_after p x)) (record-back r fits)
+
+-- nothing but that record
+made-shows : (d : Description) (j : Joying) (o : Option JoyRecord) → FitsIf o → Shows d j.picture [] (record_or_on j o)
+unfolding joy_fold
+made-shows d j None fits = refl
+made-shows d j (Some r) fits = record-shows d j.picture r fits
+
+event-shows : (d : Description) (j : Joying) (event : Option Taken) → Shows d j.picture [] (event_or_on d j event)
+unfolding joy_fold
+event-shows d j None = refl
+event-shows d j (Some taken) = by_flag (is_report taken.event)
+  where
+    by_flag : (b : Bool) → Shows d j.picture [] (if b then gives (stop_with (Frame taken.place) j) else record_or_on j (record_of d j.picture taken))
+    by_flag true = refl
+    by_flag false = made-shows d j (record_of d j.picture taken) (event-fits d j.picture taken)
+
+after_next-shows : (d : Description) (j : Joying) (stop : Option JoyRead) (event : Option Taken) → Shows d j.picture [] (stop_or_event d j stop event)
+unfolding joy_fold
+after_next-shows d j None event = event-shows d j event
+after_next-shows d j (Some read) event = refl
+
+-- the calls of a read tell nothing of the picture
+read_entry : (d : Description) (p : PictureView) (client count : ℕ) (reply : Reply) (more : List Sight) → joy_fold d (shown p) (call_sight (ToRead client count) reply ++ more) ≡ joy_fold d (shown p) more
+unfolding joy_fold
+read_entry d p client count reply more = by_flag (is_again reply)
+  where
+    by_flag : (b : Bool) → joy_fold d (shown p) ((if b then [] else Called (ToRead client count) reply ∷ []) ++ more) ≡ joy_fold d (shown p) more
+    by_flag true = refl
+    by_flag false = refl
+
+queue-tells_nothing : (d : Description) (p : PictureView) (r : Reading) (queue : List Taken) (calls : List Call) (o : Next × Reading) (more : List Sight) → EndsWith (read_or_hand_out r queue) calls o → joy_fold d (shown p) (noted_sight calls ++ more) ≡ joy_fold d (shown p) more
+unfolding LeadsTo
+queue-tells_nothing d p r [] [] o more ends = absurd cc
+queue-tells_nothing d p r [] (call ∷ calls) o more ends =
+    let f = finish-only (after_reading r call.answer) o calls ends.1 in
+    ap (λ (cs : List Call). joy_fold d (shown p) ((call_sight call.step call.answer.reply ++ noted_sight cs) ++ more)) f.0
+    ∙ ap (λ (es : List Sight). joy_fold d (shown p) (es ++ more)) (append-nil (call_sight call.step call.answer.reply))
+    ∙ ap (λ (y : Step). joy_fold d (shown p) (call_sight y call.answer.reply ++ more)) ends.0
+    ∙ read_entry d p r.client 64 call.answer.reply more
+queue-tells_nothing d p r (taken ∷ rest) calls o more ends =
+    let f = finish-only (hand_out_event r taken rest) o calls ends in ap (λ (cs : List Call). joy_fold d (shown p) (noted_sight cs ++ more)) f.0
+
+read-tells_nothing : (d : Description) (p : PictureView) (r : Reading) (calls : List Call) (o : Next × Reading) (more : List Sight) → EndsWith (read_talk r) calls o → joy_fold d (shown p) (noted_sight calls ++ more) ≡ joy_fold d (shown p) more
+unfolding read_talk
+read-tells_nothing d p r calls o more ends = queue-tells_nothing d p r r.queue calls o more ends
+
+next-tells_nothing : (d : Description) (p : PictureView) (phase : Phase) (r : Reading) (calls : List Call) (o : Next × Reading) (more : List Sight) → is_needed phase ≡ false → EndsWith (talk_in d Normal phase r) calls o → joy_fold d (shown p) (noted_sight calls ++ more) ≡ joy_fold d (shown p) more
+next-tells_nothing d p Plain r calls o more plain ends = read-tells_nothing d p r calls o more ends
+next-tells_nothing d p Needed r calls o more plain ends = absurd (true≢false plain)
+next-tells_nothing d p Handing r calls o more plain ends = read-tells_nothing d p (as_plain r) calls o more ends
+
+turn-shows : (d : Description) (h : List Step) (j : Joying) (calls : List Call) (t : Turn) → ArePlaced d h calls → TurnCase d j calls t → Shows d j.picture (noted_sight calls) t
+turn-shows d h j calls t placed (of_startup r at none is) =
+    turn-same d j.picture (noted_sight calls) (gives (hand_out_record (next_in_startup j) r)) t is
+    (ap (λ (cs : List Call). joy_fold d (shown j.picture) (noted_sight cs ++ Record (bytes_of r) ∷ [])) none ∙ record-shows d j.picture r (startup-fits d j.reading.view j.handed r at))
+turn-shows d h j calls t placed (of_sync needed s) = synchronises-shows d h j calls t needed placed s
+turn-shows d h j calls t placed (of_loss first second next r plain whole ends lost s) =
+    let both : ArePlaced d h (first ++ second) = subst (λ (cs : List Call). ArePlaced d h cs) whole placed in
+    let out : List Sight = record_sight (out_of t) in
+    ap (λ (cs : List Call). joy_fold d (shown j.picture) (noted_sight cs ++ out)) whole
+    ∙ ap (λ (es : List Sight). joy_fold d (shown j.picture) (es ++ out)) (noted_sight-append first second)
+    ∙ ap (λ (es : List Sight). joy_fold d (shown j.picture) es) (append_assoc (noted_sight first) (noted_sight second) out)
+    ∙ next-tells_nothing d j.picture j.reading.phase j.reading first (next, r) (noted_sight second ++ out) plain ends
+    ∙ synchronises-shows d h (with_reading j r) second t (lost-needed d j.reading r first next plain ends lost) (placed-right d h first second both) s
+turn-shows d h j calls t placed (of_next next r plain ends kept is) =
+    next-tells_nothing d j.picture j.reading.phase j.reading calls (next, r) (record_sight (out_of t)) plain ends
+    ∙ turn-same d j.picture [] (after_next d (with_reading j r) next) t is (after_next-shows d (with_reading j r) (stop_of next) (event_of next))
+
+-- a turn that goes on
+on-shows : (d : Description) (h : List Step) (j k : Joying) (calls : List Call) → ArePlaced d h calls → EndsWith (turn_talk d j) calls (goes_on k) → joy_fold d (shown j.picture) (noted_sight calls) ≡ shown k.picture
+on-shows d h j k calls placed e = ap (λ (es : List Sight). joy_fold d (shown j.picture) es) (sym (append-nil (noted_sight calls))) ∙ turn-shows d h j calls (goes_on k) placed (turn-case d j calls (goes_on k) e)
+
+-- what holds of each read
+abbrev ReadShows : Description → List Step → Joying → List Call → JoyAnswer → Type 0
+ReadShows d h j calls answer = ArePlaced d h calls → joy_fold d (shown j.picture) (noted_sight calls ++ record_sight answer.record_out) ≡ shown answer.joying.picture
+
+more-shows : (d : Description) (h : List Step) (j k : Joying) (calls more : List Call) (answer : JoyAnswer) → EndsWith (turn_talk d j) calls (goes_on k) → ReadShows d h k more answer → ReadShows d h j (calls ++ more) answer
+more-shows d h j k calls more answer e rest placed =
+    let out : List Sight = record_sight answer.record_out in
+    ap (λ (es : List Sight). joy_fold d (shown j.picture) (es ++ out)) (noted_sight-append calls more)
+    ∙ ap (λ (es : List Sight). joy_fold d (shown j.picture) es) (append_assoc (noted_sight calls) (noted_sight more) out)
+    ∙ joy_fold-append d (shown j.picture) (noted_sight calls) (noted_sight more ++ out)
+    ∙ ap (λ (s : Showing). joy_fold d s (noted_sight more ++ out)) (on-shows d h j k calls (placed-left d h calls more placed) e)
+    ∙ rest (placed-right d h calls more placed)
+
+turns-shows : (d : Description) (h : List Step) (n count : ℕ) (j : Joying) (calls : List Call) (answer : JoyAnswer) → EndsWith (turns d n count j) calls (Some answer) → ReadShows d h j calls answer
+turns-shows d h n count j calls answer ends =
+    turns-all d (λ i cs a. ReadShows d h i cs a)
+    (λ i cs a e placed. turn-shows d h i cs (gives a) placed (turn-case d i cs (gives a) e))
+    (λ i k cs e placed. bare d i.picture (noted_sight cs) k.picture (on-shows d h i k cs placed e))
+    (λ i k cs more a e p. more-shows d h i k cs more a e p) n count j calls answer ends
+
+-- Lines
+
+abbrev pub IsShown : Description → Job → Type 0
+IsShown d j = joy_fold d blank_shown j.sight ≡ shown j.stick.picture
+
+shows-on : (d : Description) (j : Job) (more : List Sight) → IsShown d j → joy_fold d blank_shown (j.sight ++ more) ≡ joy_fold d (shown j.stick.picture) more
+shows-on d j more fold = joy_fold-append d blank_shown j.sight more ∙ ap (λ (s : Showing). joy_fold d s more) fold
+
+start_joystick-shows : (d : Description) (h : List Step) (j k : Job) (calls : List Call) → ArePlaced d h calls → EndsWith (start_joystick d j) calls (Some k) → IsShown d j → IsShown d k
+start_joystick-shows d h j k calls placed ends fold =
+    let s = starts d j k calls ends in
+    subst (λ (x : Job). IsShown d x) (sym s.is) (shows-on d j (noted_sight calls) fold ∙ joy_start-shows d h (joying_of j) (s.started, s.joying) calls placed s.talk_ends)
+
+same-shown : (d : Description) (j k : Job) (calls : List Call) → EndsWith (finish (Some j)) calls (Some k) → IsShown d j → IsShown d k
+same-shown d j k calls ends fold =
+    let f = finish-only (Some j) (Some k) calls ends in
+    let same : j ≡ k = (let e = f.1 in cc) in subst (λ (y : Job). IsShown d y) same fold
+
+reach-shown : (d : Description) (left reach : Reach) (calls : List Call) → EndsWith (finish (Some left)) calls (Some reach) → IsShown d (job_of_reach left) → IsShown d (job_of_reach reach)
+reach-shown d left reach calls ends fold =
+    let f = finish-only (Some left) (Some reach) calls ends in
+    let same : left ≡ reach = (let e = f.1 in cc) in subst (λ (y : Reach). IsShown d (job_of_reach y)) same fold
+
+-- an answer Again tells nothing of the picture
+again-shown : (d : Description) (j : Job) (at ends : ℕ) → IsShown d j → IsShown d (with_sight j (AgainSight at ends))
+unfolding joy_fold
+again-shown d j at ends fold = shows-on d j (AgainSight at ends ∷ []) fold
+
+answer-shown : (d : Description) (go_on : Job → Talk (Option Reach)) (read : JoyRead) (j : Job) (reach : Reach) (calls : List Call) → ((k : Job) → EndsWith (go_on k) calls (Some reach) → IsShown d k → IsShown d (job_of_reach reach)) → EndsWith (after_read go_on read j) calls (Some reach) → IsShown d j → IsShown d (job_of_reach reach)
+answer-shown d go_on HandedOut j reach calls more ends fold = reach-shown d (handed_out j) reach calls ends fold
+answer-shown d go_on (Frame place) j reach calls more ends fold = more j ends fold
+answer-shown d go_on More j reach calls more ends fold = more j ends fold
+answer-shown d go_on (Again at n) j reach calls more ends fold = reach-shown d (line_ends (with_sight j (AgainSight at n))) reach calls ends (again-shown d j at n fold)
+answer-shown d go_on NoDevice j reach calls more ends fold = reach-shown d (line_ends j) reach calls ends fold
+answer-shown d go_on Closed j reach calls more ends fold = reach-shown d (line_ends j) reach calls ends fold
+answer-shown d go_on (Full at) j reach calls more ends fold = reach-shown d (line_ends (with_stop j (FullHistory at))) reach calls ends fold
+
+read_on-shown : (d : Description) (h : List Step) (most n : ℕ) (j : Job) (reach : Reach) (calls : List Call) → ArePlaced d h calls → EndsWith (read_on d most n j) calls (Some reach) → IsShown d j → IsShown d (job_of_reach reach)
+unfolding read_on
+read_on-shown d h most zero j reach calls placed ends fold = let f = finish-only None (Some reach) calls ends in absurd cc
+read_on-shown d h most (suc n) j reach calls placed ends fold =
+    let talk : Talk (Option JoyAnswer × List Sight) = noted (turns d most 0 (joying_of j)) j.sight in
+    let p = and_then-parts talk (λ o. after_turns (read_on d most n) j o.0 o.1) calls (Some reach) ends in
+    let b = noted-back (turns d most 0 (joying_of j)) j.sight p.first p.mid p.first_ends in
+    let both : ArePlaced d h (p.first ++ p.second) = subst (λ (cs : List Call). ArePlaced d h cs) p.whole placed in
+    by_answer p.mid.0 p.mid.1 p.first p.second b.0 b.1 (placed-left d h p.first p.second both)
+    (λ k e w. read_on-shown d h most n k reach p.second (placed-right d h p.first p.second both) e w) p.second_ends
+  where
+    by_answer : (o : Option JoyAnswer) (sight : List Sight) (first second : List Call) → EndsWith (turns d most 0 (joying_of j)) first o → sight ≡ j.sight ++ noted_sight first → ArePlaced d h first
+        → ((k : Job) → EndsWith (read_on d most n k) second (Some reach) → IsShown d k → IsShown d (job_of_reach reach)) → EndsWith (after_turns (read_on d most n) j o sight) second (Some reach) → IsShown d (job_of_reach reach)
+    by_answer None sight first second e seen there more k = let f = finish-only None (Some reach) second k in absurd cc
+    by_answer (Some answer) sight first second e seen there more k =
+        let out : List Sight = record_sight answer.record_out in
+        let told : joy_fold d blank_shown (sight ++ out) ≡ shown answer.joying.picture =
+        ap (λ (es : List Sight). joy_fold d blank_shown (es ++ out)) seen
+        ∙ ap (λ (es : List Sight). joy_fold d blank_shown es) (append_assoc j.sight (noted_sight first) out)
+        ∙ shows-on d j (noted_sight first ++ out) fold
+        ∙ turns-shows d h most 0 (joying_of j) first answer e there in
+        answer-shown d (read_on d most n) answer.read (after_joy_answer j answer sight) reach second more k told
+
+read_records-shown : (d : Description) (h : List Step) (n count : ℕ) (j k : Job) (calls : List Call) → ArePlaced d h calls → EndsWith (read_records d n count j) calls (Some k) → IsShown d j → IsShown d k
+unfolding read_records
+read_records-shown d h n zero j k calls placed ends fold = same-shown d j k calls ends fold
+read_records-shown d h n (suc count) j k calls placed ends fold =
+    let p = and_then-parts (read_on d n n j) (on_reach (read_records d n count)) calls (Some k) ends in
+    let both : ArePlaced d h (p.first ++ p.second) = subst (λ (cs : List Call). ArePlaced d h cs) p.whole placed in
+    by_reach p.mid p.first p.second p.first_ends (placed-left d h p.first p.second both)
+    (λ i e w. read_records-shown d h n count i k p.second (placed-right d h p.first p.second both) e w) p.second_ends
+  where
+    by_reach : (o : Option Reach) (first second : List Call) → EndsWith (read_on d n n j) first o → ArePlaced d h first → ((i : Job) → EndsWith (read_records d n count i) second (Some k) → IsShown d i → IsShown d k) → EndsWith (on_reach (read_records d n count) o) second (Some k) → IsShown d k
+    by_reach None first second e there more w = let f = finish-only None (Some k) second w in absurd cc
+    by_reach (Some (handed_out i)) first second e there more w = more i w (read_on-shown d h n n j (handed_out i) first there e fold)
+    by_reach (Some (line_ends i)) first second e there more w = same-shown d i k second w (read_on-shown d h n n j (line_ends i) first there e fold)
+
+-- a close tells nothing of the picture, nor do the events that a call read
+taken-shown : (d : Description) (s : Showing) (events : List Taken) → joy_fold d s (map taken_sight events) ≡ s
+unfolding joy_fold
+taken-shown d s [] = refl
+taken-shown d s (taken ∷ events) = taken-shown d s events
+
+close_entry : (d : Description) (p : PictureView) (client : ℕ) (reply : Reply) (events : List Taken) → joy_fold d (shown p) (sight_of_call (ToClose client) reply events) ≡ shown p
+unfolding joy_fold
+close_entry d p client reply events =
+    let front : List Sight = call_sight (ToClose client) reply ++ again_sight reply in
+    joy_fold-append d (shown p) front (map taken_sight events)
+    ∙ ap (λ (s : Showing). joy_fold d s (map taken_sight events))
+    (joy_fold-append d (shown p) (call_sight (ToClose client) reply) (again_sight reply) ∙ ap (λ (s : Showing). joy_fold d s (again_sight reply)) (by_flag (is_again reply)) ∙ again reply)
+    ∙ taken-shown d (shown p) events
+  where
+    by_flag : (b : Bool) → joy_fold d (shown p) (if b then [] else Called (ToClose client) reply ∷ []) ≡ shown p
+    by_flag true = refl
+    by_flag false = refl
+
+    again : (r : Reply) → joy_fold d (shown p) (again_sight r) ≡ shown p
+    again (NothingVisible at n) = refl
+    again _ = refl
+
+close-shown : (d : Description) (j k : Job) (client : ℕ) (calls : List Call) → EndsWith (call_talk j (ToClose client)) calls (Some k) → IsShown d j → IsShown d k
+unfolding LeadsTo
+close-shown d j k client [] ends fold = absurd cc
+close-shown d j k client (call ∷ calls) ends fold =
+    let left : Job = after_call j (ToClose client) call.answer in
+    let f = finish-only (Some left) (Some k) calls ends.1 in
+    let same : left ≡ k = (let e = f.1 in cc) in
+    subst (λ (y : Job). IsShown d y) same (shows-on d j (sight_of_call (ToClose client) call.answer.reply call.answer.events) fold ∙ close_entry d j.stick.picture client call.answer.reply call.answer.events)
+
+-- a joystick's line
+pub joystick-folds : (d : Description) (h : List Step) (n : ℕ) (command : Command) (j k : Job) (calls : List Call) → is_command_of Joy command ≡ true → ArePlaced d h calls → EndsWith (joystick_talk d n command j) calls (Some k) → IsShown d j → IsShown d k
+joystick-folds d h n Open j k calls of_role placed ends fold = start_joystick-shows d h j k calls placed ends fold
+joystick-folds d h n (Read count) j k calls of_role placed ends fold = read_records-shown d h n count j k calls placed ends fold
+joystick-folds d h n Close j k calls of_role placed ends fold = close-shown d j k j.reading.client calls ends fold
+joystick-folds d h n command j k calls of_role placed ends fold = absurd cc

@@ -1,0 +1,91 @@
+-- Where a joystick client answers Again, its last call was answered so.
+use Rattle.std.proofs.Common.{◌≡◌, ℕ, Bool, true, false, if◌then◌else◌, List, ◌++◌, Option, Some, None, refl, sym, subst}
+use Rattle.inp_model.specs.declared.reply.Reply.TheVariants.{Again as NothingVisible}
+use Rattle.inp_model.specs.declared.taken.Taken.{Taken}
+use Rattle.inp_model.specs.Description.{Description}
+use Rattle.inp_model.specs.Event.{is_report}
+use Rattle.inp_model.specs.Run.{Call}
+use Rattle.inp_joy.specs.declared.joy_read.JoyRead.{JoyRead}
+use Rattle.inp_joy.specs.declared.joy_read.JoyRead.TheVariants.{Frame, Again, NoDevice, Closed, Full}
+use Rattle.inp_joy.specs.declared.joy_record.JoyRecord.{JoyRecord}
+use Rattle.inp_joy.specs.Joying.{Joying, JoyAnswer, Turn, gives, goes_on, stop_with, stop_of, event_of, record_of, record_or_on, event_or_on, stop_or_event, after_next, stop_or_startup, turns, with_reading}
+use Rattle.inp_joy.proofs.TurnCases.{Synchronises, TurnCase, of_startup, of_sync, of_loss, of_next, turn-case, turns-all}
+use Rattle.inp_reader.specs.declared.mode.Mode.TheVariants.{Normal, Sync as Synchronising}
+use Rattle.inp_reader.specs.declared.next.Next.{Next}
+use Rattle.inp_reader.specs.declared.next.Next.TheVariants.{Success, Dropped, Sync, Again as ReaderAgain, Synced, NoDevice as Revoked, Closed as NotOpen, Full as FullHistory}
+use Rattle.inp_reader.specs.Reading.{next_talk}
+use Rattle.inp_reader.specs.Talk.{EndsWith}
+use Rattle.inp_script.proofs.LastAgain.{EndsIn, ends_in-behind, next-last}
+
+-- where a read answers Again, so was the last of its calls
+abbrev pub LastIsAgain : List Call → JoyRead → Type 0
+LastIsAgain calls (Again at ends) = EndsIn calls (NothingVisible at ends)
+LastIsAgain calls _ = Unit {0}
+
+abbrev TurnLastIsAgain : List Call → Turn → Type 0
+TurnLastIsAgain calls (gives answer) = LastIsAgain calls answer.read
+TurnLastIsAgain calls (goes_on j) = Unit {0}
+
+turn-same : (calls : List Call) (t u : Turn) → t ≡ u → TurnLastIsAgain calls t → TurnLastIsAgain calls u
+turn-same calls t u e h = subst (λ (x : Turn). TurnLastIsAgain calls x) e h
+
+last-behind : (first second : List Call) (read : JoyRead) → LastIsAgain second read → LastIsAgain (first ++ second) read
+last-behind first second (Again at ends) h = ends_in-behind first second (NothingVisible at ends) h
+last-behind first second _ h = tt
+
+turn-behind : (first second : List Call) (t : Turn) → TurnLastIsAgain second t → TurnLastIsAgain (first ++ second) t
+turn-behind first second (gives answer) h = last-behind first second answer.read h
+turn-behind first second (goes_on j) h = tt
+
+-- an answer of the reader that is one of the read
+stopped-last : (calls : List Call) (next : Next) (read : JoyRead) → ((at ends : ℕ) → next ≡ ReaderAgain at ends → EndsIn calls (NothingVisible at ends)) → stop_of next ≡ Some read → LastIsAgain calls read
+stopped-last calls (ReaderAgain at ends) read last h = let e : Again at ends ≡ read = cc in subst (λ (x : JoyRead). LastIsAgain calls x) e (last at ends refl)
+stopped-last calls Revoked read last h = let e : NoDevice ≡ read = cc in subst (λ (x : JoyRead). LastIsAgain calls x) e tt
+stopped-last calls NotOpen read last h = let e : Closed ≡ read = cc in subst (λ (x : JoyRead). LastIsAgain calls x) e tt
+stopped-last calls (FullHistory at) read last h = let e : Full at ≡ read = cc in subst (λ (x : JoyRead). LastIsAgain calls x) e tt
+stopped-last calls (Success taken) read last h = absurd cc
+stopped-last calls (Dropped taken) read last h = absurd cc
+stopped-last calls (Sync event) read last h = absurd cc
+stopped-last calls Synced read last h = absurd cc
+
+sync-last : (calls : List Call) (j : Joying) (next : Next) (stop : Option JoyRead) → stop_of next ≡ stop → ((at ends : ℕ) → next ≡ ReaderAgain at ends → EndsIn calls (NothingVisible at ends)) → TurnLastIsAgain calls (stop_or_startup j stop)
+sync-last calls j next None is last = tt
+sync-last calls j next (Some read) is last = stopped-last calls next read last is
+
+synchronises-last : (d : Description) (j : Joying) (calls : List Call) (t : Turn) → Synchronises d j calls t → TurnLastIsAgain calls t
+synchronises-last d j calls t s =
+    turn-same calls (stop_or_startup (with_reading j s.reading) (stop_of s.next)) t s.comes_to
+    (sync-last calls (with_reading j s.reading) s.next (stop_of s.next) refl
+    (λ at ends e. next-last d Synchronising j.reading s.reading calls at ends (subst (λ (n : Next). EndsWith (next_talk d Synchronising j.reading) calls (n, s.reading)) e s.talk_ends)))
+
+made-last : (calls : List Call) (j : Joying) (o : Option JoyRecord) → TurnLastIsAgain calls (record_or_on j o)
+made-last calls j None = tt
+made-last calls j (Some r) = tt
+
+event-last : (d : Description) (calls : List Call) (j : Joying) (event : Option Taken) → TurnLastIsAgain calls (event_or_on d j event)
+event-last d calls j None = tt
+event-last d calls j (Some taken) = by_flag (is_report taken.event)
+  where
+    by_flag : (b : Bool) → TurnLastIsAgain calls (if b then gives (stop_with (Frame taken.place) j) else record_or_on j (record_of d j.picture taken))
+    by_flag true = tt
+    by_flag false = made-last calls j (record_of d j.picture taken)
+
+after_next-last : (d : Description) (calls : List Call) (j : Joying) (next : Next) (stop : Option JoyRead) → stop_of next ≡ stop → ((at ends : ℕ) → next ≡ ReaderAgain at ends → EndsIn calls (NothingVisible at ends)) → TurnLastIsAgain calls (stop_or_event d j stop (event_of next))
+after_next-last d calls j next None is last = event-last d calls j (event_of next)
+after_next-last d calls j next (Some read) is last = stopped-last calls next read last is
+
+turn-last : (d : Description) (j : Joying) (calls : List Call) (t : Turn) → TurnCase d j calls t → TurnLastIsAgain calls t
+turn-last d j calls t (of_startup r at none is) = turn-same calls _ t is tt
+turn-last d j calls t (of_sync needed s) = synchronises-last d j calls t s
+turn-last d j calls t (of_loss first second next r plain whole h lost s) = subst (λ (cs : List Call). TurnLastIsAgain cs t) (sym whole) (turn-behind first second t (synchronises-last d (with_reading j r) second t s))
+turn-last d j calls t (of_next next r plain h kept is) =
+    turn-same calls (after_next d (with_reading j r) next) t is
+    (after_next-last d calls (with_reading j r) next (stop_of next) refl
+    (λ at ends e. next-last d Normal j.reading r calls at ends (subst (λ (n : Next). EndsWith (next_talk d Normal j.reading) calls (n, r)) e h)))
+
+pub turns-last : (d : Description) (n count : ℕ) (j : Joying) (calls : List Call) (answer : JoyAnswer) → EndsWith (turns d n count j) calls (Some answer) → LastIsAgain calls answer.read
+turns-last d n count j calls answer h =
+    turns-all d (λ i cs a. LastIsAgain cs a.read)
+    (λ i cs a e. turn-last d i cs (gives a) (turn-case d i cs (gives a) e))
+    (λ i k cs e. tt)
+    (λ i k cs more a e p. last-behind cs more a.read p) n count j calls answer h

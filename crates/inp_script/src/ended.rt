@@ -1,0 +1,12 @@
+//! What comes of an actor.
+
+use crate::{JobEnd, JoyEnd};
+
+/// What comes of an actor when its lines are done.
+#[derive(Drop)]
+pub enum Ended {
+    /// Of a source, a client or a tap.
+    Job { end: JobEnd },
+    /// Of a joystick.
+    Joy { end: JoyEnd },
+}
