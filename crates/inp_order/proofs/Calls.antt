@@ -42,6 +42,21 @@ unfolding talk_with calls_with
 talk_with-exact d past (finish a) = refl
 talk_with-exact d past (ask x rest) = (refl, talk_with-exact d (past_after (answer d past x).reply x past) (rest (answer d past x)))
 
+-- the calls that a device answered say what a talk with it leaves
+pub exact-talk : {A : Type 0} (d : Description) (past after : List Step) (talk : Talk A) (calls : List Call) (result : A) → EndsWith talk calls result → AreExact d past after calls → talk_with d past talk ≡ (result, after)
+unfolding LeadsTo talk_with
+exact-talk d past after (finish a) [] result ends exact =
+    let same : a ≡ result = cc in
+    ap (λ (x : _). (x, past)) same ∙ ap (λ (p : List Step). (result, p)) (sym exact)
+exact-talk d past after (finish a) (call ∷ calls) result ends exact = absurd ends
+exact-talk d past after (ask x rest) [] result ends exact = absurd (cc ends)
+exact-talk {A} d past after (ask x rest) (call ∷ calls) result ends exact =
+    let same : call.answer ≡ answer d past x = exact.0 ∙ ap (answer d past) ends.0 in
+    let more : talk_with d (past_after call.answer.reply call.step past) (rest call.answer) ≡ (result, after) =
+    exact-talk d (past_after call.answer.reply call.step past) after (rest call.answer) calls result ends.1 exact.1 in
+    subst (λ (a : Answer). talk_with d (past_after a.reply x past) (rest a) ≡ (result, after)) same
+    (subst (λ (y : Step). talk_with d (past_after call.answer.reply y past) (rest call.answer) ≡ (result, after)) ends.0 more)
+
 -- the place of an answer
 pub answer-place : (d : Description) (past : List Step) (x : Step) → place_of (answer d past x).reply ≡ length past
 answer-place d past x = given_place d past x (answer d past x) (inl refl)

@@ -1,9 +1,9 @@
 -- What comes of a record keeps what is promised.
-use Rattle.std.proofs.Common.{◌≡◌, ℕ, zero, suc, ◌+◌, ◌<◌, Bool, true, false, if◌then◌else◌, List, [], ◌∷◌, length, map, reverse, refl, sym, ap, subst, ◌∙◌, arith, Option, Some, None}
+use Rattle.std.proofs.Common.{◌≡◌, ℕ, zero, suc, ◌+◌, ◌*◌, ◌<◌, Bool, true, false, if◌then◌else◌, List, [], ◌∷◌, length, map, reverse, refl, sym, ap, subst, ◌∙◌, arith, Option, Some, None}
 use Rattle.std.specs.Prelude.{filter, slice_get, option_map, Result, Ok, Err, IfOk}
-use Rattle.std.specs.List.{enumerate_from, range_with_len}
+use Rattle.std.specs.List.{enumerate_from, range_with_len, sum_by}
 use Rattle.std.proofs.lemmas.Bool.Decides.{nat_tests}
-use Rattle.std.proofs.lemmas.List.{length-map, length-reverse}
+use Rattle.std.proofs.lemmas.List.{length-map, length-reverse, map-id}
 use Rattle.std.proofs.lemmas.List.FromFn.{length-enumerate_from}
 use Rattle.std.proofs.lemmas.Option.{get_or_from_slice_get, same_Some, slice_get-map}
 use Rattle.inp_model.specs.declared.step.Step.{Step}
@@ -11,20 +11,25 @@ use Rattle.inp_model.specs.Description.{Description}
 use Rattle.inp_caps.specs.Builder.{syn_alone}
 use Rattle.inp_actors.specs.declared.actor_text.ActorText.{ActorText}
 use Rattle.inp_actors.specs.declared.device_text.DeviceText.{DeviceText}
+use Rattle.inp_actors.specs.declared.role.Role.{Role}
+use Rattle.inp_actors.specs.declared.role.Role.TheVariants.{Source, Client, Tap, Joy}
 use Rattle.inp_actors.specs.Record.{RecordView, IsRecord}
 use Rattle.inp_model.specs.History.{IsHistory}
 use Rattle.inp_recon.specs.View.{IsSizedFor}
 use Rattle.inp_recon.proofs.Sizes.{IsSizedFor-first_view}
 use Rattle.inp_reader.specs.Talk.{LeadsTo}
-use Rattle.inp_script.specs.declared.run.Run.{Run}
-use Rattle.inp_script.specs.Job.{ActorView, JobView, job_end}
+use Rattle.inp_script.specs.declared.run.DeviceRun.{DeviceRun}
+use Rattle.inp_script.specs.declared.run.Played.{Played}
+use Rattle.inp_script.specs.Ended.{HasCells, ended_as, played_of}
+use Rattle.inp_script.specs.Job.{ActorView}
 use Rattle.inp_script.specs.Runs.{is_on_device}
-use Rattle.inp_runs.specs.Done.{IsDeviceDone, IsRunAsPromised}
+use Rattle.inp_runs.specs.Done.{IsDeviceDone, IsRunAsPromised, calls_at}
 use Rattle.inp_runs.specs.Job.{lines_talk, AreDescribed, ArePromised}
 use Rattle.inp_order.specs.Play.{Stage, description_at, first_actor, first_stage, after_lines, jobs_on, run_of, runs_of, play, IsPlay}
-use Rattle.inp_runs.proofs.Done.{all-promised, device-promised, sum-ends}
+use Rattle.inp_runs.proofs.Done.{device-promised}
 use Rattle.inp_runs.proofs.Listing.{option_map-some, slice_get-filter, slice_get-numbered, map-filter, sum_by-kept, sum_by-none, eq_same}
 use Rattle.inp_runs.proofs.Entries.{entries, below}
+use Rattle.inp_runs.proofs.Played.{all-promised}
 use Rattle.inp_order.proofs.Stages.{IsSoFar, IsStage, weight, number_is, stages}
 
 -- Before the first line
@@ -86,12 +91,12 @@ first-stage r rounds = record {
 -- When all lines are done
 
 -- what came of the device of this number
-record IsRunAt (r : RecordView) (stage : Stage) (i : ℕ) (run : Run) : Type 0 where
+record IsRunAt (r : RecordView) (stage : Stage) (i : ℕ) (run : DeviceRun) : Type 0 where
   past : List Step
   is_past : slice_get stage.pasts i ≡ Some past
   same : run_of r stage (i, past) ≡ run
 
-run_at : (r : RecordView) (stage : Stage) (i : ℕ) (run : Run) → slice_get (runs_of r stage) i ≡ Some run → IsRunAt r stage i run
+run_at : (r : RecordView) (stage : Stage) (i : ℕ) (run : DeviceRun) → slice_get (runs_of r stage) i ≡ Some run → IsRunAt r stage i run
 run_at r stage i run h =
     let numbered : slice_get (enumerate_from 0 stage.pasts) i ≡ option_map (λ (p : List Step). (0 + i, p)) (slice_get stage.pasts i) = slice_get-numbered 0 stage.pasts i in
     let image = option_map-some (run_of r stage) (slice_get (enumerate_from 0 stage.pasts) i) run (sym (slice_get-map (run_of r stage) (enumerate_from 0 stage.pasts) i) ∙ h) in
@@ -122,6 +127,13 @@ on_this device o text h is = eq_same text.device device (sym (ap (λ (x : Option
 below_one : (place n : ℕ) → place < n → below place n ≡ 1
 below_one place n h = grind (arith, nat_tests, h)
 
+-- of an actor whose view has the device's slots
+ended_cells : (d : Description) (role : Role) (a : ActorView) → length a.job.reading.view.cells ≡ 14 * d.slots → HasCells d (ended_as role a)
+ended_cells d Joy a cells = tt
+ended_cells d Source a cells = cells
+ended_cells d Client a cells = cells
+ended_cells d Tap a cells = cells
+
 -- the actors of a device did all their lines, each accepted call at a place of its own
 device_done : (r : RecordView) (rounds : ℕ) (stage : Stage) (i : ℕ) (device : DeviceText) (past : List Step) → IsStage r rounds r.lines stage → slice_get r.devices i ≡ Some device → slice_get stage.pasts i ≡ Some past → IsDeviceDone None r i device.caps (reverse past) (jobs_on r stage.actors i)
 device_done r rounds stage i device past s is_device is_past =
@@ -134,31 +146,38 @@ device_done r rounds stage i device past s is_device is_past =
           let here : slice_get stage.actors a.actor ≡ Some a = ap (λ (n : ℕ). slice_get stage.actors n) (number_is r rounds r.lines stage at.index a s at.is) ∙ at.is in
           let far : IsSoFar r rounds r.lines device.caps text.role past a = so_far_on r rounds stage i device past a text s is_device is_past here is_text (on_this i (slice_get r.actors a.actor) text at.passes is_text) in
           let sized : IsSizedFor device.caps.slots a.job.reading.view = far.sized in
-          record { calls = far.calls; legal = far.legal; rounds = rounds; follows = far.follows; cells = sized.cells };
+          record {
+            calls = far.calls;
+            legal = far.legal;
+            rounds = rounds;
+            follows = far.follows;
+            is_role = far.role_is;
+            cells = ended_cells device.caps a.role a sized.cells;
+          };
       once = λ place within.
-          sym (sum-ends place (jobs_on r stage.actors i))
-          ∙ sum_by-kept (λ (job : JobView). entries place job.sight) job_end (λ (a : ActorView). on a.actor) stage.actors
+          ap (sum_by (calls_at place)) (sym (map-id (jobs_on r stage.actors i)))
+          ∙ sum_by-kept (calls_at place) (λ (a : ActorView). a) (λ (a : ActorView). on a.actor) stage.actors
           ∙ s.once i past place is_past
           ∙ below_one place (length past) (omega (arith, within, length-reverse past));
     }
 
-stage_promised : (r : RecordView) (rounds : ℕ) (stage : Stage) → IsRecord r → AreDescribed r → IsStage r rounds r.lines stage → ArePromised None r (runs_of r stage)
+stage_promised : (r : RecordView) (rounds : ℕ) (stage : Stage) → IsRecord r → AreDescribed r → IsStage r rounds r.lines stage → ArePromised None r (played_of (runs_of r stage))
 stage_promised r rounds stage is_record described s =
     all-promised None r (runs_of r stage) (length-map (enumerate_from 0 stage.pasts) (run_of r stage) ∙ length-enumerate_from 0 stage.pasts ∙ s.devices)
     (λ i device run is_device is_run.
     let at : IsRunAt r stage i run = run_at r stage i run is_run in
-    subst (λ (x : Run). IsRunAsPromised None r i device x) at.same
+    subst (λ (x : DeviceRun). IsRunAsPromised None r i device x) at.same
     (device-promised None r i device (reverse at.past) (jobs_on r stage.actors i) is_record (described i device is_device) (device_done r rounds stage i device at.past s is_device at.is_past)))
 
 -- what comes of a record whose lines are done in file order is promised
-pub play-promised : (r : RecordView) (runs : List Run) → IsRecord r → AreDescribed r → IsPlay r runs → ArePromised None r runs
+pub play-promised : (r : RecordView) (played : Played) → IsRecord r → AreDescribed r → IsPlay r played → ArePromised None r played
 unfolding play
-play-promised r runs is_record described p =
-    let image = option_map-some (runs_of r) (after_lines r p.rounds (first_stage r) r.lines) runs p.plays in
+play-promised r played is_record described p =
+    let image = option_map-some (λ (stage : Stage). played_of (runs_of r stage)) (after_lines r p.rounds (first_stage r) r.lines) played p.plays in
     let last : IsStage r p.rounds r.lines image.from = stages r p.rounds [] r.lines (first_stage r) image.from (first-stage r p.rounds) image.is in
-    subst (λ (rs : List Run). ArePromised None r rs) image.same (stage_promised r p.rounds image.from is_record described last)
+    subst (λ (x : Played). ArePromised None r x) image.same (stage_promised r p.rounds image.from is_record described last)
 
 -- the same where memory may have run out
-pub promised-if_ok : {E : Type 0} (r : RecordView) (result : Result (List Run) E) → IsRecord r → AreDescribed r → IfOk result (IsPlay r) → IfOk result (ArePromised None r)
-promised-if_ok r (Ok runs) is_record described p = play-promised r runs is_record described p
+pub promised-if_ok : {E : Type 0} (r : RecordView) (result : Result Played E) → IsRecord r → AreDescribed r → IfOk result (IsPlay r) → IfOk result (ArePromised None r)
+promised-if_ok r (Ok played) is_record described p = play-promised r played is_record described p
 promised-if_ok r (Err e) is_record described p = p

@@ -38,7 +38,7 @@ pub record IsSoFar (r : RecordView) (rounds : ℕ) (lines : List Line) (d : Desc
   pub legal : IsLegalRun d (reverse past) calls
   pub memory : list_any lacks_memory calls ≡ false
   pub told : entries_of calls ≡ filter is_call_entry a.job.sight
-  pub follows : EndsWith (lines_talk role d r.streams None rounds (lines_by a.actor lines) (first_job d)) calls (Some a.job)
+  pub follows : EndsWith (lines_talk role d r.streams None rounds (lines_by a.actor lines) (first_job role d)) calls (Some a.job)
   pub sized : IsSizedFor d.slots a.job.reading.view
 
 -- how many accepted calls at this place an actor's sight tells of, where it is one of this device
@@ -93,8 +93,8 @@ so_far-more r rounds lines line d role past after a job calls s own ends exact h
       legal = exact-legal d past after s.calls calls exact_here history s.legal;
       memory = memory-append s.calls calls s.memory (exact-memory d past after calls exact_here);
       told = entries_of-append s.calls calls ∙ ap (λ es. es ++ entries_of calls) s.told ∙ sym kept_here.1;
-      follows = subst (λ (ls : List Line). EndsWith (lines_talk role d r.streams None rounds ls (first_job d)) (s.calls ++ calls) (Some job)) (sym (lines_by-more a.actor lines line (eq_true line.actor a.actor own)))
-          (lines_talk-more role d r.streams rounds (lines_by a.actor lines) line (first_job d) a.job job s.calls calls s.follows ends_here);
+      follows = subst (λ (ls : List Line). EndsWith (lines_talk role d r.streams None rounds ls (first_job role d)) (s.calls ++ calls) (Some job)) (sym (lines_by-more a.actor lines line (eq_true line.actor a.actor own)))
+          (lines_talk-more role d r.streams rounds (lines_by a.actor lines) line (first_job role d) a.job job s.calls calls s.follows ends_here);
       sized = kept_here.0;
     }
 
@@ -108,7 +108,7 @@ so_far-other r rounds lines line d role past after a s other grows = record {
   legal = legal-longer d (reverse past) (reverse after) 0 s.calls grows s.legal;
   memory = s.memory;
   told = s.told;
-  follows = subst (λ (ls : List Line). EndsWith (lines_talk role d r.streams None rounds ls (first_job d)) s.calls (Some a.job)) (sym (lines_by-other a.actor lines line (eq_false line.actor a.actor other))) s.follows;
+  follows = subst (λ (ls : List Line). EndsWith (lines_talk role d r.streams None rounds ls (first_job role d)) s.calls (Some a.job)) (sym (lines_by-other a.actor lines line (eq_false line.actor a.actor other))) s.follows;
   sized = s.sized;
 }
 

@@ -1,5 +1,5 @@
 -- What comes of a record whose lines are done in file order, each device answering on one list of steps
--- (docs/RULES.md, "Playing a record").
+-- (docs/READER.md, "Playing a record").
 use Rattle.std.specs.Prelude.{◌≡◌, ℕ, List, [], ◌∷◌, map, filter, reverse, slice_get, slice_set, slice_index_or, Option, Some, None, option_map, option_and_then}
 use Rattle.std.specs.List.{enumerate_from}
 use Rattle.inp_model.specs.declared.step.Step.{Step}
@@ -10,9 +10,11 @@ use Rattle.inp_actors.specs.declared.actor_text.ActorText.{ActorText}
 use Rattle.inp_actors.specs.declared.line.Line.{Line}
 use Rattle.inp_actors.specs.Record.{RecordView}
 use Rattle.inp_reader.specs.Talk.{Talk, finish, ask}
-use Rattle.inp_script.specs.declared.run.Run.{Run}
+use Rattle.inp_script.specs.declared.run.DeviceRun.{DeviceRun}
+use Rattle.inp_script.specs.declared.run.Played.{Played}
 use Rattle.inp_script.specs.Doing.{line_talk}
-use Rattle.inp_script.specs.Job.{Job, ActorView, first_job, job_end}
+use Rattle.inp_script.specs.Job.{Job, ActorView, first_job}
+use Rattle.inp_script.specs.Ended.{ended_of, device_run, played_of}
 use Rattle.inp_script.specs.Runs.{is_on_device}
 
 -- what stands between two lines
@@ -37,7 +39,7 @@ first_actor r numbered = record {
   actor = numbered.0;
   role = numbered.1.role;
   description = description_at r numbered.1.device;
-  job = first_job (description_at r numbered.1.device);
+  job = first_job numbered.1.role (description_at r numbered.1.device);
 }
 
 -- before the first line: no device accepted a step
@@ -76,24 +78,21 @@ abbrev pub jobs_on : RecordView → List ActorView → ℕ → List ActorView
 jobs_on r actors device = filter (λ a. is_on_device device (slice_get r.actors a.actor)) actors
 
 -- what came of a device, with its number
-abbrev pub run_of : RecordView → Stage → ℕ × List Step → Run
-run_of r stage numbered = record {
-  history = reverse numbered.1;
-  jobs = map job_end (jobs_on r stage.actors numbered.0);
-}
+abbrev pub run_of : RecordView → Stage → ℕ × List Step → DeviceRun
+run_of r stage numbered = device_run (reverse numbered.1) (map ended_of (jobs_on r stage.actors numbered.0))
 
-abbrev pub runs_of : RecordView → Stage → List Run
+abbrev pub runs_of : RecordView → Stage → List DeviceRun
 runs_of r stage = map (run_of r stage) (enumerate_from 0 stage.pasts)
 
 -- what comes of a record, where so many rounds are enough for each of its lines
-unfoldable pub play : ℕ → RecordView → Option (List Run)
-play rounds r = option_map (runs_of r) (after_lines r rounds (first_stage r) r.lines)
+unfoldable pub play : ℕ → RecordView → Option Played
+play rounds r = option_map (λ stage. played_of (runs_of r stage)) (after_lines r rounds (first_stage r) r.lines)
 
--- These runs come of the record. How many rounds are tried makes no difference once they are enough.
-pub record IsPlay (r : RecordView) (runs : List Run) : Type 0 where
+-- This comes of the record. How many rounds are tried makes no difference once they are enough.
+pub record IsPlay (r : RecordView) (played : Played) : Type 0 where
   pub rounds : ℕ
-  pub plays : play rounds r ≡ Some runs
+  pub plays : play rounds r ≡ Some played
 
--- at most one list of runs comes of a record
+-- what comes of a record is one
 abbrev pub HasOnePlay : Type 0
-HasOnePlay = (r : RecordView) (runs others : List Run) → IsPlay r runs → IsPlay r others → runs ≡ others
+HasOnePlay = (r : RecordView) (played other : Played) → IsPlay r played → IsPlay r other → played ≡ other

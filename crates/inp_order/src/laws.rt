@@ -2,7 +2,7 @@
 ghost use Rattle.inp_order.specs.Play.{HasOnePlay};
 ghost use Rattle.inp_order.specs.Promised.{EachPlayIsPromised};
 
-/// At most one list of runs comes of a record. It does nothing: its contract is the point.
+/// Two plays of one record give the same. It does nothing: its contract is the point.
 pub fn at_most_one_play()
     ensures one_play { HasOnePlay }
 {}

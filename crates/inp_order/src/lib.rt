@@ -3,8 +3,9 @@
 //! This crate is for whoever plays a record so. It stands on `inp_runs`, and on no device: the one that answers is the
 //! model's.
 //!
-//! Its contract: `specs/Play.antt` says what comes of a record, each device answering on one list of steps. At most one
-//! list of runs does ([`at_most_one_play`]), and it is promised ([`each_play_is_promised`]).
+//! Its contract: `specs/Play.antt` says what comes of a record, each device answering on one list of steps: a run of each
+//! device, and what came of each joystick. Two plays of a record give the same ([`at_most_one_play`]), and that is promised
+//! ([`each_play_is_promised`]).
 #![tactic(auto)]
 
 mod laws;

@@ -443,7 +443,7 @@ module _ (d : Description) (h : List Step) (Q : ℕ → Type 0) (history : IsHis
   client-line least wait n j k command calls more of_role c ends s = absurd cc
 
   -- before its first line
-  pub client-first : IsClientJob d h Q 0 (first_job d)
+  pub client-first : IsClientJob d h Q 0 (first_job Client d)
   unfolding client_fold client_after_sight
   client-first = record {
     reading = record { spare = new-spare d d (first_reading d) refl refl refl; stands = inr (record { client = refl; queue = refl }) };

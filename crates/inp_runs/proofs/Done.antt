@@ -1,10 +1,9 @@
 -- What comes of a device whose actors did all their lines is promised.
-use Rattle.std.proofs.Common.{◌≡◌, ℕ, ◌+◌, ◌<◌, ◌≤◌, Bool, true, if◌then◌else◌, nat_lt, List, [], ◌∷◌, length, map, reverse, refl, sym, ap, subst, ◌∙◌, arith, inl, inr, Option, Some, None}
-use Rattle.std.specs.Prelude.{slice_get, option_map}
+use Rattle.std.proofs.Common.{◌≡◌, ℕ, ◌<◌, ◌≤◌, Bool, true, not, if◌then◌else◌, nat_lt, List, [], ◌∷◌, length, map, reverse, refl, sym, ap, subst, ◌∙◌, arith, inl, inr, Option, Some, None}
+use Rattle.std.specs.Prelude.{filter, slice_get, option_map}
 use Rattle.std.specs.List.{range_with_len, sum_by}
 use Rattle.std.proofs.lemmas.Bool.{cases_lt}
 use Rattle.std.proofs.lemmas.Bool.Decides.{nat_tests}
-use Rattle.std.proofs.lemmas.List.Sums.{sum_by-cons}
 use Rattle.std.proofs.lemmas.Option.{same_Some, slice_get-map, slice_get_within}
 use Rattle.inp_model.specs.declared.step.Step.{Step}
 use Rattle.inp_model.specs.Description.{Description, IsDescription}
@@ -15,29 +14,33 @@ use Rattle.inp_model.specs.Run.{Call, HasPlace, IsLegalFrom, place_of, next_plac
 use Rattle.inp_actors.specs.declared.actor_text.ActorText.{ActorText}
 use Rattle.inp_actors.specs.declared.device_text.DeviceText.{DeviceText}
 use Rattle.inp_actors.specs.declared.line.Line.{Line}
+use Rattle.inp_actors.specs.declared.role.Role.{Role}
+use Rattle.inp_actors.specs.declared.role.Role.TheVariants.{Joy}
+use Rattle.inp_actors.specs.Command.{is_joy}
 use Rattle.inp_actors.specs.Record.{RecordView, IsRecord}
 use Rattle.inp_recon.specs.View.{IsSizedFor}
 use Rattle.inp_recon.proofs.FaithfulHistories.{faithful_by_reads}
 use Rattle.inp_recon.proofs.FaithfulReads.{reads-faithful}
-use Rattle.inp_reader.specs.Talk.{Talk}
+use Rattle.inp_reader.specs.Talk.{Talk, EndsWith}
 use Rattle.inp_reader.proofs.Calls.{IsPlaceOf}
 use Rattle.inp_reader.proofs.Efforts.{place-below}
-use Rattle.inp_script.specs.declared.run.Run.{Run}
 use Rattle.inp_script.specs.declared.waiting.Waiting.{Waiting}
+use Rattle.inp_script.specs.Ended.{ended_of, jobs_among, joys_among, device_run}
 use Rattle.inp_script.specs.Fold.{IsFolded}
-use Rattle.inp_script.specs.Job.{ActorView, Job, JobView, first_job, job_end}
+use Rattle.inp_script.specs.Job.{ActorView, Job, JobView, JoyJobView, first_job, job_end, joy_end}
 use Rattle.inp_script.specs.Legal.{entries_of}
-use Rattle.inp_script.specs.Runs.{is_on_device, actors_of, IsRunOf}
+use Rattle.inp_script.specs.Runs.{is_on_device, is_joystick, actors_of, jobs_of, joysticks_of, joy_actors, IsRunOf}
 use Rattle.inp_runs.specs.Done.{HasFollowed, IsDeviceDone, IsRunAsPromised, calls_at}
-use Rattle.inp_runs.specs.Job.{lines_by, lines_talk, entries_at, AreTold, IsJob, IsRun, ArePromised, wait_of}
+use Rattle.inp_runs.specs.Job.{lines_by, lines_talk, entries_at, AreTold, IsJob, IsJoyJob, IsRun, wait_of}
 use Rattle.inp_runs.specs.JobViews.{AreReportsSeen}
 use Rattle.inp_runs.proofs.Entries.{entries, told-counts}
 use Rattle.inp_runs.proofs.Folded.{its_lines, view-folded}
+use Rattle.inp_runs.proofs.JobEnds.{IsEndOf, is_stick, is_other, joy-role, jobs-kept, joys-kept, job-end_of, joy-end_of, cells-of, split-sums, sum-ends, end-numbers}
 use Rattle.inp_runs.proofs.JobSizes.{job-sized}
 use Rattle.inp_runs.proofs.JobTold.{job-told}
 use Rattle.inp_runs.proofs.JobViews.{IsShown, job-shown}
 use Rattle.inp_runs.proofs.Leaving.{AreAnswered}
-use Rattle.inp_runs.proofs.Listing.{IsAt, IsImage, option_map-some, slice_get-filter}
+use Rattle.inp_runs.proofs.Listing.{IsAt, IsImage, filter-same, map-filter, option_map-some, slice_get-filter}
 use Rattle.inp_runs.proofs.Memory.{answered-memory, gives_up-lines, talk-answered}
 use Rattle.inp_runs.proofs.Owners.{AreCallsOf, Counts, HasOwners, calls-of, counts-place, has-one, history-of-jobs, short-history}
 
@@ -47,8 +50,8 @@ use Rattle.inp_runs.proofs.Owners.{AreCallsOf, Counts, HasOwners, calls-of, coun
 followed-answered : (r : RecordView) (d : Description) (wait : Option Waiting) (history : List Step) (text : ActorText) (a : ActorView) → IsRecord r → slice_get r.actors a.actor ≡ Some text → (f : HasFollowed r d wait history text.role a) → AreAnswered d f.calls
 followed-answered r d wait history text a is_record is_text f =
     let lines : List Line = lines_by a.actor r.lines in
-    let talk : Talk (Option Job) = lines_talk text.role d r.streams wait f.rounds lines (first_job d) in
-    talk-answered d history 0 talk f.calls a.job (gives_up-lines text.role d r.streams wait f.rounds lines (first_job d) (its_lines r a.actor text is_text r.lines is_record.commands)) f.legal f.follows
+    let talk : Talk (Option Job) = lines_talk text.role d r.streams wait f.rounds lines (first_job text.role d) in
+    talk-answered d history 0 talk f.calls a.job (gives_up-lines text.role d r.streams wait f.rounds lines (first_job text.role d) (its_lines r a.actor text is_text r.lines is_record.commands)) f.legal f.follows
 
 pub followed-told : (r : RecordView) (d : Description) (wait : Option Waiting) (history : List Step) (text : ActorText) (a : ActorView) → IsRecord r → slice_get r.actors a.actor ≡ Some text → (f : HasFollowed r d wait history text.role a) → AreTold wait f.calls a.job.sight
 followed-told r d wait history text a is_record is_text f =
@@ -78,6 +81,20 @@ is_job r d wait history a text is_record is_text f shown = record {
   own = shown.own;
   losses = shown.losses;
   folded = view-folded r d history wait f.rounds a.actor text a.job f.calls is_record is_text f.legal f.follows;
+  ended = refl;
+}
+
+-- a joystick's is the same of its picture
+is_joy_job : (r : RecordView) (d : Description) (wait : Option Waiting) (history : List Step) (a : ActorView) (text : ActorText) → IsRecord r → slice_get r.actors a.actor ≡ Some text → HasFollowed r d wait history text.role a → text.role ≡ Joy → IsJoyJob r d wait history (joy_end a)
+is_joy_job r d wait history a text is_record is_text f joy = record {
+  calls = f.calls;
+  legal = f.legal;
+  memory = answered-memory d f.calls (followed-answered r d wait history text a is_record is_text f);
+  told = followed-told r d wait history text a is_record is_text f;
+  rounds = f.rounds;
+  last = a.job;
+  follows = subst (λ (role : Role). EndsWith (lines_talk role d r.streams wait f.rounds (lines_by a.actor r.lines) (first_job role d)) f.calls (Some a.job)) joy f.follows;
+  pictured = subst (λ (role : Role). IsFolded role d history a.job) joy (view-folded r d history wait f.rounds a.actor text a.job f.calls is_record is_text f.legal f.follows);
   ended = refl;
 }
 
@@ -128,13 +145,6 @@ within-limit idle r i d history actors is_record s = elim (cases_lt d.log_limit 
 ]
 
 -- and each place counts once, and no other number does
-pub sum-ends : (place : ℕ) (actors : List ActorView) → entries_at place (map job_end actors) ≡ sum_by (calls_at place) actors
-sum-ends place [] = refl
-sum-ends place (a ∷ actors) =
-    sum_by-cons (λ (job : JobView). entries place job.sight) (job_end a) (map job_end actors)
-    ∙ ap (λ (n : ℕ). calls_at place a + n) (sum-ends place actors)
-    ∙ sym (sum_by-cons (calls_at place) a actors)
-
 one_or_none : (sum place long : ℕ) → (place < long → sum ≡ 1) → (1 ≤ sum → place < long) → sum ≡ (if nat_lt place long then 1 else 0)
 one_or_none sum place long below above = elim (cases_lt place long) [
   | inl less ↦ (let one : sum ≡ 1 = below less in grind (arith, nat_tests, one, less))
@@ -154,101 +164,107 @@ once-each idle r i d history actors is_record s = λ place.
 
 -- The jobs of a device
 
-record IsEndOf (r : RecordView) (i : ℕ) (d : Description) (wait : Option Waiting) (history : List Step) (job : JobView) : Type 0 where
-  actor : ActorView
-  same : job_end actor ≡ job
-  of_device : IsActorOf r i d wait history actor
-
-end_of : (idle : Option ℕ) (r : RecordView) (i : ℕ) (d : Description) (history : List Step) (actors : List ActorView) (k : ℕ) (job : JobView) → IsDeviceDone idle r i d history actors → slice_get (map job_end actors) k ≡ Some job → IsEndOf r i d (wait_of idle r i) history job
-end_of idle r i d history actors k job s h =
-    let image : IsImage job_end (slice_get actors k) job = option_map-some job_end (slice_get actors k) job (sym (slice_get-map job_end actors k) ∙ h) in
-    record { actor = image.from; same = image.same; of_device = actor_of idle r i d history actors k image.from s image.is }
-
--- its role is that of the actor that it names
-same_text : (r : RecordView) (i : ℕ) (d : Description) (wait : Option Waiting) (history : List Step) (job : JobView) (text : ActorText) (e : IsEndOf r i d wait history job) → slice_get r.actors job.actor ≡ Some text → (let its : IsActorOf r i d wait history e.actor = e.of_device in its.text) ≡ text
-same_text r i d wait history job text e is_text =
-    let its : IsActorOf r i d wait history e.actor = e.of_device in
-    let actor_is : job.actor ≡ e.actor.actor = ap (λ (j : JobView). j.actor) (sym e.same) in
-    same_Some its.text text (sym its.is_text ∙ ap (λ (n : ℕ). slice_get r.actors n) (sym actor_is) ∙ is_text)
-
 owners-of : (idle : Option ℕ) (r : RecordView) (i : ℕ) (d : Description) (history : List Step) (actors : List ActorView) → IsRecord r → IsDescription d → IsDeviceDone idle r i d history actors → HasOwners d history (map job_end actors)
 owners-of idle r i d history actors is_record described s = record {
   each = λ k job h.
       let wait : Option Waiting = wait_of idle r i in
-      let e : IsEndOf r i d wait history job = end_of idle r i d history actors k job s h in
-      let its : IsActorOf r i d wait history e.actor = e.of_device in
-      let f : HasFollowed r d wait history its.text.role e.actor = its.followed in
-      subst (AreCallsOf d history) e.same
-      (calls-of its.text.role d history r.streams wait f.rounds (lines_by e.actor.actor r.lines) (job_end e.actor) e.actor.job f.calls f.legal (followed-told r d wait history its.text e.actor is_record its.is_text f) f.follows);
+      let image : IsImage job_end (slice_get actors k) job = option_map-some job_end (slice_get actors k) job (sym (slice_get-map job_end actors k) ∙ h) in
+      let a : ActorView = image.from in
+      let its : IsActorOf r i d wait history a = actor_of idle r i d history actors k a s image.is in
+      let f : HasFollowed r d wait history its.text.role a = its.followed in
+      subst (AreCallsOf d history) image.same
+      (calls-of its.text.role d history r.streams wait f.rounds (lines_by a.actor r.lines) (job_end a) a.job f.calls f.legal (followed-told r d wait history its.text a is_record its.is_text f) f.follows);
   once = once-each idle r i d history actors is_record s;
   short = short-history d history described (within-limit idle r i d history actors is_record s);
 }
 
--- what the sight of a job shows
-shown-of : (r : RecordView) (i : ℕ) (d : Description) (wait : Option Waiting) (history : List Step) (jobs : List JobView) (k : ℕ) (job : JobView) → IsRecord r → HasOwners d history jobs → slice_get jobs k ≡ Some job → (e : IsEndOf r i d wait history job) → (let its : IsActorOf r i d wait history e.actor = e.of_device in IsShown d history its.text.role e.actor.job.sight)
-shown-of r i d wait history jobs k job is_record owners h e =
-    let its : IsActorOf r i d wait history e.actor = e.of_device in
-    let f : HasFollowed r d wait history its.text.role e.actor = its.followed in
-    job-shown r d history jobs k (job_end e.actor) its.text wait f.rounds e.actor.job f.calls is_record owners (h ∙ ap (λ (j : JobView). Some j) (sym e.same)) its.is_text f.legal
-    (followed-told r d wait history its.text e.actor is_record its.is_text f) f.follows refl
+-- what the sight of an actor shows
+shown-of : (r : RecordView) (i : ℕ) (d : Description) (wait : Option Waiting) (history : List Step) (actors : List ActorView) (k : ℕ) (a : ActorView) → IsRecord r → HasOwners d history (map job_end actors) → slice_get actors k ≡ Some a → (its : IsActorOf r i d wait history a) → IsShown d history its.text.role a.job.sight
+shown-of r i d wait history actors k a is_record owners is its =
+    let f : HasFollowed r d wait history its.text.role a = its.followed in
+    job-shown r d history (map job_end actors) k (job_end a) its.text wait f.rounds a.job f.calls is_record owners (slice_get-map job_end actors k ∙ ap (λ (o : Option ActorView). option_map job_end o) is) its.is_text f.legal
+    (followed-told r d wait history its.text a is_record its.is_text f) f.follows refl
 
-is_run : (idle : Option ℕ) (r : RecordView) (i : ℕ) (d : Description) (history : List Step) (actors : List ActorView) → IsRecord r → IsDescription d → IsDeviceDone idle r i d history actors → IsRun r d (wait_of idle r i) (record { history = history; jobs = map job_end actors })
+-- a job's role is that of the actor that it names
+same_text : (r : RecordView) (i : ℕ) (d : Description) (wait : Option Waiting) (history : List Step) (job : JobView) (text : ActorText) (a : ActorView) (its : IsActorOf r i d wait history a) → job_end a ≡ job → slice_get r.actors job.actor ≡ Some text → its.text ≡ text
+same_text r i d wait history job text a its same is_text =
+    let actor_is : job.actor ≡ a.actor = ap (λ (j : JobView). j.actor) (sym same) in
+    same_Some its.text text (sym its.is_text ∙ ap (λ (n : ℕ). slice_get r.actors n) (sym actor_is) ∙ is_text)
+
+is_run : (idle : Option ℕ) (r : RecordView) (i : ℕ) (d : Description) (history : List Step) (actors : List ActorView) → IsRecord r → IsDescription d → IsDeviceDone idle r i d history actors
+    → IsRun r d (wait_of idle r i) (record { history = history; jobs = jobs_among (map ended_of actors) }) (joys_among (map ended_of actors))
 is_run idle r i d history actors is_record described s =
     let wait : Option Waiting = wait_of idle r i in
-    let jobs : List JobView = map job_end actors in
-    let owners : HasOwners d history jobs = owners-of idle r i d history actors is_record described s in
-    let past : IsHistory d (reverse history) = history-of-jobs d history jobs owners in
+    let owners : HasOwners d history (map job_end actors) = owners-of idle r i d history actors is_record described s in
+    let past : IsHistory d (reverse history) = history-of-jobs d history (map job_end actors) owners in
     record {
       within = within-limit idle r i d history actors is_record s;
       jobs = λ k job text h is_text.
-          let e : IsEndOf r i d wait history job = end_of idle r i d history actors k job s h in
-          let its : IsActorOf r i d wait history e.actor = e.of_device in
-          subst (λ (x : ActorText). IsJob r d wait history x.role job) (same_text r i d wait history job text e is_text)
+          let e : IsEndOf job_end is_other actors job = job-end_of actors k job h in
+          let its : IsActorOf r i d wait history e.actor = actor_of idle r i d history actors e.index e.actor s e.is in
+          subst (λ (x : ActorText). IsJob r d wait history x.role job) (same_text r i d wait history job text e.actor its e.same is_text)
           (subst (λ (j : JobView). IsJob r d wait history its.text.role j) e.same
-          (is_job r d wait history e.actor its.text is_record its.is_text its.followed (shown-of r i d wait history jobs k job is_record owners h e)));
+          (is_job r d wait history e.actor its.text is_record its.is_text its.followed (shown-of r i d wait history actors e.index e.actor is_record owners e.is its)));
+      joys = λ k joy h.
+          let e : IsEndOf joy_end is_stick actors joy = joy-end_of actors k joy h in
+          let its : IsActorOf r i d wait history e.actor = actor_of idle r i d history actors e.index e.actor s e.is in
+          subst (IsJoyJob r d wait history) e.same
+          (is_joy_job r d wait history e.actor its.text is_record its.is_text its.followed (sym its.followed.is_role ∙ joy-role e.actor.role e.passes));
       accepted = past;
       faithful = λ client. faithful_by_reads reads-faithful (eaten d) d (reverse history) client described past;
       seen = λ k job text h is_text.
-          let e : IsEndOf r i d wait history job = end_of idle r i d history actors k job s h in
-          let its : IsActorOf r i d wait history e.actor = e.of_device in
-          let shown : IsShown d history its.text.role e.actor.job.sight = shown-of r i d wait history jobs k job is_record owners h e in
-          subst (λ (x : ActorText). AreReportsSeen d history x.role job.sight) (same_text r i d wait history job text e is_text)
+          let e : IsEndOf job_end is_other actors job = job-end_of actors k job h in
+          let its : IsActorOf r i d wait history e.actor = actor_of idle r i d history actors e.index e.actor s e.is in
+          let shown : IsShown d history its.text.role e.actor.job.sight = shown-of r i d wait history actors e.index e.actor is_record owners e.is its in
+          subst (λ (x : ActorText). AreReportsSeen d history x.role job.sight) (same_text r i d wait history job text e.actor its e.same is_text)
           (subst (λ (j : JobView). AreReportsSeen d history its.text.role j.sight) e.same shown.seen);
-      once = once-each idle r i d history actors is_record s;
+      once = λ place. split-sums place actors ∙ sym (sum-ends place actors) ∙ once-each idle r i d history actors is_record s place;
     }
 
-ends_numbers : (actors : List ActorView) → map (λ (job : JobView). job.actor) (map job_end actors) ≡ map (λ (a : ActorView). a.actor) actors
-ends_numbers [] = refl
-ends_numbers (a ∷ actors) = ap (λ (ns : List ℕ). a.actor ∷ ns) (ends_numbers actors)
+-- Their numbers
 
-is_run_of : (idle : Option ℕ) (r : RecordView) (i : ℕ) (device : DeviceText) (history : List Step) (actors : List ActorView) → IsRecord r → IsDeviceDone idle r i device.caps history actors → IsRunOf r.actors i device (record { history = history; jobs = map job_end actors })
+-- a test of whether an actor is a joystick keeps the same of the record's as of these
+kept-numbers : (idle : Option ℕ) (r : RecordView) (i : ℕ) (d : Description) (history : List Step) (actors : List ActorView) (test : Bool → Bool) → IsDeviceDone idle r i d history actors
+    → map (λ (a : ActorView). a.actor) (filter (λ (a : ActorView). test (is_joy a.role)) actors) ≡ filter (λ (n : ℕ). test (is_joystick (slice_get r.actors n))) (actors_of r.actors i)
+kept-numbers idle r i d history actors test s =
+    let number : ActorView → ℕ = λ (a : ActorView). a.actor in
+    let in_record : ℕ → Bool = λ (n : ℕ). test (is_joystick (slice_get r.actors n)) in
+    let same : filter (λ (a : ActorView). test (is_joy a.role)) actors ≡ filter (λ (a : ActorView). in_record a.actor) actors =
+    filter-same (λ (a : ActorView). test (is_joy a.role)) (λ (a : ActorView). in_record a.actor) actors (λ k a is.
+    let its : IsActorOf r i d (wait_of idle r i) history a = actor_of idle r i d history actors k a s is in
+    ap (λ (role : Role). test (is_joy role)) its.followed.is_role ∙ ap (λ (o : Option ActorText). test (is_joystick o)) (sym its.is_text)) in
+    ap (map number) same ∙ map-filter number in_record actors ∙ ap (filter in_record) s.numbers
+
+job-numbers : (idle : Option ℕ) (r : RecordView) (i : ℕ) (d : Description) (history : List Step) (actors : List ActorView) → IsDeviceDone idle r i d history actors → map (λ (job : JobView). job.actor) (jobs_among (map ended_of actors)) ≡ jobs_of r.actors i
+job-numbers idle r i d history actors s =
+    ap (map (λ (job : JobView). job.actor)) (jobs-kept actors)
+    ∙ end-numbers job_end (λ (job : JobView). job.actor) (λ a. refl) (filter is_other actors)
+    ∙ kept-numbers idle r i d history actors not s
+
+joy-numbers : (idle : Option ℕ) (r : RecordView) (i : ℕ) (d : Description) (history : List Step) (actors : List ActorView) → IsDeviceDone idle r i d history actors → joy_actors (joys_among (map ended_of actors)) ≡ joysticks_of r.actors i
+joy-numbers idle r i d history actors s =
+    ap joy_actors (joys-kept actors)
+    ∙ end-numbers joy_end (λ (joy : JoyJobView). joy.actor) (λ a. refl) (filter is_stick actors)
+    ∙ kept-numbers idle r i d history actors (λ (b : Bool). b) s
+
+is_run_of : (idle : Option ℕ) (r : RecordView) (i : ℕ) (device : DeviceText) (history : List Step) (actors : List ActorView) → IsRecord r → IsDeviceDone idle r i device.caps history actors → IsRunOf r.actors i device (record { history = history; jobs = jobs_among (map ended_of actors) })
 is_run_of idle r i device history actors is_record s = record {
-  jobs = ends_numbers actors ∙ s.numbers;
+  jobs = job-numbers idle r i device.caps history actors s;
   views = λ k job h.
       let d : Description = device.caps in
       let wait : Option Waiting = wait_of idle r i in
-      let e : IsEndOf r i d wait history job = end_of idle r i d history actors k job s h in
-      let its : IsActorOf r i d wait history e.actor = e.of_device in
+      let e : IsEndOf job_end is_other actors job = job-end_of actors k job h in
+      let its : IsActorOf r i d wait history e.actor = actor_of idle r i d history actors e.index e.actor s e.is in
       let f : HasFollowed r d wait history its.text.role e.actor = its.followed in
       let folded : IsFolded its.text.role d history e.actor.job = view-folded r d history wait f.rounds e.actor.actor its.text e.actor.job f.calls is_record its.is_text f.legal f.follows in
-      subst (λ (j : JobView). IsSizedFor d.slots j.view) e.same (job-sized its.text.role d history e.actor.job folded f.cells);
+      let other : not (is_joy its.text.role) ≡ true = ap (λ (role : Role). not (is_joy role)) (sym f.is_role) ∙ e.passes in
+      subst (λ (j : JobView). IsSizedFor d.slots j.view) e.same (job-sized its.text.role d history e.actor.job other folded (cells-of d e.actor e.passes f.cells));
 }
 
 pub device-promised : (idle : Option ℕ) (r : RecordView) (i : ℕ) (device : DeviceText) (history : List Step) (actors : List ActorView) → IsRecord r → IsDescription device.caps → IsDeviceDone idle r i device.caps history actors
-    → IsRunAsPromised idle r i device (record { history = history; jobs = map job_end actors })
+    → IsRunAsPromised idle r i device (device_run history (map ended_of actors))
 device-promised idle r i device history actors is_record described s = record {
   run_of = is_run_of idle r i device history actors is_record s;
+  joys_of = joy-numbers idle r i device.caps history actors s;
   is_run = is_run idle r i device.caps history actors is_record described s;
-}
-
--- All devices
-
-pub all-promised : (idle : Option ℕ) (r : RecordView) (runs : List Run) → length runs ≡ length r.devices
-    → ((i : ℕ) (device : DeviceText) (run : Run) → slice_get r.devices i ≡ Some device → slice_get runs i ≡ Some run → IsRunAsPromised idle r i device run) → ArePromised idle r runs
-all-promised idle r runs long each = record {
-  runs_of = record {
-    devices = long;
-    each = λ i device run is_device is_run_. (let p : IsRunAsPromised idle r i device run = each i device run is_device is_run_ in p.run_of);
-  };
-  each = λ i device run is_device is_run_. (let p : IsRunAsPromised idle r i device run = each i device run is_device is_run_ in p.is_run);
 }

@@ -9,7 +9,7 @@ use Rattle.inp_model.specs.Run.{Call, IsLegalFrom, IsLegalRun, next_place}
 use Rattle.inp_actors.specs.declared.actor_text.ActorText.{ActorText}
 use Rattle.inp_actors.specs.declared.line.Line.{Line}
 use Rattle.inp_actors.specs.declared.role.Role.{Role}
-use Rattle.inp_actors.specs.declared.role.Role.TheVariants.{Source, Client, Tap}
+use Rattle.inp_actors.specs.declared.role.Role.TheVariants.{Source, Client, Tap, Joy}
 use Rattle.inp_actors.specs.Command.{is_command_of}
 use Rattle.inp_actors.specs.Record.{RecordView, IsRecord}
 use Rattle.inp_recon.proofs.Each.{Each}
@@ -49,6 +49,7 @@ last-folded None role d h j k calls ends fold = same-folded role d h j k calls e
 last-folded (Some waiting) Source d h j k calls ends fold = end-folds (nothing_seen d) Source d j k calls refl ends h (h, refl) fold
 last-folded (Some waiting) Client d h j k calls ends fold = same-folded Client d h j k calls ends fold
 last-folded (Some waiting) Tap d h j k calls ends fold = same-folded Tap d h j k calls ends fold
+last-folded (Some waiting) Joy d h j k calls ends fold = same-folded Joy d h j k calls ends fold
 
 lines-folded : (role : Role) (d : Description) (h : List Step) (streams : List (List Stamped)) (wait : Option Waiting) (rounds : ℕ) (lines : List Line) (j k : Job) (calls : List Call) → AreOfRole role lines → ArePlaced d h calls → EndsWith (lines_talk role d streams wait rounds lines j) calls (Some k) → IsFolded role d h j → IsFolded role d h k
 unfolding lines_talk
@@ -79,8 +80,8 @@ its_lines r actor text is (line ∷ lines) h =
     by false e more = more
 
 pub view-folded : (r : RecordView) (d : Description) (h : List Step) (wait : Option Waiting) (rounds actor : ℕ) (text : ActorText) (last : Job) (calls : List Call) → IsRecord r → slice_get r.actors actor ≡ Some text → IsLegalRun d h calls
-    → EndsWith (lines_talk text.role d r.streams wait rounds (lines_by actor r.lines) (first_job d)) calls (Some last) → IsFolded text.role d h last
+    → EndsWith (lines_talk text.role d r.streams wait rounds (lines_by actor r.lines) (first_job text.role d)) calls (Some last) → IsFolded text.role d h last
 view-folded r d h wait rounds actor text last calls is_record is_text legal follows =
-    lines-folded text.role d h r.streams wait rounds (lines_by actor r.lines) (first_job d) last calls
+    lines-folded text.role d h r.streams wait rounds (lines_by actor r.lines) (first_job text.role d) last calls
     (its_lines r actor text is_text r.lines is_record.commands)
-    (legal-placed d h 0 calls legal) follows (is_folded-first text.role d h (first_job d) refl)
+    (legal-placed d h 0 calls legal) follows (is_folded-first text.role d h (first_job text.role d) refl)

@@ -1,6 +1,6 @@
 -- Which clients the calls of a job name: each names none, or the one that the job opened last.
-use Rattle.std.proofs.Common.{◌≡◌, ◌⊎◌, ℕ, zero, suc, Bool, true, false, if◌then◌else◌, nat_le, nat_lt, List, [], ◌∷◌, ◌++◌, refl, sym, ap, subst, ◌∙◌, inl, inr, Option, Some, None}
-use Rattle.std.specs.Prelude.{Result, Ok, Err}
+use Rattle.std.proofs.Common.{◌≡◌, ◌⊎◌, ℕ, zero, suc, ◌+◌, Bool, true, false, if◌then◌else◌, nat_le, nat_lt, List, [], ◌∷◌, ◌++◌, refl, sym, ap, subst, ◌∙◌, inl, inr, Option, Some, None}
+use Rattle.std.specs.Prelude.{Result, Ok, Err, slice_get}
 use Rattle.std.proofs.lemmas.Bool.{true≢false}
 use Rattle.std.proofs.lemmas.Option.{same_Some}
 use Rattle.inp_model.specs.declared.event.Event.{Event}
@@ -14,14 +14,15 @@ use Rattle.inp_model.specs.declared.reply.Reply.TheVariants.{Opened, Again as No
 use Rattle.inp_model.specs.declared.reply.Refusal.{Refusal}
 use Rattle.inp_model.specs.declared.reply.Refusal.TheVariants.{NoDevice as Revoked, LogFull}
 use Rattle.inp_model.specs.Description.{Description, has_kind}
+use Rattle.inp_model.specs.Event.{is_report}
 use Rattle.inp_model.specs.Reply.{Answer, is_accepted}
 use Rattle.inp_model.specs.Run.{Call}
 use Rattle.inp_model.specs.Step.{client_of, is_open_step}
 use Rattle.inp_actors.specs.declared.command.Command.{Command}
-use Rattle.inp_actors.specs.declared.command.Command.TheVariants.{Event as ToEvent, Tick, Inhibit, Uninhibit, Stream, Stream16, Open, Next as ToNext, Skip, Follow, Force}
+use Rattle.inp_actors.specs.declared.command.Command.TheVariants.{Event as ToEvent, Tick, Inhibit, Uninhibit, Stream, Stream16, Open, Read, Next as ToNext, Skip, Follow, Force}
 use Rattle.inp_actors.specs.declared.line.Line.{Line}
 use Rattle.inp_actors.specs.declared.role.Role.{Role}
-use Rattle.inp_actors.specs.declared.role.Role.TheVariants.{Source, Client, Tap}
+use Rattle.inp_actors.specs.declared.role.Role.TheVariants.{Source, Client, Tap, Joy}
 use Rattle.inp_recon.specs.declared.view.View.{View}
 use Rattle.inp_recon.specs.View.{view_after_answer, view_after_event}
 use Rattle.inp_recon.proofs.Each.{Each, Each-append}
@@ -32,8 +33,15 @@ use Rattle.inp_reader.specs.declared.phase.Phase.TheVariants.{Plain, Needed, Han
 use Rattle.inp_reader.specs.declared.next.Next.{Next}
 use Rattle.inp_reader.specs.declared.next.Next.TheVariants.{Success, Dropped, Sync, Again, Synced, NoDevice, Closed, Full}
 use Rattle.inp_reader.specs.declared.started.Started.{Started}
+use Rattle.inp_reader.specs.declared.started.Started.TheVariants.{Opened as StartedOn, Refused}
 use Rattle.inp_reader.specs.declared.reader.TheConstants.{NO_CLIENT}
 use Rattle.inp_reader.specs.Reading.{Reading, ask_each, queries, bit_queries, axis_queries, plain_axes, slot_queries, only_if, after_queries, after_open, start_talk, stop_of, is_dropped, hand_out_event, hand_out, after_read, read_or_hand_out, read_talk, hand_synthesised, as_plain, after_full_sync, go_on, go_on_after, sync_talk, talk_in, next_talk}
+use Rattle.inp_joy.specs.declared.joy_read.JoyRead.{JoyRead}
+use Rattle.inp_joy.specs.declared.joy_read.JoyRead.TheVariants.{Record as HandedOut, Frame, Again as NothingToRead, NoDevice as Revoked, Closed as NotOpen, Full as FullHistory, More}
+use Rattle.inp_joy.specs.declared.joy_record.JoyRecord.{JoyRecord}
+use Rattle.inp_joy.specs.Joying as joy
+use Rattle.inp_joy.specs.Joying.{Joying, JoyAnswer, Turn as JoyTurn, gives, goes_on as reads_on, startup, with_reading, without_startup, joy_started, joy_start, stop_with, is_lost, event_of, record_of, record_or_on, stop_or_event, stop_or_startup, after_sync, sync_turn, after_normal, event_turn, record_or_turn, turn_talk, with_count, is_long, after_turn, turns}
+use Rattle.inp_reader.specs.Standing.{is_needed}
 use Rattle.inp_reader.specs.Talk.{Talk, finish, ask, and_then, LeadsTo, EndsWith}
 use Rattle.inp_script.specs.declared.sight.Sight.{Sight}
 use Rattle.inp_script.specs.declared.sight.Sight.TheVariants.{Took, Made, Again as AgainSight}
@@ -42,9 +50,10 @@ use Rattle.inp_script.specs.declared.stop.Stop.TheVariants.{Idle}
 use Rattle.inp_script.specs.declared.waiting.Waiting.{Waiting}
 use Rattle.inp_script.specs.Client.{Going, Turn, goes_on, ends_with, start_job, start_ends, after_start, handed, one_less, is_done, patience, after_again, turn_after, after_next, mode_of, with_sight, with_stop, next_round, on_turn, rounds, hand_talk, client_talk}
 use Rattle.inp_script.specs.Doing.{command_talk, unless_stopped, line_talk}
-use Rattle.inp_script.specs.Job.{Job, first_job}
+use Rattle.inp_script.specs.Job.{Job, first_job, joying_of, with_joying}
+use Rattle.inp_script.specs.Joystick.{Reach, handed_out, line_ends, after_joy_start, start_joystick, after_joy_answer, after_read as after_joy_read, after_turns, read_on, on_reach, read_records, joystick_talk}
 use Rattle.inp_script.specs.Line.{step_of, after_call, call_if, stream_talk, stream_at, source_talk, end_talk, client_after, after_tap_call, tap_call_if, tap_talk}
-use Rattle.inp_script.specs.Sight.{noted, call_sight, lacks_memory, start_lacks_memory}
+use Rattle.inp_script.specs.Sight.{noted, call_sight, lacks_memory, start_lacks_memory, stop_after_start}
 use Rattle.inp_runs.specs.Job.{on_job, last_talk, lines_talk}
 
 -- A step names no client, the one that was opened last, or the number that no client has.
@@ -66,6 +75,7 @@ abbrev pub ReadsAs : Role → ℕ → Job → Type 0
 ReadsAs Source last j = Unit {0}
 ReadsAs Client last j = last ≡ j.reading.client
 ReadsAs Tap last j = last ≡ j.reading.client
+ReadsAs Joy last j = last ≡ j.reading.client
 
 -- Talks
 
@@ -341,9 +351,9 @@ names-tap command j last is =
 
 -- Clients
 
-names-client_call : (o : Option Step) (j : Job) (last : ℕ) → OfStep (NamesOr last) o → OfStep (λ x. is_open_step x ≡ false) o → last ≡ j.reading.client → Names last (call_if j o) (OfLeft Client)
-names-client_call None j last h shut is = is
-names-client_call (Some x) j last h shut is = (h, λ answer. stays-last x answer.reply last shut ∙ is)
+names-client_call : (role : Role) → ((k : Job) (now : ℕ) → now ≡ k.reading.client → ReadsAs role now k) → (o : Option Step) (j : Job) (last : ℕ) → OfStep (NamesOr last) o → OfStep (λ x. is_open_step x ≡ false) o → last ≡ j.reading.client → Names last (call_if j o) (OfLeft role)
+names-client_call role reads None j last h shut is = reads j last is
+names-client_call role reads (Some x) j last h shut is = (h, λ answer. reads (after_call j x answer) (client_after x answer.reply last) (stays-last x answer.reply last shut ∙ is))
 
 names-start_job : (d : Description) (j : Job) (last : ℕ) → last ≡ j.reading.client → Names last (start_job d j) (OfLeft Client)
 unfolding start_job
@@ -414,7 +424,151 @@ names-client d wait n (Skip count) j last is = names-hand d None true (Some coun
 names-client d wait n Follow j last is = names-hand d wait false None n j last is
 names-client d wait n Force j last is = is
 names-client d wait n command j last is =
-    names-client_call (step_of j.reading.client command) j last (subst (λ (m : ℕ). OfStep (NamesOr m) (step_of j.reading.client command)) (sym is) (names-command j.reading.client command))
+    names-client_call Client (λ k now e. e) (step_of j.reading.client command) j last (subst (λ (m : ℕ). OfStep (NamesOr m) (step_of j.reading.client command)) (sym is) (names-command j.reading.client command))
+    (shut-command j.reading.client command refl) is
+
+-- Joysticks
+
+abbrev OfJoyStart : ℕ → Started × Joying → Type 0
+OfJoyStart now o = now ≡ o.1.reading.client
+
+joy_start-client : (d : Description) (k : Joying) (started : Started) (now : ℕ) → now ≡ k.reading.client → now ≡ (joy.after_start d k started).reading.client
+joy_start-client d k (StartedOn client ring) now e = e
+joy_start-client d k (Refused at why) now e = by (is_needed k.reading.phase)
+  where
+    by : (b : Bool) → now ≡ (if b then without_startup d k else k).reading.client
+    by true = e
+    by false = e
+
+names-joy_start : (d : Description) (k : Joying) (last : ℕ) → last ≡ k.reading.client → Names last (joy_start d k) OfJoyStart
+unfolding joy_start
+names-joy_start d k last is =
+    names-then last (start_talk d k.reading) (λ o. finish (joy_started d k o)) OfStart OfJoyStart (names-start d k.reading last is)
+    (λ now o e. joy_start-client d (with_reading k o.1) o.0 now e)
+
+abbrev OfJoyTurn : ℕ → JoyTurn → Type 0
+OfJoyTurn now (gives answer) = now ≡ answer.joying.reading.client
+OfJoyTurn now (reads_on k) = now ≡ k.reading.client
+
+turn-startup : (k : Joying) (stop : Option JoyRead) (now : ℕ) → now ≡ k.reading.client → OfJoyTurn now (stop_or_startup k stop)
+turn-startup k None now e = e
+turn-startup k (Some read) now e = e
+
+names-sync_turn : (d : Description) (k : Joying) (last : ℕ) → last ≡ k.reading.client → Names last (sync_turn d k) OfJoyTurn
+unfolding sync_turn
+names-sync_turn d k last is =
+    names-then last (next_talk d Synchronising k.reading) (λ o. finish (after_sync k o)) OfAnswer OfJoyTurn (names-next d Synchronising k.reading last is)
+    (λ now o e. turn-startup (with_reading k o.1) (joy.stop_of o.0) now e.0)
+
+turn-record : (k : Joying) (out : Option JoyRecord) (now : ℕ) → now ≡ k.reading.client → OfJoyTurn now (record_or_on k out)
+turn-record k None now e = e
+turn-record k (Some r) now e = e
+
+turn-event : (d : Description) (k : Joying) (stop : Option JoyRead) (event : Option Taken) (now : ℕ) → now ≡ k.reading.client → OfJoyTurn now (stop_or_event d k stop event)
+turn-event d k (Some read) event now e = e
+turn-event d k None None now e = e
+turn-event d k None (Some taken) now e = by (is_report taken.event)
+  where
+    by : (b : Bool) → OfJoyTurn now (if b then gives (stop_with (Frame taken.place) k) else record_or_on k (record_of d k.picture taken))
+    by true = e
+    by false = turn-record k (record_of d k.picture taken) now e
+
+names-normal : (d : Description) (k : Joying) (next : Next) (last : ℕ) → last ≡ k.reading.client → Names last (if is_lost next then sync_turn d k else finish (joy.after_next d k next)) OfJoyTurn
+names-normal d k next last is = by (is_lost next)
+  where
+    by : (b : Bool) → Names last (if b then sync_turn d k else finish (joy.after_next d k next)) OfJoyTurn
+    by true = names-sync_turn d k last is
+    by false = turn-event d k (joy.stop_of next) (event_of next) last is
+
+names-event_turn : (d : Description) (k : Joying) (last : ℕ) → last ≡ k.reading.client → Names last (event_turn d k) OfJoyTurn
+unfolding event_turn
+names-event_turn d k last is =
+    names-then last (next_talk d Normal k.reading) (after_normal d k) OfAnswer OfJoyTurn (names-next d Normal k.reading last is)
+    (λ now o e. names-normal d (with_reading k o.1) o.0 now e.0)
+
+names-joy_turn : (d : Description) (k : Joying) (out : Option JoyRecord) (last : ℕ) → last ≡ k.reading.client → Names last (record_or_turn d k out) OfJoyTurn
+names-joy_turn d k (Some r) last is = is
+names-joy_turn d k None last is = by (is_needed k.reading.phase)
+  where
+    by : (b : Bool) → Names last (if b then sync_turn d k else event_turn d k) OfJoyTurn
+    by true = names-sync_turn d k last is
+    by false = names-event_turn d k last is
+
+names-counted : {A : Type 0} (last : ℕ) (talk : Talk A) (n : ℕ) (P : ℕ → A → Type 0) → Names last talk P → Names last (with_count talk n) (λ (now : ℕ) (o : ℕ × A). P now o.1)
+names-counted last (finish a) n P h = h
+names-counted last (ask x rest) n P h = (h.0, λ answer. names-counted (client_after x answer.reply last) (rest answer) (if is_accepted answer.reply then n + 1 else n) P (h.1 answer))
+
+abbrev OfJoyRead : ℕ → Option JoyAnswer → Type 0
+OfJoyRead now None = Unit {0}
+OfJoyRead now (Some answer) = now ≡ answer.joying.reading.client
+
+names-turns : (d : Description) (most n : ℕ) (k : Joying) (last : ℕ) → last ≡ k.reading.client → Names last (turns d most n k) OfJoyRead
+unfolding turns
+names-turns d zero n k last is = tt
+names-turns d (suc most) n k last is =
+    let out : Option JoyRecord = slice_get (startup d k.reading.view) k.handed in
+    names-then last (with_count (turn_talk d k) n) (λ o. after_turn d (turns d most) o.0 o.1) (λ (now : ℕ) (o : ℕ × JoyTurn). OfJoyTurn now o.1) OfJoyRead
+    (names-counted last (turn_talk d k) n OfJoyTurn (names-joy_turn d k out last is))
+    (λ now o e. by o.0 o.1 now e (λ (m : ℕ) (here : Joying) there. names-turns d most m here now there))
+  where
+    by : (m : ℕ) (turn : JoyTurn) (now : ℕ) → OfJoyTurn now turn → ((m : ℕ) (here : Joying) → now ≡ here.reading.client → Names now (turns d most m here) OfJoyRead) → Names now (after_turn d (turns d most) m turn) OfJoyRead
+    by m (gives answer) now e more = e
+    by m (reads_on here) now e more = long (is_long d here m)
+      where
+        long : (b : Bool) → Names now (if b then finish (Some (stop_with More here)) else turns d most m here) OfJoyRead
+        long true = e
+        long false = more m here e
+
+abbrev OfReach : ℕ → Option Reach → Type 0
+OfReach now None = Unit {0}
+OfReach now (Some (handed_out j)) = now ≡ j.reading.client
+OfReach now (Some (line_ends j)) = now ≡ j.reading.client
+
+names-read_on : (d : Description) (most n : ℕ) (j : Job) (last : ℕ) → last ≡ j.reading.client → Names last (read_on d most n j) OfReach
+unfolding read_on
+names-read_on d most zero j last is = tt
+names-read_on d most (suc n) j last is =
+    names-then last (noted (turns d most 0 (joying_of j)) j.sight) (λ o. after_turns (read_on d most n) j o.0 o.1) (λ (now : ℕ) (o : Option JoyAnswer × List Sight). OfJoyRead now o.0) OfReach
+    (names-noted last (turns d most 0 (joying_of j)) j.sight OfJoyRead (names-turns d most 0 (joying_of j) last is))
+    (λ now o e. by o.0 o.1 now e (λ (here : Job) there. names-read_on d most n here now there))
+  where
+    by_read : (read : JoyRead) (here : Job) (now : ℕ) → now ≡ here.reading.client → Names now (read_on d most n here) OfReach → Names now (after_joy_read (read_on d most n) read here) OfReach
+    by_read HandedOut here now e more = e
+    by_read (Frame place) here now e more = more
+    by_read More here now e more = more
+    by_read (NothingToRead at ends) here now e more = e
+    by_read Revoked here now e more = e
+    by_read NotOpen here now e more = e
+    by_read (FullHistory at) here now e more = e
+
+    by : (read : Option JoyAnswer) (sight : List Sight) (now : ℕ) → OfJoyRead now read → ((here : Job) → now ≡ here.reading.client → Names now (read_on d most n here) OfReach) → Names now (after_turns (read_on d most n) j read sight) OfReach
+    by None sight now e more = tt
+    by (Some answer) sight now e more = by_read answer.read (after_joy_answer j answer sight) now e (more (after_joy_answer j answer sight) e)
+
+names-records : (d : Description) (n count : ℕ) (j : Job) (last : ℕ) → last ≡ j.reading.client → Names last (read_records d n count j) (OfLeft Joy)
+unfolding read_records
+names-records d n zero j last is = is
+names-records d n (suc count) j last is =
+    names-then last (read_on d n n j) (on_reach (read_records d n count)) OfReach (OfLeft Joy) (names-read_on d n n j last is)
+    (λ now reach e. by reach now e (λ (here : Job) there. names-records d n count here now there))
+  where
+    by : (reach : Option Reach) (now : ℕ) → OfReach now reach → ((here : Job) → now ≡ here.reading.client → Names now (read_records d n count here) (OfLeft Joy)) → Names now (on_reach (read_records d n count) reach) (OfLeft Joy)
+    by None now e more = tt
+    by (Some (handed_out here)) now e more = more here e
+    by (Some (line_ends here)) now e more = e
+
+names-start_joystick : (d : Description) (j : Job) (last : ℕ) → last ≡ j.reading.client → Names last (start_joystick d j) (OfLeft Joy)
+unfolding start_joystick
+names-start_joystick d j last is =
+    names-then last (noted (joy_start d (joying_of j)) j.sight) (λ o. finish (after_joy_start j o)) (λ (now : ℕ) (o : (Started × Joying) × List Sight). OfJoyStart now o.0) (OfLeft Joy)
+    (names-noted last (joy_start d (joying_of j)) j.sight OfJoyStart (names-joy_start d (joying_of j) last is))
+    (λ now o e. left-unless Joy now (start_lacks_memory o.0.0) (record (with_joying j o.0.1) { sight = o.1; stop = stop_after_start o.0.0 }) e)
+
+joystick-names : (d : Description) (n : ℕ) (command : Command) (j : Job) (last : ℕ) → last ≡ j.reading.client → Names last (joystick_talk d n command j) (OfLeft Joy)
+joystick-names d n Open j last is = names-start_joystick d j last is
+joystick-names d n (Read count) j last is = names-records d n count j last is
+joystick-names d n command j last is =
+    names-client_call Joy (λ k now e. e) (step_of j.reading.client command) j last (subst (λ (m : ℕ). OfStep (NamesOr m) (step_of j.reading.client command)) (sym is) (names-command j.reading.client command))
     (shut-command j.reading.client command refl) is
 
 -- Lines
@@ -423,6 +577,7 @@ names-role : (role : Role) (d : Description) (streams : List (List Stamped)) (wa
 names-role Source d streams wait n command j last is = names-source streams command j last
 names-role Client d streams wait n command j last is = names-client d wait n command j last is
 names-role Tap d streams wait n command j last is = names-tap command j last is
+names-role Joy d streams wait n command j last is = joystick-names d n command j last is
 
 names-unless : (role : Role) (stop : Option Stop) (j : Job) (talk : Talk (Option Job)) (last : ℕ) → ReadsAs role last j → Names last talk (OfLeft role) → Names last (unless_stopped stop j talk) (OfLeft role)
 names-unless role None j talk last is h = h
@@ -443,6 +598,7 @@ names-last None role j last is = is
 names-last (Some waiting) Source j last is = names-end j.stop j last
 names-last (Some waiting) Client j last is = is
 names-last (Some waiting) Tap j last is = is
+names-last (Some waiting) Joy j last is = is
 
 names-lines : (role : Role) (d : Description) (streams : List (List Stamped)) (wait : Option Waiting) (n : ℕ) (lines : List Line) (j : Job) (last : ℕ) → ReadsAs role last j → Names last (lines_talk role d streams wait n lines j) (OfLeft role)
 unfolding lines_talk
@@ -467,12 +623,13 @@ pub lines-name : (role : Role) (d : Description) (streams : List (List Stamped))
 lines-name role d streams wait n lines j k calls last h is =
     names-ends last (lines_talk role d streams wait n lines j) (OfLeft role) calls (Some k) (names-lines role d streams wait n lines j last is) h
 
-first-reads : (role : Role) (d : Description) → ReadsAs role NO_CLIENT (first_job d)
+first-reads : (role : Role) (d : Description) → ReadsAs role NO_CLIENT (first_job role d)
 first-reads Source d = tt
 first-reads Client d = refl
 first-reads Tap d = refl
+first-reads Joy d = refl
 
 -- before the first line a job has opened no client
-pub job-names : (role : Role) (d : Description) (streams : List (List Stamped)) (wait : Option Waiting) (n : ℕ) (lines : List Line) (k : Job) (calls : List Call) → EndsWith (lines_talk role d streams wait n lines (first_job d)) calls (Some k)
+pub job-names : (role : Role) (d : Description) (streams : List (List Stamped)) (wait : Option Waiting) (n : ℕ) (lines : List Line) (k : Job) (calls : List Call) → EndsWith (lines_talk role d streams wait n lines (first_job role d)) calls (Some k)
     → NameLast NO_CLIENT calls × ReadsAs role (last_opened NO_CLIENT calls) k
-job-names role d streams wait n lines k calls h = lines-name role d streams wait n lines (first_job d) k calls NO_CLIENT h (first-reads role d)
+job-names role d streams wait n lines k calls h = lines-name role d streams wait n lines (first_job role d) k calls NO_CLIENT h (first-reads role d)

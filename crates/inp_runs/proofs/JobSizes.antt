@@ -1,5 +1,5 @@
 -- How long the lists of a job's view are, by the fold that it is.
-use Rattle.std.proofs.Common.{◌≡◌, ◌*◌, Bool, true, false, if◌then◌else◌, List, [], ◌∷◌, length, sym, subst, ◌∙◌}
+use Rattle.std.proofs.Common.{◌≡◌, ◌*◌, Bool, true, false, not, if◌then◌else◌, List, [], ◌∷◌, length, sym, subst, ◌∙◌}
 use Rattle.inp_model.specs.declared.event.TheConstants.{EV_SW, EV_LED}
 use Rattle.inp_model.specs.declared.event.Event.{Event}
 use Rattle.inp_model.specs.declared.taken.Taken.{Taken}
@@ -10,13 +10,14 @@ use Rattle.inp_model.specs.declared.reply.Reply.TheVariants.{Opened}
 use Rattle.inp_model.specs.Description.{Description}
 use Rattle.inp_model.specs.Reply.{is_accepted}
 use Rattle.inp_actors.specs.declared.role.Role.{Role}
-use Rattle.inp_actors.specs.declared.role.Role.TheVariants.{Source, Client, Tap}
+use Rattle.inp_actors.specs.declared.role.Role.TheVariants.{Source, Client, Tap, Joy}
+use Rattle.inp_actors.specs.Command.{is_joy}
 use Rattle.inp_recon.specs.declared.view.View.{View}
 use Rattle.inp_recon.specs.View.{IsSizedFor, first_view, view_after_event, view_after_answer}
 use Rattle.inp_recon.proofs.Sizes.{IsSizedFor-first_view, length-keys_after_event, length-bits_after_event, length-axes_after_event, length-keys_after_answer, length-switches_after_answer, length-leds_after_answer, length-axes_after_answer}
 use Rattle.inp_reader.specs.Reading.{queries}
 use Rattle.inp_script.specs.declared.sight.Sight.{Sight}
-use Rattle.inp_script.specs.declared.sight.Sight.TheVariants.{Call, Took, Made, Again}
+use Rattle.inp_script.specs.declared.sight.Sight.TheVariants.{Call, Took, Made, Again, Record}
 use Rattle.inp_script.specs.Fold.{IsFolded, Folding, settled, asking, view_told, view_after_entry, tap_fold, asked_on, after_open_entry, after_first_call, after_query, after_client_call, after_client_event, after_client_entry, client_fold}
 use Rattle.inp_script.specs.Job.{Job}
 
@@ -55,6 +56,7 @@ long-entry d h v (Call x reply) l = long-told d h v x reply l
 long-entry d h v (Took taken) l = long-event v taken.event l
 long-entry d h v (Made event) l = l
 long-entry d h v (Again at ends) l = l
+long-entry d h v (Record bytes) l = l
 
 long-tap : (d : Description) (h : List Step) (v : View) (sight : List Sight) → IsLong v → IsLong (tap_fold d h v sight)
 unfolding tap_fold
@@ -102,6 +104,7 @@ long-client_entry d h f (Call x reply) l = long-call d h f x reply l
 long-client_entry d h f (Took taken) l = long-taken f taken l
 long-client_entry d h f (Made event) l = l
 long-client_entry d h f (Again at ends) l = l
+long-client_entry d h f (Record bytes) l = l
 
 long-client : (d : Description) (h : List Step) (f : Folding) (sight : List Sight) → AreLong f → AreLong (client_fold d h f sight)
 unfolding client_fold
@@ -110,12 +113,13 @@ long-client d h f (entry ∷ sight) l = long-client d h (after_client_entry d h 
 
 -- a job's view
 
-long-folded : (role : Role) (d : Description) (h : List Step) (j : Job) → IsFolded role d h j → IsLong j.reading.view
-long-folded Source d h j fold = subst IsLong (sym fold) (long-first d)
-long-folded Client d h j fold = subst AreLong fold (long-client d h (settled (first_view d)) j.sight (long-first d))
-long-folded Tap d h j fold = subst IsLong fold (long-tap d h (first_view d) j.sight (long-first d))
+long-folded : (role : Role) (d : Description) (h : List Step) (j : Job) → not (is_joy role) ≡ true → IsFolded role d h j → IsLong j.reading.view
+long-folded Source d h j other fold = subst IsLong (sym fold) (long-first d)
+long-folded Client d h j other fold = subst AreLong fold (long-client d h (settled (first_view d)) j.sight (long-first d))
+long-folded Tap d h j other fold = subst IsLong fold (long-tap d h (first_view d) j.sight (long-first d))
+long-folded Joy d h j other fold = absurd cc
 
-pub job-sized : (role : Role) (d : Description) (h : List Step) (j : Job) → IsFolded role d h j → length j.reading.view.cells ≡ 14 * d.slots → IsSizedFor d.slots j.reading.view
-job-sized role d h j fold cells =
-    let l : IsLong j.reading.view = long-folded role d h j fold in
+pub job-sized : (role : Role) (d : Description) (h : List Step) (j : Job) → not (is_joy role) ≡ true → IsFolded role d h j → length j.reading.view.cells ≡ 14 * d.slots → IsSizedFor d.slots j.reading.view
+job-sized role d h j other fold cells =
+    let l : IsLong j.reading.view = long-folded role d h j other fold in
     record { keys = l.keys; switches = l.switches; leds = l.leds; axes = l.axes; cells = cells }

@@ -6,7 +6,7 @@ use Rattle.inp_model.specs.Description.{Description}
 use Rattle.inp_model.specs.Run.{Call}
 use Rattle.inp_actors.specs.declared.line.Line.{Line}
 use Rattle.inp_actors.specs.declared.role.Role.{Role}
-use Rattle.inp_actors.specs.declared.role.Role.TheVariants.{Source, Client, Tap}
+use Rattle.inp_actors.specs.declared.role.Role.TheVariants.{Source, Client, Tap, Joy}
 use Rattle.inp_recon.proofs.Sizes.{IsSizedFor-first_view}
 use Rattle.inp_reader.specs.Talk.{Talk, finish, EndsWith}
 use Rattle.inp_script.specs.declared.sight.Sight.{Sight}
@@ -34,6 +34,7 @@ last-told None role j k calls h = same-told j k calls h
 last-told (Some waiting) Source j k calls h = end-told j.stop j k calls h
 last-told (Some waiting) Client j k calls h = same-told j k calls h
 last-told (Some waiting) Tap j k calls h = same-told j k calls h
+last-told (Some waiting) Joy j k calls h = same-told j k calls h
 
 lines-told : (role : Role) (d : Description) (streams : List (List Stamped)) (wait : Option Waiting) (n : ℕ) (lines : List Line) (j k : Job) (calls : List Call) → EndsWith (lines_talk role d streams wait n lines j) calls (Some k) → Tells calls j.sight k.sight
 unfolding lines_talk
@@ -54,12 +55,12 @@ lines-told role d streams wait n (line ∷ lines) j k calls h =
 
 -- Whether they wait or not
 
-pub job-told : (role : Role) (d : Description) (streams : List (List Stamped)) (wait : Option Waiting) (n : ℕ) (lines : List Line) (k : Job) (calls : List Call) → AreAnswered d calls → EndsWith (lines_talk role d streams wait n lines (first_job d)) calls (Some k) → AreTold wait calls k.sight
+pub job-told : (role : Role) (d : Description) (streams : List (List Stamped)) (wait : Option Waiting) (n : ℕ) (lines : List Line) (k : Job) (calls : List Call) → AreAnswered d calls → EndsWith (lines_talk role d streams wait n lines (first_job role d)) calls (Some k) → AreTold wait calls k.sight
 job-told role d streams None n lines k calls answered h =
     let kept : IsKept d k ([] ++ _) =
-    leaves-ends d (IsKeptIfSome d) [] (lines_talk role d streams None n lines (first_job d)) calls (Some k) answered h
-    (leaves-lines role d streams n lines (first_job d) [] (IsSizedFor-first_view d, refl)) in
+    leaves-ends d (IsKeptIfSome d) [] (lines_talk role d streams None n lines (first_job role d)) calls (Some k) answered h
+    (leaves-lines role d streams n lines (first_job role d) [] (IsSizedFor-first_view d, refl)) in
     sym kept.1
 job-told role d streams (Some waiting) n lines k calls answered h =
-    let t : Tells calls [] k.sight = lines-told role d streams (Some waiting) n lines (first_job d) k calls h in
+    let t : Tells calls [] k.sight = lines-told role d streams (Some waiting) n lines (first_job role d) k calls h in
     record { kept = t.kept; part = t.part; entries = t.entries ∙ ap (λ (es : List Sight). filter is_call_entry es) (sym t.sight) }

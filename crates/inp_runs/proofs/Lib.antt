@@ -19,6 +19,8 @@ pub mod ClientReports
 pub mod JobViews
 pub mod JobTold
 pub mod JobSizes
+pub mod JobEnds
 pub mod Done
+pub mod Played
 pub mod MoreRounds
 pub mod DoingAll

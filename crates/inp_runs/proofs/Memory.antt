@@ -1,6 +1,6 @@
 -- A line whose Open was refused for want of memory leaves no job.
-use Rattle.std.proofs.Common.{◌≡◌, ℕ, zero, suc, Bool, true, false, if◌then◌else◌, List, [], ◌∷◌, ◌++◌, length, Option, Some, None, refl, sym, ap, subst, ◌∙◌, inl, inr}
-use Rattle.std.specs.Prelude.{Result, Ok, Err}
+use Rattle.std.proofs.Common.{◌≡◌, ℕ, zero, suc, ◌+◌, Bool, true, false, if◌then◌else◌, List, [], ◌∷◌, ◌++◌, length, Option, Some, None, refl, sym, ap, subst, ◌∙◌, inl, inr}
+use Rattle.std.specs.Prelude.{Result, Ok, Err, slice_get}
 use Rattle.std.specs.List.{list_any}
 use Rattle.inp_model.specs.declared.event.TheConstants.{EV_KEY, EV_LED, EV_SW}
 use Rattle.inp_model.specs.declared.stamped.Stamped.{Stamped}
@@ -16,10 +16,10 @@ use Rattle.inp_model.specs.Past.{past_at}
 use Rattle.inp_model.specs.Reply.{Answer, answer, accepted, alone, is_accepted}
 use Rattle.inp_model.specs.Run.{Call, HasPlace, IsLegalFrom, place_of, next_place}
 use Rattle.inp_actors.specs.declared.command.Command.{Command}
-use Rattle.inp_actors.specs.declared.command.Command.TheVariants.{Stream, Stream16, Open, Next, Skip, Follow, Force}
+use Rattle.inp_actors.specs.declared.command.Command.TheVariants.{Stream, Stream16, Open, Read, Next, Skip, Follow, Force}
 use Rattle.inp_actors.specs.declared.line.Line.{Line}
 use Rattle.inp_actors.specs.declared.role.Role.{Role}
-use Rattle.inp_actors.specs.declared.role.Role.TheVariants.{Source, Client, Tap}
+use Rattle.inp_actors.specs.declared.role.Role.TheVariants.{Source, Client, Tap, Joy}
 use Rattle.inp_actors.specs.Command.{is_command_of}
 use Rattle.inp_recon.specs.declared.view.View.{View}
 use Rattle.inp_recon.specs.View.{view_after_answer}
@@ -31,13 +31,20 @@ use Rattle.inp_reader.specs.declared.phase.Phase.TheVariants.{Plain, Needed, Han
 use Rattle.inp_reader.specs.declared.reader.TheConstants.{NO_CLIENT}
 use Rattle.inp_reader.specs.declared.started.Started.{Started}
 use Rattle.inp_reader.specs.Reading.{Reading, ask_each, only_if, bit_queries, axis_queries, slot_queries, plain_axes, queries, start_talk, after_open, after_queries, read_or_hand_out, read_talk, plain_talk, as_plain, go_on, go_on_after, after_full_sync, sync_talk, talk_in, next_talk}
+use Rattle.inp_joy.specs.declared.joy_read.JoyRead.{JoyRead}
+use Rattle.inp_joy.specs.declared.joy_read.JoyRead.TheVariants.{Frame, More}
+use Rattle.inp_joy.specs.declared.joy_record.JoyRecord.{JoyRecord}
+use Rattle.inp_joy.specs.Joying as joy
+use Rattle.inp_joy.specs.Joying.{Joying, JoyAnswer, Turn as JoyTurn, gives, goes_on as reads_on, startup, with_reading, joy_started, joy_start, stop_with, is_lost, after_sync, sync_turn, after_normal, event_turn, record_or_turn, turn_talk, with_count, is_long, after_turn, turns}
+use Rattle.inp_reader.specs.Standing.{is_needed}
 use Rattle.inp_reader.specs.Talk.{Talk, finish, ask, and_then, LeadsTo, EndsWith}
 use Rattle.inp_script.specs.declared.sight.Sight.{Sight}
 use Rattle.inp_script.specs.declared.stop.Stop.{Stop}
 use Rattle.inp_script.specs.declared.waiting.Waiting.{Waiting}
 use Rattle.inp_script.specs.Client.{Going, Turn, goes_on, ends_with, is_done, mode_of, start_ends, start_job, after_next, next_round, on_turn, rounds, hand_talk, client_talk}
 use Rattle.inp_script.specs.Doing.{command_talk, unless_stopped, line_talk}
-use Rattle.inp_script.specs.Job.{Job}
+use Rattle.inp_script.specs.Job.{Job, joying_of}
+use Rattle.inp_script.specs.Joystick.{Reach, handed_out, line_ends, after_joy_start, start_joystick, after_joy_answer, after_read as after_joy_read, after_turns, read_on, on_reach, read_records, joystick_talk}
 use Rattle.inp_script.specs.Line.{step_of, call_if, after_call, stream_talk, stream_at, source_talk, end_talk, tap_call_if}
 use Rattle.inp_script.specs.Sight.{noted, call_sight}
 use Rattle.inp_script.proofs.Replies.{answer_has}
@@ -223,10 +230,106 @@ gives_up-client d wait n Follow j = no_open-gives_up (hand_talk d wait false Non
 gives_up-client d wait n Force j = tt
 gives_up-client d wait n command j = gives_up-call (step_of j.reading.client command) j refl
 
+-- The lines of a joystick
+
+no_open-sync_turn : (d : Description) (k : Joying) → NoOpen (sync_turn d k)
+unfolding sync_turn
+no_open-sync_turn d k = no_open-then (next_talk d Synchronising k.reading) (λ o. finish (after_sync k o)) (no_open-next d Synchronising k.reading.phase k.reading) (λ o. tt)
+
+no_open-event_turn : (d : Description) (k : Joying) → NoOpen (event_turn d k)
+unfolding event_turn
+no_open-event_turn d k =
+    no_open-then (next_talk d Normal k.reading) (after_normal d k) (no_open-next d Normal k.reading.phase k.reading)
+    (λ o. by_flag (is_lost o.0) (with_reading k o.1) (joy.after_next d (with_reading k o.1) o.0))
+  where
+    by_flag : (b : Bool) (here : Joying) (turn : JoyTurn) → NoOpen (if b then sync_turn d here else finish turn)
+    by_flag true here turn = no_open-sync_turn d here
+    by_flag false here turn = tt
+
+no_open-joy_turn : (d : Description) (k : Joying) (out : Option JoyRecord) → NoOpen (record_or_turn d k out)
+no_open-joy_turn d k (Some r) = tt
+no_open-joy_turn d k None = by_flag (is_needed k.reading.phase)
+  where
+    by_flag : (b : Bool) → NoOpen (if b then sync_turn d k else event_turn d k)
+    by_flag true = no_open-sync_turn d k
+    by_flag false = no_open-event_turn d k
+
+no_open-counted : {A : Type 0} (talk : Talk A) (n : ℕ) → NoOpen talk → NoOpen (with_count talk n)
+no_open-counted (finish a) n h = tt
+no_open-counted (ask x rest) n h = (h.0, λ answer. no_open-counted (rest answer) (if is_accepted answer.reply then n + 1 else n) (h.1 answer))
+
+no_open-turns : (d : Description) (most n : ℕ) (k : Joying) → NoOpen (turns d most n k)
+unfolding turns
+no_open-turns d zero n k = tt
+no_open-turns d (suc most) n k =
+    no_open-then (with_count (turn_talk d k) n) (λ o. after_turn d (turns d most) o.0 o.1)
+    (no_open-counted (turn_talk d k) n (no_open-joy_turn d k (slice_get (startup d k.reading.view) k.handed)))
+    (λ o. by_turn o.0 o.1 (λ (m : ℕ) (here : Joying). no_open-turns d most m here))
+  where
+    by_turn : (m : ℕ) (turn : JoyTurn) → ((m : ℕ) (here : Joying) → NoOpen (turns d most m here)) → NoOpen (after_turn d (turns d most) m turn)
+    by_turn m (gives answer) more = tt
+    by_turn m (reads_on here) more = by_flag (is_long d here m)
+      where
+        by_flag : (b : Bool) → NoOpen (if b then finish (Some (stop_with More here)) else turns d most m here)
+        by_flag true = tt
+        by_flag false = more m here
+
+no_open-read_on : (d : Description) (most n : ℕ) (j : Job) → NoOpen (read_on d most n j)
+unfolding read_on
+no_open-read_on d most zero j = tt
+no_open-read_on d most (suc n) j =
+    no_open-then (noted (turns d most 0 (joying_of j)) j.sight) (λ o. after_turns (read_on d most n) j o.0 o.1)
+    (no_open-noted (turns d most 0 (joying_of j)) j.sight (no_open-turns d most 0 (joying_of j)))
+    (λ o. by_answer o.0 o.1 (no_open-read_on d most n))
+  where
+    by_read : (read : JoyRead) (here : Job) → NoOpen (read_on d most n here) → NoOpen (after_joy_read (read_on d most n) read here)
+    by_read (Frame place) here more = more
+    by_read More here more = more
+    by_read _ here more = tt
+
+    by_answer : (read : Option JoyAnswer) (sight : List Sight) → ((here : Job) → NoOpen (read_on d most n here)) → NoOpen (after_turns (read_on d most n) j read sight)
+    by_answer None sight more = tt
+    by_answer (Some answer) sight more = by_read answer.read (after_joy_answer j answer sight) (more (after_joy_answer j answer sight))
+
+no_open-records : (d : Description) (n count : ℕ) (j : Job) → NoOpen (read_records d n count j)
+unfolding read_records
+no_open-records d n zero j = tt
+no_open-records d n (suc count) j = no_open-then (read_on d n n j) (on_reach (read_records d n count)) (no_open-read_on d n n j) (by_reach (no_open-records d n count))
+  where
+    by_reach : ((here : Job) → NoOpen (read_records d n count here)) → (reach : Option Reach) → NoOpen (on_reach (read_records d n count) reach)
+    by_reach more None = tt
+    by_reach more (Some (handed_out here)) = more here
+    by_reach more (Some (line_ends here)) = tt
+
+-- its start asks for nothing more where its Open was refused
+gives_up-joy_start : (d : Description) (j : Job) → GivesUp (start_joystick d j)
+unfolding start_joystick joy_start start_talk
+gives_up-joy_start d j = ((λ e n. refl), λ answer. by_reply answer.reply (j.sight ++ call_sight ToOpen answer.reply))
+  where
+    by_reply : (reply : Reply) (sight : List Sight) → GivesUp (and_then (noted (and_then (after_open d j.reading reply) (λ o. finish (joy_started d (joying_of j) o))) sight) (λ o. finish (after_joy_start j o)))
+    by_reply (Opened at client ring) sight =
+        let asks : Talk (Result View Reply) = ask_each (queries d client) j.reading.view in
+        let start : Talk (Started × Reading) = and_then asks (λ asked. finish (after_queries client ring j.reading asked)) in
+        let talk : Talk (Started × Joying) = and_then start (λ o. finish (joy_started d (joying_of j) o)) in
+        no_open-gives_up (and_then (noted talk sight) (λ o. finish (after_joy_start j o)))
+        (no_open-then (noted talk sight) (λ o. finish (after_joy_start j o))
+        (no_open-noted talk sight
+        (no_open-then start (λ o. finish (joy_started d (joying_of j) o))
+        (no_open-then asks (λ asked. finish (after_queries client ring j.reading asked)) (no_open-ask_each (queries d client) j.reading.view (no_open-queries d client)) (λ asked. tt))
+        (λ o. tt)))
+        (λ o. tt))
+    by_reply _ sight = tt
+
+joystick-gives_up : (d : Description) (n : ℕ) (command : Command) (j : Job) → GivesUp (joystick_talk d n command j)
+joystick-gives_up d n Open j = gives_up-joy_start d j
+joystick-gives_up d n (Read count) j = no_open-gives_up (read_records d n count j) (no_open-records d n count j)
+joystick-gives_up d n command j = gives_up-call (step_of j.reading.client command) j refl
+
 gives_up-command : (role : Role) (d : Description) (streams : List (List Stamped)) (wait : Option Waiting) (n : ℕ) (command : Command) (j : Job) → is_command_of role command ≡ true → GivesUp (command_talk role d streams wait n command j)
 gives_up-command Source d streams wait n command j h = gives_up-source streams command j h
 gives_up-command Client d streams wait n command j h = gives_up-client d wait n command j
 gives_up-command Tap d streams wait n command j h = gives_up-tap (step_of j.reading.client command) j
+gives_up-command Joy d streams wait n command j h = joystick-gives_up d n command j
 
 pub gives_up-line : (role : Role) (d : Description) (streams : List (List Stamped)) (wait : Option Waiting) (n : ℕ) (command : Command) (j : Job) → is_command_of role command ≡ true → GivesUp (line_talk role d streams wait n command j)
 unfolding line_talk
@@ -254,6 +357,7 @@ gives_up-last None role j = tt
 gives_up-last (Some waiting) Source j = gives_up-end j.stop j
 gives_up-last (Some waiting) Client j = tt
 gives_up-last (Some waiting) Tap j = tt
+gives_up-last (Some waiting) Joy j = tt
 
 pub gives_up-lines : (role : Role) (d : Description) (streams : List (List Stamped)) (wait : Option Waiting) (n : ℕ) (lines : List Line) (j : Job) → AreOfRole role lines → GivesUp (lines_talk role d streams wait n lines j)
 unfolding lines_talk

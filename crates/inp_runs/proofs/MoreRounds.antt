@@ -7,20 +7,16 @@ use Rattle.inp_actors.specs.declared.command.Command.{Command}
 use Rattle.inp_actors.specs.declared.command.Command.TheVariants.{Open, Next, Skip, Follow, Force}
 use Rattle.inp_actors.specs.declared.line.Line.{Line}
 use Rattle.inp_actors.specs.declared.role.Role.{Role}
-use Rattle.inp_actors.specs.declared.role.Role.TheVariants.{Source, Client, Tap}
+use Rattle.inp_actors.specs.declared.role.Role.TheVariants.{Source, Client, Tap, Joy}
 use Rattle.inp_reader.specs.Talk.{Talk, finish, and_then, EndsWith}
-use Rattle.inp_reader.proofs.Talks.{LeadsTo-append, LeadsTo-and_then}
 use Rattle.inp_script.specs.declared.stop.Stop.{Stop}
 use Rattle.inp_script.specs.declared.waiting.Waiting.{Waiting}
 use Rattle.inp_script.specs.Client.{Going, Turn, goes_on, ends_with, is_done, next_round, on_turn, rounds, hand_talk, client_talk}
 use Rattle.inp_script.specs.Doing.{command_talk, unless_stopped, line_talk}
 use Rattle.inp_script.specs.Job.{Job}
+use Rattle.inp_script.proofs.JoyLonger.{ends-then, joystick-longer}
 use Rattle.inp_script.proofs.LastAgain.{finish-only, and_then-parts}
 use Rattle.inp_runs.specs.Job.{on_job, lines_talk}
-
--- a talk, and the one that its result says, end with the calls of both
-pub ends-then : {A B : Type 0} (talk : Talk A) (next : A → Talk B) (mid : A) (result : B) (first second : List Call) → EndsWith talk first mid → EndsWith (next mid) second result → EndsWith (and_then talk next) (first ++ second) result
-ends-then talk next mid result first second h k = LeadsTo-append (and_then talk next) (next mid) (finish result) first second (LeadsTo-and_then talk (finish mid) next first h) k
 
 -- One line
 
@@ -67,8 +63,9 @@ command-longer : (role : Role) (d : Description) (streams : List (List Stamped))
 command-longer Source d streams wait n more command old = λ calls j h. h
 command-longer Client d streams wait n more command old = client-longer d wait n more command old
 command-longer Tap d streams wait n more command old = λ calls j h. h
+command-longer Joy d streams wait n more command old = λ calls j h. joystick-longer d n (n + more) command old j calls (omega arith) h
 
-line-longer : (role : Role) (d : Description) (streams : List (List Stamped)) (wait : Option Waiting) (n more : ℕ) (command : Command) (old : Job)
+pub line-longer : (role : Role) (d : Description) (streams : List (List Stamped)) (wait : Option Waiting) (n more : ℕ) (command : Command) (old : Job)
     → Lasts (line_talk role d streams wait n command old) (line_talk role d streams wait (n + more) command old)
 unfolding line_talk
 line-longer role d streams wait n more command old = by_stop old.stop

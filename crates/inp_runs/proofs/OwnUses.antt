@@ -41,7 +41,7 @@ use-names client x h =
     same-client (client_of x) client both.1
 
 pub own-uses : (role : Role) (d : Description) (history : List Step) (streams : List (List Stamped)) (wait : Option Waiting) (rounds : ℕ) (lines : List Line) (jobs : List JobView) (i : ℕ) (job : JobView) (last : Job) (calls : List Call) → HasOwners d history jobs → slice_get jobs i ≡ Some job
-    → IsLegalRun d history calls → AreTold wait calls job.sight → EndsWith (lines_talk role d streams wait rounds lines (first_job d)) calls (Some last) → OwnsItsUses history calls
+    → IsLegalRun d history calls → AreTold wait calls job.sight → EndsWith (lines_talk role d streams wait rounds lines (first_job role d)) calls (Some last) → OwnsItsUses history calls
 own-uses role d history streams wait rounds lines jobs i job last calls owners is_job legal told follows = λ client place x opened at used.
     own-steps d history jobs i job (record { calls = calls; legal = legal; told = told-counts wait calls job.sight told; names = (job-names role d streams wait rounds lines last calls follows).0 }) client place x owners is_job opened at (use-names client x used)
 

@@ -50,7 +50,7 @@ pub record HasOwners (d : Description) (history : List Step) (jobs : List JobVie
   pub short : length history < NO_CLIENT
 
 pub calls-of : (role : Role) (d : Description) (history : List Step) (streams : List (List Stamped)) (wait : Option Waiting) (rounds : ℕ) (lines : List Line) (job : JobView) (last : Job) (calls : List Call)
-    → IsLegalRun d history calls → AreTold wait calls job.sight → EndsWith (lines_talk role d streams wait rounds lines (first_job d)) calls (Some last) → AreCallsOf d history job
+    → IsLegalRun d history calls → AreTold wait calls job.sight → EndsWith (lines_talk role d streams wait rounds lines (first_job role d)) calls (Some last) → AreCallsOf d history job
 calls-of role d history streams wait rounds lines job last calls legal told follows =
     record { calls = calls; legal = legal; told = told-counts wait calls job.sight told; names = (job-names role d streams wait rounds lines last calls follows).0 }
 

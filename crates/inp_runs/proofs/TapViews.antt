@@ -45,7 +45,7 @@ use Rattle.inp_reader.proofs.Spares.{has-cells}
 use Rattle.inp_reader.proofs.Standings.{open-opens, opens-step}
 use Rattle.inp_reader.proofs.Supported.{events-of}
 use Rattle.inp_script.specs.declared.sight.Sight.{Sight}
-use Rattle.inp_script.specs.declared.sight.Sight.TheVariants.{Call as CallSight, Took, Made, Again as AgainSight}
+use Rattle.inp_script.specs.declared.sight.Sight.TheVariants.{Call as CallSight, Took, Made, Again as AgainSight, Record}
 use Rattle.inp_script.specs.Fold.{tap_fold}
 use Rattle.inp_script.specs.Job.{Job, first_job}
 use Rattle.inp_script.specs.Line.{step_of, client_after, event_of_taken, view_after_call, after_tap_call, tap_call_if, tap_talk, unless_lacking}
@@ -314,6 +314,7 @@ client_after-append client (CallSight x reply ∷ xs) ys = client_after-append (
 client_after-append client (Took taken ∷ xs) ys = client_after-append client xs ys
 client_after-append client (Made event ∷ xs) ys = client_after-append client xs ys
 client_after-append client (AgainSight at ends ∷ xs) ys = client_after-append client xs ys
+client_after-append client (Record bytes ∷ xs) ys = client_after-append client xs ys
 
 client_after-takens : (client : ℕ) (events : List Taken) → client_after_sight client (map taken_sight events) ≡ client
 unfolding client_after_sight
@@ -682,7 +683,7 @@ module _ (d : Description) (h : List Step) (Q : ℕ → Type 0) (history : IsHis
   pub tap-line : (least : ℕ) (j k : Job) (command : Command) (calls more : List Call) → is_command_of Tap command ≡ true → AreToCome d h Q least (calls ++ more) → EndsWith (tap_talk command j) calls (Some k) → TapStands d h Q least j → TapStands d h Q (place_behind least calls) k
   tap-line least j k command calls more of_role c ends s = tap-if least j k (step_of j.reading.client command) calls more (tap-step j.reading.client command of_role) c ends s
 
-  pub tap-first : TapStands d h Q 0 (first_job d)
+  pub tap-first : TapStands d h Q 0 (first_job Tap d)
   unfolding tap_fold client_after_sight
   tap-first = record {
     seen = tt;

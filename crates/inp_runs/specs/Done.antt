@@ -1,6 +1,6 @@
 -- What stands when the actors of a device have done all their lines, in whatever order their steps were made, and that this
 -- is all that is promised of the device (docs/PROMISES.md).
-use Rattle.std.specs.Prelude.{ℕ, ◌≡◌, ◌<◌, ◌*◌, List, length, map, slice_get, Option, Some}
+use Rattle.std.specs.Prelude.{ℕ, ◌≡◌, ◌<◌, List, length, map, slice_get, Option, Some}
 use Rattle.std.specs.List.{count_by, sum_by}
 use Rattle.inp_model.specs.declared.step.Step.{Step}
 use Rattle.inp_model.specs.Description.{Description, IsDescription}
@@ -10,20 +10,22 @@ use Rattle.inp_actors.specs.declared.device_text.DeviceText.{DeviceText}
 use Rattle.inp_actors.specs.declared.role.Role.{Role}
 use Rattle.inp_actors.specs.Record.{RecordView, IsRecord}
 use Rattle.inp_reader.specs.Talk.{EndsWith}
-use Rattle.inp_script.specs.declared.run.Run.{Run}
+use Rattle.inp_script.specs.declared.run.DeviceRun.{DeviceRun}
 use Rattle.inp_script.specs.declared.waiting.Waiting.{Waiting}
-use Rattle.inp_script.specs.Job.{ActorView, first_job, job_end}
-use Rattle.inp_script.specs.Runs.{actors_of, IsRunOf}
+use Rattle.inp_script.specs.Job.{ActorView, first_job}
+use Rattle.inp_script.specs.Runs.{actors_of, joysticks_of, joy_actors, IsRunOf}
+use Rattle.inp_script.specs.Ended.{HasCells, ended_of, device_run, played_of}
 use Rattle.inp_runs.specs.Job.{lines_by, lines_talk, is_entry_at, wait_of, IsRun, ArePromised}
 
 -- An actor did all its lines: its calls are a legal run of the device's history, and its job is what its lines and the
--- answers to these calls make. Its view has the device's slots.
+-- answers to these calls make. Its view has the device's slots, if a view comes of it.
 pub record HasFollowed (r : RecordView) (d : Description) (wait : Option Waiting) (history : List Step) (role : Role) (a : ActorView) : Type 0 where
   pub calls : List Call
   pub legal : IsLegalRun d history calls
   pub rounds : ℕ
-  pub follows : EndsWith (lines_talk role d r.streams wait rounds (lines_by a.actor r.lines) (first_job d)) calls (Some a.job)
-  pub cells : length a.job.reading.view.cells ≡ 14 * d.slots
+  pub follows : EndsWith (lines_talk role d r.streams wait rounds (lines_by a.actor r.lines) (first_job role d)) calls (Some a.job)
+  pub is_role : a.role ≡ role
+  pub cells : HasCells d (ended_of a)
 
 -- how many accepted calls at this place an actor's sight tells of
 abbrev pub calls_at : ℕ → ActorView → ℕ
@@ -37,21 +39,22 @@ pub record IsDeviceDone (idle : Option ℕ) (r : RecordView) (i : ℕ) (d : Desc
   pub once : (place : ℕ) → place < length history → sum_by (calls_at place) actors ≡ 1
 
 -- All that is promised of what came of the device of this number.
-pub record IsRunAsPromised (idle : Option ℕ) (r : RecordView) (i : ℕ) (device : DeviceText) (run : Run) : Type 0 where
-  pub run_of : IsRunOf r.actors i device run
-  pub is_run : IsRun r device.caps (wait_of idle r i) run
+pub record IsRunAsPromised (idle : Option ℕ) (r : RecordView) (i : ℕ) (device : DeviceText) (done : DeviceRun) : Type 0 where
+  pub run_of : IsRunOf r.actors i device done.run
+  pub joys_of : joy_actors done.joys ≡ joysticks_of r.actors i
+  pub is_run : IsRun r device.caps (wait_of idle r i) done.run done.joys
 
 -- what comes of a device whose actors did all their lines is promised
 abbrev pub DevicesDoneArePromised : Type 0
 DevicesDoneArePromised =
     (idle : Option ℕ) (r : RecordView) (i : ℕ) (device : DeviceText) (history : List Step) (actors : List ActorView)
     → IsRecord r → IsDescription device.caps → IsDeviceDone idle r i device.caps history actors
-    → IsRunAsPromised idle r i device (record { history = history; jobs = map job_end actors })
+    → IsRunAsPromised idle r i device (device_run history (map ended_of actors))
 
 -- the devices of a record know nothing of each other: what is promised of each is promised of all
 abbrev pub AllAsPromised : Type 0
 AllAsPromised =
-    (idle : Option ℕ) (r : RecordView) (runs : List Run)
-    → length runs ≡ length r.devices
-    → ((i : ℕ) (device : DeviceText) (run : Run) → slice_get r.devices i ≡ Some device → slice_get runs i ≡ Some run → IsRunAsPromised idle r i device run)
-    → ArePromised idle r runs
+    (idle : Option ℕ) (r : RecordView) (done : List DeviceRun)
+    → length done ≡ length r.devices
+    → ((i : ℕ) (device : DeviceText) (run : DeviceRun) → slice_get r.devices i ≡ Some device → slice_get done i ≡ Some run → IsRunAsPromised idle r i device run)
+    → ArePromised idle r (played_of done)

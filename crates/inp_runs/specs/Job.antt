@@ -1,5 +1,5 @@
 -- What is promised of what came of a record, whatever the order of its jobs' steps (docs/PROMISES.md).
-use Rattle.std.specs.Prelude.{ℕ, suc, ◌≡◌, ◌≤◌, Bool, true, false, ◌&&◌, if◌then◌else◌, nat_eq, nat_lt, List, [], ◌∷◌, length, filter, take, reverse, slice_get, Option, Some, None}
+use Rattle.std.specs.Prelude.{ℕ, suc, ◌+◌, ◌≡◌, ◌≤◌, Bool, true, false, ◌&&◌, if◌then◌else◌, nat_eq, nat_lt, List, [], ◌∷◌, length, filter, take, reverse, slice_get, Option, Some, None}
 use Rattle.std.specs.List.{count_by, list_any, sum_by}
 use Rattle.inp_model.specs.declared.stamped.Stamped.{Stamped}
 use Rattle.inp_model.specs.declared.taken.Taken.{Taken}
@@ -13,7 +13,7 @@ use Rattle.inp_model.specs.Reply.{is_accepted}
 use Rattle.inp_model.specs.Run.{IsLegalRun, place_of}
 use Rattle.inp_model.specs.Run as model
 use Rattle.inp_actors.specs.declared.role.Role.{Role}
-use Rattle.inp_actors.specs.declared.role.Role.TheVariants.{Source}
+use Rattle.inp_actors.specs.declared.role.Role.TheVariants.{Source, Joy}
 use Rattle.inp_actors.specs.declared.actor_text.ActorText.{ActorText}
 use Rattle.inp_actors.specs.declared.device_text.DeviceText.{DeviceText}
 use Rattle.inp_actors.specs.declared.line.Line.{Line}
@@ -21,16 +21,17 @@ use Rattle.inp_actors.specs.Record.{RecordView}
 use Rattle.inp_model.specs.History.{IsHistory}
 use Rattle.inp_recon.specs.Faithful.{IsFaithful}
 use Rattle.inp_reader.specs.Talk.{Talk, finish, and_then, EndsWith}
+use Rattle.inp_script.specs.declared.run.Played.{Played}
 use Rattle.inp_script.specs.declared.run.Run.{Run}
 use Rattle.inp_script.specs.declared.sight.Sight.{Sight}
 use Rattle.inp_script.specs.declared.sight.Sight.TheVariants.{Call, Took}
 use Rattle.inp_script.specs.declared.waiting.Waiting.{Waiting}
 use Rattle.inp_script.specs.Doing.{line_talk, source_count}
 use Rattle.inp_script.specs.Fold.{IsFolded}
-use Rattle.inp_script.specs.Job.{Job, JobView, first_job, job_end}
+use Rattle.inp_script.specs.Job.{Job, JobView, JoyJobView, first_job, job_end, joy_end}
 use Rattle.inp_script.specs.Legal.{entries_of, is_call_entry, LeavesOut}
 use Rattle.inp_script.specs.Line.{end_talk}
-use Rattle.inp_script.specs.Runs.{AreRunsOf}
+use Rattle.inp_script.specs.Runs.{is_on_device, AreRunsOf, AreJoysOf}
 use Rattle.inp_runs.specs.JobViews.{AreEventsOwn, AreReportsSeen, ShowsTheState, reads_as, index_in_history, sight_view}
 use Rattle.inp_runs.specs.Losses.{AreLossesCaused}
 
@@ -87,7 +88,7 @@ pub record IsJob (r : RecordView) (d : Description) (wait : Option Waiting) (his
   pub rounds : ℕ
   pub last : Job
   -- it follows its lines
-  pub follows : EndsWith (lines_talk role d r.streams wait rounds (lines_by job.actor r.lines) (first_job d)) calls (Some last)
+  pub follows : EndsWith (lines_talk role d r.streams wait rounds (lines_by job.actor r.lines) (first_job role d)) calls (Some last)
   -- each event that it took is the one of its own index among those that its client took
   pub own : AreEventsOwn d history job.sight
   -- each loss that it took has its cause
@@ -95,6 +96,22 @@ pub record IsJob (r : RecordView) (d : Description) (wait : Option Waiting) (his
   -- its view is the fold of its whole sight
   pub folded : IsFolded role d history last
   pub ended : job ≡ job_end (record { actor = job.actor; role = role; description = d; job = last })
+
+-- What came of a joystick's job: the same of its calls, and its sight and its picture are what its lines and the answers to
+-- these calls make.
+pub record IsJoyJob (r : RecordView) (d : Description) (wait : Option Waiting) (history : List Step) (joy : JoyJobView) : Type 0 where
+  pub calls : List model.Call
+  pub legal : IsLegalRun d history calls
+  pub memory : list_any lacks_memory calls ≡ false
+  -- they are those that its sight tells of
+  pub told : AreTold wait calls joy.sight
+  pub rounds : ℕ
+  pub last : Job
+  -- it follows its lines
+  pub follows : EndsWith (lines_talk Joy d r.streams wait rounds (lines_by joy.actor r.lines) (first_job Joy d)) calls (Some last)
+  -- its picture is what the records of its last startup and those behind it make
+  pub pictured : IsFolded Joy d history last
+  pub ended : joy ≡ joy_end (record { actor = joy.actor; role = Joy; description = d; job = last })
 
 -- an accepted call at this place of the history
 abbrev pub is_entry_at : ℕ → Sight → Bool
@@ -105,18 +122,24 @@ is_entry_at place _ = false
 abbrev pub entries_at : ℕ → List JobView → ℕ
 entries_at place jobs = sum_by (λ (job : JobView). count_by (is_entry_at place) job.sight) jobs
 
+-- the same of the jobs of joysticks
+abbrev pub joy_entries_at : ℕ → List JoyJobView → ℕ
+joy_entries_at place joys = sum_by (λ (joy : JoyJobView). count_by (is_entry_at place) joy.sight) joys
+
 -- What came of a device: one history within the limit; each of its jobs follows its lines on that history; and each place
--- of the history is the place of exactly one accepted call of exactly one job.
-pub record IsRun (r : RecordView) (d : Description) (wait : Option Waiting) (run : Run) : Type 0 where
+-- of the history is the place of exactly one accepted call of exactly one job. The jobs are the device's, with those of its
+-- joysticks.
+pub record IsRun (r : RecordView) (d : Description) (wait : Option Waiting) (run : Run) (joy_jobs : List JoyJobView) : Type 0 where
   pub within : length run.history ≤ d.log_limit
   pub jobs : (i : ℕ) (job : JobView) (text : ActorText) → slice_get run.jobs i ≡ Some job → slice_get r.actors job.actor ≡ Some text → IsJob r d wait run.history text.role job
+  pub joys : (i : ℕ) (joy : JoyJobView) → slice_get joy_jobs i ≡ Some joy → IsJoyJob r d wait run.history joy
   -- each step of the history was accepted after those before it
   pub accepted : IsHistory d (reverse run.history)
   -- the history is faithful to each client
   pub faithful : (client : ℕ) → IsFaithful d (reverse run.history) client
   -- at each report that a job took, its view is the one that its client has in the history
   pub seen : (i : ℕ) (job : JobView) (text : ActorText) → slice_get run.jobs i ≡ Some job → slice_get r.actors job.actor ≡ Some text → AreReportsSeen d run.history text.role job.sight
-  pub once : (place : ℕ) → entries_at place run.jobs ≡ (if nat_lt place (length run.history) then 1 else 0)
+  pub once : (place : ℕ) → entries_at place run.jobs + joy_entries_at place joy_jobs ≡ (if nat_lt place (length run.history) then 1 else 0)
 
 -- each device has a description
 abbrev pub AreDescribed : RecordView → Type 0
@@ -128,18 +151,23 @@ abbrev pub wait_of : Option ℕ → RecordView → ℕ → Option Waiting
 wait_of None r device = None
 wait_of (Some idle) r device = Some (record { idle = idle; sources = source_count r device })
 
+-- the jobs of the joysticks of this device
+abbrev pub joys_on : RecordView → List JoyJobView → ℕ → List JoyJobView
+joys_on r joys device = filter (λ (joy : JoyJobView). is_on_device device (slice_get r.actors joy.actor)) joys
+
 -- What came of a record: one run for each device, with one job for each of its actors, and each run is as above. With a
 -- number, lines waited so.
-pub record ArePromised (idle : Option ℕ) (r : RecordView) (runs : List Run) : Type 0 where
-  pub runs_of : AreRunsOf r runs
-  pub each : (i : ℕ) (device : DeviceText) (run : Run) → slice_get r.devices i ≡ Some device → slice_get runs i ≡ Some run → IsRun r device.caps (wait_of idle r i) run
+pub record ArePromised (idle : Option ℕ) (r : RecordView) (played : Played) : Type 0 where
+  pub runs_of : AreRunsOf r played.runs
+  pub joys_of : AreJoysOf r played.joys
+  pub each : (i : ℕ) (device : DeviceText) (run : Run) → slice_get r.devices i ≡ Some device → slice_get played.runs i ≡ Some run → IsRun r device.caps (wait_of idle r i) run (joys_on r played.joys i)
 
 -- at each report that a job took, its view up to then is the device's state at the end of that report's frame, where its
 -- client could follow the device up to there
 abbrev pub JobsShowTheDevice : Type 0
 JobsShowTheDevice =
-    (r : RecordView) (d : Description) (wait : Option Waiting) (run : Run) (i k : ℕ) (job : JobView) (text : ActorText) (taken : Taken)
-    → IsRun r d wait run → slice_get run.jobs i ≡ Some job → slice_get r.actors job.actor ≡ Some text
+    (r : RecordView) (d : Description) (wait : Option Waiting) (run : Run) (joys : List JoyJobView) (i k : ℕ) (job : JobView) (text : ActorText) (taken : Taken)
+    → IsRun r d wait run joys → slice_get run.jobs i ≡ Some job → slice_get r.actors job.actor ≡ Some text
     → slice_get job.sight k ≡ Some (Took taken) → is_report taken.event ≡ true
     → (let sight = take (suc k) job.sight in
     ShowsTheState d (reverse run.history) (reads_as sight) (index_in_history d run.history sight) taken (sight_view text.role d run.history sight))

@@ -1,4 +1,4 @@
--- What a job's view is at each report that it took (docs/RULES.md, "What a sight tells of the device").
+-- What a job's view is at each report that it took (docs/READER.md, "What a sight tells of the device").
 use Rattle.std.specs.Prelude.{ℕ, suc, ◌+◌, ◌-◌, ◌≡◌, ◌<◌, pos, Bool, true, false, ◌&&◌, if◌then◌else◌, nat_eq, List, [], ◌∷◌, length, map, take, reverse, slice_get, slice_index_or, Option, Some, None, option_map}
 use Rattle.inp_model.specs.declared.taken.Taken.{Taken}
 use Rattle.inp_model.specs.declared.step.Step.{Step}
@@ -11,7 +11,7 @@ use Rattle.inp_model.specs.Queue.{took}
 use Rattle.inp_model.specs.Reply.{is_accepted, taken_of}
 use Rattle.inp_model.specs.Run.{place_of}
 use Rattle.inp_actors.specs.declared.role.Role.{Role}
-use Rattle.inp_actors.specs.declared.role.Role.TheVariants.{Source, Client, Tap}
+use Rattle.inp_actors.specs.declared.role.Role.TheVariants.{Source, Client, Tap, Joy}
 use Rattle.inp_recon.specs.declared.view.View.{View}
 use Rattle.inp_recon.specs.View.{first_view}
 use Rattle.inp_recon.specs.ClientView.{past_before_read, read_up_to, view_at}
@@ -19,7 +19,7 @@ use Rattle.inp_recon.specs.Faithful.{IsReportAt, IsFollowed, IsDeviceState}
 use Rattle.inp_recon.specs.Synchronised.{has_axis, is_synchronised}
 use Rattle.inp_reader.specs.declared.reader.TheConstants.{NO_CLIENT}
 use Rattle.inp_script.specs.declared.sight.Sight.{Sight}
-use Rattle.inp_script.specs.declared.sight.Sight.TheVariants.{Call, Took, Made, Again}
+use Rattle.inp_script.specs.declared.sight.Sight.TheVariants.{Call, Took, Made, Again, Record}
 use Rattle.inp_script.specs.Fold.{Folding, settled, asking, tap_fold, client_fold}
 use Rattle.inp_script.specs.Line.{client_after}
 
@@ -29,6 +29,7 @@ client_after_entry client (Call x reply) = client_after x reply client
 client_after_entry client (Took taken) = client
 client_after_entry client (Made event) = client
 client_after_entry client (Again at ends) = client
+client_after_entry client (Record bytes) = client
 
 unfoldable pub client_after_sight : ℕ → List Sight → ℕ
 client_after_sight client [] = client
@@ -57,6 +58,7 @@ read_after_entry client last (Call x reply) =
 read_after_entry client last (Took taken) = option_map (λ (read : LastRead). record read { events = suc read.events }) last
 read_after_entry client last (Made event) = last
 read_after_entry client last (Again at ends) = last
+read_after_entry client last (Record bytes) = last
 
 unfoldable pub read_after_sight : ℕ → Option LastRead → List Sight → Option LastRead
 read_after_sight client last [] = last
@@ -95,6 +97,7 @@ folded_view (asking old new xs) = old
 abbrev pub sight_view : Role → Description → List Step → List Sight → View
 sight_view Source d history sight = first_view d
 sight_view Tap d history sight = tap_fold d history (first_view d) sight
+sight_view Joy d history sight = first_view d
 sight_view Client d history sight = folded_view (client_fold d history (settled (first_view d)) sight)
 
 -- Two views agree in each key, switch and LED, in each supported axis outside 0x2f to 0x3d, and in all values of all

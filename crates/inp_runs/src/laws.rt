@@ -7,9 +7,9 @@ ghost use Rattle.inp_runs.specs.Job.{JobsShowTheDevice};
 /// nothing: its contract is the point.
 ///
 /// Let each actor's calls be a legal run of the device's history and its job be what its lines and the answers to these
-/// calls make, let its view have the device's slots, and let each place of the history be one accepted call of one actor
-/// (`IsDeviceDone`). Then all that is promised of a run holds of the history and of what came of the actors
-/// (`IsRunAsPromised`).
+/// calls make, let its view, if one comes of it, have the device's slots, and let each place of the history be one accepted
+/// call of one actor (`IsDeviceDone`). Then all that is promised of a run holds of the history and of what came of the
+/// actors (`IsRunAsPromised`), jobs and joysticks' jobs apart.
 pub fn devices_done_are_promised()
     ensures promised { DevicesDoneArePromised }
 {}

@@ -5,15 +5,21 @@
 //! stands on `inp_script` for jobs and runs, on `inp_recon` and `inp_losses` for what is true of each client, and on no
 //! device.
 //!
-//! Its contract is a definition, `ArePromised` (`specs/Job.antt`), and what follows from it. Of each device there is one
-//! history in which each job's replies are the one-thread device's at their places, each sight follows its lines, and each
-//! place is one accepted call of one job; `specs/Losses.antt` and `specs/JobViews.antt` say why a job lost events, and what
-//! its view is at each report. So a job's view is the device's state where its client could follow
-//! ([`jobs_show_the_device`]).
+//! Its contract is a definition, `ArePromised` (`specs/Job.antt`), and what follows from it. Of each device there is
+//! one history in which each job's replies are the one-thread device's at their places, each sight, the joysticks' too,
+//! follows its lines, and each place is one accepted call of one job; `specs/Losses.antt` and `specs/JobViews.antt` say
+//! why a job lost events, and what its view is at each report. `docs/READER.md`, "Playing a record", has all parts. So
+//! a job's view at a report is the device's state at that frame's end where its client could follow
+//! ([`jobs_show_the_device`]). [`indices_on_a_short_sight`] shows the indices of equal events on a short sight. A
+//! joystick's job has a picture in place of a view: what its records make.
 //!
-//! What a player must show for it stands in `specs/Done.antt`: that each actor followed its lines on one history, of which
-//! each place is one accepted call of one actor ([`devices_done_are_promised`], [`all_as_promised`]). [`do_lines`] has an
-//! actor do all its lines over whatever evdev it is lent, and says so (`specs/DoingAll.antt`).
+//! What a player must show for it stands in `specs/Done.antt`: that each actor of a device followed its lines on one
+//! history, with a view of the device's slots, and that each place of the history is one accepted call of one actor, in
+//! whatever order the calls were made ([`devices_done_are_promised`]); and that this is so of each device by itself
+//! ([`all_as_promised`]). [`do_lines`] has an actor do all its lines over whatever evdev it is lent, and says so
+//! (`DoesAll`, `specs/DoingAll.antt`): the calls are those of its lines in file order, a source of a device where lines
+//! wait then says that it is done, and the job is their result. After want of memory too all that was done with the
+//! evdev is calls (`IsLeft`).
 #![tactic(auto)]
 
 mod doing;

@@ -28,7 +28,10 @@ returns-in-Client g c =
     its-role c.args.rec.now c.args.actor.now c.args.number text c.requires.actor c.requires.number
     (ap (λ (actors : List ActorText). slice_get actors c.args.number) (sym c.actors.ensures.actors) ∙ c.get.ensures.item) in
     record {
-      done = holds-nothing _ _ _ (last-reader c.args.wait c.args.actor.now.role c.args.actor.now.job (elim c.in-Client.is [ inl h ↦ inl (sym same ∙ h) | inr h ↦ inr (sym same ∙ h) ]));
+      done = holds-nothing _ _ _ (last-reader c.args.wait c.args.actor.now.role c.args.actor.now.job (elim c.in-Client.is [
+        | inl h ↦ inl (sym same ∙ h)
+        | inr rest ↦ elim rest [ inl h ↦ inr (inl (sym same ∙ h)) | inr h ↦ inr (inr (sym same ∙ h)) ]
+      ]));
       actor = refl;
       left = left-none _;
     }

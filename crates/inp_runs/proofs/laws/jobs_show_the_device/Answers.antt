@@ -30,6 +30,6 @@ shown d past client own taken view faithful s = record {
 
 pub returns : goal.returns
 returns c = record {
-  shown = λ r d wait run i k job text taken is_run is_job is_text at report.
+  shown = λ r d wait run joys i k job text taken is_run is_job is_text at report.
       shown d (reverse run.history) _ _ taken _ (is_run.faithful _) (is_run.seen i job text is_job is_text k taken at report);
 }

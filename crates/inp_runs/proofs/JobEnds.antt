@@ -1,0 +1,99 @@
+-- What came of a device's actors, apart: its jobs, and its joysticks' jobs.
+use Rattle.std.proofs.Common.{◌≡◌, ℕ, ◌+◌, ◌*◌, Bool, true, not, if◌then◌else◌, cond, List, [], ◌∷◌, length, map, refl, sym, ap, ◌∙◌, Some}
+use Rattle.std.specs.Prelude.{filter, slice_get}
+use Rattle.std.specs.List.{sum_by}
+use Rattle.std.proofs.lemmas.List.Sums.{sum_by-cons}
+use Rattle.std.proofs.lemmas.Option.{slice_get-map}
+use Rattle.inp_model.specs.Description.{Description}
+use Rattle.inp_actors.specs.declared.role.Role.{Role}
+use Rattle.inp_actors.specs.declared.role.Role.TheVariants.{Joy}
+use Rattle.inp_actors.specs.Command.{is_joy}
+use Rattle.inp_script.specs.Ended.{HasCells, ended_as, ended_of, jobs_among, joys_among}
+use Rattle.inp_script.specs.Job.{ActorView, JobView, JoyJobView, job_end, joy_end}
+use Rattle.inp_runs.specs.Done.{calls_at}
+use Rattle.inp_runs.specs.Job.{entries_at, joy_entries_at}
+use Rattle.inp_runs.proofs.Entries.{entries}
+use Rattle.inp_runs.proofs.Listing.{IsAt, IsImage, option_map-some, slice_get-filter, sum_by-kept, sum_by-split}
+
+-- an actor is a joystick, and it is none
+abbrev pub is_stick : ActorView → Bool
+is_stick a = is_joy a.role
+
+abbrev pub is_other : ActorView → Bool
+is_other a = not (is_joy a.role)
+
+pub joy-role : (role : Role) → is_joy role ≡ true → role ≡ Joy
+joy-role Joy h = refl
+joy-role _ h = absurd cc
+
+-- the jobs are those of the actors that are no joysticks
+pub jobs-kept : (actors : List ActorView) → jobs_among (map ended_of actors) ≡ map job_end (filter is_other actors)
+jobs-kept [] = refl
+jobs-kept (a ∷ actors) = by a.role (jobs-kept actors)
+  where
+    by : (role : Role) → jobs_among (map ended_of actors) ≡ map job_end (filter is_other actors) → jobs_among (ended_as role a ∷ map ended_of actors) ≡ map job_end (cond (not (is_joy role)) (a ∷ filter is_other actors) (filter is_other actors))
+    by Joy e = e
+    by _ e = ap (λ (jobs : List JobView). job_end a ∷ jobs) e
+
+-- and the others are those of the joysticks
+pub joys-kept : (actors : List ActorView) → joys_among (map ended_of actors) ≡ map joy_end (filter is_stick actors)
+joys-kept [] = refl
+joys-kept (a ∷ actors) = by a.role (joys-kept actors)
+  where
+    by : (role : Role) → joys_among (map ended_of actors) ≡ map joy_end (filter is_stick actors) → joys_among (ended_as role a ∷ map ended_of actors) ≡ map joy_end (cond (is_joy role) (a ∷ filter is_stick actors) (filter is_stick actors))
+    by Joy e = ap (λ (joys : List JoyJobView). joy_end a ∷ joys) e
+    by _ e = e
+
+-- this came of an actor that passes a test
+pub record IsEndOf {X : Type 0} (end : ActorView → X) (test : ActorView → Bool) (actors : List ActorView) (x : X) : Type 0 where
+  pub index : ℕ
+  pub actor : ActorView
+  pub is : slice_get actors index ≡ Some actor
+  pub passes : test actor ≡ true
+  pub same : end actor ≡ x
+
+end-of : {X : Type 0} (end : ActorView → X) (test : ActorView → Bool) (actors : List ActorView) (k : ℕ) (x : X) → slice_get (map end (filter test actors)) k ≡ Some x → IsEndOf end test actors x
+end-of end test actors k x h =
+    let kept : List ActorView = filter test actors in
+    let image : IsImage end (slice_get kept k) x = option_map-some end (slice_get kept k) x (sym (slice_get-map end kept k) ∙ h) in
+    let at : IsAt test actors image.from = slice_get-filter test actors k image.from image.is in
+    record { index = at.index; actor = image.from; is = at.is; passes = at.passes; same = image.same }
+
+pub job-end_of : (actors : List ActorView) (k : ℕ) (job : JobView) → slice_get (jobs_among (map ended_of actors)) k ≡ Some job → IsEndOf job_end is_other actors job
+job-end_of actors k job h = end-of job_end is_other actors k job (ap (λ (jobs : List JobView). slice_get jobs k) (sym (jobs-kept actors)) ∙ h)
+
+pub joy-end_of : (actors : List ActorView) (k : ℕ) (joy : JoyJobView) → slice_get (joys_among (map ended_of actors)) k ≡ Some joy → IsEndOf joy_end is_stick actors joy
+joy-end_of actors k joy h = end-of joy_end is_stick actors k joy (ap (λ (joys : List JoyJobView). slice_get joys k) (sym (joys-kept actors)) ∙ h)
+
+-- a view comes of an actor that is no joystick, which has the device's slots
+pub cells-of : (d : Description) (a : ActorView) → is_other a ≡ true → HasCells d (ended_of a) → length a.job.reading.view.cells ≡ 14 * d.slots
+cells-of d a other cells = by a.role other cells
+  where
+    by : (role : Role) → not (is_joy role) ≡ true → HasCells d (ended_as role a) → length a.job.reading.view.cells ≡ 14 * d.slots
+    by Joy h c = absurd cc
+    by _ h c = c
+
+-- the jobs and the joysticks' jobs have all entries
+pub split-sums : (place : ℕ) (actors : List ActorView) → entries_at place (jobs_among (map ended_of actors)) + joy_entries_at place (joys_among (map ended_of actors)) ≡ sum_by (calls_at place) actors
+split-sums place actors =
+    let jobs : entries_at place (jobs_among (map ended_of actors)) ≡ sum_by (λ (a : ActorView). if is_other a then calls_at place a else 0) actors =
+    ap (entries_at place) (jobs-kept actors) ∙ sum_by-kept (λ (job : JobView). entries place job.sight) job_end is_other actors in
+    let joys : joy_entries_at place (joys_among (map ended_of actors)) ≡ sum_by (λ (a : ActorView). if is_stick a then calls_at place a else 0) actors =
+    ap (joy_entries_at place) (joys-kept actors) ∙ sum_by-kept (λ (joy : JoyJobView). entries place joy.sight) joy_end is_stick actors in
+    ap (λ (n : ℕ). n + joy_entries_at place (joys_among (map ended_of actors))) jobs
+    ∙ ap (λ (n : ℕ). sum_by (λ (a : ActorView). if is_other a then calls_at place a else 0) actors + n) joys
+    ∙ sum_by-split (calls_at place) is_stick actors
+
+-- each actor counts as what comes of it
+pub sum-ends : (place : ℕ) (actors : List ActorView) → entries_at place (map job_end actors) ≡ sum_by (calls_at place) actors
+sum-ends place [] = refl
+sum-ends place (a ∷ actors) =
+    sum_by-cons (λ (job : JobView). entries place job.sight) (job_end a) (map job_end actors)
+    ∙ ap (λ (n : ℕ). calls_at place a + n) (sum-ends place actors)
+    ∙ sym (sum_by-cons (calls_at place) a actors)
+
+-- what comes of actors has their numbers
+pub end-numbers : {X : Type 0} (end : ActorView → X) (number : X → ℕ) → ((a : ActorView) → number (end a) ≡ a.actor) → (actors : List ActorView) → map number (map end actors) ≡ map (λ (a : ActorView). a.actor) actors
+end-numbers end number same [] = refl
+end-numbers end number same (a ∷ actors) =
+    ap (λ (n : ℕ). n ∷ map number (map end actors)) (same a) ∙ ap (λ (ns : List ℕ). a.actor ∷ ns) (end-numbers end number same actors)
