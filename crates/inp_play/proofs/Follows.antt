@@ -14,6 +14,7 @@ use Rattle.inp_model.specs.Queue.{event_of, visible, queue}
 use Rattle.inp_model.specs.Reply.{Answer, answer, refused, past_after, is_accepted}
 use Rattle.inp_model.proofs.Allowed.{allowed}
 use Rattle.inp_losses.proofs.Causes.{queue-room}
+use Rattle.inp_joy.specs.Joying.{Joying, joy_start, joy_started}
 use Rattle.inp_recon.specs.declared.view.View.{View}
 use Rattle.inp_recon.specs.View.{view_after_event, view_after_answer}
 use Rattle.inp_reader.specs.declared.mode.Mode.TheVariants.{Sync as Synchronising}
@@ -26,7 +27,8 @@ use Rattle.inp_reader.specs.Reading.{Reading, ask_each, queries, after_queries, 
 use Rattle.inp_reader.specs.Talk.{Talk, finish, ask, and_then}
 use Rattle.inp_script.specs.declared.sight.Sight.{Sight}
 use Rattle.inp_script.specs.Client.{Going, Turn, turn_after, after_next, mode_of, next_round, on_turn, rounds, hand_talk, start_job, start_ends}
-use Rattle.inp_script.specs.Job.{Job}
+use Rattle.inp_script.specs.Job.{Job, joying_of}
+use Rattle.inp_script.specs.Joystick.{after_joy_start, start_joystick}
 use Rattle.inp_script.specs.Line.{call_if, tap_call_if}
 use Rattle.inp_script.specs.Sight.{call_sight, noted}
 use Rattle.inp_script.proofs.Replies.{answer_has}
@@ -339,6 +341,19 @@ start-length d most j past h =
     let behind = talk_with-then d past (noted (start_talk d j.reading) j.sight) (λ (o : (Started × Reading) × List Sight). finish (start_ends o)) in
     let same : (talk_with d past (and_then (noted (start_talk d j.reading) j.sight) (λ (o : (Started × Reading) × List Sight). finish (start_ends o)))).1 ≡ (talk_with d past (start_talk d j.reading)).1 =
     ap (λ (t : Option Job × List Step). t.1) behind ∙ noted-past d past (start_talk d j.reading) j.sight in
+    omega (arith, ap length same, start-talk d most j.reading past h)
+
+-- and a joystick's start does the same
+pub joy_start-length : (d : Description) (most : ℕ) (j : Job) (past : List Step) → HasQueries d most → length (talk_with d past (start_joystick d j)).1 ≤ length past + suc most
+unfolding talk_with start_joystick joy_start
+joy_start-length d most j past h =
+    let start : Talk (Started × Reading) = start_talk d j.reading in
+    let started : Started × Reading → Talk (Started × Joying) = λ o. finish (joy_started d (joying_of j) o) in
+    let joy : Talk (Started × Joying) = and_then start started in
+    let behind = talk_with-then d past (noted joy j.sight) (λ (o : (Started × Joying) × List Sight). finish (after_joy_start j o)) in
+    let inside = talk_with-then d past start started in
+    let same : (talk_with d past (and_then (noted joy j.sight) (λ (o : (Started × Joying) × List Sight). finish (after_joy_start j o)))).1 ≡ (talk_with d past start).1 =
+    ap (λ (t : Option Job × List Step). t.1) behind ∙ noted-past d past joy j.sight ∙ ap (λ (t : (Started × Joying) × List Step). t.1) inside in
     omega (arith, ap length same, start-talk d most j.reading past h)
 
 one_more : (d : Description) (past : List Step) (x : Step) → length (past_after (answer d past x).reply x past) ≤ length past + 1

@@ -5,40 +5,24 @@ use Rattle.std.proofs.lemmas.Option.{option_and_then_some}
 use Rattle.inp_model.specs.declared.stamped.Stamped.{Stamped}
 use Rattle.inp_model.specs.declared.step.Step.{Step}
 use Rattle.inp_model.specs.Description.{Description, ring}
-use Rattle.inp_model.specs.Reply.{Answer, answer, past_after}
 use Rattle.inp_model.specs.Run.{Call}
 use Rattle.inp_actors.specs.declared.command.Command.{Command}
 use Rattle.inp_actors.specs.declared.command.Command.TheVariants.{Event, Open, Follow}
 use Rattle.inp_actors.specs.declared.line.Line.{Line}
 use Rattle.inp_actors.specs.declared.role.Role.{Role}
-use Rattle.inp_actors.specs.declared.role.Role.TheVariants.{Source, Client, Tap}
+use Rattle.inp_actors.specs.declared.role.Role.TheVariants.{Source, Client, Tap, Joy}
 use Rattle.inp_actors.specs.Record.{RecordView}
 use Rattle.inp_reader.specs.declared.reader.TheConstants.{NO_CLIENT}
-use Rattle.inp_reader.specs.Talk.{Talk, finish, ask, LeadsTo, EndsWith}
+use Rattle.inp_reader.specs.Talk.{Talk, EndsWith}
 use Rattle.inp_script.specs.declared.stop.Stop.{Stop}
 use Rattle.inp_script.specs.Doing.{command_talk, unless_stopped, line_talk}
 use Rattle.inp_script.specs.Job.{Job, ActorView}
 use Rattle.inp_script.specs.Line.{step_of}
 use Rattle.inp_order.specs.Play.{Stage, talk_with, after_line, after_lines}
-use Rattle.inp_order.proofs.Calls.{AreExact}
-use Rattle.inp_play.proofs.Follows.{HasQueries, follow-length, start-length, call-length, tap_call-length}
-use Rattle.inp_play.proofs.Limits.{Stays, NoStop, stays-with, stays-start, stays-follow, stays-call, stays-tap_call}
+use Rattle.inp_order.proofs.Calls.{AreExact, exact-talk}
+use Rattle.inp_play.proofs.Follows.{HasQueries, follow-length, start-length, joy_start-length, call-length, tap_call-length}
+use Rattle.inp_play.proofs.Limits.{Stays, NoStop, stays-with, stays-start, stays-joy_start, stays-follow, stays-call, stays-tap_call}
 use Rattle.inp_order.proofs.LineDone.{IsLineDone, line-done}
-
--- the calls that a device answered say what a talk with it leaves
-exact-talk : {A : Type 0} (d : Description) (past after : List Step) (talk : Talk A) (calls : List Call) (result : A) → EndsWith talk calls result → AreExact d past after calls → talk_with d past talk ≡ (result, after)
-unfolding LeadsTo talk_with
-exact-talk d past after (finish a) [] result ends exact =
-    let same : a ≡ result = cc in
-    ap (λ (x : _). (x, past)) same ∙ ap (λ (p : List Step). (result, p)) (sym exact)
-exact-talk d past after (finish a) (call ∷ calls) result ends exact = absurd ends
-exact-talk d past after (ask x rest) [] result ends exact = absurd (cc ends)
-exact-talk {A} d past after (ask x rest) (call ∷ calls) result ends exact =
-    let same : call.answer ≡ answer d past x = exact.0 ∙ ap (answer d past) ends.0 in
-    let more : talk_with d (past_after call.answer.reply call.step past) (rest call.answer) ≡ (result, after) =
-    exact-talk d (past_after call.answer.reply call.step past) after (rest call.answer) calls result ends.1 exact.1 in
-    subst (λ (a : Answer). talk_with d (past_after a.reply x past) (rest a) ≡ (result, after)) same
-    (subst (λ (y : Step). talk_with d (past_after call.answer.reply y past) (rest call.answer) ≡ (result, after)) ends.0 more)
 
 -- Commands
 
@@ -54,11 +38,13 @@ event-bound d moment kind code value = record { grows = by_length; stays = by_st
     by_length Source streams n j past = call-length d (step_of NO_CLIENT (Event moment kind code value)) j past
     by_length Client streams n j past = call-length d (step_of j.reading.client (Event moment kind code value)) j past
     by_length Tap streams n j past = tap_call-length d (step_of j.reading.client (Event moment kind code value)) j past
+    by_length Joy streams n j past = call-length d (step_of j.reading.client (Event moment kind code value)) j past
 
     by_stop : (role : Role) (streams : List (List Stamped)) (n : ℕ) (j : Job) → j.stop ≡ None → Stays NoStop (command_talk role d streams None n (Event moment kind code value) j)
     by_stop Source streams n j h = stays-call (step_of NO_CLIENT (Event moment kind code value)) j h
     by_stop Client streams n j h = stays-call (step_of j.reading.client (Event moment kind code value)) j h
     by_stop Tap streams n j h = stays-tap_call (step_of j.reading.client (Event moment kind code value)) j h
+    by_stop Joy streams n j h = stays-call (step_of j.reading.client (Event moment kind code value)) j h
 
 pub open-bound : (d : Description) (most : ℕ) → HasQueries d most → IsBound d Open (suc most)
 open-bound d most has = record { grows = by_length; stays = by_stop }
@@ -67,11 +53,13 @@ open-bound d most has = record { grows = by_length; stays = by_stop }
     by_length Source streams n j past = omega (arith, call-length d (step_of NO_CLIENT Open) j past)
     by_length Client streams n j past = start-length d most j past has
     by_length Tap streams n j past = omega (arith, tap_call-length d (step_of j.reading.client Open) j past)
+    by_length Joy streams n j past = joy_start-length d most j past has
 
     by_stop : (role : Role) (streams : List (List Stamped)) (n : ℕ) (j : Job) → j.stop ≡ None → Stays NoStop (command_talk role d streams None n Open j)
     by_stop Source streams n j h = stays-call (step_of NO_CLIENT Open) j h
     by_stop Client streams n j h = stays-start d j
     by_stop Tap streams n j h = stays-tap_call (step_of j.reading.client Open) j h
+    by_stop Joy streams n j h = stays-joy_start d j
 
 pub follow-bound : (d : Description) (most reads : ℕ) → HasQueries d most → ring d ≤ 64 * reads → IsBound d Follow (reads + suc most)
 follow-bound d most reads has fits = record { grows = by_length; stays = by_stop }
@@ -80,11 +68,13 @@ follow-bound d most reads has fits = record { grows = by_length; stays = by_stop
     by_length Source streams n j past = omega (arith, call-length d (step_of NO_CLIENT Follow) j past)
     by_length Client streams n j past = follow-length d most reads n j past has fits
     by_length Tap streams n j past = omega (arith, tap_call-length d (step_of j.reading.client Follow) j past)
+    by_length Joy streams n j past = omega (arith, call-length d (step_of j.reading.client Follow) j past)
 
     by_stop : (role : Role) (streams : List (List Stamped)) (n : ℕ) (j : Job) → j.stop ≡ None → Stays NoStop (command_talk role d streams None n Follow j)
     by_stop Source streams n j h = stays-call (step_of NO_CLIENT Follow) j h
     by_stop Client streams n j h = stays-follow d n j h
     by_stop Tap streams n j h = stays-tap_call (step_of j.reading.client Follow) j h
+    by_stop Joy streams n j h = stays-call (step_of j.reading.client Follow) j h
 
 -- Lines
 

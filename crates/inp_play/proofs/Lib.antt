@@ -4,5 +4,5 @@ pub mod Limits
 pub mod Growth
 pub mod PlayerLines
 pub mod PlayerMaking
-pub mod PlayerRuns
+pub mod Gathered
 pub mod PlayerSteps

@@ -12,6 +12,7 @@ use Rattle.inp_model.specs.declared.reply.Refusal.{Refusal}
 use Rattle.inp_model.specs.declared.reply.Refusal.TheVariants.{NoDevice as Revoked, LogFull}
 use Rattle.inp_model.specs.Description.{Description}
 use Rattle.inp_model.specs.Reply.{Answer, Case, answer, answer_by, accepted, first_reply, refusals, is_full, past_after, is_accepted}
+use Rattle.inp_joy.specs.Joying.{Joying, joy_start, joy_started}
 use Rattle.inp_recon.specs.declared.view.View.{View}
 use Rattle.inp_recon.specs.View.{view_after_event, view_after_answer}
 use Rattle.inp_reader.specs.declared.mode.Mode.{Mode}
@@ -26,7 +27,8 @@ use Rattle.inp_reader.specs.Talk.{Talk, finish, ask, and_then}
 use Rattle.inp_script.specs.declared.sight.Sight.{Sight}
 use Rattle.inp_script.specs.declared.sight.Sight.TheVariants.{Took, Made}
 use Rattle.inp_script.specs.Client.{Going, Turn, goes_on, ends_with, start_job, start_ends, after_start, handed as handed_out, one_less, is_done, with_sight, turn_after, after_next, mode_of, next_round, on_turn, rounds, hand_talk}
-use Rattle.inp_script.specs.Job.{Job}
+use Rattle.inp_script.specs.Job.{Job, joying_of, with_joying}
+use Rattle.inp_script.specs.Joystick.{after_joy_start, start_joystick}
 use Rattle.inp_script.specs.Line.{call_if, tap_call_if, after_tap_call}
 use Rattle.inp_script.specs.Sight.{call_sight, noted, stop_after, stop_after_start, lacks_memory, start_lacks_memory}
 use Rattle.inp_order.specs.Play.{talk_with}
@@ -140,12 +142,26 @@ unless-stop : (b : Bool) (j : Job) → j.stop ≡ None → NoStop (if b then Non
 unless-stop true j h = tt
 unless-stop false j h = h
 
+-- a client's start stops no job, and neither does a joystick's
 pub stays-start : (d : Description) (j : Job) → Stays NoStop (start_job d j)
 unfolding start_job start_talk
 stays-start d j =
     stays-then (λ (o : (Started × Reading) × List Sight). IsStarted o.0) NoStop (noted (start_talk d j.reading) j.sight) (λ o. finish (start_ends o))
     (stays-noted IsStarted (start_talk d j.reading) j.sight (λ given other. stays-opened d j.reading given.reply other))
     (λ o h. unless-stop (start_lacks_memory o.0.0) (after_start o.0.0 o.0.1 o.1) h)
+
+abbrev HasNoStop : Started × Joying → Type 0
+HasNoStop o = stop_after_start o.0 ≡ None
+
+pub stays-joy_start : (d : Description) (j : Job) → Stays NoStop (start_joystick d j)
+unfolding start_joystick joy_start start_talk
+stays-joy_start d j =
+    let start : Talk (Started × Reading) = start_talk d j.reading in
+    let started : Started × Reading → Talk (Started × Joying) = λ o. finish (joy_started d (joying_of j) o) in
+    stays-then (λ (o : (Started × Joying) × List Sight). HasNoStop o.0) NoStop (noted (and_then start started) j.sight) (λ o. finish (after_joy_start j o))
+    (stays-noted HasNoStop (and_then start started) j.sight
+    (stays-then IsStarted HasNoStop start started (λ given other. stays-opened d j.reading given.reply other) (λ o h. h)))
+    (λ o h. unless-stop (start_lacks_memory o.0.0) (record (with_joying j o.0.1) { sight = o.1; stop = stop_after_start o.0.0 }) h)
 
 -- Being handed events
 

@@ -43,16 +43,16 @@ has_description r device text h =
     let f : DeviceText → Description = λ t. t.caps in
     get_or_from_slice_get (map f r.devices) device text.caps syn_alone (slice_get-map f r.devices device ∙ ap (option_map f) h)
 
-made_first : (r : RecordView) (i : ℕ) (text : ActorText) (a : ActorView) → HasActor r a → a.actor ≡ i → a.job ≡ first_job a.description → slice_get r.actors i ≡ Some text → a ≡ first_actor r (i, text)
+made_first : (r : RecordView) (i : ℕ) (text : ActorText) (a : ActorView) → HasActor r a → a.actor ≡ i → a.job ≡ first_job a.role a.description → slice_get r.actors i ≡ Some text → a ≡ first_actor r (i, text)
 made_first r i text a has number job there =
     let same : has.text ≡ text = same_item r.actors i has.text text (ap (slice_get r.actors) (sym number) ∙ has.is_text) there in
     let role : a.role ≡ text.role = sym has.role ∙ ap (λ (t : ActorText). t.role) same in
     let description : a.description ≡ description_at r text.device =
     sym has.description ∙ sym (has_description r has.text.device has.device has.is_device) ∙ ap (λ (t : ActorText). description_at r t.device) same in
     ap (λ (j : _). record { actor = a.actor; role = a.role; description = a.description; job = j }) job
-    ∙ ap (λ (n : ℕ). record { actor = n; role = a.role; description = a.description; job = first_job a.description }) number
-    ∙ ap (λ (role : _). record { actor = i; role = role; description = a.description; job = first_job a.description }) role
-    ∙ ap (λ (d : Description). record { actor = i; role = text.role; description = d; job = first_job d }) description
+    ∙ ap (λ (n : ℕ). record { actor = n; role = a.role; description = a.description; job = first_job a.role a.description }) number
+    ∙ ap (λ (role : _). record { actor = i; role = role; description = a.description; job = first_job role a.description }) role
+    ∙ ap (λ (d : Description). record { actor = i; role = text.role; description = d; job = first_job text.role d }) description
 
 first_at : (r : RecordView) (i : ℕ) (text : ActorText) → slice_get r.actors i ≡ Some text → slice_get (first_actors r) i ≡ Some (first_actor r (i, text))
 first_at r i text h =
@@ -61,7 +61,7 @@ first_at r i text h =
     ∙ ap (option_map (first_actor r)) (slice_get-numbered 0 r.actors i ∙ ap (option_map (λ (t : ActorText). (0 + i, t))) h)
     ∙ ap (λ (n : ℕ). Some (first_actor r (n, text))) zero_more
 
-pub one_more_actor : (r : RecordView) (i : ℕ) (a : ActorView) (actors : List ActorView) → i < length r.actors → HasActor r a → a.actor ≡ i → a.job ≡ first_job a.description → actors ≡ take i (first_actors r) → actors ++ a ∷ [] ≡ take (i + 1) (first_actors r)
+pub one_more_actor : (r : RecordView) (i : ℕ) (a : ActorView) (actors : List ActorView) → i < length r.actors → HasActor r a → a.actor ≡ i → a.job ≡ first_job a.role a.description → actors ≡ take i (first_actors r) → actors ++ a ∷ [] ≡ take (i + 1) (first_actors r)
 one_more_actor r i a actors within has number job before =
     let t : (text : ActorText) × (slice_get r.actors i ≡ Some text) = some_item r.actors i within in
     ap (λ (xs : List ActorView). xs ++ a ∷ []) before

@@ -4,7 +4,8 @@ use Rattle.std.specs.Prelude.{option_map, option_and_then}
 use Rattle.std.proofs.lemmas.List.{take_all}
 use Rattle.inp_actors.specs.declared.line.Line.{Line}
 use Rattle.inp_actors.specs.Record.{RecordView}
-use Rattle.inp_script.specs.declared.run.Run.{Run}
+use Rattle.inp_script.specs.declared.run.Played.{Played}
+use Rattle.inp_script.specs.Ended.{played_of}
 use Rattle.inp_play.specs.declared.player.Player.{Player}
 use Rattle.inp_order.specs.Play.{Stage, first_stage, after_line, after_lines, runs_of, play, IsPlay}
 use Rattle.inp_play.specs.Player.{stage_of, IsPlayer, DoesOn, HasDone}
@@ -45,11 +46,11 @@ done-more r n old new done does is =
           ∙ one_line r more (stage_of old) (stage_of new) does.line last;
     }
 
-pub done-all : (r : RecordView) (n : ℕ) (p : Player) (runs : List Run) → HasDone r n p → length r.lines ≤ n → runs ≡ runs_of r (stage_of p) → IsPlay r runs
+pub done-all : (r : RecordView) (n : ℕ) (p : Player) (played : Played) → HasDone r n p → length r.lines ≤ n → played ≡ played_of (runs_of r (stage_of p)) → IsPlay r played
 unfolding play
-done-all r n p runs done all h = record {
+done-all r n p played done all h = record {
   rounds = done.rounds;
   plays =
-      ap (option_map (runs_of r)) (ap (after_lines r done.rounds (first_stage r)) (sym (take_all n r.lines all)) ∙ done.does)
-      ∙ ap (λ (rs : List Run). Some rs) (sym h);
+      ap (option_map (λ (s : Stage). played_of (runs_of r s))) (ap (after_lines r done.rounds (first_stage r)) (sym (take_all n r.lines all)) ∙ done.does)
+      ∙ ap (λ (x : Played). Some x) (sym h);
 }

@@ -1,14 +1,13 @@
 -- The devices and the actors of a record at work.
-use Rattle.std.specs.Prelude.{◌≡◌, ℕ, List, [], ◌∷◌, ◌++◌, length, map, take, reverse, slice_get, slice_set, Some}
+use Rattle.std.specs.Prelude.{◌≡◌, ℕ, List, [], length, map, take, slice_get, Some}
 use Rattle.std.specs.List.{enumerate_from}
 use Rattle.inp_model.specs.declared.step.Step.{Step}
 use Rattle.inp_model.specs.DeviceView.{DeviceView}
 use Rattle.inp_actors.specs.declared.device_text.DeviceText.{DeviceText}
 use Rattle.inp_actors.specs.declared.line.Line.{Line}
 use Rattle.inp_actors.specs.Record.{RecordView}
-use Rattle.inp_script.specs.declared.run.Run.{Run}
 use Rattle.inp_script.specs.Doing.{HasActor}
-use Rattle.inp_script.specs.Job.{ActorView, JobView}
+use Rattle.inp_script.specs.Job.{ActorView}
 use Rattle.inp_play.specs.declared.player.Player.{Player}
 use Rattle.inp_order.specs.Play.{Stage, first_actor, first_stage, after_line, after_lines}
 
@@ -56,15 +55,3 @@ pub record HasDone (r : RecordView) (count : ℕ) (p : Player) : Type 0 where
   pub player : IsPlayer r p
   pub rounds : ℕ
   pub does : after_lines r rounds (first_stage r) (take count r.lines) ≡ Some (stage_of p)
-
--- a run with one job more
-abbrev pub with_job : Run → JobView → Run
-with_job run job = record run { jobs = run.jobs ++ job ∷ [] }
-
--- a device's run before the jobs are there
-abbrev pub first_run : DeviceView → Run
-first_run device = record { history = reverse device.past; jobs = [] }
-
--- The run of this number has one job more.
-abbrev pub HasJobMore : List Run → List Run → ℕ → JobView → Type 0
-HasJobMore old new device job = (run : Run) → slice_get old device ≡ Some run → new ≡ slice_set old device (with_job run job)

@@ -1,13 +1,15 @@
 //! The devices and the actors of a record at work.
 ghost use Rattle.std.specs.Prelude.{◌≡◌, ◌<◌, length, map, OnOk, IfOk};
+ghost use Rattle.inp_script.specs.Ended.{played_of};
 ghost use Rattle.inp_runs.specs.Job.{AreDescribed};
 ghost use Rattle.inp_order.specs.Play.{first_stage, runs_of};
-ghost use Rattle.inp_play.specs.Player.{stage_of, first_device, first_actors, HasActors, IsPlayer, DoesOn, first_run, HasJobMore};
+ghost use Rattle.inp_play.specs.Player.{stage_of, first_device, first_actors, HasActors, IsPlayer, DoesOn};
 
+use crate::gathering::{device_runs, histories, number_of, push_end};
 use inp_actors::Record;
 use inp_device::Device;
 use inp_model::NoMemory;
-use inp_script::{Actor, JobEnd, Jobs, Run, Runs};
+use inp_script::{Actor, Played};
 use std::alloc::Global;
 
 /// The devices and the actors of a record, each in file order, with what they did so far.
@@ -43,18 +45,19 @@ impl Player {
     }
 
     // What came of the devices and of the actors.
-    pub(crate) fn finish(self, alloc: Global, rec: &Record) -> Result<Runs, NoMemory>
+    pub(crate) fn finish(self, alloc: Global, rec: &Record) -> Result<Played, NoMemory>
         requires player { IsPlayer rec.now self }
-        ensures runs { IfOk result (λ runs. runs ≡ runs_of rec.now (stage_of self)) }
+        ensures played { IfOk result (λ played. played ≡
+            played_of (runs_of rec.now (stage_of self))) }
     {
         let Player { devices, actors } = self;
-        let mut runs = histories(alloc, devices)?;
+        let mut gathered = histories(alloc, devices)?;
         for actor in actors {
-            let job = actor.finish();
-            let device = rec.actors().get(job.actor() as usize).device;
-            push_job(&mut runs, device as usize, job)?;
+            let end = actor.finish();
+            let device = rec.actors().get(number_of(&end) as usize).device;
+            push_end(&mut gathered, device as usize, end)?;
         }
-        Ok(Runs::of(runs))
+        Played::of(alloc, device_runs(alloc, gathered)?)
     }
 }
 
@@ -80,27 +83,4 @@ fn first_actors(alloc: Global, rec: &Record) -> Result<Vec<Actor>, NoMemory>
         actors.push(Actor::new(alloc, rec, actor)?)?;
     }
     Ok(actors)
-}
-
-// The runs of devices that no actor works on any more, as yet without jobs.
-fn histories(alloc: Global, devices: Vec<Device>) -> Result<Vec<Run>, NoMemory>
-    ensures { IfOk result (λ runs. runs.items ≡ map first_run devices.items) }
-{
-    let mut runs = Vec::new(alloc);
-    for device in devices {
-        runs.push(Run {
-            history: device.into_history(),
-            jobs: Jobs::new(alloc),
-        })?;
-    }
-    Ok(runs)
-}
-
-// Adds a job at the end of the run of this number.
-fn push_job(runs: &mut Vec<Run>, device: usize, job: JobEnd) -> Result<(), NoMemory>
-    requires { device < length runs.old.items }
-    ensures { OnOk result (HasJobMore runs.old.items runs.new.items device job) }
-{
-    runs[device].jobs.push(job)?;
-    Ok(())
 }

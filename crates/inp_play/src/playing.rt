@@ -6,15 +6,16 @@ ghost use Rattle.inp_order.specs.Play.{IsPlay};
 use crate::player::Player;
 use inp_actors::Record;
 use inp_model::NoMemory;
-use inp_script::Runs;
+use inp_script::Played;
 use std::alloc::Global;
 
-/// Does the lines of a record in file order, each by its actor on its device, and gives what came of the devices.
+/// Does the lines of a record in file order, each by its actor on its device, and gives what came of the devices and of
+/// the joysticks.
 ///
 /// It takes the memory of each device's history, of the actors, and of what they see. `NoMemory` comes where there is
-/// none, and no run is given then.
-pub fn play(alloc: Global, rec: &Record) -> Result<Runs, NoMemory>
-    ensures runs { IfOk result (IsPlay rec.now) }
+/// none, and nothing is given then.
+pub fn play(alloc: Global, rec: &Record) -> Result<Played, NoMemory>
+    ensures played { IfOk result (IsPlay rec.now) }
     ensures promised { IfOk result (ArePromised None rec.now) }
 {
     let mut player = Player::new(alloc, rec)?;

@@ -1,4 +1,4 @@
-//! The tests of playing: of `inp_recon`, `inp_reader` and `inp_script`. Whole plays are shown by the records of
+//! The tests of playing: of `inp_recon`, `inp_reader`, `inp_joy` and `inp_script`. Whole plays are shown by the records of
 //! `tests/records`.
 //!
 //! A crate with tests is proved twice, once without and once with them. So the crates under test have none of their own:
@@ -8,6 +8,8 @@
 
 #[cfg(test)]
 mod common;
+#[cfg(test)]
+mod joystick;
 #[cfg(test)]
 mod reader;
 #[cfg(test)]

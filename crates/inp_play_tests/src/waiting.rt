@@ -9,7 +9,7 @@ use crate::common::{actor, keyboard};
 use inp_actors::{Actors, Command, DeviceText, Devices, Line, Lines, Name, Record, Role, Streams};
 use inp_device::Device;
 use inp_model::NoMemory;
-use inp_script::{Actor, JobEnd, Sight, Stop, Waiting};
+use inp_script::{Actor, Ended, JobEnd, Sight, Stop, Waiting};
 use std::alloc::Global;
 use std::test::Fail;
 
@@ -66,19 +66,22 @@ fn do_line(client: &mut Actor, device: &mut Device, rec: &Record, line: u32) -> 
     client.line(device, rec, line, Some(waiting))
 }
 
-/// What comes of the client where the source is not done, and nothing is injected.
-fn end_of_client(alloc: Global) -> Result<JobEnd, NoMemory> {
+/// What comes of the client's job, which is no joystick's, where the source is not done, and nothing is injected.
+fn end_of_client(alloc: Global) -> Result<Option<JobEnd>, NoMemory> {
     let rec = record(alloc)?;
     let mut device = Device::new(alloc, keyboard())?;
     let mut client = Actor::new(alloc, &rec, 1)?;
     do_line(&mut client, &mut device, &rec, 0)?;
     do_line(&mut client, &mut device, &rec, 1)?;
-    Ok(client.finish())
+    match client.finish() {
+        Ended::Job { end } => Ok(Some(end)),
+        Ended::Joy { .. } => Ok(None),
+    }
 }
 
 #[test]
 fn a_client_waits_for_so_many_reads(rt: HostRuntime) -> Result<(), Fail> {
-    let job = end_of_client(rt.alloc())?;
+    let job = end_of_client(rt.alloc())?.expect(&rt, "a client is no joystick");
     // The open and the query of keys come first.
     assert_eq!(rt; *job.stop(), Stop::Idle { turns: 5, at: 2 });
     let sight = job.sight().as_slice();

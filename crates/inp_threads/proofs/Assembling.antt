@@ -1,5 +1,5 @@
 -- What comes of a device whose actors all did their lines, each on what it saw of the history.
-use Rattle.std.proofs.Common.{◌≡◌, ℕ, ◌*◌, ◌<◌, List, length, sym, ap, subst, ◌∙◌, Option, Some}
+use Rattle.std.proofs.Common.{◌≡◌, ℕ, ◌<◌, List, length, sym, ap, subst, ◌∙◌, Option, Some}
 use Rattle.std.specs.Prelude.{slice_get, map, flat_map}
 use Rattle.std.proofs.lemmas.Option.{slice_get-map, same_Some}
 use mathlib.Core.List.{IsPrefix}
@@ -10,7 +10,8 @@ use Rattle.inp_actors.specs.declared.device_text.DeviceText.{DeviceText}
 use Rattle.inp_actors.specs.Record.{RecordView, IsRecord}
 use Rattle.inp_script.specs.declared.waiting.Waiting.{Waiting}
 use Rattle.inp_script.specs.Doing.{HasActor}
-use Rattle.inp_script.specs.Job.{ActorView, job_end}
+use Rattle.inp_script.specs.Ended.{HasCells, ended_of, device_run}
+use Rattle.inp_script.specs.Job.{ActorView}
 use Rattle.inp_script.specs.Runs.{actors_of}
 use Rattle.inp_runs.specs.Done.{HasFollowed, IsDeviceDone, IsRunAsPromised, calls_at}
 use Rattle.inp_turn.specs.declared.pass_view.PassView.{PassView}
@@ -21,12 +22,13 @@ use Rattle.inp_runs.proofs.Listing.{IsImage, option_map-some}
 use Rattle.inp_threads.proofs.Counting.{times, sum-places}
 use Rattle.inp_threads.proofs.Followed.{finished, owns-calls}
 
--- An actor of the record did all its lines on a beginning of the history, and its view has the device's slots.
+-- An actor of the record did all its lines on a beginning of the history, and its view, if one comes of it, has the
+-- device's slots.
 pub record HasDone (r : RecordView) (d : Description) (wait : Option Waiting) (history : List Step) (view : PassView Description Step) (a : ActorView) : Type 0 where
   pub worked : HasWorked r d wait a view
   pub has_actor : HasActor r a
   pub seen : IsPrefix view.seen history
-  pub cells : length a.job.reading.view.cells ≡ 14 * d.slots
+  pub cells : HasCells d (ended_of a)
 
 module _ (r : RecordView) (d : Description) (wait : Option Waiting) (history : List Step) (view : PassView Description Step) (a : ActorView) (h : HasDone r d wait history view a) where
   followed : (text : ActorText) → slice_get r.actors a.actor ≡ Some text → HasFollowed r d wait history text.role a
@@ -59,7 +61,7 @@ module _ {W : Type 0} (view : W → PassView Description Step) (actor : W → Ac
 
   -- and so all that is promised of the device holds
   pub done-promised : (idle : Option ℕ) (r : RecordView) (i : ℕ) (device : DeviceText) (history : List Step) (ws : List W) → IsRecord r → IsDescription device.caps → AreAllDone idle r i device.caps history ws
-      → IsRunAsPromised idle r i device (record { history = history; jobs = map job_end (map actor ws) })
+      → IsRunAsPromised idle r i device (device_run history (map ended_of (map actor ws)))
   done-promised idle r i device history ws is_record described h =
       let s : IsDeviceDone idle r i device.caps history (map actor ws) = record {
         numbers = h.numbers;

@@ -1,5 +1,5 @@
 -- What comes of a device whose workers are done, and whose passes were joined: all is promised of it.
-use Rattle.std.proofs.Common.{◌≡◌, ℕ, ◌*◌, true, nat_eq, List, [], ◌∷◌, ◌++◌, refl, sym, ap, subst, ◌∙◌, arith, Option, Some}
+use Rattle.std.proofs.Common.{◌≡◌, ℕ, true, nat_eq, List, [], ◌∷◌, ◌++◌, refl, sym, ap, subst, ◌∙◌, arith, Option, Some}
 use Rattle.std.specs.Prelude.{All, map, slice_get}
 use Rattle.std.specs.List.{count_by}
 use Rattle.std.proofs.lemmas.Option.{get_or_from_slice_get, slice_get_within}
@@ -10,7 +10,9 @@ use Rattle.inp_model.specs.DeviceView.{DeviceView}
 use Rattle.inp_actors.specs.declared.device_text.DeviceText.{DeviceText}
 use Rattle.inp_actors.specs.Record.{RecordView, IsRecord}
 use Rattle.inp_script.specs.declared.waiting.Waiting.{Waiting}
-use Rattle.inp_script.specs.Job.{ActorView, JobView, job_end}
+use Rattle.inp_script.specs.declared.ended.Ended.{Ended}
+use Rattle.inp_script.specs.Ended.{HasCells, ended_of, device_run}
+use Rattle.inp_script.specs.Job.{ActorView}
 use Rattle.inp_script.specs.Runs.{actors_of}
 use Rattle.inp_runs.specs.Done.{IsRunAsPromised}
 use Rattle.inp_runs.specs.Job.{wait_of}
@@ -20,7 +22,7 @@ use Rattle.inp_port.specs.declared.port.PortOf.{PortOf}
 use Rattle.inp_port.specs.Port.{description_of}
 use Rattle.inp_threads.specs.declared.worker.Worker.{Worker}
 use Rattle.inp_threads.specs.Worker.{view_in, actor_number, HasWorked, IsWorked}
-use Rattle.inp_threads.specs.Joined.{AreJoined, AreDone, IsSized, AreSized, jobs_of, own_of}
+use Rattle.inp_threads.specs.Joined.{AreJoined, AreDone, IsSized, AreSized, ends_of, own_of}
 use Rattle.inp_threads.proofs.Assembling.{AreAllDone, HasDone, done-promised}
 
 -- a fact on all stands where one is found
@@ -31,9 +33,9 @@ actor_numbers : (ws : List Worker) → map (λ (a : ActorView). a.actor) (map (�
 actor_numbers [] = refl
 actor_numbers (w ∷ ws) = ap (λ (ns : List ℕ). w.actor.actor ∷ ns) (actor_numbers ws)
 
-actor_jobs : (ws : List Worker) → map job_end (map (λ (w : Worker). w.actor) ws) ≡ jobs_of ws
-actor_jobs [] = refl
-actor_jobs (w ∷ ws) = ap (λ (jobs : List JobView). job_end w.actor ∷ jobs) (actor_jobs ws)
+actor_ends : (ws : List Worker) → map ended_of (map (λ (w : Worker). w.actor) ws) ≡ ends_of ws
+actor_ends [] = refl
+actor_ends (w ∷ ws) = ap (λ (ends : List Ended). ended_of w.actor ∷ ends) (actor_ends ws)
 
 -- What the workers of a device and its port left, once all are done and the port is closed.
 pub record IsLeftOf (idle i : ℕ) (r : RecordView) (d : Description) (port : PortOf DeviceView Step) (left joined : PassView Description Step) (workers : List Worker) (history : List Step) : Type 0 where
@@ -54,12 +56,11 @@ module _ (idle i : ℕ) (r : RecordView) (device : DeviceText) (port : PortOf De
       let here : IsWorked port r wait w = at_found (IsWorked port r wait) workers k w is.worked at in
       let all : AreJoined workers left joined = is.are_joined in
       let worked : HasWorked r (description_of port) wait w.actor (view_in w.pass) = here.worked (at_found (λ (u : Worker). u.is_done ≡ true) workers k w is.done at) in
-      let slots : w.actor.description.slots ≡ device.caps.slots = ap (λ (d : Description). d.slots) (here.description ∙ is.description) in
       record {
         worked = subst (λ (d : Description). HasWorked r d wait w.actor (view_in w.pass)) is.description worked;
         has_actor = here.actor;
         seen = subst (IsPrefix (view_in w.pass).seen) is.seen (at_found (λ (u : Worker). IsPrefix (view_in u.pass).seen joined.seen) workers k w all.seen at);
-        cells = at_found IsSized workers k w is.sized at ∙ ap (λ (n : ℕ). 14 * n) slots;
+        cells = subst (λ (d : Description). HasCells d (ended_of w.actor)) (here.description ∙ is.description) (at_found IsSized workers k w is.sized at);
       }
 
   all_done : AreAllDone (λ (w : Worker). view_in w.pass) (λ (w : Worker). w.actor) (Some idle) r i device.caps history workers
@@ -73,7 +74,7 @@ module _ (idle i : ℕ) (r : RecordView) (device : DeviceText) (port : PortOf De
         once = λ place below. ap (count_by (nat_eq place)) (sym own) ∙ owned.once place (omega arith) below;
       }
 
-  pub left-promised : IsRecord r → IsDescription device.caps → (jobs : List JobView) → jobs ≡ jobs_of workers → IsRunAsPromised (Some idle) r i device (record { history = history; jobs = jobs })
-  left-promised is_record described jobs ended =
-      subst (λ (js : List JobView). IsRunAsPromised (Some idle) r i device (record { history = history; jobs = js })) (actor_jobs workers ∙ sym ended)
+  pub left-promised : IsRecord r → IsDescription device.caps → (ends : List Ended) → ends ≡ ends_of workers → IsRunAsPromised (Some idle) r i device (device_run history ends)
+  left-promised is_record described ends ended =
+      subst (λ (es : List Ended). IsRunAsPromised (Some idle) r i device (device_run history es)) (actor_ends workers ∙ sym ended)
       (done-promised (λ (w : Worker). view_in w.pass) (λ (w : Worker). w.actor) (Some idle) r i device history workers is_record described all_done)

@@ -1,5 +1,5 @@
 -- An actor that did all its lines followed them on the whole history, of which it saw a beginning.
-use Rattle.std.proofs.Common.{◌≡◌, ℕ, ◌*◌, List, [], ◌∷◌, length, sym, ap, subst, ◌∙◌, Option, Some}
+use Rattle.std.proofs.Common.{◌≡◌, ℕ, List, [], ◌∷◌, sym, ap, subst, ◌∙◌, Option, Some}
 use Rattle.std.specs.Prelude.{slice_get}
 use mathlib.Core.List.{IsPrefix}
 use Rattle.inp_model.specs.declared.step.Step.{Step}
@@ -12,6 +12,7 @@ use Rattle.inp_actors.specs.declared.role.Role.{Role}
 use Rattle.inp_actors.specs.Record.{RecordView, IsRecord}
 use Rattle.inp_reader.specs.Talk.{EndsWith}
 use Rattle.inp_script.specs.declared.waiting.Waiting.{Waiting}
+use Rattle.inp_script.specs.Ended.{HasCells, ended_of}
 use Rattle.inp_script.specs.Job.{ActorView, first_job}
 use Rattle.inp_runs.specs.Done.{HasFollowed, calls_at}
 use Rattle.inp_runs.specs.Job.{lines_by, lines_talk}
@@ -27,17 +28,18 @@ legal-longer d h k least (call ∷ calls) begins l = (l.0, HasPlace-longer d h k
 
 module _ (r : RecordView) (d : Description) (wait : Option Waiting) (a : ActorView) (view : PassView Description Step) (w : HasWorked r d wait a view) where
   -- it followed its lines on each history that begins with what it saw
-  abbrev pub finished : (history : List Step) (role : Role) → a.role ≡ role → IsPrefix view.seen history → length a.job.reading.view.cells ≡ 14 * d.slots → HasFollowed r d wait history role a
+  abbrev pub finished : (history : List Step) (role : Role) → a.role ≡ role → IsPrefix view.seen history → HasCells d (ended_of a) → HasFollowed r d wait history role a
   finished history role is_role begins cells = record {
     calls = w.calls;
     legal = legal-longer d view.seen history 0 w.calls (begins.0, sym begins.1) w.legal;
     rounds = w.rounds;
-    follows = subst (λ (x : Role). EndsWith (lines_talk x d r.streams wait w.rounds (lines_by a.actor r.lines) (first_job d)) w.calls (Some a.job)) is_role w.follows;
+    follows = subst (λ (x : Role). EndsWith (lines_talk x d r.streams wait w.rounds (lines_by a.actor r.lines) (first_job x d)) w.calls (Some a.job)) is_role w.follows;
+    is_role = is_role;
     cells = cells;
   }
 
   -- it has as many accepted calls at a place as its pass owns it
-  pub owns-calls : (history : List Step) (text : ActorText) → IsRecord r → slice_get r.actors a.actor ≡ Some text → a.role ≡ text.role → IsPrefix view.seen history → length a.job.reading.view.cells ≡ 14 * d.slots
+  pub owns-calls : (history : List Step) (text : ActorText) → IsRecord r → slice_get r.actors a.actor ≡ Some text → a.role ≡ text.role → IsPrefix view.seen history → HasCells d (ended_of a)
       → (place : ℕ) → calls_at place a ≡ times place view.own
   owns-calls history text is_record is_text is_role begins cells = λ place.
       sym (told-counts wait w.calls a.job.sight (followed-told r d wait history text a is_record is_text (finished history text.role is_role begins cells)) place)

@@ -1,23 +1,24 @@
--- Passes that are joined one after another, and jobs that end so.
+-- Passes that are joined one after another, and actors that are finished so.
 use Rattle.std.proofs.Common.{◌≡◌, ℕ, Bool, true, false, ◌&&◌, List, [], ◌∷◌, ◌++◌, refl, sym, ap, ◌∙◌, arith, append_assoc, length-append}
 use Rattle.std.proofs.lemmas.List.Elements.{All-append, All-push, All-weaker}
 use mathlib.Core.List.{IsPrefix}
 use Rattle.inp_model.specs.declared.step.Step.{Step}
 use Rattle.inp_model.specs.Description.{Description}
-use Rattle.inp_script.specs.Job.{JobView, job_end}
+use Rattle.inp_script.specs.declared.ended.Ended.{Ended}
+use Rattle.inp_script.specs.Ended.{ended_of}
 use Rattle.inp_turn.specs.declared.pass_view.PassView.{PassView}
 use Rattle.inp_turn.proofs.Prefixes.{prefix-trans}
 use Rattle.inp_threads.specs.declared.worker.Worker.{Worker}
 use Rattle.inp_threads.specs.Worker.{view_in}
-use Rattle.inp_threads.specs.Joined.{AreJoined, AreDone, jobs_of, own_of}
+use Rattle.inp_threads.specs.Joined.{AreJoined, AreDone, ends_of, own_of}
 
 own_of-append : (ws vs : List Worker) → own_of (ws ++ vs) ≡ own_of ws ++ own_of vs
 own_of-append [] vs = refl
 own_of-append (w ∷ ws) vs = ap (λ (places : List ℕ). (view_in w.pass).own ++ places) (own_of-append ws vs) ∙ sym (append_assoc (view_in w.pass).own (own_of ws) (own_of vs))
 
-pub jobs_of-append : (ws vs : List Worker) → jobs_of (ws ++ vs) ≡ jobs_of ws ++ jobs_of vs
-jobs_of-append [] vs = refl
-jobs_of-append (w ∷ ws) vs = ap (λ (jobs : List JobView). job_end w.actor ∷ jobs) (jobs_of-append ws vs)
+pub ends_of-append : (ws vs : List Worker) → ends_of (ws ++ vs) ≡ ends_of ws ++ ends_of vs
+ends_of-append [] vs = refl
+ends_of-append (w ∷ ws) vs = ap (λ (ends : List Ended). ended_of w.actor ∷ ends) (ends_of-append ws vs)
 
 -- the passes of some were joined, and then those of others
 pub joined-more : (ws vs : List Worker) (a b c : PassView Description Step) → AreJoined ws a b → AreJoined vs b c → AreJoined (ws ++ vs) a c

@@ -81,18 +81,18 @@ module _ {K : Ghosts DeviceView Description Step} where
 
 pub has-worked : (r : RecordView) (d : Description) (wait : Option Waiting) (a : ActorView) (new : Job) (b e : EvdevView) (v : PassView Description Step)
     → b.seen ≡ [] → b.own ≡ [] → e.description ≡ d → e.seen ≡ v.seen → e.own ≡ v.own
-    → a.description ≡ d → a.job ≡ first_job a.description → DoesAll b e r wait a new → HasWorked r d wait (record a { job = new }) v
+    → a.description ≡ d → a.job ≡ first_job a.role a.description → DoesAll b e r wait a new → HasWorked r d wait (record a { job = new }) v
 has-worked r d wait a new b e v no_seen no_own same_d seen own described first does =
     let h = does.holds in
     let from : IsLegalFrom e.description e.seen 0 h.calls = subst (λ (s : List Step). IsLegalFrom e.description e.seen (length s) h.calls) no_seen (calls-legal b e h.calls h.are_calls) in
     let run : IsLegalRun d e.seen h.calls = subst (λ (x : Description). IsLegalFrom x e.seen 0 h.calls) same_d from in
-    let begun : EndsWith (lines_talk a.role a.description r.streams wait does.rounds (lines_by a.actor r.lines) (first_job a.description)) h.calls (Some new) =
+    let begun : EndsWith (lines_talk a.role a.description r.streams wait does.rounds (lines_by a.actor r.lines) (first_job a.role a.description)) h.calls (Some new) =
     subst (λ (j : Job). EndsWith (lines_talk a.role a.description r.streams wait does.rounds (lines_by a.actor r.lines) j) h.calls (Some new)) first h.talk_ends in
     record {
       calls = h.calls;
       legal = subst (λ (s : List Step). IsLegalRun d s h.calls) seen run;
       rounds = does.rounds;
-      follows = subst (λ (x : Description). EndsWith (lines_talk a.role x r.streams wait does.rounds (lines_by a.actor r.lines) (first_job x)) h.calls (Some new)) described begun;
+      follows = subst (λ (x : Description). EndsWith (lines_talk a.role x r.streams wait does.rounds (lines_by a.actor r.lines) (first_job a.role x)) h.calls (Some new)) described begun;
       own = sym own ∙ own-grown b e h.calls h.are_calls ∙ ap (λ (places : List ℕ). places ++ places_of h.calls) no_own;
     }
 

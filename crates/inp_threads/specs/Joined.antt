@@ -1,10 +1,11 @@
 -- What stands when the passes of all workers were joined into one.
-use Rattle.std.specs.Prelude.{◌≡◌, ℕ, ◌+◌, ◌*◌, true, List, ◌++◌, length, map, flat_map, All}
+use Rattle.std.specs.Prelude.{◌≡◌, ℕ, ◌+◌, true, List, ◌++◌, length, map, flat_map, All}
 use mathlib.Core.List.{IsPrefix}
 use Rattle.inp_model.specs.declared.step.Step.{Step}
 use Rattle.inp_model.specs.Description.{Description}
 use Rattle.inp_model.specs.DeviceView.{DeviceView}
-use Rattle.inp_script.specs.Job.{JobView, job_end}
+use Rattle.inp_script.specs.declared.ended.Ended.{Ended}
+use Rattle.inp_script.specs.Ended.{HasCells, ended_of}
 use Rattle.inp_turn.specs.declared.pass_view.PassView.{PassView}
 use Rattle.inp_port.specs.declared.port.PortOf.{PortOf}
 use Rattle.inp_threads.specs.declared.worker.Worker.{Worker}
@@ -29,17 +30,17 @@ pub record AreJoined (workers : List Worker) (before after : PassView Descriptio
   pub more : IsPrefix before.seen after.seen
   pub seen : SawAll workers after.seen
 
--- what comes of the workers' jobs
-abbrev pub jobs_of : List Worker → List JobView
-jobs_of workers = map (λ (w : Worker). job_end w.actor) workers
+-- what comes of the workers' actors
+abbrev pub ends_of : List Worker → List Ended
+ends_of workers = map (λ (w : Worker). ended_of w.actor) workers
 
 -- each worker is done
 abbrev pub AreDone : List Worker → Type 0
 AreDone workers = All (λ (w : Worker). w.is_done ≡ true) workers
 
--- the view of a worker's actor has the slots of its device
+-- the view that comes of a worker's actor, if one does, has the slots of its device
 abbrev pub IsSized : Worker → Type 0
-IsSized w = length w.actor.job.reading.view.cells ≡ 14 * w.actor.description.slots
+IsSized w = HasCells w.actor.description (ended_of w.actor)
 
 -- and so has that of each
 abbrev pub AreSized : List Worker → Type 0

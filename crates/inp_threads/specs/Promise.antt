@@ -2,12 +2,12 @@
 use Rattle.std.specs.Prelude.{◌≡◌, ◌≤◌, ◌<◌, ◌^◌, ℕ, Some, length, slice_get}
 use Rattle.inp_actors.specs.declared.device_text.DeviceText.{DeviceText}
 use Rattle.inp_actors.specs.Record.{RecordView}
-use Rattle.inp_script.specs.declared.run.Run.{Run}
+use Rattle.inp_script.specs.declared.run.DeviceRun.{DeviceRun}
 use Rattle.inp_runs.specs.Done.{IsRunAsPromised}
 
 -- all is promised of what came of the device of this number, where the lines of its actors waited so long
-abbrev pub IsPromisedOf : ℕ → RecordView → ℕ → Run → Type 0
-IsPromisedOf idle r i run = (device : DeviceText) → slice_get r.devices i ≡ Some device → IsRunAsPromised (Some idle) r i device run
+abbrev pub IsPromisedOf : ℕ → RecordView → ℕ → DeviceRun → Type 0
+IsPromisedOf idle r i done = (device : DeviceText) → slice_get r.devices i ≡ Some device → IsRunAsPromised (Some idle) r i device done
 
 -- there is a device of this number, and lines wait so long
 pub record IsToBeRun (idle : ℕ) (r : RecordView) (i : ℕ) : Type 0 where

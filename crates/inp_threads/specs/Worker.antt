@@ -53,7 +53,7 @@ pub record IsReady (port : PortOf DeviceView Step) (r : RecordView) (w : Worker)
   pub number : w.actor.actor ≡ w.number
   pub actor : HasActor r w.actor
   pub description : w.actor.description ≡ description_of port
-  pub job : w.actor.job ≡ first_job w.actor.description
+  pub job : w.actor.job ≡ first_job w.actor.role w.actor.description
 
 -- The same, and its lines wait so.
 pub record IsReadyToWait (port : PortOf DeviceView Step) (r : RecordView) (waiting : Waiting) (w : Worker) : Type 0 where
@@ -87,7 +87,7 @@ pub record HasWorked (r : RecordView) (d : Description) (wait : Option Waiting) 
   pub calls : List Call
   pub legal : IsLegalRun d view.seen calls
   pub rounds : ℕ
-  pub follows : EndsWith (lines_talk a.role d r.streams wait rounds (lines_by a.actor r.lines) (first_job d)) calls (Some a.job)
+  pub follows : EndsWith (lines_talk a.role d r.streams wait rounds (lines_by a.actor r.lines) (first_job a.role d)) calls (Some a.job)
   pub own : view.own ≡ places_of calls
 
 -- A worker's thread has ended: its pass is back, whatever came of it, and where it is done its actor did all its lines.

@@ -9,7 +9,7 @@ use inp_device::Device;
 use inp_edge::Gate;
 use inp_model::NoMemory;
 use inp_port::Port;
-use inp_script::{Jobs, Run};
+use inp_script::DeviceRun;
 use std::alloc::Global;
 use std::sync::Wait;
 use std::thread::Threads;
@@ -22,7 +22,7 @@ pub(crate) fn run_device<R: Threads + Wait + Sync, G: Gate>(
     number: u32,
     idle: u32,
     gate: &G,
-) -> Result<Run, NoMemory>
+) -> Result<DeviceRun, NoMemory>
     requires bound { 1 ≤ idle }
     requires device { number < length rec.now.devices }
     ensures promised { IfOk result (IsPromisedOf idle rec.now number) }
@@ -32,19 +32,16 @@ pub(crate) fn run_device<R: Threads + Wait + Sync, G: Gate>(
         return Err(NoMemory);
     };
     let mut workers = deal(alloc, rec, number, &port, &mut pass)?;
-    let jobs = Vec::with_capacity(alloc, workers.len())?;
+    let ends = Vec::with_capacity(alloc, workers.len())?;
     run_all(rt, &port, rec, number, idle, &mut workers, gate);
     let Gathered {
         pass,
-        jobs,
+        ends,
         is_done,
-    } = gather(&port, pass, workers, jobs);
+    } = gather(&port, pass, workers, ends);
     let history = port.close(pass).into_history();
     if !is_done {
         return Err(NoMemory);
     }
-    Ok(Run {
-        history,
-        jobs: Jobs::of(jobs),
-    })
+    DeviceRun::of(alloc, history, ends)
 }

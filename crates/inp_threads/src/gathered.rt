@@ -1,45 +1,45 @@
-//! What the jobs of a device leave.
+//! What the workers of a device leave.
 ghost use Rattle.std.specs.Prelude.{◌≡◌, ◌≤◌, ◌<◌, ◌++◌, ◌∷◌, ◌&&◌, [], vec_len, vec_capacity, All, true};
 ghost use Rattle.inp_turn.specs.Pass.{view_of};
 ghost use Rattle.inp_port.specs.Port.{IsReadyAt};
-ghost use Rattle.inp_threads.specs.Joined.{IsBack, AreJoined, AreDone, IsSized, AreSized, jobs_of};
+ghost use Rattle.inp_threads.specs.Joined.{IsBack, AreJoined, AreDone, IsSized, AreSized, ends_of};
 
 use crate::worker::Worker;
 use inp_device::Device;
 use inp_port::Port;
-use inp_script::JobEnd;
+use inp_script::Ended;
 use inp_turn::Pass;
 
 /// What the workers of a device left.
 pub(crate) struct Gathered {
     /// All passes, joined into one.
     pub(crate) pass: Pass<Device>,
-    /// What came of the jobs.
-    pub(crate) jobs: Vec<JobEnd>,
+    /// What came of their actors.
+    pub(crate) ends: Vec<Ended>,
     /// Whether each of them did all its lines.
     pub(crate) is_done: bool,
 }
 
-// Joins the passes of all workers, and ends their jobs. There is room for what comes of them, so that it takes no memory.
+// Joins the passes of all workers, and finishes their actors. There is room for what comes of them, so it takes no memory.
 pub(crate) fn gather(
     port: &Port,
     pass: Pass<Device>,
     workers: Vec<Worker>,
-    jobs: Vec<JobEnd>,
+    ends: Vec<Ended>,
 ) -> Gathered
     requires ready { IsReadyAt port.now pass }
     requires back { All (IsBack port.now) workers.items }
-    requires none { jobs.items ≡ [] }
-    requires room { vec_len workers ≤ vec_capacity jobs }
+    requires none { ends.items ≡ [] }
+    requires room { vec_len workers ≤ vec_capacity ends }
     ensures ready { IsReadyAt port.now result.pass }
     ensures joined { AreJoined workers.items (view_of pass) (view_of result.pass) }
-    ensures jobs { result.jobs.items ≡ jobs_of workers.items }
+    ensures ends { result.ends.items ≡ ends_of workers.items }
     ensures sized { AreSized workers.items }
     ensures done { result.is_done ≡ true → AreDone workers.items }
 {
     let mut gathered = Gathered {
         pass,
-        jobs,
+        ends,
         is_done: true,
     };
     for worker in workers {
@@ -52,17 +52,17 @@ pub(crate) fn gather(
 fn add(port: &Port, gathered: Gathered, worker: Worker) -> Gathered
     requires ready { IsReadyAt port.now gathered.pass }
     requires back { IsBack port.now worker }
-    requires room { vec_len gathered.jobs < vec_capacity gathered.jobs }
+    requires room { vec_len gathered.ends < vec_capacity gathered.ends }
     ensures ready { IsReadyAt port.now result.pass }
     ensures joined { AreJoined (worker ∷ []) (view_of gathered.pass) (view_of result.pass) }
-    ensures jobs { result.jobs.items ≡ gathered.jobs.items ++ jobs_of (worker ∷ []) }
-    ensures capacity { vec_capacity result.jobs ≡ vec_capacity gathered.jobs }
+    ensures ends { result.ends.items ≡ gathered.ends.items ++ ends_of (worker ∷ []) }
+    ensures capacity { vec_capacity result.ends ≡ vec_capacity gathered.ends }
     ensures sized { IsSized worker }
     ensures done { result.is_done ≡ (gathered.is_done && worker.is_done) }
 {
     let Gathered {
         pass,
-        mut jobs,
+        mut ends,
         is_done,
     } = gathered;
     let Worker {
@@ -75,10 +75,10 @@ fn add(port: &Port, gathered: Gathered, worker: Worker) -> Gathered
         Some(own) => port.join(pass, own),
         None => pass,
     };
-    jobs.push_reserved(actor.finish());
+    ends.push_reserved(actor.finish());
     Gathered {
         pass,
-        jobs,
+        ends,
         is_done: is_done && was_done,
     }
 }

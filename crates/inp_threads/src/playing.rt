@@ -7,29 +7,29 @@ use crate::device_run::run_device;
 use inp_actors::Record;
 use inp_edge::Gate;
 use inp_model::NoMemory;
-use inp_script::{Run, Runs};
+use inp_script::{DeviceRun, Played};
 use std::alloc::Global;
 use std::sync::Wait;
 use std::thread;
 use std::thread::Threads;
 
-/// What comes of a record whose sources, clients and taps do their lines on a thread each.
+/// What comes of a record whose sources, clients, taps and joysticks do their lines on a thread each.
 ///
 /// `idle` is how long a line `follow` waits: after so many answers in a row that nothing is visible the job stops as idle,
 /// unless all sources of its device are done before, which ends the line. It must be at least 1.
 ///
-/// All devices are played side by side, with as many threads as a device has actors beside one for each device. Where no
-/// thread can be made, jobs are done one after another. Before each call a job passes the gate.
+/// All devices are played side by side. Each device has a thread, and each of its actors one more. Where no thread can be
+/// made, jobs are done one after another. Before each call a job passes the gate.
 ///
 /// It takes the memory of each device's history, of the actors, and of what they see. `NoMemory` comes where there is
-/// none, once all jobs have ended, and no run is given then. Nothing says that the call returns.
+/// none, once all jobs have ended, and nothing that came of them is given then. Nothing says that the call returns.
 pub fn play_on_threads<R: Threads + Wait + Sync, G: Gate>(
     rt: &R,
     alloc: Global,
     rec: &Record,
     idle: u32,
     gate: &G,
-) -> Result<Runs, NoMemory>
+) -> Result<Played, NoMemory>
     requires bound { 1 ≤ idle }
     ensures promised { IfOk result (ArePromised (Some idle) rec.now) }
 {
@@ -39,18 +39,19 @@ pub fn play_on_threads<R: Threads + Wait + Sync, G: Gate>(
         rt,
         &mut slots,
         count,
-        &|i, slot: &mut Option<Run>|
+        &|i, slot: &mut Option<DeviceRun>|
             requires { IsToBeRun idle rec.now i }
             ensures { IfSome slot.exit.now (IsPromisedOf idle rec.entry.now i) }
         {
             *slot = run_device(rt, alloc, rec, i as u32, idle, gate).ok();
         },
     );
-    collect(alloc, slots)
+    let devices = collect(alloc, slots)?;
+    Played::of(alloc, devices)
 }
 
-// So many slots without a run.
-fn empty_slots(alloc: Global, count: usize) -> Result<Vec<Option<Run>>, NoMemory>
+// So many empty slots.
+fn empty_slots(alloc: Global, count: usize) -> Result<Vec<Option<DeviceRun>>, NoMemory>
     ensures count { IfOk result (λ slots. length slots.items ≡ count) }
 {
     let mut slots = Vec::new(alloc);
@@ -60,16 +61,16 @@ fn empty_slots(alloc: Global, count: usize) -> Result<Vec<Option<Run>>, NoMemory
     Ok(slots)
 }
 
-// The runs, where there is one in each slot.
-fn collect(alloc: Global, slots: Vec<Option<Run>>) -> Result<Runs, NoMemory>
-    ensures runs { IfOk result (λ runs. map Some runs ≡ slots.items) }
+// What came of the devices, where that lies in each slot.
+fn collect(alloc: Global, slots: Vec<Option<DeviceRun>>) -> Result<Vec<DeviceRun>, NoMemory>
+    ensures devices { IfOk result (λ devices. map Some devices.items ≡ slots.items) }
 {
-    let mut runs: Vec<Run> = Vec::new(alloc);
+    let mut devices = Vec::new(alloc);
     for slot in slots {
-        let Some(run) = slot else {
+        let Some(device) = slot else {
             return Err(NoMemory);
         };
-        runs.push(run)?;
+        devices.push(device)?;
     }
-    Ok(Runs::of(runs))
+    Ok(devices)
 }

@@ -129,6 +129,6 @@ fn is_source_of(actor: &ActorText, device: u32) -> bool
 {
     match actor.role {
         Role::Source => actor.device == device,
-        Role::Client | Role::Tap => false,
+        Role::Client | Role::Tap | Role::Joy => false,
     }
 }

@@ -3,6 +3,7 @@ use Rattle.std.proofs.Common.{◌≡◌, ℕ, List, [], ◌∷◌, Option, Some,
 use Rattle.std.specs.Prelude.{option_map, option_and_then}
 use Rattle.inp_actors.specs.declared.line.Line.{Line}
 use Rattle.inp_actors.specs.Record.{RecordView}
+use Rattle.inp_script.specs.Ended.{played_of}
 use Rattle.inp_order.specs.Play.{Stage, first_stage, after_line, after_lines, runs_of, play}
 use Rattle.inp_upgrade.specs.Upgrade.{upgraded, PlaysAlike}
 
@@ -24,10 +25,10 @@ lines_alike r rounds stage (line ∷ lines) =
 
 play_alike : (r : RecordView) (rounds : ℕ) → play rounds (upgraded r) ≡ play rounds r
 unfolding play
-play_alike r rounds = ap (λ (o : Option Stage). option_map (runs_of r) o) (lines_alike r rounds (first_stage r) r.lines)
+play_alike r rounds = ap (λ (o : Option Stage). option_map (λ (stage : Stage). played_of (runs_of r stage)) o) (lines_alike r rounds (first_stage r) r.lines)
 
 pub plays_alike : PlaysAlike
-plays_alike r runs = (
+plays_alike r played = (
   λ p. record { rounds = p.rounds; plays = sym (play_alike r p.rounds) ∙ p.plays },
   λ p. record { rounds = p.rounds; plays = play_alike r p.rounds ∙ p.plays },
 )

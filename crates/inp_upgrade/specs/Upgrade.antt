@@ -3,7 +3,7 @@ use Rattle.std.specs.Prelude.{◌≡◌, ◌↔◌, ℕ, List, Ok}
 use Rattle.inp_actors.specs.Record.{RecordView}
 use Rattle.inp_canon.specs.Text.{record_text}
 use Rattle.inp_record.specs.Meaning.{meaning}
-use Rattle.inp_script.specs.declared.run.Run.{Run}
+use Rattle.inp_script.specs.declared.run.Played.{Played}
 use Rattle.inp_order.specs.Play.{IsPlay}
 
 -- the same record with version 2
@@ -16,4 +16,4 @@ ReadsAgain = (bytes : List ℕ) (r : RecordView) → meaning bytes ≡ Ok r → 
 
 -- What comes of a record, its lines done in file order, is what comes of it upgraded.
 abbrev pub PlaysAlike : Type 0
-PlaysAlike = (r : RecordView) (runs : List Run) → IsPlay (upgraded r) runs ↔ IsPlay r runs
+PlaysAlike = (r : RecordView) (played : Played) → IsPlay (upgraded r) played ↔ IsPlay r played

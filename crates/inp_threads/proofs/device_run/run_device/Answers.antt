@@ -1,14 +1,18 @@
 use Rattle.std.proofs.Common.{◌≡◌, List, [], length, sym, ap, subst, ◌∙◌, arith, Some}
 use Rattle.std.specs.Prelude.{reverse, slice_get}
 use Rattle.std.proofs.lemmas.Option.{same_Some}
+use Rattle.std.proofs.lemmas.Result.{IfOk-weaker}
 use lib.ListN.{length-map}
 use Rattle.inp_model.specs.declared.step.Step.{Step}
 use Rattle.inp_model.specs.Description.{IsDescription}
 use Rattle.inp_model.specs.DeviceView.{DeviceView}
 use Rattle.inp_actors.specs.declared.device_text.DeviceText.{DeviceText}
+use Rattle.inp_script.specs.declared.run.DeviceRun.{DeviceRun}
+use Rattle.inp_runs.specs.Done.{IsRunAsPromised}
 use Rattle.inp_turn.specs.Pass.{view_of}
 use Rattle.inp_turn.specs.PassView.{IsEachAddedOnce}
 use Rattle.inp_port.specs.Port.{description_of, first_of}
+use Rattle.inp_threads.specs.Promise.{IsPromisedOf}
 use Rattle.inp_threads.specs.Worker.{actor_number}
 use Rattle.inp_threads.proofs.DeviceRun.{IsLeftOf, left-promised}
 use Rattle.inp_threads.proofs.device_run.run_device.Goals as goal
@@ -17,12 +21,13 @@ pub gather-pass-requires-clause-room : goal.gather-pass-requires-clause-room
 gather-pass-requires-clause-room g c =
     let kept : length c.run_all.new.workers.items ≡ length c.in_ok-workers.workers.items =
     sym (length-map c.run_all.new.workers.items actor_number) ∙ ap length c.run_all.ensures.numbers ∙ length-map c.in_ok-workers.workers.items actor_number in
-    omega (arith, kept, c.run_all.new.workers.ok.0, c.in_ok-workers.workers.ok.0, c.len.ensures, c.in_ok-jobs.ensures.exact)
+    omega (arith, kept, c.run_all.new.workers.ok.0, c.in_ok-workers.workers.ok.0, c.len.ensures, c.in_ok-ends.ensures.exact)
 
 pub returns : goal.returns
 returns g c = record {
-  promised = λ device at.
-      let item : slice_get c.args.rec.now.devices c.args.number ≡ Some c.get.result.now = ap (λ (ds : List DeviceText). slice_get ds c.args.number) (sym c.devices.ensures.devices) ∙ c.get.ensures.item in
+  promised = IfOk-weaker c.of.result _ (IsPromisedOf c.args.idle c.args.rec.now c.args.number)
+      (λ done is. λ device at.
+      (let item : slice_get c.args.rec.now.devices c.args.number ≡ Some c.get.result.now = ap (λ (ds : List DeviceText). slice_get ds c.args.number) (sym c.devices.ensures.devices) ∙ c.get.ensures.item in
       let caps : c.copy-caps.result ≡ device.caps = c.copy-caps.ensures.same ∙ ap (λ (text : DeviceText). text.caps) (same_Some c.get.result.now device (sym item ∙ at)) in
       let fresh : first_of c.in-Ok.port ≡ record { description = c.copy-caps.result; past = []; agains = 0 } = c.in-Ok.ensures.first ∙ c.in_ok-new.ensures.fresh in
       let none : reverse (first_of c.in-Ok.port).past ≡ [] = ap (λ (v : DeviceView). reverse v.past) fresh in
@@ -42,6 +47,8 @@ returns g c = record {
         seen = sym c.close.ensures.entries ∙ sym c.into_history-history.ensures.history;
         owned = own;
       } in
-      left-promised c.args.idle c.args.number c.args.rec.now device c.in-Ok.port (view_of c.deal.new.pass) (view_of c.gather-pass.result.pass) c.run_all.new.workers.items c.into_history-history.result left
-      c.devices.ensures.record (subst IsDescription caps c.copy-caps.ensures.description) c.of.result (c.of.ensures.items ∙ c.gather-pass.ensures.jobs);
+      subst (λ (came : DeviceRun). IsRunAsPromised (Some c.args.idle) c.args.rec.now c.args.number device came) (sym is)
+      (left-promised c.args.idle c.args.number c.args.rec.now device c.in-Ok.port (view_of c.deal.new.pass) (view_of c.gather-pass.result.pass) c.run_all.new.workers.items c.into_history-history.result left
+      c.devices.ensures.record (subst IsDescription caps c.copy-caps.ensures.description) c.gather-pass.result.ends.items c.gather-pass.ensures.ends)))
+      c.of.ensures.run;
 }
