@@ -1,14 +1,15 @@
 -- The numbers of a device's actors are those of actors.
-use Rattle.std.proofs.Common.{◌≡◌, ℕ, ◌<◌, List, length, map, get_or, Some, sym, ap, subst, ◌∙◌, zero-add}
-use Rattle.std.specs.Prelude.{slice_get}
-use Rattle.std.specs.List.{All}
+use Rattle.std.proofs.Common.{◌≡◌, ℕ, ◌<◌, List, [], ◌∷◌, length, map, get_or, Some, sym, ap, subst, ◌∙◌, zero-add}
+use Rattle.std.specs.Prelude.{not, slice_get}
+use Rattle.std.specs.List.{All, flat_map, range_with_len}
 use Rattle.std.proofs.lemmas.List.{get_or-map, length-map}
-use Rattle.std.proofs.lemmas.List.Elements.{All-get_or}
+use Rattle.std.proofs.lemmas.List.Elements.{All-get_or, All-filter, All-append, All-nil}
 use Rattle.std.proofs.lemmas.Option.{slice_get_within, get_or_from_slice_get}
 use Rattle.inp_bits.proofs.Indices.{All-filter_range}
 use Rattle.inp_actors.specs.declared.actor_text.ActorText.{ActorText}
-use Rattle.inp_script.specs.Job.{JobView}
-use Rattle.inp_script.specs.Runs.{is_on_device, actors_of}
+use Rattle.inp_actors.specs.Record.{RecordView}
+use Rattle.inp_script.specs.Job.{JobView, JoyJobView}
+use Rattle.inp_script.specs.Runs.{is_on_device, is_joystick, actors_of, jobs_of, joysticks_of, AreJoysOf}
 
 -- each is the number of an actor
 actors_of-within : (actors : List ActorText) (device : ℕ) → All (λ i. i < length actors) (actors_of actors device)
@@ -16,13 +17,36 @@ actors_of-within actors device =
     subst (λ (n : ℕ). All (λ i. i < n) (actors_of actors device)) (zero-add (length actors))
     (All-filter_range (λ i. is_on_device device (slice_get actors i)) 0 (length actors))
 
--- a job of one of them is an actor's
-pub actor_within : (actors : List ActorText) (device : ℕ) (jobs : List JobView) (i : ℕ) (job : JobView) → map (λ (j : JobView). j.actor) jobs ≡ actors_of actors device → slice_get jobs i ≡ Some job → job.actor < length actors
+-- so is each of those of its joysticks, and of its other actors
+jobs_of-within : (actors : List ActorText) (device : ℕ) → All (λ i. i < length actors) (jobs_of actors device)
+jobs_of-within actors device =
+    All-filter (λ i. not (is_joystick (slice_get actors i))) (λ i. i < length actors) (actors_of actors device) (actors_of-within actors device)
+
+joysticks_of-within : (actors : List ActorText) (device : ℕ) → All (λ i. i < length actors) (joysticks_of actors device)
+joysticks_of-within actors device =
+    All-filter (λ i. is_joystick (slice_get actors i)) (λ i. i < length actors) (actors_of actors device) (actors_of-within actors device)
+
+-- and of those of some devices
+all_joysticks-within : (actors : List ActorText) (devices : List ℕ) → All (λ i. i < length actors) (flat_map (joysticks_of actors) devices)
+all_joysticks-within actors [] = All-nil (λ i. i < length actors)
+all_joysticks-within actors (device ∷ devices) =
+    All-append (λ i. i < length actors) (joysticks_of actors device) (flat_map (joysticks_of actors) devices) (joysticks_of-within actors device) (all_joysticks-within actors devices)
+
+-- one of some numbers that are below a bound
+number-within : {X : Type 0} (f : X → ℕ) (n : ℕ) (xs : List X) (i : ℕ) (x : X) → All (λ k. k < n) (map f xs) → slice_get xs i ≡ Some x → f x < n
+number-within {X} f n xs i x all at =
+    let inside : i < length xs = slice_get_within xs i x at in
+    let is : get_or (map f xs) i 0 ≡ f x = get_or-map f xs i x 0 inside ∙ ap f (get_or_from_slice_get xs i x x at) in
+    subst (λ (k : ℕ). k < n) is (All-get_or (λ k. k < n) (map f xs) i 0 (subst (λ (k : ℕ). i < k) (sym (length-map xs f)) inside) all)
+
+-- a job of a device is an actor's
+pub actor_within : (actors : List ActorText) (device : ℕ) (jobs : List JobView) (i : ℕ) (job : JobView) → map (λ (j : JobView). j.actor) jobs ≡ jobs_of actors device → slice_get jobs i ≡ Some job → job.actor < length actors
 actor_within actors device jobs i job of at =
-    let all : All (λ n. n < length actors) (map (λ (j : JobView). j.actor) jobs) =
-    subst (λ (ns : List ℕ). All (λ n. n < length actors) ns) (sym of) (actors_of-within actors device) in
-    let inside : i < length jobs = slice_get_within jobs i job at in
-    let is : get_or (map (λ (j : JobView). j.actor) jobs) i 0 ≡ job.actor =
-    get_or-map (λ (j : JobView). j.actor) jobs i job 0 inside ∙ ap (λ (j : JobView). j.actor) (get_or_from_slice_get jobs i job job at) in
-    subst (λ (n : ℕ). n < length actors) is
-    (All-get_or (λ n. n < length actors) (map (λ (j : JobView). j.actor) jobs) i 0 (subst (λ (n : ℕ). i < n) (sym (length-map jobs (λ (j : JobView). j.actor))) inside) all)
+    number-within (λ (j : JobView). j.actor) (length actors) jobs i job
+    (subst (λ (ns : List ℕ). All (λ n. n < length actors) ns) (sym of) (jobs_of-within actors device)) at
+
+-- and so is a joystick's
+pub joy_within : (r : RecordView) (joys : List JoyJobView) (i : ℕ) (joy : JoyJobView) → AreJoysOf r joys → slice_get joys i ≡ Some joy → joy.actor < length r.actors
+joy_within r joys i joy of at =
+    number-within (λ (j : JoyJobView). j.actor) (length r.actors) joys i joy
+    (subst (λ (ns : List ℕ). All (λ n. n < length r.actors) ns) (sym of) (all_joysticks-within r.actors (range_with_len 0 (length r.devices)))) at

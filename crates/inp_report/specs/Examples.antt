@@ -11,22 +11,26 @@ use Rattle.inp_model.specs.Event.{syn_dropped}
 use Rattle.inp_model.specs.Examples.{at, key, report as syn_report}
 use Rattle.inp_model.specs.QueryExamples.{desk}
 use Rattle.inp_model.specs.SlotExamples.{touchpad, touch}
+use Rattle.inp_joy.specs.Examples.{stick, trigger}
+use Rattle.inp_joy.specs.Picture.{PictureView, blank_picture, up_to_64}
+use Rattle.inp_reader.specs.Examples.{axis}
 use Rattle.inp_recon.specs.declared.view.View.{View}
 use Rattle.inp_recon.specs.View.{first_view}
 use Rattle.inp_actors.specs.declared.role.Role.{Role}
-use Rattle.inp_actors.specs.declared.role.Role.TheVariants.{Source, Client, Tap}
+use Rattle.inp_actors.specs.declared.role.Role.TheVariants.{Source, Client, Tap, Joy}
 use Rattle.inp_actors.specs.declared.actor_text.ActorText.{ActorText}
 use Rattle.inp_actors.specs.Record.{RecordView}
 use Rattle.inp_script.specs.declared.sight.Sight.{Sight}
-use Rattle.inp_script.specs.declared.sight.Sight.TheVariants.{Call, Took, Made, Again}
+use Rattle.inp_script.specs.declared.sight.Sight.TheVariants.{Call, Took, Made, Again, Record}
 use Rattle.inp_script.specs.declared.stop.Stop.{Stop}
 use Rattle.inp_script.specs.declared.stop.Stop.TheVariants.{Finished, Idle, Full}
 use Rattle.inp_script.specs.declared.run.Run.{Run}
-use Rattle.inp_script.specs.Job.{JobView}
+use Rattle.inp_script.specs.Job.{JobView, JoyJobView}
 use Rattle.inp_report.specs.Words.{LINE_FEED}
 use Rattle.inp_report.specs.Sights.{sight_line}
 use Rattle.inp_report.specs.Views.{view_text}
 use Rattle.inp_report.specs.Report.{stop_line, reading_text, report}
+use Rattle.inp_report.specs.JoyReport.{joy_report}
 use Rattle.inp_report.specs.Summary.{summary}
 
 -- a text of these lines
@@ -183,6 +187,62 @@ ShowsContacts =
     ∷ codes "slot 0 ABS_MT_POSITION_X=0 ABS_MT_POSITION_Y=7 ABS_MT_TRACKING_ID=-1"
     ∷ codes "slot 1 ABS_MT_POSITION_X=5 ABS_MT_POSITION_Y=0 ABS_MT_TRACKING_ID=11"
     ∷ [])
+
+-- A stick with a trigger and the axis X. A joystick opens it, is handed out how they stand, and then that the trigger is
+-- pressed and that the axis moves past its range.
+abbrev pub joystick : RecordView
+joystick = record_of (codes "stick") stick (actor Source (codes "s") ∷ actor Joy (codes "j") ∷ [])
+
+abbrev pub joy_job : List Sight → PictureView → Stop → JoyJobView
+joy_job sight picture stop = record { actor = 1; sight = sight; picture = picture; stop = stop }
+
+abbrev pub pull : List Step
+pull =
+    Open ∷ GetKeys 0 ∷ GetAxis 0 0 ∷ Inject trigger 0 ∷ Inject (axis 0 (pos 40000)) 0 ∷ Inject syn_report 2500000 ∷ Read 0 64 ∷ []
+
+abbrev pub pulled : List Sight
+pulled = done trigger 0 3 ∷ done (axis 0 (pos 40000)) 0 4 ∷ done syn_report 2500000 5 ∷ []
+
+abbrev pub pull_read : List Sight
+pull_read =
+    Call Open (Opened 0 0 64)
+    ∷ Call (GetKeys 0) (Bits 1 (replicate 12 0))
+    ∷ Call (GetAxis 0 0) (Axis 2 (record axis_told { value = pos 5 }))
+    ∷ Record (0 ∷ 0 ∷ 0 ∷ 0 ∷ 0 ∷ 0 ∷ 129 ∷ 0 ∷ [])
+    ∷ Record (0 ∷ 0 ∷ 0 ∷ 0 ∷ 5 ∷ 0 ∷ 130 ∷ 0 ∷ [])
+    ∷ Call (Read 0 64) (Taking 6 3)
+    ∷ Record (196 ∷ 9 ∷ 0 ∷ 0 ∷ 1 ∷ 0 ∷ 1 ∷ 0 ∷ [])
+    ∷ Record (196 ∷ 9 ∷ 0 ∷ 0 ∷ 255 ∷ 127 ∷ 2 ∷ 0 ∷ [])
+    ∷ Again 7 0
+    ∷ []
+
+abbrev pub ShowsAJoystick : Type 0
+ShowsAJoystick =
+    report joystick (record { history = pull; jobs = job 0 pulled (first_view stick) Finished ∷ [] } ∷ []) false
+    ++ joy_report joystick (joy_job pull_read (record { buttons = up_to_64 false (true ∷ []); axes = up_to_64 (pos 0) (pos 32767 ∷ []) }) Finished ∷ [])
+    ≡ text_of (codes "device stick steps 7"
+    ∷ codes "source s calls 3 stop finished"
+    ∷ codes "joy j"
+    ∷ codes "call open reply opened 0 0 64"
+    ∷ codes "call getkeys 0 reply bits 1"
+    ∷ codes "call getaxis 0 ABS_X reply axis 2 5 0 100 0 0 0"
+    ∷ codes "js 0 0 129 0"
+    ∷ codes "js 0 5 130 0"
+    ∷ codes "call read 0 64 reply took 6 3"
+    ∷ codes "js 2500 1 1 0"
+    ∷ codes "js 2500 32767 2 0"
+    ∷ codes "again 7"
+    ∷ codes "buttons 0"
+    ∷ codes "axes 32767"
+    ∷ codes "stop finished"
+    ∷ [])
+
+-- no button is down, and the axis moved the other way as far as it goes, at the latest time that a record can tell
+abbrev pub ShowsAnAxisBelowNought : Type 0
+ShowsAnAxisBelowNought =
+    joy_report joystick (joy_job (
+    Record (255 ∷ 255 ∷ 255 ∷ 255 ∷ 1 ∷ 128 ∷ 2 ∷ 0 ∷ []) ∷ []) (record blank_picture { axes = up_to_64 (pos 0) (negsuc 32766 ∷ []) }) (Full 9) ∷ [])
+    ≡ text_of (codes "joy j" ∷ codes "js 4294967295 -32767 2 0" ∷ codes "buttons" ∷ codes "axes -32767" ∷ codes "stop full 9" ∷ [])
 
 -- ten fingers, of which the last is told
 abbrev pub generated : RecordView

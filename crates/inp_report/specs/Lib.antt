@@ -4,5 +4,6 @@ pub mod Replies
 pub mod Sights
 pub mod Views
 pub mod Report
+pub mod JoyReport
 pub mod Summary
 pub mod Examples

@@ -45,6 +45,7 @@ fn push_part(
         }
         Role::Client => push_reading(text, Role::Client, &actor.name, caps, job),
         Role::Tap => push_reading(text, Role::Tap, &actor.name, caps, job),
+        Role::Joy => Ok(()),
     }
 }
 
@@ -81,7 +82,7 @@ fn push_source(text: &mut String, name: &Name, calls: usize, stop: Stop) -> Resu
 }
 
 #[tactic(auto, unfolding(crate::specs::Report::actor_line))]
-fn push_actor(text: &mut String, role: Role, name: &Name) -> Result<(), NoMemory>
+pub(crate) fn push_actor(text: &mut String, role: Role, name: &Name) -> Result<(), NoMemory>
     ensures pushed { OnOk result
         (string_bytes text.new ≡ string_bytes text.old ++ actor_line role name.now) }
 {
@@ -92,7 +93,7 @@ fn push_actor(text: &mut String, role: Role, name: &Name) -> Result<(), NoMemory
 }
 
 #[tactic(auto, unfolding(crate::specs::Report::stop_line))]
-fn push_stop_line(text: &mut String, stop: Stop) -> Result<(), NoMemory>
+pub(crate) fn push_stop_line(text: &mut String, stop: Stop) -> Result<(), NoMemory>
     ensures pushed { OnOk result (string_bytes text.new ≡ string_bytes text.old ++ stop_line stop) }
 {
     text.push_str("stop ")?;

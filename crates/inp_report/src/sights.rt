@@ -4,14 +4,16 @@ ghost use Rattle.std.specs.List.{count_by};
 ghost use Rattle.inp_model.specs.Step.{is_end_step};
 ghost use Rattle.inp_report.specs.Steps.{step_text};
 ghost use Rattle.inp_report.specs.Replies.{query_kind, reply_text};
-ghost use Rattle.inp_report.specs.Sights.{stamp_text, sight_line, is_counted_call, is_took, is_made, is_again};
+ghost use Rattle.inp_report.specs.Sights.{stamp_text, joy_record_text, sight_line, is_counted_call, is_took, is_made, is_again};
 
 use crate::bits::push_bits;
 use crate::stamp::Stamp;
 use crate::step_text::push_step_text;
 use crate::words::{push_axis, push_event, push_numbered, push_refusal, push_spaced};
+use inp_joy::JoyRecord;
 use inp_model::{EV_KEY, EV_LED, EV_SND, EV_SW, EV_SYN, NoMemory, Reply, Step};
 use inp_script::Sight;
+use std::fmt::Write;
 
 pub(crate) fn push_sights(text: &mut String, sights: &[Sight]) -> Result<(), NoMemory>
     ensures pushed { OnOk result
@@ -43,8 +45,24 @@ fn push_sight(text: &mut String, stamp: &mut Stamp, sight: &Sight) -> Result<(),
             push_event(text, *event)?;
         }
         Sight::Again { at, .. } => push_numbered(text, "again ", u64::from(*at))?,
+        Sight::Record { bytes } => push_joy_record(text, JoyRecord::from_bytes(*bytes))?,
     }
     text.push_str("\n")?;
+    Ok(())
+}
+
+#[tactic(auto, unfolding(crate::specs::Sights::joy_record_text))]
+fn push_joy_record(text: &mut String, joy_record: JoyRecord) -> Result<(), NoMemory>
+    ensures pushed { OnOk result
+        (string_bytes text.new ≡ string_bytes text.old ++ joy_record_text joy_record) }
+{
+    let JoyRecord {
+        time,
+        value,
+        kind,
+        number,
+    } = joy_record;
+    write!(text, "js {time} {value} {kind} {number}")?;
     Ok(())
 }
 
@@ -60,6 +78,7 @@ fn push_call(text: &mut String, step: Step, reply: &Reply) -> Result<(), NoMemor
     push_reply(text, step, reply)
 }
 
+// Appends the words of a reply, by its kind.
 #[tactic(auto, unfolding(crate::specs::Replies::reply_text))]
 fn push_reply(text: &mut String, step: Step, reply: &Reply) -> Result<(), NoMemory>
     ensures pushed { OnOk result
@@ -131,7 +150,8 @@ fn is_counted_call(sight: &Sight) -> bool
 {
     match sight {
         Sight::Call { step, reply } => reply.is_accepted() && !is_end(*step),
-        Sight::Took { .. } | Sight::Made { .. } | Sight::Again { .. } => false,
+        Sight::Took { .. } | Sight::Made { .. } | Sight::Again { .. } | Sight::Record { .. } =>
+            false,
     }
 }
 

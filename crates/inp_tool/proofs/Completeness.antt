@@ -14,20 +14,21 @@ use Rattle.inp_actors.specs.Record.{RecordView}
 use Rattle.inp_canon.specs.Text.{record_text}
 use Rattle.inp_record.specs.declared.refused.Refused.{Refused as Refusal}
 use Rattle.inp_record.specs.Meaning.{meaning}
+use Rattle.inp_script.specs.declared.run.Played.{Played}
 use Rattle.inp_script.specs.declared.run.Run.{Run}
+use Rattle.inp_script.specs.Job.{JoyJobView}
 use Rattle.inp_upgrade.specs.Upgrade.{upgraded}
-use Rattle.inp_report.specs.Report.{report}
-use Rattle.inp_report.specs.Summary.{summary}
 use Rattle.inp_tool.specs.declared.end.End.{End}
 use Rattle.inp_tool.specs.declared.outcome.Outcome.{Outcome}
-use Rattle.inp_tool.specs.declared.outcome.Outcome.TheVariants.{Usage, Unread, TooLong, Refused, NoMemory, Played, Migrated}
+use Rattle.inp_tool.specs.declared.outcome.Outcome.TheVariants.{Usage, Unread, TooLong, Refused, NoMemory, Played as WasPlayed, Migrated}
 use Rattle.inp_tool.specs.Edge.{Reads, Writes}
 use Rattle.inp_tool.specs.Streams.{StreamFile, file_of, stream_files, events_in, HoldEvents}
 use Rattle.inp_tool.specs.Outcome.{played_status}
 use Rattle.inp_tool.specs.Reading.{IsRead, IsUnread, IsTooLong, AreRead, IsParsed, IsAtStream, IsNext, HasBadText, HasBadStream, HasRecord}
-use Rattle.inp_tool.specs.Promise.{Words, AskFor, NameFile, CameOf, HasCause, IsWrittenWhole, IsWritten, Promise}
-use Rattle.inp_tool.specs.Complete.{IsFaultless, IsThere, AreThere, IsReadable, IsTold, IsToldWhole, IsRewritten, IsComplete}
+use Rattle.inp_tool.specs.Promise.{Words, AskFor, NameFile, CameOf, whole_report, HasCause, IsWrittenWhole, IsWritten, Promise}
+use Rattle.inp_tool.specs.Complete.{IsFaultless, IsThere, AreThere, IsReadable, played_by, IsTold, made_summary, IsToldWhole, IsRewritten, IsComplete}
 use Rattle.inp_tool.proofs.MadeBounds.{asked-not_full}
+use Rattle.inp_tool.proofs.MadeJoys.{made-no_joys}
 use Rattle.inp_tool.proofs.StreamFiles.{line_found}
 use Rattle.inp_tool.proofs.Faults.{same_file, plays_file, migrates_file, made_names_none, refused_names_none}
 
@@ -179,13 +180,19 @@ module _ (r : Reads) (file : List ℕ) (recorded : RecordView) (readable : IsRea
       ∙ ap (λ (s : List (List Stamped)). record readable.parsed { streams = s }) streams
       ∙ sym readable.whole
 
+-- the end has what was found
+same_played : (end : End) (played : Played) → end.runs ≡ played.runs → end.joys ≡ played.joys → played_by end ≡ played
+same_played end played runs joys =
+    ap (λ (rs : List Run). record { runs = rs; joys = end.joys }) runs
+    ∙ ap (λ (js : List JoyJobView). record { runs = played.runs; joys = js }) joys
+
 -- what came of a record was told
-is_told : (w : Writes) (idle : Option ℕ) (recorded : RecordView) (text : List Run → List ℕ) (runs : List Run) (says : List ℕ) (end : End) → CameOf idle recorded runs → says ≡ text runs → end.runs ≡ runs → end.status ≡ played_status runs
-    → Appends says w.before.written w.after.written → IsTold w idle recorded text end
-is_told w idle recorded text runs says end came e same status written =
-    let P : List Run → Type 0 = λ rs. (end.status ≡ played_status rs) × Appends (text rs) w.before.written w.after.written in
+is_told : (w : Writes) (idle : Option ℕ) (recorded : RecordView) (text : Played → List ℕ) (played : Played) (says : List ℕ) (end : End) → CameOf idle recorded played → says ≡ text played → played_by end ≡ played
+    → end.status ≡ played_status played → Appends says w.before.written w.after.written → IsTold w idle recorded text end
+is_told w idle recorded text played says end came e same status written =
+    let P : Played → Type 0 = λ p. (end.status ≡ played_status p) × Appends (text p) w.before.written w.after.written in
     let Q : List ℕ → Type 0 = λ t. Appends t w.before.written w.after.written in
-    let here : P runs = (status, subst Q e written) in
+    let here : P played = (status, subst Q e written) in
     let at = subst P (sym same) here in
     record { came = subst (CameOf idle recorded) (sym same) came; status = at.0; written = at.1 }
 
@@ -196,7 +203,7 @@ IsReached Unread = ⊥
 IsReached TooLong = ⊥
 IsReached (Refused refused text) = ⊥
 IsReached NoMemory = Unit {0}
-IsReached (Played runs text) = Unit {0}
+IsReached (WasPlayed played text) = Unit {0}
 IsReached (Migrated text) = Unit {0}
 
 -- a record that is there was not refused
@@ -216,28 +223,29 @@ reached words r (Refused refused text) file recorded named readable stays faultl
     let P : List ℕ → Type 0 = λ f. HasBadText r f refused ⊎ HasBadStream r f refused in
     not_refused r file recorded readable stays faultless refused (subst P same h.why)
 reached words r NoMemory file recorded named readable stays faultless h = tt
-reached words r (Played runs text) file recorded named readable stays faultless h = tt
+reached words r (WasPlayed played text) file recorded named readable stays faultless h = tt
 reached words r (Migrated text) file recorded named readable stays faultless h = tt
 
 -- a record that is there was played, or memory ran out
 by_outcome : (words : Words) (r : Reads) (w : Writes) (end : End) (found : Outcome) (file : List ℕ) (history : Bool) (idle : Option ℕ) (recorded : RecordView) → AskFor words file history idle → IsReadable r file recorded
     → is_some r.after.left ≡ is_some r.before.left → IsFaultless r.before.faults r.after.faults → IsReached found → HasCause words r found → IsWrittenWhole w found end
-    → (end.status ≡ 5) ⊎ IsTold w idle recorded (λ runs. report recorded runs history) end
+    → (end.status ≡ 5) ⊎ IsTold w idle recorded (whole_report recorded history) end
 by_outcome words r w end Usage file history idle recorded asked readable stays faultless there h whole = absurd there
 by_outcome words r w end Unread file history idle recorded asked readable stays faultless there h whole = absurd there
 by_outcome words r w end TooLong file history idle recorded asked readable stays faultless there h whole = absurd there
 by_outcome words r w end (Refused refused text) file history idle recorded asked readable stays faultless there h whole = absurd there
 by_outcome words r w end NoMemory file history idle recorded asked readable stays faultless there h whole = inl whole.ended.status
-by_outcome words r w end (Played runs text) file history idle recorded asked readable stays faultless there (inl h) whole =
+by_outcome words r w end (WasPlayed played text) file history idle recorded asked readable stays faultless there (inl h) whole =
     let same = same_file words file h.file (plays_file words file history idle asked) (plays_file words h.file h.history h.idle h.asked) in
     let same_history : h.history ≡ history = cc (h.asked, asked) in
     let same_idle : h.idle ≡ idle = cc (h.asked, asked) in
     let P : List ℕ → Type 0 = λ f. HasRecord r f h.recorded in
     let its = same_whole r file recorded readable stays faultless h.recorded (subst P same h.read) in
-    let C : RecordView → Type 0 = λ x. CameOf idle x runs in
-    let says = h.says ∙ ap (λ (x : RecordView). report x runs h.history) its ∙ ap (λ (b : Bool). report recorded runs b) same_history in
-    inr (is_told w idle recorded (λ rs. report recorded rs history) runs text.items end (subst C its (subst (λ (o : Option ℕ). CameOf o h.recorded runs) same_idle h.came)) says whole.ended.runs whole.ended.status whole.written)
-by_outcome words r w end (Played runs text) file history idle recorded asked readable stays faultless there (inr h) whole = let never : ⊥ = cc (h.asked, asked) in absurd never
+    let C : RecordView → Type 0 = λ x. CameOf idle x played in
+    let says = h.says ∙ ap (λ (x : RecordView). whole_report x h.history played) its ∙ ap (λ (b : Bool). whole_report recorded b played) same_history in
+    inr (is_told w idle recorded (whole_report recorded history) played text.items end (subst C its (subst (λ (o : Option ℕ). CameOf o h.recorded played) same_idle h.came)) says
+    (same_played end played whole.ended.runs whole.ended.joys) whole.ended.status whole.written)
+by_outcome words r w end (WasPlayed played text) file history idle recorded asked readable stays faultless there (inr h) whole = let never : ⊥ = cc (h.asked, asked) in absurd never
 by_outcome words r w end (Migrated text) file history idle recorded asked readable stays faultless there h whole = let never : ⊥ = cc (h.asked, asked) in absurd never
 
 -- a record that is there was upgraded, or memory ran out
@@ -249,39 +257,39 @@ by_outcome_migrated words r w end Unread file recorded asked readable stays faul
 by_outcome_migrated words r w end TooLong file recorded asked readable stays faultless there h whole = absurd there
 by_outcome_migrated words r w end (Refused refused text) file recorded asked readable stays faultless there h whole = absurd there
 by_outcome_migrated words r w end NoMemory file recorded asked readable stays faultless there h whole = inl whole.ended.status
-by_outcome_migrated words r w end (Played runs text) file recorded asked readable stays faultless there (inl h) whole = let never : ⊥ = cc (h.asked, asked) in absurd never
-by_outcome_migrated words r w end (Played runs text) file recorded asked readable stays faultless there (inr h) whole = let never : ⊥ = cc (h.asked, asked) in absurd never
+by_outcome_migrated words r w end (WasPlayed played text) file recorded asked readable stays faultless there (inl h) whole = let never : ⊥ = cc (h.asked, asked) in absurd never
+by_outcome_migrated words r w end (WasPlayed played text) file recorded asked readable stays faultless there (inr h) whole = let never : ⊥ = cc (h.asked, asked) in absurd never
 by_outcome_migrated words r w end (Migrated text) file recorded asked readable stays faultless there h whole =
     let same = same_file words file h.file (migrates_file words file asked) (migrates_file words h.file h.asked) in
     let P : List ℕ → Type 0 = λ f. HasRecord r f h.recorded in
     let its = same_whole r file recorded readable stays faultless h.recorded (subst P same h.read) in
     let says : text.items ≡ record_text (upgraded recorded) = h.says ∙ ap (λ (x : RecordView). record_text (upgraded x)) its in
     let Q : List ℕ → Type 0 = λ t. Appends t w.before.written w.after.written in
-    inr (record { status = whole.ended.status; runs = whole.ended.runs; written = subst Q says whole.written })
+    inr (record { status = whole.ended.status; runs = whole.ended.runs; joys = whole.ended.joys; written = subst Q says whole.written })
 
 -- a record that was to be made was played, or memory ran out
 by_outcome_made : (words : Words) (r : Reads) (w : Writes) (end : End) (found : Outcome) (number count : ℕ) → requested words ≡ Some (Make number count) → HasCause words r found → IsWrittenWhole w found end
-    → (end.status ≡ 5) ⊎ IsTold w None (generated number count) (λ runs. summary number count (generated number count) runs) end
+    → (end.status ≡ 5) ⊎ IsTold w None (generated number count) (made_summary number count) end
 by_outcome_made words r w end Usage number count asked h whole = let never : ⊥ = cc (h.refused, asked) in absurd never
 by_outcome_made words r w end Unread number count asked h whole = absurd (made_names_none words number count h.file asked h.named)
 by_outcome_made words r w end TooLong number count asked h whole = absurd (made_names_none words number count h.file asked h.named)
 by_outcome_made words r w end (Refused refused text) number count asked h whole = absurd (made_names_none words number count h.file asked h.named)
 by_outcome_made words r w end NoMemory number count asked h whole = inl whole.ended.status
-by_outcome_made words r w end (Played runs text) number count asked (inl h) whole = let never : ⊥ = cc (h.asked, asked) in absurd never
+by_outcome_made words r w end (WasPlayed played text) number count asked (inl h) whole = let never : ⊥ = cc (h.asked, asked) in absurd never
 by_outcome_made words r w end (Migrated text) number count asked h whole = let never : ⊥ = cc (h.asked, asked) in absurd never
-by_outcome_made words r w end (Played runs text) number count asked (inr h) whole =
+by_outcome_made words r w end (WasPlayed played text) number count asked (inr h) whole =
     let n : h.number ≡ number = cc (h.asked, asked) in
     let c : h.count ≡ count = cc (h.asked, asked) in
-    let C : ℕ → ℕ → Type 0 = λ x y. CameOf None (generated x y) runs × (text.items ≡ summary x y (generated x y) runs) in
+    let C : ℕ → ℕ → Type 0 = λ x y. CameOf None (generated x y) played × (text.items ≡ made_summary x y played) in
     let here : C number count = subst (λ (y : ℕ). C number y) c (subst (λ (x : ℕ). C x h.count) n (h.came, h.says)) in
-    inr (is_told w None (generated number count) (λ rs. summary number count (generated number count) rs) runs text.items end here.0 here.1 whole.ended.runs whole.ended.status whole.written)
+    inr (is_told w None (generated number count) (made_summary number count) played text.items end here.0 here.1 (same_played end played whole.ended.runs whole.ended.joys) whole.ended.status whole.written)
 
 when_read : (words : Words) (r : Reads) (w : Writes) (end : End) (p : Promise words r w end) → is_some r.after.left ≡ is_some r.before.left → (file : List ℕ) (history : Bool) (idle : Option ℕ) (recorded : RecordView)
     → AskFor words file history idle → IsReadable r file recorded → IsFaultless r.before.faults r.after.faults → IsFaultless w.before.faults w.after.faults
-    → (end.status ≡ 5) ⊎ IsTold w idle recorded (λ runs. report recorded runs history) end
+    → (end.status ≡ 5) ⊎ IsTold w idle recorded (whole_report recorded history) end
 when_read words r w end p stays file history idle recorded asked readable no_read no_write = by_writing p.written
   where
-    by_writing : IsWritten w p.found end → (end.status ≡ 5) ⊎ IsTold w idle recorded (λ runs. report recorded runs history) end
+    by_writing : IsWritten w p.found end → (end.status ≡ 5) ⊎ IsTold w idle recorded (whole_report recorded history) end
     by_writing (inl whole) =
         by_outcome words r w end p.found file history idle recorded asked readable stays no_read
         (reached words r p.found file recorded (plays_file words file history idle asked) readable stays no_read p.cause) p.cause whole
@@ -302,14 +310,15 @@ when_made : (words : Words) (r : Reads) (w : Writes) (end : End) (p : Promise wo
     → (end.status ≡ 5) ⊎ IsToldWhole w number count end
 when_made words r w end p number count asked no_write = of_told (by_writing p.written)
   where
-    of_told : (end.status ≡ 5) ⊎ IsTold w None (generated number count) (λ runs. summary number count (generated number count) runs) end → (end.status ≡ 5) ⊎ IsToldWhole w number count end
+    of_told : (end.status ≡ 5) ⊎ IsTold w None (generated number count) (made_summary number count) end → (end.status ≡ 5) ⊎ IsToldWhole w number count end
     of_told (inl lacks) = inl lacks
     of_told (inr told) = inr (record {
       told = told;
-      status = told.status ∙ ap (λ (full : Bool). if full then 6 else 0) (asked-not_full words number count end.runs asked (told.came.in_order refl));
+      status = told.status ∙ ap (λ (full : Bool). if full then 6 else 0) (asked-not_full words number count (played_by end) asked (told.came.in_order refl) told.came.promised.joys_of);
+      joys = made-no_joys number count end.joys told.came.promised.joys_of;
     })
 
-    by_writing : IsWritten w p.found end → (end.status ≡ 5) ⊎ IsTold w None (generated number count) (λ runs. summary number count (generated number count) runs) end
+    by_writing : IsWritten w p.found end → (end.status ≡ 5) ⊎ IsTold w None (generated number count) (made_summary number count) end
     by_writing (inl whole) = by_outcome_made words r w end p.found number count asked p.cause whole
     by_writing (inr part) = absurd (no_rise w.before.faults w.after.faults no_write part.fault)
 

@@ -30,8 +30,8 @@ input_keeps words r TooLong h other = h.too_long.too_long.no_fault
 input_keeps words r (Refused refused text) h other = no_record_keeps r h.file refused h.why
 input_keeps words r NoMemory (inl h) other = untouched_keeps r h
 input_keeps words r NoMemory (inr h) other = h.no_fault
-input_keeps words r (Played runs text) (inl h) other = h.read.no_fault
-input_keeps words r (Played runs text) (inr h) other = untouched_keeps r h.untouched
+input_keeps words r (Played played text) (inl h) other = h.read.no_fault
+input_keeps words r (Played played text) (inr h) other = untouched_keeps r h.untouched
 input_keeps words r (Migrated text) h other = h.read.no_fault
 
 -- the words ask for one file
@@ -85,10 +85,10 @@ missing_told words r file (Refused refused text) asked missing h =
     let same = same_file words file h.file asked h.named in
     absurd (there r file h.file same (text_found r h.file refused h.why) missing)
 missing_told words r file NoMemory asked missing h = inr (inr refl)
-missing_told words r file (Played runs text) asked missing (inl h) =
+missing_told words r file (Played played text) asked missing (inl h) =
     let same = same_file words file h.file asked (plays_file words h.file h.history h.idle h.asked) in
     absurd (there r file h.file same h.read.is_parsed.read.found missing)
-missing_told words r file (Played runs text) asked missing (inr h) = absurd (made_names_none words h.number h.count file h.asked asked)
+missing_told words r file (Played played text) asked missing (inr h) = absurd (made_names_none words h.number h.count file h.asked asked)
 missing_told words r file (Migrated text) asked missing h =
     let same = same_file words file h.file asked (migrates_file words h.file h.asked) in
     absurd (there r file h.file same h.read.is_parsed.read.found missing)
@@ -122,8 +122,8 @@ long_told words r file TooLong asked touched past h = refl
 long_told words r file (Refused refused text) asked touched past h = absurd (not_past r (text_within r h.file refused h.why).within past)
 long_told words r file NoMemory asked touched past (inl h) = absurd (touched h)
 long_told words r file NoMemory asked touched past (inr h) = absurd (not_past r h.within past)
-long_told words r file (Played runs text) asked touched past (inl h) = absurd (not_past r (ran_out_after r h.file h.recorded h.read).within past)
-long_told words r file (Played runs text) asked touched past (inr h) = absurd (made_names_none words h.number h.count file h.asked asked)
+long_told words r file (Played played text) asked touched past (inl h) = absurd (not_past r (ran_out_after r h.file h.recorded h.read).within past)
+long_told words r file (Played played text) asked touched past (inr h) = absurd (made_names_none words h.number h.count file h.asked asked)
 long_told words r file (Migrated text) asked touched past h = absurd (not_past r (ran_out_after r h.file h.recorded h.read).within past)
 
 long_shown : (words : Words) (r : Reads) (w : Writes) (found : Outcome) (end : End) → HasCause words r found → IsWritten w found end → (file : List ℕ) → NameFile words file → r.after ≢ r.before → INPUT_LIMIT < r.after.given

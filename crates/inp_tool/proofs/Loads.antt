@@ -1,7 +1,7 @@
 -- Streams, read line by line.
-use Rattle.std.proofs.Common.{◌≡◌, ℕ, suc, ◌+◌, ◌<◌, ◌≤◌, List, [], ◌∷◌, ◌++◌, length, get_or, take, drop, set, map, append_assoc, Option, Some, option_map, refl, sym, ap, subst, ◌∙◌, inl, inr, arith}
+use Rattle.std.proofs.Common.{◌≡◌, ℕ, suc, ◌+◌, ◌<◌, ◌≤◌, List, [], ◌∷◌, ◌++◌, length, get_or, take, drop, set, append_assoc, Option, Some, option_map, refl, sym, ap, subst, ◌∙◌, inl, inr, arith}
 use Rattle.std.specs.Prelude.{slice_get, slice_set, option_and_then}
-use Rattle.std.proofs.lemmas.List.{append-nil, map-append, length-append, take_all, drop_all}
+use Rattle.std.proofs.lemmas.List.{append-nil, length-append, take_all, drop_all}
 use Rattle.std.proofs.Math.Seq.{set-append_seam, drop-cons}
 use Rattle.std.proofs.lemmas.List.FromFn.{length-range_with_len}
 use Rattle.inp_edge.specs.File.{File}

@@ -16,15 +16,24 @@ use Rattle.inp_actors.specs.declared.line.Line.{Line}
 use Rattle.inp_actors.specs.Record.{RecordView}
 use Rattle.inp_make.specs.Generated.{pad, fast, mid, slow, line, moment_of, injected, finger_events, touches, frame_events, follows, frame_lines, opens, lines, generated}
 use Rattle.inp_reader.specs.Reading.{queries, axes_among}
+use Rattle.inp_actors.specs.declared.role.Role.{Role}
+use Rattle.inp_actors.specs.declared.role.Role.TheVariants.{Source, Client, Tap, Joy}
+use Rattle.inp_script.specs.declared.ended.Ended.{Ended}
+use Rattle.inp_script.specs.declared.ended.Ended.TheVariants.{Job as JobEnded, Joy as JoyEnded}
+use Rattle.inp_script.specs.declared.run.DeviceRun.{DeviceRun}
+use Rattle.inp_script.specs.declared.run.Played.{Played}
 use Rattle.inp_script.specs.declared.run.Run.{Run}
+use Rattle.inp_script.specs.Ended.{ended_as, ended_of, jobs_among, played_of}
 use Rattle.inp_script.specs.declared.stop.Stop.{Stop}
-use Rattle.inp_script.specs.Job.{ActorView, job_end, last_stop}
+use Rattle.inp_script.specs.Job.{ActorView, last_stop}
+use Rattle.inp_script.specs.Runs.{AreJoysOf}
 use Rattle.inp_order.specs.Play.{Stage, first_stage, after_lines, run_of, runs_of, play, IsPlay}
 use Rattle.inp_play.proofs.Follows.{HasQueries}
 use Rattle.inp_play.proofs.Growth.{IsBound, IsShort, Adds, event-bound, open-bound, follow-bound, adds-none, adds-line, adds-more, adds-append}
 use Rattle.inp_runs.proofs.Listing.{IsImage, option_map-some}
 use Rattle.inp_play.proofs.OwnQueues.{quiet-keys, quiet-slots}
-use Rattle.inp_tool.specs.Outcome.{is_full, has_full_job, has_full}
+use Rattle.inp_tool.specs.Outcome.{is_full, has_full_job, has_full_run, has_full_joy, has_full}
+use Rattle.inp_tool.proofs.MadeJoys.{made-no_joys}
 
 -- The device
 
@@ -131,27 +140,60 @@ first_short number count = record { pasts = pasts; actors = actors }
 
 -- What came of it
 
-no_full_job : (p : ActorView → Bool) (actors : List ActorView) → ((i : ℕ) (a : ActorView) → slice_get actors i ≡ Some a → a.job.stop ≡ None) → has_full_job (map job_end (filter p actors)) ≡ false
-no_full_job p [] none = refl
-no_full_job p (a ∷ actors) none = by_flag (p a) (ap (λ (s : Option Stop). is_full (last_stop s)) (none 0 a refl)) (no_full_job p actors (λ i b h. none (suc i) b h))
+-- an actor's job stopped since the history was full
+abbrev is_full_end : Ended → Bool
+is_full_end (JobEnded job) = is_full job.stop
+is_full_end (JoyEnded joy) = is_full joy.stop
+
+no_full_end : (a : ActorView) → a.job.stop ≡ None → is_full_end (ended_of a) ≡ false
+no_full_end a none = by_role a.role
   where
-    by_flag : (b : Bool) → is_full (last_stop a.job.stop) ≡ false → has_full_job (map job_end (filter p actors)) ≡ false → has_full_job (map job_end (if b then a ∷ filter p actors else filter p actors)) ≡ false
-    by_flag true first more = ap (λ (x : Bool). x || has_full_job (map job_end (filter p actors))) first ∙ more
+    goes_on : is_full (last_stop a.job.stop) ≡ false
+    goes_on = ap (λ (s : Option Stop). is_full (last_stop s)) none
+
+    by_role : (role : Role) → is_full_end (ended_as role a) ≡ false
+    by_role Source = goes_on
+    by_role Client = goes_on
+    by_role Tap = goes_on
+    by_role Joy = goes_on
+
+-- one more that did not
+no_more_full : (ended : Ended) (ends : List Ended) → is_full_end ended ≡ false → has_full_job (jobs_among ends) ≡ false → has_full_job (jobs_among (ended ∷ ends)) ≡ false
+no_more_full (JobEnded job) ends first more = ap (λ (x : Bool). x || has_full_job (jobs_among ends)) first ∙ more
+no_more_full (JoyEnded joy) ends first more = more
+
+no_full_job : (p : ActorView → Bool) (actors : List ActorView) → ((i : ℕ) (a : ActorView) → slice_get actors i ≡ Some a → a.job.stop ≡ None) → has_full_job (jobs_among (map ended_of (filter p actors))) ≡ false
+no_full_job p [] none = refl
+no_full_job p (a ∷ actors) none = by_flag (p a) (no_full_end a (none 0 a refl)) (no_full_job p actors (λ i b h. none (suc i) b h))
+  where
+    by_flag : (b : Bool) → is_full_end (ended_of a) ≡ false → has_full_job (jobs_among (map ended_of (filter p actors))) ≡ false
+        → has_full_job (jobs_among (map ended_of (if b then a ∷ filter p actors else filter p actors))) ≡ false
+    by_flag true first more = no_more_full (ended_of a) (map ended_of (filter p actors)) first more
     by_flag false first more = more
 
-no_full_run : (r : RecordView) (stage : Stage) (numbered : List (ℕ × List Step)) → ((i : ℕ) (a : ActorView) → slice_get stage.actors i ≡ Some a → a.job.stop ≡ None) → has_full (map (run_of r stage) numbered) ≡ false
+-- the runs of these devices
+abbrev runs_among : List DeviceRun → List Run
+runs_among devices = map (λ (device : DeviceRun). device.run) devices
+
+no_full_run : (r : RecordView) (stage : Stage) (numbered : List (ℕ × List Step)) → ((i : ℕ) (a : ActorView) → slice_get stage.actors i ≡ Some a → a.job.stop ≡ None) → has_full_run (runs_among (map (run_of r stage) numbered)) ≡ false
 no_full_run r stage [] none = refl
 no_full_run r stage (first ∷ numbered) none =
-    ap (λ (x : Bool). x || has_full (map (run_of r stage) numbered)) (no_full_job _ stage.actors none) ∙ no_full_run r stage numbered none
+    ap (λ (x : Bool). x || has_full_run (runs_among (map (run_of r stage) numbered))) (no_full_job _ stage.actors none) ∙ no_full_run r stage numbered none
 
-pub made-not_full : (number count : ℕ) (runs : List Run) → 1 ≤ count → count ≤ 10000 → IsPlay (generated number count) runs → has_full runs ≡ false
+made-no_full_run : (number count : ℕ) (played : Played) → 1 ≤ count → count ≤ 10000 → IsPlay (generated number count) played → has_full_run played.runs ≡ false
 unfolding play
-made-not_full number count runs least most is =
+made-no_full_run number count played least most is =
     let r : RecordView = generated number count in
-    let image : IsImage (runs_of r) (after_lines r is.rounds (first_stage r) r.lines) runs = option_map-some (runs_of r) (after_lines r is.rounds (first_stage r) r.lines) runs is.plays in
+    let finish : Stage → Played = λ stage. played_of (runs_of r stage) in
+    let image : IsImage finish (after_lines r is.rounds (first_stage r) r.lines) played = option_map-some finish (after_lines r is.rounds (first_stage r) r.lines) played is.plays in
     let short : IsShort pad (0 + (20 + 64 * count)) image.from =
     adds-lines r number count is.rounds 0 (first_stage r) image.from (first_short number count) (omega (arith, most, pad-limit)) image.is in
-    ap has_full (sym image.same) ∙ no_full_run r image.from (enumerate_from 0 image.from.pasts) (λ i a h. (short.actors i a h).1)
+    ap (λ (p : Played). has_full_run p.runs) (sym image.same) ∙ no_full_run r image.from (enumerate_from 0 image.from.pasts) (λ i a h. (short.actors i a h).1)
+
+made-not_full : (number count : ℕ) (played : Played) → 1 ≤ count → count ≤ 10000 → IsPlay (generated number count) played → AreJoysOf (generated number count) played.joys → has_full played ≡ false
+made-not_full number count played least most is joys =
+    ap (λ (x : Bool). x || has_full_joy played.joys) (made-no_full_run number count played least most is)
+    ∙ ap has_full_joy (made-no_joys number count played.joys joys)
 
 -- The count that is asked for
 
@@ -218,7 +260,7 @@ has_count words number count h = by_flag (is_taken words) h
     by_flag false e = absurd cc
 
 -- what is asked for and comes of it in file order stops no job as full
-pub asked-not_full : (words : List (List ℕ)) (number count : ℕ) (runs : List Run) → requested words ≡ Some (Make number count) → IsPlay (generated number count) runs → has_full runs ≡ false
-asked-not_full words number count runs asked is =
+pub asked-not_full : (words : List (List ℕ)) (number count : ℕ) (played : Played) → requested words ≡ Some (Make number count) → IsPlay (generated number count) played → AreJoysOf (generated number count) played.joys → has_full played ≡ false
+asked-not_full words number count played asked is joys =
     let range = has_count words number count asked in
-    made-not_full number count runs range.0 range.1 is
+    made-not_full number count played range.0 range.1 is joys

@@ -11,15 +11,14 @@ use Rattle.inp_model.specs.declared.stamped.Stamped.{Stamped}
 use Rattle.inp_actors.specs.Record.{RecordView}
 use Rattle.inp_canon.specs.Text.{record_text}
 use Rattle.inp_record.specs.Meaning.{meaning}
-use Rattle.inp_script.specs.declared.run.Run.{Run}
+use Rattle.inp_script.specs.declared.run.Played.{Played}
 use Rattle.inp_upgrade.specs.Upgrade.{upgraded}
-use Rattle.inp_report.specs.Report.{report}
 use Rattle.inp_report.specs.Summary.{summary}
 use Rattle.inp_tool.specs.declared.end.End.{End}
 use Rattle.inp_tool.specs.Edge.{Reads, Writes}
 use Rattle.inp_tool.specs.Streams.{StreamFile, stream_files, HoldEvents}
 use Rattle.inp_tool.specs.Outcome.{played_status}
-use Rattle.inp_tool.specs.Promise.{Words, AskFor, CameOf}
+use Rattle.inp_tool.specs.Promise.{Words, AskFor, CameOf, whole_report}
 
 -- a count that can rise and did not
 abbrev pub IsFaultless : ℕ → ℕ → Type 0
@@ -53,22 +52,33 @@ pub record IsReadable (r : Reads) (file : List ℕ) (recorded : RecordView) : Ty
   pub stamps : HoldEvents (stream_files parsed.lines) contents streams
   pub whole : recorded ≡ record parsed { streams = streams }
 
--- The text that tells the runs of this record was written whole. The status is 6 where a job stopped since a history was
--- full, and else 0.
-pub record IsTold (w : Writes) (idle : Option ℕ) (recorded : RecordView) (text : List Run → List ℕ) (end : End) : Type 0 where
-  pub came : CameOf idle recorded end.runs
-  pub status : end.status ≡ played_status end.runs
-  pub written : Appends (text end.runs) w.before.written w.after.written
+-- what came of a record, as the end has it
+abbrev pub played_by : End → Played
+played_by end = record { runs = end.runs; joys = end.joys }
 
--- The summary of a record that was made was written whole. No job of it stops since a history is full: the status is 0.
+-- The text that tells what came of this record was written whole. The status is 6 where a job stopped since a history was
+-- full, a joystick's or another one, and else 0.
+pub record IsTold (w : Writes) (idle : Option ℕ) (recorded : RecordView) (text : Played → List ℕ) (end : End) : Type 0 where
+  pub came : CameOf idle recorded (played_by end)
+  pub status : end.status ≡ played_status (played_by end)
+  pub written : Appends (text (played_by end)) w.before.written w.after.written
+
+-- the summary of a record that was made
+abbrev pub made_summary : ℕ → ℕ → Played → List ℕ
+made_summary number count played = summary number count (generated number count) played.runs
+
+-- The summary of a record that was made was written whole. No job of it stops since a history is full: the status is 0. It
+-- has no joystick.
 pub record IsToldWhole (w : Writes) (number count : ℕ) (end : End) : Type 0 where
-  pub told : IsTold w None (generated number count) (λ runs. summary number count (generated number count) runs) end
+  pub told : IsTold w None (generated number count) (made_summary number count) end
   pub status : end.status ≡ 0
+  pub joys : end.joys ≡ []
 
 -- The canonical text of this record in version 2 was written whole, and nothing was played.
 pub record IsRewritten (w : Writes) (recorded : RecordView) (end : End) : Type 0 where
   pub status : end.status ≡ 0
   pub runs : end.runs ≡ []
+  pub joys : end.joys ≡ []
   pub written : Appends (record_text (upgraded recorded)) w.before.written w.after.written
 
 -- A record that is there, or a record to be made, and no fault: its report, its text in version 2 or its summary, or want
@@ -76,7 +86,7 @@ pub record IsRewritten (w : Writes) (recorded : RecordView) (end : End) : Type 0
 pub record IsComplete (words : Words) (r : Reads) (w : Writes) (end : End) : Type 0 where
   pub read : (file : List ℕ) (history : Bool) (idle : Option ℕ) (recorded : RecordView) → AskFor words file history idle → IsReadable r file recorded
       → IsFaultless r.before.faults r.after.faults → IsFaultless w.before.faults w.after.faults
-      → (end.status ≡ 5) ⊎ IsTold w idle recorded (λ runs. report recorded runs history) end
+      → (end.status ≡ 5) ⊎ IsTold w idle recorded (whole_report recorded history) end
   pub migrated : (file : List ℕ) (recorded : RecordView) → requested words ≡ Some (Migrate file) → IsReadable r file recorded
       → IsFaultless r.before.faults r.after.faults → IsFaultless w.before.faults w.after.faults
       → (end.status ≡ 5) ⊎ IsRewritten w recorded end

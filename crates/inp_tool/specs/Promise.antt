@@ -1,5 +1,5 @@
 -- What the program's one call promises (docs/PROMISES.md).
-use Rattle.std.specs.Prelude.{ℕ, ◌≡◌, ◌<◌, ◌≢◌, ◌⊎◌, Bool, List, string_bytes, Option, Some, None, Ok}
+use Rattle.std.specs.Prelude.{ℕ, ◌≡◌, ◌<◌, ◌≢◌, ◌⊎◌, Bool, List, [], ◌++◌, string_bytes, Option, Some, None, Ok}
 use Rattle.inp_edge.specs.Count.{RoseUnlessSaturated}
 use Rattle.inp_edge.specs.File.{IsMissing}
 use Rattle.inp_edge.specs.Sink.{Appends, IsCutOff}
@@ -12,18 +12,19 @@ use Rattle.inp_actors.specs.Record.{RecordView}
 use Rattle.inp_canon.specs.Text.{record_text}
 use Rattle.inp_record.specs.declared.refused.Refused.{Refused}
 use Rattle.inp_record.specs.Meaning.{meaning}
-use Rattle.inp_script.specs.declared.run.Run.{Run}
+use Rattle.inp_script.specs.declared.run.Played.{Played}
 use Rattle.inp_order.specs.Play.{IsPlay}
 use Rattle.inp_runs.specs.Job.{ArePromised}
 use Rattle.inp_upgrade.specs.Upgrade.{upgraded}
+use Rattle.inp_report.specs.JoyReport.{joy_report}
 use Rattle.inp_report.specs.Report.{report}
 use Rattle.inp_report.specs.Summary.{summary}
 use Rattle.inp_tool.specs.declared.end.End.{End}
 use Rattle.inp_tool.specs.declared.no_record.NoRecord.{NoRecord}
 use Rattle.inp_tool.specs.declared.outcome.Outcome.{Outcome}
-use Rattle.inp_tool.specs.declared.outcome.Outcome.TheVariants.{Usage, Unread, TooLong, Refused as IsRefused, NoMemory, Played, Migrated}
+use Rattle.inp_tool.specs.declared.outcome.Outcome.TheVariants.{Usage, Unread, TooLong, Refused as IsRefused, NoMemory, Played as WasPlayed, Migrated}
 use Rattle.inp_tool.specs.Edge.{Reads, Writes, KeepsInputFaults, KeepsSinkFaults}
-use Rattle.inp_tool.specs.Outcome.{refused_text, text_of, status_of, refused_of, runs_of}
+use Rattle.inp_tool.specs.Outcome.{refused_text, text_of, status_of, refused_of, played_in}
 use Rattle.inp_tool.specs.Reading.{HasUnread, HasTooLong, HasBadText, HasBadStream, HasRecord, HasNoRecord, RanOut}
 
 -- words, and what is in them
@@ -70,22 +71,26 @@ abbrev pub IsOutOfMemory : Reads → Type 0
 IsOutOfMemory r = (r.after ≡ r.before) ⊎ RanOut r
 
 -- What came of a record: each job's replies are the one-thread device's at their places in one history, its sight follows
--- its lines, and each place of the history is in one sight (`inp_runs`). On one thread the lines were done in file order
--- besides (`inp_order`).
-pub record CameOf (idle : Option ℕ) (recorded : RecordView) (runs : List Run) : Type 0 where
-  pub promised : ArePromised idle recorded runs
-  pub in_order : idle ≡ None → IsPlay recorded runs
+-- its lines, and each place of the history is in one sight, where joysticks' jobs are jobs too (`inp_runs`). On one thread
+-- the lines were done in file order besides (`inp_order`).
+pub record CameOf (idle : Option ℕ) (recorded : RecordView) (played : Played) : Type 0 where
+  pub promised : ArePromised idle recorded played
+  pub in_order : idle ≡ None → IsPlay recorded played
+
+-- the report of a record's devices, with the history or without, and behind it that of its joysticks
+abbrev pub whole_report : RecordView → Bool → Played → List ℕ
+whole_report recorded history played = report recorded played.runs history ++ joy_report recorded played.joys
 
 -- the record in FILE was read with its streams and played, and the text is its report
-pub record IsPlayed (words : Words) (r : Reads) (runs : List Run) (text : List ℕ) : Type 0 where
+pub record IsPlayed (words : Words) (r : Reads) (played : Played) (text : List ℕ) : Type 0 where
   pub file : List ℕ
   pub history : Bool
   pub idle : Option ℕ
   pub asked : AskFor words file history idle
   pub recorded : RecordView
   pub read : HasRecord r file recorded
-  pub came : CameOf idle recorded runs
-  pub says : text ≡ report recorded runs history
+  pub came : CameOf idle recorded played
+  pub says : text ≡ whole_report recorded history played
 
 -- The record in FILE was read with its streams. The text is its canonical text in version 2, by which it means the same
 -- record but for its version; a record's text names the files of its streams, and has none of their events.
@@ -97,14 +102,16 @@ pub record IsMigrated (words : Words) (r : Reads) (text : List ℕ) : Type 0 whe
   pub says : text ≡ record_text (upgraded recorded)
   pub means : meaning text ≡ Ok (upgraded read.parsed)
 
--- the record was made from two numbers and played, the text is its summary, and the input is as it was
-pub record IsMade (words : Words) (r : Reads) (runs : List Run) (text : List ℕ) : Type 0 where
+-- The record was made from two numbers and played, the text is its summary, and the input is as it was. It has no
+-- joystick.
+pub record IsMade (words : Words) (r : Reads) (played : Played) (text : List ℕ) : Type 0 where
   pub number : ℕ
   pub count : ℕ
   pub asked : requested words ≡ Some (Make number count)
   pub untouched : r.after ≡ r.before
-  pub came : CameOf None (generated number count) runs
-  pub says : text ≡ summary number count (generated number count) runs
+  pub came : CameOf None (generated number count) played
+  pub says : text ≡ summary number count (generated number count) played.runs
+  pub joys : played.joys ≡ []
 
 -- Each outcome has its cause. Memory may run out anywhere, but never in place of a fault.
 abbrev pub HasCause : Words → Reads → Outcome → Type 0
@@ -113,7 +120,7 @@ HasCause words r Unread = IsUnread words r
 HasCause words r TooLong = IsTooLong words r
 HasCause words r (IsRefused refused text) = IsNoRecord words r refused (string_bytes text)
 HasCause words r NoMemory = IsOutOfMemory r
-HasCause words r (Played runs text) = IsPlayed words r runs text.items ⊎ IsMade words r runs text.items
+HasCause words r (WasPlayed played text) = IsPlayed words r played text.items ⊎ IsMade words r played text.items
 HasCause words r (Migrated text) = IsMigrated words r text.items
 
 -- the outcome where FILE gave no record for this reason
@@ -124,7 +131,8 @@ IsOutcomeOf why found = (words : Words) (r : Reads) (file : List ℕ) → NameFi
 pub record IsEnd (found : Outcome) (end : End) : Type 0 where
   pub status : end.status ≡ status_of found
   pub refused : end.refused ≡ refused_of found
-  pub runs : end.runs ≡ runs_of found
+  pub runs : end.runs ≡ (played_in found).runs
+  pub joys : end.joys ≡ (played_in found).joys
 
 -- the text of an outcome was written whole, and the end is that of the outcome
 pub record IsWrittenWhole (w : Writes) (found : Outcome) (end : End) : Type 0 where
@@ -138,7 +146,8 @@ pub record IsWrittenInPart (w : Writes) (found : Outcome) (end : End) : Type 0 w
   pub written : IsCutOff (text_of found) w.before.written w.after.written
   pub status : end.status ≡ 4
   pub refused : end.refused ≡ None
-  pub runs : end.runs ≡ runs_of found
+  pub runs : end.runs ≡ (played_in found).runs
+  pub joys : end.joys ≡ (played_in found).joys
 
 abbrev pub IsWritten : Writes → Outcome → End → Type 0
 IsWritten w found end = IsWrittenWhole w found end ⊎ IsWrittenInPart w found end

@@ -2,8 +2,9 @@
 //!
 //! This crate is for the program and for tests: [`inputplay`] is the program's one call. It stands on `inp_edge` (input,
 //! sink and gate), `inp_args` (words), `inp_record` (a record's text and its streams), `inp_make` (records that are made
-//! from numbers), `inp_play` (playing on one thread), `inp_threads` (playing on threads), `inp_report` (the report and
-//! the summary) and `inp_upgrade` (a record in the newest version of its text). [`make`] and [`play`] are handed on.
+//! from numbers), `inp_play` (playing on one thread), `inp_threads` (playing on threads), `inp_report` (the report, that of
+//! joysticks and the summary) and `inp_upgrade` (a record in the newest version of its text). [`make`] and [`play`] are
+//! handed on.
 //!
 //! How a call goes: `read_words` says what the words ask for. For a file, `read_record` reads it, and then the files of
 //! its stream lines, in line order (`reading.rt`); for numbers, the record is made. The record is played and its report
@@ -13,15 +14,18 @@
 //! What the call promises stands in `specs`, as clauses of [`inputplay`] itself:
 //!
 //! - `Promise` (`specs/Promise.antt`): each outcome has its cause (`HasCause`), and its text was written, or a front part
-//!   of it with status 4. With status 0 or 6 the words ask for a file that was read with its streams, each whole where the
-//!   input tells its bytes, and is this record (`HasRecord` of `specs/Reading.antt`), or for a record that is made; of each
-//!   device there is one history, on which each job's replies are the one-thread device's, and each sight follows its
-//!   lines (`ArePromised` of `inp_runs`), on one thread and on threads; on one thread the runs are those of the lines done
-//!   in file order (`IsPlay`); and the text is their report or summary. Or the words ask for the record to be migrated: it
-//!   was read so too, and the text is its canonical text in version 2 (`IsMigrated`). With status 1 the line and the cause
-//!   are the first that the text alone decides, else those of the first stream that is at fault.
-//! - `HidesNoFault`: a call of the input or of the sink that was at fault, a file that is not there, and one that is too
-//!   long are told by the status.
+//!   of it with status 4. Words that are not accepted leave the input untouched. With status 0 or 6 the words ask for a file
+//!   that was read with its streams, each whole where the input tells its bytes, and is this record (`HasRecord` of
+//!   `specs/Reading.antt`), or for a record that is made, and then nothing was read; of each device there is one history, on
+//!   which each job's replies are the one-thread device's, and each sight follows its lines (`ArePromised` of `inp_runs`), a
+//!   joystick's too, on one thread and on threads; on one thread all that came is that of the lines done in file order
+//!   (`IsPlay`); and the text is the report of the devices with that of the joysticks behind it, or the summary. Of these two
+//!   statuses 6 comes exactly where a job stopped since a history was full. Or the words ask for the record to be migrated: it
+//!   was read so too, the text is its canonical text in version 2, which means the same record, and there are no runs
+//!   (`IsMigrated`). With status 1 the line and the cause are the first that the text alone decides, else those of the first
+//!   stream that is at fault.
+//! - `HidesNoFault`: a fault of the input ends in status 3, or in 4 where that text is cut off, one of the sink in 4, and
+//!   neither in another; a file that is not there, and one that is too long, are told by the status too.
 //! - `IsComplete` (`specs/Complete.antt`): a file that is there with its streams and is a record, or numbers to make one
 //!   of, and no fault lead to the whole report or summary, with status 6 exactly where a job stopped since a history was
 //!   full and else 0, or to want of memory. A record that is made never fills a history: it ends with status 0. A record

@@ -8,7 +8,7 @@ use crate::texts::{no_memory, too_long, unread};
 use inp_args::usage;
 use inp_model::NoMemory;
 use inp_record::Refused;
-use inp_script::Runs;
+use inp_script::Played;
 use std::alloc::Global;
 
 /// What a call of the program found, with the text that it is to write.
@@ -25,7 +25,7 @@ pub enum Outcome {
     /// Memory ran out.
     NoMemory,
     /// A record was played.
-    Played { runs: Runs, text: Vec<u8> },
+    Played { played: Played, text: Vec<u8> },
     /// A record was upgraded.
     Migrated { text: Vec<u8> },
 }

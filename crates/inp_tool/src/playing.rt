@@ -1,18 +1,18 @@
 //! Playing a record, and telling what came of it.
-ghost use Rattle.std.specs.Prelude.{◌≡◌, ◌≤◌, IfOk, IfSome, None};
+ghost use Rattle.std.specs.Prelude.{◌≡◌, ◌≤◌, [], IfOk, IfSome, None};
 ghost use Rattle.inp_make.specs.Generated.{generated};
-ghost use Rattle.inp_report.specs.Report.{report};
 ghost use Rattle.inp_report.specs.Summary.{summary};
-ghost use Rattle.inp_tool.specs.Outcome.{has_full, has_full_job, is_full};
-ghost use Rattle.inp_tool.specs.Promise.{CameOf};
+ghost use Rattle.inp_tool.specs.Outcome.{has_full, has_full_run, has_full_job, has_full_joy, is_full};
+ghost use Rattle.inp_script.specs.Runs.{AreRunsOf, AreJoysOf};
+ghost use Rattle.inp_tool.specs.Promise.{CameOf, whole_report};
 
 use inp_edge::Gate;
 use inp_make::make;
 use inp_model::NoMemory;
 use inp_play::play;
 use inp_record::Record;
-use inp_report::{report, summary};
-use inp_script::{Jobs, Runs, Stop};
+use inp_report::{joy_report, report, summary};
+use inp_script::{Jobs, JoyRuns, Played, Runs, Stop};
 use inp_threads::play_on_threads;
 use std::alloc::Global;
 use std::sync::Wait;
@@ -26,14 +26,33 @@ pub(crate) fn play_and_report<R: Threads + Wait + Sync, G: Gate>(
     history: bool,
     idle: Option<u32>,
     gate: &G,
-) -> Result<(Runs, Vec<u8>), NoMemory>
+) -> Result<(Played, Vec<u8>), NoMemory>
     requires bound { IfSome idle (λ most. 1 ≤ most) }
     ensures came { IfOk result (λ done. CameOf idle recorded.now done.0) }
-    ensures text { IfOk result (λ done. (done.1).items ≡ report recorded.now done.0 history) }
+    ensures text { IfOk result
+        (λ done. (done.1).items ≡ whole_report recorded.now history done.0) }
 {
-    let runs = play_as_asked(rt, alloc, recorded, idle, gate)?;
-    let text = report(alloc, recorded, &runs, history)?;
-    Ok((runs, text))
+    let played = play_as_asked(rt, alloc, recorded, idle, gate)?;
+    let text = whole_report(alloc, recorded, &played, history)?;
+    Ok((played, text))
+}
+
+/// The report of the record's devices, and behind it that of its joysticks.
+fn whole_report(
+    alloc: Global,
+    recorded: &Record,
+    played: &Played,
+    history: bool,
+) -> Result<Vec<u8>, NoMemory>
+    requires runs { AreRunsOf recorded.now played.now.runs }
+    requires joys { AreJoysOf recorded.now played.now.joys }
+    ensures text { IfOk result
+        (λ text. text.items ≡ whole_report recorded.now history played.now) }
+{
+    let mut text = report(alloc, recorded, &played.runs, history)?;
+    let joysticks = joy_report(alloc, recorded, &played.joys)?;
+    text.extend_from_slice(&joysticks)?;
+    Ok(text)
 }
 
 /// What comes of a record: on threads where a bound is given, and else on one thread.
@@ -43,7 +62,7 @@ fn play_as_asked<R: Threads + Wait + Sync, G: Gate>(
     recorded: &Record,
     idle: Option<u32>,
     gate: &G,
-) -> Result<Runs, NoMemory>
+) -> Result<Played, NoMemory>
     requires bound { IfSome idle (λ most. 1 ≤ most) }
     ensures came { IfOk result (CameOf idle recorded.now) }
 {
@@ -53,26 +72,34 @@ fn play_as_asked<R: Threads + Wait + Sync, G: Gate>(
     }
 }
 
-/// What comes of the record that is made from a number and a count of frames, and its summary.
+/// What comes of the record that is made from a number and a count of frames, and its summary. It has no joystick.
 pub(crate) fn make_and_play(
     alloc: Global,
     number: u32,
     count: u32,
-) -> Result<(Runs, Vec<u8>), NoMemory>
+) -> Result<(Played, Vec<u8>), NoMemory>
     requires few { count ≤ 10000 }
     ensures came { IfOk result (λ done. CameOf None (generated number count) done.0) }
     ensures text { IfOk result
-        (λ done. (done.1).items ≡ summary number count (generated number count) done.0) }
+        (λ done. (done.1).items ≡ summary number count (generated number count) (done.0).runs) }
+    ensures joys { IfOk result (λ done. (done.0).joys ≡ []) }
 {
     let made = make(alloc, number, count)?;
-    let runs = play(alloc, &made)?;
-    let text = summary(alloc, number, count, &made, &runs)?;
-    Ok((runs, text))
+    let played = play(alloc, &made)?;
+    let text = summary(alloc, number, count, &made, &played.runs)?;
+    Ok((played, text))
 }
 
-/// Whether a job stopped since a history was full.
-pub(crate) fn has_full(runs: &Runs) -> bool
-    ensures { result ≡ has_full runs.now }
+/// Whether a job stopped since a history was full, a joystick's or another one.
+pub(crate) fn has_full(played: &Played) -> bool
+    ensures { result ≡ has_full played.now }
+{
+    has_full_run(&played.runs) || has_full_joy(&played.joys)
+}
+
+/// Whether a job of a device stopped since the history was full.
+fn has_full_run(runs: &Runs) -> bool
+    ensures { result ≡ has_full_run runs.now }
 {
     for run in runs.as_slice() {
         if has_full_job(&run.jobs) {
@@ -88,6 +115,18 @@ fn has_full_job(jobs: &Jobs) -> bool
 {
     for job in jobs.as_slice() {
         if is_full(job.stop()) {
+            return true;
+        }
+    }
+    false
+}
+
+/// Whether a joystick's job stopped since a history was full.
+fn has_full_joy(joys: &JoyRuns) -> bool
+    ensures { result ≡ has_full_joy joys.now }
+{
+    for joy in joys.as_slice() {
+        if is_full(joy.stop()) {
             return true;
         }
     }

@@ -14,7 +14,7 @@ use crate::reading::read_record;
 use inp_args::{Request, WordsFault, read_words};
 use inp_edge::{Failed, Gate, Input, Sink, write_all};
 use inp_model::NoMemory;
-use inp_script::Runs;
+use inp_script::{JoyRuns, Played, Runs};
 use std::alloc::Global;
 use std::sync::Wait;
 use std::thread::Threads;
@@ -24,7 +24,7 @@ const WRITE_FAULT: u8 = 4;
 
 /// Reads the record that the words name, with the streams that it names, or makes the one that they ask for; plays it, and
 /// writes the report or the summary of what its actors saw and what they believe. A record is played on one thread, its
-/// lines in file order, or, where `--threads` is among the words, each source, client and tap on a thread of its own.
+/// lines in file order, or, where `--threads` is among the words, each source, client, tap and joystick on a thread of its own.
 /// Where `--migrate` is among them nothing is played: what is written is the record's canonical text in version 2.
 ///
 /// On each device, however the threads interleave, every reply is the one-thread device's at its place in one kept history;
@@ -117,7 +117,7 @@ fn play_file<R: Threads + Wait + Sync, I: Input, G: Gate>(
 {
     match read_record(alloc, input, file) {
         Ok(recorded) => match play_and_report(rt, alloc, &recorded, history, idle, gate) {
-            Ok((runs, text)) => Outcome::Played { runs, text },
+            Ok((played, text)) => Outcome::Played { played, text },
             Err(NoMemory) => Outcome::NoMemory,
         },
         Err(why) => without_record(alloc, why),
@@ -148,7 +148,7 @@ fn play_made(alloc: Global, number: u32, count: u32) -> Outcome
         → r.after ≡ r.before → HasCause words r result }
 {
     match make_and_play(alloc, number, count) {
-        Ok((runs, text)) => Outcome::Played { runs, text },
+        Ok((played, text)) => Outcome::Played { played, text },
         Err(NoMemory) => Outcome::NoMemory,
     }
 }
@@ -166,6 +166,7 @@ fn write_outcome<O: Sink>(alloc: Global, found: Outcome, out: &mut O) -> End
             status: WRITE_FAULT,
             refused: None,
             runs: end.runs,
+            joys: end.joys,
         },
     }
 }
@@ -174,9 +175,12 @@ fn write_outcome<O: Sink>(alloc: Global, found: Outcome, out: &mut O) -> End
 fn end_of(alloc: Global, found: Outcome) -> End
     ensures end { IsEnd found result }
 {
-    let nothing = Runs::new(alloc);
-    let (status, refused, runs) = match found {
-        Outcome::Played { runs, .. } => (played_status(&runs), None, runs),
+    let nothing = Played {
+        runs: Runs::new(alloc),
+        joys: JoyRuns::new(alloc),
+    };
+    let (status, refused, played) = match found {
+        Outcome::Played { played, .. } => (played_status(&played), None, played),
         Outcome::Migrated { .. } => (0, None, nothing),
         Outcome::Refused { refused, .. } => (1, Some(refused), nothing),
         Outcome::Usage => (2, None, nothing),
@@ -187,13 +191,14 @@ fn end_of(alloc: Global, found: Outcome) -> End
     End {
         status,
         refused,
-        runs,
+        runs: played.runs,
+        joys: played.joys,
     }
 }
 
 /// The status of what came of a record.
-fn played_status(runs: &Runs) -> u8
-    ensures { result ≡ played_status runs.now }
+fn played_status(played: &Played) -> u8
+    ensures { result ≡ played_status played.now }
 {
-    if has_full(runs) { 6 } else { 0 }
+    if has_full(played) { 6 } else { 0 }
 }

@@ -31,6 +31,14 @@ pub returns-clause-contacts : goal.returns-clause-contacts
 unfolding computing
 returns-clause-contacts c = refl
 
+pub returns-clause-joystick : goal.returns-clause-joystick
+unfolding computing
+returns-clause-joystick c = refl
+
+pub returns-clause-below_nought : goal.returns-clause-below_nought
+unfolding computing
+returns-clause-below_nought c = refl
+
 pub returns-clause-summary : goal.returns-clause-summary
 unfolding computing
 returns-clause-summary c = refl

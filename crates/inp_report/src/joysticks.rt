@@ -1,0 +1,64 @@
+//! The report of the joysticks.
+ghost use Rattle.std.specs.Prelude.{◌≡◌, ◌<◌, ◌++◌, length, string_bytes, IfOk, OnOk};
+ghost use Rattle.inp_report.specs.JoyReport.{joystick_text, joy_text, joy_report};
+ghost use Rattle.inp_script.specs.Runs.{AreJoysOf};
+
+use crate::jobs::{push_actor, push_stop_line};
+use crate::picture::push_picture;
+use crate::sights::push_sights;
+use inp_actors::{Name, Record, Role};
+use inp_caps::Caps;
+use inp_model::NoMemory;
+use inp_script::{JoyEnd, JoyRuns};
+use std::alloc::Global;
+
+/// The report of a record's joysticks, in the order of the record: what each did and saw, how its buttons and axes stand at
+/// the end, and why it stopped. It stands behind what [`report`](crate::report) says of the devices.
+///
+/// `joys` must be those of this record: one job for each joystick, in order. It takes time and memory in proportion to the
+/// text.
+///
+/// # Errors
+///
+/// `NoMemory` where there is none for the text.
+pub fn joy_report(alloc: Global, rec: &Record, joys: &JoyRuns) -> Result<Vec<u8>, NoMemory>
+    requires joys { AreJoysOf rec.now joys.now }
+    ensures text { IfOk result (λ text. text.items ≡ joy_report rec.now joys.now) }
+{
+    let mut text = String::new(alloc);
+    push_joysticks(&mut text, rec, joys)?;
+    Ok(text.into_bytes())
+}
+
+#[tactic(auto, unfolding(crate::specs::JoyReport::joy_report))]
+fn push_joysticks(text: &mut String, rec: &Record, joys: &JoyRuns) -> Result<(), NoMemory>
+    requires joys { AreJoysOf rec.now joys.now }
+    ensures pushed { OnOk result
+        (string_bytes text.new ≡ string_bytes text.old ++ joy_report rec.now joys.now) }
+{
+    for joy in joys.as_slice() {
+        push_joy(text, rec, joy)?;
+    }
+    Ok(())
+}
+
+fn push_joy(text: &mut String, rec: &Record, joy: &JoyEnd) -> Result<(), NoMemory>
+    requires actor { joy.now.actor < length rec.now.actors }
+    ensures pushed { OnOk result
+        (string_bytes text.new ≡ string_bytes text.old ++ joy_text rec.now joy.now) }
+{
+    let actor = rec.actors().get(joy.actor() as usize);
+    let device = rec.devices().get(actor.device as usize);
+    push_joystick(text, &actor.name, &device.caps, joy)
+}
+
+fn push_joystick(text: &mut String, name: &Name, caps: &Caps, joy: &JoyEnd) -> Result<(), NoMemory>
+    ensures pushed { OnOk result
+        (string_bytes text.new
+        ≡ string_bytes text.old ++ joystick_text name.now caps.now joy.now) }
+{
+    push_actor(text, Role::Joy, name)?;
+    push_sights(text, joy.sight().as_slice())?;
+    push_picture(text, caps, joy.picture())?;
+    push_stop_line(text, *joy.stop())
+}
