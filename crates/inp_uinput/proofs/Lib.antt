@@ -7,4 +7,5 @@ pub mod Waiting
 pub mod Events
 pub mod Items
 pub mod Lists
+pub mod FeedbackTurns
 pub mod Noting

@@ -20,7 +20,7 @@ use Rattle.inp_uinput.specs.UEntry.{step_of, steps_in, kept_after_step, kept_aft
 use Rattle.inp_uinput.proofs.Lists.{reverse-cons}
 use Rattle.inp_uinput.proofs.Events.{reverse-kept}
 
-steps-reverse : (kept : List UEntry) → steps_in (reverse kept) ≡ reverse (steps_in kept)
+pub steps-reverse : (kept : List UEntry) → steps_in (reverse kept) ≡ reverse (steps_in kept)
 steps-reverse [] = refl
 steps-reverse (Made x ∷ kept) =
     ap steps_in (reverse-cons kept (Made x)) ∙ filter_map-append step_of (reverse kept) (Made x ∷ [])

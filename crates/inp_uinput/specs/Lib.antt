@@ -2,6 +2,7 @@ pub mod UEntry
 pub mod Sent
 pub mod Feedback
 pub mod UdevView
+pub mod FeedbackTurn
 pub mod Keeping
 pub mod Maker
 pub mod Laws

@@ -1,0 +1,159 @@
+-- A feedback call under the turn: an entry more that is no step.
+use Rattle.std.proofs.Common.{◌≡◌, ℕ, ◌-◌, Bool, true, false, not, cond, if◌then◌else◌, List, [], ◌∷◌, ◌++◌, length, map, reverse, refl, sym, ap, ◌∙◌, subst, arith, append_assoc, append-nil, length-append, Option, Some}
+use Rattle.std.specs.Prelude.{is_some}
+use Rattle.std.specs.Option.{option_and_then}
+use Rattle.std.proofs.lemmas.List.{length-reverse, reverse-reverse}
+use Rattle.std.proofs.lemmas.List.Elements.{filter-append, filter_map-append}
+use mathlib.Core.List.{IsPrefix}
+use Rattle.inp_model.specs.declared.event.Event.{Event}
+use Rattle.inp_model.specs.Description.{Description}
+use Rattle.inp_model.specs.Reply.{written}
+use Rattle.inp_turn.specs.declared.pass_view.PassView.{PassView}
+use Rattle.inp_turn.specs.PassView.{added_places, OwnsSeen, view_after_take, view_after_give}
+use Rattle.inp_turn.proofs.Prefixes.{prefix-refl, prefix-trans}
+use Rattle.inp_port.specs.Entries.{steps_of, is_step_at, steps_before, step_places, other_places}
+use Rattle.inp_port.specs.Turn.{told_of}
+use Rattle.inp_port.proofs.Places.{slice_get-seam, added-one, added-none, steps-begins, step_places-begins, other_places-begins, step_places-append}
+use Rattle.inp_uinput.specs.declared.u_entry.UEntry.{UEntry}
+use Rattle.inp_uinput.specs.declared.u_entry.UEntry.TheVariants.{Feedback}
+use Rattle.inp_uinput.specs.declared.fed.Fed.{Fed}
+use Rattle.inp_uinput.specs.declared.fed.Fed.TheVariants.{Took, Full}
+use Rattle.inp_uinput.specs.UEntry.{step_of, steps_in}
+use Rattle.inp_uinput.specs.Feedback.{is_full_of_feedback, taken_by_feedback, fed, kept_after_feedback}
+use Rattle.inp_uinput.specs.FeedbackTurn.{history_length, entries_after_call, call_places, IsFeedbackTurn, IsToldFeedback}
+use Rattle.inp_uinput.proofs.Lists.{reverse-cons}
+use Rattle.inp_uinput.proofs.Serving.{steps-reverse}
+
+-- One entry more
+
+module _ (found : List UEntry) (count : ℕ) where
+  abbrev longer : List UEntry
+  longer = found ++ Feedback count ∷ []
+
+  steps-call : steps_of step_of longer ≡ steps_of step_of found
+  steps-call = filter_map-append step_of found (Feedback count ∷ []) ∙ append-nil (steps_of step_of found)
+
+  is_no_step : is_step_at step_of longer (length found) ≡ false
+  is_no_step = ap (λ (o : Option UEntry). is_some (option_and_then step_of o)) (slice_get-seam found [] (Feedback count))
+
+  last_place : length longer - 1 ≡ length found
+  last_place = omega (arith, length-append found (Feedback count ∷ []))
+
+  step_places-call : step_places step_of longer ((length longer - 1) ∷ []) ≡ []
+  step_places-call =
+      ap (λ n. step_places step_of longer (n ∷ [])) last_place
+      ∙ ap (λ b. map (steps_before step_of longer) (cond b (length found ∷ []) [])) is_no_step
+
+  other_places-call : other_places step_of longer ((length longer - 1) ∷ []) ≡ (length longer - 1) ∷ []
+  other_places-call =
+      ap (λ n. other_places step_of longer (n ∷ [])) last_place
+      ∙ ap (λ b. cond (not b) (length found ∷ []) []) is_no_step
+      ∙ ap (λ n. n ∷ []) (sym last_place)
+
+-- The entries after a call, by its answer
+
+begins-after : (answer : Fed) (found : List UEntry) → IsPrefix found (entries_after_call answer found)
+begins-after (Took at count) found = (Feedback count ∷ [], refl)
+begins-after (Full at) found = prefix-refl found
+
+steps-after : (answer : Fed) (found : List UEntry) → steps_of step_of (entries_after_call answer found) ≡ steps_of step_of found
+steps-after (Took at count) found = steps-call found count
+steps-after (Full at) found = refl
+
+added-after : (answer : Fed) (found : List UEntry) → added_places found (entries_after_call answer found) ≡ call_places answer (entries_after_call answer found)
+added-after (Took at count) found = added-one found (Feedback count) ∙ ap (λ n. n ∷ []) (sym (last_place found count))
+added-after (Full at) found = added-none found
+
+step_places-after : (answer : Fed) (found : List UEntry) → step_places step_of (entries_after_call answer found) (call_places answer (entries_after_call answer found)) ≡ []
+step_places-after (Took at count) found = step_places-call found count
+step_places-after (Full at) found = refl
+
+other_places-after : (answer : Fed) (found : List UEntry)
+    → other_places step_of (entries_after_call answer found) (call_places answer (entries_after_call answer found)) ≡ call_places answer (entries_after_call answer found)
+other_places-after (Took at count) found = other_places-call found count
+other_places-after (Full at) found = refl
+
+-- The turn
+
+entered : (full : Bool) (at count : ℕ) (kept : List UEntry) → reverse (if full then kept else Feedback count ∷ kept) ≡ entries_after_call (if full then Full at else Took at count) (reverse kept)
+entered true at count kept = refl
+entered false at count kept = reverse-cons kept (Feedback count)
+
+now-kept : (d : Description) (kept : List UEntry) (room : ℕ) → reverse (kept_after_feedback d kept room) ≡ entries_after_call (fed d kept room) (reverse kept)
+now-kept d kept room = entered (is_full_of_feedback d kept) (length (steps_in kept)) (length (taken_by_feedback d kept room)) kept
+
+-- what was taken and what was given back
+pub feedback-begins : (base : Description) (kept new : List UEntry) (room : ℕ) → new ≡ kept_after_feedback base kept room → IsPrefix (reverse kept) (reverse new)
+feedback-begins base kept new room grows =
+    subst (IsPrefix (reverse kept)) (sym (ap reverse grows ∙ now-kept base kept room)) (begins-after (fed base kept room) (reverse kept))
+
+turn_at : (d : Description) (v w : PassView Description UEntry) (kept : List UEntry) (answer : Fed) (out new_out : List Event) → IsPrefix v.seen (reverse kept) → answer ≡ fed d kept (length out)
+    → new_out ≡ written (taken_by_feedback d kept (length out)) out → w ≡ view_after_give (view_after_take v (reverse kept)) (entries_after_call answer (reverse kept)) → IsFeedbackTurn d v answer out new_out w
+turn_at d v w kept answer out new_out begins answered out_written view =
+    let found : List UEntry = reverse kept in
+    let back : kept ≡ reverse found = sym (reverse-reverse kept) in
+    let seen : w.seen ≡ entries_after_call answer found = ap (λ (p : PassView Description UEntry). p.seen) view in
+    record {
+      found = found;
+      begins = begins;
+      answered = answered ∙ ap (λ (k : List UEntry). fed d k (length out)) back;
+      out_written = out_written ∙ ap (λ (k : List UEntry). written (taken_by_feedback d k (length out)) out) back;
+      seen = seen;
+      own = ap (λ (p : PassView Description UEntry). p.own) view ∙ ap (λ (l : List ℕ). v.own ++ l) (added-after answer found)
+          ∙ ap (λ (es : List UEntry). v.own ++ call_places answer es) (sym seen);
+      steps = ap (steps_of step_of) seen ∙ steps-after answer found;
+      turns = ap (λ (p : PassView Description UEntry). p.turns) view;
+      share = ap (λ (p : PassView Description UEntry). p.share) view;
+      base = ap (λ (p : PassView Description UEntry). p.base) view;
+    }
+
+pub feedback-turn : (d base : Description) (v w : PassView Description UEntry) (kept new : List UEntry) (answer : Fed) (out new_out : List Event) → base ≡ d → IsPrefix v.seen (reverse kept)
+    → answer ≡ fed base kept (length out) → new_out ≡ written (taken_by_feedback base kept (length out)) out → new ≡ kept_after_feedback base kept (length out)
+    → w ≡ view_after_give (view_after_take v (reverse kept)) (reverse new) → IsFeedbackTurn d v answer out new_out w
+feedback-turn d base v w kept new answer out new_out same begins answered out_written grows view =
+    let room : ℕ = length out in
+    let is : answer ≡ fed d kept room = answered ∙ ap (λ (k : Description). fed k kept room) same in
+    let now : reverse new ≡ entries_after_call answer (reverse kept) =
+    ap reverse grows ∙ now-kept base kept room ∙ ap (λ (a : Fed). entries_after_call a (reverse kept)) (sym answered) in
+    turn_at d v w kept answer out new_out begins is (out_written ∙ ap (λ (k : Description). written (taken_by_feedback k kept room) out) same)
+    (view ∙ ap (view_after_give (view_after_take v (reverse kept))) now)
+
+-- what the pass has seen is still there
+pub feedback-seen : (d : Description) (v w : PassView Description UEntry) (answer : Fed) (out new_out : List Event) → IsFeedbackTurn d v answer out new_out w → IsPrefix v.seen w.seen
+feedback-seen d v w answer out new_out t = prefix-trans v.seen t.found w.seen t.begins (subst (IsPrefix t.found) (sym t.seen) (begins-after answer t.found))
+
+-- What is told
+
+length-of : (full : Bool) (n count : ℕ) → history_length (if full then Full n else Took n count) ≡ n
+length-of true n count = refl
+length-of false n count = refl
+
+pub feedback-told : (d : Description) (name : List ℕ) (v w : PassView Description UEntry) (answer : Fed) (out new_out : List Event) → OwnsSeen v → IsFeedbackTurn d v answer out new_out w
+    → (agains : ℕ) → IsToldFeedback answer w.seen (told_of step_of d name v agains) (told_of step_of d name w agains)
+feedback-told d name v w answer out new_out owns t agains =
+    let whole : IsPrefix v.seen w.seen = feedback-seen d v w answer out new_out t in
+    let begun = steps-begins step_of v.seen w.seen whole in
+    let calls : List ℕ = call_places answer w.seen in
+    let kept : List UEntry = reverse t.found in
+    let place : history_length answer ≡ length (steps_in kept) =
+    ap history_length t.answered ∙ length-of (is_full_of_feedback d kept) (length (steps_in kept)) (length (taken_by_feedback d kept (length out))) in
+    let no_steps : step_places step_of w.seen calls ≡ [] =
+    ap (λ (es : List UEntry). step_places step_of es (call_places answer es)) t.seen ∙ step_places-after answer t.found in
+    let all_calls : other_places step_of w.seen calls ≡ calls =
+    ap (λ (es : List UEntry). other_places step_of es (call_places answer es)) t.seen ∙ other_places-after answer t.found ∙ ap (call_places answer) (sym t.seen) in
+    let others : other_places step_of w.seen w.own ≡ other_places step_of v.seen v.own ++ calls =
+    ap (other_places step_of w.seen) t.own
+    ∙ filter-append (λ n. not (is_step_at step_of w.seen n)) v.own calls
+    ∙ (λ i. other_places-begins step_of v.seen w.seen v.own whole owns i ++ all_calls i) in
+    record {
+      description = refl;
+      seen = (begun.0, sym begun.1);
+      at = place ∙ ap length (steps-reverse t.found) ∙ length-reverse (steps_in t.found) ∙ ap length (sym t.steps);
+      own = ap (step_places step_of w.seen) t.own ∙ step_places-append step_of w.seen v.own calls
+          ∙ (λ i. step_places-begins step_of v.seen w.seen v.own whole owns i ++ no_steps i)
+          ∙ append-nil (step_places step_of v.seen v.own);
+      agains = refl;
+      turns = omega (arith, t.turns);
+      tie = (λ i. Some (t.share i ∷ name ++ others i))
+          ∙ ap (λ (l : List ℕ). Some (v.share ∷ l)) (sym (append_assoc name (other_places step_of v.seen v.own) calls));
+    }
