@@ -90,14 +90,14 @@ RefusesMixtures =
     × IsRefused (codes "--count" ∷ codes "5" ∷ []) × IsRefused (codes "--count=5" ∷ []) × IsRefused (codes "--make" ∷ codes "7" ∷ codes "--history" ∷ [])
     × IsRefused (codes "--make" ∷ codes "7" ∷ codes "--threads" ∷ []) × IsRefused [] × IsRefused (codes "--history" ∷ []) × IsRefused (codes "--" ∷ [])
 
--- two files, what is given twice, a name cut short, and an option without its text
+-- two files, what is given twice, a name cut short, a flag with a text, and an option without its text
 abbrev pub RefusesForms : Type 0
 RefusesForms =
     IsRefused (codes "f" ∷ codes "g" ∷ []) × IsRefused (codes "--history" ∷ codes "--history" ∷ codes "f" ∷ [])
     × IsRefused (codes "--make" ∷ codes "7" ∷ codes "--make" ∷ codes "7" ∷ []) × IsRefused (codes "--thr" ∷ codes "f" ∷ [])
     × IsRefused (codes "--hist" ∷ codes "f" ∷ []) × IsRefused (codes "--history=true" ∷ codes "f" ∷ []) × IsRefused (codes "--make" ∷ [])
 
--- options that there are not
+-- options that there are not, and a flag with a text
 abbrev pub RefusesOptions : Type 0
 RefusesOptions =
     IsRefused (codes "--help" ∷ []) × IsRefused (codes "-h" ∷ []) × IsRefused (codes "--version" ∷ [])

@@ -6,7 +6,7 @@
 //!
 //! | Word | Is |
 //! |---|---|
-//! | `--threads` | a flag: each source, client and tap does its lines on a thread of its own |
+//! | `--threads` | a flag: each source, client, tap and joystick does its lines on a thread of its own |
 //! | `--history` | a flag: the history is wanted too |
 //! | `--idle N` | on threads a `follow` ends after so many reads in a row that found nothing, 1 to 1,000,000,000, and 1,000,000 where it is not given |
 //! | `--migrate` | a flag: the record in FILE is written in the newest version of its text, and not played |
@@ -19,8 +19,9 @@
 //! range is refused also where it is not used. None of the words has a short form, and there is no `--help`.
 //!
 //! Its contract: `specs/Command.antt` is the command in `clap`'s own definitions, and `requested` of
-//! `specs/Request.antt` says what words ask for. A request comes exactly where `requested` gives it, and `Usage` exactly
-//! where it gives none, unless memory runs out. [`examples`] shows what some words ask for.
+//! `specs/Request.antt` says what words ask for. A request comes exactly where `requested` gives it, and `Usage`
+//! exactly where it gives none, unless memory runs out. [`examples`] shows what some words ask for, among them doubled
+//! flags, `--`, `-`, `--count=5` and numbers at their bounds.
 #![tactic(auto)]
 
 mod command;

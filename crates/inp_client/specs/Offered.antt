@@ -1,4 +1,6 @@
--- A frame is offered event by event: a cell for each, whose number comes into one ring after the other.
+-- A frame is offered event by event: a cell for each, whose number comes into one ring after the other. A short frame
+-- that each of its clients admits whole, with room for it, may go in one run (`IsRun`): a cell for each event first, and then
+-- all their numbers into each ring.
 use Rattle.std.specs.Prelude.{◌≡◌, ◌≤◌, ◌<◌, ◌+◌, ◌&&◌, ◌++◌, ℕ, Bool, true, not, if◌then◌else◌, nat_eq, nat_lt, List, [], ◌∷◌, length, count_by, get_or, All, Option, None}
 use Rattle.slab.specs.Slab.{Slab}
 use Rattle.inp_ring.specs.declared.cell.Cell.{Cell}

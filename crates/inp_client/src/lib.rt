@@ -7,10 +7,14 @@
 //! `inp_model`, `inp_bits`, `inp_caps` and `inp_ring`, and on the toolchain's `slab`, in which the clients lie.
 //!
 //! Its contract: a [`Clients`] is seen as the list of its open clients, ascending by number, each a `ClientView` of
-//! `specs/Client.antt` with a queue of cells, and the numbers of the cells that their rings hold. Each call changes the named
-//! client alone, by the definition there that is named after the call (`after_flush`, `after_mask`), and gives the exact
-//! result. What clients read of their cells is said in `specs/Read.antt`, and `proofs/OnClock.antt` has a lemma for each
-//! call. [`Clients::stored`] is how many different numbers there are.
+//! `specs/Client.antt` with a queue of cells, and the numbers of the cells that their rings hold. Each call changes the
+//! named client alone, by the definition there that is named after the call (`after_flush`, `after_mask`), and gives
+//! the exact result. What clients read of their cells is said in `specs/Read.antt`, and `proofs/OnClock.antt` has a
+//! lemma for each call. [`Clients::stored`] is how many different numbers there are.
+//!
+//! [`Clients::open`] asks of its number only that no open client has it, and puts the client in its place by number; it
+//! answers `TooMany` exactly where 64 are open. [`Clients::offer`] puts into each queue what its masks admit, under the
+//! grab of one client or of none, and [`Clients::take`] tells events on the client's clock.
 //!
 //! Only [`Clients::new`] and [`Clients::open`] take memory. Before it makes a ring of S places, an open has the store grow
 //! by S + 1 cells. A ring holds at most S - 1 numbers, and while a frame is offered event by event there is at most one cell

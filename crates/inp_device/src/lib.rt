@@ -6,14 +6,26 @@
 //! `inp_state` and `inp_slots` for what queries answer), on `inp_filter` for what filters leave of frames, on `inp_client`
 //! for the clients and `inp_handles` for the grab, and on `inp_bits` for the lists of codes.
 //!
-//! Its contract: the reply, what is written to the caller's buffers and the history after the call are the model's, for
-//! every description and every history. The code keeps the present state and never looks back at its history.
+//! Its contract: for every description, every history and each of the 23 steps, the reply, what is written to the
+//! caller's buffers and the history after the call are the model's (`IsDeviceStep`). The code keeps the present state
+//! and never looks back at its history.
+//!
+//! Refusals come in one order, but that an open that nothing else refuses may be refused for want of memory. The
+//! history is longer by the step exactly where the step was accepted. After a refusal all is as before, both buffers
+//! too (`past_stays`, `out_stays`, `cells_stay`), but that answers Again are counted; and the rest of a buffer that is
+//! written to stays. Of its caller `step` asks a moment in range and buffers as long as what is asked for, and no more.
+//!
+//! `Device::inject_all` says from which place on it entered events and how many of them, which is no more than the log
+//! limit leaves room for, and that the history is longer by these, in order.
+//!
+//! A device is an `Evdev` (`IsEvdevCall`): what was seen stays, and each reply has its place in one history.
 //!
 //! A step goes three ways. `Present::refusal` says whether something refuses it, in one order for all steps. Where nothing
 //! does, `Present::accept` makes it; no kind of step tries a refusal of its own. Then `Device::step` enters it in the
 //! history.
 //!
-//! A device is also a kept value of `inp_turn` (`src/kept.rt`), so that threads can use it in turns.
+//! A device is also a kept value of `inp_turn` (`src/kept.rt`), so that threads can use it in turns: its entries are
+//! its history. A `Step` has at most 40 bytes.
 #![tactic(auto)]
 
 mod cells;

@@ -1,4 +1,6 @@
 //! The timer of the autorepeat.
+//!
+//! The functions take the timer first; the definitions that they compute take it last.
 ghost use Rattle.std.specs.Prelude.{◌≡◌, ◌≤◌, ◌*◌, ◌^◌, unsigned_abs};
 ghost use Rattle.inp_model.specs.declared.stamped.TheConstants.{MOMENT_MAX};
 ghost use Rattle.inp_model.specs.Timer.{repeats_keys, first_timer, timer_disarmed, timer_rearmed, timer_at_key, timer_at_events};
@@ -8,7 +10,7 @@ use inp_caps::Caps;
 use inp_model::{EV_KEY, EV_REP, Event, Timer};
 use inp_state::State;
 
-// The timer before any key is held.
+// The timer before any press armed it: not armed, with the key 0, which is no key.
 pub(crate) fn first_timer() -> Timer
     ensures { result ≡ first_timer }
 {

@@ -12,11 +12,11 @@ use Rattle.inp_model.specs.State.{repeat_setting}
 abbrev pub repeats_keys : Description → Bool
 repeats_keys d = has_kind d EV_REP && has_kind d EV_KEY
 
--- no key was ever held
+-- before any press armed it: not armed, with the key 0, which is no key
 abbrev pub first_timer : Timer
 first_timer = record { due = None; key = 0 }
 
--- it fires at this moment
+-- it is armed for this moment, or for an earlier one
 abbrev pub is_due_by : Option ℕ → ℕ → Bool
 is_due_by None now = false
 is_due_by (Some due) now = nat_le due now

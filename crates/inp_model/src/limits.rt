@@ -3,6 +3,8 @@
 /// The greatest number of open clients of a device (this project's choice).
 pub const CLIENTS_MAX: u32 = 64;
 
+const _: () = prove!(CLIENTS_MAX == 64);
+
 /// The greatest number of multi-touch slots (this project's choice).
 pub const SLOTS_MAX: u32 = 256;
 

@@ -1,4 +1,4 @@
--- What holds of the views that a reader keeps, and of the synthesised events that it hands out (docs/RULES.md, "The
+-- What holds of the views that a reader keeps, and of the synthesised events that it hands out (docs/READER.md, "The
 -- reader").
 use Rattle.std.specs.Prelude.{ℕ, pos, ◌≡◌, ◌≤◌, List, [], ◌∷◌}
 use Rattle.inp_model.specs.declared.multi_touch.TheConstants.{ABS_MT_SLOT, ABS_MT_TOOL_Y}

@@ -1,4 +1,4 @@
--- The laws of the synthesised events (docs/RULES.md, "What a reader makes of a loss").
+-- The laws of the synthesised events (docs/READER.md, "What a reader makes of a loss").
 use Rattle.std.specs.Prelude.{ℕ, ◌+◌, ◌*◌, ◌≡◌, ◌≤◌, false, List, [], ◌∷◌, length}
 use Rattle.inp_model.specs.declared.multi_touch.TheConstants.{ABS_MT_SLOT, ABS_MT_TOOL_Y}
 use Rattle.inp_model.specs.declared.event.Event.{Event}
@@ -20,7 +20,7 @@ EachChanges view [] = Unit {0}
 EachChanges view (e ∷ es) =
     (is_report e ≡ false → view_after_event view e ≡ view → ⊥) × EachChanges (view_after_event view e) es
 
--- a view that takes the synthesised events is the new one
+-- the old view, once it took the synthesised events, is the new one
 abbrev pub LeadsToTheNewView : Type 0
 LeadsToTheNewView =
     (slots : ℕ) (old new : View) → AreOfOneDevice slots old new → view_after_events old (synth old new) ≡ new

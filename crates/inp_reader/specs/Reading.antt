@@ -1,4 +1,4 @@
--- What a reader keeps, and what `start` and `next` ask and answer (docs/RULES.md, "The reader").
+-- What a reader keeps, and what `start` and `next` ask and answer (docs/READER.md, "The reader").
 use Rattle.std.specs.Prelude.{ℕ, ◌+◌, ◌-◌, Bool, ◌&&◌, if◌then◌else◌, nat_eq, nat_lt, List, [], ◌∷◌, ◌++◌, map, filter, Result, Ok, Err}
 use Rattle.std.specs.List.{range_with_len}
 use Rattle.inp_model.specs.declared.event.TheConstants.{EV_SYN, EV_KEY, EV_ABS, EV_SW, EV_LED, ABS_MAX, SYN_DROPPED}
@@ -105,7 +105,7 @@ abbrev pub after_open : Description → Reading → Reply → Talk (Started × R
 after_open d r (Opened at client ring) = and_then (ask_each (queries d client) r.view) (λ asked. finish (after_queries client ring r asked))
 after_open d r reply = finish (start_stop_of reply, r)
 
--- opens a client and asks for all that the device has (docs/RULES.md, "The reader")
+-- opens a client and asks for all that the device has (docs/READER.md, "The reader")
 unfoldable pub start_talk : Description → Reading → Talk (Started × Reading)
 start_talk d r = ask Open (λ answer. after_open d r answer.reply)
 
@@ -138,7 +138,7 @@ hand_out r (taken ∷ rest) = hand_out_event r taken rest
 abbrev pub after_read : Reading → Answer → Next × Reading
 after_read r answer = if is_accepted answer.reply then hand_out r answer.events else (stop_of answer.reply, r)
 
--- in phase Plain: reads where the queue is empty, and hands out the first event (docs/RULES.md, "The reader")
+-- in phase Plain: reads where the queue is empty, and hands out the first event (docs/READER.md, "The reader")
 abbrev pub read_or_hand_out : Reading → List Taken → Talk (Next × Reading)
 read_or_hand_out r [] = ask (Read r.client 64) (λ answer. finish (after_read r answer))
 read_or_hand_out r (taken ∷ rest) = finish (hand_out_event r taken rest)
@@ -195,6 +195,6 @@ talk_in d mode Plain r = plain_talk mode r
 talk_in d mode Needed r = and_then (sync_talk d r) (go_on_after mode r)
 talk_in d mode Handing r = go_on mode r
 
--- the next event in a mode, by the phase (docs/RULES.md, "The reader")
+-- the next event in a mode, by the phase (docs/READER.md, "The reader")
 abbrev pub next_talk : Description → Mode → Reading → Talk (Next × Reading)
 next_talk d mode r = talk_in d mode r.phase r

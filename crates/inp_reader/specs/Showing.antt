@@ -1,4 +1,4 @@
--- When the view of a reader is the device's state (docs/RULES.md, "Where a reader stands").
+-- When the view of a reader is the device's state (docs/READER.md, "Where a reader stands").
 use Rattle.std.specs.Prelude.{◌≡◌, ℕ, ◌+◌, ◌-◌, List, length, map, reverse, Some}
 use Rattle.std.specs.List.{slice_get}
 use Rattle.inp_model.specs.declared.taken.Taken.{Taken}

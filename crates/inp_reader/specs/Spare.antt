@@ -1,4 +1,4 @@
--- What a reader's view keeps of a new view: all that its device cannot have, and so never tells (docs/RULES.md, "Where a
+-- What a reader's view keeps of a new view: all that its device cannot have, and so never tells (docs/READER.md, "Where a
 -- reader stands").
 use Rattle.std.specs.Prelude.{◌≡◌, ℕ, pos, Bool, true, false, ◌&&◌, if◌then◌else◌, nat_eq, nat_lt, replicate, slice_index_or}
 use Rattle.std.specs.List.{All}

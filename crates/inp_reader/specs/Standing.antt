@@ -1,4 +1,4 @@
--- Where a reader stands in the history of its device (docs/RULES.md, "Where a reader stands").
+-- Where a reader stands in the history of its device (docs/READER.md, "Where a reader stands").
 use Rattle.std.specs.Prelude.{◌≡◌, ◌≤◌, ◌<◌, ℕ, Bool, true, false, ◌&&◌, if◌then◌else◌, List, [], ◌∷◌, ◌++◌, length, map, flat_map, reverse, Some}
 use Rattle.std.specs.List.{slice_get, Contains}
 use Rattle.inp_model.specs.declared.event.Event.{Event}

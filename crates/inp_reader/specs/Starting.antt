@@ -1,4 +1,4 @@
--- What stands after a start of which a call was refused (docs/RULES.md, "The reader").
+-- What stands after a start of which a call was refused (docs/READER.md, "The reader").
 use Rattle.std.specs.Prelude.{ℕ, List, [], ◌∷◌, Option, Some, None}
 use Rattle.inp_model.specs.declared.reply.Reply.{Reply}
 use Rattle.inp_model.specs.declared.reply.Reply.TheVariants.{Opened}

@@ -1,4 +1,4 @@
--- The events that lead from one view to another (docs/RULES.md, "What a reader makes of a loss").
+-- The events that lead from one view to another (docs/READER.md, "What a reader makes of a loss").
 use Rattle.std.specs.Prelude.{ℕ, ◌+◌, ◌*◌, ℤ, pos, negsuc, int_lt, Bool, true, false, ◌&&◌, not, if◌then◌else◌, List, [], ◌∷◌, ◌++◌, map, filter, slice_index_or}
 use Rattle.std.specs.List.{range_with_len, list_any}
 use Rattle.std.specs.Ordering.{int_eq}

@@ -7,19 +7,28 @@
 //! `inp_caps` for the description, on `inp_recon` for views and on `inp_bits` for their lists of codes.
 //!
 //! Its contract: `specs/Reading.antt` says what `start` and `next` ask of an evdev, one step by the answers before it,
-//! and what they answer and leave (a `Talk`, `specs/Talk.antt`). [`Reader::start`] and [`Reader::next`] promise that the
-//! calls they made are those of that talk, and that the answer and the reader are its result (`Says`,
-//! `specs/Says.antt`). `specs/Synthesis.antt` says which events lead from one view to another. [`laws`] states what
-//! holds of them: they do lead there, none but a report leaves the view as it was, and there are few
-//! (`specs/Laws.antt`); and the views that a reader keeps are such that this holds (`specs/KeptViews.antt`).
-//! [`examples`] shows what these definitions compute on short histories.
+//! and what they answer and leave (a `Talk`, `specs/Talk.antt`). [`Reader::start`] and [`Reader::next`] promise that
+//! the calls they made are those of that talk, and that the answer and the reader are its result (`Says`,
+//! `specs/Says.antt`). [`Reader::force_sync`] and each accessor say exactly what they do, and so does [`Reader::new`],
+//! unless memory ran out; the view has fourteen values a slot.
+//!
+//! `specs/Synthesis.antt` says which events lead from one view to another. [`laws::synthesis`] states what holds of
+//! them (`specs/Laws.antt`): the old view that takes them over, in order, is the new one; each of them but a report
+//! changes the view that takes it over; and there are at most 948, and 17 a slot. [`laws::views`] states that this
+//! holds of any two views of a reader, and that in Sync mode those that it hands out lead from the view before the
+//! synchronisation to its view (`specs/KeptViews.antt`). [`examples`] shows what the definitions compute on short
+//! histories: a loss, a contact that another one followed, a start refused in part, a revoked and a closed client.
 //!
 //! What follows from the calls is said beside it:
 //!
 //! - `specs/Leaving.antt`: what they leave, in one record (`LeavesMade`). They are a legal run of the history that is seen
 //!   afterwards; the device and what was seen before stay, the caller's own places grow by theirs, and a history of
 //!   accepted steps stays one. The count of answers Again rises where `next` answers so.
-//! - `specs/Effort.antt`: an answer of `next` leaves less to do, by which a caller's loop ends.
+//! - `specs/Starting.antt`: what a refused start leaves. One that was refused at its open leaves all that the reader
+//!   keeps (`open_refused`). Where a query behind the open was refused the client is the new one, nothing is queued,
+//!   the view is as before, and the reader is to synchronise (`query_refused`).
+//! - `specs/Effort.antt`: an answer of `next` leaves less to do, and Again no more (`IsLess`), by which a caller's loop
+//!   ends. Of the stops nothing is said, nor of a Sync call with nothing to synchronise.
 //! - `specs/Standing.antt`: a reader *stands* at the end of a history of accepted steps where, since its client was opened
 //!   or last removed what was visible, it asked for the whole state once and then read; what it handed out and what it has
 //!   queued are all that it read, in order; and its view is what the answers and the events that it handed out make of a new
@@ -31,8 +40,8 @@
 //! For the crates above there are lemmas of two calls, one after the other: what both leave (`leaves_made-then`,
 //! `proofs/Leavings.antt`), and that nobody else used the client (`proofs/Alones.antt`).
 //!
-//! A reader takes all its memory when it is made; only the open of a start may meet want of memory. It makes at most 64
-//! calls in a `start` or a `next`, one but for a synchronisation.
+//! A reader takes all its memory when it is made; only the open of a start may meet want of memory. A `start` makes at
+//! most 64 calls, and a `next` at most 55, one but for a synchronisation.
 #![tactic(auto)]
 
 mod asker;

@@ -1,4 +1,4 @@
--- The values of all slots, as a list: slot by slot, fourteen a slot by ascending codes (docs/RULES.md, "Views").
+-- The values of all slots, as a list: slot by slot, fourteen a slot by ascending codes (docs/READER.md, "Views").
 use Rattle.std.specs.Prelude.{ℕ, ◌+◌, ◌-◌, ◌*◌, ◌/◌, ℤ, pos, int_lt, Bool, ◌&&◌, not, if◌then◌else◌, List, length, map, flat_map, slice_set, unsigned_abs}
 use Rattle.std.specs.List.{range_with_len}
 use Rattle.inp_model.specs.declared.multi_touch.TheConstants.{ABS_MT_TOUCH_MAJOR}

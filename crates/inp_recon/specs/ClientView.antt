@@ -1,5 +1,5 @@
 -- The view that a client makes of a history: a fold over its answers and the events that it took
--- (docs/RULES.md, "Faithful views"). A history is written newest first, and is called a past. What ends in _with speaks of
+-- (docs/READER.md, "Faithful views"). A history is written newest first, and is called a past. What ends in _with speaks of
 -- any choice of what is left of a frame, and the one of the same name without it of the device's own.
 use Rattle.std.specs.Prelude.{ℕ, suc, if◌then◌else◌, nat_lt, List, [], ◌∷◌, length, map, take, drop}
 use Rattle.inp_model.specs.declared.step.Step.{Step}

@@ -1,4 +1,4 @@
--- When a client's view is the device's state (docs/RULES.md, "Faithful views").
+-- When a client's view is the device's state (docs/READER.md, "Faithful views").
 use Rattle.std.specs.Prelude.{ℕ, suc, ◌≡◌, ◌<◌, pos, true, false, List, ◌∷◌, map, take, slice_get, slice_index_or, Some}
 use Rattle.inp_model.specs.declared.step.Step.{Step}
 use Rattle.inp_model.specs.declared.step.Step.TheVariants.{Read}

@@ -1,5 +1,5 @@
 -- When a client is synchronised: what it asked for, and what it took, since it opened or discarded
--- (docs/RULES.md, "Faithful views").
+-- (docs/READER.md, "Faithful views").
 use Rattle.std.specs.Prelude.{ℕ, ◌+◌, Bool, false, ◌&&◌, ◌||◌, not, if◌then◌else◌, nat_eq, nat_lt, List, [], ◌∷◌, ◌++◌, length}
 use Rattle.std.specs.List.{list_all, range_with_len}
 use Rattle.inp_model.specs.declared.event.TheConstants.{EV_SYN, EV_KEY, EV_ABS, EV_SW, EV_LED, SYN_DROPPED, ABS_MAX}

@@ -1,4 +1,4 @@
--- When nothing was kept from a client and no axis was described anew (docs/RULES.md, "Faithful views").
+-- When nothing was kept from a client and no axis was described anew (docs/READER.md, "Faithful views").
 use Rattle.std.specs.Prelude.{ℕ, suc, Bool, true, ◌&&◌, ◌||◌, not, if◌then◌else◌, nat_eq, nat_lt, nat_le, List, [], ◌∷◌, length}
 use Rattle.std.specs.List.{list_all}
 use Rattle.inp_model.specs.declared.event.TheConstants.{EV_KEY, EV_ABS, EV_SW, EV_LED}

@@ -1,4 +1,4 @@
--- What an event that a client took, and an answer to its query, make of its view (docs/RULES.md, "Views").
+-- What an event that a client took, and an answer to its query, make of its view (docs/READER.md, "Views").
 use Rattle.std.specs.Prelude.{ℕ, ◌*◌, ◌/◌, ◌%◌, ◌≡◌, ◌≤◌, ◌==◌, ℤ, pos, Bool, false, ◌&&◌, not, if◌then◌else◌, nat_eq, nat_lt, List, [], ◌∷◌, length, map, take, replicate, slice_set, slice_index}
 use Rattle.std.specs.Int.{bit_at}
 use Rattle.std.specs.List.{range_with_len}
@@ -25,7 +25,7 @@ code_count = 64
 abbrev pub with_value_at : {X : Type 0} → ℕ → List X → ℕ → X → List X
 with_value_at count values index value = if nat_lt index count then slice_set values index value else values
 
--- A new view (docs/RULES.md, "Views"): nothing is down or on, axes and the current slot are 0, no slot has a contact.
+-- A new view (docs/READER.md, "Views"): nothing is down or on, axes and the current slot are 0, no slot has a contact.
 unfoldable pub first_view : Description → View
 first_view d = record {
   keys = replicate key_count false;
@@ -36,7 +36,7 @@ first_view d = record {
   cells = first_cells d.slots;
 }
 
--- An event taken (docs/RULES.md, "Views").
+-- An event taken (docs/READER.md, "Views").
 
 -- the flag of the event's code is on where its value is not 0
 abbrev pub with_flag : ℕ → List Bool → Event → List Bool
@@ -77,7 +77,7 @@ unfoldable pub view_after_events : View → List Event → View
 view_after_events v [] = v
 view_after_events v (e ∷ es) = view_after_events (view_after_event v e) es
 
--- An answer (docs/RULES.md, "Views").
+-- An answer (docs/READER.md, "Views").
 
 -- value i that words of 64 bits tell, the lowest bit of each first
 abbrev pub bit_in : List ℕ → ℕ → Bool

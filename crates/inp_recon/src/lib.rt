@@ -4,8 +4,9 @@
 //! events that the client takes and the answers to its queries. The crate stands on `inp_model` for events, steps and
 //! replies, on `inp_bits` for the lists of codes, and on `inp_caps` for the description.
 //!
-//! Its contract: `specs/View.antt` says, part by part, what an event and an answer make of a view.
-//! [`View::take_event`] and [`View::answer`] are one step of that fold each, as an equation on the whole view.
+//! Its contract: `specs/View.antt` says, part by part, what an event and an answer make of a view. [`View::take_event`]
+//! and [`View::answer`] are one step of that fold each, as an equation on the whole view. A copied view is given
+//! exactly, and a new one too, unless memory ran out; each call of [`Cells`] is an equation.
 //!
 //! [`laws::faithful`] says when a view is the device's state: at each report of a frame that the client could follow,
 //! having asked for everything and lost nothing, while nothing was kept from it. It is a law over the definitions
@@ -13,6 +14,10 @@
 //! the fold of the definitions, which is what these calls keep for a client that hands them each of its answers and of
 //! the events that it took. Nothing is said of a view in the middle of a frame, at a frame before the last query, or
 //! between a loss and the next synchronisation.
+//!
+//! [`examples`] shows what the fold makes of short lists of events and answers, a synchronisation of slots in the midst
+//! of a batch among them. [`faithful_examples`] shows what the law asks for, and for each condition a short history in
+//! which it alone fails and the view is wrong.
 //!
 //! A view takes memory when it is made, and never again. Lemmas for callers: no event and no answer changes how long the
 //! lists of a view are (`proofs/Sizes.antt`), events may be taken in two parts (`proofs/Folds.antt`), and between two

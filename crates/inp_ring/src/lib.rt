@@ -6,13 +6,16 @@
 //! definitions of a queue (`Queue`) its contract cites, and on the toolchain's `slab`, in which the cells lie, and
 //! `circular_buffer`, in which the numbers lie.
 //!
-//! A contract sees a [`Store`] as a finite map from numbers to cells with how many rings hold each, and how many more cells
-//! fit (`StoreView` in `specs/Store.antt`). It sees a [`Ring`] as its number of places and the list of its numbers, oldest
-//! first (`RingView` in `specs/Ring.antt`); with a store its queue is the list of their cells. Each call does to that queue
-//! what the definition of its name says, and gives the exact result. What becomes of the store is one fact, `IsMoved`: each
-//! number that leaves the ring has one holder less, and its cell goes with the last one; each number that comes has one
-//! holder more; and all else stays. So a store whose cells have as many holders as there are rings with their numbers stays
-//! so.
+//! A contract sees a [`Store`] as a finite map from numbers to cells with how many rings hold each, and how many more
+//! cells fit (`StoreView` in `specs/Store.antt`). It sees a [`Ring`] as its number of places and the list of its
+//! numbers, oldest first (`RingView` in `specs/Ring.antt`); with a store its queue is the list of their cells. Each
+//! call does to that queue what the definition of its name says, and gives the exact result. What becomes of the store
+//! is one fact, `IsMoved`: each number that leaves the ring has one holder less, and its cell goes with the last one;
+//! each number that comes has one holder more; and all else stays. So a store whose cells have as many holders as there
+//! are rings with their numbers stays so.
+//!
+//! SYN_DROPPED, where it is not the event that is put, enters only at a ring with one place left, or by a change of
+//! clock on a queue that is not empty.
 //!
 //! Memory is taken when a ring is made, and by [`Store::grow`], and never else. Putting an event and reading one take the
 //! same time at any length, but for a loss, which drops all events. A flush walks the queue once, in place. The events that

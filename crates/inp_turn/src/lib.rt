@@ -15,8 +15,9 @@
 //!
 //! - What a pass has seen only grows. The entries of a value that is taken begin with it, and of two passes that are joined
 //!   one has seen a beginning of what the other has.
-//! - The places of the entries that a pass added are its own. No place is own to two passes, and once `close` has its pass
-//!   each place that was added since `new` is that pass's own, once.
+//! - The places of the entries that a pass added are its own. No place is own to two passes, and once `close` has its
+//!   pass each place that was added since `new` is that pass's own, once, and no other place is. The value that `close`
+//!   gives back has the base and the entries that the pass has seen.
 //! - The shares of all passes add up to 65,536, and each pass has one unit at least; so a pass with all of them is the last.
 //!   A pass that is dropped takes its units with it, and the value then ends with its `Shared`.
 //! - A pass's turns rise by one with each `take`.

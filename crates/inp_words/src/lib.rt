@@ -11,8 +11,9 @@
 //! This crate is for whoever reads the record of a device. It stands on `inp_codes` for the names of types and codes, and on
 //! `inp_model` for want of memory.
 //!
-//! Its contract: each call answers as the definition of its form in `specs/` says; [`examples`] shows what these say of
-//! words at their bounds. [`words`] alone takes memory.
+//! Its contract: each call answers as the definition of its form in `specs/` says; [`examples`] shows what these say:
+//! of numbers at their bounds in both bases, of codes by name and by number, and of how lines and words are cut.
+//! [`words`] alone takes memory.
 #![tactic(auto)]
 
 mod codes;
