@@ -51,7 +51,7 @@ class SecondProgram(FolderCase):
 
     def test_the_random_records_have_something_to_show(self):
         texts = [random_text(number, self.folder) for number in range(COUNT)]
-        for text in ("inputrecord 1\n", "inputrecord 2\n", " stream events-", " stream16 events-", "\nslots 256\n", *FILTERS):
+        for text in ("inputrecord 1\n", "inputrecord 2\n", " stream events-", " stream16 events-", "\nslots 256\n", "\njoy ", *FILTERS):
             with self.subTest(text=text):
                 self.assertIn(text, "".join(texts))
         reports = b"".join(report_of(text, self.folder, history=True)[0] for text in texts)
@@ -66,6 +66,9 @@ class SecondProgram(FolderCase):
             b" busy\n",
             b" log-full\n",
             b"\nstop full ",
+            b"\njs 0 1 129 ",
+            b" 1 1 0\n",
+            b"\nbuttons 0 1\n",
         ):
             with self.subTest(text=text):
                 self.assertIn(text, reports)

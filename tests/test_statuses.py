@@ -77,6 +77,10 @@ REFUSED = [
     ("bad-word", LATER_DEVICE + "filter other\n", 3),
     ("bad-code", LATER_DEVICE + "filter chord KEY_A KEY_A\n", 3),
     ("bad-filter", LATER_DEVICE + "filter norepeat\n" * 9, 11),
+    ("bad-line", DEVICE + "joy j\n", 3),
+    ("bad-command", LATER_DEVICE + "joy j\ndo j grab\n", 4),
+    ("bad-word", LATER_DEVICE + "joy j\ndo j read 4294967296\n", 4),
+    ("too-many", LATER_DEVICE + "tap t\n" + "".join(f"joy j{i}\n" for i in range(128)), 131),
 ]
 
 # As many of each as there may be. The file `keys` is empty.

@@ -13,6 +13,7 @@ import sys
 from typing import NamedTuple
 
 from device import Caps, Device, FIRST, LAST, SLOT
+from joystick import Joystick
 from names import ABS, CODES, KEY, LED, SW, TYPES, code_text, event_text, kind_text
 from reader import NO_CLIENT, Reader, View
 
@@ -76,6 +77,7 @@ class Actor:
         self.name, self.role, self.device = name, role, device
         self.sight, self.accepted, self.stop = [], 0, "finished"
         self.reader, self.view, self.client = Reader(device.caps), View(device.caps), NO_CLIENT
+        self.joystick = Joystick(device.caps)
 
     def see(self, step, reply):
         if reply[0] == "again":
@@ -93,7 +95,8 @@ class Actor:
 
     def do(self, words, streams):
         if self.stop == "finished":
-            {"source": self.do_source, "tap": self.do_tap, "client": self.do_client}[self.role](words, streams)
+            does = {"source": self.do_source, "tap": self.do_tap, "client": self.do_client, "joy": self.do_joy}
+            does[self.role](words, streams)
 
     def do_source(self, words, streams):
         for step in source_steps(words, streams):
@@ -149,15 +152,15 @@ class Actor:
             self.see(step, reply)
         elif words[0] == "open":
             self.reader.start(self.device)
-            self.see_calls()
+            self.see_calls(self.reader.calls)
         elif words[0] == "force":
             self.reader.phase = "needed"
         else:
             self.hand_out(words[0], number(words[1]) if words[1:] else None)
         self.view = self.reader.view
 
-    def see_calls(self):
-        for step, reply in self.reader.calls:
+    def see_calls(self, calls):
+        for step, reply in calls:
             self.see(step, reply)
 
     def hand_out(self, command, bound):
@@ -167,7 +170,7 @@ class Actor:
             what, *values = self.reader.next(self.device, in_sync_mode)
             if command == "follow" and what == "end" and self.waits_on(self.reader.calls[-1][1]):
                 continue
-            self.see_calls()
+            self.see_calls(self.reader.calls)
             if what == "end":
                 return
             if what == "took":
@@ -175,6 +178,28 @@ class Actor:
             elif what == "made":
                 self.sight.append(f"made {event_text(values[0])}")
             handed += what != "synced"
+
+    def do_joy(self, words, _):
+        step = self.single_step(self.joystick.reader.client, words)
+        if step:
+            reply, _ = self.device.step(step)
+            self.see(step, reply)
+        elif words[0] == "open":
+            self.joystick.start(self.device)
+            self.see_calls(self.joystick.calls)
+        else:
+            self.read_records(number(words[1]))
+
+    def read_records(self, bound):
+        handed = 0
+        while handed < bound:
+            answer = self.joystick.read(self.device)
+            self.see_calls(self.joystick.calls)
+            if answer == "end":
+                return
+            if answer not in ("frame", "more"):
+                self.sight.append("js " + " ".join(map(str, answer)))
+                handed += 1
 
     def waits_on(self, reply):
         """Whether a follow goes on behind its last call's reply. On one thread it never does."""
@@ -184,6 +209,12 @@ class Actor:
         if self.role == "source":
             return [f"source {self.name} calls {self.accepted} stop {self.stop}"]
         return [f"{self.role} {self.name}"] + self.sight + self.view_lines() + [f"stop {self.stop}"]
+
+    def joy_part(self):
+        down = [str(number) for number, value in enumerate(self.joystick.down) if value]
+        values = [str(value) for value in self.joystick.values]
+        picture = [" ".join(["buttons"] + down), " ".join(["axes"] + values)]
+        return [f"joy {self.name}"] + self.sight + picture + [f"stop {self.stop}"]
 
     def view_lines(self):
         caps, lines = self.device.caps, []
@@ -254,7 +285,7 @@ def read_record(text):
             continue
         if words[0] == "device":
             descriptions.append((words[1], Caps()))
-        elif words[0] in ("source", "client", "tap"):
+        elif words[0] in ("source", "client", "tap", "joy"):
             actors.append((words[1], words[0], len(descriptions) - 1))
         elif words[0] == "do":
             actions.append(words[1:])
@@ -270,15 +301,18 @@ def streams_of(folder):
 
 
 def report(devices, actors, history):
-    """The lines of the report on devices and, in record order, their actors."""
+    """The lines of the report on devices and, in record order, their actors; behind them all those on joysticks."""
     lines = []
     for device in devices:
         lines.append(f"device {device.name} steps {len(device.history)}")
         if history:
             lines += [f"step {place} {step_text(step)}" for place, step in enumerate(device.history)]
         for actor in actors:
-            if actor.device is device:
+            if actor.device is device and actor.role != "joy":
                 lines += actor.part()
+    for actor in actors:
+        if actor.role == "joy":
+            lines += actor.joy_part()
     return lines
 
 

@@ -19,6 +19,9 @@ FULL = 2**64 - 1
 
 MOST_STREAMS = 16
 
+# Buttons that a joystick numbers, of those before its own too.
+BUTTONS = [0x100, 0x101, 0x110, 0x120, 0x121, 0x130]
+
 
 class Generator:
     """Makes one record. Where a folder is given its sources have streams, and their files are written there."""
@@ -71,6 +74,8 @@ class Generator:
         for kind in kinds:
             for _ in range(r.randint(1, 4) if kind != ABS else 0):
                 code = r.choice(list(CODES[kind].values())) if r.random() < 0.9 else r.randint(1, GREATEST[kind])
+                if kind == KEY and self.version == 2 and r.random() < 0.5:
+                    code = r.choice(BUTTONS)
                 lines.append(f"cap {kind_text(kind)} {code_text(kind, code)}")
                 codes.append((kind, code))
         axes = self.axes(lines) if ABS in kinds or slots else set()
@@ -114,6 +119,7 @@ class Generator:
             ("source", r.choice([1, 1, 2])),
             ("client", r.randint(1, 3)),
             ("tap", r.randint(0, 2)),
+            ("joy", r.choice([0, 1, 2]) if self.version == 2 else 0),
         ):
             for i in range(count):
                 lines.append(f"{role} {role[0]}{d}{i}")
@@ -133,10 +139,11 @@ class Generator:
             actors, codes, slots = r.choice(self.devices)
             weights = [(12 if busy else 3) if role == "source" else 1 for role, _ in actors]
             role, name = r.choices(actors, weights)[0]
-            act = self.source_action if role == "source" else self.client_action
+            act = {"source": self.source_action, "joy": self.joy_action}.get(role, self.client_action)
             actions += [f"do {name} {action}" for action in act(role, codes, slots, busy)]
         for actors, _, _ in self.devices:
-            actions += [f"do {name} follow" for role, name in actors if role == "client" and r.random() < 0.7]
+            last = {"client": "follow", "joy": "read 4294967295"}
+            actions += [f"do {name} {last[role]}" for role, name in actors if role in last and r.random() < 0.7]
         return "\n".join(lines + actions) + "\n"
 
     def stream(self, codes, slots):
@@ -170,6 +177,12 @@ class Generator:
         if x < 0.95:
             return [f"tick {self.moment() + r.choice([0, 40000, 300000])}"]
         return [f"inhibit {self.moment()}"] if x < 0.97 else ["uninhibit"]
+
+    def joy_action(self, *_):
+        r, x = self.r, self.r.random()
+        if x < 0.1:
+            return ["open"]
+        return ["close"] if x < 0.13 else [f"read {r.choice([0, 1, 1, 2, 5, 20, 5000])}"]
 
     def new_description(self, codes):
         """A command that describes an axis anew, mostly one that the device has."""

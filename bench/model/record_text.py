@@ -133,7 +133,7 @@ DESCRIPTION = {
     "axis": AXIS,
 }
 
-# The words behind `filter`, by the first of them. Version 1 has no such line.
+# The words behind `filter`, by the first of them.
 FILTERS = {
     "eat": "FILTER TYPE CODE",
     "norepeat": "FILTER",
@@ -142,8 +142,11 @@ FILTERS = {
 }
 MOST_FILTERS = 8
 
-ACTORS = {"source": "NAME", "client": "NAME", "tap": "NAME"}
+ACTORS = {"source": "NAME", "client": "NAME", "tap": "NAME", "joy": "NAME"}
 LINES = {"inputrecord": "FILE", "device": "NAME", **DESCRIPTION, **ACTORS}
+
+# The first words of lines that version 1 does not have.
+LATER = ("filter", "joy")
 
 READERS = {
     **dict.fromkeys(("open", "close", "grab", "ungrab", "revoke"), ""),
@@ -168,6 +171,7 @@ COMMANDS = {
         "axis": "CODE",
         "slots": "CODE",
     },
+    "joy": {"open": "", "close": "", "read": "U32"},
 }
 
 
@@ -178,10 +182,12 @@ def has_length(forms, words):
 def is_line(version, first, rest):
     """Whether a line begins with this word and has so many words behind it. A line that names no filter may have any
     number of words from two on."""
+    if version == "1" and first in LATER:
+        return False
     if first == "do":
         return len(rest) >= 2
     if first == "filter":
-        return version != "1" and bool(rest) and (rest[0] not in FILTERS or has_length(FILTERS[rest[0]], rest))
+        return bool(rest) and (rest[0] not in FILTERS or has_length(FILTERS[rest[0]], rest))
     return first in LINES and has_length(LINES[first], rest)
 
 

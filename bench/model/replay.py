@@ -125,7 +125,7 @@ def place_and_word(line):
 
 
 class Job(Actor):
-    """A client or a tap that does its lines again."""
+    """A client, a tap or a joystick that does its lines again."""
 
     def __init__(self, name, role, share, sources, idle):
         super().__init__(name, role, share)
@@ -154,7 +154,7 @@ class Source(Actor):
 
 
 def share_out(played, sources):
-    """The steps that no client or tap made are those of the sources, each in its own order."""
+    """The steps that no other job made are those of the sources, each in its own order."""
     states = {(0,) * len(sources)}
     for place, step in enumerate(played.device.history):
         if played.owners[place] is None:
@@ -171,8 +171,8 @@ def share_out(played, sources):
 
 
 def parts_of(lines):
-    """For each device its steps' texts, and its parts by their actors' names."""
-    devices, part = [], []
+    """For each device its steps' texts, and its parts by their actors' names; beside them the parts of joysticks."""
+    devices, joysticks, part = [], {}, []
     for line in lines:
         word, *words = line.split(" ", 2)
         if word == "device":
@@ -184,18 +184,20 @@ def parts_of(lines):
         elif word in ("source", "client", "tap"):
             part = devices[-1][1].setdefault(words[0], [])
             part += words[1:]
+        elif word == "joy":
+            part = joysticks.setdefault(words[0], [])
         else:
             part.append(line)
-    return devices
+    return devices, joysticks
 
 
 def replay_device(i, record, printed, streams, idle):
     """The jobs of a device with what they saw, and the device."""
     name, caps = record.descriptions[i]
     texts, parts = printed
-    asked = {place_and_word(line)[0] for part in parts.values() for line in part if is_call(line)}
-    played = Played(name, caps, texts, asked)
     actors = [(actor, role) for actor, role, device in record.actors if device == i]
+    asked = {place_and_word(line)[0] for actor, _ in actors for line in parts.get(actor, ()) if is_call(line)}
+    played = Played(name, caps, texts, asked)
     sources = sum(role == "source" for _, role in actors)
     jobs = []
     for actor, role in actors:
@@ -220,9 +222,10 @@ def replay_device(i, record, printed, streams, idle):
 def replay(text, printed, folder=".", idle=IDLE):
     """The report that comes of a printed one's histories; `Differs` where none does."""
     record = read_record(text)
-    devices = parts_of(printed)
+    devices, joysticks = parts_of(printed)
     if len(devices) != len(record.descriptions):
         raise Differs(f"the record has {len(record.descriptions)} devices, and the report {len(devices)}")
+    devices = [(texts, {**joysticks, **parts}) for texts, parts in devices]
     ended = [replay_device(i, record, device, streams_of(folder), idle) for i, device in enumerate(devices)]
     return report([device for device, _ in ended], [job for _, jobs in ended for job in jobs], history=True)
 

@@ -45,7 +45,7 @@ class Device:
 
 
 class Actor:
-    """A source, a client or a tap, and the number of its device."""
+    """A source, a client, a tap or a joystick, and the number of its device."""
 
     def __init__(self, name, role, device):
         self.name, self.role, self.device = name, role, device
@@ -67,7 +67,7 @@ class Record:
     def add(self, number, words):
         if words[0] == "device":
             self.devices.append(Device(words[1]))
-        elif words[0] in ("source", "client", "tap"):
+        elif words[0] in ("source", "client", "tap", "joy"):
             self.actors[words[1]] = Actor(words[1], words[0], len(self.devices) - 1)
         elif words[0] == "do":
             self.actions.append((number, words[1], words[2:]))

@@ -12,7 +12,7 @@ from desk.recording import GREATEST, LEAST, Axis, Device, Recording
 
 FIRST_WORDS = ("inputrecord", "device", "hint", "log", "clock", "slots", "type", "cap", "axis", "filter")
 GREATEST_LOG, GREATEST_OFFSET = 8388608, 9000000000000000
-ACTORS = ("source", "client", "tap", "do")
+ACTORS = ("source", "client", "tap", "joy", "do")
 
 
 def is_record(text):

@@ -69,8 +69,11 @@ def add_line(devices, words):
 
 
 def read_report(text):
-    """The devices of a report."""
+    """The devices of a report. The parts of joysticks, which stand behind all devices, are passed over."""
     devices = []
     for line in text.splitlines():
-        add_line(devices, line.split(" "))
+        words = line.split(" ")
+        if words[0] == "joy":
+            break
+        add_line(devices, words)
     return devices

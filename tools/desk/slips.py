@@ -9,16 +9,17 @@ SLIPS = {
     "bad-header": "the first line that is no comment must be `inputrecord 1` or `inputrecord 2`",
     "bad-line": (
         "the line begins with no known word, or has too few or too many words (`axis` has CODE and "
-        "six numbers: value, minimum, maximum, fuzz, flat, resolution; `filter` comes with `inputrecord 2`)"
+        "six numbers: value, minimum, maximum, fuzz, flat, resolution; `filter` and `joy` come with `inputrecord 2`)"
     ),
     "out-of-place": (
         "the order is: a device, its description, its actors; the next device; all `do` lines behind "
         "all devices; and `inputrecord` only once"
     ),
-    "no-actor": "no `source`, `client` or `tap` line has this name",
+    "no-actor": "no `source`, `client`, `tap` or `joy` line has this name",
     "bad-command": (
         "this actor has no such command, or it has another number of words: `event`, `tick`, `stream` "
-        "are a source's; `read`, `keys`, `axis` a tap's; `follow`, `next`, `force` a client's; `stream16` "
+        "are a source's; `keys`, `axis` a tap's; `read` a tap's and a joystick's, which has `open` and `close` besides and no "
+        "other; `follow`, `next`, `force` a client's; `stream16` "
         "comes with `inputrecord 2`"
     ),
     "bad-word": (
@@ -31,7 +32,7 @@ SLIPS = {
         "devices"
     ),
     "too-many": (
-        "at most 8 devices, 8 sources and 128 clients and taps of a device, and 16 lines of `stream` "
+        "at most 8 devices, 8 sources and 128 clients, taps and joysticks of a device, and 16 lines of `stream` "
         "and `stream16` together"
     ),
     "bad-code": (
