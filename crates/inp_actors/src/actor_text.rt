@@ -3,11 +3,11 @@
 use crate::{Name, Role};
 use inp_model::Items;
 
-/// The greatest number of actors of a record: on each of 8 devices 8 sources, and 128 clients, taps and joysticks (this
-/// project's choice).
-pub const ACTORS_MAX: u32 = 1088;
+/// The greatest number of actors of a record: on each of 8 devices 8 sources, 128 clients, taps and joysticks, and an
+/// owner (this project's choice).
+pub const ACTORS_MAX: u32 = 1096;
 
-const _: () = prove!(ACTORS_MAX == 8 * (8 + 128));
+const _: () = prove!(ACTORS_MAX == 8 * (8 + 128 + 1));
 
 /// An actor of a record.
 #[derive(Drop)]

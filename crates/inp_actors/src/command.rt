@@ -5,7 +5,8 @@ ghost use Rattle.inp_actors.specs.Command.{is_command_of, stream_of, first_of};
 use crate::{FileName, Role};
 use inp_model::{AxisInfo, Clock};
 
-/// The greatest number of events that a tap may ask for at once (this project's choice). A joystick's read has no such limit.
+/// The greatest number of events that a tap or an owner may ask for at once (this project's choice). A joystick's read
+/// has no such limit.
 pub const READ_MAX: u32 = 4096;
 
 const _: () = prove!(READ_MAX == 4 * 1024);
@@ -111,6 +112,10 @@ pub enum Command {
     Follow,
     /// A client's reader is to synchronise before the next event.
     Force,
+    /// An owner takes at most `count` of the events that were sent to its device, of 1 to `READ_MAX`.
+    Feedback {
+        count: u32,
+    },
 }
 
 impl Command {
@@ -125,7 +130,9 @@ impl Command {
             | Command::Uninhibit
             | Command::Stream { .. }
             | Command::Stream16 { .. } => role == Role::Source,
-            Command::Open | Command::Close => role != Role::Source,
+            Command::Open | Command::Close => {
+                matches!(role, Role::Client | Role::Tap | Role::Joy)
+            }
             Command::Grab
             | Command::Ungrab
             | Command::Revoke
@@ -145,6 +152,7 @@ impl Command {
             Command::Next { .. } | Command::Skip { .. } | Command::Follow | Command::Force => {
                 role == Role::Client
             }
+            Command::Feedback { .. } => role == Role::Owner,
         }
     }
 

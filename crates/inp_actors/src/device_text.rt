@@ -11,6 +11,8 @@ pub struct DeviceText {
     pub name: Name,
     /// What it is.
     pub caps: Caps,
+    /// Whether it is made by requests, and so may have an owner.
+    pub requested: bool,
 }
 
 /// The devices of a record, in file order.

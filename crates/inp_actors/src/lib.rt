@@ -6,10 +6,11 @@
 //! descriptions.
 //!
 //! Its contract: a [`Record`] is seen as its version and its four lists and keeps what `IsRecord` says
-//! (`specs/Record.antt`): its indices are in range, each line's command is one that its actor's role has, each number
-//! is one that a line may have, there is one stream for each stream command, there are at most [`ACTORS_MAX`] actors,
-//! and the version is 1 or 2. So whoever plays a record has nothing to refuse. [`Name`], [`FileName`], `Command::is_of`
-//! and `Command::stream_index` have exact results, each an equation. Nothing here takes memory but the lists' `push`.
+//! (`specs/Record.antt`): its indices are in range, an owner's device is made by requests and has no other owner, each
+//! line's command is one that its actor's role has, each number is one that a line may have, there is one stream for
+//! each stream command, there are at most [`ACTORS_MAX`] actors, and the version is 1 or 2. So whoever plays a record
+//! has nothing to refuse. [`Name`], [`FileName`], `Command::is_of` and `Command::stream_index` have exact results, each
+//! an equation. Nothing here takes memory but the lists' `push`.
 #![tactic(auto)]
 
 mod actor_text;

@@ -11,4 +11,6 @@ pub enum Role {
     Tap,
     /// It reads as a joystick, as the kernel's joydev has it.
     Joy,
+    /// It reads what is sent to a device that was made by requests, as its owner.
+    Owner,
 }
