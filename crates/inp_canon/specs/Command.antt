@@ -3,7 +3,7 @@ use Rattle.std.specs.Prelude.{ℕ, ℤ, [], ◌∷◌, codes, decimal}
 use Rattle.std.specs.Fmt.{signed_decimal}
 use Rattle.inp_model.specs.declared.event.TheConstants.{EV_ABS}
 use Rattle.inp_actors.specs.declared.command.Command as command
-use Rattle.inp_actors.specs.declared.command.Command.TheVariants.{Event, Tick, Inhibit, Uninhibit, Stream, Stream16, Open, Close, Grab, Ungrab, Revoke, Mask, Clock, Write, SetAxis, Read, Discard, Keys, Switches, Leds, Sounds, SyncSlots, Axis, Slots, Next, Skip, Follow, Force}
+use Rattle.inp_actors.specs.declared.command.Command.TheVariants.{Event, Tick, Inhibit, Uninhibit, Stream, Stream16, Open, Close, Grab, Ungrab, Revoke, Mask, Clock, Write, SetAxis, Read, Discard, Keys, Switches, Leds, Sounds, SyncSlots, Axis, Slots, Next, Skip, Follow, Force, Feedback}
 use Rattle.inp_texts.specs.Texts.{kind_text, code_text, bits_text, clock_text}
 use Rattle.inp_canon.specs.Words.{Words}
 use Rattle.inp_canon.specs.Device.{info_words}
@@ -43,3 +43,4 @@ command_words (Next count) = codes "next" ∷ decimal count ∷ []
 command_words (Skip count) = codes "skip" ∷ decimal count ∷ []
 command_words Follow = codes "follow" ∷ []
 command_words Force = codes "force" ∷ []
+command_words (Feedback count) = codes "feedback" ∷ decimal count ∷ []

@@ -1,5 +1,5 @@
 -- The texts of a few records, worked out by hand.
-use Rattle.std.specs.Prelude.{◌≡◌, ℕ, pos, negsuc, List, [], ◌∷◌, ◌++◌, codes, flat_map}
+use Rattle.std.specs.Prelude.{◌≡◌, ℕ, pos, negsuc, true, false, List, [], ◌∷◌, ◌++◌, codes, flat_map}
 use Rattle.inp_model.specs.declared.event.TheConstants.{EV_SYN, EV_KEY, EV_REL, EV_ABS, EV_LED, EV_REP, SYN_REPORT, KEY_A}
 use Rattle.inp_model.specs.declared.multi_touch.TheConstants.{ABS_MT_POSITION_X}
 use Rattle.inp_model.specs.declared.clock.Clock.TheVariants.{Realtime, Monotonic, Boottime}
@@ -10,7 +10,7 @@ use Rattle.inp_caps.specs.Builder.{syn_alone, with_kind, with_code, with_axis, w
 use Rattle.inp_actors.specs.declared.command.Command as command
 use Rattle.inp_actors.specs.declared.command.Command.TheVariants as commands
 use Rattle.inp_actors.specs.declared.role.Role.{Role}
-use Rattle.inp_actors.specs.declared.role.Role.TheVariants.{Source, Client, Tap, Joy}
+use Rattle.inp_actors.specs.declared.role.Role.TheVariants.{Source, Client, Tap, Joy, Owner}
 use Rattle.inp_actors.specs.declared.device_text.DeviceText.{DeviceText}
 use Rattle.inp_actors.specs.declared.actor_text.ActorText.{ActorText}
 use Rattle.inp_actors.specs.declared.line.Line.{Line}
@@ -25,7 +25,7 @@ abbrev pub text_of : List (List ℕ) → List ℕ
 text_of lines = flat_map (λ line. line ++ 10 ∷ []) lines
 
 abbrev pub device : List ℕ → Description → DeviceText
-device name d = record { name = name; caps = d }
+device name d = record { name = name; caps = d; requested = false }
 
 abbrev pub actor : Role → List ℕ → ℕ → ActorText
 actor role name device = record { name = name; role = role; device = device }
@@ -66,6 +66,31 @@ WritesAKeyboard =
     ∷ codes "do s event 1000 EV_KEY KEY_A 1"
     ∷ codes "do s event 1000 EV_SYN SYN_REPORT 0"
     ∷ codes "do t read 16"
+    ∷ [])
+
+-- a device made by requests, and what its owner reads
+abbrev pub requested_keyboard : RecordView
+requested_keyboard = record {
+  version = 2;
+  devices = record (device (codes "u") one_key) { requested = true } ∷ [];
+  actors = actor Owner (codes "o") 0 ∷ [];
+  lines = action 0 (commands.Feedback 8) ∷ [];
+  streams = [];
+}
+
+abbrev pub WritesARequestedDevice : Type 0
+WritesARequestedDevice =
+    record_text requested_keyboard
+    ≡ text_of (codes "inputrecord 2"
+    ∷ codes "udevice u"
+    ∷ codes "hint 16"
+    ∷ codes "log 1048576"
+    ∷ codes "clock realtime 0"
+    ∷ codes "clock boottime 0"
+    ∷ codes "type EV_KEY"
+    ∷ codes "cap EV_KEY KEY_A"
+    ∷ codes "owner o"
+    ∷ codes "do o feedback 8"
     ∷ [])
 
 -- the version stands in the header
@@ -152,10 +177,11 @@ actors =
     ∷ actor Client (codes "b") 1
     ∷ actor Tap (codes "c") 0
     ∷ actor Joy (codes "d") 1
+    ∷ actor Owner (codes "e") 0
     ∷ []
 
 pub record WritesActorsOfTheDevice : Type 0 where
-  pub first : lines_text (actors_lines actors 0) ≡ text_of (codes "source a" ∷ codes "tap c" ∷ [])
+  pub first : lines_text (actors_lines actors 0) ≡ text_of (codes "source a" ∷ codes "tap c" ∷ codes "owner e" ∷ [])
   pub second : lines_text (actors_lines actors 1) ≡ text_of (codes "client b" ∷ codes "joy d" ∷ [])
 
 -- the line of a command alone
@@ -196,3 +222,4 @@ pub record WritesCommands : Type 0 where
   pub skip : IsWritten (commands.Skip 2) (codes "skip 2")
   pub follow : IsWritten commands.Follow (codes "follow")
   pub force : IsWritten commands.Force (codes "force")
+  pub feedback : IsWritten (commands.Feedback 4096) (codes "feedback 4096")

@@ -1,5 +1,5 @@
 -- The text of a record (docs/FORMATS.md, "The text of a record").
-use Rattle.std.specs.Prelude.{ℕ, if◌then◌else◌, nat_eq, List, [], ◌∷◌, ◌++◌, codes, decimal, flat_map, map, slice_get, Option, Some, None}
+use Rattle.std.specs.Prelude.{ℕ, Bool, true, false, if◌then◌else◌, nat_eq, List, [], ◌∷◌, ◌++◌, codes, decimal, flat_map, map, slice_get, Option, Some, None}
 use Rattle.std.specs.List.{enumerate_from}
 use Rattle.inp_actors.specs.declared.device_text.DeviceText.{DeviceText}
 use Rattle.inp_actors.specs.declared.actor_text.ActorText.{ActorText}
@@ -19,10 +19,19 @@ actor_lines device actor =
 unfoldable pub actors_lines : List ActorText → ℕ → List Words
 actors_lines actors device = flat_map (actor_lines device) actors
 
+-- the first word of a device's line: whether it is made by requests
+abbrev pub device_word : Bool → List ℕ
+device_word true = codes "udevice"
+device_word false = codes "device"
+
+-- the line that begins a device
+abbrev pub device_words : DeviceText → Words
+device_words device = device_word device.requested ∷ device.name ∷ []
+
 -- a device with its number: its name, its description and its actors
 unfoldable pub device_lines : List ActorText → ℕ × DeviceText → List Words
 device_lines actors d =
-    (codes "device" ∷ d.1.name ∷ []) ∷ (description_lines d.1.caps ++ actors_lines actors d.0)
+    device_words d.1 ∷ (description_lines d.1.caps ++ actors_lines actors d.0)
 
 -- all devices with their numbers
 unfoldable pub devices_lines : List ActorText → List DeviceText → List Words

@@ -81,6 +81,7 @@ pub(crate) fn push_command(text: &mut String, command: &Command) -> Result<(), N
         Command::Skip { count } => write!(text, " skip {count}\n")?,
         Command::Follow => text.push_str(" follow\n")?,
         Command::Force => text.push_str(" force\n")?,
+        Command::Feedback { count } => write!(text, " feedback {count}\n")?,
     }
     Ok(())
 }

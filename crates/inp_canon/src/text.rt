@@ -2,19 +2,19 @@
 ghost use Rattle.std.specs.Prelude.{◌≡◌, ℕ, ◌<◌, [], ◌∷◌, ◌++◌, length, codes, decimal, string_bytes, IfOk, OnOk, map, slice_get, Some};
 ghost use Rattle.inp_actors.specs.declared.line.Line.{Line as LineView};
 ghost use Rattle.inp_canon.specs.Words.{line_text, lines_text};
-ghost use Rattle.inp_canon.specs.Text.{actor_lines, actors_lines, device_lines, devices_lines, action_words, record_text};
+ghost use Rattle.inp_canon.specs.Text.{actor_lines, actors_lines, device_words, device_lines, devices_lines, action_words, record_text};
 
 use crate::commands::push_command;
 use crate::devices::push_description;
-use inp_actors::{ActorText, Actors, DeviceText, Line, Name, Record};
+use inp_actors::{ActorText, Actors, DeviceText, Line, Record};
 use inp_model::NoMemory;
 use inp_texts::RoleText;
 use std::alloc::Global;
 use std::fmt::Write;
 
-/// The canonical text of a record: the header with its version, the devices in order, each with its description and its actors, then the
-/// action lines. Types and codes are written by name where they have one. `docs/FORMATS.md` has the form, which is this
-/// project's choice. It takes time and memory in proportion to the text.
+/// The canonical text of a record: the header with its version, the devices in order, each with its description and its
+/// actors, then the action lines. Types and codes are written by name where they have one. `docs/FORMATS.md` has the
+/// form, which is this project's choice. It takes time and memory in proportion to the text.
 ///
 /// # Errors
 ///
@@ -69,18 +69,24 @@ fn push_device(
         (string_bytes text.new
         ≡ string_bytes text.old ++ lines_text (device_lines actors.now (index, device.now))) }
 {
-    push_device_name(text, &device.name)?;
+    push_device_name(text, device)?;
     push_description(text, &device.caps)?;
     push_actors(text, actors, index)?;
     Ok(())
 }
 
-fn push_device_name(text: &mut String, name: &Name) -> Result<(), NoMemory>
+// The line that begins a device.
+fn push_device_name(text: &mut String, device: &DeviceText) -> Result<(), NoMemory>
     ensures pushed { OnOk result
         (string_bytes text.new
-        ≡ string_bytes text.old ++ lines_text ((codes "device" ∷ name.now ∷ []) ∷ [])) }
+        ≡ string_bytes text.old ++ lines_text (device_words device.now ∷ [])) }
 {
-    write!(text, "device {}\n", name.as_str())?;
+    let name = device.name.as_str();
+    if device.requested {
+        write!(text, "udevice {name}\n")?;
+    } else {
+        write!(text, "device {name}\n")?;
+    }
     Ok(())
 }
 

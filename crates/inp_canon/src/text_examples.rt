@@ -1,10 +1,11 @@
 //! What the definitions say of a few records.
-ghost use Rattle.inp_canon.specs.Examples.{WritesAKeyboard, WritesAVersion, WritesSlots, WritesCodesAscending, WritesFiltersInOrder, WritesActorsOfTheDevice, WritesCommands};
+ghost use Rattle.inp_canon.specs.Examples.{WritesAKeyboard, WritesARequestedDevice, WritesAVersion, WritesSlots, WritesCodesAscending, WritesFiltersInOrder, WritesActorsOfTheDevice, WritesCommands};
 
 /// What the definitions of this crate make of a few records, worked out by hand. It does nothing: its contract is the
 /// point.
 pub fn examples()
     ensures keyboard { WritesAKeyboard }
+    ensures requested { WritesARequestedDevice }
     ensures version { WritesAVersion }
     ensures slots { WritesSlots }
     ensures codes { WritesCodesAscending }

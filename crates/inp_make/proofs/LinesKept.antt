@@ -7,9 +7,10 @@ use Rattle.inp_model.specs.declared.event.Event.{Event}
 use Rattle.inp_actors.specs.declared.actor_text.ActorText.{ActorText}
 use Rattle.inp_actors.specs.declared.line.Line.{Line}
 use Rattle.inp_actors.specs.declared.role.Role.{Role}
+use Rattle.inp_actors.specs.declared.role.Role.TheVariants.{Owner}
 use Rattle.inp_actors.specs.declared.command.Command.{Command}
 use Rattle.inp_actors.specs.declared.command.Command.TheVariants.{Open, Follow}
-use Rattle.inp_actors.specs.Command.{is_source, is_client, is_reading, is_command_of, is_in_range, stream_of}
+use Rattle.inp_actors.specs.Command.{is_source, is_client, is_owner, is_reading, is_command_of, is_in_range, stream_of}
 use Rattle.inp_actors.specs.Record.{streams_of, IsRecord}
 use Rattle.inp_make.specs.Generated.{actors, fast, mid, slow, line, frame_events, injected, follows, frame_lines, opens, lines, generated}
 use Rattle.inp_make.proofs.Counts.{length-lines}
@@ -113,6 +114,16 @@ IsOfPad actor = actor.device < 1
 actors_kept : AllByRecursion IsOfPad actors
 actors_kept = (omega arith, (omega arith, (omega arith, (omega arith, tt))))
 
+-- none of them owns it
+abbrev IsNoOwner : ActorText → Type 0
+IsNoOwner actor = is_owner actor.role ≡ false
+
+no_owners : AllByRecursion IsNoOwner actors
+no_owners = (refl, (refl, (refl, (refl, tt))))
+
+owns : (i : ℕ) (actor : ActorText) → slice_get actors i ≡ Some actor → actor.role ≡ Owner → ⊥
+owns i actor is owner = let none : is_owner actor.role ≡ false = at IsNoOwner actors no_owners i actor is in cc (none, owner)
+
 none_is_some : {X : Type 0} (x : X) → None ≡ Some x → ⊥
 none_is_some x e = cc
 
@@ -123,6 +134,8 @@ IsRecord-generated number count few =
       version = (omega arith, omega arith);
       devices = at IsOfPad actors actors_kept;
       actors = λ i line is. (at IsKept (lines number count) kept i line is).actor;
+      owners = λ i actor device is owner at. absurd (owns i actor is owner);
+      one_owner = λ i k a b is by owner other same. absurd (owns i a is owner);
       commands = λ i line actor is by. (at IsKept (lines number count) kept i line is).command actor by;
       ranges = λ i line actor is by. (at IsKept (lines number count) kept i line is).range actor.role;
       numbered = no_streams (lines number count) kept;

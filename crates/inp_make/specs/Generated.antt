@@ -1,5 +1,5 @@
 -- The record that is made from a number and a count of frames.
-use Rattle.std.specs.Prelude.{ℕ, ◌+◌, ◌*◌, ◌%◌, pos, List, [], ◌∷◌, ◌++◌, map, flat_map, nat_eq, if◌then◌else◌, codes}
+use Rattle.std.specs.Prelude.{ℕ, ◌+◌, ◌*◌, ◌%◌, pos, false, List, [], ◌∷◌, ◌++◌, map, flat_map, nat_eq, if◌then◌else◌, codes}
 use Rattle.std.specs.List.{range_with_len}
 use Rattle.inp_model.specs.declared.event.TheConstants.{EV_KEY, EV_SYN, EV_ABS, SYN_REPORT}
 use Rattle.inp_model.specs.declared.multi_touch.TheConstants.{ABS_MT_SLOT, ABS_MT_POSITION_X, ABS_MT_POSITION_Y, ABS_MT_TRACKING_ID}
@@ -38,7 +38,7 @@ unfoldable pub pad : Description
 pad = built pad_gathered
 
 abbrev pub devices : List DeviceText
-devices = record { name = codes "pad"; caps = pad } ∷ []
+devices = record { name = codes "pad"; caps = pad; requested = false } ∷ []
 
 -- The actors, with their numbers: a source, and three clients that read after each frame, after each tenth, and at the end.
 abbrev pub finger : ℕ

@@ -40,6 +40,7 @@ fn devices(alloc: Global) -> Result<Devices, NoMemory>
     devices.push(DeviceText {
         name: Name::new(b"pad"),
         caps: pad(),
+        requested: false,
     })?;
     Ok(devices)
 }

@@ -1,7 +1,8 @@
 -- Commands, written and read again.
-use Rattle.std.proofs.Common.{◌≡◌, ℕ, ◌-◌, ◌^◌, ◌≤◌, ◌<◌, ℤ, true, nat_eq, nat_le, List, ◌∷◌, length, codes, decimal, Option, Some, option_map, Ok, refl, sym, ap, ◌∙◌, arith}
+use Rattle.std.proofs.Common.{◌≡◌, ℕ, ◌-◌, ◌^◌, ◌≤◌, ◌<◌, ℤ, true, false, if◌then◌else◌, nat_eq, nat_le, List, ◌∷◌, length, codes, decimal, Option, Some, None, option_map, Ok, refl, sym, ap, ◌∙◌, arith}
 use Rattle.std.specs.Prelude.{option_and_then}
 use Rattle.std.specs.List.{list_all}
+use Rattle.std.proofs.lemmas.Bool.{and_parts}
 use Rattle.std.proofs.lemmas.Bool.Decides.{nat_tests}
 use Rattle.inp_model.specs.declared.event.TheConstants.{EV_ABS}
 use Rattle.inp_model.specs.declared.axis_info.AxisInfo.{AxisInfo}
@@ -60,6 +61,7 @@ verb_for (commands.Next count) = verbs.Next
 verb_for (commands.Skip count) = verbs.Skip
 verb_for commands.Follow = verbs.Follow
 verb_for commands.Force = verbs.Force
+verb_for (commands.Feedback count) = verbs.Feedback
 
 -- the words of a line on which the actor of this name does this
 abbrev pub do_words : List ℕ → command.Command → Words
@@ -97,6 +99,7 @@ module _ (name : List ℕ) where
   do_keyword version (commands.Skip count) = refl
   do_keyword version commands.Follow = refl
   do_keyword version commands.Force = refl
+  do_keyword version (commands.Feedback count) = refl
 
 -- its verb is read again
 
@@ -134,6 +137,7 @@ module _ (name : List ℕ) (r : role.Role) where
   verb_read (commands.Skip count) h = allowed r verbs.Skip 1 h refl
   verb_read commands.Follow h = allowed r verbs.Follow 0 h refl
   verb_read commands.Force h = allowed r verbs.Force 0 h refl
+  verb_read (commands.Feedback count) h = allowed r verbs.Feedback 1 h refl
 
 -- its words are read again
 
@@ -161,6 +165,7 @@ count_read : (r : role.Role) (count : ℕ) → is_count_of r count ≡ true → 
 count_read roles.Source count h s = few_read count h
 count_read roles.Client count h s = few_read count h
 count_read roles.Tap count h s = few_read count h
+count_read roles.Owner count h s = few_read count h
 count_read roles.Joy count h s = decimal_read (2 ^ 32 - 1) count (omega arith) (omega arith)
 
 module _ (name : List ℕ) (stream : ℕ) (r : role.Role) where
@@ -196,6 +201,10 @@ module _ (name : List ℕ) (stream : ℕ) (r : role.Role) where
   words_read (commands.Skip count) h s = ap (option_map (λ (n : ℕ). commands.Skip n)) (decimal_read (2 ^ 32 - 1) count (omega arith) (omega arith))
   words_read commands.Follow h s = refl
   words_read commands.Force h s = refl
+  words_read (commands.Feedback count) h s =
+      let range = and_parts (nat_le 1 count) (nat_le count READ_MAX) h in
+      let some : nat_eq count 0 ≡ false = grind (arith, nat_tests, range.0) in
+      ap (option_and_then (λ (n : ℕ). if nat_eq n 0 then None else Some (commands.Feedback n))) (few_read count range.1) ∙ rw some refl
 
 -- a command that can be said is read again
 pub command_read : (name : List ℕ) (stream actor : ℕ) (r : role.Role) (does : command.Command) → is_command_of r does ≡ true → is_in_range r does ≡ true → IsSayableCommand stream does
@@ -239,3 +248,7 @@ command_plain stream r (commands.Next count) h s = rw (decimal_plain count (omeg
 command_plain stream r (commands.Skip count) h s = rw (decimal_plain count (omega arith)) refl
 command_plain stream r commands.Follow h s = refl
 command_plain stream r commands.Force h s = refl
+command_plain stream r (commands.Feedback count) h s =
+    let most = (and_parts (nat_le 1 count) (nat_le count READ_MAX) h).1 in
+    let within : count ≤ READ_MAX = grind (arith, nat_tests) in
+    rw (decimal_plain count (omega arith)) refl

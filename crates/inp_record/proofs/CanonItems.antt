@@ -14,14 +14,13 @@ use Rattle.inp_model.specs.declared.clock.Clock.TheVariants as clocks
 use Rattle.inp_texts.specs.Texts.{kind_text, code_text, clock_text, role_text}
 use Rattle.inp_canon.specs.Words.{Words}
 use Rattle.inp_canon.specs.Device.{fuzz_words, axis_words, filter_words, info_words as info_text}
-use Rattle.inp_canon.specs.Text.{name_of_actor}
+use Rattle.inp_canon.specs.Text.{device_word, name_of_actor}
 use Rattle.inp_actors.specs.declared.role.Role as role
 use Rattle.inp_actors.specs.declared.role.Role.TheVariants as roles
 use Rattle.inp_actors.specs.declared.actor_text.ActorText.{ActorText}
 use Rattle.inp_actors.specs.declared.command.Command as command
 use Rattle.inp_actors.specs.declared.record.TheConstants.{VERSION_MAX}
 use Rattle.inp_actors.specs.Name.{is_name}
-use Rattle.inp_actors.specs.Command.{is_joy}
 use Rattle.inp_record.specs.declared.cause.Cause.TheVariants.{BadHeader, OutOfPlace}
 use Rattle.inp_record.specs.declared.item.Item.{Item}
 use Rattle.inp_record.specs.declared.item.Item.TheVariants.{Header, Device, Hint, Log, Realtime, Boottime, Slots, Kind, Code, Axis, Filter, Actor, Action}
@@ -30,22 +29,22 @@ use Rattle.inp_record.specs.declared.keyword.Keyword.TheVariants as keywords
 use Rattle.inp_record.specs.Keyword.{keyword_rows, filter_rows, keyword_of}
 use Rattle.inp_record.specs.Place.{is_start, is_out_of_place}
 use Rattle.inp_record.specs.Words.{word, version_word, is_header, info_words, micros_word, offset_item, plain_item, action_with, or_bad_word, item_of}
-use Rattle.inp_record.specs.Past.{Past, place_of, version_of, actors_of, stream_count, context_of}
+use Rattle.inp_record.specs.Past.{Past, place_of, version_of, is_requested, actors_of, stream_count, context_of}
 use Rattle.inp_record.specs.Meaning.{placed, item_of_words}
 use Rattle.inp_record.specs.Spelling.{item_words}
-use Rattle.inp_record.proofs.Sayable.{keyword_for_role, keyword_for_filter, IsSayableInfo, IsSayableFilter, IsSayableAction, IsSayable, IsInPlace}
+use Rattle.inp_record.proofs.Sayable.{keyword_for_role, keyword_for_device, keyword_for_filter, is_later_role, IsSayableInfo, IsSayableFilter, IsSayableAction, IsSayable, IsInPlace}
 use Rattle.inp_record.proofs.CanonLines.{is_plain, IsPlainLine}
 use Rattle.inp_record.proofs.CanonWords.{decimal_read, decimal_plain, kind_read, kind_plain, code_read, code_plain, clock_read, clock_plain, name_read, is_plain-name, info_read, info_plain}
 use Rattle.inp_record.proofs.CanonCommands.{do_words, do_keyword, kind_and_code_read, command_read, command_plain}
 
 -- a line whose words are those of its keyword is read where it may stand
-placed_read : (past : Past) (k : keyword.Keyword) (ws : Words) (i : Item) → keyword_of (version_of past) (word 0 ws) (word 1 ws) (length ws) ≡ Some k → is_start (place_of past) ≡ false → is_out_of_place (place_of past) k ≡ false
+placed_read : (past : Past) (k : keyword.Keyword) (ws : Words) (i : Item) → keyword_of (version_of past) (word 0 ws) (word 1 ws) (length ws) ≡ Some k → is_start (place_of past) ≡ false → is_out_of_place (place_of past) (is_requested past) k ≡ false
     → item_of (actors_of past) (stream_count past) k ws ≡ Ok i → item_of_words (context_of past) ws ≡ Ok i
 unfolding item_of_words
 placed_read past k ws i is started within says =
     by_start (is_start (place_of past)) started
     ∙ ap (λ (o : Option keyword.Keyword). placed (context_of past) o ws) is
-    ∙ by_place (is_out_of_place (place_of past) k) within
+    ∙ by_place (is_out_of_place (place_of past) (is_requested past) k) within
   where
     by_start : (start : Bool) → start ≡ false → (if start && not (is_header ws) then Err BadHeader else placed (context_of past) (keyword_of (version_of past) (word 0 ws) (word 1 ws) (length ws)) ws) ≡ placed (context_of past) (keyword_of (version_of past) (word 0 ws) (word 1 ws) (length ws)) ws
     by_start true h = absurd (cc h)
@@ -64,9 +63,10 @@ micros_read micros some most =
 -- what the words of each line are
 
 module _ (actors : List ActorText) (streams : ℕ) where
-  device_read : (name : List ℕ) → is_name name ≡ true → item_of actors streams keywords.Device (codes "device" ∷ name ∷ []) ≡ Ok (Device name)
+  device_read : (requested : Bool) (first name : List ℕ) → is_name name ≡ true → item_of actors streams (keyword_for_device requested) (first ∷ name ∷ []) ≡ Ok (Device requested name)
   unfolding item_of plain_item
-  device_read name h = ap (λ (o : Option (List ℕ)). or_bad_word (option_map (λ name. Device name) o)) (name_read name h)
+  device_read true first name h = ap (λ (o : Option (List ℕ)). or_bad_word (option_map (λ name. Device true name) o)) (name_read name h)
+  device_read false first name h = ap (λ (o : Option (List ℕ)). or_bad_word (option_map (λ name. Device false name) o)) (name_read name h)
 
   hint_read : (count : ℕ) → count < 2 ^ 32 → item_of actors streams keywords.Hint (codes "hint" ∷ decimal count ∷ []) ≡ Ok (Hint count)
   unfolding item_of plain_item
@@ -111,6 +111,7 @@ module _ (actors : List ActorText) (streams : ℕ) where
   actor_read roles.Source first name h = ap (λ (o : Option (List ℕ)). or_bad_word (option_map (λ name. Actor roles.Source name) o)) (name_read name h)
   actor_read roles.Client first name h = ap (λ (o : Option (List ℕ)). or_bad_word (option_map (λ name. Actor roles.Client name) o)) (name_read name h)
   actor_read roles.Tap first name h = ap (λ (o : Option (List ℕ)). or_bad_word (option_map (λ name. Actor roles.Tap name) o)) (name_read name h)
+  actor_read roles.Owner first name h = ap (λ (o : Option (List ℕ)). or_bad_word (option_map (λ name. Actor roles.Owner name) o)) (name_read name h)
   actor_read roles.Joy first name h = ap (λ (o : Option (List ℕ)). or_bad_word (option_map (λ name. Actor roles.Joy name) o)) (name_read name h)
 
   action_read : (actor : ℕ) (does : command.Command) → (s : IsSayableAction actors streams actor does) → item_of actors streams keywords.Action (do_words s.text.name does) ≡ Ok (Action actor does)
@@ -119,11 +120,17 @@ module _ (actors : List ActorText) (streams : ℕ) where
       ap (λ (o : Option (ℕ × role.Role)). action_with streams o (do_words s.text.name does)) s.first
       ∙ command_read s.text.name streams actor s.text.role does s.of_role s.in_range s.sayable
 
-role_keyword : (version : ℕ) (r : role.Role) (name : List ℕ) → (is_joy r && nat_eq version 1) ≡ false → keyword_of version (role_text r) name 2 ≡ Some (keyword_for_role r)
+device_keyword : (version : ℕ) (requested : Bool) (name : List ℕ) → (requested && nat_eq version 1) ≡ false → keyword_of version (device_word requested) name 2 ≡ Some (keyword_for_device requested)
+unfolding keyword_of keyword_rows
+device_keyword version true name later = let late : nat_eq version 1 ≡ false = later in rw late refl
+device_keyword version false name later = refl
+
+role_keyword : (version : ℕ) (r : role.Role) (name : List ℕ) → (is_later_role r && nat_eq version 1) ≡ false → keyword_of version (role_text r) name 2 ≡ Some (keyword_for_role r)
 unfolding role_text keyword_of keyword_rows
 role_keyword version roles.Source name later = refl
 role_keyword version roles.Client name later = refl
 role_keyword version roles.Tap name later = refl
+role_keyword version roles.Owner name later = let late : nat_eq version 1 ≡ false = later in rw late refl
 role_keyword version roles.Joy name later = let late : nat_eq version 1 ≡ false = later in rw late refl
 
 axis_keyword : (version code : ℕ) (i : AxisInfo) → keyword_of version (codes "axis") (code_text EV_ABS code) (length (axis_words code i)) ≡ Some keywords.Axis
@@ -169,7 +176,7 @@ version_plain version some few = decimal_plain version (omega arith)
 pub item_read : (past : Past) (i : Item) → IsSayable (actors_of past) (stream_count past) i → IsInPlace past i → item_of_words (context_of past) (item_words (actors_of past) i) ≡ Ok i
 unfolding keyword_of keyword_rows
 item_read past (Header version) s p = header_read past version (decimal version) (version_read version s.0 s.1) p
-item_read past (Device name) s p = placed_read past keywords.Device (codes "device" ∷ name ∷ []) (Device name) refl p.0 p.1 (device_read (actors_of past) (stream_count past) name s)
+item_read past (Device requested name) s p = placed_read past (keyword_for_device requested) (device_word requested ∷ name ∷ []) (Device requested name) (device_keyword (version_of past) requested name p.2) p.0 p.1 (device_read (actors_of past) (stream_count past) requested (device_word requested) name s)
 item_read past (Hint count) s p = placed_read past keywords.Hint (codes "hint" ∷ decimal count ∷ []) (Hint count) refl p.0 p.1 (hint_read (actors_of past) (stream_count past) count s)
 item_read past (Log count) s p = placed_read past keywords.Log (codes "log" ∷ decimal count ∷ []) (Log count) refl p.0 p.1 (log_read (actors_of past) (stream_count past) count s)
 item_read past (Realtime offset) s p = placed_read past keywords.Clock (codes "clock" ∷ clock_text clocks.Realtime ∷ decimal offset ∷ []) (Realtime offset) refl p.0 p.1 (offset_read (actors_of past) (stream_count past) clocks.Realtime offset s)
@@ -192,6 +199,11 @@ role_first roles.Source ws h = record { first = refl; plain = h }
 role_first roles.Client ws h = record { first = refl; plain = h }
 role_first roles.Tap ws h = record { first = refl; plain = h }
 role_first roles.Joy ws h = record { first = refl; plain = h }
+role_first roles.Owner ws h = record { first = refl; plain = h }
+
+device_first : (requested : Bool) (ws : Words) → list_all is_plain ws ≡ true → IsPlainLine (device_word requested ∷ ws)
+device_first true ws h = record { first = refl; plain = h }
+device_first false ws h = record { first = refl; plain = h }
 
 filter_plain : (f : filter.Filter) → IsSayableFilter f → IsPlainLine (filter_words f)
 unfolding filter_words
@@ -202,7 +214,7 @@ filter_plain (filters.Bounce code micros) s = record { first = refl; plain = rw 
 
 pub item_plain : (actors : List ActorText) (streams : ℕ) (i : Item) → IsSayable actors streams i → IsPlainLine (item_words actors i)
 item_plain actors streams (Header version) s = record { first = refl; plain = rw (version_plain version s.0 s.1) refl }
-item_plain actors streams (Device name) s = record { first = refl; plain = rw (is_plain-name name s) refl }
+item_plain actors streams (Device requested name) s = device_first requested (name ∷ []) (rw (is_plain-name name s) refl)
 item_plain actors streams (Hint count) s = record { first = refl; plain = rw (decimal_plain count (omega arith)) refl }
 item_plain actors streams (Log count) s = record { first = refl; plain = rw (decimal_plain count (omega arith)) refl }
 item_plain actors streams (Realtime offset) s = record { first = refl; plain = rw (clock_plain clocks.Realtime, decimal_plain offset s) refl }

@@ -39,7 +39,7 @@ no_actors k (a ∷ actors) h =
     rw other (no_actors k actors (λ i b e. h (suc i) b e))
 
 pub head_device : (version : ℕ) (actors : List ActorText) (devices : List DeviceText) (d : DeviceText) → AreBelow (length devices) actors
-    → head_items version actors (devices ++ d ∷ []) ≡ head_items version actors devices ++ Device d.name ∷ description_items d.caps
+    → head_items version actors (devices ++ d ∷ []) ≡ head_items version actors devices ++ Device d.requested d.name ∷ description_items d.caps
 unfolding device_items
 head_device version actors devices d below =
     let f = device_items actors in
@@ -50,8 +50,8 @@ head_device version actors devices d below =
     ∙ flat_map-append f (enumerate_from 0 devices) ((0 + length devices, d) ∷ [])
     ∙ ap (λ (l : List Item). flat_map f (enumerate_from 0 devices) ++ l)
     (append-nil (f (0 + length devices, d))
-    ∙ ap (λ (l : List Item). Device d.name ∷ (description_items d.caps ++ l)) none
-    ∙ ap (λ (l : List Item). Device d.name ∷ l) (append-nil (description_items d.caps))))
+    ∙ ap (λ (l : List Item). Device d.requested d.name ∷ (description_items d.caps ++ l)) none
+    ∙ ap (λ (l : List Item). Device d.requested d.name ∷ l) (append-nil (description_items d.caps))))
 
 -- an actor of a later device changes nothing of these
 others_same : (actors : List ActorText) (new : ActorText) (devices : List DeviceText) (n : ℕ) → n + length devices ≤ new.device
@@ -64,7 +64,7 @@ others_same actors new (d ∷ devices) n h =
     flat_map-append (actor_items n) actors (new ∷ [])
     ∙ ap (λ (b : Bool). flat_map (actor_items n) actors ++ ((if b then Actor new.role new.name ∷ [] else []) ++ [])) other
     ∙ append-nil (flat_map (actor_items n) actors) in
-    ap (λ (l : List Item). (Device d.name ∷ (description_items d.caps ++ l)) ++ flat_map (device_items (actors ++ new ∷ [])) (enumerate_from (n + 1) devices)) here
+    ap (λ (l : List Item). (Device d.requested d.name ∷ (description_items d.caps ++ l)) ++ flat_map (device_items (actors ++ new ∷ [])) (enumerate_from (n + 1) devices)) here
     ∙ ap (λ (l : List Item). device_items actors (n, d) ++ l) (others_same actors new devices (n + 1) (omega arith))
 
 -- an actor of this device is one line more
@@ -75,7 +75,7 @@ device_push actors new k d e =
     let here : flat_map (actor_items k) (actors ++ new ∷ []) ≡ flat_map (actor_items k) actors ++ Actor new.role new.name ∷ [] =
     flat_map-append (actor_items k) actors (new ∷ [])
     ∙ ap (λ (b : Bool). flat_map (actor_items k) actors ++ ((if b then Actor new.role new.name ∷ [] else []) ++ [])) this in
-    ap (λ (l : List Item). Device d.name ∷ l)
+    ap (λ (l : List Item). Device d.requested d.name ∷ l)
     (ap (λ (l : List Item). description_items d.caps ++ l) here
     ∙ sym (append_assoc (description_items d.caps) (flat_map (actor_items k) actors) (Actor new.role new.name ∷ [])))
 

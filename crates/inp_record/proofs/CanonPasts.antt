@@ -8,7 +8,6 @@ use Rattle.inp_model.specs.declared.filter.Filter as filter
 use Rattle.inp_model.specs.declared.filter.Filter.TheVariants as filters
 use Rattle.inp_actors.specs.declared.actor_text.ActorText.{ActorText}
 use Rattle.inp_actors.specs.declared.role.Role.TheVariants as roles
-use Rattle.inp_actors.specs.Command.{is_joy}
 use Rattle.inp_actors.specs.declared.record.TheConstants.{VERSION_MAX}
 use Rattle.inp_actors.specs.Record.{RecordView}
 use Rattle.inp_words.specs.Line.{is_comment, is_text, words_of, lines_of as text_lines}
@@ -23,12 +22,12 @@ use Rattle.inp_record.specs.declared.keyword.Keyword.TheVariants as keywords
 use Rattle.inp_record.specs.Keyword.{keyword_of, keyword_rows}
 use Rattle.inp_record.specs.Place.{is_start, is_out_of_place}
 use Rattle.inp_record.specs.Words.{word, version_word, is_header, item_of, plain_item, or_bad_word}
-use Rattle.inp_record.specs.Past.{Past, place_of, version_of, former_devices, actors_of, stream_count, context_of}
+use Rattle.inp_record.specs.Past.{Past, place_of, version_of, is_requested, former_devices, actors_of, stream_count, context_of}
 use Rattle.inp_record.specs.Meaning.{checked, placed, item_of_words, behind, behind_words, behind_line, go_on, behind_lines, record_of, as_record, meaning}
 use Rattle.inp_record.proofs.Inversions.{IsPlaced, checked_is, words_are, keyword_for as keyword_read}
 use Rattle.inp_record.proofs.Good.{push_get, item_is}
 use Rattle.inp_record.proofs.Keywords.{is_later_keyword, keyword_is_later}
-use Rattle.inp_record.proofs.Sayable.{keyword_for, IsInPlace, IsAccepted}
+use Rattle.inp_record.proofs.Sayable.{is_later_role, keyword_for, IsInPlace, IsAccepted}
 use Rattle.inp_record.proofs.SayableItems.{AreNamed, ArePlain, line_plain, item_said}
 
 -- the items of a past were accepted one after another, the newest last
@@ -40,7 +39,7 @@ WereAccepted (i ∷ past) = IsAccepted past i × WereAccepted past
 pub actors_named : (past : Past) → WereAccepted past → AreNamed (actors_of past)
 actors_named [] h = λ i a e. absurd (cc e)
 actors_named (Header version ∷ past) h = actors_named past h.1
-actors_named (Device name ∷ past) h = actors_named past h.1
+actors_named (Device requested name ∷ past) h = actors_named past h.1
 actors_named (Hint count ∷ past) h = actors_named past h.1
 actors_named (Log count ∷ past) h = actors_named past h.1
 actors_named (Realtime offset ∷ past) h = actors_named past h.1
@@ -62,7 +61,7 @@ actors_named (Action actor command ∷ past) h = actors_named past h.1
 
 abbrev is_header_item : Item → Bool
 is_header_item (Header version) = true
-is_header_item (Device name) = false
+is_header_item (Device requested name) = false
 is_header_item _ = false
 
 header_keyword : (version : ℕ) (ws : List (List ℕ)) → is_header ws ≡ true → keyword_of version (word 0 ws) (word 1 ws) (length ws) ≡ Some keywords.Header
@@ -76,7 +75,7 @@ header_keyword version ws h =
 
 header_item : (c : Context) (ws : List (List ℕ)) (i : Item) → placed c (Some keywords.Header) ws ≡ Ok i → is_header_item i ≡ true
 unfolding item_of plain_item
-header_item c ws i e = by_place (is_out_of_place c.place keywords.Header) (version_word (word 1 ws)) e
+header_item c ws i e = by_place (is_out_of_place c.place c.requested keywords.Header) (version_word (word 1 ws)) e
   where
     by_place : (out : Bool) (o : Option ℕ) → (if out then Err OutOfPlace else or_bad_word (option_map (λ version. Header version) o)) ≡ Ok i → is_header_item i ≡ true
     by_place true o e = absurd (cc e)
@@ -96,7 +95,8 @@ first_header c ws i start e = by_header (is_start c.place) (is_header ws) refl s
 
 same_keyword : (i : Item) → keyword_read i ≡ keyword_for i
 same_keyword (Header version) = refl
-same_keyword (Device name) = refl
+same_keyword (Device true name) = refl
+same_keyword (Device false name) = refl
 same_keyword (Hint count) = refl
 same_keyword (Log count) = refl
 same_keyword (Realtime offset) = refl
@@ -110,19 +110,21 @@ same_keyword (Actor roles.Source name) = refl
 same_keyword (Actor roles.Client name) = refl
 same_keyword (Actor roles.Tap name) = refl
 same_keyword (Actor roles.Joy name) = refl
+same_keyword (Actor roles.Owner name) = refl
 same_keyword (Action actor command) = refl
 
-keyword_allowed : (c : Context) (ws : List (List ℕ)) (i : Item) → IsPlaced c ws i → is_out_of_place c.place (keyword_for i) ≡ false
+keyword_allowed : (c : Context) (ws : List (List ℕ)) (i : Item) → IsPlaced c ws i → is_out_of_place c.place c.requested (keyword_for i) ≡ false
 keyword_allowed c ws i p = elim (item_is c.actors c.streams p.keyword ws i p.item) [
-  | inl h ↦ let P : Item → Type 0 = λ x. is_out_of_place c.place (keyword_for x) ≡ false in subst P (sym h.2) refl
+  | inl h ↦ let P : Item → Type 0 = λ x. is_out_of_place c.place c.requested (keyword_for x) ≡ false in subst P (sym h.2) refl
   | inr h ↦ rw (sym (same_keyword i) ∙ h.0) p.in_place
 ]
 
--- a filter line and a joystick are read under a later version than 1 alone
+-- a device made by requests, a filter, a joystick and an owner are read under a later version than 1 alone
 
 abbrev is_later_item : Item → Bool
+is_later_item (Device requested name) = requested
 is_later_item (Filter filter) = true
-is_later_item (Actor role name) = is_joy role
+is_later_item (Actor role name) = is_later_role role
 is_later_item _ = false
 
 filter_keyworded : (f : filter.Filter) → is_later_keyword (keyword_for (Filter f)) ≡ true
@@ -133,7 +135,9 @@ filter_keyworded (filters.Bounce code micros) = refl
 
 item_keyworded : (i : Item) → is_later_item i ≡ true → is_later_keyword (keyword_for i) ≡ true
 item_keyworded (Filter f) h = filter_keyworded f
+item_keyworded (Device true name) h = refl
 item_keyworded (Actor roles.Joy name) h = refl
+item_keyworded (Actor roles.Owner name) h = refl
 item_keyworded i h = absurd (cc h)
 
 item_later : (c : Context) (ws : List (List ℕ)) (i : Item) → IsPlaced c ws i → is_later_item i ≡ true → nat_eq c.version 1 ≡ false
@@ -147,9 +151,9 @@ pub never_both : (a b : Bool) → (a ≡ true → b ≡ false) → (a && b) ≡ 
 never_both true b h = h refl
 never_both false b h = refl
 
-in_place : (past : Past) (i : Item) → (is_start (place_of past) ≡ true → is_header_item i ≡ true) → is_out_of_place (place_of past) (keyword_for i) ≡ false → (is_later_item i ≡ true → nat_eq (version_of past) 1 ≡ false) → IsInPlace past i
+in_place : (past : Past) (i : Item) → (is_start (place_of past) ≡ true → is_header_item i ≡ true) → is_out_of_place (place_of past) (is_requested past) (keyword_for i) ≡ false → (is_later_item i ≡ true → nat_eq (version_of past) 1 ≡ false) → IsInPlace past i
 in_place past (Header version) first allowed later = not-false (is_start (place_of past)) allowed
-in_place past (Device name) first allowed later = (false_from_ne_true (is_start (place_of past)) (λ s. let e : false ≡ true = first s in cc e), allowed)
+in_place past (Device requested name) first allowed later = (false_from_ne_true (is_start (place_of past)) (λ s. let e : false ≡ true = first s in cc e), allowed, never_both requested (nat_eq (version_of past) 1) later)
 in_place past (Hint count) first allowed later = (false_from_ne_true (is_start (place_of past)) (λ s. let e : false ≡ true = first s in cc e), allowed)
 in_place past (Log count) first allowed later = (false_from_ne_true (is_start (place_of past)) (λ s. let e : false ≡ true = first s in cc e), allowed)
 in_place past (Realtime offset) first allowed later = (false_from_ne_true (is_start (place_of past)) (λ s. let e : false ≡ true = first s in cc e), allowed)
@@ -159,7 +163,7 @@ in_place past (Kind kind) first allowed later = (false_from_ne_true (is_start (p
 in_place past (Code kind code) first allowed later = (false_from_ne_true (is_start (place_of past)) (λ s. let e : false ≡ true = first s in cc e), allowed)
 in_place past (Axis code info) first allowed later = (false_from_ne_true (is_start (place_of past)) (λ s. let e : false ≡ true = first s in cc e), allowed)
 in_place past (Filter filter) first allowed later = (false_from_ne_true (is_start (place_of past)) (λ s. let e : false ≡ true = first s in cc e), allowed, later refl)
-in_place past (Actor role name) first allowed later = (false_from_ne_true (is_start (place_of past)) (λ s. let e : false ≡ true = first s in cc e), allowed, never_both (is_joy role) (nat_eq (version_of past) 1) later)
+in_place past (Actor role name) first allowed later = (false_from_ne_true (is_start (place_of past)) (λ s. let e : false ≡ true = first s in cc e), allowed, never_both (is_later_role role) (nat_eq (version_of past) 1) later)
 in_place past (Action actor command) first allowed later = (false_from_ne_true (is_start (place_of past)) (λ s. let e : false ≡ true = first s in cc e), allowed)
 
 -- what is read is accepted
@@ -213,7 +217,7 @@ lines_accepted (line ∷ lines) k past now were e = by_line (behind_line past li
 version_accepted : (past : Past) → WereAccepted past → (1 ≤ version_of past) × (version_of past ≤ VERSION_MAX)
 version_accepted [] h = (omega arith, omega arith)
 version_accepted (Header version ∷ past) h = h.0.sayable
-version_accepted (Device name ∷ past) h = version_accepted past h.1
+version_accepted (Device requested name ∷ past) h = version_accepted past h.1
 version_accepted (Hint count ∷ past) h = version_accepted past h.1
 version_accepted (Log count ∷ past) h = version_accepted past h.1
 version_accepted (Realtime offset ∷ past) h = version_accepted past h.1

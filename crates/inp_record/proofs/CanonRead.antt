@@ -26,7 +26,7 @@ AreBehindActors actors past (i ∷ more) = (is_action (keyword_for i) ≡ true �
 -- the words of a line depend on the actors at an action alone
 same_words : (others actors : List ActorText) (i : Item) → (is_action (keyword_for i) ≡ true → others ≡ actors) → item_words actors i ≡ item_words others i
 same_words others actors (Header version) h = refl
-same_words others actors (Device name) h = refl
+same_words others actors (Device requested name) h = refl
 same_words others actors (Hint count) h = refl
 same_words others actors (Log count) h = refl
 same_words others actors (Realtime offset) h = refl

@@ -17,13 +17,13 @@ use Rattle.inp_record.specs.declared.place.Place.{Place}
 use Rattle.inp_record.specs.declared.place.Place.TheVariants.{Start, Headed, Describing, Naming, Acting}
 use Rattle.inp_record.specs.declared.context.TheConstants.{SLOTS_OF_VERSION_1}
 use Rattle.inp_record.specs.Place.{is_start, is_describing, is_naming, is_acting, is_out_of_place}
-use Rattle.inp_record.specs.Past.{Past, place_of, version_of, context_of, latest_name, latest_description, former_devices, devices_of, with_latest, actors_of, lines_of, stream_count, source_count, reader_count}
+use Rattle.inp_record.specs.Past.{Past, place_of, version_of, context_of, latest_name, is_requested, latest_description, former_devices, devices_of, with_latest, actors_of, lines_of, stream_count, source_count, reader_count, owner_count}
 use Rattle.inp_record.specs.Meaning.{has_too_many_slots, record_of}
 use Rattle.inp_record.specs.Spelling.{description_items, action_item_of}
-use Rattle.inp_record.proofs.Good.{push_get}
+use Rattle.inp_record.proofs.Good.{owner_parts, push_get}
 use Rattle.inp_record.proofs.Reading.{start_is}
 use Rattle.inp_record.proofs.Pasts.{code_slots, code_filters}
-use Rattle.inp_record.proofs.Sayable.{keyword_for_role, keyword_for_filter, are_early, IsAccepted, AreAccepted}
+use Rattle.inp_record.proofs.Sayable.{keyword_for_role, keyword_for_device, keyword_for_filter, are_early, IsAccepted, AreAccepted}
 use Rattle.inp_record.proofs.CanonPasts.{WereAccepted}
 use Rattle.inp_record.proofs.CanonLists.{head_items, all_items, AreBelow, head_device, head_actor, all_action, past_of_more}
 use Rattle.inp_record.proofs.MadeDescriptions.{AreDescribed, IsMade, made, built_slots, built_filters}
@@ -43,6 +43,7 @@ pub record IsLike (past new : Past) : Type 0 where
   pub place : place_of new ≡ place_of past
   pub version : version_of new ≡ version_of past
   pub name_is : latest_name new ≡ latest_name past
+  pub requested_is : is_requested new ≡ is_requested past
   pub former : former_devices new ≡ former_devices past
   pub described : built (latest_description new) ≡ built (latest_description past)
   pub actors : actors_of new ≡ actors_of past
@@ -50,24 +51,25 @@ pub record IsLike (past new : Past) : Type 0 where
   pub streams : stream_count new ≡ stream_count past
   pub sources : source_count new ≡ source_count past
   pub readers : reader_count new ≡ reader_count past
+  pub owners : owner_count new ≡ owner_count past
 
-same_devices : (former : List DeviceText) (name : Option (List ℕ)) (d e : Description) → built d ≡ built e → with_latest former name d ≡ with_latest former name e
-same_devices former None d e h = refl
-same_devices former (Some name) d e h = ap (λ (c : Description). former ++ record { name = name; caps = c } ∷ []) h
+same_devices : (former : List DeviceText) (name : Option (List ℕ)) (requested : Bool) (d e : Description) → built d ≡ built e → with_latest former name requested d ≡ with_latest former name requested e
+same_devices former None requested d e h = refl
+same_devices former (Some name) requested d e h = ap (λ (c : Description). former ++ record { name = name; caps = c; requested = requested } ∷ []) h
 
 pub devices_like : (past new : Past) → IsLike past new → devices_of new ≡ devices_of past
 devices_like past new h =
-    rw (h.former, h.name_is) (same_devices (former_devices past) (latest_name past) (latest_description new) (latest_description past) h.described)
+    rw (h.former, h.name_is, h.requested_is) (same_devices (former_devices past) (latest_name past) (is_requested past) (latest_description new) (latest_description past) h.described)
 
 pub record_like : (past new : Past) → IsLike past new → record_of new ≡ record_of past
 record_like past new h = rw (h.version, devices_like past new h, h.actors, h.lines, h.streams) refl
 
 -- the same line behind both
 
-device_like : (past new : Past) (name : List ℕ) → IsLike past new → IsAccepted past (Device name) → IsAccepted new (Device name)
-device_like past new name h a = record {
+device_like : (past new : Past) (requested : Bool) (name : List ℕ) → IsLike past new → IsAccepted past (Device requested name) → IsAccepted new (Device requested name)
+device_like past new requested name h a = record {
   sayable = a.sayable;
-  in_place = rw h.place a.in_place;
+  in_place = rw (h.place, h.requested_is, h.version) a.in_place;
   in_version = refl;
   once = rw (h.former, h.name_is) a.once;
   few = rw (h.former, h.name_is) a.few;
@@ -78,10 +80,10 @@ device_like past new name h a = record {
 actor_like : (past new : Past) (role : Role) (name : List ℕ) → IsLike past new → IsAccepted past (Actor role name) → IsAccepted new (Actor role name)
 actor_like past new role name h a = record {
   sayable = a.sayable;
-  in_place = rw (h.place, h.version) a.in_place;
+  in_place = rw (h.place, h.requested_is, h.version) a.in_place;
   in_version = refl;
   once = rw h.actors a.once;
-  few = rw (h.sources, h.readers) a.few;
+  few = rw (h.sources, h.owners, h.readers) a.few;
   few_slots = refl;
   fits = a.fits;
 }
@@ -102,6 +104,7 @@ like_actor past new role name h = record {
   place = refl;
   version = h.version;
   name_is = h.name_is;
+  requested_is = h.requested_is;
   former = h.former;
   described = h.described;
   actors = rw (h.actors, h.former) refl;
@@ -109,6 +112,7 @@ like_actor past new role name h = record {
   streams = h.streams;
   sources = rw h.sources refl;
   readers = rw h.readers refl;
+  owners = rw h.owners refl;
 }
 
 like_action : (past new : Past) (actor : ℕ) (command : Command) → IsLike past new → IsLike (Action actor command ∷ past) (Action actor command ∷ new)
@@ -116,6 +120,7 @@ like_action past new actor command h = record {
   place = refl;
   version = h.version;
   name_is = h.name_is;
+  requested_is = h.requested_is;
   former = h.former;
   described = h.described;
   actors = h.actors;
@@ -123,12 +128,13 @@ like_action past new actor command h = record {
   streams = rw h.streams refl;
   sources = h.sources;
   readers = h.readers;
+  owners = h.owners;
 }
 
 -- behind the lines of the devices before it, a device line is accepted
-pub record IsBase (version : ℕ) (name : List ℕ) (former : List DeviceText) (actors : List ActorText) : Type 0 where
+pub record IsBase (version : ℕ) (requested : Bool) (name : List ℕ) (former : List DeviceText) (actors : List ActorText) : Type 0 where
   pub heads : AreAccepted [] (head_items version actors former)
-  pub device : IsAccepted (past_of (head_items version actors former)) (Device name)
+  pub device : IsAccepted (past_of (head_items version actors former)) (Device requested name)
   pub version_is : version_of (past_of (head_items version actors former)) ≡ version
   pub former_is : devices_of (past_of (head_items version actors former)) ≡ former
   pub actors_are : actors_of (past_of (head_items version actors former)) ≡ actors
@@ -137,17 +143,18 @@ pub record IsBase (version : ℕ) (name : List ℕ) (former : List DeviceText) (
   pub below : AreBelow (length former) actors
 
 -- the latest device has only been described
-pub record IsBegun (version : ℕ) (latest : Option (List ℕ)) (former : List DeviceText) (actors : List ActorText) (lines : List Line) (streams sources readers : ℕ) : Type 0 where
+pub record IsBegun (version : ℕ) (latest : Option (List ℕ)) (requested : Bool) (former : List DeviceText) (actors : List ActorText) (lines : List Line) (streams sources readers owners : ℕ) : Type 0 where
   pub name : List ℕ
   pub name_is : latest ≡ Some name
-  pub base : IsBase version name former actors
+  pub base : IsBase version requested name former actors
   pub no_lines : lines ≡ []
   pub no_streams : streams ≡ 0
   pub no_sources : sources ≡ 0
   pub no_readers : readers ≡ 0
+  pub no_owners : owners ≡ 0
 
 abbrev pub IsDescribing : Past → Type 0
-IsDescribing past = IsBegun (version_of past) (latest_name past) (former_devices past) (actors_of past) (lines_of past) (stream_count past) (source_count past) (reader_count past)
+IsDescribing past = IsBegun (version_of past) (latest_name past) (is_requested past) (former_devices past) (actors_of past) (lines_of past) (stream_count past) (source_count past) (reader_count past) (owner_count past)
 
 -- the latest device has no more slots than its version allows, and filters where its version has them
 pub record FitsVersion (past : Past) : Type 0 where
@@ -160,14 +167,14 @@ pub record IsAgain (past : Past) : Type 0 where
   pub like : IsLike past (past_of (canon past))
 
 -- the canonical items of a past whose latest device has only been described
-canon_described : (past : Past) (b : IsDescribing past) → canon past ≡ head_items (version_of past) (actors_of past) (former_devices past) ++ Device b.name ∷ description_items (built (latest_description past))
+canon_described : (past : Past) (b : IsDescribing past) → canon past ≡ head_items (version_of past) (actors_of past) (former_devices past) ++ Device (is_requested past) b.name ∷ description_items (built (latest_description past))
 canon_described past b =
     let actors = actors_of past in
     let former = former_devices past in
-    let d : DeviceText = record { name = b.name; caps = built (latest_description past) } in
+    let d : DeviceText = record { name = b.name; caps = built (latest_description past); requested = is_requested past } in
     ap (λ (ls : List Line). head_items (version_of past) actors (devices_of past) ++ map action_item_of ls) b.no_lines
     ∙ append-nil (head_items (version_of past) actors (devices_of past))
-    ∙ ap (λ (n : Option (List ℕ)). head_items (version_of past) actors (with_latest former n (latest_description past))) b.name_is
+    ∙ ap (λ (n : Option (List ℕ)). head_items (version_of past) actors (with_latest former n (is_requested past) (latest_description past))) b.name_is
     ∙ head_device (version_of past) actors former d b.base.below
 
 again_described : (past : Past) → place_of past ≡ Describing → IsMade (built (latest_description past)) → FitsVersion past → IsDescribing past → IsAgain past
@@ -176,23 +183,25 @@ again_described past at m few b =
     let heads = head_items (version_of past) (actors_of past) (former_devices past) in
     let base = past_of heads in
     let is = canon_described past b in
-    let behind : past_of (heads ++ Device b.name ∷ description_items d) ≡ reverse (description_items d) ++ Device b.name ∷ base = past_of_more heads (Device b.name) (description_items d) [] in
-    let h = description-behind d b.name base in
-    let like : IsLike past (reverse (description_items d) ++ Device b.name ∷ base) = record {
+    let behind : past_of (heads ++ Device (is_requested past) b.name ∷ description_items d) ≡ reverse (description_items d) ++ Device (is_requested past) b.name ∷ base = past_of_more heads (Device (is_requested past) b.name) (description_items d) [] in
+    let h = description-behind d (is_requested past) b.name base in
+    let like : IsLike past (reverse (description_items d) ++ Device (is_requested past) b.name ∷ base) = record {
       place = h.place ∙ sym at;
       version = h.version ∙ b.base.version_is;
       name_is = h.name_is ∙ sym b.name_is;
+      requested_is = h.requested_is;
       former = h.devices ∙ b.base.former_is;
-      described = built-again d b.name base m;
+      described = built-again d (is_requested past) b.name base m;
       actors = h.actors ∙ b.base.actors_are;
       lines = h.lines ∙ b.base.no_lines ∙ sym b.no_lines;
       streams = h.streams ∙ b.base.no_streams ∙ sym b.no_streams;
       sources = h.sources ∙ sym b.no_sources;
       readers = h.readers ∙ sym b.no_readers;
+      owners = h.owners ∙ sym b.no_owners;
     } in
     let P : List Item → Type 0 = λ x. AreAccepted [] x in
     record {
-      accepted = subst P (sym is) (accepted-append [] heads (Device b.name ∷ description_items d) b.base.heads (b.base.device, description-accepted d b.name base m (rw (b.base.version_is, built_slots (latest_description past)) few.slots) (rw (b.base.version_is, built_filters (latest_description past)) few.filters)));
+      accepted = subst P (sym is) (accepted-append [] heads (Device (is_requested past) b.name ∷ description_items d) b.base.heads (b.base.device, description-accepted d (is_requested past) b.name base m (rw (b.base.version_is, built_slots (latest_description past)) few.slots) (rw (b.base.version_is, built_filters (latest_description past)) few.filters)));
       like = subst (λ (x : Past). IsLike past x) (sym (ap past_of is ∙ behind)) like;
     }
 
@@ -218,7 +227,7 @@ pub record IsKept (past : Past) : Type 0 where
 described : (past : Past) → WereAccepted past → AreDescribed past
 described [] h = tt
 described (Header version ∷ past) h = (h.0.fits, tt, described past h.1)
-described (Device name ∷ past) h = (h.0.fits, tt, described past h.1)
+described (Device requested name ∷ past) h = (h.0.fits, tt, described past h.1)
 described (Hint count ∷ past) h = (h.0.fits, tt, described past h.1)
 described (Log count ∷ past) h = (h.0.fits, tt, described past h.1)
 described (Realtime offset ∷ past) h = (h.0.fits, tt, described past h.1)
@@ -259,7 +268,7 @@ few_slots (Header version ∷ past) h =
     let none : [] ≡ past = sym (start_is past (starting (place_of past) h.0.in_place)) in
     let P : Past → Type 0 = λ x. has_too_many_slots (context_of (Header version ∷ x)) (Slots (latest_description x).slots) ≡ false in
     subst P none (few_none version)
-few_slots (Device name ∷ past) h = few_none (version_of past)
+few_slots (Device requested name ∷ past) h = few_none (version_of past)
 few_slots (Hint count ∷ past) h = few_slots past h.1
 few_slots (Log count ∷ past) h = few_slots past h.1
 few_slots (Realtime offset ∷ past) h = few_slots past h.1
@@ -282,7 +291,7 @@ late_filters (Header version ∷ past) h =
     let none : [] ≡ past = sym (start_is past (starting (place_of past) h.0.in_place)) in
     let P : Past → Type 0 = λ x. are_early version (latest_description x).filters ≡ false in
     subst P none refl
-late_filters (Device name ∷ past) h = refl
+late_filters (Device requested name ∷ past) h = refl
 late_filters (Hint count ∷ past) h = late_filters past h.1
 late_filters (Log count ∷ past) h = late_filters past h.1
 late_filters (Realtime offset ∷ past) h = late_filters past h.1
@@ -303,7 +312,7 @@ kept_first : (version : ℕ) → IsAccepted [] (Header version) → IsKept (Head
 kept_first version a = record {
   again = record {
     accepted = (a, tt);
-    like = record { place = refl; version = refl; name_is = refl; former = refl; described = refl; actors = refl; lines = refl; streams = refl; sources = refl; readers = refl };
+    like = record { place = refl; version = refl; name_is = refl; requested_is = refl; former = refl; described = refl; actors = refl; lines = refl; streams = refl; sources = refl; readers = refl; owners = refl };
   };
   begun = λ e. absurd (cc e);
   named = λ e. absurd (cc e);
@@ -322,7 +331,7 @@ kept_header past version a =
 
 kept_describing : (past : Past) → place_of past ≡ Describing → IsMade (built (latest_description past)) → FitsVersion past → IsDescribing past → IsKept past
 kept_describing past at m few b =
-    let one : devices_of past ≡ former_devices past ++ record { name = b.name; caps = built (latest_description past) } ∷ [] = ap (λ (n : Option (List ℕ)). with_latest (former_devices past) n (latest_description past)) b.name_is in
+    let one : devices_of past ≡ former_devices past ++ record { name = b.name; caps = built (latest_description past); requested = is_requested past } ∷ [] = ap (λ (n : Option (List ℕ)). with_latest (former_devices past) n (is_requested past) (latest_description past)) b.name_is in
     let count : length (devices_of past) ≡ length (former_devices past) + 1 = ap length one ∙ length-append (former_devices past) _ in
     record {
       again = again_described past at m few b;
@@ -339,15 +348,19 @@ canon_quiet past h =
     ap (λ (ls : List Line). head_items (version_of past) (actors_of past) (devices_of past) ++ map action_item_of ls) h
     ∙ append-nil (head_items (version_of past) (actors_of past) (devices_of past))
 
-kept_device : (past : Past) (name : List ℕ) → IsKept past → IsAccepted past (Device name) → IsMade (built (latest_description (Device name ∷ past))) → FitsVersion (Device name ∷ past) → IsKept (Device name ∷ past)
-kept_device past name k a m few =
-    let quiet : is_acting (place_of past) ≡ false = a.in_place.1 in
+device_place : (requested : Bool) (p : Place) (latest : Bool) → is_out_of_place p latest (keyword_for_device requested) ≡ false → is_acting p ≡ false
+device_place true p latest e = e
+device_place false p latest e = e
+
+kept_device : (past : Past) (requested : Bool) (name : List ℕ) → IsKept past → IsAccepted past (Device requested name) → IsMade (built (latest_description (Device requested name ∷ past))) → FitsVersion (Device requested name ∷ past) → IsKept (Device requested name ∷ past)
+kept_device past requested name k a m few =
+    let quiet : is_acting (place_of past) ≡ false = device_place requested (place_of past) (is_requested past) a.in_place.1 in
     let is = canon_quiet past (k.no_lines quiet) in
     let P : List Item → Type 0 = λ x. AreAccepted [] x in
     let like : IsLike past (past_of (head_items (version_of past) (actors_of past) (devices_of past))) = subst (λ (x : List Item). IsLike past (past_of x)) is k.again.like in
-    let base : IsBase (version_of past) name (devices_of past) (actors_of past) = record {
+    let base : IsBase (version_of past) requested name (devices_of past) (actors_of past) = record {
       heads = subst P is k.again.accepted;
-      device = device_like past (past_of (head_items (version_of past) (actors_of past) (devices_of past))) name like a;
+      device = device_like past (past_of (head_items (version_of past) (actors_of past) (devices_of past))) requested name like a;
       version_is = like.version;
       former_is = devices_like past (past_of (head_items (version_of past) (actors_of past) (devices_of past))) like;
       actors_are = like.actors;
@@ -355,7 +368,7 @@ kept_device past name k a m few =
       no_streams = like.streams ∙ k.no_streams quiet;
       below = k.below;
     } in
-    kept_describing (Device name ∷ past) refl m few (record {
+    kept_describing (Device requested name ∷ past) refl m few (record {
       name = name;
       name_is = refl;
       base = base;
@@ -363,15 +376,17 @@ kept_device past name k a m few =
       no_streams = k.no_streams quiet;
       no_sources = refl;
       no_readers = refl;
+      no_owners = refl;
     })
 
 -- an actor
 
-actor_place : (role : Role) (p : Place) → is_out_of_place p (keyword_for_role role) ≡ false → (is_describing p || is_naming p) ≡ true
-actor_place roles.Source p e = not-false (is_describing p || is_naming p) e
-actor_place roles.Client p e = not-false (is_describing p || is_naming p) e
-actor_place roles.Tap p e = not-false (is_describing p || is_naming p) e
-actor_place roles.Joy p e = not-false (is_describing p || is_naming p) e
+actor_place : (role : Role) (p : Place) (requested : Bool) → is_out_of_place p requested (keyword_for_role role) ≡ false → (is_describing p || is_naming p) ≡ true
+actor_place roles.Source p requested e = not-false (is_describing p || is_naming p) e
+actor_place roles.Client p requested e = not-false (is_describing p || is_naming p) e
+actor_place roles.Tap p requested e = not-false (is_describing p || is_naming p) e
+actor_place roles.Joy p requested e = not-false (is_describing p || is_naming p) e
+actor_place roles.Owner p requested e = (owner_parts (is_describing p || is_naming p) requested e).0
 
 not_acting : (p : Place) → (is_describing p || is_naming p) ≡ true → is_acting p ≡ false
 not_acting Start e = refl
@@ -386,12 +401,12 @@ some_name (Some name) e = (name, refl)
 
 kept_actor : (past : Past) (role : Role) (name : List ℕ) → IsKept past → IsAccepted past (Actor role name) → IsKept (Actor role name ∷ past)
 kept_actor past role name k a =
-    let place = actor_place role (place_of past) a.in_place.1 in
+    let place = actor_place role (place_of past) (is_requested past) a.in_place.1 in
     let quiet = not_acting (place_of past) place in
     let latest = some_name (latest_name past) (k.named place) in
-    let d : DeviceText = record { name = latest.0; caps = built (latest_description past) } in
+    let d : DeviceText = record { name = latest.0; caps = built (latest_description past); requested = is_requested past } in
     let new : ActorText = record { name = name; role = role; device = length (former_devices past) } in
-    let one : devices_of past ≡ former_devices past ++ d ∷ [] = ap (λ (n : Option (List ℕ)). with_latest (former_devices past) n (latest_description past)) latest.1 in
+    let one : devices_of past ≡ former_devices past ++ d ∷ [] = ap (λ (n : Option (List ℕ)). with_latest (former_devices past) n (is_requested past) (latest_description past)) latest.1 in
     let count : length (devices_of past) ≡ length (former_devices past) + 1 = ap length one ∙ length-append (former_devices past) (d ∷ []) in
     let is : canon (Actor role name ∷ past) ≡ canon past ++ Actor role name ∷ [] =
     canon_quiet (Actor role name ∷ past) (k.no_lines quiet)
@@ -425,17 +440,17 @@ kept_action past actor command k a =
     }
 
 -- a filter line stands in a description
-filter_describes : (p : Place) (f : filter.Filter) → is_out_of_place p (keyword_for_filter f) ≡ false → is_describing p ≡ true
-filter_describes p (filters.Eat kind code) h = not-false (is_describing p) h
-filter_describes p filters.Norepeat h = not-false (is_describing p) h
-filter_describes p (filters.Chord first second) h = not-false (is_describing p) h
-filter_describes p (filters.Bounce code micros) h = not-false (is_describing p) h
+filter_describes : (p : Place) (requested : Bool) (f : filter.Filter) → is_out_of_place p requested (keyword_for_filter f) ≡ false → is_describing p ≡ true
+filter_describes p requested (filters.Eat kind code) h = not-false (is_describing p) h
+filter_describes p requested filters.Norepeat h = not-false (is_describing p) h
+filter_describes p requested (filters.Chord first second) h = not-false (is_describing p) h
+filter_describes p requested (filters.Bounce code micros) h = not-false (is_describing p) h
 
 -- a past of accepted lines that has a header keeps all this
 pub kept : (past : Past) → WereAccepted past → is_start (place_of past) ≡ false → IsKept past
 kept [] h s = absurd (cc s)
 kept (Header version ∷ past) h s = kept_header past version h.0
-kept (Device name ∷ past) h s = kept_device past name (kept past h.1 h.0.in_place.0) h.0 (described_made (Device name ∷ past) h) (fits_version (Device name ∷ past) h)
+kept (Device requested name ∷ past) h s = kept_device past requested name (kept past h.1 h.0.in_place.0) h.0 (described_made (Device requested name ∷ past) h) (fits_version (Device requested name ∷ past) h)
 kept (Hint count ∷ past) h s =
     let k = kept past h.1 h.0.in_place.0 in
     kept_describing (Hint count ∷ past) refl (described_made (Hint count ∷ past) h) (fits_version (Hint count ∷ past) h) (k.begun (not-false (is_describing (place_of past)) h.0.in_place.1))
@@ -462,6 +477,6 @@ kept (Axis code info ∷ past) h s =
     kept_describing (Axis code info ∷ past) refl (described_made (Axis code info ∷ past) h) (fits_version (Axis code info ∷ past) h) (k.begun (not-false (is_describing (place_of past)) h.0.in_place.1))
 kept (Filter filter ∷ past) h s =
     let k = kept past h.1 h.0.in_place.0 in
-    kept_describing (Filter filter ∷ past) refl (described_made (Filter filter ∷ past) h) (fits_version (Filter filter ∷ past) h) (k.begun (filter_describes (place_of past) filter h.0.in_place.1))
+    kept_describing (Filter filter ∷ past) refl (described_made (Filter filter ∷ past) h) (fits_version (Filter filter ∷ past) h) (k.begun (filter_describes (place_of past) (is_requested past) filter h.0.in_place.1))
 kept (Actor role name ∷ past) h s = kept_actor past role name (kept past h.1 h.0.in_place.0) h.0
 kept (Action actor command ∷ past) h s = kept_action past actor command (kept past h.1 h.0.in_place.0) h.0

@@ -358,9 +358,9 @@ with_lists_again d e keys relatives miscs switches leds sounds p q r s t u = λ 
 numbers_of : Description → Description
 numbers_of d = record syn_alone { hint = d.hint; log_limit = d.log_limit; realtime = d.realtime; boottime = d.boottime; slots = d.slots }
 
-numbers_behind : (d : Description) (name : List ℕ) (past : Past) → latest_description (behind_items (slots_items d) (behind_items (number_items d) (Device name ∷ past))) ≡ numbers_of d
+numbers_behind : (d : Description) (requested : Bool) (name : List ℕ) (past : Past) → latest_description (behind_items (slots_items d) (behind_items (number_items d) (Device requested name ∷ past))) ≡ numbers_of d
 unfolding numbers_of
-numbers_behind d name past = slots_behind d (behind_items (number_items d) (Device name ∷ past)) refl
+numbers_behind d requested name past = slots_behind d (behind_items (number_items d) (Device requested name ∷ past)) refl
 
 types_behind : (d : Description) (past : Past) → AreKnownKinds d.kinds → latest_description past ≡ numbers_of d
     → latest_description (behind_items (flat_map (kind_items d) (range_with_len 1 EV_MAX)) past) ≡ record (numbers_of d) { kinds = d.kinds }
@@ -401,25 +401,25 @@ all_axes_behind d n past g enough before =
     ∙ ap (λ (x : Description). record x { axes = put_codes (supports d EV_ABS) 0 n x.axes; infos = put_all (supports d EV_ABS) (info d) 0 n x.infos }) before
     ∙ λ i. record d { axes = axes i; infos = infos i; filters = [] }
 
-sections_again : (d : Description) (name : List ℕ) (past : Past) (codes axes : ℕ) → IsGathered d → 768 ≤ codes → 64 ≤ axes
-    → latest_description (behind_items (number_items d ++ (slots_items d ++ (flat_map (kind_items d) (range_with_len 1 EV_MAX) ++ (flat_map (λ kind. flat_map (code_items d kind) (range_with_len 0 codes)) coded_kinds ++ flat_map (axis_items d) (range_with_len 0 axes))))) (Device name ∷ past)) ≡ record d { filters = [] }
-sections_again d name past codes axes g enough_codes enough_axes =
+sections_again : (d : Description) (requested : Bool) (name : List ℕ) (past : Past) (codes axes : ℕ) → IsGathered d → 768 ≤ codes → 64 ≤ axes
+    → latest_description (behind_items (number_items d ++ (slots_items d ++ (flat_map (kind_items d) (range_with_len 1 EV_MAX) ++ (flat_map (λ kind. flat_map (code_items d kind) (range_with_len 0 codes)) coded_kinds ++ flat_map (axis_items d) (range_with_len 0 axes))))) (Device requested name ∷ past)) ≡ record d { filters = [] }
+sections_again d requested name past codes axes g enough_codes enough_axes =
     let kinds_section : List Item = flat_map (kind_items d) (range_with_len 1 EV_MAX) in
     let caps_section : List Item = flat_map (λ kind. flat_map (code_items d kind) (range_with_len 0 codes)) coded_kinds in
     let axes_section : List Item = flat_map (axis_items d) (range_with_len 0 axes) in
-    let numbers : Past = behind_items (number_items d) (Device name ∷ past) in
+    let numbers : Past = behind_items (number_items d) (Device requested name ∷ past) in
     let slots : Past = behind_items (slots_items d) numbers in
     let types : Past = behind_items kinds_section slots in
     let caps : Past = behind_items caps_section types in
     ap latest_description
-    (behind_items-append (number_items d) (slots_items d ++ (kinds_section ++ (caps_section ++ axes_section))) (Device name ∷ past)
+    (behind_items-append (number_items d) (slots_items d ++ (kinds_section ++ (caps_section ++ axes_section))) (Device requested name ∷ past)
     ∙ behind_items-append (slots_items d) (kinds_section ++ (caps_section ++ axes_section)) numbers
     ∙ behind_items-append kinds_section (caps_section ++ axes_section) slots
     ∙ behind_items-append caps_section axes_section types)
     ∙ all_axes_behind d axes caps g enough_axes
     (all_caps_behind d codes types g enough_codes
-    (types_behind d slots g.kinds (numbers_behind d name past)))
+    (types_behind d slots g.kinds (numbers_behind d requested name past)))
 
-pub plain-again : (d : Description) (name : List ℕ) (past : Past) → IsMade d → latest_description (behind_items (plain_items d) (Device name ∷ past)) ≡ record d { filters = [] }
+pub plain-again : (d : Description) (requested : Bool) (name : List ℕ) (past : Past) → IsMade d → latest_description (behind_items (plain_items d) (Device requested name ∷ past)) ≡ record d { filters = [] }
 unfolding plain_items
-plain-again d name past made = sections_again d name past (KEY_MAX + 1) (ABS_MAX + 1) made.gathered (omega arith) (omega arith)
+plain-again d requested name past made = sections_again d requested name past (KEY_MAX + 1) (ABS_MAX + 1) made.gathered (omega arith) (omega arith)

@@ -15,7 +15,7 @@ use Rattle.inp_record.specs.declared.item.Item.TheVariants.{Device, Slots, Filte
 use Rattle.inp_record.specs.declared.place.Place.{Place}
 use Rattle.inp_record.specs.declared.place.Place.TheVariants.{Describing}
 use Rattle.inp_record.specs.Place.{is_start, is_out_of_place}
-use Rattle.inp_record.specs.Past.{Past, place_of, version_of, context_of, latest_description}
+use Rattle.inp_record.specs.Past.{Past, place_of, version_of, context_of, is_requested, latest_description}
 use Rattle.inp_record.specs.Meaning.{has_too_many_slots, refused_by}
 use Rattle.inp_record.specs.Spelling.{plain_items, filter_items, description_items}
 use Rattle.inp_record.proofs.Sayable.{keyword_for_filter, are_early, IsSayableFilter, IsAccepted, AreAccepted}
@@ -34,11 +34,11 @@ filter_sayable (filters.Chord first second) h = (grind (arith, nat_tests), grind
 filter_sayable (filters.Bounce code micros) h = (grind (arith, nat_tests), grind (arith, nat_tests), grind (arith, nat_tests))
 
 -- it may stand in a description
-filter_place : (f : filter.Filter) → is_out_of_place Describing (keyword_for_filter f) ≡ false
-filter_place (filters.Eat kind code) = refl
-filter_place filters.Norepeat = refl
-filter_place (filters.Chord first second) = refl
-filter_place (filters.Bounce code micros) = refl
+filter_place : (requested : Bool) (f : filter.Filter) → is_out_of_place Describing requested (keyword_for_filter f) ≡ false
+filter_place requested (filters.Eat kind code) = refl
+filter_place requested filters.Norepeat = refl
+filter_place requested (filters.Chord first second) = refl
+filter_place requested (filters.Bounce code micros) = refl
 
 -- no builder refuses it where there is room for it
 filter_fits : (good full : Bool) → good ≡ true → full ≡ false → refused_by (if not good then Err BadCode else if full then Err BadFilter else Ok (tt {0})) ≡ None
@@ -49,7 +49,7 @@ filter_accepted past f at later good room =
     let full : nat_eq (length (latest_description past).filters) FILTERS_MAX ≡ false = ne_eqb (length (latest_description past).filters) FILTERS_MAX (λ e. absurd (omega arith)) in
     record {
       sayable = filter_sayable f good;
-      in_place = (ap is_start at, ap (λ (p : Place). is_out_of_place p (keyword_for_filter f)) at ∙ filter_place f, later);
+      in_place = (ap is_start at, ap (λ (p : Place). is_out_of_place p (is_requested past) (keyword_for_filter f)) at ∙ filter_place (is_requested past) f, later);
       in_version = refl;
       once = refl;
       few = refl;
@@ -84,31 +84,31 @@ filters_describe [] = refl
 filters_describe (f ∷ fs) = and_from true (list_all is_describing_item (filters_of fs)) refl (filters_describe fs)
 
 -- The canonical items of a description are accepted behind the line of its device, where its version has its filters.
-pub description-accepted : (d : Description) (name : List ℕ) (past : Past) → IsMade d → has_too_many_slots (context_of past) (Slots d.slots) ≡ false → are_early (version_of past) d.filters ≡ false → AreAccepted (Device name ∷ past) (description_items d)
+pub description-accepted : (d : Description) (requested : Bool) (name : List ℕ) (past : Past) → IsMade d → has_too_many_slots (context_of past) (Slots d.slots) ≡ false → are_early (version_of past) d.filters ≡ false → AreAccepted (Device requested name ∷ past) (description_items d)
 unfolding description_items
-description-accepted d name past made few_slots later =
-    let behind : Past = behind_items (plain_items d) (Device name ∷ past) in
-    let h = plain-behind d name past in
-    let none : (latest_description behind).filters ≡ [] = ap (λ (x : Description). x.filters) (plain-again d name past made) in
-    accepted_then (Device name ∷ past) (plain_items d) (filter_items d) (plain-accepted d name past made few_slots)
+description-accepted d requested name past made few_slots later =
+    let behind : Past = behind_items (plain_items d) (Device requested name ∷ past) in
+    let h = plain-behind d requested name past in
+    let none : (latest_description behind).filters ≡ [] = ap (λ (x : Description). x.filters) (plain-again d requested name past made) in
+    accepted_then (Device requested name ∷ past) (plain_items d) (filter_items d) (plain-accepted d requested name past made few_slots)
     (filters_accepted d.filters behind h.place (ap (λ (v : ℕ). are_early v d.filters) h.version ∙ later) (subst (λ (l : List filter.Filter). AreFilters (l ++ d.filters)) (sym none) made.gathered.filters))
 
 items_behind : (d : Description) (past : Past) → behind_items (filter_items d) (behind_items (plain_items d) past) ≡ reverse (description_items d) ++ past
 unfolding description_items
 items_behind d past = sym (behind_items-append (plain_items d) (filter_items d) past) ∙ behind_items-reverse (plain_items d ++ filter_items d) past
 
-pub description-behind : (d : Description) (name : List ℕ) (past : Past) → IsDescribedBehind name past (reverse (description_items d) ++ Device name ∷ past)
-description-behind d name past =
-    subst (λ (p : Past). IsDescribedBehind name past p) (items_behind d (Device name ∷ past))
-    (described_behind (filter_items d) name past (behind_items (plain_items d) (Device name ∷ past)) (filters_describe d.filters) (plain-behind d name past))
+pub description-behind : (d : Description) (requested : Bool) (name : List ℕ) (past : Past) → IsDescribedBehind requested name past (reverse (description_items d) ++ Device requested name ∷ past)
+description-behind d requested name past =
+    subst (λ (p : Past). IsDescribedBehind requested name past p) (items_behind d (Device requested name ∷ past))
+    (described_behind (filter_items d) requested name past (behind_items (plain_items d) (Device requested name ∷ past)) (filters_describe d.filters) (plain-behind d requested name past))
 
 -- The canonical items of a description give that description again.
-described-again : (d : Description) (name : List ℕ) (past : Past) → IsMade d → latest_description (reverse (description_items d) ++ Device name ∷ past) ≡ d
-described-again d name past made =
-    ap latest_description (sym (items_behind d (Device name ∷ past)))
-    ∙ filters_behind d.filters (behind_items (plain_items d) (Device name ∷ past))
-    ∙ ap (λ (x : Description). record x { filters = x.filters ++ d.filters }) (plain-again d name past made)
+described-again : (d : Description) (requested : Bool) (name : List ℕ) (past : Past) → IsMade d → latest_description (reverse (description_items d) ++ Device requested name ∷ past) ≡ d
+described-again d requested name past made =
+    ap latest_description (sym (items_behind d (Device requested name ∷ past)))
+    ∙ filters_behind d.filters (behind_items (plain_items d) (Device requested name ∷ past))
+    ∙ ap (λ (x : Description). record x { filters = x.filters ++ d.filters }) (plain-again d requested name past made)
 
 -- The description that is built of them is that description too.
-pub built-again : (d : Description) (name : List ℕ) (past : Past) → IsMade d → built (latest_description (reverse (description_items d) ++ Device name ∷ past)) ≡ d
-built-again d name past made = ap built (described-again d name past made) ∙ made.whole
+pub built-again : (d : Description) (requested : Bool) (name : List ℕ) (past : Past) → IsMade d → built (latest_description (reverse (description_items d) ++ Device requested name ∷ past)) ≡ d
+built-again d requested name past made = ap built (described-again d requested name past made) ∙ made.whole

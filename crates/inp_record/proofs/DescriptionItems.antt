@@ -16,7 +16,7 @@ use Rattle.inp_record.specs.declared.item.Item.TheVariants.{Header, Device, Hint
 use Rattle.inp_record.specs.declared.place.Place.{Place}
 use Rattle.inp_record.specs.declared.place.Place.TheVariants.{Describing}
 use Rattle.inp_record.specs.Place.{is_start, is_out_of_place}
-use Rattle.inp_record.specs.Past.{Past, place_of, version_of, context_of, latest_name, former_devices, actors_of, lines_of, stream_count, source_count, reader_count, axes_of, has_slots}
+use Rattle.inp_record.specs.Past.{Past, place_of, version_of, context_of, latest_name, is_requested, former_devices, actors_of, lines_of, stream_count, source_count, reader_count, owner_count, axes_of, has_slots}
 use Rattle.inp_record.specs.Meaning.{has_too_many_slots}
 use Rattle.inp_record.specs.Spelling.{number_items, slots_items, kind_items, code_items, codes_items, axis_items, plain_items}
 use Rattle.inp_record.proofs.Sayable.{IsAccepted, AreAccepted, keyword_for}
@@ -53,44 +53,46 @@ accepted-append past xs ys a b =
 
 abbrev pub is_describing_item : Item → Bool
 is_describing_item (Header version) = false
-is_describing_item (Device name) = false
+is_describing_item (Device requested name) = false
 is_describing_item (Actor role name) = false
 is_describing_item (Action actor command) = false
 is_describing_item _ = true
 
 -- what stands behind the lines of a description as it did behind its device line
-pub record IsDescribedBehind (name : List ℕ) (past new : Past) : Type 0 where
+pub record IsDescribedBehind (requested : Bool) (name : List ℕ) (past new : Past) : Type 0 where
   pub place : place_of new ≡ Describing
   pub version : version_of new ≡ version_of past
   pub name_is : latest_name new ≡ Some name
-  pub devices : former_devices new ≡ former_devices (Device name ∷ past)
+  pub requested_is : is_requested new ≡ requested
+  pub devices : former_devices new ≡ former_devices (Device requested name ∷ past)
   pub actors : actors_of new ≡ actors_of past
   pub lines : lines_of new ≡ lines_of past
   pub streams : stream_count new ≡ stream_count past
   pub sources : source_count new ≡ 0
   pub readers : reader_count new ≡ 0
+  pub owners : owner_count new ≡ 0
 
 -- one such item more
-described_more : (name : List ℕ) (past new : Past) (i : Item) → is_describing_item i ≡ true → IsDescribedBehind name past new → IsDescribedBehind name past (i ∷ new)
-described_more name past new (Header version) e h = absurd (cc e)
-described_more name past new (Device n) e h = absurd (cc e)
-described_more name past new (Actor role n) e h = absurd (cc e)
-described_more name past new (Filter filter) e h = record { place = refl; version = h.version; name_is = h.name_is; devices = h.devices; actors = h.actors; lines = h.lines; streams = h.streams; sources = h.sources; readers = h.readers }
-described_more name past new (Action actor command) e h = absurd (cc e)
-described_more name past new (Hint count) e h = record { place = refl; version = h.version; name_is = h.name_is; devices = h.devices; actors = h.actors; lines = h.lines; streams = h.streams; sources = h.sources; readers = h.readers }
-described_more name past new (Log count) e h = record { place = refl; version = h.version; name_is = h.name_is; devices = h.devices; actors = h.actors; lines = h.lines; streams = h.streams; sources = h.sources; readers = h.readers }
-described_more name past new (Realtime offset) e h = record { place = refl; version = h.version; name_is = h.name_is; devices = h.devices; actors = h.actors; lines = h.lines; streams = h.streams; sources = h.sources; readers = h.readers }
-described_more name past new (Boottime offset) e h = record { place = refl; version = h.version; name_is = h.name_is; devices = h.devices; actors = h.actors; lines = h.lines; streams = h.streams; sources = h.sources; readers = h.readers }
-described_more name past new (Slots count) e h = record { place = refl; version = h.version; name_is = h.name_is; devices = h.devices; actors = h.actors; lines = h.lines; streams = h.streams; sources = h.sources; readers = h.readers }
-described_more name past new (Kind kind) e h = record { place = refl; version = h.version; name_is = h.name_is; devices = h.devices; actors = h.actors; lines = h.lines; streams = h.streams; sources = h.sources; readers = h.readers }
-described_more name past new (Code kind code) e h = record { place = refl; version = h.version; name_is = h.name_is; devices = h.devices; actors = h.actors; lines = h.lines; streams = h.streams; sources = h.sources; readers = h.readers }
-described_more name past new (Axis code info) e h = record { place = refl; version = h.version; name_is = h.name_is; devices = h.devices; actors = h.actors; lines = h.lines; streams = h.streams; sources = h.sources; readers = h.readers }
+described_more : (requested : Bool) (name : List ℕ) (past new : Past) (i : Item) → is_describing_item i ≡ true → IsDescribedBehind requested name past new → IsDescribedBehind requested name past (i ∷ new)
+described_more requested name past new (Header version) e h = absurd (cc e)
+described_more requested name past new (Device made n) e h = absurd (cc e)
+described_more requested name past new (Actor role n) e h = absurd (cc e)
+described_more requested name past new (Filter filter) e h = record { place = refl; version = h.version; name_is = h.name_is; requested_is = h.requested_is; devices = h.devices; actors = h.actors; lines = h.lines; streams = h.streams; sources = h.sources; owners = h.owners; readers = h.readers }
+described_more requested name past new (Action actor command) e h = absurd (cc e)
+described_more requested name past new (Hint count) e h = record { place = refl; version = h.version; name_is = h.name_is; requested_is = h.requested_is; devices = h.devices; actors = h.actors; lines = h.lines; streams = h.streams; sources = h.sources; owners = h.owners; readers = h.readers }
+described_more requested name past new (Log count) e h = record { place = refl; version = h.version; name_is = h.name_is; requested_is = h.requested_is; devices = h.devices; actors = h.actors; lines = h.lines; streams = h.streams; sources = h.sources; owners = h.owners; readers = h.readers }
+described_more requested name past new (Realtime offset) e h = record { place = refl; version = h.version; name_is = h.name_is; requested_is = h.requested_is; devices = h.devices; actors = h.actors; lines = h.lines; streams = h.streams; sources = h.sources; owners = h.owners; readers = h.readers }
+described_more requested name past new (Boottime offset) e h = record { place = refl; version = h.version; name_is = h.name_is; requested_is = h.requested_is; devices = h.devices; actors = h.actors; lines = h.lines; streams = h.streams; sources = h.sources; owners = h.owners; readers = h.readers }
+described_more requested name past new (Slots count) e h = record { place = refl; version = h.version; name_is = h.name_is; requested_is = h.requested_is; devices = h.devices; actors = h.actors; lines = h.lines; streams = h.streams; sources = h.sources; owners = h.owners; readers = h.readers }
+described_more requested name past new (Kind kind) e h = record { place = refl; version = h.version; name_is = h.name_is; requested_is = h.requested_is; devices = h.devices; actors = h.actors; lines = h.lines; streams = h.streams; sources = h.sources; owners = h.owners; readers = h.readers }
+described_more requested name past new (Code kind code) e h = record { place = refl; version = h.version; name_is = h.name_is; requested_is = h.requested_is; devices = h.devices; actors = h.actors; lines = h.lines; streams = h.streams; sources = h.sources; owners = h.owners; readers = h.readers }
+described_more requested name past new (Axis code info) e h = record { place = refl; version = h.version; name_is = h.name_is; requested_is = h.requested_is; devices = h.devices; actors = h.actors; lines = h.lines; streams = h.streams; sources = h.sources; owners = h.owners; readers = h.readers }
 
-pub described_behind : (items : List Item) (name : List ℕ) (past new : Past) → list_all is_describing_item items ≡ true → IsDescribedBehind name past new → IsDescribedBehind name past (behind_items items new)
-described_behind [] name past new all h = h
-described_behind (i ∷ items) name past new all h =
+pub described_behind : (items : List Item) (requested : Bool) (name : List ℕ) (past new : Past) → list_all is_describing_item items ≡ true → IsDescribedBehind requested name past new → IsDescribedBehind requested name past (behind_items items new)
+described_behind [] requested name past new all h = h
+described_behind (i ∷ items) requested name past new all h =
     let parts = and_parts (is_describing_item i) (list_all is_describing_item items) all in
-    described_behind items name past (i ∷ new) parts.1 (described_more name past new i parts.0 h)
+    described_behind items requested name past (i ∷ new) parts.1 (described_more requested name past new i parts.0 h)
 
 all_if : (b : Bool) (i : Item) → is_describing_item i ≡ true → list_all is_describing_item (if b then i ∷ [] else []) ≡ true
 all_if true i e = and_from (is_describing_item i) true e refl
@@ -120,10 +122,10 @@ all_describe d =
     (all_each (codes_items d) (λ kind. all_each (code_items d kind) (λ code. all_if (supports d kind code) _ refl) (range_with_len 0 (KEY_MAX + 1))) coded_kinds)
     (all_each (axis_items d) (λ code. all_if (supports d EV_ABS code) _ refl) (range_with_len 0 (ABS_MAX + 1))))))
 
-pub plain-behind : (d : Description) (name : List ℕ) (past : Past) → IsDescribedBehind name past (behind_items (plain_items d) (Device name ∷ past))
-plain-behind d name past =
-    described_behind (plain_items d) name past (Device name ∷ past) (all_describe d)
-    (record { place = refl; version = refl; name_is = refl; devices = refl; actors = refl; lines = refl; streams = refl; sources = refl; readers = refl })
+pub plain-behind : (d : Description) (requested : Bool) (name : List ℕ) (past : Past) → IsDescribedBehind requested name past (behind_items (plain_items d) (Device requested name ∷ past))
+plain-behind d requested name past =
+    described_behind (plain_items d) requested name past (Device requested name ∷ past) (all_describe d)
+    (record { place = refl; version = refl; name_is = refl; requested_is = refl; devices = refl; actors = refl; lines = refl; streams = refl; sources = refl; owners = refl; readers = refl })
 
 -- a section of lines behind which the latest device has described no axis
 
@@ -131,8 +133,8 @@ record IsOpen (past : Past) : Type 0 where
   place : place_of past ≡ Describing
   axes : axes_of past ≡ []
 
-pub in_place : (past : Past) (i : Item) → place_of past ≡ Describing → is_out_of_place Describing (keyword_for i) ≡ false → (is_start (place_of past) ≡ false) × (is_out_of_place (place_of past) (keyword_for i) ≡ false)
-in_place past i at fits = (ap is_start at, ap (λ (p : Place). is_out_of_place p (keyword_for i)) at ∙ fits)
+pub in_place : (past : Past) (i : Item) → place_of past ≡ Describing → is_out_of_place Describing (is_requested past) (keyword_for i) ≡ false → (is_start (place_of past) ≡ false) × (is_out_of_place (place_of past) (is_requested past) (keyword_for i) ≡ false)
+in_place past i at fits = (ap is_start at, ap (λ (p : Place). is_out_of_place p (is_requested past) (keyword_for i)) at ∙ fits)
 
 -- the types
 
@@ -265,8 +267,8 @@ axes_accepted d from (suc n) g past at below within =
 
 -- the numbers
 
-number_accepted : (d : Description) (name : List ℕ) (past : Past) → IsGathered d → AreOpen (Device name ∷ past) (number_items d)
-number_accepted d name past g =
+number_accepted : (d : Description) (requested : Bool) (name : List ℕ) (past : Past) → IsGathered d → AreOpen (Device requested name ∷ past) (number_items d)
+number_accepted d requested name past g =
     let n = g.numbers in
     let hint = and_parts (nat_le HINT_MIN d.hint) (nat_le d.hint HINT_MAX) n.hint in
     let hint_most : d.hint ≤ HINT_MAX = leb-true d.hint HINT_MAX hint.1 in
@@ -305,11 +307,11 @@ slots_accepted d past g few_slots fresh o =
 
 -- all sections: the numbers, the slots, the types, the codes, the axes
 
-sections_accepted : (d : Description) (name : List ℕ) (past : Past) (kinds codes axes : ℕ) → IsGathered d → has_too_many_slots (context_of past) (Slots d.slots) ≡ false → axes ≤ ABS_MAX + 1
-    → AreAccepted (Device name ∷ past) (number_items d ++ (slots_items d ++ (flat_map (kind_items d) (range_with_len 1 kinds) ++ (flat_map (λ kind. flat_map (code_items d kind) (range_with_len 0 codes)) coded_kinds ++ flat_map (axis_items d) (range_with_len 0 axes)))))
-sections_accepted d name past kinds codes axes g few_slots within =
-    let numbers = number_accepted d name past g in
-    let behind_numbers : Past = behind_items (number_items d) (Device name ∷ past) in
+sections_accepted : (d : Description) (requested : Bool) (name : List ℕ) (past : Past) (kinds codes axes : ℕ) → IsGathered d → has_too_many_slots (context_of past) (Slots d.slots) ≡ false → axes ≤ ABS_MAX + 1
+    → AreAccepted (Device requested name ∷ past) (number_items d ++ (slots_items d ++ (flat_map (kind_items d) (range_with_len 1 kinds) ++ (flat_map (λ kind. flat_map (code_items d kind) (range_with_len 0 codes)) coded_kinds ++ flat_map (axis_items d) (range_with_len 0 axes)))))
+sections_accepted d requested name past kinds codes axes g few_slots within =
+    let numbers = number_accepted d requested name past g in
+    let behind_numbers : Past = behind_items (number_items d) (Device requested name ∷ past) in
     let slots = slots_accepted d behind_numbers g few_slots refl numbers.1 in
     let behind_slots : Past = behind_items (slots_items d) behind_numbers in
     let types = kinds_accepted d 1 kinds g behind_slots slots.1 in
@@ -317,12 +319,12 @@ sections_accepted d name past kinds codes axes g few_slots within =
     let caps = caps_accepted d codes coded_kinds (all_listed d g) behind_types types.1 in
     let behind_caps : Past = behind_items (flat_map (λ kind. flat_map (code_items d kind) (range_with_len 0 codes)) coded_kinds) behind_types in
     let below : AreBelow 0 (axes_of behind_caps) = subst (AreBelow 0) (sym caps.1.axes) tt in
-    accepted_then (Device name ∷ past) (number_items d) _ numbers.0
+    accepted_then (Device requested name ∷ past) (number_items d) _ numbers.0
     (accepted_then behind_numbers (slots_items d) _ slots.0
     (accepted_then behind_slots (flat_map (kind_items d) (range_with_len 1 kinds)) _ types.0
     (accepted_then behind_types (flat_map (λ kind. flat_map (code_items d kind) (range_with_len 0 codes)) coded_kinds) (flat_map (axis_items d) (range_with_len 0 axes)) caps.0
     (axes_accepted d 0 axes g behind_caps caps.1.place below (omega arith)))))
 
-pub plain-accepted : (d : Description) (name : List ℕ) (past : Past) → IsMade d → has_too_many_slots (context_of past) (Slots d.slots) ≡ false → AreAccepted (Device name ∷ past) (plain_items d)
+pub plain-accepted : (d : Description) (requested : Bool) (name : List ℕ) (past : Past) → IsMade d → has_too_many_slots (context_of past) (Slots d.slots) ≡ false → AreAccepted (Device requested name ∷ past) (plain_items d)
 unfolding plain_items
-plain-accepted d name past made few_slots = sections_accepted d name past EV_MAX (KEY_MAX + 1) (ABS_MAX + 1) made.gathered few_slots (omega arith)
+plain-accepted d requested name past made few_slots = sections_accepted d requested name past EV_MAX (KEY_MAX + 1) (ABS_MAX + 1) made.gathered few_slots (omega arith)

@@ -11,25 +11,27 @@ use Rattle.inp_model.specs.Description.{Description}
 use Rattle.inp_model.specs.declared.filter.Filter.TheVariants as filters
 use Rattle.inp_actors.specs.declared.actor_text.TheConstants.{ACTORS_MAX}
 use Rattle.inp_actors.specs.declared.actor_text.ActorText.{ActorText}
+use Rattle.inp_actors.specs.declared.device_text.DeviceText.{DeviceText}
+use Rattle.inp_caps.specs.Builder.{built}
 use Rattle.inp_actors.specs.declared.line.Line.{Line}
 use Rattle.inp_actors.specs.declared.record.TheConstants.{VERSION_MAX}
 use Rattle.inp_actors.specs.declared.command.Command.{Command}
 use Rattle.inp_actors.specs.declared.command.Command.TheVariants as commands
 use Rattle.inp_actors.specs.declared.role.Role as role
 use Rattle.inp_actors.specs.declared.role.Role.TheVariants as roles
-use Rattle.inp_actors.specs.Command.{is_command_of, is_in_range, is_source, stream_of}
+use Rattle.inp_actors.specs.Command.{is_command_of, is_in_range, is_source, is_owner, is_reading, stream_of}
 use Rattle.inp_actors.specs.Record.{streams_of, IsRecord}
 use Rattle.inp_model.specs.Injecting.{AreInTime}
 use Rattle.inp_words.specs.Line.{is_comment, is_text, words_of}
 use Rattle.inp_record.specs.declared.cause.Cause.{Cause}
 use Rattle.inp_record.specs.declared.cause.Cause.TheVariants.{NotText}
-use Rattle.inp_record.specs.declared.context.TheConstants.{DEVICES_MAX, SOURCES_MAX, READERS_MAX}
+use Rattle.inp_record.specs.declared.context.TheConstants.{DEVICES_MAX, SOURCES_MAX, READERS_MAX, OWNERS_MAX}
 use Rattle.inp_record.specs.declared.item.Item as item
 use Rattle.inp_record.specs.declared.item.Item.TheVariants.{Header, Device, Hint, Log, Realtime, Boottime, Slots, Kind, Code, Axis, Filter, Actor, Action}
 use Rattle.inp_record.specs.declared.keyword.Keyword as keyword
 use Rattle.inp_record.specs.Place.{is_describing, is_naming, is_out_of_place}
 use Rattle.inp_record.specs.Words.{item_of, action_item, or_bad_word, plain_item, is_action}
-use Rattle.inp_record.specs.Past.{Past, place_of, latest_name, latest_description, former_devices, devices_of, with_latest, actors_of, lines_of, source_count, reader_count, stream_count, streams_in, version_of, context_of}
+use Rattle.inp_record.specs.Past.{Past, place_of, latest_name, is_requested, latest_description, former_devices, devices_of, with_latest, actors_of, lines_of, source_count, reader_count, owner_count, stream_count, streams_in, version_of, context_of}
 use Rattle.inp_record.specs.Meaning.{device_count, has_all, is_too_many, checked, item_of_words, behind, behind_words, behind_line, go_on, behind_lines, record_of}
 use Rattle.inp_record.proofs.Inversions.{IsAct, IsChecked, IsPlaced, keyword_for, checked_is, words_are, plain_keyword, act_is}
 use Rattle.inp_record.proofs.Rooms.{closed_length}
@@ -39,6 +41,16 @@ push_get [] y zero a e = inr (cc e)
 push_get [] y (suc i) a e = absurd (cc e)
 push_get (x ∷ xs) y zero a e = inl e
 push_get (x ∷ xs) y (suc i) a e = push_get xs y i a e
+
+-- the item that was pushed stands at the end
+push_at : {X : Type 0} (xs : List X) (y : X) (i : ℕ) (a : X) → slice_get (xs ++ y ∷ []) i ≡ Some a → (slice_get xs i ≡ Some a) ⊎ ((i ≡ length xs) × (a ≡ y))
+push_at [] y zero a e = inr (refl, cc e)
+push_at [] y (suc i) a e = absurd (cc e)
+push_at (x ∷ xs) y zero a e = inl e
+push_at (x ∷ xs) y (suc i) a e = elim (push_at xs y i a e) [
+  | inl g ↦ inl g
+  | inr g ↦ inr (ap (λ (k : ℕ). suc k) g.0, g.1)
+]
 
 front_get : {X : Type 0} (xs ys : List X) (i : ℕ) (a : X) → i < length xs → slice_get (xs ++ ys) i ≡ Some a → slice_get xs i ≡ Some a
 front_get [] ys i a h e = absurd (omega arith)
@@ -52,13 +64,31 @@ range_on a (suc n) m =
     let same : a + 1 + n ≡ a + suc n = omega arith in
     rw (next, range_on (a + 1) n m, same) refl
 
+-- an owner stands where an actor may, under a device made by requests
+pub owner_parts : (a b : Bool) → (not a || not b) ≡ false → (a ≡ true) × (b ≡ true)
+owner_parts true true e = (refl, refl)
+owner_parts true false e = absurd (cc e)
+owner_parts false b e = absurd (cc e)
+
+-- how many actors the latest device has
+abbrev actor_count : Past → ℕ
+actor_count past = source_count past + reader_count past + owner_count past
+
 -- Only a device has actors, and each device has only so many.
 pub record HasFewActors (past : Past) : Type 0 where
   pub devices : length (devices_of past) ≤ DEVICES_MAX
   pub sources : source_count past ≤ SOURCES_MAX
   pub readers : reader_count past ≤ READERS_MAX
-  pub latest : source_count past + reader_count past ≤ (if is_some (latest_name past) then SOURCES_MAX + READERS_MAX else 0)
-  pub all : length (actors_of past) ≤ (SOURCES_MAX + READERS_MAX) * length (former_devices past) + (source_count past + reader_count past)
+  pub owners : owner_count past ≤ OWNERS_MAX
+  pub latest : actor_count past ≤ (if is_some (latest_name past) then SOURCES_MAX + READERS_MAX + OWNERS_MAX else 0)
+  pub all : length (actors_of past) ≤ (SOURCES_MAX + READERS_MAX + OWNERS_MAX) * length (former_devices past) + actor_count past
+
+-- Only a device made by requests has an owner, and it has one.
+pub record HasFewOwners (past : Past) : Type 0 where
+  pub requested : (i : ℕ) (a : ActorText) (d : DeviceText) → slice_get (actors_of past) i ≡ Some a → a.role ≡ roles.Owner → slice_get (devices_of past) a.device ≡ Some d → d.requested ≡ true
+  pub one : (i k : ℕ) (a b : ActorText) → slice_get (actors_of past) i ≡ Some a → slice_get (actors_of past) k ≡ Some b → a.role ≡ roles.Owner → b.role ≡ roles.Owner → a.device ≡ b.device → i ≡ k
+  -- an owner of the latest device is counted
+  pub counted : (i : ℕ) (a : ActorText) → slice_get (actors_of past) i ≡ Some a → a.role ≡ roles.Owner → a.device ≡ length (former_devices past) → 1 ≤ owner_count past
 
 -- the lists of a past are those of a record, and no longer than so many
 pub record IsGood (n : ℕ) (past : Past) : Type 0 where
@@ -70,13 +100,14 @@ pub record IsGood (n : ℕ) (past : Past) : Type 0 where
   pub numbered : streams_of (lines_of past) ≡ range_with_len 0 (stream_count past)
   pub few_devices : length (devices_of past) ≤ n
   pub few_actors : HasFewActors past
+  pub few_owners : HasFewOwners past
   pub few_lines : length (lines_of past) ≤ n
   pub few_streams : stream_count past ≤ n
 
 -- a line that adds to none of the lists
 goes_on : (n : ℕ) (past new : Past) → IsGood n past → ((is_describing (place_of new) || is_naming (place_of new)) ≡ true → is_some (latest_name new) ≡ true)
-    → actors_of new ≡ actors_of past → lines_of new ≡ lines_of past → stream_count new ≡ stream_count past → length (devices_of new) ≡ length (devices_of past) → HasFewActors new → IsGood (suc n) new
-goes_on n past new good named a l s d few = record {
+    → actors_of new ≡ actors_of past → lines_of new ≡ lines_of past → stream_count new ≡ stream_count past → length (devices_of new) ≡ length (devices_of past) → HasFewActors new → HasFewOwners new → IsGood (suc n) new
+goes_on n past new good named a l s d few owners = record {
   named = named;
   devices = λ i x h. omega (arith, d, good.devices i x (rw a at h));
   actors = λ i x h. omega (arith, ap length a, good.actors i x (rw l at h));
@@ -85,13 +116,33 @@ goes_on n past new good named a l s d few = record {
   numbered = rw (l, s) good.numbered;
   few_devices = omega (arith, good.few_devices);
   few_actors = few;
+  few_owners = owners;
   few_lines = omega (arith, ap length l, good.few_lines);
   few_streams = omega (arith, good.few_streams);
 }
 
 -- as many devices, however the latest is described
-as_many : (past : Past) (d : Description) → length (with_latest (former_devices past) (latest_name past) d) ≡ length (devices_of past)
-as_many past d = closed_length (former_devices past) (latest_name past) d ∙ sym (closed_length (former_devices past) (latest_name past) (latest_description past))
+as_many : (past : Past) (d : Description) → length (with_latest (former_devices past) (latest_name past) (is_requested past) d) ≡ length (devices_of past)
+as_many past d = closed_length (former_devices past) (latest_name past) (is_requested past) d ∙ sym (closed_length (former_devices past) (latest_name past) (is_requested past) (latest_description past))
+
+-- however the latest device is described, the same devices are made by requests
+as_requested : (former : List DeviceText) (name : Option (List ℕ)) (requested : Bool) (d e : Description) (k : ℕ) (x : DeviceText) → slice_get (with_latest former name requested d) k ≡ Some x
+    → (y : DeviceText) × (slice_get (with_latest former name requested e) k ≡ Some y) × (y.requested ≡ x.requested)
+as_requested former None requested d e k x h = (x, h, refl)
+as_requested [] (Some name) requested d e zero x h =
+    let is : record { name = name; caps = built d; requested = requested } ≡ x = cc h in
+    (record { name = name; caps = built e; requested = requested }, refl, ap (λ (y : DeviceText). y.requested) is)
+as_requested [] (Some name) requested d e (suc k) x h = absurd (cc h)
+as_requested (f ∷ former) (Some name) requested d e zero x h = (f, refl, let is : f ≡ x = cc h in ap (λ (y : DeviceText). y.requested) is)
+as_requested (f ∷ former) (Some name) requested d e (suc k) x h = as_requested former (Some name) requested d e k x h
+
+-- the latest device is made by requests or is not
+latest_requested : (former : List DeviceText) (name : Option (List ℕ)) (requested : Bool) (d : Description) (x : DeviceText) → slice_get (with_latest former name requested d) (length former) ≡ Some x → x.requested ≡ requested
+latest_requested former None requested d x h = let less : length former < length former = slice_get_within former (length former) x h in absurd (omega arith)
+latest_requested former (Some name) requested d x h = elim (push_get former (record { name = name; caps = built d; requested = requested }) (length former) x h) [
+  | inl g ↦ let less : length former < length former = slice_get_within former (length former) x g in absurd (omega arith)
+  | inr g ↦ ap (λ (y : DeviceText). y.requested) g
+]
 
 describing : (p : Bool) → not p ≡ false → p ≡ true
 describing true e = refl
@@ -103,28 +154,39 @@ or_left false b h = absurd (cc h)
 
 -- a description of the latest device
 described : (n : ℕ) (past : Past) (new : Past) → IsGood n past → not (is_describing (place_of past)) ≡ false → latest_name new ≡ latest_name past
-    → actors_of new ≡ actors_of past → lines_of new ≡ lines_of past → stream_count new ≡ stream_count past → former_devices new ≡ former_devices past → source_count new ≡ source_count past → reader_count new ≡ reader_count past → IsGood (suc n) new
-described n past new good place name a l s f sources readers =
-    let long : length (devices_of new) ≡ length (devices_of past) = rw (f, name) (as_many past (latest_description new)) in
+    → actors_of new ≡ actors_of past → lines_of new ≡ lines_of past → stream_count new ≡ stream_count past → former_devices new ≡ former_devices past → source_count new ≡ source_count past → reader_count new ≡ reader_count past → is_requested new ≡ is_requested past → owner_count new ≡ owner_count past → IsGood (suc n) new
+described n past new good place name a l s f sources readers made owners =
+    let long : length (devices_of new) ≡ length (devices_of past) = rw (f, name, made) (as_many past (latest_description new)) in
+    let few_owners : HasFewOwners past = good.few_owners in
     let few : HasFewActors past = good.few_actors in
     goes_on n past new good (λ h. rw name (good.named (or_left (is_describing (place_of past)) (is_naming (place_of past)) (describing (is_describing (place_of past)) place)))) a l s long
     (record {
       devices = omega (arith, long, few.devices);
       sources = omega (arith, sources, few.sources);
       readers = omega (arith, readers, few.readers);
-      latest = rw (name, sources, readers) few.latest;
-      all = rw (a, f, sources, readers) few.all;
+      owners = omega (arith, owners, few.owners);
+      latest = rw (name, sources, readers, owners) few.latest;
+      all = rw (a, f, sources, readers, owners) few.all;
+    })
+    (record {
+      requested = λ i x d h r g.
+          let at : slice_get (with_latest (former_devices past) (latest_name past) (is_requested past) (latest_description new)) x.device ≡ Some d = rw (← f, ← name, ← made) g in
+          let old = as_requested (former_devices past) (latest_name past) (is_requested past) (latest_description new) (latest_description past) x.device d at in
+          sym old.2 ∙ few_owners.requested i x old.0 (rw a at h) r old.1;
+      one = λ i k x y h g. few_owners.one i k x y (rw a at h) (rw a at g);
+      counted = λ i x h r at. omega (arith, owners, few_owners.counted i x (rw a at h) r (at ∙ ap length f));
     })
 
 -- the actors before a device that is begun
-begun_all : (actors former all here : ℕ) (some : Bool) → actors ≤ 136 * former + here → here ≤ (if some then 136 else 0) → all ≡ former + (if some then 1 else 0) → actors ≤ 136 * all + 0
+begun_all : (actors former all here : ℕ) (some : Bool) → actors ≤ 137 * former + here → here ≤ (if some then 137 else 0) → all ≡ former + (if some then 1 else 0) → actors ≤ 137 * all + 0
 begun_all actors former all here true h k e = omega arith
 begun_all actors former all here false h k e = omega arith
 
-device_begun : (n : ℕ) (past : Past) (name : List ℕ) → IsGood n past → nat_le DEVICES_MAX (device_count (context_of past)) ≡ false → IsGood (suc n) (Device name ∷ past)
-device_begun n past name good enough =
-    let count : length (devices_of (Device name ∷ past)) ≡ length (devices_of past) + 1 = length-append (devices_of past) _ in
-    let before : length (devices_of past) ≡ length (former_devices past) + (if is_some (latest_name past) then 1 else 0) = closed_length (former_devices past) (latest_name past) (latest_description past) in
+device_begun : (n : ℕ) (past : Past) (requested : Bool) (name : List ℕ) → IsGood n past → nat_le DEVICES_MAX (device_count (context_of past)) ≡ false → IsGood (suc n) (Device requested name ∷ past)
+device_begun n past requested name good enough =
+    let count : length (devices_of (Device requested name ∷ past)) ≡ length (devices_of past) + 1 = length-append (devices_of past) _ in
+    let before : length (devices_of past) ≡ length (former_devices past) + (if is_some (latest_name past) then 1 else 0) = closed_length (former_devices past) (latest_name past) (is_requested past) (latest_description past) in
+    let few_owners : HasFewOwners past = good.few_owners in
     let less : length (former_devices past) + (if is_some (latest_name past) then 1 else 0) < 8 = grind (arith, nat_tests, enough) in
     let few : HasFewActors past = good.few_actors in
     record {
@@ -139,27 +201,86 @@ device_begun n past name good enough =
         devices = omega (arith, count, before, less);
         sources = omega arith;
         readers = omega arith;
+        owners = omega arith;
         latest = omega arith;
-        all = begun_all (length (actors_of past)) (length (former_devices past)) (length (devices_of past)) (source_count past + reader_count past) (is_some (latest_name past)) few.all few.latest before;
+        all = begun_all (length (actors_of past)) (length (former_devices past)) (length (devices_of past)) (actor_count past) (is_some (latest_name past)) few.all few.latest before;
+      };
+      few_owners = record {
+        requested = λ i x d h r g. few_owners.requested i x d h r (front_get (devices_of past) _ x.device d (good.devices i x h) g);
+        one = few_owners.one;
+        counted = λ i x h r at. let within : x.device < length (devices_of past) = good.devices i x h in absurd (omega (arith, within, at));
       };
       few_lines = omega (arith, good.few_lines);
       few_streams = omega (arith, good.few_streams);
     }
 
--- there was room for one actor more
-one_more : (source : Bool) (sources readers : ℕ) → sources ≤ 8 → readers ≤ 128 → (if source then nat_le 8 sources else nat_le 128 readers) ≡ false
-    → (sources + (if source then 1 else 0) ≤ 8) × (readers + (if source then 0 else 1) ≤ 128) × ((sources + (if source then 1 else 0)) + (readers + (if source then 0 else 1)) ≡ (sources + readers) + 1)
-one_more true sources readers h k e = (grind (arith, nat_tests, e), omega arith, omega arith)
-one_more false sources readers h k e = (omega arith, grind (arith, nat_tests, e), omega arith)
+-- there was room for one actor more, a source, an owner or another
+record IsOneMore (r : role.Role) (sources readers owners : ℕ) : Type 0 where
+  pub source_room : sources + (if is_source r then 1 else 0) ≤ 8
+  pub reader_room : readers + (if is_reading r then 1 else 0) ≤ 128
+  pub owner_room : owners + (if is_owner r then 1 else 0) ≤ 1
+  pub all : (sources + (if is_source r then 1 else 0)) + (readers + (if is_reading r then 1 else 0)) + (owners + (if is_owner r then 1 else 0)) ≡ (sources + readers + owners) + 1
 
-actor_added : (n : ℕ) (past : Past) (r : role.Role) (name : List ℕ) → IsGood n past → not (is_describing (place_of past) || is_naming (place_of past)) ≡ false → has_all (context_of past) r ≡ false → IsGood (suc n) (Actor r name ∷ past)
-actor_added n past r name good place enough =
-    let some : is_some (latest_name past) ≡ true = good.named (describing (is_describing (place_of past) || is_naming (place_of past)) place) in
+one_more : (r : role.Role) (sources readers owners : ℕ) → sources ≤ 8 → readers ≤ 128 → owners ≤ 1 → (if is_source r then nat_le 8 sources else if is_owner r then nat_le 1 owners else nat_le 128 readers) ≡ false → IsOneMore r sources readers owners
+one_more roles.Source sources readers owners h k l e = record { source_room = grind (arith, nat_tests, e); reader_room = omega arith; owner_room = omega arith; all = omega arith }
+one_more roles.Client sources readers owners h k l e = record { source_room = omega arith; reader_room = grind (arith, nat_tests, e); owner_room = omega arith; all = omega arith }
+one_more roles.Tap sources readers owners h k l e = record { source_room = omega arith; reader_room = grind (arith, nat_tests, e); owner_room = omega arith; all = omega arith }
+one_more roles.Joy sources readers owners h k l e = record { source_room = omega arith; reader_room = grind (arith, nat_tests, e); owner_room = omega arith; all = omega arith }
+one_more roles.Owner sources readers owners h k l e = record { source_room = omega arith; reader_room = omega arith; owner_room = grind (arith, nat_tests, e); all = omega arith }
+
+-- a new owner's device had none
+none_owned : (past : Past) (r : role.Role) → r ≡ roles.Owner → has_all (context_of past) r ≡ false → owner_count past < 1
+none_owned past r is enough =
+    let here : has_all (context_of past) roles.Owner ≡ false = subst (λ (x : role.Role). has_all (context_of past) x ≡ false) is enough in
+    grind (arith, nat_tests, here)
+
+-- an owner more
+owner_added : (past : Past) (r : role.Role) (name : List ℕ) → HasFewOwners past → ((r ≡ roles.Owner) → is_requested past ≡ true) → has_all (context_of past) r ≡ false → HasFewOwners (Actor r name ∷ past)
+owner_added past r name old made enough =
+    let new : ActorText = record { name = name; role = r; device = length (former_devices past) } in
+    let is_new : (x : ActorText) → x ≡ new → x.role ≡ roles.Owner → (r ≡ roles.Owner) × (x.device ≡ length (former_devices past)) = λ x e o.
+    (sym (ap (λ (y : ActorText). y.role) e) ∙ o, ap (λ (y : ActorText). y.device) e) in
+    record {
+      requested = λ i x d h o g. elim (push_get (actors_of past) new i x h) [
+        | inl k ↦ old.requested i x d k o g
+        | inr e ↦
+            let is = is_new x e o in
+            let at : slice_get (devices_of past) (length (former_devices past)) ≡ Some d = subst (λ (k : ℕ). slice_get (devices_of past) k ≡ Some d) is.1 g in
+            latest_requested (former_devices past) (latest_name past) (is_requested past) (latest_description past) d at ∙ made is.0
+      ];
+      one = λ i k x y h g o p same. elim (push_at (actors_of past) new i x h) [
+        | inl a ↦ elim (push_at (actors_of past) new k y g) [
+          | inl b ↦ old.one i k x y a b o p same
+          | inr b ↦
+              let is = is_new y b.1 p in
+              let none = none_owned past r is.0 enough in
+              let some = old.counted i x a o (same ∙ is.1) in
+              absurd (omega (arith, none, some))
+        ]
+        | inr a ↦
+            let is = is_new x a.1 o in
+            elim (push_at (actors_of past) new k y g) [
+              | inl b ↦
+                  let none = none_owned past r is.0 enough in
+                  let some = old.counted k y b p (sym same ∙ is.1) in
+                  absurd (omega (arith, none, some))
+              | inr b ↦ a.0 ∙ sym b.0
+            ]
+      ];
+      counted = λ i x h o at. elim (push_get (actors_of past) new i x h) [
+        | inl k ↦ let some = old.counted i x k o at in omega (arith, some)
+        | inr e ↦ let is = is_new x e o in rw is.0 (omega arith)
+      ];
+    }
+
+actor_added : (n : ℕ) (past : Past) (r : role.Role) (name : List ℕ) → IsGood n past → (is_describing (place_of past) || is_naming (place_of past)) ≡ true → ((r ≡ roles.Owner) → is_requested past ≡ true) → has_all (context_of past) r ≡ false → IsGood (suc n) (Actor r name ∷ past)
+actor_added n past r name good place made enough =
+    let some : is_some (latest_name past) ≡ true = good.named place in
     let new : ActorText = record { name = name; role = r; device = length (former_devices past) } in
     let size : length (actors_of past ++ new ∷ []) ≡ length (actors_of past) + 1 = length-append (actors_of past) (new ∷ []) in
-    let latest : length (devices_of past) ≡ length (former_devices past) + 1 = closed_length (former_devices past) (latest_name past) (latest_description past) ∙ ap (λ (b : Bool). length (former_devices past) + (if b then 1 else 0)) some in
+    let latest : length (devices_of past) ≡ length (former_devices past) + 1 = closed_length (former_devices past) (latest_name past) (is_requested past) (latest_description past) ∙ ap (λ (b : Bool). length (former_devices past) + (if b then 1 else 0)) some in
     let few : HasFewActors past = good.few_actors in
-    let more = one_more (is_source r) (source_count past) (reader_count past) few.sources few.readers enough in
+    let more = one_more r (source_count past) (reader_count past) (owner_count past) few.sources few.readers few.owners enough in
     record {
       named = λ h. some;
       devices = λ i x h. elim (push_get (actors_of past) new i x h) [
@@ -173,11 +294,13 @@ actor_added n past r name good place enough =
       few_devices = omega (arith, good.few_devices);
       few_actors = record {
         devices = few.devices;
-        sources = more.0;
-        readers = more.1;
-        latest = rw some (omega (arith, more.0, more.1));
-        all = omega (arith, size, few.all, more.2);
+        sources = more.source_room;
+        readers = more.reader_room;
+        owners = more.owner_room;
+        latest = rw some (omega (arith, more.source_room, more.reader_room, more.owner_room));
+        all = omega (arith, size, few.all, more.all);
       };
+      few_owners = owner_added past r name good.few_owners made enough;
       few_lines = omega (arith, good.few_lines);
       few_streams = omega (arith, good.few_streams);
     }
@@ -219,32 +342,39 @@ action_added n past actor c good act =
           ∙ ap (λ (k : ℕ). range_with_len 0 (stream_count past) ++ range_with_len k (streams_in c)) (omega arith)
           ∙ sym (range_on 0 (stream_count past) (streams_in c));
       few_devices = omega (arith, good.few_devices);
-      few_actors = (let few : HasFewActors past = good.few_actors in record { devices = few.devices; sources = few.sources; readers = few.readers; latest = few.latest; all = few.all });
+      few_actors = (let few : HasFewActors past = good.few_actors in record { devices = few.devices; sources = few.sources; readers = few.readers; owners = few.owners; latest = few.latest; all = few.all });
+      few_owners = (let old : HasFewOwners past = good.few_owners in record { requested = old.requested; one = old.one; counted = old.counted });
       few_lines = omega (arith, size, good.few_lines);
       few_streams = omega (arith, good.few_streams, few_in c);
     }
 
-plain_added : (n : ℕ) (past : Past) (i : item.Item) → IsGood n past → is_out_of_place (place_of past) (keyword_for i) ≡ false → is_action (keyword_for i) ≡ false → is_too_many (context_of past) i ≡ false → IsGood (suc n) (i ∷ past)
+plain_added : (n : ℕ) (past : Past) (i : item.Item) → IsGood n past → is_out_of_place (place_of past) (is_requested past) (keyword_for i) ≡ false → is_action (keyword_for i) ≡ false → is_too_many (context_of past) i ≡ false → IsGood (suc n) (i ∷ past)
 plain_added n past (Header version) good place plain enough =
     let few : HasFewActors past = good.few_actors in
-    goes_on n past (Header version ∷ past) good (λ h. absurd (cc h)) refl refl refl refl (record { devices = few.devices; sources = few.sources; readers = few.readers; latest = few.latest; all = few.all })
-plain_added n past (Device name) good place plain enough = device_begun n past name good enough
-plain_added n past (Hint count) good place plain enough = described n past (Hint count ∷ past) good place refl refl refl refl refl refl refl
-plain_added n past (Log count) good place plain enough = described n past (Log count ∷ past) good place refl refl refl refl refl refl refl
-plain_added n past (Realtime offset) good place plain enough = described n past (Realtime offset ∷ past) good place refl refl refl refl refl refl refl
-plain_added n past (Boottime offset) good place plain enough = described n past (Boottime offset ∷ past) good place refl refl refl refl refl refl refl
-plain_added n past (Slots count) good place plain enough = described n past (Slots count ∷ past) good place refl refl refl refl refl refl refl
-plain_added n past (Kind kind) good place plain enough = described n past (Kind kind ∷ past) good place refl refl refl refl refl refl refl
-plain_added n past (Code kind code) good place plain enough = described n past (Code kind code ∷ past) good place refl refl refl refl refl refl refl
-plain_added n past (Axis code info) good place plain enough = described n past (Axis code info ∷ past) good place refl refl refl refl refl refl refl
-plain_added n past (Filter (filters.Eat kind code)) good place plain enough = described n past (Filter (filters.Eat kind code) ∷ past) good place refl refl refl refl refl refl refl
-plain_added n past (Filter filters.Norepeat) good place plain enough = described n past (Filter filters.Norepeat ∷ past) good place refl refl refl refl refl refl refl
-plain_added n past (Filter (filters.Chord first second)) good place plain enough = described n past (Filter (filters.Chord first second) ∷ past) good place refl refl refl refl refl refl refl
-plain_added n past (Filter (filters.Bounce code micros)) good place plain enough = described n past (Filter (filters.Bounce code micros) ∷ past) good place refl refl refl refl refl refl refl
-plain_added n past (Actor roles.Source name) good place plain enough = actor_added n past roles.Source name good place enough
-plain_added n past (Actor roles.Client name) good place plain enough = actor_added n past roles.Client name good place enough
-plain_added n past (Actor roles.Tap name) good place plain enough = actor_added n past roles.Tap name good place enough
-plain_added n past (Actor roles.Joy name) good place plain enough = actor_added n past roles.Joy name good place enough
+    let owned : HasFewOwners past = good.few_owners in
+    goes_on n past (Header version ∷ past) good (λ h. absurd (cc h)) refl refl refl refl
+    (record { devices = few.devices; sources = few.sources; readers = few.readers; owners = few.owners; latest = few.latest; all = few.all })
+    (record { requested = owned.requested; one = owned.one; counted = owned.counted })
+plain_added n past (Device requested name) good place plain enough = device_begun n past requested name good enough
+plain_added n past (Hint count) good place plain enough = described n past (Hint count ∷ past) good place refl refl refl refl refl refl refl refl refl
+plain_added n past (Log count) good place plain enough = described n past (Log count ∷ past) good place refl refl refl refl refl refl refl refl refl
+plain_added n past (Realtime offset) good place plain enough = described n past (Realtime offset ∷ past) good place refl refl refl refl refl refl refl refl refl
+plain_added n past (Boottime offset) good place plain enough = described n past (Boottime offset ∷ past) good place refl refl refl refl refl refl refl refl refl
+plain_added n past (Slots count) good place plain enough = described n past (Slots count ∷ past) good place refl refl refl refl refl refl refl refl refl
+plain_added n past (Kind kind) good place plain enough = described n past (Kind kind ∷ past) good place refl refl refl refl refl refl refl refl refl
+plain_added n past (Code kind code) good place plain enough = described n past (Code kind code ∷ past) good place refl refl refl refl refl refl refl refl refl
+plain_added n past (Axis code info) good place plain enough = described n past (Axis code info ∷ past) good place refl refl refl refl refl refl refl refl refl
+plain_added n past (Filter (filters.Eat kind code)) good place plain enough = described n past (Filter (filters.Eat kind code) ∷ past) good place refl refl refl refl refl refl refl refl refl
+plain_added n past (Filter filters.Norepeat) good place plain enough = described n past (Filter filters.Norepeat ∷ past) good place refl refl refl refl refl refl refl refl refl
+plain_added n past (Filter (filters.Chord first second)) good place plain enough = described n past (Filter (filters.Chord first second) ∷ past) good place refl refl refl refl refl refl refl refl refl
+plain_added n past (Filter (filters.Bounce code micros)) good place plain enough = described n past (Filter (filters.Bounce code micros) ∷ past) good place refl refl refl refl refl refl refl refl refl
+plain_added n past (Actor roles.Source name) good place plain enough = actor_added n past roles.Source name good (describing (is_describing (place_of past) || is_naming (place_of past)) place) (λ e. absurd (cc e)) enough
+plain_added n past (Actor roles.Client name) good place plain enough = actor_added n past roles.Client name good (describing (is_describing (place_of past) || is_naming (place_of past)) place) (λ e. absurd (cc e)) enough
+plain_added n past (Actor roles.Tap name) good place plain enough = actor_added n past roles.Tap name good (describing (is_describing (place_of past) || is_naming (place_of past)) place) (λ e. absurd (cc e)) enough
+plain_added n past (Actor roles.Joy name) good place plain enough = actor_added n past roles.Joy name good (describing (is_describing (place_of past) || is_naming (place_of past)) place) (λ e. absurd (cc e)) enough
+plain_added n past (Actor roles.Owner name) good place plain enough =
+    let parts = owner_parts (is_describing (place_of past) || is_naming (place_of past)) (is_requested past) place in
+    actor_added n past roles.Owner name good parts.0 (λ e. parts.1) enough
 plain_added n past (Action actor command) good place plain enough = absurd (cc plain)
 
 pub or_bad_is : (o : Option item.Item) (i : item.Item) → or_bad_word o ≡ Ok i → o ≡ Some i
@@ -279,6 +409,7 @@ stays n past good = record {
   numbered = good.numbered;
   few_devices = omega (arith, good.few_devices);
   few_actors = good.few_actors;
+  few_owners = good.few_owners;
   few_lines = omega (arith, good.few_lines);
   few_streams = omega (arith, good.few_streams);
 }
@@ -329,7 +460,8 @@ none_good = record {
   ranges = λ i x y h g. absurd (cc h);
   numbered = refl;
   few_devices = omega arith;
-  few_actors = record { devices = omega arith; sources = omega arith; readers = omega arith; latest = omega arith; all = omega arith };
+  few_actors = record { devices = omega arith; sources = omega arith; readers = omega arith; owners = omega arith; latest = omega arith; all = omega arith };
+  few_owners = record { requested = λ i x d h r g. absurd (cc h); one = λ i k x y h g. absurd (cc h); counted = λ i x h r at. absurd (cc h) };
   few_lines = omega arith;
   few_streams = omega arith;
 }
@@ -345,8 +477,8 @@ empty_length (suc n) = omega (arith, empty_length n)
 
 all_few : (past : Past) → HasFewActors past → length (actors_of past) ≤ ACTORS_MAX
 all_few past few =
-    let before : length (devices_of past) ≡ length (former_devices past) + (if is_some (latest_name past) then 1 else 0) = closed_length (former_devices past) (latest_name past) (latest_description past) in
-    let most : length (actors_of past) ≤ 136 * length (devices_of past) + 0 = begun_all (length (actors_of past)) (length (former_devices past)) (length (devices_of past)) (source_count past + reader_count past) (is_some (latest_name past)) few.all few.latest before in
+    let before : length (devices_of past) ≡ length (former_devices past) + (if is_some (latest_name past) then 1 else 0) = closed_length (former_devices past) (latest_name past) (is_requested past) (latest_description past) in
+    let most : length (actors_of past) ≤ 137 * length (devices_of past) + 0 = begun_all (length (actors_of past)) (length (former_devices past)) (length (devices_of past)) (actor_count past) (is_some (latest_name past)) few.all few.latest before in
     omega (arith, most, few.devices)
 
 -- what lines mean is a record, where its version is one that there is
@@ -354,10 +486,13 @@ pub IsRecord-read : (lines : List (List ℕ)) (past : Past) → length lines < 2
 IsRecord-read lines past h e version =
     let good = lines_good lines 1 0 [] past none_good e in
     let few = empty_length (stream_count past) in
+    let owners : HasFewOwners past = good.few_owners in
     record {
       version = version;
       devices = good.devices;
       actors = good.actors;
+      owners = owners.requested;
+      one_owner = owners.one;
       commands = good.commands;
       ranges = good.ranges;
       numbered = rw few good.numbered;

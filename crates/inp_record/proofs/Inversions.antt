@@ -2,6 +2,8 @@
 use Rattle.std.proofs.Common.{◌≡◌, ℕ, suc, Bool, true, false, ◌&&◌, not, if◌then◌else◌, bytes_eq, List, [], ◌∷◌, length, Option, Some, None, option_map, nat_eq, nat_le, ◌+◌, ◌-◌, Result, Ok, Err, refl, sym, ap, ◌∙◌, subst, arith}
 use Rattle.std.specs.Prelude.{option_and_then, slice_get}
 use Rattle.std.specs.List.{range_with_len}
+use Rattle.std.proofs.lemmas.Bool.{and_from}
+use Rattle.std.proofs.lemmas.Bool.Decides.{nat_tests}
 use Rattle.inp_model.specs.declared.event.TheConstants.{EV_KEY, EV_ABS}
 use Rattle.inp_model.specs.declared.filter.Filter.TheVariants as filters
 use Rattle.inp_model.specs.declared.stamped.TheConstants.{MOMENT_MAX}
@@ -32,9 +34,9 @@ use Rattle.inp_record.specs.declared.item.Item.TheVariants as items
 use Rattle.inp_record.specs.Keyword.{keyword_of}
 use Rattle.inp_record.specs.Place.{is_start, is_out_of_place}
 use Rattle.inp_record.specs.Verb.{is_verb_of, argument_count, with_arguments, verb_of, verb_rows}
-use Rattle.inp_record.specs.Words.{word, version_word, is_header, name_word, count_word, wide_word, moment_word, clock_word, micros_word, kind_and_code, info_words, stamped_words, offset_item, plain_item, actor_item, count_max, plain_command, command_of, actor_from, action_of, action_by, action_with, action_item, item_of}
+use Rattle.inp_record.specs.Words.{word, version_word, is_header, name_word, count_word, wide_word, moment_word, clock_word, micros_word, kind_and_code, info_words, stamped_words, offset_item, plain_item, device_item, actor_item, count_max, feedback_word, plain_command, command_of, actor_from, action_of, action_by, action_with, action_item, item_of}
 use Rattle.inp_record.specs.Past.{streams_in}
-use Rattle.inp_record.proofs.Sayable.{keyword_for_filter}
+use Rattle.inp_record.proofs.Sayable.{keyword_for_device, keyword_for_filter}
 use Rattle.inp_record.specs.Meaning.{is_later_command, is_twice, is_too_many, has_too_many_slots, refusal, unless_refused, checked, placed, item_of_words}
 use Rattle.inp_words.specs.Table.{named}
 
@@ -82,16 +84,16 @@ checked_is c (Ok j) i e =
 pub record IsPlaced (c : Context) (ws : List (List ℕ)) (i : item.Item) : Type 0 where
   pub keyword : keyword.Keyword
   pub named : keyword_of c.version (word 0 ws) (word 1 ws) (length ws) ≡ Some keyword
-  pub in_place : is_out_of_place c.place keyword ≡ false
+  pub in_place : is_out_of_place c.place c.requested keyword ≡ false
   pub item : item_of c.actors c.streams keyword ws ≡ Ok i
 
-placed_by : (c : Context) (k : keyword.Keyword) (ws : List (List ℕ)) (i : item.Item) (out : Bool) → keyword_of c.version (word 0 ws) (word 1 ws) (length ws) ≡ Some k → is_out_of_place c.place k ≡ out → (if out then Err OutOfPlace else item_of c.actors c.streams k ws) ≡ Ok i → IsPlaced c ws i
+placed_by : (c : Context) (k : keyword.Keyword) (ws : List (List ℕ)) (i : item.Item) (out : Bool) → keyword_of c.version (word 0 ws) (word 1 ws) (length ws) ≡ Some k → is_out_of_place c.place c.requested k ≡ out → (if out then Err OutOfPlace else item_of c.actors c.streams k ws) ≡ Ok i → IsPlaced c ws i
 placed_by c k ws i true n o e = absurd (cc e)
 placed_by c k ws i false n o e = record { keyword = k; named = n; in_place = o; item = e }
 
 placed_is : (c : Context) (k : Option keyword.Keyword) (ws : List (List ℕ)) (i : item.Item) → keyword_of c.version (word 0 ws) (word 1 ws) (length ws) ≡ k → placed c k ws ≡ Ok i → IsPlaced c ws i
 placed_is c None ws i n e = absurd (cc e)
-placed_is c (Some k) ws i n e = placed_by c k ws i (is_out_of_place c.place k) n refl e
+placed_is c (Some k) ws i n e = placed_by c k ws i (is_out_of_place c.place c.requested k) n refl e
 
 unheaded : (bad : Bool) (means : Result item.Item Cause) (i : item.Item) → (if bad then Err BadHeader else means) ≡ Ok i → means ≡ Ok i
 unheaded true means i e = absurd (cc e)
@@ -109,10 +111,11 @@ keyword_of_role roles.Source = keywords.Source
 keyword_of_role roles.Client = keywords.Client
 keyword_of_role roles.Tap = keywords.Tap
 keyword_of_role roles.Joy = keywords.Joy
+keyword_of_role roles.Owner = keywords.Owner
 
 abbrev pub keyword_for : item.Item → keyword.Keyword
 keyword_for (items.Header version) = keywords.Header
-keyword_for (items.Device name) = keywords.Device
+keyword_for (items.Device requested name) = keyword_for_device requested
 keyword_for (items.Hint count) = keywords.Hint
 keyword_for (items.Log count) = keywords.Log
 keyword_for (items.Realtime offset) = keywords.Clock
@@ -133,10 +136,14 @@ offset_keyword Boottime offset i e = let h : items.Boottime offset ≡ i = cc e 
 actor_keyword : (r : role.Role) (w : List ℕ) (i : item.Item) → actor_item r w ≡ Some i → keyword_for i ≡ keyword_of_role r
 actor_keyword r w i e = ap keyword_for (map_is (λ name. items.Actor r name) (name_word w) i e).2
 
+device_keyword : (requested : Bool) (w : List ℕ) (i : item.Item) → device_item requested w ≡ Some i → keyword_for i ≡ keyword_for_device requested
+device_keyword requested w i e = ap keyword_for (map_is (λ name. items.Device requested name) (name_word w) i e).2
+
 pub plain_keyword : (k : keyword.Keyword) (ws : List (List ℕ)) (i : item.Item) → plain_item k ws ≡ Some i → keyword_for i ≡ k
 unfolding plain_item
 plain_keyword keywords.Header ws i e = ap keyword_for (map_is (λ version. items.Header version) (version_word (word 1 ws)) i e).2
-plain_keyword keywords.Device ws i e = ap keyword_for (map_is (λ name. items.Device name) (name_word (word 1 ws)) i e).2
+plain_keyword keywords.Device ws i e = device_keyword false (word 1 ws) i e
+plain_keyword keywords.Udevice ws i e = device_keyword true (word 1 ws) i e
 plain_keyword keywords.Hint ws i e = ap keyword_for (map_is (λ count. items.Hint count) (count_word (word 1 ws)) i e).2
 plain_keyword keywords.Log ws i e = ap keyword_for (map_is (λ count. items.Log count) (count_word (word 1 ws)) i e).2
 plain_keyword keywords.Clock ws i e =
@@ -163,6 +170,7 @@ plain_keyword keywords.Source ws i e = actor_keyword roles.Source (word 1 ws) i 
 plain_keyword keywords.Client ws i e = actor_keyword roles.Client (word 1 ws) i e
 plain_keyword keywords.Tap ws i e = actor_keyword roles.Tap (word 1 ws) i e
 plain_keyword keywords.Joy ws i e = actor_keyword roles.Joy (word 1 ws) i e
+plain_keyword keywords.Owner ws i e = actor_keyword roles.Owner (word 1 ws) i e
 plain_keyword keywords.Action ws i e = absurd (cc e)
 
 -- a command of an actor of this role is one of its verb
@@ -191,6 +199,18 @@ count_within roles.Source w n e = number_within READ_MAX w n e
 count_within roles.Client w n e = number_within READ_MAX w n e
 count_within roles.Tap w n e = number_within READ_MAX w n e
 count_within roles.Joy w n e = refl
+count_within roles.Owner w n e = number_within READ_MAX w n e
+
+-- a count of a feedback call is one that an owner may have
+feedback_of : (n : ℕ) (none : Bool) (c : command.Command) → nat_eq n 0 ≡ none → (if none then None else Some (commands.Feedback n)) ≡ Some c → (nat_le 1 n ≡ true) × (c ≡ commands.Feedback n)
+feedback_of n true c z e = absurd (cc e)
+feedback_of n false c z e = let some : nat_le 1 n ≡ true = grind (arith, nat_tests) in (some, cc e)
+
+pub feedback_is : (w : List ℕ) (c : command.Command) → feedback_word w ≡ Some c → (n : ℕ) × (number READ_MAX w ≡ Some n) × (nat_le 1 n ≡ true) × (c ≡ commands.Feedback n)
+feedback_is w c e =
+    let h = and_then_is (λ n. if nat_eq n 0 then None else Some (commands.Feedback n)) (number READ_MAX w) c e in
+    let f = feedback_of h.0 (nat_eq h.0 0) c refl h.2 in
+    (h.0, h.1, f.0, f.1)
 
 pub command_is : (by : role.Role) (v : verb.Verb) (ws : List (List ℕ)) (c : command.Command) → plain_command by v ws ≡ Some c → IsOfVerb by v c
 unfolding plain_command
@@ -249,6 +269,9 @@ command_is by verbs.Skip ws c e =
     let h = map_is (λ count. commands.Skip count) (count_word (word 3 ws)) c e in
     of_verb by verbs.Skip c (commands.Skip h.0) h.2 (record { role = λ r. refl; range = refl; stream = λ s. refl })
 command_is by verbs.Follow ws c e = let h : commands.Follow ≡ c = cc e in of_verb by verbs.Follow c commands.Follow (sym h) (record { role = λ r. refl; range = refl; stream = λ s. refl })
+command_is by verbs.Feedback ws c e =
+    let h = feedback_is (word 3 ws) c e in
+    of_verb by verbs.Feedback c (commands.Feedback h.0) h.3 (record { role = λ r. refl; range = and_from (nat_le 1 h.0) (nat_le h.0 READ_MAX) h.2 (number_within READ_MAX (word 3 ws) h.0 h.1); stream = λ s. refl })
 command_is by verbs.Force ws c e = let h : commands.Force ≡ c = cc e in of_verb by verbs.Force c commands.Force (sym h) (record { role = λ r. refl; range = refl; stream = λ s. refl })
 
 -- what an action is of these actors, behind so many streams

@@ -78,7 +78,9 @@ later_is false j k e = (refl, cc e)
 
 same_action : (version : ℕ) (second : List ℕ) (base k : keyword.Keyword) → keyword_under version second base ≡ Some k → is_action k ≡ is_action base
 same_action version second keywords.Filter k e = ap is_action (later_is (nat_eq version 1) (filter_keyword second) k e).1 ∙ kind_does_nothing second
+same_action version second keywords.Udevice k e = ap is_action (later_is (nat_eq version 1) keywords.Udevice k e).1
 same_action version second keywords.Joy k e = ap is_action (later_is (nat_eq version 1) keywords.Joy k e).1
+same_action version second keywords.Owner k e = ap is_action (later_is (nat_eq version 1) keywords.Owner k e).1
 same_action version second base k e = let same : base ≡ k = cc e in ap is_action (sym same)
 
 pub action_is_do : (version : ℕ) (first second : List ℕ) (count : ℕ) (k : keyword.Keyword) → keyword_of version first second count ≡ Some k → is_action k ≡ bytes_eq first (codes "do")
@@ -87,7 +89,7 @@ action_is_do version first second count k e =
     same_action version second h.0 k h.2
     ∙ do_by_tests (is_action h.0) (bytes_eq first (codes "do")) (named_passes is_do_alone keyword_rows first h.0 rows_are_do_alone h.1)
 
--- there is no filter line and no joystick under version 1
+-- there is no filter line, no device made by requests, no joystick and no owner under version 1
 
 abbrev pub is_later_keyword : keyword.Keyword → Bool
 is_later_keyword keywords.Filter = true
@@ -95,7 +97,9 @@ is_later_keyword keywords.Eat = true
 is_later_keyword keywords.Norepeat = true
 is_later_keyword keywords.Chord = true
 is_later_keyword keywords.Bounce = true
+is_later_keyword keywords.Udevice = true
 is_later_keyword keywords.Joy = true
+is_later_keyword keywords.Owner = true
 is_later_keyword _ = false
 
 -- the second word of a line names these alone
@@ -112,7 +116,9 @@ rows_are_first = refl
 
 kept_version : (version : ℕ) (second : List ℕ) (base k : keyword.Keyword) → keyword_under version second base ≡ Some k → is_first base ≡ true → is_later_keyword k ≡ true → nat_eq version 1 ≡ false
 kept_version version second keywords.Filter k e row h = (later_is (nat_eq version 1) (filter_keyword second) k e).0
+kept_version version second keywords.Udevice k e row h = (later_is (nat_eq version 1) keywords.Udevice k e).0
 kept_version version second keywords.Joy k e row h = (later_is (nat_eq version 1) keywords.Joy k e).0
+kept_version version second keywords.Owner k e row h = (later_is (nat_eq version 1) keywords.Owner k e).0
 kept_version version second keywords.Eat k e row h = absurd (cc row)
 kept_version version second keywords.Norepeat k e row h = absurd (cc row)
 kept_version version second keywords.Chord k e row h = absurd (cc row)

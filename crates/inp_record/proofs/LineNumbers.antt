@@ -63,7 +63,8 @@ not_missed all lines n line left h z e =
 -- an item adds a line exactly where its keyword is that of an action
 item_adds : (past : Past) (i : item.Item) → length (lines_of (i ∷ past)) ≡ length (lines_of past) + (if is_action (keyword_for i) then 1 else 0)
 item_adds past (Header version) = omega arith
-item_adds past (Device name) = omega arith
+item_adds past (Device true name) = omega arith
+item_adds past (Device false name) = omega arith
 item_adds past (Hint count) = omega arith
 item_adds past (Log count) = omega arith
 item_adds past (Realtime offset) = omega arith
@@ -80,6 +81,7 @@ item_adds past (Actor roles.Source name) = omega arith
 item_adds past (Actor roles.Client name) = omega arith
 item_adds past (Actor roles.Tap name) = omega arith
 item_adds past (Actor roles.Joy name) = omega arith
+item_adds past (Actor roles.Owner name) = omega arith
 item_adds past (Action actor command) = omega (arith, length-append (lines_of past) (record { actor = actor; command = command } ∷ []))
 
 or_bad_is : (o : Option item.Item) (i : item.Item) → or_bad_word o ≡ Ok i → o ≡ Some i
@@ -96,7 +98,7 @@ keyword_is actors s k ws i e = by_action (is_action k) refl e
 
 placed_adds : (c : Context) (o : Option keyword.Keyword) (ws : List (List ℕ)) (i : item.Item) → ((k : keyword.Keyword) → o ≡ Some k → is_action k ≡ has_word ws 0 (codes "do")) → placed c o ws ≡ Ok i → is_action (keyword_for i) ≡ has_word ws 0 (codes "do")
 placed_adds c None ws i is e = absurd (cc e)
-placed_adds c (Some k) ws i is e = by_place (is_out_of_place c.place k) e
+placed_adds c (Some k) ws i is e = by_place (is_out_of_place c.place c.requested k) e
   where
     by_place : (out : Bool) → (if out then Err OutOfPlace else item_of c.actors c.streams k ws) ≡ Ok i → is_action (keyword_for i) ≡ has_word ws 0 (codes "do")
     by_place true e = absurd (cc e)

@@ -18,7 +18,7 @@ use Rattle.inp_caps.proofs.Filters.{AreFilters-more}
 use Rattle.inp_actors.specs.declared.device_text.DeviceText.{DeviceText}
 use Rattle.inp_record.specs.declared.item.Item.{Item}
 use Rattle.inp_record.specs.declared.item.Item.TheVariants.{Header, Device, Hint, Log, Realtime, Boottime, Slots, Kind, Code, Axis, Filter, Actor, Action}
-use Rattle.inp_record.specs.Past.{Past, latest_name, latest_description, former_devices, devices_of, with_latest}
+use Rattle.inp_record.specs.Past.{Past, latest_name, is_requested, latest_description, former_devices, devices_of, with_latest}
 use Rattle.inp_record.specs.Meaning.{refused_by, refusal}
 use Rattle.inp_record.proofs.Sayable.{IsSayableInfo}
 
@@ -292,7 +292,7 @@ with_filtered d f g e =
 gathered : (past : Past) → AreDescribed past → IsGathered (latest_description past)
 gathered [] h = gathered_alone
 gathered (Header version ∷ past) h = gathered past h.2
-gathered (Device name ∷ past) h = gathered_alone
+gathered (Device requested name ∷ past) h = gathered_alone
 gathered (Hint count ∷ past) h =
     let g = gathered past h.2 in
     let n = g.numbers in
@@ -418,9 +418,9 @@ push_get (x ∷ xs) y (suc i) a e = push_get xs y i a e
 abbrev AreMade : List DeviceText → Type 0
 AreMade devices = (i : ℕ) (t : DeviceText) → slice_get devices i ≡ Some t → IsMade t.caps
 
-latest_made : (former : List DeviceText) (name : Option (List ℕ)) (d : Description) → AreMade former → IsMade (built d) → AreMade (with_latest former name d)
-latest_made former None d old new = old
-latest_made former (Some name) d old new = λ i t e. elim (push_get former (record { name = name; caps = built d }) i t e) [
+latest_made : (former : List DeviceText) (name : Option (List ℕ)) (requested : Bool) (d : Description) → AreMade former → IsMade (built d) → AreMade (with_latest former name requested d)
+latest_made former None requested d old new = old
+latest_made former (Some name) requested d old new = λ i t e. elim (push_get former (record { name = name; caps = built d; requested = requested }) i t e) [
   | inl before ↦ old i t before
   | inr is ↦ subst IsMade (sym (ap (λ (x : DeviceText). x.caps) is)) new
 ]
@@ -428,7 +428,7 @@ latest_made former (Some name) d old new = λ i t e. elim (push_get former (reco
 former_made : (past : Past) → AreDescribed past → AreMade (former_devices past)
 former_made [] h = λ i t e. absurd (cc e)
 former_made (Header version ∷ past) h = former_made past h.2
-former_made (Device name ∷ past) h = latest_made (former_devices past) (latest_name past) (latest_description past) (former_made past h.2) (made past h.2)
+former_made (Device requested name ∷ past) h = latest_made (former_devices past) (latest_name past) (is_requested past) (latest_description past) (former_made past h.2) (made past h.2)
 former_made (Hint count ∷ past) h = former_made past h.2
 former_made (Log count ∷ past) h = former_made past h.2
 former_made (Realtime offset ∷ past) h = former_made past h.2
@@ -442,4 +442,4 @@ former_made (Actor role name ∷ past) h = former_made past h.2
 former_made (Action actor command ∷ past) h = former_made past h.2
 
 pub all_made : (past : Past) → AreDescribed past → (i : ℕ) (t : DeviceText) → slice_get (devices_of past) i ≡ Some t → IsMade t.caps
-all_made past h = latest_made (former_devices past) (latest_name past) (latest_description past) (former_made past h) (made past h)
+all_made past h = latest_made (former_devices past) (latest_name past) (is_requested past) (latest_description past) (former_made past h) (made past h)

@@ -22,7 +22,7 @@ code_filters d kind code = grind (arith, nat_tests)
 pub realtime_is : (past : Past) → (latest_description past).realtime ≡ unwrap_or (realtime_of past) 0
 realtime_is [] = refl
 realtime_is (Header version ∷ past) = realtime_is past
-realtime_is (Device name ∷ past) = refl
+realtime_is (Device requested name ∷ past) = refl
 realtime_is (Hint count ∷ past) = realtime_is past
 realtime_is (Log count ∷ past) = realtime_is past
 realtime_is (Realtime offset ∷ past) = refl
@@ -38,7 +38,7 @@ realtime_is (Action actor command ∷ past) = realtime_is past
 pub boottime_is : (past : Past) → (latest_description past).boottime ≡ unwrap_or (boottime_of past) 0
 boottime_is [] = refl
 boottime_is (Header version ∷ past) = boottime_is past
-boottime_is (Device name ∷ past) = refl
+boottime_is (Device requested name ∷ past) = refl
 boottime_is (Hint count ∷ past) = boottime_is past
 boottime_is (Log count ∷ past) = boottime_is past
 boottime_is (Realtime offset ∷ past) = boottime_is past

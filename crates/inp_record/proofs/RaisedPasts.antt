@@ -2,7 +2,7 @@
 use Rattle.std.proofs.Common.{◌≡◌, ℕ, ◌+◌, true, false, if◌then◌else◌, nat_eq, List, [], ◌∷◌, ◌++◌, length, Some, None, Ok, refl, sym, ap, ◌∙◌, subst, arith}
 use Rattle.inp_model.specs.declared.event.TheConstants.{EV_ABS}
 use Rattle.inp_caps.specs.Builder.{syn_alone, with_kind, with_code, with_axis, with_filter}
-use Rattle.inp_actors.specs.Command.{is_source, is_joy}
+use Rattle.inp_actors.specs.Command.{is_source, is_owner, is_reading}
 use Rattle.inp_actors.specs.Record.{RecordView}
 use Rattle.inp_canon.specs.Text.{record_text}
 use Rattle.inp_record.specs.declared.context.Context.{Context}
@@ -12,14 +12,14 @@ use Rattle.inp_record.specs.declared.place.Place.TheVariants.{Headed, Describing
 use Rattle.inp_record.specs.Place.{is_start, is_out_of_place}
 use Rattle.inp_record.specs.Past.{Past, place_of, version_of, with_latest, streams_in, no_given, context_of}
 use Rattle.inp_record.specs.Meaning.{is_later_command, is_twice, is_too_many, refusal, record_of, record_in, meaning}
-use Rattle.inp_record.proofs.Sayable.{keyword_for, IsSayable, IsAccepted}
+use Rattle.inp_record.proofs.Sayable.{is_later_role, keyword_for, IsSayable, IsAccepted}
 use Rattle.inp_record.proofs.CanonPasts.{WereAccepted, never_both, meaning_of_past}
 use Rattle.inp_record.proofs.RoundTrip.{no_start, read_again as past_read_again}
 
 -- an item, with version 2 where it is a header
 abbrev raised_item : Item → Item
 raised_item (Header version) = Header 2
-raised_item (Device name) = Device name
+raised_item (Device requested name) = Device requested name
 raised_item i = i
 
 -- the same lines, with version 2 in their header
@@ -30,14 +30,16 @@ raised (i ∷ past) = raised_item i ∷ raised past
 -- the context that a line of this meaning leaves
 abbrev after_item : Item → Context → Context
 after_item (Header version) c = record c { place = Headed; version = version }
-after_item (Device name) c = record c {
+after_item (Device requested name) c = record c {
   place = Describing;
   name = Some name;
+  requested = requested;
   builder = syn_alone;
   given = no_given;
   sources = 0;
   readers = 0;
-  devices = with_latest c.devices c.name c.builder;
+  owners = 0;
+  devices = with_latest c.devices c.name c.requested c.builder;
 }
 after_item (Hint count) c = record c { place = Describing; builder = record c.builder { hint = count }; given = record c.given { hint = true } }
 after_item (Log count) c = record c { place = Describing; builder = record c.builder { log_limit = count }; given = record c.given { log = true } }
@@ -51,14 +53,15 @@ after_item (Filter filter) c = record c { place = Describing; builder = with_fil
 after_item (Actor role name) c = record c {
   place = Naming;
   sources = c.sources + (if is_source role then 1 else 0);
-  readers = c.readers + (if is_source role then 0 else 1);
+  readers = c.readers + (if is_reading role then 1 else 0);
+  owners = c.owners + (if is_owner role then 1 else 0);
   actors = c.actors ++ record { name = name; role = role; device = length c.devices } ∷ [];
 }
 after_item (Action actor command) c = record c { place = Acting; lines = c.lines ++ record { actor = actor; command = command } ∷ []; streams = c.streams + streams_in command }
 
 context_after : (i : Item) (past : Past) → context_of (i ∷ past) ≡ after_item i (context_of past)
 context_after (Header version) past = refl
-context_after (Device name) past = refl
+context_after (Device requested name) past = refl
 context_after (Hint count) past = refl
 context_after (Log count) past = refl
 context_after (Realtime offset) past = refl
@@ -74,17 +77,17 @@ context_after (Action actor command) past = refl
 -- the version behind a raised item
 abbrev version_after : Item → ℕ → ℕ
 version_after (Header version) v = 2
-version_after (Device name) v = v
+version_after (Device requested name) v = v
 version_after _ v = v
 
 version_behind : (i : Item) (past : Past) → version_after i (version_of past) ≡ version_of (raised_item i ∷ past)
 version_behind (Header version) past = refl
-version_behind (Device name) past = refl
+version_behind (Device requested name) past = refl
 version_behind _ past = refl
 
 after_alike : (i : Item) (c : Context) (v : ℕ) → after_item (raised_item i) (record c { version = v }) ≡ record (after_item i c) { version = version_after i v }
 after_alike (Header version) c v = refl
-after_alike (Device name) c v = refl
+after_alike (Device requested name) c v = refl
 after_alike _ c v = refl
 
 -- but for the version the raised lines leave what the lines leave
@@ -102,7 +105,7 @@ same_context (i ∷ past) =
 raised_version : (past : Past) → WereAccepted past → is_start (place_of past) ≡ false → version_of (raised past) ≡ 2
 raised_version [] were s = absurd (cc s)
 raised_version (Header version ∷ past) were s = refl
-raised_version (Device name ∷ past) were s = raised_version past were.1 were.0.in_place.0
+raised_version (Device requested name ∷ past) were s = raised_version past were.1 were.0.in_place.0
 raised_version (_ ∷ past) were s = raised_version past were.1 were.0.in_place.0
 
 -- under version 2 there is each command
@@ -124,16 +127,29 @@ accepted_alike past new (Header version) same two a = record {
 }
 accepted_alike past new (Slots count) same two a = record {
   sayable = a.sayable;
-  in_place = subst (λ (c : Context). (is_start c.place ≡ false) × (is_out_of_place c.place (keyword_for (Slots count)) ≡ false)) (sym same) a.in_place;
+  in_place = subst (λ (c : Context). (is_start c.place ≡ false) × (is_out_of_place c.place c.requested (keyword_for (Slots count)) ≡ false)) (sym same) a.in_place;
   in_version = refl;
   once = subst (λ (c : Context). is_twice c (Slots count) ≡ false) (sym same) a.once;
   few = refl;
   few_slots = rw (two a.in_place.0) refl;
   fits = a.fits;
 }
+accepted_alike past new (Device requested name) same two a = record {
+  sayable = a.sayable;
+  in_place = (
+    ap (λ (c : Context). is_start c.place) same ∙ a.in_place.0,
+    ap (λ (c : Context). is_out_of_place c.place c.requested (keyword_for (Device requested name))) same ∙ a.in_place.1,
+    never_both requested (nat_eq (version_of new) 1) (λ _. rw (two a.in_place.0) refl),
+  );
+  in_version = refl;
+  once = subst (λ (c : Context). is_twice c (Device requested name) ≡ false) (sym same) a.once;
+  few = subst (λ (c : Context). is_too_many c (Device requested name) ≡ false) (sym same) a.few;
+  few_slots = refl;
+  fits = refl;
+}
 accepted_alike past new (Filter filter) same two a = record {
   sayable = a.sayable;
-  in_place = (ap (λ (c : Context). is_start c.place) same ∙ a.in_place.0, ap (λ (c : Context). is_out_of_place c.place (keyword_for (Filter filter))) same ∙ a.in_place.1, rw (two a.in_place.0) refl);
+  in_place = (ap (λ (c : Context). is_start c.place) same ∙ a.in_place.0, ap (λ (c : Context). is_out_of_place c.place c.requested (keyword_for (Filter filter))) same ∙ a.in_place.1, rw (two a.in_place.0) refl);
   in_version = refl;
   once = refl;
   few = refl;
@@ -144,8 +160,8 @@ accepted_alike past new (Actor role name) same two a = record {
   sayable = a.sayable;
   in_place = (
     ap (λ (c : Context). is_start c.place) same ∙ a.in_place.0,
-    ap (λ (c : Context). is_out_of_place c.place (keyword_for (Actor role name))) same ∙ a.in_place.1,
-    never_both (is_joy role) (nat_eq (version_of new) 1) (λ _. rw (two a.in_place.0) refl),
+    ap (λ (c : Context). is_out_of_place c.place c.requested (keyword_for (Actor role name))) same ∙ a.in_place.1,
+    never_both (is_later_role role) (nat_eq (version_of new) 1) (λ _. rw (two a.in_place.0) refl),
   );
   in_version = refl;
   once = subst (λ (c : Context). is_twice c (Actor role name) ≡ false) (sym same) a.once;
@@ -155,7 +171,7 @@ accepted_alike past new (Actor role name) same two a = record {
 }
 accepted_alike past new i same two a = record {
   sayable = subst (λ (c : Context). IsSayable c.actors c.streams i) (sym same) a.sayable;
-  in_place = subst (λ (c : Context). (is_start c.place ≡ false) × (is_out_of_place c.place (keyword_for i) ≡ false)) (sym same) a.in_place;
+  in_place = subst (λ (c : Context). (is_start c.place ≡ false) × (is_out_of_place c.place c.requested (keyword_for i) ≡ false)) (sym same) a.in_place;
   in_version = each_command (context_of new) i (two a.in_place.0);
   once = subst (λ (c : Context). is_twice c i ≡ false) (sym same) a.once;
   few = subst (λ (c : Context). is_too_many c i ≡ false) (sym same) a.few;

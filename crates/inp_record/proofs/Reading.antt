@@ -76,7 +76,7 @@ meaning_read text past h = ap (as_record (length (lines_of text))) h
 pub start_is : (past : Past) → place_of past ≡ Start → past ≡ []
 start_is [] e = refl
 start_is (Header version ∷ past) e = absurd (cc)
-start_is (Device name ∷ past) e = absurd (cc)
+start_is (Device requested name ∷ past) e = absurd (cc)
 start_is (Hint count ∷ past) e = absurd (cc)
 start_is (Log count ∷ past) e = absurd (cc)
 start_is (Realtime offset ∷ past) e = absurd (cc)

@@ -54,7 +54,7 @@ actor_line actors k a = by_device (nat_eq a.device k)
 device_line : (actors : List ActorText) (d : ℕ × DeviceText) → device_lines actors d ≡ map (item_words actors) (device_items actors d)
 unfolding device_lines actors_lines device_items
 device_line actors d =
-    ap (λ (l : List Words). item_words actors (Device d.1.name) ∷ l)
+    ap (λ (l : List Words). item_words actors (Device d.1.requested d.1.name) ∷ l)
     (ap (λ (l : List Words). l ++ actors_lines actors d.0) (description-lines actors d.1.caps)
     ∙ ap (λ (l : List Words). map (item_words actors) (description_items d.1.caps) ++ l) (lines_each (item_words actors) (actor_lines d.0) (actor_items d.0) (actor_line actors d.0) actors)
     ∙ sym (map-append (item_words actors) (description_items d.1.caps) (flat_map (actor_items d.0) actors)))
@@ -128,6 +128,10 @@ none_described : (d : Description) → are_no_actions (description_items d) ≡ 
 unfolding description_items
 none_described d = none_both (plain_items d) (filter_items d) (none_plain d) (no_filters_act d.filters)
 
+no_device_acts : (requested : Bool) (name : List ℕ) → is_no_action (Device requested name) ≡ true
+no_device_acts true name = refl
+no_device_acts false name = refl
+
 none_of_role : (a : ActorText) → is_no_action (Actor a.role a.name) ≡ true
 none_of_role a = by_role a.role
   where
@@ -136,12 +140,14 @@ none_of_role a = by_role a.role
     by_role roles.Client = refl
     by_role roles.Tap = refl
     by_role roles.Joy = refl
+    by_role roles.Owner = refl
 
 none_of_device : (actors : List ActorText) (d : ℕ × DeviceText) → are_no_actions (device_items actors d) ≡ true
 unfolding device_items
 none_of_device actors d =
-    none_both (description_items d.1.caps) (flat_map (actor_items d.0) actors) (none_described d.1.caps)
-    (none_each (actor_items d.0) (λ a. none_if (nat_eq a.device d.0) (Actor a.role a.name) (none_of_role a)) actors)
+    and_from (is_no_action (Device d.1.requested d.1.name)) (are_no_actions (description_items d.1.caps ++ flat_map (actor_items d.0) actors)) (no_device_acts d.1.requested d.1.name)
+    (none_both (description_items d.1.caps) (flat_map (actor_items d.0) actors) (none_described d.1.caps)
+    (none_each (actor_items d.0) (λ a. none_if (nat_eq a.device d.0) (Actor a.role a.name) (none_of_role a)) actors))
 
 none_in_heads : (version : ℕ) (actors : List ActorText) (devices : List DeviceText) → are_no_actions (head_items version actors devices) ≡ true
 none_in_heads version actors devices = none_each (device_items actors) (none_of_device actors) (enumerate_from 0 devices)
@@ -175,7 +181,7 @@ all_behind past like =
 
 pub no_start : (i : Item) → is_start (place_after i) ≡ false
 no_start (Header version) = refl
-no_start (Device name) = refl
+no_start (Device requested name) = refl
 no_start (Hint count) = refl
 no_start (Log count) = refl
 no_start (Realtime offset) = refl

@@ -1,5 +1,5 @@
 -- When an item can be said by words, and when a line that says it is accepted behind a past.
-use Rattle.std.proofs.Common.{◌≡◌, ◌<◌, ◌≤◌, ◌^◌, ℕ, ℤ, Bool, true, false, ◌&&◌, nat_eq, nat_le, List, [], ◌∷◌, slice_get, Some, None, FitsSigned, w32}
+use Rattle.std.proofs.Common.{◌≡◌, ◌<◌, ◌≤◌, ◌^◌, ℕ, ℤ, Bool, true, false, ◌&&◌, ◌||◌, nat_eq, nat_le, List, [], ◌∷◌, slice_get, Some, None, FitsSigned, w32}
 use Rattle.std.specs.List.{list_all}
 use Rattle.inp_model.specs.declared.axis_info.AxisInfo.{AxisInfo}
 use Rattle.inp_model.specs.declared.limits.TheConstants.{BOUNCE_MAX}
@@ -12,13 +12,13 @@ use Rattle.inp_actors.specs.declared.command.Command as command
 use Rattle.inp_actors.specs.declared.command.Command.TheVariants as commands
 use Rattle.inp_actors.specs.declared.record.TheConstants.{VERSION_MAX}
 use Rattle.inp_actors.specs.Name.{is_name}
-use Rattle.inp_actors.specs.Command.{is_joy, is_command_of, is_in_range}
+use Rattle.inp_actors.specs.Command.{is_joy, is_owner, is_command_of, is_in_range}
 use Rattle.inp_words.specs.Line.{is_word}
 use Rattle.inp_record.specs.declared.item.Item.{Item}
 use Rattle.inp_record.specs.declared.item.Item.TheVariants.{Header, Device, Hint, Log, Realtime, Boottime, Slots, Kind, Code, Axis, Filter, Actor, Action}
 use Rattle.inp_record.specs.declared.keyword.Keyword as keyword
 use Rattle.inp_record.specs.declared.keyword.Keyword.TheVariants as keywords
-use Rattle.inp_record.specs.Past.{Past, place_of, version_of, latest_description, actors_of, context_of, stream_count}
+use Rattle.inp_record.specs.Past.{Past, place_of, version_of, is_requested, latest_description, actors_of, context_of, stream_count}
 use Rattle.inp_record.specs.Place.{is_start, is_out_of_place}
 use Rattle.inp_record.specs.Words.{actor_from}
 use Rattle.inp_record.specs.Meaning.{is_later_command, is_twice, is_too_many, has_too_many_slots, refusal}
@@ -29,6 +29,15 @@ keyword_for_role roles.Source = keywords.Source
 keyword_for_role roles.Client = keywords.Client
 keyword_for_role roles.Tap = keywords.Tap
 keyword_for_role roles.Joy = keywords.Joy
+keyword_for_role roles.Owner = keywords.Owner
+
+abbrev pub keyword_for_device : Bool → keyword.Keyword
+keyword_for_device true = keywords.Udevice
+keyword_for_device false = keywords.Device
+
+-- a joystick and an owner are actors of a later version than 1
+abbrev pub is_later_role : role.Role → Bool
+is_later_role role = is_joy role || is_owner role
 
 abbrev pub keyword_for_filter : filter.Filter → keyword.Keyword
 keyword_for_filter (filters.Eat kind code) = keywords.Eat
@@ -38,7 +47,7 @@ keyword_for_filter (filters.Bounce code micros) = keywords.Bounce
 
 abbrev pub keyword_for : Item → keyword.Keyword
 keyword_for (Header version) = keywords.Header
-keyword_for (Device name) = keywords.Device
+keyword_for (Device requested name) = keyword_for_device requested
 keyword_for (Hint count) = keywords.Hint
 keyword_for (Log count) = keywords.Log
 keyword_for (Realtime offset) = keywords.Clock
@@ -108,7 +117,7 @@ pub record IsSayableAction (actors : List ActorText) (stream actor : ℕ) (does 
 -- the item can be said, where these actors are there and so many streams
 abbrev pub IsSayable : List ActorText → ℕ → Item → Type 0
 IsSayable actors stream (Header version) = (1 ≤ version) × (version ≤ VERSION_MAX)
-IsSayable actors stream (Device name) = is_name name ≡ true
+IsSayable actors stream (Device requested name) = is_name name ≡ true
 IsSayable actors stream (Hint count) = count < 2 ^ 32
 IsSayable actors stream (Log count) = count < 2 ^ 32
 IsSayable actors stream (Realtime offset) = offset < 2 ^ 64
@@ -126,15 +135,17 @@ abbrev pub are_early : ℕ → List filter.Filter → Bool
 are_early version [] = false
 are_early version (filter ∷ more) = nat_eq version 1
 
--- a header stands first, and each other item behind one, where a line with its keyword may stand; a filter and a joystick
--- under a later version than 1
+-- a header stands first, and each other item behind one, where a line with its keyword may stand; a device made by
+-- requests, a filter, a joystick and an owner under a later version than 1
 abbrev pub IsInPlace : Past → Item → Type 0
 IsInPlace past (Header version) = is_start (place_of past) ≡ true
+IsInPlace past (Device requested name) =
+    (is_start (place_of past) ≡ false) × (is_out_of_place (place_of past) (is_requested past) (keyword_for_device requested) ≡ false) × ((requested && nat_eq (version_of past) 1) ≡ false)
 IsInPlace past (Filter filter) =
-    (is_start (place_of past) ≡ false) × (is_out_of_place (place_of past) (keyword_for_filter filter) ≡ false) × (nat_eq (version_of past) 1 ≡ false)
+    (is_start (place_of past) ≡ false) × (is_out_of_place (place_of past) (is_requested past) (keyword_for_filter filter) ≡ false) × (nat_eq (version_of past) 1 ≡ false)
 IsInPlace past (Actor role name) =
-    (is_start (place_of past) ≡ false) × (is_out_of_place (place_of past) (keyword_for_role role) ≡ false) × ((is_joy role && nat_eq (version_of past) 1) ≡ false)
-IsInPlace past i = (is_start (place_of past) ≡ false) × (is_out_of_place (place_of past) (keyword_for i) ≡ false)
+    (is_start (place_of past) ≡ false) × (is_out_of_place (place_of past) (is_requested past) (keyword_for_role role) ≡ false) × ((is_later_role role && nat_eq (version_of past) 1) ≡ false)
+IsInPlace past i = (is_start (place_of past) ≡ false) × (is_out_of_place (place_of past) (is_requested past) (keyword_for i) ≡ false)
 
 -- A line that says the item is accepted behind the past.
 pub record IsAccepted (past : Past) (i : Item) : Type 0 where

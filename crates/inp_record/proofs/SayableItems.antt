@@ -30,9 +30,9 @@ use Rattle.inp_record.specs.declared.verb.Verb.TheVariants as verbs
 use Rattle.inp_record.specs.declared.item.Item as item
 use Rattle.inp_record.specs.declared.item.Item.TheVariants as items
 use Rattle.inp_record.specs.Verb.{argument_count, is_verb_of, with_arguments, verb_of, verb_rows}
-use Rattle.inp_record.specs.Words.{word, version_word, name_word, count_word, wide_word, moment_word, clock_word, kind_and_code, info_words, stamped_words, micros_word, has_micros, offset_item, plain_item, actor_item, count_max, plain_command, command_of, actor_from, action_by, action_with, action_item, or_bad_word, is_action, item_of}
+use Rattle.inp_record.specs.Words.{word, version_word, name_word, count_word, wide_word, moment_word, clock_word, kind_and_code, info_words, stamped_words, micros_word, has_micros, offset_item, plain_item, device_item, actor_item, count_max, plain_command, command_of, actor_from, action_by, action_with, action_item, or_bad_word, is_action, item_of}
 use Rattle.inp_record.proofs.Good.{or_bad_is}
-use Rattle.inp_record.proofs.Inversions.{map_is, and_then_is, command_of_is, verb_is, action_of_is, act_is}
+use Rattle.inp_record.proofs.Inversions.{map_is, and_then_is, feedback_is, command_of_is, verb_is, action_of_is, act_is}
 use Rattle.inp_record.proofs.Sayable.{is_visible, IsPlainWord, IsSayableCommand, IsSayable}
 use Rattle.inp_record.proofs.SayableWords.{number_most, kind_fits, code_fits, info_fits, pair_fits, event_fits}
 
@@ -149,14 +149,18 @@ micros_said w n e =
         let some : 1 ≤ m = grind (arith, nat_tests) in
         (omega (arith, same, some), omega (arith, same, most))
 
+device_said : (actors : List ActorText) (s : ℕ) (requested : Bool) (w : List ℕ) (i : item.Item) → device_item requested w ≡ Some i → IsSayable actors s i
+device_said actors s requested w i e =
+    let h = map_is (λ name. items.Device requested name) (name_word w) i e in
+    say actors s i (items.Device requested h.0) h.2 (name_said w h.0 h.1)
+
 plain_said : (actors : List ActorText) (s : ℕ) (k : keyword.Keyword) (ws : List (List ℕ)) (i : item.Item) → plain_item k ws ≡ Some i → IsSayable actors s i
 unfolding plain_item
 plain_said actors s keywords.Header ws i e =
     let h = map_is (λ version. items.Header version) (version_word (word 1 ws)) i e in
     say actors s i (items.Header h.0) h.2 (version_said (word 1 ws) h.0 h.1)
-plain_said actors s keywords.Device ws i e =
-    let h = map_is (λ name. items.Device name) (name_word (word 1 ws)) i e in
-    say actors s i (items.Device h.0) h.2 (name_said (word 1 ws) h.0 h.1)
+plain_said actors s keywords.Device ws i e = device_said actors s false (word 1 ws) i e
+plain_said actors s keywords.Udevice ws i e = device_said actors s true (word 1 ws) i e
 plain_said actors s keywords.Hint ws i e =
     let h = map_is (λ count. items.Hint count) (count_word (word 1 ws)) i e in
     say actors s i (items.Hint h.0) h.2 (count_said (word 1 ws) h.0 h.1)
@@ -198,6 +202,7 @@ plain_said actors s keywords.Source ws i e = actor_said actors s roles.Source (w
 plain_said actors s keywords.Client ws i e = actor_said actors s roles.Client (word 1 ws) i e
 plain_said actors s keywords.Tap ws i e = actor_said actors s roles.Tap (word 1 ws) i e
 plain_said actors s keywords.Joy ws i e = actor_said actors s roles.Joy (word 1 ws) i e
+plain_said actors s keywords.Owner ws i e = actor_said actors s roles.Owner (word 1 ws) i e
 plain_said actors s keywords.Action ws i e = absurd (cc e)
 
 -- actions
@@ -209,6 +214,7 @@ read_said : (by : role.Role) (w : List ℕ) (n : ℕ) → number (count_max by) 
 read_said roles.Source w n e = omega (arith, number_most READ_MAX w n e)
 read_said roles.Client w n e = omega (arith, number_most READ_MAX w n e)
 read_said roles.Tap w n e = omega (arith, number_most READ_MAX w n e)
+read_said roles.Owner w n e = omega (arith, number_most READ_MAX w n e)
 read_said roles.Joy w n e = omega (arith, number_most (2 ^ 32 - 1) w n e)
 
 command_said : (s : ℕ) (by : role.Role) (v : verb.Verb) (ws : List (List ℕ)) (c : command.Command) → plain_command by v ws ≡ Some c → IsSayableCommand s c
@@ -268,6 +274,9 @@ command_said s by verbs.Skip ws c e =
     let h = map_is (λ count. commands.Skip count) (count_word (word 3 ws)) c e in
     command_say s c (commands.Skip h.0) h.2 (count_said (word 3 ws) h.0 h.1)
 command_said s by verbs.Follow ws c e = let h : commands.Follow ≡ c = cc e in command_say s c commands.Follow (sym h) tt
+command_said s by verbs.Feedback ws c e =
+    let h = feedback_is (word 3 ws) c e in
+    command_say s c (commands.Feedback h.0) h.3 tt
 command_said s by verbs.Force ws c e = let h : commands.Force ≡ c = cc e in command_say s c commands.Force (sym h) tt
 
 -- a command has as many words as its verb takes

@@ -1,5 +1,5 @@
 -- Short records worked out by hand: which line is refused and why, or what they mean.
-use Rattle.std.specs.Prelude.{◌≡◌, ℕ, pos, true, List, [], ◌∷◌, ◌++◌, codes, replicate, map, sum_by, negsuc, Option, Some, None, Ok, Err, is_ok}
+use Rattle.std.specs.Prelude.{◌≡◌, ℕ, pos, true, false, List, [], ◌∷◌, ◌++◌, codes, replicate, map, sum_by, negsuc, Option, Some, None, Ok, Err, is_ok}
 use Rattle.std.specs.List.{flat_map}
 use Rattle.inp_model.specs.declared.clock.Clock.TheVariants.{Monotonic, Boottime}
 use Rattle.inp_model.specs.declared.stamped.Stamped.{Stamped}
@@ -237,6 +237,47 @@ pub record RefusesJoysticks : Type 0 where
   pub negative : IsRefused 4 BadWord (joy_lines ++ codes "do j read -1" ∷ [])
   pub count_of_a_tap : IsRefused 5 BadWord (joy_lines ++ codes "tap t" ∷ codes "do t read 4097" ∷ [])
 
+-- a device made by requests, of which nothing was said
+abbrev pub requested_lines : List (List ℕ)
+requested_lines = codes "inputrecord 2" ∷ codes "udevice u" ∷ []
+
+-- with its owner
+abbrev pub owner_lines : List (List ℕ)
+owner_lines = requested_lines ++ codes "owner o" ∷ []
+
+-- Devices made by requests and owners under version 1, which has none; that stand where they may not; a second owner;
+-- commands that owners do not have, and that owners alone have.
+pub record RefusesOwners : Type 0 where
+  pub version_1 : IsRefused 2 BadLine (header_lines ++ codes "udevice u" ∷ [])
+  pub owner_of_version_1 : IsRefused 3 BadLine (device_lines ++ codes "owner o" ∷ [])
+  pub alone : IsRefused 3 BadLine (requested_lines ++ codes "owner" ∷ [])
+  pub more : IsRefused 2 BadLine (codes "inputrecord 2" ∷ codes "udevice a b" ∷ [])
+  pub under_device : IsRefused 3 OutOfPlace (later_lines ++ codes "owner o" ∷ [])
+  pub under_a_later_device : IsRefused 4 OutOfPlace (requested_lines ++ codes "device d" ∷ codes "owner O" ∷ [])
+  pub place : IsRefused 2 OutOfPlace (codes "inputrecord 2" ∷ codes "owner o" ∷ [])
+  pub behind_an_action : IsRefused 5 OutOfPlace (requested_lines ++ codes "tap t" ∷ codes "do t open" ∷ codes "owner o" ∷ [])
+  pub device_behind_an_action : IsRefused 5 OutOfPlace (owner_lines ++ codes "do o feedback 1" ∷ codes "udevice v" ∷ [])
+  pub description_behind : IsRefused 4 OutOfPlace (owner_lines ++ codes "hint 16" ∷ [])
+  pub device_name : IsRefused 2 BadWord (codes "inputrecord 2" ∷ codes "udevice U" ∷ [])
+  pub name : IsRefused 3 BadWord (requested_lines ++ codes "owner O" ∷ [])
+  pub again : IsRefused 4 Twice (owner_lines ++ codes "tap o" ∷ [])
+  pub again_first : IsRefused 4 Twice (owner_lines ++ codes "owner o" ∷ [])
+  pub device_again : IsRefused 3 Twice (later_lines ++ codes "udevice d" ∷ [])
+  pub requested_again : IsRefused 3 Twice (requested_lines ++ codes "device u" ∷ [])
+  pub second : IsRefused 4 TooMany (owner_lines ++ codes "owner p" ∷ [])
+  pub second_behind_others : IsRefused 6 TooMany (owner_lines ++ codes "tap t" ∷ codes "source s" ∷ codes "owner p" ∷ [])
+  pub ninth_device : IsRefused 10 TooMany (codes "inputrecord 2" ∷ codes "device a" ∷ codes "udevice b" ∷ codes "device c" ∷ codes "udevice d" ∷ codes "device e" ∷ codes "udevice f" ∷ codes "device g" ∷ codes "device h" ∷ codes "udevice i" ∷ [])
+  pub opening : IsRefused 4 BadCommand (owner_lines ++ codes "do o open" ∷ [])
+  pub read : IsRefused 4 BadCommand (owner_lines ++ codes "do o read 1" ∷ [])
+  pub tick : IsRefused 4 BadCommand (owner_lines ++ codes "do o tick 1" ∷ [])
+  pub feedback_of_a_tap : IsRefused 4 BadCommand (requested_lines ++ codes "tap t" ∷ codes "do t feedback 1" ∷ [])
+  pub feedback_of_a_source : IsRefused 6 BadCommand (actor_lines ++ codes "do s feedback 1" ∷ [])
+  pub less : IsRefused 4 BadCommand (owner_lines ++ codes "do o feedback" ∷ [])
+  pub feedback_of_more_words : IsRefused 4 BadCommand (owner_lines ++ codes "do o feedback 1 1" ∷ [])
+  pub no_count : IsRefused 4 BadWord (owner_lines ++ codes "do o feedback 0" ∷ [])
+  pub wide_count : IsRefused 4 BadWord (owner_lines ++ codes "do o feedback 4097" ∷ [])
+  pub negative : IsRefused 4 BadWord (owner_lines ++ codes "do o feedback -1" ∷ [])
+
 -- What is right although it looks wrong.
 pub record AcceptsLines : Type 0 where
   pub comments : IsRead (codes "  # first" ∷ [] ∷ header_lines ++ (9 ∷ codes "#" ++ 0 ∷ 255 ∷ []) ∷ codes "  " ∷ codes "device d" ∷ [])
@@ -249,6 +290,8 @@ pub record AcceptsLines : Type 0 where
   pub slots_of_version_2 : IsRead (later_lines ++ codes "slots 256" ∷ [])
   pub filters_of_each : IsRead (later_lines ++ (replicate 8 (codes "filter norepeat") ++ codes "device e" ∷ replicate 8 (codes "filter eat EV_REP 1")))
   pub joystick_of_each : IsRead (joy_lines ++ codes "source s" ∷ codes "device j" ∷ codes "joy d" ∷ [])
+  pub owner_of_each : IsRead (owner_lines ++ codes "tap t" ∷ codes "udevice v" ∷ codes "source s" ∷ codes "owner u" ∷ [])
+  pub no_owner : IsRead (requested_lines ++ codes "hint 16" ∷ codes "joy j" ∷ [])
   pub moment : IsRead (actor_lines ++ codes "do s tick 9000000000000000" ∷ [])
   pub streams : IsRead (device_lines ++ codes "source s" ∷ replicate 16 (codes "do s stream f"))
 
@@ -277,7 +320,7 @@ loose_stroke =
 abbrev pub stroke_record : RecordView
 stroke_record = record {
   version = 1;
-  devices = record { name = codes "kbd"; caps = keyboard } ∷ [];
+  devices = record { name = codes "kbd"; caps = keyboard; requested = false } ∷ [];
   actors = record { name = codes "s"; role = roles.Source; device = 0 } ∷ record { name = codes "t"; role = roles.Tap; device = 0 } ∷ [];
   lines =
       record { actor = 1; command = commands.Open }
@@ -292,12 +335,12 @@ stroke_record = record {
 pub record MeansRecords : Type 0 where
   pub header : meaning (codes "inputrecord 1") ≡ Ok (record { version = 1; devices = []; actors = []; lines = []; streams = [] })
   pub later_header : meaning (codes "inputrecord 2") ≡ Ok (record { version = 2; devices = []; actors = []; lines = []; streams = [] })
-  pub device : meaning (text_of device_lines) ≡ Ok (record { version = 1; devices = record { name = codes "d"; caps = syn_alone } ∷ []; actors = []; lines = []; streams = [] })
+  pub device : meaning (text_of device_lines) ≡ Ok (record { version = 1; devices = record { name = codes "d"; caps = syn_alone; requested = false } ∷ []; actors = []; lines = []; streams = [] })
   pub filters :
       meaning (text_of (later_lines ++ codes "filter chord KEY_A 0x30" ∷ codes "filter norepeat" ∷ codes "filter bounce 30 001000" ∷ codes "filter norepeat" ∷ codes "filter eat 2 REL_WHEEL" ∷ []))
       ≡ Ok (record {
         version = 2;
-        devices = record { name = codes "d"; caps = record syn_alone { filters = Chord 30 48 ∷ Norepeat ∷ Bounce 30 1000 ∷ Norepeat ∷ Eat 2 8 ∷ [] } } ∷ [];
+        devices = record { name = codes "d"; caps = record syn_alone { filters = Chord 30 48 ∷ Norepeat ∷ Bounce 30 1000 ∷ Norepeat ∷ Eat 2 8 ∷ [] }; requested = false } ∷ [];
         actors = [];
         lines = [];
         streams = [];
@@ -311,7 +354,7 @@ AreActions lines actions =
     meaning (text_of (actor_lines ++ lines))
     ≡ Ok (record {
       version = 1;
-      devices = record { name = codes "d"; caps = syn_alone } ∷ [];
+      devices = record { name = codes "d"; caps = syn_alone; requested = false } ∷ [];
       actors =
           record { name = codes "s"; role = roles.Source; device = 0 }
           ∷ record { name = codes "c"; role = roles.Client; device = 0 }
@@ -339,16 +382,28 @@ pub record MeansActions : Type 0 where
       meaning (text_of (joy_lines ++ codes "tap t" ∷ codes "do j open" ∷ codes "do j read 4294967295" ∷ codes "do j read 0x1001" ∷ codes "do t read 4096" ∷ codes "do j read 0" ∷ codes "do j close" ∷ []))
       ≡ Ok (record {
         version = 2;
-        devices = record { name = codes "d"; caps = syn_alone } ∷ [];
+        devices = record { name = codes "d"; caps = syn_alone; requested = false } ∷ [];
         actors = record { name = codes "j"; role = roles.Joy; device = 0 } ∷ record { name = codes "t"; role = roles.Tap; device = 0 } ∷ [];
         lines = map (λ (action : ℕ × command.Command). record { actor = action.0; command = action.1 }) ((0, commands.Open) ∷ (0, commands.Read 4294967295) ∷ (0, commands.Read 4097) ∷ (1, commands.Read 4096) ∷ (0, commands.Read 0) ∷ (0, commands.Close) ∷ []);
+        streams = [];
+      })
+  pub owner :
+      meaning (text_of (later_lines ++ codes "udevice u" ∷ codes "owner o" ∷ codes "do o feedback 4096" ∷ codes "do o feedback 0x1" ∷ []))
+      ≡ Ok (record {
+        version = 2;
+        devices =
+            record { name = codes "d"; caps = syn_alone; requested = false }
+            ∷ record { name = codes "u"; caps = syn_alone; requested = true }
+            ∷ [];
+        actors = record { name = codes "o"; role = roles.Owner; device = 1 } ∷ [];
+        lines = record { actor = 0; command = commands.Feedback 4096 } ∷ record { actor = 0; command = commands.Feedback 1 } ∷ [];
         streams = [];
       })
   pub of_version_2 :
       meaning (text_of (later_lines ++ codes "source s" ∷ codes "do s stream16 a" ∷ codes "do s stream b" ∷ codes "do s stream16 b" ∷ []))
       ≡ Ok (record {
         version = 2;
-        devices = record { name = codes "d"; caps = syn_alone } ∷ [];
+        devices = record { name = codes "d"; caps = syn_alone; requested = false } ∷ [];
         actors = record { name = codes "s"; role = roles.Source; device = 0 } ∷ [];
         lines = map (λ command. record { actor = 0; command = command }) (commands.Stream16 (codes "a") 0 ∷ commands.Stream (codes "b") 1 ∷ commands.Stream16 (codes "b") 2 ∷ []);
         streams = [] ∷ [] ∷ [] ∷ [];

@@ -2,12 +2,13 @@
 use Rattle.std.specs.Prelude.{ℕ, Bool, if◌then◌else◌, nat_eq, nat_le, List, [], ◌∷◌, codes, Option, Some, None, option_and_then, unwrap_or}
 use Rattle.inp_words.specs.Table.{named}
 use Rattle.inp_record.specs.declared.keyword.Keyword.{Keyword}
-use Rattle.inp_record.specs.declared.keyword.Keyword.TheVariants.{Header, Device, Hint, Log, Clock, Slots, Kind, Code, Axis, Filter, Eat, Norepeat, Chord, Bounce, Source, Client, Tap, Joy, Action}
+use Rattle.inp_record.specs.declared.keyword.Keyword.TheVariants.{Header, Device, Udevice, Hint, Log, Clock, Slots, Kind, Code, Axis, Filter, Eat, Norepeat, Chord, Bounce, Source, Client, Tap, Joy, Owner, Action}
 
 unfoldable pub keyword_rows : List (List ℕ × Keyword)
 keyword_rows =
     (codes "inputrecord", Header)
     ∷ (codes "device", Device)
+    ∷ (codes "udevice", Udevice)
     ∷ (codes "hint", Hint)
     ∷ (codes "log", Log)
     ∷ (codes "clock", Clock)
@@ -20,6 +21,7 @@ keyword_rows =
     ∷ (codes "client", Client)
     ∷ (codes "tap", Tap)
     ∷ (codes "joy", Joy)
+    ∷ (codes "owner", Owner)
     ∷ (codes "do", Action)
     ∷ []
 
@@ -32,11 +34,14 @@ filter_rows =
 abbrev pub filter_keyword : List ℕ → Keyword
 filter_keyword second = unwrap_or (named filter_rows second) Filter
 
--- the keyword of a line whose first word names this one: under version 1 there is no filter line and no joystick, and under
--- a later one the second word of a filter line says what kind of filter it is
+-- the keyword of a line whose first word names this one: under version 1 there is no filter line, no device made by
+-- requests, no joystick and no owner, and under a later one the second word of a filter line says what kind of filter it
+-- is
 abbrev pub keyword_under : ℕ → List ℕ → Keyword → Option Keyword
 keyword_under version second Filter = if nat_eq version 1 then None else Some (filter_keyword second)
+keyword_under version second Udevice = if nat_eq version 1 then None else Some Udevice
 keyword_under version second Joy = if nat_eq version 1 then None else Some Joy
+keyword_under version second Owner = if nat_eq version 1 then None else Some Owner
 keyword_under version second keyword = Some keyword
 
 -- a line of this keyword has so many words

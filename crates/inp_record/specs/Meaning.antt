@@ -9,7 +9,7 @@ use Rattle.inp_caps.specs.declared.caps_refused.CapsRefused.{CapsRefused}
 use Rattle.inp_caps.specs.declared.caps_refused.CapsRefused.TheVariants.{BadCode, BadAxis, BadSlots, BadHint, BadLog, BadOffset}
 use Rattle.inp_caps.specs.Builder.{is_code, filter_answer, syn_alone}
 use Rattle.inp_actors.specs.declared.role.Role.{Role}
-use Rattle.inp_actors.specs.Command.{is_source}
+use Rattle.inp_actors.specs.Command.{is_source, is_owner}
 use Rattle.inp_actors.specs.Record.{RecordView}
 use Rattle.inp_words.specs.Line.{lines_of as text_lines, words_of, is_comment, is_text}
 use Rattle.inp_record.specs.declared.cause.Cause.{Cause}
@@ -20,7 +20,7 @@ use Rattle.inp_record.specs.declared.refused.Refused.{Refused}
 use Rattle.inp_record.specs.declared.refused.ParseFault.{ParseFault}
 use Rattle.inp_record.specs.declared.refused.ParseFault.TheVariants as fault
 use Rattle.inp_record.specs.declared.context.Context.{Context}
-use Rattle.inp_record.specs.declared.context.TheConstants.{DEVICES_MAX, SOURCES_MAX, READERS_MAX, STREAMS_MAX, SLOTS_OF_VERSION_1}
+use Rattle.inp_record.specs.declared.context.TheConstants.{DEVICES_MAX, SOURCES_MAX, READERS_MAX, OWNERS_MAX, STREAMS_MAX, SLOTS_OF_VERSION_1}
 use Rattle.inp_record.specs.declared.keyword.Keyword.{Keyword}
 use Rattle.inp_record.specs.declared.item.Item.{Item}
 use Rattle.inp_record.specs.declared.item.Item.TheVariants.{Device, Hint, Log, Realtime, Boottime, Slots, Kind, Code, Axis, Filter, Actor, Action}
@@ -41,7 +41,7 @@ has_device c name = is_text_of name c.name || list_any (λ d. bytes_eq d.name na
 -- a hint, a log limit, a number of slots, an offset or an axis that its device gave before; the name of a device or of an
 -- actor that another one has
 abbrev pub is_twice : Context → Item → Bool
-is_twice c (Device name) = has_device c name
+is_twice c (Device requested name) = has_device c name
 is_twice c (Hint count) = c.given.hint
 is_twice c (Log count) = c.given.log
 is_twice c (Realtime offset) = is_some c.given.realtime
@@ -57,12 +57,15 @@ device_count c = length c.devices + (if is_some c.name then 1 else 0)
 
 -- the latest device can have no other actor of this role
 abbrev pub has_all : Context → Role → Bool
-has_all c role = if is_source role then nat_le SOURCES_MAX c.sources else nat_le READERS_MAX c.readers
+has_all c role =
+    if is_source role then nat_le SOURCES_MAX c.sources
+    else if is_owner role then nat_le OWNERS_MAX c.owners
+    else nat_le READERS_MAX c.readers
 
 -- a ninth device, a ninth source of a device, a client, tap or joystick of a device that has 128 of them together, a
--- seventeenth stream
+-- second owner of a device, a seventeenth stream
 abbrev pub is_too_many : Context → Item → Bool
-is_too_many c (Device name) = nat_le DEVICES_MAX (device_count c)
+is_too_many c (Device requested name) = nat_le DEVICES_MAX (device_count c)
 is_too_many c (Actor role name) = has_all c role
 is_too_many c (Action actor command) = nat_lt STREAMS_MAX (c.streams + streams_in command)
 is_too_many c _ = false
@@ -121,7 +124,7 @@ checked c (Ok item) =
 abbrev pub placed : Context → Option Keyword → List (List ℕ) → Result Item Cause
 placed c None ws = Err BadLine
 placed c (Some keyword) ws =
-    if is_out_of_place c.place keyword then Err OutOfPlace else item_of c.actors c.streams keyword ws
+    if is_out_of_place c.place c.requested keyword then Err OutOfPlace else item_of c.actors c.streams keyword ws
 
 -- what the words of a line are
 unfoldable pub item_of_words : Context → List (List ℕ) → Result Item Cause
@@ -168,13 +171,14 @@ record_of past = record {
 
 -- the latest device stands behind those before it
 abbrev pub closed : Context → Context
-closed c = record c { name = None; builder = syn_alone; devices = with_latest c.devices c.name c.builder }
+closed c =
+    record c { name = None; builder = syn_alone; devices = with_latest c.devices c.name c.requested c.builder }
 
 -- the record of what is in a context
 abbrev pub record_in : Context → RecordView
 record_in c = record {
   version = c.version;
-  devices = with_latest c.devices c.name c.builder;
+  devices = with_latest c.devices c.name c.requested c.builder;
   actors = c.actors;
   lines = c.lines;
   streams = replicate c.streams [];

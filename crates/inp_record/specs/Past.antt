@@ -12,14 +12,14 @@ use Rattle.inp_actors.specs.declared.actor_text.ActorText.{ActorText}
 use Rattle.inp_actors.specs.declared.line.Line as line
 use Rattle.inp_actors.specs.declared.command.Command as command
 use Rattle.inp_actors.specs.declared.command.Command.TheVariants.{Stream, Stream16}
-use Rattle.inp_actors.specs.Command.{is_source}
+use Rattle.inp_actors.specs.Command.{is_source, is_owner, is_reading}
 use Rattle.inp_record.specs.declared.item.Item as item
 use Rattle.inp_record.specs.declared.item.Item.TheVariants.{Header, Device, Hint, Log, Realtime, Boottime, Slots, Kind, Code, Axis, Filter, Actor, Action}
 use Rattle.inp_record.specs.declared.place.Place as place
 use Rattle.inp_record.specs.declared.place.Place.TheVariants.{Start, Headed, Describing, Naming, Acting}
 use Rattle.inp_record.specs.declared.context.Context.{Context}
 use Rattle.inp_record.specs.declared.context.Given.{Given}
-use Rattle.inp_record.specs.declared.context.TheConstants.{DEVICES_MAX, SOURCES_MAX, READERS_MAX, STREAMS_MAX}
+use Rattle.inp_record.specs.declared.context.TheConstants.{DEVICES_MAX, SOURCES_MAX, READERS_MAX, OWNERS_MAX, STREAMS_MAX}
 
 abbrev pub Past : Type 0
 Past = List item.Item
@@ -40,20 +40,27 @@ place_of (item ∷ past) = place_after item
 abbrev pub version_of : Past → ℕ
 version_of [] = 1
 version_of (Header version ∷ past) = version
-version_of (Device name ∷ past) = version_of past
+version_of (Device requested name ∷ past) = version_of past
 version_of (_ ∷ past) = version_of past
 
 -- the name of the latest device
 abbrev pub latest_name : Past → Option (List ℕ)
 latest_name [] = None
-latest_name (Device name ∷ past) = Some name
+latest_name (Device requested name ∷ past) = Some name
 latest_name (Header version ∷ past) = latest_name past
 latest_name (_ ∷ past) = latest_name past
+
+-- the latest device is made by requests
+abbrev pub is_requested : Past → Bool
+is_requested [] = false
+is_requested (Device requested name ∷ past) = requested
+is_requested (Header version ∷ past) = is_requested past
+is_requested (_ ∷ past) = is_requested past
 
 -- what the lines of the latest device describe
 abbrev pub latest_description : Past → Description
 latest_description [] = syn_alone
-latest_description (Device name ∷ past) = syn_alone
+latest_description (Device requested name ∷ past) = syn_alone
 latest_description (Hint count ∷ past) = record (latest_description past) { hint = count }
 latest_description (Log count ∷ past) = record (latest_description past) { log_limit = count }
 latest_description (Realtime offset ∷ past) = record (latest_description past) { realtime = offset }
@@ -69,21 +76,21 @@ latest_description (_ ∷ past) = latest_description past
 -- the latest device gave a hint
 abbrev pub has_hint : Past → Bool
 has_hint [] = false
-has_hint (Device name ∷ past) = false
+has_hint (Device requested name ∷ past) = false
 has_hint (Hint count ∷ past) = true
 has_hint (Header version ∷ past) = has_hint past
 has_hint (_ ∷ past) = has_hint past
 
 abbrev pub has_log : Past → Bool
 has_log [] = false
-has_log (Device name ∷ past) = false
+has_log (Device requested name ∷ past) = false
 has_log (Log count ∷ past) = true
 has_log (Header version ∷ past) = has_log past
 has_log (_ ∷ past) = has_log past
 
 abbrev pub has_slots : Past → Bool
 has_slots [] = false
-has_slots (Device name ∷ past) = false
+has_slots (Device requested name ∷ past) = false
 has_slots (Slots count ∷ past) = true
 has_slots (Header version ∷ past) = has_slots past
 has_slots (_ ∷ past) = has_slots past
@@ -91,14 +98,14 @@ has_slots (_ ∷ past) = has_slots past
 -- the offset that the latest device gave for the realtime clock
 abbrev pub realtime_of : Past → Option ℕ
 realtime_of [] = None
-realtime_of (Device name ∷ past) = None
+realtime_of (Device requested name ∷ past) = None
 realtime_of (Realtime offset ∷ past) = Some offset
 realtime_of (Header version ∷ past) = realtime_of past
 realtime_of (_ ∷ past) = realtime_of past
 
 abbrev pub boottime_of : Past → Option ℕ
 boottime_of [] = None
-boottime_of (Device name ∷ past) = None
+boottime_of (Device requested name ∷ past) = None
 boottime_of (Boottime offset ∷ past) = Some offset
 boottime_of (Header version ∷ past) = boottime_of past
 boottime_of (_ ∷ past) = boottime_of past
@@ -106,7 +113,7 @@ boottime_of (_ ∷ past) = boottime_of past
 -- the axes that the latest device described, in line order
 abbrev pub axes_of : Past → List ℕ
 axes_of [] = []
-axes_of (Device name ∷ past) = []
+axes_of (Device requested name ∷ past) = []
 axes_of (Axis code info ∷ past) = axes_of past ++ code ∷ []
 axes_of (Header version ∷ past) = axes_of past
 axes_of (_ ∷ past) = axes_of past
@@ -114,7 +121,7 @@ axes_of (_ ∷ past) = axes_of past
 -- how many sources the latest device has
 abbrev pub source_count : Past → ℕ
 source_count [] = 0
-source_count (Device name ∷ past) = 0
+source_count (Device requested name ∷ past) = 0
 source_count (Actor role name ∷ past) = source_count past + (if is_source role then 1 else 0)
 source_count (Header version ∷ past) = source_count past
 source_count (_ ∷ past) = source_count past
@@ -122,26 +129,36 @@ source_count (_ ∷ past) = source_count past
 -- how many clients, taps and joysticks the latest device has
 abbrev pub reader_count : Past → ℕ
 reader_count [] = 0
-reader_count (Device name ∷ past) = 0
-reader_count (Actor role name ∷ past) = reader_count past + (if is_source role then 0 else 1)
+reader_count (Device requested name ∷ past) = 0
+reader_count (Actor role name ∷ past) = reader_count past + (if is_reading role then 1 else 0)
 reader_count (Header version ∷ past) = reader_count past
 reader_count (_ ∷ past) = reader_count past
 
+-- how many owners the latest device has
+abbrev pub owner_count : Past → ℕ
+owner_count [] = 0
+owner_count (Device requested name ∷ past) = 0
+owner_count (Actor role name ∷ past) = owner_count past + (if is_owner role then 1 else 0)
+owner_count (Header version ∷ past) = owner_count past
+owner_count (_ ∷ past) = owner_count past
+
 -- a device with this name, if there is one, behind those before it
-abbrev pub with_latest : List DeviceText → Option (List ℕ) → Description → List DeviceText
-with_latest former None described = former
-with_latest former (Some name) described = former ++ record { name = name; caps = built described } ∷ []
+abbrev pub with_latest : List DeviceText → Option (List ℕ) → Bool → Description → List DeviceText
+with_latest former None requested described = former
+with_latest former (Some name) requested described =
+    former ++ record { name = name; caps = built described; requested = requested } ∷ []
 
 -- the devices before the latest
 abbrev pub former_devices : Past → List DeviceText
 former_devices [] = []
-former_devices (Device name ∷ past) = with_latest (former_devices past) (latest_name past) (latest_description past)
+former_devices (Device requested name ∷ past) =
+    with_latest (former_devices past) (latest_name past) (is_requested past) (latest_description past)
 former_devices (Header version ∷ past) = former_devices past
 former_devices (_ ∷ past) = former_devices past
 
 -- all devices
 abbrev pub devices_of : Past → List DeviceText
-devices_of past = with_latest (former_devices past) (latest_name past) (latest_description past)
+devices_of past = with_latest (former_devices past) (latest_name past) (is_requested past) (latest_description past)
 
 -- the actors, each of the device that was the latest at its line
 abbrev pub actors_of : Past → List ActorText
@@ -185,6 +202,7 @@ context_of past = record {
   place = place_of past;
   version = version_of past;
   name = latest_name past;
+  requested = is_requested past;
   builder = latest_description past;
   given = record {
     hint = has_hint past;
@@ -196,17 +214,19 @@ context_of past = record {
   };
   sources = source_count past;
   readers = reader_count past;
+  owners = owner_count past;
   devices = former_devices past;
   actors = actors_of past;
   lines = lines_of past;
   streams = stream_count past;
 }
 
--- so few devices and streams that they can be counted, and offsets within their limit
+-- so few devices, actors of the latest one and streams that they can be counted, and offsets within their limit
 pub record HasRoom (c : Context) : Type 0 where
   pub devices : length c.devices + (if is_some c.name then 1 else 0) ≤ DEVICES_MAX
   pub sources : c.sources ≤ SOURCES_MAX
   pub readers : c.readers ≤ READERS_MAX
+  pub owners : c.owners ≤ OWNERS_MAX
   pub streams : c.streams ≤ STREAMS_MAX
   pub realtime : unwrap_or c.given.realtime 0 ≤ MOMENT_MAX
   pub boottime : unwrap_or c.given.boottime 0 ≤ MOMENT_MAX

@@ -1,7 +1,7 @@
 -- Where a line may stand (docs/FORMATS.md, "The lines").
 use Rattle.std.specs.Prelude.{Bool, true, false, ◌||◌, not}
 use Rattle.inp_record.specs.declared.keyword.Keyword.{Keyword}
-use Rattle.inp_record.specs.declared.keyword.Keyword.TheVariants.{Header, Device, Source, Client, Tap, Joy, Action}
+use Rattle.inp_record.specs.declared.keyword.Keyword.TheVariants.{Header, Device, Udevice, Source, Client, Tap, Joy, Owner, Action}
 use Rattle.inp_record.specs.declared.place.Place.{Place}
 use Rattle.inp_record.specs.declared.place.Place.TheVariants.{Start, Describing, Naming, Acting}
 
@@ -21,14 +21,17 @@ abbrev pub is_acting : Place → Bool
 is_acting Acting = true
 is_acting _ = false
 
--- no line of this keyword may stand there: a second header, a device after an action, an actor with no device before it
--- or after an action, a description with no device before it, after an actor of its device, or after an action
-abbrev pub is_out_of_place : Place → Keyword → Bool
-is_out_of_place place Header = not (is_start place)
-is_out_of_place place Device = is_acting place
-is_out_of_place place Source = not (is_describing place || is_naming place)
-is_out_of_place place Client = not (is_describing place || is_naming place)
-is_out_of_place place Tap = not (is_describing place || is_naming place)
-is_out_of_place place Joy = not (is_describing place || is_naming place)
-is_out_of_place place Action = false
-is_out_of_place place _ = not (is_describing place)
+-- no line of this keyword may stand there, where the latest device is made by requests or is not: a second header, a
+-- device after an action, an actor with no device before it or after an action, an owner of a device that is not made by
+-- requests, a description with no device before it, after an actor of its device, or after an action
+abbrev pub is_out_of_place : Place → Bool → Keyword → Bool
+is_out_of_place place requested Header = not (is_start place)
+is_out_of_place place requested Device = is_acting place
+is_out_of_place place requested Udevice = is_acting place
+is_out_of_place place requested Source = not (is_describing place || is_naming place)
+is_out_of_place place requested Client = not (is_describing place || is_naming place)
+is_out_of_place place requested Tap = not (is_describing place || is_naming place)
+is_out_of_place place requested Joy = not (is_describing place || is_naming place)
+is_out_of_place place requested Owner = not (is_describing place || is_naming place) || not requested
+is_out_of_place place requested Action = false
+is_out_of_place place requested _ = not (is_describing place)

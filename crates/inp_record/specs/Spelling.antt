@@ -12,7 +12,7 @@ use Rattle.inp_actors.specs.Record.{RecordView}
 use Rattle.inp_texts.specs.Texts.{kind_text, code_text, clock_text, role_text}
 use Rattle.inp_canon.specs.Words.{Words}
 use Rattle.inp_canon.specs.Device.{axis_words, filter_words, coded_kinds}
-use Rattle.inp_canon.specs.Text.{action_words, record_text}
+use Rattle.inp_canon.specs.Text.{device_word, action_words, record_text}
 use Rattle.inp_record.specs.declared.item.Item.{Item}
 use Rattle.inp_record.specs.declared.item.Item.TheVariants.{Header, Device, Hint, Log, Realtime, Boottime, Slots, Kind, Code, Axis, Filter, Actor, Action}
 use Rattle.inp_record.specs.Meaning.{meaning}
@@ -20,7 +20,7 @@ use Rattle.inp_record.specs.Meaning.{meaning}
 -- the words by which a line says this, where the actors are these
 abbrev pub item_words : List ActorText → Item → Words
 item_words actors (Header version) = codes "inputrecord" ∷ decimal version ∷ []
-item_words actors (Device name) = codes "device" ∷ name ∷ []
+item_words actors (Device requested name) = device_word requested ∷ name ∷ []
 item_words actors (Hint count) = codes "hint" ∷ decimal count ∷ []
 item_words actors (Log count) = codes "log" ∷ decimal count ∷ []
 item_words actors (Realtime offset) = codes "clock" ∷ clock_text clock.Realtime ∷ decimal offset ∷ []
@@ -72,7 +72,7 @@ abbrev pub actor_items : ℕ → ActorText → List Item
 actor_items device actor = if nat_eq actor.device device then Actor actor.role actor.name ∷ [] else []
 
 unfoldable pub device_items : List ActorText → ℕ × DeviceText → List Item
-device_items actors d = Device d.1.name ∷ (description_items d.1.caps ++ flat_map (actor_items d.0) actors)
+device_items actors d = Device d.1.requested d.1.name ∷ (description_items d.1.caps ++ flat_map (actor_items d.0) actors)
 
 abbrev pub action_item_of : line.Line → Item
 action_item_of l = Action l.actor l.command

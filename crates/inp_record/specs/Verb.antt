@@ -3,10 +3,10 @@ use Rattle.std.specs.Prelude.{ℕ, Bool, ◌&&◌, ◌||◌, if◌then◌else◌
 use Rattle.inp_model.specs.declared.clock.Clock as clock
 use Rattle.inp_model.specs.declared.clock.Clock.TheVariants.{Realtime, Monotonic, Boottime}
 use Rattle.inp_actors.specs.declared.role.Role.{Role}
-use Rattle.inp_actors.specs.Command.{is_source, is_client, is_tap, is_joy, is_calling, is_reading}
+use Rattle.inp_actors.specs.Command.{is_source, is_client, is_tap, is_joy, is_owner, is_calling, is_reading}
 use Rattle.inp_words.specs.Table.{named}
 use Rattle.inp_record.specs.declared.verb.Verb.{Verb}
-use Rattle.inp_record.specs.declared.verb.Verb.TheVariants.{Event, Tick, Inhibit, Uninhibit, Stream, Stream16, Open, Close, Grab, Ungrab, Revoke, Mask, Clock, Write, SetAxis, Read, Discard, Keys, Switches, Leds, Sounds, SyncSlots, Axis, Slots, Next, Skip, Follow, Force}
+use Rattle.inp_record.specs.declared.verb.Verb.TheVariants.{Event, Tick, Inhibit, Uninhibit, Stream, Stream16, Open, Close, Grab, Ungrab, Revoke, Mask, Clock, Write, SetAxis, Read, Discard, Keys, Switches, Leds, Sounds, SyncSlots, Axis, Slots, Next, Skip, Follow, Force, Feedback}
 
 unfoldable pub verb_rows : List (List ℕ × Verb)
 verb_rows =
@@ -38,6 +38,7 @@ verb_rows =
     ∷ (codes "skip", Skip)
     ∷ (codes "follow", Follow)
     ∷ (codes "force", Force)
+    ∷ (codes "feedback", Feedback)
     ∷ []
 
 -- actors of the role have the command
@@ -62,6 +63,7 @@ is_verb_of role Next = is_client role
 is_verb_of role Skip = is_client role
 is_verb_of role Follow = is_client role
 is_verb_of role Force = is_client role
+is_verb_of role Feedback = is_owner role
 is_verb_of role _ = is_tap role
 
 -- how many words a command is given
@@ -80,6 +82,7 @@ argument_count Axis = 1
 argument_count Slots = 1
 argument_count Next = 1
 argument_count Skip = 1
+argument_count Feedback = 1
 argument_count _ = 0
 
 -- the command, if actors of the role have it and it is given so many words

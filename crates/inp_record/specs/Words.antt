@@ -92,6 +92,10 @@ offset_item Realtime offset = Some (items.Realtime offset)
 offset_item Monotonic offset = None
 offset_item Boottime offset = Some (items.Boottime offset)
 
+-- a device, which is made by requests or is not
+abbrev pub device_item : Bool → List ℕ → Option item.Item
+device_item requested w = option_map (λ name. items.Device requested name) (name_word w)
+
 abbrev pub actor_item : role.Role → List ℕ → Option item.Item
 actor_item role w = option_map (λ name. items.Actor role name) (name_word w)
 
@@ -125,7 +129,8 @@ has_micros _ = true
 -- the meaning of a line that is no action, if its words have their forms
 unfoldable pub plain_item : keyword.Keyword → List (List ℕ) → Option item.Item
 plain_item keywords.Header ws = option_map (λ version. items.Header version) (version_word (word 1 ws))
-plain_item keywords.Device ws = option_map (λ name. items.Device name) (name_word (word 1 ws))
+plain_item keywords.Device ws = device_item false (word 1 ws)
+plain_item keywords.Udevice ws = device_item true (word 1 ws)
 plain_item keywords.Hint ws = option_map (λ count. items.Hint count) (count_word (word 1 ws))
 plain_item keywords.Log ws = option_map (λ count. items.Log count) (count_word (word 1 ws))
 plain_item keywords.Clock ws =
@@ -144,6 +149,7 @@ plain_item keywords.Source ws = actor_item roles.Source (word 1 ws)
 plain_item keywords.Client ws = actor_item roles.Client (word 1 ws)
 plain_item keywords.Tap ws = actor_item roles.Tap (word 1 ws)
 plain_item keywords.Joy ws = actor_item roles.Joy (word 1 ws)
+plain_item keywords.Owner ws = actor_item roles.Owner (word 1 ws)
 plain_item keywords.Action ws = None
 
 -- a word of a mask: its type, its place and its bits
@@ -163,6 +169,11 @@ count_max _ = READ_MAX
 
 abbrev pub read_word : role.Role → List ℕ → Option command.Command
 read_word role w = option_map (λ count. commands.Read count) (number (count_max role) w)
+
+-- how many events an owner takes at most, which is one or more
+abbrev pub feedback_word : List ℕ → Option command.Command
+feedback_word w =
+    option_and_then (λ count. if nat_eq count 0 then None else Some (commands.Feedback count)) (number READ_MAX w)
 
 abbrev pub set_axis_words : List (List ℕ) → Option command.Command
 set_axis_words ws =
@@ -198,6 +209,7 @@ plain_command role verbs.Next ws = option_map (λ count. commands.Next count) (c
 plain_command role verbs.Skip ws = option_map (λ count. commands.Skip count) (count_word (word 3 ws))
 plain_command role verbs.Follow ws = Some commands.Follow
 plain_command role verbs.Force ws = Some commands.Force
+plain_command role verbs.Feedback ws = feedback_word (word 3 ws)
 
 -- a command with its words, of an actor of this role, if these have their forms; a stream takes any word as its file, and
 -- has this number

@@ -3,7 +3,7 @@ ghost use Rattle.std.specs.Prelude.{◌≡◌, ◌+◌, ◌<◌, ◌≤◌, ◌^
 ghost use Rattle.inp_words.specs.Line.{AreText, is_text};
 ghost use Rattle.inp_record.specs.Fault.{IsReading};
 ghost use Rattle.inp_record.specs.Verb.{argument_count};
-ghost use Rattle.inp_record.specs.Words.{texts, moment_word, stamped_words, mask_words, clock_words, set_axis_words, count_max, read_word, plain_command, command_of, actor_from, action_item};
+ghost use Rattle.inp_record.specs.Words.{texts, moment_word, stamped_words, mask_words, clock_words, set_axis_words, count_max, read_word, feedback_word, plain_command, command_of, actor_from, action_item};
 
 use crate::Cause;
 use crate::item::Item;
@@ -91,6 +91,18 @@ fn read_word(role: Role, word: &[u8]) -> Option<Command>
     })
 }
 
+/// How many events an owner takes at most, which is one or more.
+fn feedback_word(word: &[u8]) -> Option<Command>
+    ensures { result ≡ feedback_word word.now }
+{
+    match number(word, u64::from(READ_MAX)) {
+        Some(0) | None => None,
+        Some(count) => Some(Command::Feedback {
+            count: count as u32,
+        }),
+    }
+}
+
 /// A command with its words, other than a stream, of an actor of this role.
 #[tactic(auto, unfolding(crate::specs::Words::plain_command))]
 fn plain_command(role: Role, verb: Verb, words: &[&[u8]]) -> Option<Command>
@@ -159,6 +171,7 @@ fn plain_command(role: Role, verb: Verb, words: &[&[u8]]) -> Option<Command>
         }
         Verb::Follow => Some(Command::Follow),
         Verb::Force => Some(Command::Force),
+        Verb::Feedback => feedback_word(word(words, 3)),
     }
 }
 

@@ -36,6 +36,11 @@ pub(crate) const READERS_MAX: u32 = 128;
 
 const _: () = prove!(READERS_MAX == 2 * 64);
 
+/// The greatest number of owners of a device (this project's choice).
+pub(crate) const OWNERS_MAX: u32 = 1;
+
+const _: () = prove!(OWNERS_MAX + OWNERS_MAX == 2);
+
 /// The greatest number of streams of a record (this project's choice).
 pub(crate) const STREAMS_MAX: u32 = 16;
 
@@ -66,6 +71,8 @@ pub(crate) struct Context {
     pub(crate) version: u32,
     /// The name of the latest device.
     pub(crate) name: Option<Name>,
+    /// Whether it is made by requests.
+    pub(crate) requested: bool,
     /// Its description so far.
     pub(crate) builder: CapsBuilder,
     /// What its lines gave.
@@ -74,6 +81,8 @@ pub(crate) struct Context {
     pub(crate) sources: u32,
     /// How many clients, taps and joysticks it has.
     pub(crate) readers: u32,
+    /// How many owners it has.
+    pub(crate) owners: u32,
     /// The devices before it.
     pub(crate) devices: Devices,
     /// All actors so far.
@@ -94,10 +103,12 @@ impl Context {
             place: Place::Start,
             version: 1,
             name: None,
+            requested: false,
             builder: CapsBuilder::new(),
             given: Given::new(alloc),
             sources: 0,
             readers: 0,
+            owners: 0,
             devices: Items::new(alloc),
             actors: Items::new(alloc),
             lines: Items::new(alloc),
@@ -117,7 +128,7 @@ impl Context {
     {
         match item {
             Item::Header { version } => self.begin(version),
-            Item::Device { name } => self.add_device(alloc, name),
+            Item::Device { requested, name } => self.add_device(alloc, requested, name),
             Item::Actor { role, name } => self.add_actor(role, name),
             Item::Action { actor, command } => self.add_line(actor, command),
             Item::Hint { count } => self.set_hint(count),
@@ -282,17 +293,18 @@ impl Context {
             Some(name) => self.devices.push(DeviceText {
                 name,
                 caps: builder.build(),
+                requested: self.requested,
             }),
             None => Ok(()),
         }
     }
 
     /// Begins a device, behind those before it.
-    fn add_device(&mut self, alloc: Global, name: Name) -> Result<(), LineFault>
+    fn add_device(&mut self, alloc: Global, requested: bool, name: Name) -> Result<(), LineFault>
         requires room { HasRoom self.old }
-        requires enough { is_too_many self.old (items.Device name) ≡ false }
+        requires enough { is_too_many self.old (items.Device requested name) ≡ false }
         ensures entered { (past : Past) → self.old ≡ context_of past
-            → IsEntered result past (items.Device name) self.new }
+            → IsEntered result past (items.Device requested name) self.new }
         ensures actors { OnOk result (self.new.actors ≡ self.old.actors) }
         ensures room { OnOk result (HasRoom self.new) }
     {
@@ -301,9 +313,11 @@ impl Context {
         }
         self.place = Place::Describing;
         self.name = Some(name);
+        self.requested = requested;
         self.given = Given::new(alloc);
         self.sources = 0;
         self.readers = 0;
+        self.owners = 0;
         Ok(())
     }
 
@@ -324,10 +338,10 @@ impl Context {
         if self.actors.push(actor).is_err() {
             return Err(LineFault::NoMemory);
         }
-        if role == Role::Source {
-            self.sources += 1;
-        } else {
-            self.readers += 1;
+        match role {
+            Role::Source => self.sources += 1,
+            Role::Owner => self.owners += 1,
+            _ => self.readers += 1,
         }
         self.place = Place::Naming;
         Ok(())
@@ -358,7 +372,7 @@ impl Context {
         ensures { result ≡ is_twice self.now item.now }
     {
         match item {
-            Item::Device { name } => self.has_device(name.bytes()),
+            Item::Device { name, .. } => self.has_device(name.bytes()),
             Item::Actor { name, .. } => self.has_actor(name.bytes()),
             Item::Hint { .. } => self.given.hint,
             Item::Log { .. } => self.given.log,
@@ -434,10 +448,10 @@ impl Context {
     fn has_all(&self, role: Role) -> bool
         ensures { result ≡ has_all self.now role }
     {
-        if role == Role::Source {
-            self.sources >= SOURCES_MAX
-        } else {
-            self.readers >= READERS_MAX
+        match role {
+            Role::Source => self.sources >= SOURCES_MAX,
+            Role::Owner => self.owners >= OWNERS_MAX,
+            _ => self.readers >= READERS_MAX,
         }
     }
 

@@ -7,7 +7,7 @@ use inp_model::{AxisInfo, Filter};
 #[derive(Drop)]
 pub(crate) enum Item {
     Header { version: u32 },
-    Device { name: Name },
+    Device { requested: bool, name: Name },
     Hint { count: u32 },
     Log { count: u32 },
     Realtime { offset: u64 },

@@ -2,7 +2,7 @@
 ghost use Rattle.std.specs.Prelude.{◌≡◌, ◌+◌, ◌<◌, ◌≤◌, ◌^◌, length, true};
 ghost use Rattle.inp_words.specs.Number.{number};
 ghost use Rattle.inp_record.specs.Keyword.{has_words};
-ghost use Rattle.inp_record.specs.Words.{texts, word, version_word, is_header, name_word, count_word, kind_and_code, three_numbers, info_words, offset_item, actor_item, micros_word, eat_item, chord_item, bounce_item, plain_item};
+ghost use Rattle.inp_record.specs.Words.{texts, word, version_word, is_header, name_word, count_word, kind_and_code, three_numbers, info_words, offset_item, device_item, actor_item, micros_word, eat_item, chord_item, bounce_item, plain_item};
 
 use crate::item::Item;
 use crate::keyword::Keyword;
@@ -165,10 +165,8 @@ pub(crate) fn plain_item(keyword: Keyword, words: &[&[u8]]) -> Option<Item>
             let version = version_word(word(words, 1))?;
             Some(Item::Header { version })
         }
-        Keyword::Device => {
-            let name = name_word(word(words, 1))?;
-            Some(Item::Device { name })
-        }
+        Keyword::Device => device_item(false, word(words, 1)),
+        Keyword::Udevice => device_item(true, word(words, 1)),
         Keyword::Hint => {
             let count = count_word(word(words, 1))?;
             Some(Item::Hint { count })
@@ -210,8 +208,17 @@ pub(crate) fn plain_item(keyword: Keyword, words: &[&[u8]]) -> Option<Item>
         Keyword::Client => actor_item(Role::Client, word(words, 1)),
         Keyword::Tap => actor_item(Role::Tap, word(words, 1)),
         Keyword::Joy => actor_item(Role::Joy, word(words, 1)),
+        Keyword::Owner => actor_item(Role::Owner, word(words, 1)),
         Keyword::Action => None,
     }
+}
+
+/// A device with this name, which is made by requests or is not.
+fn device_item(requested: bool, word: &[u8]) -> Option<Item>
+    ensures { result ≡ device_item requested word.now }
+{
+    let name = name_word(word)?;
+    Some(Item::Device { requested, name })
 }
 
 /// An actor of this role, with this name.

@@ -10,6 +10,7 @@ use inp_words::named;
 pub(crate) enum Keyword {
     Header,
     Device,
+    Udevice,
     Hint,
     Log,
     Clock,
@@ -27,6 +28,7 @@ pub(crate) enum Keyword {
     Client,
     Tap,
     Joy,
+    Owner,
     Action,
 }
 
@@ -35,9 +37,10 @@ pub(crate) enum Keyword {
 fn keyword_rows() -> &'static [(&'static str, Keyword)]
     ensures { rows_of result.now ≡ keyword_rows }
 {
-    static ROWS: [(&str, Keyword); 15] = [
+    static ROWS: [(&str, Keyword); 17] = [
         ("inputrecord", Keyword::Header),
         ("device", Keyword::Device),
+        ("udevice", Keyword::Udevice),
         ("hint", Keyword::Hint),
         ("log", Keyword::Log),
         ("clock", Keyword::Clock),
@@ -50,6 +53,7 @@ fn keyword_rows() -> &'static [(&'static str, Keyword)]
         ("client", Keyword::Client),
         ("tap", Keyword::Tap),
         ("joy", Keyword::Joy),
+        ("owner", Keyword::Owner),
         ("do", Keyword::Action),
     ];
     &ROWS
@@ -84,7 +88,7 @@ fn keyword_under(version: u32, second: &[u8], keyword: Keyword) -> Option<Keywor
     ensures { result ≡ keyword_under version second.now keyword }
 {
     match keyword {
-        Keyword::Filter | Keyword::Joy if version == 1 => None,
+        Keyword::Filter | Keyword::Udevice | Keyword::Joy | Keyword::Owner if version == 1 => None,
         Keyword::Filter => Some(filter_keyword(second)),
         _ => Some(keyword),
     }

@@ -69,7 +69,7 @@ fn item_of_words(context: &Context, alloc: Global, words: &[&[u8]]) -> Result<It
     let Some(keyword) = keyword_of(context.version, first, second, words.len()) else {
         return Err(LineFault::Refused(Cause::BadLine));
     };
-    if is_out_of_place(context.place, keyword) {
+    if is_out_of_place(context.place, context.requested, keyword) {
         return Err(LineFault::Refused(Cause::OutOfPlace));
     }
     item_of(

@@ -19,16 +19,17 @@ pub(crate) enum Place {
     Acting,
 }
 
-/// Whether no line of this keyword may stand there.
-pub(crate) fn is_out_of_place(place: Place, keyword: Keyword) -> bool
-    ensures { result ≡ is_out_of_place place keyword }
+/// Whether no line of this keyword may stand there, where the latest device is made by requests or is not.
+pub(crate) fn is_out_of_place(place: Place, requested: bool, keyword: Keyword) -> bool
+    ensures { result ≡ is_out_of_place place requested keyword }
 {
     match keyword {
         Keyword::Header => place != Place::Start,
-        Keyword::Device => place == Place::Acting,
+        Keyword::Device | Keyword::Udevice => place == Place::Acting,
         Keyword::Source | Keyword::Client | Keyword::Tap | Keyword::Joy => {
             place != Place::Describing && place != Place::Naming
         }
+        Keyword::Owner => (place != Place::Describing && place != Place::Naming) || !requested,
         Keyword::Action => false,
         _ => place != Place::Describing,
     }

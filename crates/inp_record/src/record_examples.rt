@@ -1,5 +1,5 @@
 //! What the definitions say of short records.
-ghost use Rattle.inp_record.specs.Examples.{RefusesOtherBytes, RefusesHeaders, RefusesLines, RefusesPlaces, RefusesActors, RefusesCommands, RefusesWords, RefusesRepeats, RefusesMore, RefusesDescriptions, RefusesFilters, RefusesJoysticks, AcceptsLines, MeansRecords, MeansActions, MeansStreams};
+ghost use Rattle.inp_record.specs.Examples.{RefusesOtherBytes, RefusesHeaders, RefusesLines, RefusesPlaces, RefusesActors, RefusesCommands, RefusesWords, RefusesRepeats, RefusesMore, RefusesDescriptions, RefusesFilters, RefusesJoysticks, RefusesOwners, AcceptsLines, MeansRecords, MeansActions, MeansStreams};
 
 /// What short records mean, and which line of others is refused and why, worked out by hand: each cause at the lines that
 /// can have it, and of two causes that one line has the one that comes first. It does nothing: its contract is the point.
@@ -16,6 +16,7 @@ pub fn examples()
     ensures descriptions { RefusesDescriptions }
     ensures filters { RefusesFilters }
     ensures joysticks { RefusesJoysticks }
+    ensures owners { RefusesOwners }
     ensures accepted { AcceptsLines }
     ensures records { MeansRecords }
     ensures actions { MeansActions }

@@ -38,6 +38,7 @@ pub(crate) enum Verb {
     Skip,
     Follow,
     Force,
+    Feedback,
 }
 
 /// Each word with its command.
@@ -45,7 +46,7 @@ pub(crate) enum Verb {
 fn verb_rows() -> &'static [(&'static str, Verb)]
     ensures { rows_of result.now ≡ verb_rows }
 {
-    static ROWS: [(&str, Verb); 28] = [
+    static ROWS: [(&str, Verb); 29] = [
         ("event", Verb::Event),
         ("tick", Verb::Tick),
         ("inhibit", Verb::Inhibit),
@@ -74,6 +75,7 @@ fn verb_rows() -> &'static [(&'static str, Verb)]
         ("skip", Verb::Skip),
         ("follow", Verb::Follow),
         ("force", Verb::Force),
+        ("feedback", Verb::Feedback),
     ];
     &ROWS
 }
@@ -103,7 +105,7 @@ fn is_verb_of(role: Role, verb: Verb) -> bool
         | Verb::Uninhibit
         | Verb::Stream
         | Verb::Stream16 => role == Role::Source,
-        Verb::Open | Verb::Close => role != Role::Source,
+        Verb::Open | Verb::Close => matches!(role, Role::Client | Role::Tap | Role::Joy),
         Verb::Grab
         | Verb::Ungrab
         | Verb::Revoke
@@ -113,6 +115,7 @@ fn is_verb_of(role: Role, verb: Verb) -> bool
         | Verb::SetAxis => matches!(role, Role::Client | Role::Tap),
         Verb::Read => matches!(role, Role::Tap | Role::Joy),
         Verb::Next | Verb::Skip | Verb::Follow | Verb::Force => role == Role::Client,
+        Verb::Feedback => role == Role::Owner,
         _ => role == Role::Tap,
     }
 }
@@ -134,7 +137,8 @@ fn argument_count(verb: Verb) -> usize
         | Verb::Axis
         | Verb::Slots
         | Verb::Next
-        | Verb::Skip => 1,
+        | Verb::Skip
+        | Verb::Feedback => 1,
         _ => 0,
     }
 }

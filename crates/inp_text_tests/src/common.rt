@@ -50,6 +50,7 @@ pub fn stream_record(alloc: Global) -> Result<Record, NoMemory>
     devices.push(DeviceText {
         name: Name::new(b"kbd"),
         caps: CapsBuilder::new().build(),
+        requested: false,
     })?;
     let mut actors = Actors::new(alloc);
     actors.push(ActorText {

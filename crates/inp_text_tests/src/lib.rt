@@ -3,8 +3,9 @@
 //!
 //! A crate with tests is proved twice, once without and once with them. So the crates under test have none of their own:
 //! their tests stand here, over public calls alone, in one file for each crate, but that those of `inp_record` are in
-//! `damage`, `filters` and `joysticks`, and what it prints in `canon`. `common` has the records of several files. What is printed of records and of
-//! what comes of them is shown by the records of `tests/records` and by `tests/test_migrate.py`.
+//! `damage`, `filters`, `joysticks` and `owners`, and what it prints in `canon`. `common` has the records of several
+//! files. What is printed of records and of what comes of them is shown by the records of `tests/records` and by
+//! `tests/test_migrate.py`.
 #![tactic(auto)]
 
 #[cfg(test)]
@@ -23,5 +24,7 @@ mod filters;
 mod joysticks;
 #[cfg(test)]
 mod make;
+#[cfg(test)]
+mod owners;
 #[cfg(test)]
 mod stream;

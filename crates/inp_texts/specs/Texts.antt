@@ -7,7 +7,7 @@ use Rattle.inp_model.specs.declared.clock.Clock.TheVariants.{Realtime, Monotonic
 use Rattle.inp_codes.specs.KindNames.{kind_name}
 use Rattle.inp_codes.specs.CodeNames.{name_of}
 use Rattle.inp_actors.specs.declared.role.Role.{Role}
-use Rattle.inp_actors.specs.declared.role.Role.TheVariants.{Source, Client, Tap, Joy}
+use Rattle.inp_actors.specs.declared.role.Role.TheVariants.{Source, Client, Tap, Joy, Owner}
 
 -- a type by its name, or its number where it has none
 unfoldable pub kind_text : ℕ → List ℕ
@@ -31,3 +31,4 @@ role_text Source = codes "source"
 role_text Client = codes "client"
 role_text Tap = codes "tap"
 role_text Joy = codes "joy"
+role_text Owner = codes "owner"

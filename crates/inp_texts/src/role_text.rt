@@ -4,7 +4,7 @@ use inp_actors::Role;
 use std::fmt;
 use std::fmt::Write;
 
-/// Writes what an actor is: `source`, `client`, `tap` or `joy` (this project's choice).
+/// Writes what an actor is: `source`, `client`, `tap`, `joy` or `owner` (this project's choice).
 #[derive(Drop)]
 pub struct RoleText(pub Role);
 
@@ -21,6 +21,7 @@ impl fmt::Display for RoleText {
             Role::Client => f.write_str("client"),
             Role::Tap => f.write_str("tap"),
             Role::Joy => f.write_str("joy"),
+            Role::Owner => f.write_str("owner"),
         }
     }
 }

@@ -1,6 +1,6 @@
-use Rattle.std.proofs.Common.{[], ◌∷◌, ◌++◌, codes}
+use Rattle.std.proofs.Common.{[], ◌∷◌, ◌++◌}
 use Rattle.inp_canon.specs.Device.{description_lines}
-use Rattle.inp_canon.specs.Text.{actors_lines, device_lines}
+use Rattle.inp_canon.specs.Text.{actors_lines, device_words, device_lines}
 use Rattle.inp_canon.proofs.Written.{sections}
 use Rattle.inp_canon.proofs.text.push_device.Goals as goal
 
@@ -10,6 +10,6 @@ returns c =
     let described = description_lines c.args.device.now.caps in
     let acting = actors_lines c.args.actors.now c.args.index in
     record {
-      pushed = sections _ _ _ ((codes "device" ∷ c.args.device.now.name ∷ []) ∷ []) (described ++ acting) c.in_ok-push_device_name.ensures.pushed
+      pushed = sections _ _ _ (device_words c.args.device.now ∷ []) (described ++ acting) c.in_ok-push_device_name.ensures.pushed
           (sections _ _ _ described acting c.in_ok-push_description.ensures.pushed c.in_ok-push_actors.ensures.pushed);
     }

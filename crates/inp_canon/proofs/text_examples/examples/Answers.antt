@@ -6,6 +6,10 @@ pub returns-clause-keyboard : goal.returns-clause-keyboard
 unfolding computing
 returns-clause-keyboard c = refl
 
+pub returns-clause-requested : goal.returns-clause-requested
+unfolding computing
+returns-clause-requested c = refl
+
 pub returns-clause-version : goal.returns-clause-version
 unfolding computing
 returns-clause-version c = refl
@@ -63,4 +67,5 @@ returns-clause-commands c =
       skip = refl;
       follow = refl;
       force = refl;
+      feedback = refl;
     }

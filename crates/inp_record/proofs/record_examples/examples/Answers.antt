@@ -52,9 +52,13 @@ pub returns-clause-joysticks : goal.returns-clause-joysticks
 unfolding record_computing
 returns-clause-joysticks c = record { version_1 = refl; version_1_first = refl; alone = refl; more = refl; place = refl; behind_an_action = refl; description_behind = refl; name = refl; again = refl; grab = refl; clock = refl; next = refl; keys = refl; tick = refl; less = refl; open_more = refl; count = refl; negative = refl; count_of_a_tap = refl }
 
+pub returns-clause-owners : goal.returns-clause-owners
+unfolding record_computing
+returns-clause-owners c = record { version_1 = refl; owner_of_version_1 = refl; alone = refl; more = refl; under_device = refl; under_a_later_device = refl; place = refl; behind_an_action = refl; device_behind_an_action = refl; description_behind = refl; device_name = refl; name = refl; again = refl; again_first = refl; device_again = refl; requested_again = refl; second = refl; second_behind_others = refl; ninth_device = refl; opening = refl; read = refl; tick = refl; feedback_of_a_tap = refl; feedback_of_a_source = refl; less = refl; feedback_of_more_words = refl; no_count = refl; wide_count = refl; negative = refl }
+
 pub returns-clause-accepted : goal.returns-clause-accepted
 unfolding record_computing
-returns-clause-accepted c = record { comments = refl; devices = refl; again = refl; name_spaces = refl; long_name = refl; supported_twice = refl; bounds = refl; slots_of_version_2 = refl; filters_of_each = refl; joystick_of_each = refl; moment = refl; streams = refl }
+returns-clause-accepted c = record { comments = refl; devices = refl; again = refl; name_spaces = refl; long_name = refl; supported_twice = refl; bounds = refl; slots_of_version_2 = refl; filters_of_each = refl; joystick_of_each = refl; owner_of_each = refl; no_owner = refl; moment = refl; streams = refl }
 
 pub returns-clause-records : goal.returns-clause-records
 unfolding record_computing
@@ -62,7 +66,7 @@ returns-clause-records c = record { header = refl; later_header = refl; device =
 
 pub returns-clause-actions : goal.returns-clause-actions
 unfolding record_computing
-returns-clause-actions c = record { source = refl; client = refl; reading = refl; tap = refl; joystick = refl; of_version_2 = refl }
+returns-clause-actions c = record { source = refl; client = refl; reading = refl; tap = refl; joystick = refl; owner = refl; of_version_2 = refl }
 
 pub returns-clause-streams : goal.returns-clause-streams
 unfolding stamps_from
