@@ -3,10 +3,11 @@ ghost use Rattle.std.specs.Prelude.{◌≡◌};
 ghost use Rattle.inp_turn.specs.Pass.{view_of};
 ghost use Rattle.inp_port.specs.Port.{IsReadyAt};
 
+use inp_caps::CapsBuilder;
 use inp_core_tests::common::REPORT;
 use inp_model::{EV_LED, EV_SND, Evdev, Event, Reply, Step};
 use inp_turn::Pass;
-use inp_uinput::{CreateRefused, Fed, FeedbackPort, Maker, UClient, UPort, Udev};
+use inp_uinput::{CreateRefused, Fed, FeedbackPort, Maker, Owned, UClient, UPort, Udev};
 use std::alloc::Global;
 use std::process::Abort;
 use std::sync::Wait;
@@ -83,6 +84,26 @@ fn the_last_fifteen_events_wait(rt: HostRuntime) -> Result<(), Fail> {
     assert_eq!(rt; udev.feedback(&mut out), Fed::Took { at: 17, count: 15 });
     assert_eq!(rt; out[0], bell(3));
     assert_eq!(rt; out[14], bell(17));
+    Ok(())
+}
+
+#[test]
+fn an_owner_on_one_thread_reads_between_two_steps(rt: HostRuntime) -> Result<(), Fail> {
+    let mut builder = CapsBuilder::new();
+    builder.code(EV_SND, 1)?;
+    let mut owned = Owned::new(rt.alloc(), builder.build())?;
+    for value in 1..3 {
+        let event = bell(value);
+        owned.call(Step::Inject { event, now: 0 }, &mut [], &mut []);
+    }
+    let mut out = [REPORT; 1];
+    assert_eq!(rt; owned.feedback(&mut out), Fed::Took { at: 2, count: 1 });
+    assert_eq!(rt; out[0], bell(1));
+    let replied = owned.call(Step::End, &mut [], &mut []);
+    assert_eq!(rt; replied, Reply::Done { at: 2 }, "the call is no step");
+    assert_eq!(rt; owned.feedback(&mut out), Fed::Took { at: 3, count: 1 });
+    assert_eq!(rt; out[0], bell(2));
+    assert_eq!(rt; owned.into_history().len(), 3, "steps alone");
     Ok(())
 }
 

@@ -77,11 +77,11 @@ other_places-none es (place ∷ own) all =
 
 -- So the caller of a port of a device is told what its pass has seen and owns, and its tie is the share and the port.
 pub told-device : (d : Description) (name : List ℕ) (v : PassView Description Step) (agains : ℕ) → OwnsSeen v
-    → told_of itself d name v agains ≡ record { description = d; seen = v.seen; own = v.own; agains = agains; turns = Some v.turns; tie = Some (v.share ∷ name) }
+    → told_of itself d name v agains ≡ record { description = d; seen = v.seen; own = v.own; agains = agains; turns = Some v.turns; tie = Some (v.share ∷ length name ∷ name) }
 told-device d name v agains owns =
     let seen = steps-all v.seen in
     let own = step_places-all v.seen v.own owns in
-    let tie = ap (λ (l : List ℕ). v.share ∷ name ++ l) (other_places-none v.seen v.own owns) ∙ append-nil (v.share ∷ name) in
+    let tie = ap (λ (l : List ℕ). v.share ∷ length name ∷ name ++ l) (other_places-none v.seen v.own owns) ∙ append-nil (v.share ∷ length name ∷ name) in
     λ i. record { description = d; seen = seen i; own = own i; agains = agains; turns = Some v.turns; tie = Some (tie i) }
 
 -- of many events

@@ -71,7 +71,7 @@ module _ {E : Type 0} (made : E → Option Step) where
       let steps = steps-begins made v.seen w.seen whole in
       record {
         description = refl;
-        tie = λ i. Some (share i ∷ name ++ (ap (other_places made w.seen) own ∙ others-now found v.own x b w.seen grown ∙ other_places-begins made v.seen w.seen v.own whole owns) i);
+        tie = λ i. Some (share i ∷ length name ∷ name ++ (ap (other_places made w.seen) own ∙ others-now found v.own x b w.seen grown ∙ other_places-begins made v.seen w.seen v.own whole owns) i);
         seen = (steps.0, sym steps.1);
         fresh = omega (arith, there, prefix-length (steps_of made v.seen) (steps_of made found) (steps-begins made v.seen found begins));
         long = subst (λ (ss : List Step). length ss ≡ next_place given.reply) now c.long;

@@ -79,7 +79,7 @@ module _ {E : Type 0} (made : E → Option Step) where
       record {
         found = steps_of made t.found;
         description = refl;
-        tie = λ i. Some (t.share i ∷ name ++ others i);
+        tie = λ i. Some (t.share i ∷ length name ∷ name ++ others i);
         begins = (begun.0, sym begun.1);
         from = s.from;
         count = s.count;

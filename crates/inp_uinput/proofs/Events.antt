@@ -5,13 +5,14 @@ use Rattle.inp_model.specs.declared.stamped.Stamped.{Stamped}
 use Rattle.inp_model.specs.declared.step.Step.{Step}
 use Rattle.inp_model.specs.Description.{Description}
 use Rattle.inp_model.specs.Injecting.{inject_of, history_with}
-use Rattle.inp_uinput.specs.declared.u_entry.UEntry.{UEntry}
-use Rattle.inp_uinput.specs.declared.u_entry.UEntry.TheVariants.{Made}
-use Rattle.inp_uinput.specs.declared.feedback_call.FeedbackCall.{FeedbackCall}
+use Rattle.inp_feedback.specs.declared.u_entry.UEntry.{UEntry}
+use Rattle.inp_feedback.specs.declared.u_entry.UEntry.TheVariants.{Made}
+use Rattle.inp_feedback.specs.declared.feedback_call.FeedbackCall.{FeedbackCall}
 use Rattle.inp_uinput.specs.declared.outputs.Outputs.{Outputs}
-use Rattle.inp_uinput.specs.UEntry.{steps_in, kept_after_events}
-use Rattle.inp_uinput.specs.Keeping.{kept_of, StandsWithin, AreOutputs, IsKeptBeside}
-use Rattle.inp_uinput.proofs.Lists.{reverse-cons, kept_of-made, within-more}
+use Rattle.inp_feedback.specs.UEntry.{steps_in, kept_after_events}
+use Rattle.inp_feedback.specs.Kept.{kept_of, StandsWithin}
+use Rattle.inp_uinput.specs.Keeping.{AreOutputs, IsKeptBeside}
+use Rattle.inp_feedback.proofs.Lists.{reverse-cons, kept_of-made, within-more}
 
 abbrev pub past_after_events : List Stamped → List Step → List Step
 past_after_events [] past = past

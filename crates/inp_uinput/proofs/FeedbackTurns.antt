@@ -14,14 +14,14 @@ use Rattle.inp_turn.proofs.Prefixes.{prefix-refl, prefix-trans}
 use Rattle.inp_port.specs.Entries.{steps_of, is_step_at, steps_before, step_places, other_places}
 use Rattle.inp_port.specs.Turn.{told_of}
 use Rattle.inp_port.proofs.Places.{slice_get-seam, added-one, added-none, steps-begins, step_places-begins, other_places-begins, step_places-append}
-use Rattle.inp_uinput.specs.declared.u_entry.UEntry.{UEntry}
-use Rattle.inp_uinput.specs.declared.u_entry.UEntry.TheVariants.{Feedback}
-use Rattle.inp_uinput.specs.declared.fed.Fed.{Fed}
-use Rattle.inp_uinput.specs.declared.fed.Fed.TheVariants.{Took, Full}
-use Rattle.inp_uinput.specs.UEntry.{step_of, steps_in}
-use Rattle.inp_uinput.specs.Feedback.{is_full_of_feedback, taken_by_feedback, fed, kept_after_feedback}
+use Rattle.inp_feedback.specs.declared.u_entry.UEntry.{UEntry}
+use Rattle.inp_feedback.specs.declared.u_entry.UEntry.TheVariants.{Feedback}
+use Rattle.inp_feedback.specs.declared.fed.Fed.{Fed}
+use Rattle.inp_feedback.specs.declared.fed.Fed.TheVariants.{Took, Full}
+use Rattle.inp_feedback.specs.UEntry.{step_of, steps_in}
+use Rattle.inp_feedback.specs.Feedback.{is_full_of_feedback, taken_by_feedback, fed, kept_after_feedback}
 use Rattle.inp_uinput.specs.FeedbackTurn.{history_length, entries_after_call, call_places, IsFeedbackTurn, IsToldFeedback}
-use Rattle.inp_uinput.proofs.Lists.{reverse-cons}
+use Rattle.inp_feedback.proofs.Lists.{reverse-cons}
 use Rattle.inp_uinput.proofs.Serving.{steps-reverse}
 
 -- One entry more
@@ -154,6 +154,6 @@ feedback-told d name v w answer out new_out owns t agains =
           ∙ append-nil (step_places step_of v.seen v.own);
       agains = refl;
       turns = omega (arith, t.turns);
-      tie = (λ i. Some (t.share i ∷ name ++ others i))
-          ∙ ap (λ (l : List ℕ). Some (v.share ∷ l)) (sym (append_assoc name (other_places step_of v.seen v.own) calls));
+      tie = (λ i. Some (t.share i ∷ length name ∷ name ++ others i))
+          ∙ ap (λ (l : List ℕ). Some (v.share ∷ length name ∷ l)) (sym (append_assoc name (other_places step_of v.seen v.own) calls));
     }

@@ -13,7 +13,7 @@ use Rattle.inp_model.specs.Passed.{passes_as, goes_to_device}
 use Rattle.inp_model.specs.Past.{is_inhibited}
 use Rattle.inp_model.specs.Cut.{raw_after}
 use Rattle.inp_model.specs.Raw.{raw, raw_of_step, raw_and_timer, repeat_of, has_contact, lift_event, slot_release, slot_releases, key_event, key_release, key_releases, releases, fires}
-use Rattle.inp_uinput.specs.Sent.{sent_for, sent_for_all, event_brought}
+use Rattle.inp_feedback.specs.Sent.{sent_for, sent_for_all, event_brought}
 use Rattle.inp_uinput.specs.Keeping.{is_output_item, outputs_of}
 use Rattle.inp_uinput.proofs.Passing.{sent_for-event}
 

@@ -1,11 +1,9 @@
-pub mod Computing
 pub mod Passing
 pub mod Sending
 pub mod Serving
 pub mod Udevs
-pub mod Waiting
 pub mod Events
 pub mod Items
-pub mod Lists
 pub mod FeedbackTurns
 pub mod Noting
+pub mod Tied

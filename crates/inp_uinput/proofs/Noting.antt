@@ -13,13 +13,13 @@ use Rattle.inp_model.specs.Past.{is_inhibited}
 use Rattle.inp_model.specs.Cut.{raw_after}
 use Rattle.inp_model.specs.Raw.{raw, raw_and_timer, raw_of_step}
 use Rattle.inp_state.specs.State.{Values, StandsFor}
-use Rattle.inp_uinput.specs.declared.u_entry.UEntry.{UEntry}
-use Rattle.inp_uinput.specs.declared.u_entry.UEntry.TheVariants.{Made, Feedback}
+use Rattle.inp_feedback.specs.declared.u_entry.UEntry.{UEntry}
+use Rattle.inp_feedback.specs.declared.u_entry.UEntry.TheVariants.{Made, Feedback}
 use Rattle.inp_uinput.specs.declared.outputs.Outputs.{Outputs}
-use Rattle.inp_uinput.specs.declared.outputs.TheConstants.{FEEDBACK_MAX}
-use Rattle.inp_uinput.specs.UEntry.{steps_in}
-use Rattle.inp_uinput.specs.Sent.{sent_for_all, sent_at_step, event_brought}
-use Rattle.inp_uinput.specs.Feedback.{feedback_queue}
+use Rattle.inp_feedback.specs.declared.fed.TheConstants.{FEEDBACK_MAX}
+use Rattle.inp_feedback.specs.UEntry.{steps_in}
+use Rattle.inp_feedback.specs.Sent.{sent_for_all, sent_at_step, event_brought}
+use Rattle.inp_feedback.specs.Feedback.{feedback_queue}
 use Rattle.inp_uinput.specs.Keeping.{outputs_of, AreOutputs}
 use Rattle.inp_uinput.proofs.Items.{AreNoOutputs, outputs-none, sent-none, sent-one, event_at, nothing_brought, one_brought, raw-step}
 

@@ -12,7 +12,7 @@ use Rattle.inp_model.specs.Event.{is_on, is_set, is_negative, is_multi_touch, sl
 use Rattle.inp_model.specs.State.{turned_on, repeat_setting}
 use Rattle.inp_model.specs.Passed.{passes_as, code_passes, differ, announces, announcement, is_output, goes_to_device}
 use Rattle.inp_state.proofs.Steps.{at_kind}
-use Rattle.inp_uinput.specs.Sent.{sent_for}
+use Rattle.inp_feedback.specs.Sent.{sent_for}
 use Rattle.inp_uinput.specs.Keeping.{outputs_of}
 
 -- What each output is

@@ -14,10 +14,10 @@ use Rattle.inp_model.specs.declared.injected.Injected.{Injected}
 use Rattle.inp_model.specs.Injecting.{inject_of, entered_count}
 use Rattle.inp_port.specs.Entries.{past_of, Grown, GrownBy}
 use Rattle.inp_port.specs.Served.{IsServed, IsServedAll}
-use Rattle.inp_uinput.specs.declared.u_entry.UEntry.{UEntry}
-use Rattle.inp_uinput.specs.declared.u_entry.UEntry.TheVariants.{Made, Feedback}
-use Rattle.inp_uinput.specs.UEntry.{step_of, steps_in, kept_after_step, kept_after_events}
-use Rattle.inp_uinput.proofs.Lists.{reverse-cons}
+use Rattle.inp_feedback.specs.declared.u_entry.UEntry.{UEntry}
+use Rattle.inp_feedback.specs.declared.u_entry.UEntry.TheVariants.{Made, Feedback}
+use Rattle.inp_feedback.specs.UEntry.{step_of, steps_in, kept_after_step, kept_after_events}
+use Rattle.inp_feedback.proofs.Lists.{reverse-cons}
 use Rattle.inp_uinput.proofs.Events.{reverse-kept}
 
 pub steps-reverse : (kept : List UEntry) → steps_in (reverse kept) ≡ reverse (steps_in kept)

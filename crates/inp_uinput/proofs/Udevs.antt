@@ -13,16 +13,17 @@ use Rattle.inp_model.specs.Description.{Description}
 use Rattle.inp_model.specs.DeviceView.{DeviceView}
 use Rattle.inp_model.specs.History.{IsHistory}
 use Rattle.inp_model.specs.Reply.{is_accepted, past_after, written, IsDeviceStep}
-use Rattle.inp_uinput.specs.declared.u_entry.UEntry.{UEntry}
-use Rattle.inp_uinput.specs.declared.u_entry.UEntry.TheVariants.{Made, Feedback}
-use Rattle.inp_uinput.specs.declared.fed.Fed.TheVariants.{Took, Full}
-use Rattle.inp_uinput.specs.declared.feedback_call.FeedbackCall.{FeedbackCall}
+use Rattle.inp_feedback.specs.declared.u_entry.UEntry.{UEntry}
+use Rattle.inp_feedback.specs.declared.u_entry.UEntry.TheVariants.{Made, Feedback}
+use Rattle.inp_feedback.specs.declared.fed.Fed.TheVariants.{Took, Full}
+use Rattle.inp_feedback.specs.declared.feedback_call.FeedbackCall.{FeedbackCall}
 use Rattle.inp_uinput.specs.declared.outputs.Outputs.{Outputs}
-use Rattle.inp_uinput.specs.UEntry.{steps_in, kept_after_step}
+use Rattle.inp_feedback.specs.UEntry.{steps_in, kept_after_step}
 use Rattle.inp_uinput.specs.UdevView.{UdevView}
-use Rattle.inp_uinput.specs.Feedback.{feedback_queue, is_full_of_feedback, taken_by_feedback, fed, kept_after_feedback}
-use Rattle.inp_uinput.specs.Keeping.{kept_of, StandsWithin, AreOutputs, IsKeptBeside}
-use Rattle.inp_uinput.proofs.Lists.{steps_in-kept_of, feedback_count-kept_of, kept_of-nothing, kept_of-made, kept_of-fed, within-more}
+use Rattle.inp_feedback.specs.Feedback.{feedback_queue, is_full_of_feedback, taken_by_feedback, fed, kept_after_feedback}
+use Rattle.inp_feedback.specs.Kept.{kept_of, StandsWithin}
+use Rattle.inp_uinput.specs.Keeping.{AreOutputs, IsKeptBeside}
+use Rattle.inp_feedback.proofs.Lists.{steps_in-kept_of, feedback_count-kept_of, kept_of-nothing, kept_of-made, kept_of-fed, within-more}
 use Rattle.inp_uinput.proofs.Noting.{fed_outputs}
 
 -- A step

@@ -13,12 +13,12 @@ use Rattle.inp_turn.specs.Pass.{view_of}
 use Rattle.inp_port.specs.declared.port.PortOf.{PortOf}
 use Rattle.inp_port.specs.Entries.{steps_of}
 use Rattle.inp_port.specs.Port.{told_by}
-use Rattle.inp_uinput.specs.declared.u_entry.UEntry.{UEntry}
-use Rattle.inp_uinput.specs.declared.u_entry.UEntry.TheVariants.{Feedback}
-use Rattle.inp_uinput.specs.declared.fed.Fed.{Fed}
-use Rattle.inp_uinput.specs.declared.fed.Fed.TheVariants.{Took, Full}
-use Rattle.inp_uinput.specs.UEntry.{step_of}
-use Rattle.inp_uinput.specs.Feedback.{taken_by_feedback, fed}
+use Rattle.inp_feedback.specs.declared.u_entry.UEntry.{UEntry}
+use Rattle.inp_feedback.specs.declared.u_entry.UEntry.TheVariants.{Feedback}
+use Rattle.inp_feedback.specs.declared.fed.Fed.{Fed}
+use Rattle.inp_feedback.specs.declared.fed.Fed.TheVariants.{Took, Full}
+use Rattle.inp_feedback.specs.UEntry.{step_of}
+use Rattle.inp_feedback.specs.Feedback.{taken_by_feedback, fed}
 use Rattle.inp_uinput.specs.UdevView.{UdevView}
 
 -- the length of the history that is answered

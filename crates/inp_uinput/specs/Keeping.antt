@@ -1,5 +1,5 @@
 -- How what a device made by requests keeps stands for its kept list.
-use Rattle.std.specs.Prelude.{◌≡◌, ℕ, ◌-◌, ◌≤◌, Bool, false, List, [], ◌∷◌, ◌++◌, length, map, take, drop, filter}
+use Rattle.std.specs.Prelude.{◌≡◌, ℕ, ◌≤◌, Bool, false, List, length, filter}
 use Rattle.circular_buffer.specs.Buffer.{buffer}
 use Rattle.inp_model.specs.declared.step.Step.{Step}
 use Rattle.inp_model.specs.Description.{Description}
@@ -8,25 +8,13 @@ use Rattle.inp_model.specs.Passed.{is_output}
 use Rattle.inp_model.specs.Raw.{raw}
 use Rattle.inp_model.specs.Past.{is_inhibited}
 use Rattle.inp_state.specs.State.{StandsFor}
-use Rattle.inp_uinput.specs.declared.u_entry.UEntry.{UEntry}
-use Rattle.inp_uinput.specs.declared.u_entry.UEntry.TheVariants.{Made, Feedback}
-use Rattle.inp_uinput.specs.declared.feedback_call.FeedbackCall.{FeedbackCall}
+use Rattle.inp_feedback.specs.declared.u_entry.UEntry.{UEntry}
+use Rattle.inp_feedback.specs.declared.feedback_call.FeedbackCall.{FeedbackCall}
 use Rattle.inp_uinput.specs.declared.outputs.Outputs.{Outputs}
-use Rattle.inp_uinput.specs.declared.outputs.TheConstants.{FEEDBACK_MAX}
-use Rattle.inp_uinput.specs.UEntry.{steps_in}
-use Rattle.inp_uinput.specs.Feedback.{feedback_queue}
-
--- The kept list of a past and of feedback calls, all newest first: each call stands behind as many steps as it says.
-unfoldable pub kept_of : List Step → List FeedbackCall → List UEntry
-kept_of past [] = map Made past
-kept_of past (call ∷ calls) =
-    let later = length past - call.at in
-    map Made (take later past) ++ Feedback call.count ∷ kept_of (drop later past) calls
-
--- the newest feedback call stands behind no more steps than there are
-abbrev pub StandsWithin : ℕ → List FeedbackCall → Type 0
-StandsWithin count [] = Unit {0}
-StandsWithin count (call ∷ calls) = call.at ≤ count
+use Rattle.inp_feedback.specs.declared.fed.TheConstants.{FEEDBACK_MAX}
+use Rattle.inp_feedback.specs.UEntry.{steps_in}
+use Rattle.inp_feedback.specs.Feedback.{feedback_queue}
+use Rattle.inp_feedback.specs.Kept.{kept_of, StandsWithin}
 
 -- a raw event that goes to the device where it is passed
 abbrev pub is_output_item : RawItem → Bool

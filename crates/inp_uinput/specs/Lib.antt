@@ -1,9 +1,5 @@
-pub mod UEntry
-pub mod Sent
-pub mod Feedback
 pub mod UdevView
 pub mod FeedbackTurn
 pub mod Keeping
 pub mod Maker
-pub mod Laws
-pub mod Examples
+pub mod OwnedFeeding

@@ -1,6 +1,7 @@
 //! A device made by requests as a value that threads use in turns.
-use crate::{UEntry, Udev};
+use crate::Udev;
 use inp_caps::Caps;
+use inp_feedback::UEntry;
 use inp_model::{Injected, Reply, Stamped, Step, Taken};
 use inp_port::Served;
 use inp_turn::Kept;
@@ -20,7 +21,7 @@ impl Kept for Udev {
 
 /// Its feedback calls are no steps.
 impl Served for Udev {
-    ghost use Rattle.inp_uinput.specs.UEntry.{step_of};
+    ghost use Rattle.inp_feedback.specs.UEntry.{step_of};
 
     ghost made = { step_of };
 

@@ -3,18 +3,18 @@
 //! This crate is for whoever makes a device as a program does through uinput. A [`Maker`] takes the requests: what the
 //! device has, its name, and that it be created. The [`Udev`] that comes of it is a device as any other, and its maker,
 //! the owner, reads by [`Udev::feedback`] what goes to the device: its lights, sounds and settings. The crate stands on
-//! `inp_device`, whose device makes the steps, on `inp_state`, which says which events go to it, and on `inp_actors`
-//! for names. No line of a record makes such a device, so nothing else of the program stands on the crate yet. Threads
-//! share such a device by `inp_turn` and `inp_port`: [`UPort`] is a port of one, [`UClient`] is one thread's use of it,
-//! and [`FeedbackPort::feedback`] is a feedback call under the turn.
+//! `inp_device`, whose device makes the steps, on `inp_feedback`, whose definitions say what is sent to it and what
+//! waits, on `inp_state`, which says which events go to it, and on `inp_actors` for names. The program plays so the
+//! devices that a record makes by requests. Threads share such a device by `inp_turn` and `inp_port`: [`UPort`] is a
+//! port of one, [`UClient`] is one thread's use of it, and [`FeedbackPort::feedback`] is a feedback call under the turn.
 //!
-//! Its contract: a [`Udev`] keeps a list of its accepted steps, and between them of its feedback calls
-//! (`specs/UEntry.antt`). [`Udev::step`] (`IsDeviceStep`) and [`Udev::inject_all`] are those of a device that made the
-//! same steps, as if there were no feedback calls; so it is an `Evdev`, and a value that `inp_port` can serve. A
-//! feedback call writes the first events that wait, as many as fit, to the front of the buffer, and the rest of the
-//! buffer stays. What waits is what `specs/Feedback.antt` says of the kept list: the last 15 at most of the events that
-//! were sent to the device and not taken yet (`specs/Sent.antt`). The call is kept, or `Full` comes exactly where as
-//! many are kept as the log limit says. The code keeps the state of the outputs alone and never looks back at its list.
+//! Its contract: a [`Udev`] keeps a list of its accepted steps, and between them of its feedback calls ([`UEntry`]).
+//! [`Udev::step`] (`IsDeviceStep`) and [`Udev::inject_all`] are those of a device that made the same steps, as if there
+//! were no feedback calls; so it is an `Evdev`, and a value that `inp_port` can serve. A feedback call writes the first
+//! events that wait, as many as fit, to the front of the buffer, and the rest of the buffer stays. What is sent and what
+//! waits is what `inp_feedback` says of the kept list: the last 15 at most of the events that were sent to the device
+//! and not taken yet. The call is kept, or `Full` comes exactly where as many are kept as the log limit says. The code
+//! keeps the state of the outputs alone and never looks back at its list.
 //!
 //! By a port ([`FeedbackPort::feedback`], `IsFeedbackTurn` of `specs/FeedbackTurn.antt`) one turn is taken. The call is
 //! answered, and the buffer written, as the device does it for what is kept then, which begins with all that the pass
@@ -23,35 +23,34 @@
 //! stay, the answer has the length of the history that it then sees, and its tie has the place of the call more. What
 //! `inp_port` says of a port of served values and of its client holds of [`UPort`] and [`UClient`].
 //!
+//! [`Owned`] is a device with its owner for one thread, and an `Evdev` too. Its caller is told the feedback calls as the
+//! tie (`owned_view` of `specs/UdevView.antt`), so calls of an evdev leave them as they are, and are calls of the device
+//! without its owner (`proofs/Tied.antt`). It answers feedback calls by `Feeds` of `inp_feedback` as [`Udev::feedback`]
+//! does (`IsFeedbackOf` of `specs/OwnedFeeding.antt`).
+//!
 //! Of a [`Maker`], `setup` is refused exactly where the text is no name, and `bits` lends the builder of descriptions.
 //! `create` answers `NotSetUp` exactly where no setup was accepted; else it gives a device of the description that was
 //! asked for, which keeps nothing yet, or memory ran out. A maker whose `create` was refused comes back as it was. Only
-//! [`Maker::create`], [`UPort::new`](inp_port::PortOf::new) and a step that opens a client take memory.
+//! [`Maker::create`], [`Udev::new`], [`Owned::new`], [`UPort::new`](inp_port::PortOf::new) and a step that opens a
+//! client take memory.
 //!
-//! [`laws`] has what waits where no feedback call was made yet: the last 15 of all that was sent. [`examples`] shows
-//! what is sent and taken on short lists, among them an autorepeat, an inhibition, an open batch, settings, small
-//! buffers and the limit of calls.
+//! The laws of what waits, and examples on short lists, are those of `inp_feedback`.
 #![tactic(auto)]
 
 mod bad_name;
 mod create_refused;
-mod fed;
-mod feedback_call;
 mod kept;
-pub mod laws;
 mod maker;
 mod outputs;
+mod owned;
+mod owned_feeds;
 mod port;
-mod short_lists;
-mod u_entry;
 mod udev;
 
 pub use bad_name::BadName;
 pub use create_refused::CreateRefused;
-pub use fed::Fed;
+pub use inp_feedback::{FEEDBACK_MAX, Fed, UEntry};
 pub use maker::Maker;
-pub use outputs::FEEDBACK_MAX;
+pub use owned::Owned;
 pub use port::{FeedbackPort, UClient, UPort};
-pub use short_lists::examples;
-pub use u_entry::UEntry;
 pub use udev::Udev;

@@ -6,22 +6,20 @@ ghost use Rattle.inp_model.specs.Passed.{goes_to_device, is_output as is_output_
 ghost use Rattle.inp_model.specs.Step.{inhibition_of};
 ghost use Rattle.inp_caps.specs.Disposition.{flags_of};
 ghost use Rattle.inp_state.specs.State.{StandsFor};
-ghost use Rattle.inp_uinput.specs.UEntry.{kept_after_events};
-ghost use Rattle.inp_uinput.specs.Sent.{event_brought};
-ghost use Rattle.inp_uinput.specs.declared.u_entry.UEntry.{UEntry};
-ghost use Rattle.inp_uinput.specs.declared.u_entry.UEntry.TheVariants.{Made, Feedback};
+ghost use Rattle.inp_feedback.specs.UEntry.{kept_after_events};
+ghost use Rattle.inp_feedback.specs.Sent.{event_brought};
+ghost use Rattle.inp_feedback.specs.declared.u_entry.UEntry.{UEntry};
+ghost use Rattle.inp_feedback.specs.declared.u_entry.UEntry.TheVariants.{Made, Feedback};
 
 use bitflags::Flags;
 use circular_buffer::HeapCircularBuffer;
 use inp_caps::{Caps, Disposition};
+use inp_feedback::FEEDBACK_MAX;
 use inp_model::{
     EV_LED, EV_MSC, EV_REP, EV_SND, EV_SYN, Event, NoMemory, SYN_CONFIG, Stamped, Step,
 };
 use inp_state::State;
 use std::alloc::Global;
-
-/// How many events may wait for an owner (this project's choice: the kernel's ring for them has 16 places).
-pub const FEEDBACK_MAX: usize = 15;
 
 // The events that wait for an owner, and what says which events do: the state of the device's lights, sounds and settings,
 // and whether it is inhibited. It goes by the steps that the device accepted.

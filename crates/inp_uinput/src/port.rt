@@ -3,11 +3,12 @@ ghost use mathlib.Core.List.{IsPrefix};
 ghost use Rattle.inp_turn.specs.Pass.{view_of};
 ghost use Rattle.inp_port.specs.declared.port.PortOf.{PortOf};
 ghost use Rattle.inp_port.specs.Port.{IsReadyAt, description_of};
-ghost use Rattle.inp_uinput.specs.declared.u_entry.UEntry.{UEntry};
+ghost use Rattle.inp_feedback.specs.declared.u_entry.UEntry.{UEntry};
 ghost use Rattle.inp_uinput.specs.UdevView.{UdevView};
 ghost use Rattle.inp_uinput.specs.FeedbackTurn.{IsFeedbackTurn, IsFeedbackBy};
 
-use crate::{Fed, Udev};
+use crate::Udev;
+use inp_feedback::Fed;
 use inp_model::Event;
 use inp_port::{PortClientOf, PortOf};
 use inp_turn::Pass;

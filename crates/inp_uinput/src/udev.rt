@@ -7,14 +7,13 @@ ghost use Rattle.inp_model.specs.Step.{moment_of};
 ghost use Rattle.inp_model.specs.Reply.{HasRoom, IsDeviceStep, written};
 ghost use Rattle.inp_model.specs.Evdev.{agains_after};
 ghost use Rattle.inp_model.specs.Injecting.{AreInTime, entered_count};
-ghost use Rattle.inp_uinput.specs.UEntry.{steps_in, kept_after_step, kept_after_events};
-ghost use Rattle.inp_uinput.specs.Feedback.{taken_by_feedback, fed, kept_after_feedback};
+ghost use Rattle.inp_feedback.specs.UEntry.{steps_in, kept_after_step, kept_after_events};
+ghost use Rattle.inp_feedback.specs.Feedback.{taken_by_feedback, fed, kept_after_feedback};
 
-use crate::Fed;
-use crate::feedback_call::FeedbackCall;
 use crate::outputs::Outputs;
 use inp_caps::Caps;
 use inp_device::Device;
+use inp_feedback::{Fed, FeedbackCall};
 use inp_model::{Evdev, Event, History, Injected, NoMemory, Reply, Stamped, Step, Taken};
 use std::alloc::Global;
 use std::marker::Model;
@@ -39,7 +38,8 @@ impl Model for Udev {
     ghost Value = { UdevView };
 
     ghost use Rattle.std.specs.Prelude.{reverse, vec_capacity};
-    ghost use Rattle.inp_uinput.specs.Keeping.{kept_of, IsKeptBeside};
+    ghost use Rattle.inp_feedback.specs.Kept.{kept_of};
+    ghost use Rattle.inp_uinput.specs.Keeping.{IsKeptBeside};
 
     ghost view = { λ u. record {
       description = u.device.description;
@@ -52,8 +52,9 @@ impl Model for Udev {
 }
 
 impl Udev {
-    // A device of this description that keeps nothing yet. It is refused for memory alone.
-    pub(crate) fn new(alloc: Global, caps: Caps) -> Result<Udev, NoMemory>
+    /// A device of this description that keeps nothing yet. It takes the memory for all that the device may keep, its
+    /// feedback calls too, and is refused for memory alone.
+    pub fn new(alloc: Global, caps: Caps) -> Result<Udev, NoMemory>
         ensures fresh { IfOk result (λ udev.
             udev ≡ record { description = caps; kept = []; agains = 0 }) }
     {

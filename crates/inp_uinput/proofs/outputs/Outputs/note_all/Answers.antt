@@ -3,9 +3,9 @@ use Rattle.std.proofs.lemmas.List.{take_more}
 use Rattle.inp_model.specs.declared.stamped.Stamped.{Stamped}
 use Rattle.inp_model.specs.Injecting.{inject_of}
 use Rattle.inp_device.proofs.Injecting.{no_stamped}
-use Rattle.inp_uinput.specs.declared.u_entry.UEntry.{UEntry}
-use Rattle.inp_uinput.specs.declared.u_entry.UEntry.TheVariants.{Made}
-use Rattle.inp_uinput.specs.UEntry.{kept_after_events}
+use Rattle.inp_feedback.specs.declared.u_entry.UEntry.{UEntry}
+use Rattle.inp_feedback.specs.declared.u_entry.UEntry.TheVariants.{Made}
+use Rattle.inp_feedback.specs.UEntry.{kept_after_events}
 use Rattle.inp_uinput.specs.Keeping.{AreOutputs}
 use Rattle.inp_uinput.proofs.Events.{kept-event}
 use Rattle.inp_uinput.proofs.outputs.Outputs.note_all.Goals as goal

@@ -1,6 +1,6 @@
 use Rattle.std.proofs.Common.{List, take}
-use Rattle.inp_uinput.specs.declared.u_entry.UEntry.{UEntry}
-use Rattle.inp_uinput.specs.UEntry.{kept_after_events}
+use Rattle.inp_feedback.specs.declared.u_entry.UEntry.{UEntry}
+use Rattle.inp_feedback.specs.UEntry.{kept_after_events}
 use Rattle.inp_uinput.specs.Keeping.{AreOutputs}
 use Rattle.inp_uinput.proofs.outputs.Outputs.note_all.Given as goal
 

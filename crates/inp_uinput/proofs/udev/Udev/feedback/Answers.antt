@@ -5,14 +5,15 @@ use Rattle.circular_buffer.specs.Buffer.{Buffer, buffer}
 use Rattle.inp_model.specs.declared.event.Event.{Event}
 use Rattle.inp_model.specs.Description.{Description}
 use Rattle.inp_model.specs.Reply.{written}
-use Rattle.inp_uinput.specs.declared.u_entry.UEntry.{UEntry}
-use Rattle.inp_uinput.specs.declared.fed.Fed.TheVariants.{Took, Full}
-use Rattle.inp_uinput.specs.declared.feedback_call.FeedbackCall.{FeedbackCall}
+use Rattle.inp_feedback.specs.declared.u_entry.UEntry.{UEntry}
+use Rattle.inp_feedback.specs.declared.fed.Fed.TheVariants.{Took, Full}
+use Rattle.inp_feedback.specs.declared.feedback_call.FeedbackCall.{FeedbackCall}
 use Rattle.inp_uinput.specs.declared.outputs.Outputs.{Outputs}
-use Rattle.inp_uinput.specs.declared.outputs.TheConstants.{FEEDBACK_MAX}
-use Rattle.inp_uinput.specs.Feedback.{feedback_queue, is_full_of_feedback, taken_by_feedback, fed, kept_after_feedback}
+use Rattle.inp_feedback.specs.declared.fed.TheConstants.{FEEDBACK_MAX}
+use Rattle.inp_feedback.specs.Feedback.{feedback_queue, is_full_of_feedback, taken_by_feedback, fed, kept_after_feedback}
 use Rattle.inp_uinput.specs.UdevView.{UdevView}
-use Rattle.inp_uinput.specs.Keeping.{kept_of, IsKeptBeside}
+use Rattle.inp_feedback.specs.Kept.{kept_of}
+use Rattle.inp_uinput.specs.Keeping.{IsKeptBeside}
 use Rattle.inp_uinput.proofs.Noting.{queue_within}
 use Rattle.inp_uinput.proofs.Udevs.{at_limit, full_answer, full_taken, full_kept, below_limit, some_answer, some_written, some_kept, calls_pushed, beside_fed}
 use Rattle.inp_uinput.proofs.udev.Udev.feedback.Goals as goal

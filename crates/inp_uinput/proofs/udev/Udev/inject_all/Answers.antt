@@ -1,9 +1,9 @@
 use Rattle.std.proofs.Common.{ap, sym, ◌∙◌, length, take, reverse}
 use Rattle.std.specs.Prelude.{vec_capacity}
 use Rattle.inp_model.specs.Injecting.{entered_count}
-use Rattle.inp_uinput.specs.UEntry.{steps_in, kept_after_events}
+use Rattle.inp_feedback.specs.UEntry.{steps_in, kept_after_events}
 use Rattle.inp_uinput.specs.UdevView.{UdevView}
-use Rattle.inp_uinput.proofs.Lists.{steps_in-kept_of}
+use Rattle.inp_feedback.proofs.Lists.{steps_in-kept_of}
 use Rattle.inp_uinput.proofs.Udevs.{history_over}
 use Rattle.inp_uinput.proofs.Events.{beside_events, events_kept}
 use Rattle.inp_uinput.proofs.udev.Udev.inject_all.Goals as goal

@@ -1,8 +1,8 @@
 use Rattle.std.proofs.Common.{ap, sym, ◌∙◌, subst, reverse}
 use Rattle.inp_model.specs.History.{IsHistory}
-use Rattle.inp_uinput.specs.UEntry.{steps_in}
+use Rattle.inp_feedback.specs.UEntry.{steps_in}
 use Rattle.inp_uinput.specs.UdevView.{UdevView}
-use Rattle.inp_uinput.proofs.Lists.{steps_in-kept_of}
+use Rattle.inp_feedback.proofs.Lists.{steps_in-kept_of}
 use Rattle.inp_uinput.proofs.Udevs.{history_over}
 use Rattle.inp_uinput.proofs.udev.Udev.into_history.Goals as goal
 

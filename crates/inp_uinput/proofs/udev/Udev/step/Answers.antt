@@ -2,9 +2,9 @@ use Rattle.std.proofs.Common.{ap, sym, ◌∙◌, subst, reverse}
 use Rattle.std.specs.Prelude.{vec_capacity}
 use Rattle.inp_model.specs.Reply.{IsDeviceStep}
 use Rattle.inp_model.specs.History.{IsHistory}
-use Rattle.inp_uinput.specs.UEntry.{steps_in, kept_after_step}
+use Rattle.inp_feedback.specs.UEntry.{steps_in, kept_after_step}
 use Rattle.inp_uinput.specs.UdevView.{UdevView}
-use Rattle.inp_uinput.specs.Keeping.{kept_of}
+use Rattle.inp_feedback.specs.Kept.{kept_of}
 use Rattle.inp_uinput.proofs.Udevs.{step_over, history_over, step_kept, beside_accepted}
 use Rattle.inp_uinput.proofs.udev.Udev.step.Goals as goal
 

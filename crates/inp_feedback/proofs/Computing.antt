@@ -1,6 +1,6 @@
 -- The words that a worked example unfolds beside those of `inp_model`, in one place.
-use Rattle.inp_uinput.specs.Sent.{sent_for_all, sent}
-use Rattle.inp_uinput.specs.Feedback.{feedback_queue}
+use Rattle.inp_feedback.specs.Sent.{sent_for_all, sent}
+use Rattle.inp_feedback.specs.Feedback.{feedback_queue}
 use Rattle.inp_model.proofs.Computing.{computing as of_model}
 
 unfoldable pub computing : Type 0

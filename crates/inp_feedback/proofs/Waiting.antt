@@ -3,12 +3,12 @@ use Rattle.std.proofs.Common.{◌≡◌, ℕ, zero, suc, ◌+◌, ◌-◌, ◌�
 use Rattle.std.proofs.lemmas.List.{length-drop, length-append, drop-append-le}
 use Rattle.circular_buffer.specs.Buffer.{keep_last}
 use Rattle.inp_model.specs.declared.event.Event.{Event}
-use Rattle.inp_uinput.specs.declared.u_entry.UEntry.TheVariants.{Made, Feedback}
-use Rattle.inp_uinput.specs.declared.outputs.TheConstants.{FEEDBACK_MAX}
-use Rattle.inp_uinput.specs.UEntry.{steps_in}
-use Rattle.inp_uinput.specs.Sent.{sent, sent_at_step}
-use Rattle.inp_uinput.specs.Feedback.{feedback_queue}
-use Rattle.inp_uinput.specs.Laws.{WaitsOfAllSent}
+use Rattle.inp_feedback.specs.declared.u_entry.UEntry.TheVariants.{Made, Feedback}
+use Rattle.inp_feedback.specs.declared.fed.TheConstants.{FEEDBACK_MAX}
+use Rattle.inp_feedback.specs.UEntry.{steps_in}
+use Rattle.inp_feedback.specs.Sent.{sent, sent_at_step}
+use Rattle.inp_feedback.specs.Feedback.{feedback_queue}
+use Rattle.inp_feedback.specs.Laws.{WaitsOfAllSent}
 
 drop-none : (n : ℕ) (xs : List Event) → xs ≡ [] → drop n xs ≡ []
 drop-none zero xs h = h

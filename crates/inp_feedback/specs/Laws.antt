@@ -2,11 +2,11 @@
 use Rattle.std.specs.Prelude.{◌≡◌, List}
 use Rattle.circular_buffer.specs.Buffer.{keep_last}
 use Rattle.inp_model.specs.Description.{Description}
-use Rattle.inp_uinput.specs.declared.u_entry.UEntry.{UEntry}
-use Rattle.inp_uinput.specs.declared.outputs.TheConstants.{FEEDBACK_MAX}
-use Rattle.inp_uinput.specs.UEntry.{steps_in, feedback_count}
-use Rattle.inp_uinput.specs.Sent.{sent}
-use Rattle.inp_uinput.specs.Feedback.{feedback_queue}
+use Rattle.inp_feedback.specs.declared.u_entry.UEntry.{UEntry}
+use Rattle.inp_feedback.specs.declared.fed.TheConstants.{FEEDBACK_MAX}
+use Rattle.inp_feedback.specs.UEntry.{steps_in, feedback_count}
+use Rattle.inp_feedback.specs.Sent.{sent}
+use Rattle.inp_feedback.specs.Feedback.{feedback_queue}
 
 -- Without a feedback call the last 15 of all that was sent wait (docs/RULES.md, "Devices made by requests").
 abbrev pub WaitsOfAllSent : Type 0

@@ -7,8 +7,8 @@ use Rattle.inp_model.specs.declared.step.Step.{Step}
 use Rattle.inp_model.specs.declared.reply.Reply.{Reply}
 use Rattle.inp_model.specs.Reply.{is_accepted}
 use Rattle.inp_model.specs.Injecting.{inject_of}
-use Rattle.inp_uinput.specs.declared.u_entry.UEntry.{UEntry}
-use Rattle.inp_uinput.specs.declared.u_entry.UEntry.TheVariants.{Made, Feedback}
+use Rattle.inp_feedback.specs.declared.u_entry.UEntry.{UEntry}
+use Rattle.inp_feedback.specs.declared.u_entry.UEntry.TheVariants.{Made, Feedback}
 
 -- the step that an entry is, if it is one
 abbrev pub step_of : UEntry → Option Step

@@ -5,12 +5,12 @@ use Rattle.inp_model.specs.declared.event.TheConstants.{EV_SYN, EV_KEY, EV_MSC, 
 use Rattle.inp_model.specs.declared.event.Event.{Event}
 use Rattle.inp_model.specs.declared.step.Step.TheVariants.{Inject, Tick, Open, Write, Inhibit, Uninhibit}
 use Rattle.inp_model.specs.Description.{Description, one_key}
-use Rattle.inp_uinput.specs.declared.u_entry.UEntry.{UEntry}
-use Rattle.inp_uinput.specs.declared.u_entry.UEntry.TheVariants.{Made, Feedback}
-use Rattle.inp_uinput.specs.declared.fed.Fed.{Fed}
-use Rattle.inp_uinput.specs.declared.fed.Fed.TheVariants.{Took, Full}
-use Rattle.inp_uinput.specs.Sent.{sent}
-use Rattle.inp_uinput.specs.Feedback.{feedback_queue, fed, taken_by_feedback}
+use Rattle.inp_feedback.specs.declared.u_entry.UEntry.{UEntry}
+use Rattle.inp_feedback.specs.declared.u_entry.UEntry.TheVariants.{Made, Feedback}
+use Rattle.inp_feedback.specs.declared.fed.Fed.{Fed}
+use Rattle.inp_feedback.specs.declared.fed.Fed.TheVariants.{Took, Full}
+use Rattle.inp_feedback.specs.Sent.{sent}
+use Rattle.inp_feedback.specs.Feedback.{feedback_queue, fed, taken_by_feedback}
 
 -- the key A, MSC_SCAN, LED_CAPSL, SND_BELL and both settings of the autorepeat
 abbrev pub keyboard : Description

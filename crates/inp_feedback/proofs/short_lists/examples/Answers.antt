@@ -1,7 +1,7 @@
 -- Each example computes.
 use Rattle.std.proofs.Common.{refl}
-use Rattle.inp_uinput.proofs.Computing.{computing}
-use Rattle.inp_uinput.proofs.short_lists.examples.Goals as goal
+use Rattle.inp_feedback.proofs.Computing.{computing}
+use Rattle.inp_feedback.proofs.short_lists.examples.Goals as goal
 
 pub returns-clause-once : goal.returns-clause-once
 unfolding computing

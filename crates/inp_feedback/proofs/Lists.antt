@@ -4,11 +4,11 @@ use Rattle.std.specs.Prelude.{filter}
 use Rattle.std.proofs.lemmas.List.{take-append-drop, reverse-append, reverse-reverse}
 use Rattle.std.proofs.lemmas.List.Elements.{filter_map-append, filter-append}
 use Rattle.inp_model.specs.declared.step.Step.{Step}
-use Rattle.inp_uinput.specs.declared.u_entry.UEntry.{UEntry}
-use Rattle.inp_uinput.specs.declared.u_entry.UEntry.TheVariants.{Made, Feedback}
-use Rattle.inp_uinput.specs.declared.feedback_call.FeedbackCall.{FeedbackCall}
-use Rattle.inp_uinput.specs.UEntry.{step_of, is_feedback, steps_in, feedback_count}
-use Rattle.inp_uinput.specs.Keeping.{kept_of, StandsWithin}
+use Rattle.inp_feedback.specs.declared.u_entry.UEntry.{UEntry}
+use Rattle.inp_feedback.specs.declared.u_entry.UEntry.TheVariants.{Made, Feedback}
+use Rattle.inp_feedback.specs.declared.feedback_call.FeedbackCall.{FeedbackCall}
+use Rattle.inp_feedback.specs.UEntry.{step_of, is_feedback, steps_in, feedback_count}
+use Rattle.inp_feedback.specs.Kept.{kept_of, StandsWithin}
 
 -- one item more, in the other order
 pub reverse-cons : {X : Type 0} (xs : List X) (x : X) → reverse (x ∷ xs) ≡ reverse xs ++ x ∷ []

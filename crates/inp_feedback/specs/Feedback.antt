@@ -3,13 +3,13 @@ use Rattle.std.specs.Prelude.{ℕ, Bool, if◌then◌else◌, nat_le, List, [], 
 use Rattle.circular_buffer.specs.Buffer.{keep_last}
 use Rattle.inp_model.specs.declared.event.Event.{Event}
 use Rattle.inp_model.specs.Description.{Description}
-use Rattle.inp_uinput.specs.declared.u_entry.UEntry.{UEntry}
-use Rattle.inp_uinput.specs.declared.u_entry.UEntry.TheVariants.{Made, Feedback}
-use Rattle.inp_uinput.specs.declared.fed.Fed.{Fed}
-use Rattle.inp_uinput.specs.declared.fed.Fed.TheVariants.{Took, Full}
-use Rattle.inp_uinput.specs.declared.outputs.TheConstants.{FEEDBACK_MAX}
-use Rattle.inp_uinput.specs.UEntry.{steps_in, feedback_count}
-use Rattle.inp_uinput.specs.Sent.{sent_at_step}
+use Rattle.inp_feedback.specs.declared.u_entry.UEntry.{UEntry}
+use Rattle.inp_feedback.specs.declared.u_entry.UEntry.TheVariants.{Made, Feedback}
+use Rattle.inp_feedback.specs.declared.fed.Fed.{Fed}
+use Rattle.inp_feedback.specs.declared.fed.Fed.TheVariants.{Took, Full}
+use Rattle.inp_feedback.specs.declared.fed.TheConstants.{FEEDBACK_MAX}
+use Rattle.inp_feedback.specs.UEntry.{steps_in, feedback_count}
+use Rattle.inp_feedback.specs.Sent.{sent_at_step}
 
 -- The events that wait for the owner, oldest first: the last 15 at most of those that were sent to the device and not
 -- taken yet.

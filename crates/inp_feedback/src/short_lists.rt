@@ -1,5 +1,5 @@
 //! What the definitions compute on short kept lists.
-ghost use Rattle.inp_uinput.specs.Examples.{SendsAChangeOnce, KeepsFifteen, SendsInAnOpenBatch, SendsConfig, SendsASetting, SendsNoRepeat, SendsNothingWhileInhibited, FeedsInParts, KeepsCallsToItsLimit, SendsInOrder};
+ghost use Rattle.inp_feedback.specs.Examples.{SendsAChangeOnce, KeepsFifteen, SendsInAnOpenBatch, SendsConfig, SendsASetting, SendsNoRepeat, SendsNothingWhileInhibited, FeedsInParts, KeepsCallsToItsLimit, SendsInOrder};
 
 /// What the definitions of this crate compute on short kept lists that were worked out by hand. It does nothing: its
 /// contract is the point.
