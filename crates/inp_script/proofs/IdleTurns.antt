@@ -13,7 +13,7 @@ use Rattle.inp_model.specs.Run.{Call}
 use Rattle.inp_actors.specs.declared.command.Command.{Command}
 use Rattle.inp_actors.specs.declared.command.Command.TheVariants.{Stream, Stream16, Open, Next as ToNext, Skip, Follow, Force}
 use Rattle.inp_actors.specs.declared.role.Role.{Role}
-use Rattle.inp_actors.specs.declared.role.Role.TheVariants.{Source, Client, Tap, Joy}
+use Rattle.inp_actors.specs.declared.role.Role.TheVariants.{Source, Client, Tap, Joy, Owner}
 use Rattle.inp_reader.specs.declared.next.Next.{Next}
 use Rattle.inp_reader.specs.declared.next.Next.TheVariants.{Success, Dropped, Sync, Again, Synced, NoDevice, Closed, Full}
 use Rattle.inp_reader.specs.declared.started.Started.{Started}
@@ -260,6 +260,7 @@ command-idles Source d streams wait n command j k calls none h = source-idles st
 command-idles Client d streams wait n command j k calls none h = client-idles d wait n command j k calls none h
 command-idles Tap d streams wait n command j k calls none h = tap_call-idles j k (step_of j.reading.client command) calls none h
 command-idles Joy d streams wait n command j k calls none h = not_idle calls k.stop (joystick-not_idle d n command j k calls none h)
+command-idles Owner d streams wait n command j k calls none h = same-idles j k calls none h
 
 line-idles : (role : Role) (d : Description) (streams : List (List Stamped)) (wait : Option Waiting) (n : ℕ) (command : Command) (j k : Job) (calls : List Call) → j.stop ≡ None → EndsWith (line_talk role d streams wait n command j) calls (Some k) → Idles calls k.stop
 unfolding line_talk

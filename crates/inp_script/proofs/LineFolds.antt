@@ -14,7 +14,7 @@ use Rattle.inp_model.specs.Run.{Call, HasPlace, place_of}
 use Rattle.inp_actors.specs.declared.command.Command.{Command}
 use Rattle.inp_actors.specs.declared.command.Command.TheVariants.{Stream, Stream16, Open as OpenLine, Close, Grab, Ungrab, Revoke, Mask, Clock, Write, SetAxis, Next as NextLine, Skip, Follow, Force}
 use Rattle.inp_actors.specs.declared.role.Role.{Role}
-use Rattle.inp_actors.specs.declared.role.Role.TheVariants.{Source, Client, Tap, Joy}
+use Rattle.inp_actors.specs.declared.role.Role.TheVariants.{Source, Client, Tap, Joy, Owner}
 use Rattle.inp_actors.specs.Command.{is_command_of}
 use Rattle.inp_actors.specs.Record.{RecordView}
 use Rattle.inp_recon.specs.declared.view.View.{View}
@@ -249,6 +249,9 @@ command-fold Source d h streams wait n command j k calls of_role placed ends fol
 command-fold Client d h streams wait n command j k calls of_role placed ends fold = client-fold d h (first_view d) wait n command j k calls of_role placed ends fold
 command-fold Tap d h streams wait n command j k calls of_role placed ends fold = tap-folds d h (first_view d) j k command calls placed ends fold
 command-fold Joy d h streams wait n command j k calls of_role placed ends fold = joystick-folds d h n command j k calls of_role placed ends fold
+command-fold Owner d h streams wait n command j k calls of_role placed ends fold =
+    let f = finish-only (Some j) (Some k) calls ends in
+    let same : j ≡ k = (let e = f.1 in cc) in subst (λ (y : Job). IsFolded Owner d h y) same fold
 
 stopped-fold : (role : Role) (d : Description) (h : List Step) (stop : Option Stop) (j k : Job) (talk : Talk (Option Job)) (calls : List Call) → (EndsWith talk calls (Some k) → IsFolded role d h j → IsFolded role d h k) → EndsWith (unless_stopped stop j talk) calls (Some k) → IsFolded role d h j → IsFolded role d h k
 stopped-fold role d h None j k talk calls more ends fold = more ends fold
@@ -285,6 +288,7 @@ first_folded Source d h = refl
 first_folded Client d h = refl
 first_folded Tap d h = refl
 first_folded Joy d h = refl
+first_folded Owner d h = refl
 
 pub is_folded-first : (role : Role) (d : Description) (h : List Step) (j : Job) → j ≡ first_job role d → IsFolded role d h j
 is_folded-first role d h j same = subst (λ (y : Job). IsFolded role d h y) (sym same) (first_folded role d h)

@@ -10,7 +10,7 @@ use Rattle.inp_model.specs.Run.{Call}
 use Rattle.inp_actors.specs.declared.command.Command.{Command}
 use Rattle.inp_actors.specs.declared.command.Command.TheVariants.{Stream, Stream16, Open, Next as ToNext, Skip, Follow, Force}
 use Rattle.inp_actors.specs.declared.role.Role.{Role}
-use Rattle.inp_actors.specs.declared.role.Role.TheVariants.{Source, Client, Tap, Joy}
+use Rattle.inp_actors.specs.declared.role.Role.TheVariants.{Source, Client, Tap, Joy, Owner}
 use Rattle.inp_reader.specs.declared.mode.Mode.{Mode}
 use Rattle.inp_reader.specs.declared.next.Next.{Next}
 use Rattle.inp_reader.specs.declared.next.Next.TheVariants.{Success, Dropped, Sync, Again, Synced, NoDevice, Closed, Full}
@@ -165,6 +165,7 @@ command-told Source d streams wait n command j k calls h = source-told streams c
 command-told Client d streams wait n command j k calls h = client-told d wait n command j k calls h
 command-told Tap d streams wait n command j k calls h = tap_call-told j k (step_of j.reading.client command) calls h
 command-told Joy d streams wait n command j k calls h = joystick-told d n command j k calls h
+command-told Owner d streams wait n command j k calls h = same-told j k calls h
 
 stopped-told : (stop : Option Stop) (j k : Job) (talk : Talk (Option Job)) (calls : List Call) → (EndsWith talk calls (Some k) → Tells calls j.sight k.sight) → EndsWith (unless_stopped stop j talk) calls (Some k) → Tells calls j.sight k.sight
 stopped-told None j k talk calls more h = more h

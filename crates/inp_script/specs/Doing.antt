@@ -10,7 +10,7 @@ use Rattle.inp_actors.specs.declared.command.Command.{Command}
 use Rattle.inp_actors.specs.declared.device_text.DeviceText.{DeviceText}
 use Rattle.inp_actors.specs.declared.line.Line.{Line}
 use Rattle.inp_actors.specs.declared.role.Role.{Role}
-use Rattle.inp_actors.specs.declared.role.Role.TheVariants.{Source, Client, Tap, Joy}
+use Rattle.inp_actors.specs.declared.role.Role.TheVariants.{Source, Client, Tap, Joy, Owner}
 use Rattle.inp_actors.specs.Command.{is_command_of, is_in_range, is_source, stream_of, first_of}
 use Rattle.inp_actors.specs.Record.{RecordView}
 use Rattle.inp_model.specs.Injecting.{AreInTime}
@@ -23,12 +23,13 @@ use Rattle.inp_script.specs.Job.{Job, ActorView}
 use Rattle.inp_script.specs.Joystick.{joystick_talk}
 use Rattle.inp_script.specs.Line.{stream_at, source_talk, tap_talk}
 
--- what an actor of a role does at a command
+-- What an actor of a role does at a command. An owner makes no call of an evdev.
 abbrev pub command_talk : Role → Description → List (List Stamped) → Option Waiting → ℕ → Command → Job → Talk (Option Job)
 command_talk Source d streams wait n command j = source_talk streams command j
 command_talk Client d streams wait n command j = client_talk d wait n command j
 command_talk Tap d streams wait n command j = tap_talk command j
 command_talk Joy d streams wait n command j = joystick_talk d n command j
+command_talk Owner d streams wait n command j = finish (Some j)
 
 -- a job that stopped does nothing more
 abbrev pub unless_stopped : Option Stop → Job → Talk (Option Job) → Talk (Option Job)

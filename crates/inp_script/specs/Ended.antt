@@ -3,54 +3,70 @@ use Rattle.std.specs.Prelude.{◌≡◌, ℕ, ◌*◌, List, [], ◌∷◌, leng
 use Rattle.inp_model.specs.declared.step.Step.{Step}
 use Rattle.inp_model.specs.Description.{Description}
 use Rattle.inp_actors.specs.declared.role.Role.{Role}
-use Rattle.inp_actors.specs.declared.role.Role.TheVariants.{Joy as JoyRole}
+use Rattle.inp_actors.specs.declared.role.Role.TheVariants.{Joy as JoyRole, Owner as OwnerRole}
 use Rattle.inp_script.specs.declared.ended.Ended.{Ended}
-use Rattle.inp_script.specs.declared.ended.Ended.TheVariants.{Job as JobEnded, Joy as JoyEnded}
+use Rattle.inp_script.specs.declared.ended.Ended.TheVariants.{Job as JobEnded, Joy as JoyEnded, Owner as OwnerEnded}
 use Rattle.inp_script.specs.declared.role_state.RoleState.{RoleState}
-use Rattle.inp_script.specs.declared.role_state.RoleState.TheVariants.{Joy}
+use Rattle.inp_script.specs.declared.role_state.RoleState.TheVariants.{Joy, Owner}
 use Rattle.inp_script.specs.declared.run.DeviceRun.{DeviceRun}
 use Rattle.inp_script.specs.declared.run.Played.{Played}
 use Rattle.inp_script.specs.declared.sight.Sight.{Sight}
 use Rattle.inp_script.specs.declared.stop.Stop.{Stop}
-use Rattle.inp_script.specs.Job.{ActorView, JobView, JoyJobView, job_end, joy_end}
+use Rattle.inp_script.specs.Job.{ActorView, JobView, JoyJobView, OwnerView, job_end, joy_end, owner_end, last_stop}
 use Rattle.inp_script.specs.RoleState.{reading_of}
 
--- a joystick's job, or another one
+-- a joystick's job, an owner's, or another one
 abbrev pub ended_as : Role → ActorView → Ended
 ended_as JoyRole a = JoyEnded (joy_end a)
+ended_as OwnerRole a = OwnerEnded (owner_end a)
 ended_as _ a = JobEnded (job_end a)
 
 abbrev pub ended_of : ActorView → Ended
 ended_of a = ended_as a.role a
 
--- the jobs among them but joysticks', and those of joysticks, in order
+-- the jobs among them but joysticks' and owners', those of joysticks, and those of owners, in order
 abbrev pub jobs_among : List Ended → List JobView
 jobs_among [] = []
 jobs_among (JobEnded job ∷ ends) = job ∷ jobs_among ends
 jobs_among (JoyEnded joy ∷ ends) = jobs_among ends
+jobs_among (OwnerEnded owner ∷ ends) = jobs_among ends
 
 abbrev pub joys_among : List Ended → List JoyJobView
 joys_among [] = []
 joys_among (JobEnded job ∷ ends) = joys_among ends
 joys_among (JoyEnded joy ∷ ends) = joy ∷ joys_among ends
+joys_among (OwnerEnded owner ∷ ends) = joys_among ends
+
+abbrev pub owners_among : List Ended → List OwnerView
+owners_among [] = []
+owners_among (JobEnded job ∷ ends) = owners_among ends
+owners_among (JoyEnded joy ∷ ends) = owners_among ends
+owners_among (OwnerEnded owner ∷ ends) = owner ∷ owners_among ends
 
 -- what came of a device that has this history, by what came of its actors
 abbrev pub device_run : List Step → List Ended → DeviceRun
-device_run history ends = record { run = record { history = history; jobs = jobs_among ends }; joys = joys_among ends }
+device_run history ends = record {
+  run = record { history = history; jobs = jobs_among ends };
+  joys = joys_among ends;
+  owners = owners_among ends;
+}
 
 -- what came of a record, by what came of its devices
 abbrev pub played_of : List DeviceRun → Played
 played_of devices = record {
   runs = map (λ (device : DeviceRun). device.run) devices;
   joys = flat_map (λ (device : DeviceRun). device.joys) devices;
+  owners = flat_map (λ (device : DeviceRun). device.owners) devices;
 }
 
--- of one that keeps this, saw this and ended so
-abbrev pub ended_with : RoleState → ℕ → List Sight → Stop → Ended
-ended_with (Joy joy) actor sight stop = JoyEnded (record { actor = actor; sight = sight; picture = joy.joying.picture; stop = stop })
-ended_with state actor sight stop = JobEnded (record { actor = actor; sight = sight; view = (reading_of state).view; stop = stop })
+-- of one that keeps this on a device of this description, saw this and ended so
+abbrev pub ended_with : Description → RoleState → ℕ → List Sight → Stop → Ended
+ended_with d (Joy joy) actor sight stop = JoyEnded (record { actor = actor; sight = sight; picture = joy.joying.picture; stop = stop })
+ended_with d (Owner owner) actor sight stop = OwnerEnded (record { actor = actor; fed = owner.fed; stop = last_stop owner.stop })
+ended_with d state actor sight stop = JobEnded (record { actor = actor; sight = sight; view = (reading_of d state).view; stop = stop })
 
 -- the view of a job has the device's slots
 abbrev pub HasCells : Description → Ended → Type 0
 HasCells d (JobEnded job) = length job.view.cells ≡ 14 * d.slots
 HasCells d (JoyEnded joy) = Unit {0}
+HasCells d (OwnerEnded owner) = Unit {0}

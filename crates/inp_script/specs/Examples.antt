@@ -2,7 +2,7 @@
 use Rattle.std.specs.Prelude.{ℕ, ◌≡◌, ◌+◌, pos, true, false, List, [], ◌∷◌, ◌++◌, replicate, reverse, Option, Some, None}
 use Rattle.inp_model.specs.declared.event.TheConstants.{EV_SYN, EV_KEY, EV_ABS, SYN_REPORT, KEY_A}
 use Rattle.inp_model.specs.declared.step.Step.{Step}
-use Rattle.inp_model.specs.declared.step.Step.TheVariants.{Inject, Open as ToOpen, Read as ToRead, Discard as ToDiscard, GetKeys, GetAxis, Revoke}
+use Rattle.inp_model.specs.declared.step.Step.TheVariants.{Inject, Open as ToOpen, Read as ToRead, Discard as ToDiscard, Write as ToWrite, GetKeys, GetAxis, Revoke}
 use Rattle.inp_model.specs.declared.reply.Reply.TheVariants.{Done, Opened, Took as Taken, Discarded, Bits, Axis, Refused}
 use Rattle.inp_model.specs.declared.reply.Refusal.TheVariants.{LogFull, BadClient, NoDevice}
 use Rattle.inp_model.specs.Description.{Description, one_key, no_info}
@@ -12,15 +12,23 @@ use Rattle.inp_actors.specs.declared.command.Command.{Command}
 use Rattle.inp_actors.specs.declared.command.Command.TheVariants.{Event, Open, Read, Next as ToNext, Skip, Follow, Force}
 use Rattle.inp_actors.specs.declared.role.Role.{Role}
 use Rattle.inp_actors.specs.declared.role.Role.TheVariants.{Source, Client, Tap, Joy}
+use Rattle.inp_feedback.specs.declared.fed.Fed.TheVariants.{Took as FeedTook, Full as FeedFull}
+use Rattle.inp_feedback.specs.declared.u_entry.UEntry.{UEntry}
+use Rattle.inp_feedback.specs.declared.u_entry.UEntry.TheVariants.{Made as StepMade, Feedback as CallMade}
+use Rattle.inp_feedback.specs.Examples.{keyboard, caps_lock}
+use Rattle.inp_feedback.specs.Feedback.{fed, taken_by_feedback, kept_after_feedback}
 use Rattle.inp_joy.specs.Examples.{stick}
 use Rattle.inp_joy.specs.Picture.{PictureView, up_to_64}
 use Rattle.inp_reader.specs.Examples.{played, slider, slides, axis}
+use Rattle.inp_script.specs.declared.fed_sight.FedSight.TheVariants.{Answer, Event as Given}
 use Rattle.inp_script.specs.declared.sight.Sight.{Sight}
 use Rattle.inp_script.specs.declared.sight.Sight.TheVariants.{Call, Took, Made, Again, Record}
 use Rattle.inp_script.specs.declared.stop.Stop.TheVariants.{Idle, Full}
 use Rattle.inp_script.specs.declared.waiting.Waiting.{Waiting}
 use Rattle.inp_script.specs.Doing.{line_talk}
 use Rattle.inp_script.specs.Job.{Job, first_job}
+use Rattle.inp_feedback.specs.Feeding.{Feeding}
+use Rattle.inp_script.specs.Owner.{Owning, FeedsLine, first_owning}
 
 -- a device, and the jobs of a source and of another actor
 pub record Stage : Type 0 where
@@ -197,3 +205,37 @@ RevokedKeepsThePicture =
     let s = after_acts slider Joy None 16 (record opened { past = Revoke 0 ∷ opened.past }) (by_other (Read 1) ∷ []) in
     (s.other.sight ≡ startup_sight ++ Call (ToRead 0 64) (Refused 3 NoDevice) ∷ [])
     × (s.other.stick.picture ≡ axis_at 5) × (s.other.stop ≡ None)
+
+-- Owners
+
+-- a device that keeps two feedback calls at most
+abbrev pub keyboard_of_two_calls : Description
+keyboard_of_two_calls = record keyboard { log_limit = 2 }
+
+-- it answers a feedback call by the entries that it keeps, newest first, and keeps the call
+abbrev pub feeds_kept : Feeding (List UEntry)
+feeds_kept before after room answer es =
+    let d = keyboard_of_two_calls in
+    (after ≡ kept_after_feedback d before room) × (answer ≡ fed d before room) × (es ≡ taken_by_feedback d before room)
+
+-- a client lit its LED
+abbrev pub lit : List UEntry
+lit = StepMade (ToWrite 0 (caps_lock (pos 1)) 0) ∷ StepMade ToOpen ∷ []
+
+-- an owner that took the event, and then none
+abbrev pub told_twice : Owning
+told_twice = record { fed = Answer (FeedTook 2 1) ∷ Given (caps_lock (pos 1)) ∷ Answer (FeedTook 2 0) ∷ []; stop = None }
+
+-- The first line of an owner takes the event, and its second one none.
+abbrev pub OwnerTakesWhatWasSent : Type 0
+OwnerTakesWhatWasSent =
+    let told_once : Owning = record { fed = Answer (FeedTook 2 1) ∷ Given (caps_lock (pos 1)) ∷ []; stop = None } in
+    FeedsLine feeds_kept lit (CallMade 1 ∷ lit) 15 first_owning told_once
+    × FeedsLine feeds_kept (CallMade 1 ∷ lit) (CallMade 0 ∷ CallMade 1 ∷ lit) 15 told_once told_twice
+
+-- Its third call is refused, and stops it: its fourth line makes no call.
+abbrev pub OwnerStopsAtTheLimit : Type 0
+OwnerStopsAtTheLimit =
+    let kept : List UEntry = CallMade 0 ∷ CallMade 1 ∷ lit in
+    let stopped : Owning = record { fed = told_twice.fed ++ Answer (FeedFull 2) ∷ []; stop = Some (Full 2) } in
+    FeedsLine feeds_kept kept kept 15 told_twice stopped × FeedsLine feeds_kept kept kept 15 stopped stopped

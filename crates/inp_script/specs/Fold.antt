@@ -12,7 +12,7 @@ use Rattle.inp_model.specs.Past.{past_at}
 use Rattle.inp_model.specs.Reply.{answer, is_accepted}
 use Rattle.inp_model.specs.Run.{place_of}
 use Rattle.inp_actors.specs.declared.role.Role.{Role}
-use Rattle.inp_actors.specs.declared.role.Role.TheVariants.{Source, Client, Tap, Joy}
+use Rattle.inp_actors.specs.declared.role.Role.TheVariants.{Source, Client, Tap, Joy, Owner}
 use Rattle.inp_recon.specs.declared.view.View.{View}
 use Rattle.inp_recon.specs.View.{first_view, view_after_answer, view_after_event}
 use Rattle.inp_reader.specs.Reading.{queries}
@@ -86,11 +86,13 @@ client_fold d history f [] = f
 client_fold d history f (entry ∷ sight) = client_fold d history (after_client_entry d history f entry) sight
 
 -- The view of a job is the fold of its whole sight, from the view that has seen nothing; of a joystick's job its picture is.
+-- Sources and owners see nothing of the device.
 abbrev pub IsFolded : Role → Description → List Step → Job → Type 0
 IsFolded Source d history j = j.reading.view ≡ first_view d
 IsFolded Tap d history j = tap_fold d history (first_view d) j.sight ≡ j.reading.view
 IsFolded Client d history j = client_fold d history (settled (first_view d)) j.sight ≡ settled j.reading.view
 IsFolded Joy d history j = joy_fold d blank_shown j.sight ≡ shown j.stick.picture
+IsFolded Owner d history j = j.reading.view ≡ first_view d
 
 -- it is so of each history that begins with what was seen, where it was before
 abbrev pub StaysFolded : Role → Description → EvdevView → Job → Job → Type 0

@@ -11,9 +11,11 @@ use Rattle.inp_recon.specs.View.{first_view}
 use Rattle.inp_reader.specs.declared.phase.Phase.TheVariants.{Plain}
 use Rattle.inp_reader.specs.declared.reader.TheConstants.{NO_CLIENT}
 use Rattle.inp_reader.specs.Reading.{Reading}
+use Rattle.inp_script.specs.declared.fed_sight.FedSight.{FedSight}
 use Rattle.inp_script.specs.declared.sight.Sight.{Sight}
 use Rattle.inp_script.specs.declared.stop.Stop.{Stop}
 use Rattle.inp_script.specs.declared.stop.Stop.TheVariants.{Finished}
+use Rattle.inp_script.specs.Owner.{Owning}
 
 -- what a joystick client keeps besides its reader
 pub record Stick : Type 0 where
@@ -64,6 +66,8 @@ pub record ActorView : Type 0 where
   -- the description of its device
   pub description : Description
   pub job : Job
+  -- what an owner keeps, there for the role Owner alone
+  pub owning : Owning
 
 -- what came of a job
 pub record JobView : Type 0 where
@@ -87,6 +91,15 @@ pub record JoyJobView : Type 0 where
   -- why it ended
   pub stop : Stop
 
+-- what came of an owner
+pub record OwnerView : Type 0 where
+  -- the number of its actor, from 0 over the whole record
+  pub actor : ℕ
+  -- what it was told: each answer, and behind it the events that it took
+  pub fed : List FedSight
+  -- why it ended
+  pub stop : Stop
+
 -- a job that did not stop before is finished
 abbrev pub last_stop : Option Stop → Stop
 last_stop None = Finished
@@ -98,3 +111,6 @@ job_end a = record { actor = a.actor; sight = a.job.sight; view = a.job.reading.
 
 abbrev pub joy_end : ActorView → JoyJobView
 joy_end a = record { actor = a.actor; sight = a.job.sight; picture = a.job.stick.picture; stop = last_stop a.job.stop }
+
+abbrev pub owner_end : ActorView → OwnerView
+owner_end a = record { actor = a.actor; fed = a.owning.fed; stop = last_stop a.owning.stop }

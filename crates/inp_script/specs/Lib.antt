@@ -1,4 +1,5 @@
 pub mod Sight
+pub mod Owner
 pub mod Job
 pub mod Kept
 pub mod Line

@@ -1,13 +1,13 @@
 -- Which runs are those of a record.
-use Rattle.std.specs.Prelude.{◌≡◌, ℕ, Bool, false, not, nat_eq, List, length, map, filter, flat_map, slice_get, Option, Some, None}
+use Rattle.std.specs.Prelude.{◌≡◌, ℕ, Bool, false, not, ◌||◌, nat_eq, List, length, map, filter, flat_map, slice_get, Option, Some, None}
 use Rattle.std.specs.List.{range_with_len}
 use Rattle.inp_actors.specs.declared.actor_text.ActorText.{ActorText}
 use Rattle.inp_actors.specs.declared.device_text.DeviceText.{DeviceText}
-use Rattle.inp_actors.specs.Command.{is_joy}
+use Rattle.inp_actors.specs.Command.{is_joy, is_owner}
 use Rattle.inp_actors.specs.Record.{RecordView}
 use Rattle.inp_recon.specs.View.{IsSizedFor}
 use Rattle.inp_script.specs.declared.run.Run.{Run}
-use Rattle.inp_script.specs.Job.{JobView, JoyJobView}
+use Rattle.inp_script.specs.Job.{JobView, JoyJobView, OwnerView}
 
 abbrev pub is_on_device : ℕ → Option ActorText → Bool
 is_on_device device None = false
@@ -22,15 +22,25 @@ abbrev pub is_joystick : Option ActorText → Bool
 is_joystick None = false
 is_joystick (Some actor) = is_joy actor.role
 
--- those of them that are no joysticks
-abbrev pub jobs_of : List ActorText → ℕ → List ℕ
-jobs_of actors device = filter (λ i. not (is_joystick (slice_get actors i))) (actors_of actors device)
+-- an actor is an owner
+abbrev pub is_owning : Option ActorText → Bool
+is_owning None = false
+is_owning (Some actor) = is_owner actor.role
 
--- and those that are
+-- those of them that are neither joysticks nor owners
+abbrev pub jobs_of : List ActorText → ℕ → List ℕ
+jobs_of actors device = filter (λ i. not (is_joystick (slice_get actors i) || is_owning (slice_get actors i))) (actors_of actors device)
+
+-- those that are joysticks
 abbrev pub joysticks_of : List ActorText → ℕ → List ℕ
 joysticks_of actors device = filter (λ i. is_joystick (slice_get actors i)) (actors_of actors device)
 
--- What came of a device: one job for each of its actors but joysticks, in order, whose view has the device's slots.
+-- those that are owners
+abbrev pub owners_of : List ActorText → ℕ → List ℕ
+owners_of actors device = filter (λ i. is_owning (slice_get actors i)) (actors_of actors device)
+
+-- What came of a device: one job for each of its actors but joysticks and owners, in order, whose view has the device's
+-- slots.
 pub record IsRunOf (actors : List ActorText) (number : ℕ) (device : DeviceText) (run : Run) : Type 0 where
   pub jobs : map (λ (job : JobView). job.actor) run.jobs ≡ jobs_of actors number
   pub views : (i : ℕ) (job : JobView) → slice_get run.jobs i ≡ Some job → IsSizedFor device.caps.slots job.view
@@ -48,3 +58,11 @@ joy_actors joys = map (λ (joy : JoyJobView). joy.actor) joys
 -- record's text the actors of a device stand behind it, so this is the order of the text.
 abbrev pub AreJoysOf : RecordView → List JoyJobView → Type 0
 AreJoysOf r joys = joy_actors joys ≡ flat_map (joysticks_of r.actors) (range_with_len 0 (length r.devices))
+
+-- the numbers of owners
+abbrev pub owner_actors : List OwnerView → List ℕ
+owner_actors owners = map (λ (owner : OwnerView). owner.actor) owners
+
+-- What came of a record's owners: one for each, in the same order.
+abbrev pub AreOwnersOf : RecordView → List OwnerView → Type 0
+AreOwnersOf r owners = owner_actors owners ≡ flat_map (owners_of r.actors) (range_with_len 0 (length r.devices))

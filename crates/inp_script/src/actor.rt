@@ -1,8 +1,10 @@
 //! An actor of a record at work.
 ghost use Rattle.inp_model.specs.declared.step.Step.{Step as AStep};
-ghost use Rattle.std.specs.Prelude.{◌≡◌, ◌<◌, List, length, OnOk, IfOk, IfSome, Some};
+ghost use Rattle.std.specs.Prelude.{◌≡◌, ◌<◌, List, length, min, OnOk, IfOk, IfSome, Some};
 ghost use Rattle.inp_model.specs.Leaves.{IsLeft};
-ghost use Rattle.inp_actors.specs.declared.role.Role.TheVariants.{Source};
+ghost use Rattle.inp_actors.specs.declared.role.Role.TheVariants.{Source, Owner};
+ghost use Rattle.inp_feedback.specs.declared.fed.TheConstants.{FEEDBACK_MAX};
+ghost use Rattle.inp_script.specs.Owner.{first_owning, FeedsLine, MayHaveFed};
 ghost use Rattle.inp_script.specs.Doing.{Begins, BeginsLine, DoesLine, Holds, HasActor, IsLineOf, IsWaiting};
 ghost use Rattle.inp_script.specs.Legal.{CountsTurns, GainsPlaces, StaysLegal};
 ghost use Rattle.inp_script.specs.Fold.{IsFolded, StaysFolded};
@@ -16,16 +18,18 @@ use crate::stops::last_stop;
 use crate::{Ended, Sights, Waiting};
 use inp_actors::Record;
 use inp_caps::Caps;
+use inp_feedback::Feeds;
 use inp_model::{Evdev, NoMemory, Step};
 use std::alloc::Global;
 use std::marker::Model;
 
-/// An actor of a record at work: a source, a tap, a client or a joystick. It does its lines one by one over whatever evdev it
-/// is lent, and keeps what it saw.
+/// An actor of a record at work: a source, a tap, a client, a joystick or an owner. It does its lines one by one over whatever
+/// evdev it is lent, an owner over whatever answers feedback calls, and keeps what it saw.
 ///
-/// A contract sees its number, its role, its device's description and its job: the reader, the client or the joystick client
-/// that it reads as, what it saw, and why it stopped, if it did. After a call answered `NoMemory` the actor is given up: no contract
-/// says what it saw in that call. Which calls were made, and what they left of the evdev, is said then too.
+/// A contract sees its number, its role, its device's description, its job (the reader, the client or the joystick client
+/// that it reads as, what it saw, and why it stopped, if it did), and what it keeps as an owner. After a call answered
+/// `NoMemory` the actor is given up: no contract says what it saw in that call. Which calls were made, and what they left
+/// of the evdev, is said then too.
 #[derive(Drop)]
 pub struct Actor {
     actor: u32,
@@ -56,6 +60,7 @@ impl Actor {
         ensures number { IfOk result (λ new. new.actor ≡ actor) }
         ensures actor { IfOk result (HasActor rec.now) }
         ensures job { IfOk result (λ new. new.job ≡ first_job new.role new.description) }
+        ensures owning { IfOk result (λ new. new.owning ≡ first_owning) }
         ensures view { IfOk result (λ new. (history : List AStep) →
             IsFolded new.role new.description history new.job) }
     {
@@ -74,7 +79,8 @@ impl Actor {
         })
     }
 
-    /// Does the line of this number, or nothing where the actor has stopped.
+    /// Does the line of this number, or nothing where the actor has stopped. A line of an owner is no call of an evdev, and
+    /// is done by [`feed`](Actor::feed) alone.
     ///
     /// Where a [`Waiting`] is given, a `follow` goes on while nothing is visible, until all sources of the device are done,
     /// or until so many reads in a row found nothing that the actor stops with `Stop::Idle`. No other line waits.
@@ -117,6 +123,21 @@ impl Actor {
         }
         self.state
             .do_command(dev, &mut self.notes, &self.caps, rec, command, wait)
+    }
+
+    /// Makes a feedback call of an owner with room for `count` events, but for no more than ever wait, which are 15, and
+    /// notes the answer and the events; or does nothing where the owner has stopped.
+    ///
+    /// After `Full` the owner has stopped. `NoMemory` comes where there is none for what it was told. Whatever the answer,
+    /// one call was made or none was (`begun`).
+    pub fn feed<F: Feeds>(&mut self, dev: &mut F, count: u32) -> Result<(), NoMemory>
+        requires owner { self.old.role ≡ Owner }
+        ensures done { OnOk result (FeedsLine F.feeds dev.old dev.new (min count FEEDBACK_MAX)
+            self.old.owning self.new.owning) }
+        ensures begun { MayHaveFed F.feeds dev.old dev.new (min count FEEDBACK_MAX) }
+        ensures actor { self.new ≡ record self.old { owning = self.new.owning } }
+    {
+        self.state.feed(dev, count)
     }
 
     /// Makes the step `End`, by which a source says that it is done, or does nothing where the actor has stopped.

@@ -1,6 +1,6 @@
 //! What comes of an actor.
 
-use crate::{JobEnd, JoyEnd};
+use crate::{JobEnd, JoyEnd, OwnerEnd};
 
 /// What comes of an actor when its lines are done.
 #[derive(Drop)]
@@ -9,4 +9,6 @@ pub enum Ended {
     Job { end: JobEnd },
     /// Of a joystick.
     Joy { end: JoyEnd },
+    /// Of an owner.
+    Owner { end: OwnerEnd },
 }

@@ -1,5 +1,5 @@
 //! What the definitions compute on short records.
-ghost use Rattle.inp_script.specs.Examples.{ReadsByHand, FollowsToTheEnd, HandsOutWhatIsMade, SkipsWhatIsMade, StopsAtTheLimit, GoesOnAfterRefusals, StopsWhereNothingComes, JoystickTells, JoystickBeginsAnew, RefusedQueryKeepsThePicture, RevokedKeepsThePicture};
+ghost use Rattle.inp_script.specs.Examples.{ReadsByHand, FollowsToTheEnd, HandsOutWhatIsMade, SkipsWhatIsMade, StopsAtTheLimit, GoesOnAfterRefusals, StopsWhereNothingComes, JoystickTells, JoystickBeginsAnew, RefusedQueryKeepsThePicture, RevokedKeepsThePicture, OwnerTakesWhatWasSent, OwnerStopsAtTheLimit};
 
 /// What the definitions of this crate compute on short records that were worked out by hand. It does nothing: its
 /// contract is the point.
@@ -15,4 +15,6 @@ pub fn examples_of_jobs()
     ensures anew { JoystickBeginsAnew }
     ensures picture { RefusedQueryKeepsThePicture }
     ensures revoked { RevokedKeepsThePicture }
+    ensures owner { OwnerTakesWhatWasSent }
+    ensures refused_owner { OwnerStopsAtTheLimit }
 {}

@@ -30,7 +30,12 @@ impl Model for JoyEnd {
 impl JoyEnd {
     /// The end of the job with these parts. It takes no memory.
     pub(crate) fn new(actor: u32, sight: JoySights, picture: Picture, stop: Stop) -> JoyEnd
-        ensures parts { result ≡ record { actor = actor; sight = sight; picture = seen_as picture; stop = stop } }
+        ensures parts { result ≡ record {
+          actor = actor;
+          sight = sight;
+          picture = seen_as picture;
+          stop = stop;
+        } }
     {
         JoyEnd {
             actor,

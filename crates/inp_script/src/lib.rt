@@ -2,9 +2,10 @@
 //!
 //! This crate is for whoever plays a record. An [`Actor`] does the lines of a source, a tap, a client or a joystick,
 //! and keeps what it saw: each call with its reply, each event that it read or that its reader made, each record of a
-//! joystick that it handed out, and where nothing was visible. It stands on `inp_actors` for records, on `inp_reader`
-//! and `inp_recon` for readers and views, on `inp_joy` for joystick clients, on `inp_edge` for gates, and on
-//! `inp_model` for steps, replies and `Evdev`.
+//! joystick that it handed out, and where nothing was visible. Or it is the owner of a device that is made by requests,
+//! and keeps what it was told: each answer to a feedback call, and each event that the call took. It stands on
+//! `inp_actors` for records, on `inp_reader` and `inp_recon` for readers and views, on `inp_joy` for joystick clients,
+//! on `inp_feedback` for feedback calls, on `inp_edge` for gates, and on `inp_model` for steps, replies and `Evdev`.
 //!
 //! Its contract: `specs/Line.antt`, `specs/Client.antt` and `specs/Joystick.antt` say what each command asks of an
 //! evdev, one step by the answers before it, and what the job is afterwards (a `Talk` of `inp_reader`);
@@ -20,8 +21,16 @@
 //! what it saw (`StaysFolded`); and where it stops as idle, at least as many reads were answered Again as it says, or
 //! their count stands at its end (`CountsTurns`). [`Actor::end`] makes the step End, or nothing where the actor has
 //! stopped (`end_talk`), unless memory ran out, and makes no other call then either. [`Actor::finish`] gives the end
-//! that `job_end` makes of the actor, a joystick's apart. [`examples_of_jobs`] shows what these definitions compute on
-//! short records.
+//! that `job_end` makes of the actor, a joystick's and an owner's apart. [`examples_of_jobs`] shows what these
+//! definitions compute on short records.
+//!
+//! The lines of an owner are done by [`Actor::feed`], over anything that answers feedback calls (`Feeds` of
+//! `inp_feedback`). It
+//! promises that one call was made, with room for as many events as the line asks for but for no more than ever wait,
+//! and that the answer and the events are noted behind what the owner was told before; or that the owner had stopped,
+//! and nothing was done (`FeedsLine`, `specs/Owner.antt`). An answer `Full` stops it. Where memory ran out, one call was
+//! made or none (`MayHaveFed`). An owner makes no call of an evdev: [`Actor::line`] does nothing for it. It ends as an
+//! [`OwnerEnd`].
 //!
 //! A line that hands out events ends whatever the evdev answers: each round makes a call that takes a place of the
 //! history, which is bounded, or hands out an event that was read or made before, or counts one answer Again of those
@@ -39,11 +48,14 @@ mod actor;
 mod client;
 mod ended;
 mod examples;
+mod fed_sight;
 mod gated;
 mod job_end;
 mod joy_end;
 mod joystick;
 mod notes;
+mod owner;
+mod owner_end;
 mod role_state;
 mod run;
 mod sight;
@@ -57,10 +69,12 @@ mod waiting;
 pub use actor::Actor;
 pub use ended::Ended;
 pub use examples::examples_of_jobs;
+pub use fed_sight::{FedList, FedSight};
 pub use gated::Gated;
 pub use job_end::JobEnd;
 pub use joy_end::JoyEnd;
-pub use run::{DeviceRun, Jobs, JoyRuns, Played, Run, Runs};
+pub use owner_end::OwnerEnd;
+pub use run::{DeviceRun, Jobs, JoyRuns, OwnerRuns, Played, Run, Runs};
 pub use sight::{JoySight, JoySights, Sight, Sights};
 pub use stop::Stop;
 pub use waiting::Waiting;

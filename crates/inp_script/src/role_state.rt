@@ -1,18 +1,24 @@
 //! What an actor keeps by its role.
-ghost use Rattle.std.specs.Prelude.{◌≡◌, ℕ, OnOk, IfOk};
+ghost use Rattle.std.specs.Prelude.{◌≡◌, ℕ, min, OnOk, IfOk};
+ghost use Rattle.inp_actors.specs.declared.role.Role.TheVariants.{Owner as OwnerRole};
+ghost use Rattle.inp_feedback.specs.declared.fed.TheConstants.{FEEDBACK_MAX};
+ghost use Rattle.inp_script.specs.Owner.{first_owning, FeedsLine, MayHaveFed};
 ghost use Rattle.inp_script.specs.Doing.{Begins, DoesCommand, IsCommandFor, command_talk};
 ghost use Rattle.inp_script.specs.Job.{first_reading, first_stick};
 ghost use Rattle.inp_script.specs.Ended.{HasCells, ended_with};
-ghost use Rattle.inp_script.specs.RoleState.{role_of, reading_of, stick_of, job_in, IsSized};
+ghost use Rattle.inp_script.specs.RoleState.{role_of, reading_of, stick_of, owning_of, owning_in, job_in, IsSized};
 
 use crate::client::do_client_command;
 use crate::joystick::do_joystick_command;
 use crate::notes::Notes;
+use crate::owner::Owner;
 use crate::source::do_source_command;
+use crate::stops::last_stop;
 use crate::tap::Tap;
-use crate::{Ended, JobEnd, JoyEnd, Sights, Stop, Waiting};
+use crate::{Ended, JobEnd, JoyEnd, OwnerEnd, Sights, Stop, Waiting};
 use inp_actors::{Command, Record, Role};
 use inp_caps::Caps;
+use inp_feedback::Feeds;
 use inp_joy::Joy;
 use inp_model::{Evdev, NoMemory};
 use inp_reader::Reader;
@@ -30,14 +36,17 @@ pub(crate) enum RoleState {
     Client { reader: Reader, view: View },
     /// A joystick reads as one.
     Joy { joy: Joy },
+    /// An owner makes feedback calls, and none of an evdev.
+    Owner { owner: Owner },
 }
 
 impl RoleState {
     // What an actor of a role keeps before its first line. It is refused for memory alone.
     pub(crate) fn new(alloc: Global, caps: &Caps, role: Role) -> Result<RoleState, NoMemory>
         ensures role { IfOk result (λ state. role_of state ≡ role) }
-        ensures reading { IfOk result (λ state. reading_of state ≡ first_reading caps.now) }
+        ensures reading { IfOk result (λ state. reading_of caps.now state ≡ first_reading caps.now) }
         ensures stick { IfOk result (λ state. stick_of state ≡ first_stick role caps.now) }
+        ensures owning { IfOk result (λ state. owning_of state ≡ first_owning) }
         ensures sized { IfOk result (IsSized caps.now) }
     {
         match role {
@@ -53,6 +62,9 @@ impl RoleState {
             }),
             Role::Joy => Ok(RoleState::Joy {
                 joy: Joy::new(alloc, caps)?,
+            }),
+            Role::Owner => Ok(RoleState::Owner {
+                owner: Owner::new(alloc),
             }),
         }
     }
@@ -72,11 +84,12 @@ impl RoleState {
         requires sized { IsSized caps.now self.old }
         ensures done { OnOk result (DoesCommand (E.told dev.old) (E.told dev.new)
             (role_of self.old) caps.now rec.now.streams wait command.now
-            (job_in self.old notes.old) (job_in self.new notes.new)) }
+            (job_in caps.now self.old notes.old) (job_in caps.now self.new notes.new)) }
         ensures begun { (rounds : ℕ) × Begins (E.told dev.old) (E.told dev.new)
             (command_talk (role_of self.old) caps.now rec.now.streams wait rounds command.now
-            (job_in self.old notes.old)) }
+            (job_in caps.now self.old notes.old)) }
         ensures role { role_of self.new ≡ role_of self.old }
+        ensures owning { owning_of self.new ≡ owning_of self.old }
         ensures sized { IsSized caps.now self.new }
     {
         match self {
@@ -86,13 +99,29 @@ impl RoleState {
                 dev, reader, notes, command, wait,
             ),
             RoleState::Joy { joy } => do_joystick_command(dev, joy, notes, command),
+            RoleState::Owner { .. } => Ok(()),
+        }
+    }
+
+    // Makes a feedback call of an owner with room for so many events, and notes it, or does nothing where the owner has
+    // stopped. Any other actor makes none.
+    pub(crate) fn feed<F: Feeds>(&mut self, dev: &mut F, count: u32) -> Result<(), NoMemory>
+        requires owner { role_of self.old ≡ OwnerRole }
+        ensures done { OnOk result (FeedsLine F.feeds dev.old dev.new (min count FEEDBACK_MAX)
+            (owning_of self.old) (owning_of self.new)) }
+        ensures begun { MayHaveFed F.feeds dev.old dev.new (min count FEEDBACK_MAX) }
+        ensures role { role_of self.new ≡ OwnerRole }
+    {
+        match self {
+            RoleState::Owner { owner } => owner.feed(dev, count),
+            _ => Ok(()),
         }
     }
 
     // What comes of an actor of this number that saw this and ended so. It takes no memory.
     pub(crate) fn end(self, actor: u32, caps: &Caps, sight: Sights, stop: Stop) -> Ended
         requires sized { IsSized caps.now self }
-        ensures ended { result ≡ ended_with self actor sight stop }
+        ensures ended { result ≡ ended_with caps.now self actor sight stop }
         ensures cells { HasCells caps.now result }
     {
         let view = match self {
@@ -105,6 +134,11 @@ impl RoleState {
             RoleState::Joy { joy } => {
                 let end = JoyEnd::new(actor, sight, *joy.picture(), stop);
                 return Ended::Joy { end };
+            }
+            RoleState::Owner { owner } => {
+                let Owner { fed, stop } = owner;
+                let end = OwnerEnd::new(actor, fed, last_stop(stop));
+                return Ended::Owner { end };
             }
         };
         let end = JobEnd::new(actor, sight, view, stop);

@@ -1,12 +1,12 @@
 //! What came of a device and of its jobs.
 ghost use Rattle.std.specs.Prelude.{◌≡◌, ◌++◌, ◌∷◌, [], OnOk, IfOk};
-ghost use Rattle.inp_script.specs.Ended.{device_run, jobs_among, joys_among, played_of};
+ghost use Rattle.inp_script.specs.Ended.{device_run, jobs_among, joys_among, owners_among, played_of};
 
-use crate::{Ended, JobEnd, JoyEnd};
+use crate::{Ended, JobEnd, JoyEnd, OwnerEnd};
 use inp_model::{History, Items, NoMemory};
 use std::alloc::Global;
 
-/// What came of the jobs of a device but joysticks', in the order of their actors.
+/// What came of the jobs of a device but joysticks' and owners', in the order of their actors.
 pub type Jobs = Items<JobEnd>;
 
 /// What came of one device.
@@ -24,22 +24,29 @@ pub type Runs = Items<Run>;
 /// What came of joysticks, in the order of the record.
 pub type JoyRuns = Items<JoyEnd>;
 
+/// What came of owners, in the order of the record.
+pub type OwnerRuns = Items<OwnerEnd>;
+
 /// What came of one device and of all its jobs.
 #[derive(Drop)]
 pub struct DeviceRun {
-    /// Its history, and its jobs but joysticks'.
+    /// Its history, and its jobs but joysticks' and owners'.
     pub run: Run,
     /// Its joysticks' jobs, in the order of their actors.
     pub joys: JoyRuns,
+    /// Its owners, in the order of their actors.
+    pub owners: OwnerRuns,
 }
 
 /// What came of a record.
 #[derive(Drop)]
 pub struct Played {
-    /// What came of each device, and of its jobs but joysticks'.
+    /// What came of each device, and of its jobs but joysticks' and owners'.
     pub runs: Runs,
     /// What came of the joysticks.
     pub joys: JoyRuns,
+    /// What came of the owners.
+    pub owners: OwnerRuns,
 }
 
 impl DeviceRun {
@@ -50,11 +57,12 @@ impl DeviceRun {
     {
         let mut jobs = Jobs::new(alloc);
         let mut joys = JoyRuns::new(alloc);
+        let mut owners = OwnerRuns::new(alloc);
         for ended in ends {
-            push_end(&mut jobs, &mut joys, ended)?;
+            push_end(&mut jobs, &mut joys, &mut owners, ended)?;
         }
         let run = Run { history, jobs };
-        Ok(DeviceRun { run, joys })
+        Ok(DeviceRun { run, joys, owners })
     }
 }
 
@@ -65,22 +73,31 @@ impl Played {
     {
         let mut runs = Runs::new(alloc);
         let mut joys = JoyRuns::new(alloc);
+        let mut owners = OwnerRuns::new(alloc);
         for device in devices {
             runs.push(device.run)?;
             push_joys(&mut joys, device.joys)?;
+            push_owners(&mut owners, device.owners)?;
         }
-        Ok(Played { runs, joys })
+        Ok(Played { runs, joys, owners })
     }
 }
 
-// Adds what came of an actor to the jobs, or to those of joysticks.
-fn push_end(jobs: &mut Jobs, joys: &mut JoyRuns, ended: Ended) -> Result<(), NoMemory>
+// Adds what came of an actor to the jobs, to those of joysticks, or to the owners.
+fn push_end(
+    jobs: &mut Jobs,
+    joys: &mut JoyRuns,
+    owners: &mut OwnerRuns,
+    ended: Ended,
+) -> Result<(), NoMemory>
     ensures jobs { OnOk result (jobs.new ≡ jobs.old ++ jobs_among (ended ∷ [])) }
     ensures joys { OnOk result (joys.new ≡ joys.old ++ joys_among (ended ∷ [])) }
+    ensures owners { OnOk result (owners.new ≡ owners.old ++ owners_among (ended ∷ [])) }
 {
     match ended {
         Ended::Job { end } => jobs.push(end),
         Ended::Joy { end } => joys.push(end),
+        Ended::Owner { end } => owners.push(end),
     }
 }
 
@@ -90,6 +107,16 @@ fn push_joys(joys: &mut JoyRuns, own: JoyRuns) -> Result<(), NoMemory>
 {
     for joy in own.into_vec() {
         joys.push(joy)?;
+    }
+    Ok(())
+}
+
+// Adds what came of the owners of one device.
+fn push_owners(owners: &mut OwnerRuns, own: OwnerRuns) -> Result<(), NoMemory>
+    ensures { OnOk result (owners.new ≡ owners.old ++ own) }
+{
+    for owner in own.into_vec() {
+        owners.push(owner)?;
     }
     Ok(())
 }

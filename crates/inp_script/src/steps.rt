@@ -63,7 +63,8 @@ pub(crate) fn step_of(client: u32, command: &Command) -> Option<Step>
         | Command::Next { .. }
         | Command::Skip { .. }
         | Command::Follow
-        | Command::Force => return None,
+        | Command::Force
+        | Command::Feedback { .. } => return None,
     };
     Some(step)
 }

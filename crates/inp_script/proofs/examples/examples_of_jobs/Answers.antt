@@ -2,6 +2,7 @@
 use Rattle.std.proofs.Common.{refl}
 use Rattle.inp_model.proofs.Computing.{computing}
 use Rattle.inp_reader.proofs.Computing.{computing_reader}
+use Rattle.inp_feedback.proofs.Computing.{computing as computing_feedback}
 use Rattle.inp_script.proofs.Computing.{computing_jobs, computing_joysticks}
 use Rattle.inp_script.proofs.examples.examples_of_jobs.Goals as goal
 
@@ -48,3 +49,14 @@ returns-clause-picture c = (refl, refl, refl)
 pub returns-clause-revoked : goal.returns-clause-revoked
 unfolding computing computing_reader computing_jobs computing_joysticks
 returns-clause-revoked c = (refl, refl, refl)
+
+pub returns-clause-owner : goal.returns-clause-owner
+unfolding computing_feedback
+returns-clause-owner c = (
+  record { answer = _; events = _; fed = (refl, refl, refl); noted = refl },
+  record { answer = _; events = _; fed = (refl, refl, refl); noted = refl },
+)
+
+pub returns-clause-refused_owner : goal.returns-clause-refused_owner
+unfolding computing_feedback
+returns-clause-refused_owner c = (record { answer = _; events = _; fed = (refl, refl, refl); noted = refl }, (refl, refl))
