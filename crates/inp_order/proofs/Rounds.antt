@@ -9,6 +9,7 @@ use Rattle.inp_model.specs.Run.{Call}
 use Rattle.inp_actors.specs.declared.command.Command.{Command}
 use Rattle.inp_actors.specs.declared.line.Line.{Line}
 use Rattle.inp_actors.specs.declared.role.Role.{Role}
+use Rattle.inp_actors.specs.Command.{feedback_room}
 use Rattle.inp_actors.specs.Record.{RecordView}
 use Rattle.inp_reader.specs.Talk.{Talk, finish, ask, and_then, EndsWith}
 use Rattle.inp_script.specs.declared.run.Played.{Played}
@@ -17,7 +18,7 @@ use Rattle.inp_script.specs.Doing.{line_talk}
 use Rattle.inp_script.specs.Ended.{played_of}
 use Rattle.inp_script.specs.Job.{Job, ActorView}
 use Rattle.inp_runs.proofs.MoreRounds.{line-longer}
-use Rattle.inp_order.specs.Play.{Stage, talk_with, first_stage, after_talk, after_line, after_line_of, after_lines, runs_of, play}
+use Rattle.inp_order.specs.Play.{Stage, talk_with, first_stage, after_talk, by_command, after_line, after_line_of, after_lines, runs_of, play}
 use Rattle.inp_order.proofs.Calls.{calls_with, exact-talk, talk_with-ends, talk_with-exact}
 
 -- one talk with a device after another
@@ -48,11 +49,26 @@ map-some : {A B : Type 0} (f : A → B) (o : Option A) (b : B) → option_map f 
 map-some f None b h = absurd cc
 map-some f (Some a) b h = (a, refl)
 
-after_line_of-more : (r : RecordView) (n k : ℕ) (s t : Stage) (line : Line) (device : ℕ) (a : ActorView) (past : List Step) → after_line_of r n s line device a past ≡ Some t → after_line_of r (n + k) s line device a past ≡ Some t
-after_line_of-more r n k s t line device a past h =
+-- of a talk
+talked-more : (r : RecordView) (n k : ℕ) (s t : Stage) (line : Line) (device : ℕ) (a : ActorView) (past : List Step)
+    → after_talk s device a (talk_with a.description past (line_talk a.role a.description r.streams None n line.command a.job)) ≡ Some t
+    → after_talk s device a (talk_with a.description past (line_talk a.role a.description r.streams None (n + k) line.command a.job)) ≡ Some t
+talked-more r n k s t line device a past h =
     let done = talk_with a.description past (line_talk a.role a.description r.streams None n line.command a.job) in
     let some : (j : Job) × (done.0 ≡ Some j) = map-some _ done.0 t h in
     ap (after_talk s device a) (line_talk-more a.role a.description r.streams None n k line.command a.job past some.0 some.1) ∙ h
+
+-- a feedback call has no rounds
+command-more : (o : Option ℕ) (s t : Stage) (device : ℕ) (a : ActorView) (past : List Step) (talked more : Option Stage) → (talked ≡ Some t → more ≡ Some t) → by_command o s device a past talked ≡ Some t → by_command o s device a past more ≡ Some t
+command-more None s t device a past talked more longer h = longer h
+command-more (Some room) s t device a past talked more longer h = h
+
+after_line_of-more : (r : RecordView) (n k : ℕ) (s t : Stage) (line : Line) (device : ℕ) (a : ActorView) (past : List Step) → after_line_of r n s line device a past ≡ Some t → after_line_of r (n + k) s line device a past ≡ Some t
+after_line_of-more r n k s t line device a past h =
+    command-more (feedback_room line.command) s t device a past
+    (after_talk s device a (talk_with a.description past (line_talk a.role a.description r.streams None n line.command a.job)))
+    (after_talk s device a (talk_with a.description past (line_talk a.role a.description r.streams None (n + k) line.command a.job)))
+    (talked-more r n k s t line device a past) h
 
 pub after_line-more : (r : RecordView) (n k : ℕ) (s t : Stage) (line : Line) → after_line r n s line ≡ Some t → after_line r (n + k) s line ≡ Some t
 unfolding after_line

@@ -1,5 +1,5 @@
 -- What is so between two lines: of each actor, of the history of each device, and of its places.
-use Rattle.std.proofs.Common.{◌≡◌, ℕ, ◌+◌, ◌≤◌, Bool, true, false, if◌then◌else◌, nat_eq, List, [], ◌∷◌, ◌++◌, length, map, reverse, refl, sym, ap, subst, ◌∙◌, arith, append_assoc, append-nil, length-set, ◌||◌, ◌⊎◌, inl, inr, Option, Some, None}
+use Rattle.std.proofs.Common.{◌≡◌, ℕ, suc, ◌+◌, ◌≤◌, Bool, true, false, if◌then◌else◌, nat_eq, List, [], ◌∷◌, ◌++◌, length, map, reverse, refl, sym, ap, subst, ◌∙◌, arith, append_assoc, append-nil, length-set, ◌||◌, ◌⊎◌, inl, inr, Option, Some, None}
 use Rattle.std.specs.Prelude.{filter, slice_get, slice_set, option_map}
 use Rattle.std.specs.List.{list_any, range_with_len, sum_by}
 use Rattle.std.proofs.lemmas.Option.{slice_get-map, same_Some, option_and_then_some}
@@ -10,6 +10,7 @@ use Rattle.inp_model.specs.Run.{Call, IsLegalFrom, IsLegalRun, next_place}
 use Rattle.inp_actors.specs.declared.actor_text.ActorText.{ActorText}
 use Rattle.inp_actors.specs.declared.line.Line.{Line}
 use Rattle.inp_actors.specs.declared.role.Role.{Role}
+use Rattle.inp_actors.specs.Command.{is_command_of}
 use Rattle.inp_actors.specs.Record.{RecordView}
 use Rattle.inp_model.specs.History.{IsHistory}
 use Rattle.inp_recon.specs.View.{IsSizedFor}
@@ -17,13 +18,14 @@ use Rattle.inp_reader.specs.Talk.{EndsWith}
 use Rattle.inp_script.specs.Doing.{line_talk}
 use Rattle.inp_script.specs.Job.{Job, ActorView, first_job}
 use Rattle.inp_script.specs.Legal.{entries_of, is_call_entry}
+use Rattle.inp_script.specs.Owner.{Owning}
 use Rattle.inp_script.specs.Runs.{is_on_device}
 use Rattle.inp_model.proofs.Leaves.{HasPlace-longer}
 use Rattle.inp_script.proofs.Told.{entries_of-append}
 use Rattle.inp_runs.specs.Job.{lines_by, lines_talk, lacks_memory}
 use Rattle.inp_order.specs.Play.{Stage, description_at, after_line, after_lines}
 use Rattle.inp_order.proofs.Calls.{AreExact, exact-grows, exact-legal, exact-memory, exact-within, exact-history}
-use Rattle.inp_order.proofs.LineDone.{IsLineDone, line-done}
+use Rattle.inp_order.proofs.LineDone.{IsLineDone, MayDo, line-done}
 use Rattle.inp_runs.proofs.LineRuns.{lines_talk-more, lines_by-more, lines_by-other}
 use Rattle.inp_runs.proofs.LineTalks.{IsKept}
 use Rattle.inp_runs.proofs.Listing.{eq_true, eq_false, slice_get-set, map-set_same, slice_get-range, sum_by-replaced}
@@ -77,10 +79,10 @@ memory-append (call ∷ calls) more h k = by_flag (lacks_memory call) (λ e. mem
     by_flag true longer e = absurd cc
     by_flag false longer e = longer e
 
-so_far-more : (r : RecordView) (rounds : ℕ) (lines : List Line) (line : Line) (d : Description) (role : Role) (past after : List Step) (a : ActorView) (job : Job) (calls : List Call) → IsSoFar r rounds lines d role past a
+so_far-more : (r : RecordView) (rounds : ℕ) (lines : List Line) (line : Line) (d : Description) (role : Role) (past after : List Step) (a : ActorView) (job : Job) (owning : Owning) (calls : List Call) → IsSoFar r rounds lines d role past a
     → line.actor ≡ a.actor → EndsWith (line_talk a.role a.description r.streams None rounds line.command a.job) calls (Some job) → AreExact a.description past after calls → IsHistory d past → IsKept a.description job (filter is_call_entry a.job.sight ++ entries_of calls)
-    → IsSoFar r rounds (lines ++ line ∷ []) d role after (record a { job = job })
-so_far-more r rounds lines line d role past after a job calls s own ends exact history kept =
+    → IsSoFar r rounds (lines ++ line ∷ []) d role after (record a { job = job; owning = owning })
+so_far-more r rounds lines line d role past after a job owning calls s own ends exact history kept =
     let exact_here : AreExact d past after calls = subst (λ (e : Description). AreExact e past after calls) s.description exact in
     let ends_here : EndsWith (line_talk role d r.streams None rounds line.command a.job) calls (Some job) =
     subst (λ (x : Role). EndsWith (line_talk x d r.streams None rounds line.command a.job) calls (Some job)) s.role_is
@@ -115,23 +117,23 @@ so_far-other r rounds lines line d role past after a s other grows = record {
 -- One line
 
 -- the line's actor stands at its number
-its_number : (r : RecordView) (rounds : ℕ) (lines : List Line) (stage now : Stage) (line : Line) → IsStage r rounds lines stage → (u : IsLineDone r rounds stage now line) → u.actor.actor ≡ line.actor
+pub its_number : (r : RecordView) (rounds : ℕ) (lines : List Line) (stage now : Stage) (line : Line) → IsStage r rounds lines stage → (u : IsLineDone r rounds stage now line) → u.actor.actor ≡ line.actor
 its_number r rounds lines stage now line s u = number_is r rounds lines stage line.actor u.actor s u.is_actor
 
-actor-behind : (r : RecordView) (rounds : ℕ) (lines : List Line) (stage now : Stage) (line : Line) → IsStage r rounds lines stage → (u : IsLineDone r rounds stage now line) → (i : ℕ) (a : ActorView) → slice_get now.actors i ≡ Some a
-    → ((i ≡ line.actor) × (a ≡ record u.actor { job = u.job })) ⊎ ((i ≡ line.actor → ⊥) × (slice_get stage.actors i ≡ Some a))
+pub actor-behind : (r : RecordView) (rounds : ℕ) (lines : List Line) (stage now : Stage) (line : Line) → IsStage r rounds lines stage → (u : IsLineDone r rounds stage now line) → (i : ℕ) (a : ActorView) → slice_get now.actors i ≡ Some a
+    → ((i ≡ line.actor) × (a ≡ record u.actor { job = u.job; owning = u.owning })) ⊎ ((i ≡ line.actor → ⊥) × (slice_get stage.actors i ≡ Some a))
 actor-behind r rounds lines stage now line s u i a h =
     let number : u.actor.actor ≡ line.actor = its_number r rounds lines stage now line s u in
-    let new : ActorView = record u.actor { job = u.job } in
+    let new : ActorView = record u.actor { job = u.job; owning = u.owning } in
     slice_get-set stage.actors line.actor i u.actor new a u.is_actor
     (ap (λ (k : ℕ). slice_get (slice_set stage.actors k new) i) (sym number) ∙ ap (λ (xs : List ActorView). slice_get xs i) (sym u.actors) ∙ h)
 
-past-behind : (r : RecordView) (rounds : ℕ) (stage now : Stage) (line : Line) (u : IsLineDone r rounds stage now line) (i : ℕ) (past : List Step) → slice_get now.pasts i ≡ Some past
+pub past-behind : (r : RecordView) (rounds : ℕ) (stage now : Stage) (line : Line) (u : IsLineDone r rounds stage now line) (i : ℕ) (past : List Step) → slice_get now.pasts i ≡ Some past
     → ((i ≡ u.text.device) × (past ≡ u.after)) ⊎ ((i ≡ u.text.device → ⊥) × (slice_get stage.pasts i ≡ Some past))
 past-behind r rounds stage now line u i past h = slice_get-set stage.pasts u.text.device i u.past u.after past u.is_past (ap (λ (ps : List (List Step)). slice_get ps i) (sym u.pasts) ∙ h)
 
 -- the line's actor had done the lines before
-its_actor : (r : RecordView) (rounds : ℕ) (lines : List Line) (stage now : Stage) (line : Line) → IsStage r rounds lines stage → (u : IsLineDone r rounds stage now line) → IsSoFar r rounds lines (description_at r u.text.device) u.text.role u.past u.actor
+pub its_actor : (r : RecordView) (rounds : ℕ) (lines : List Line) (stage now : Stage) (line : Line) → IsStage r rounds lines stage → (u : IsLineDone r rounds stage now line) → IsSoFar r rounds lines (description_at r u.text.device) u.text.role u.past u.actor
 its_actor r rounds lines stage now line s u = s.actors line.actor u.actor u.text u.past u.is_actor u.is_text u.is_past
 
 its_kept : (r : RecordView) (rounds : ℕ) (lines : List Line) (stage now : Stage) (line : Line) → IsStage r rounds lines stage → (u : IsLineDone r rounds stage now line) → IsKept u.actor.description u.job (filter is_call_entry u.actor.job.sight ++ entries_of u.calls)
@@ -144,14 +146,14 @@ actors-more : (r : RecordView) (rounds : ℕ) (lines : List Line) (stage now : S
 actors-more r rounds lines stage now line s u i a text past is_a is_text is_past = by_actor (actor-behind r rounds lines stage now line s u i a is_a) (past-behind r rounds stage now line u text.device past is_past)
   where
     -- the actor that did the line
-    own : i ≡ line.actor → a ≡ record u.actor { job = u.job } → past ≡ u.after → IsSoFar r rounds (lines ++ line ∷ []) (description_at r text.device) text.role past a
+    own : i ≡ line.actor → a ≡ record u.actor { job = u.job; owning = u.owning } → past ≡ u.after → IsSoFar r rounds (lines ++ line ∷ []) (description_at r text.device) text.role past a
     own same is behind =
         let texts : u.text ≡ text = same_Some u.text text (sym u.is_text ∙ ap (λ (k : ℕ). slice_get r.actors k) (sym same) ∙ is_text) in
-        let more : IsSoFar r rounds (lines ++ line ∷ []) (description_at r u.text.device) u.text.role u.after (record u.actor { job = u.job }) =
-        so_far-more r rounds lines line (description_at r u.text.device) u.text.role u.past u.after u.actor u.job u.calls (its_actor r rounds lines stage now line s u) (sym (its_number r rounds lines stage now line s u)) u.ends u.exact (s.history u.text.device u.past u.is_past) (its_kept r rounds lines stage now line s u) in
+        let more : IsSoFar r rounds (lines ++ line ∷ []) (description_at r u.text.device) u.text.role u.after (record u.actor { job = u.job; owning = u.owning }) =
+        so_far-more r rounds lines line (description_at r u.text.device) u.text.role u.past u.after u.actor u.job u.owning u.calls (its_actor r rounds lines stage now line s u) (sym (its_number r rounds lines stage now line s u)) u.ends u.exact (s.history u.text.device u.past u.is_past) (its_kept r rounds lines stage now line s u) in
         subst (λ (b : ActorView). IsSoFar r rounds (lines ++ line ∷ []) (description_at r text.device) text.role past b) (sym is)
-        (subst (λ (p : List Step). IsSoFar r rounds (lines ++ line ∷ []) (description_at r text.device) text.role p (record u.actor { job = u.job })) (sym behind)
-        (subst (λ (t : ActorText). IsSoFar r rounds (lines ++ line ∷ []) (description_at r t.device) t.role u.after (record u.actor { job = u.job })) texts more))
+        (subst (λ (p : List Step). IsSoFar r rounds (lines ++ line ∷ []) (description_at r text.device) text.role p (record u.actor { job = u.job; owning = u.owning })) (sym behind)
+        (subst (λ (t : ActorText). IsSoFar r rounds (lines ++ line ∷ []) (description_at r t.device) t.role u.after (record u.actor { job = u.job; owning = u.owning })) texts more))
 
     -- it is on the device of the line
     on_device : i ≡ line.actor → text.device ≡ u.text.device
@@ -163,7 +165,7 @@ actors-more r rounds lines stage now line s u i a text past is_a is_text is_past
         let number : a.actor ≡ i = number_is r rounds lines stage i a s is in
         so_far-other r rounds lines line (description_at r text.device) text.role before past a (s.actors i a text before is is_text is_before) (λ e. differs (sym (e ∙ number))) grows
 
-    by_actor : ((i ≡ line.actor) × (a ≡ record u.actor { job = u.job })) ⊎ ((i ≡ line.actor → ⊥) × (slice_get stage.actors i ≡ Some a))
+    by_actor : ((i ≡ line.actor) × (a ≡ record u.actor { job = u.job; owning = u.owning })) ⊎ ((i ≡ line.actor → ⊥) × (slice_get stage.actors i ≡ Some a))
         → ((text.device ≡ u.text.device) × (past ≡ u.after)) ⊎ ((text.device ≡ u.text.device → ⊥) × (slice_get stage.pasts text.device ≡ Some past))
         → IsSoFar r rounds (lines ++ line ∷ []) (description_at r text.device) text.role past a
     by_actor (inl is) (inl behind) = own is.0 is.1 behind.1
@@ -216,7 +218,7 @@ once-more : (r : RecordView) (rounds : ℕ) (lines : List Line) (stage now : Sta
 once-more r rounds lines stage now line s u i past place is_past = by_past (past-behind r rounds stage now line u i past is_past)
   where
     new : ActorView
-    new = record u.actor { job = u.job }
+    new = record u.actor { job = u.job; owning = u.owning }
 
     number : u.actor.actor ≡ line.actor
     number = its_number r rounds lines stage now line s u
@@ -248,12 +250,12 @@ once-more r rounds lines stage now line s u i past place is_past = by_past (past
         (weight_of r i place u.actor u.text false its_text off ∙ sym (weight_of r i place new u.text false its_text off))
         ∙ s.once i past place behind.1
 
-stage-more : (r : RecordView) (rounds : ℕ) (lines : List Line) (stage now : Stage) (line : Line) → IsStage r rounds lines stage → IsLineDone r rounds stage now line → IsStage r rounds (lines ++ line ∷ []) now
+pub stage-more : (r : RecordView) (rounds : ℕ) (lines : List Line) (stage now : Stage) (line : Line) → IsStage r rounds lines stage → IsLineDone r rounds stage now line → IsStage r rounds (lines ++ line ∷ []) now
 stage-more r rounds lines stage now line s u =
     let number : ActorView → ℕ = λ (b : ActorView). b.actor in
     let at : slice_get stage.actors u.actor.actor ≡ Some u.actor = ap (λ (k : ℕ). slice_get stage.actors k) (its_number r rounds lines stage now line s u) ∙ u.is_actor in
     record {
-      numbers = ap (λ (xs : List ActorView). map number xs) u.actors ∙ map-set_same number stage.actors u.actor.actor u.actor (record u.actor { job = u.job }) at refl ∙ s.numbers;
+      numbers = ap (λ (xs : List ActorView). map number xs) u.actors ∙ map-set_same number stage.actors u.actor.actor u.actor (record u.actor { job = u.job; owning = u.owning }) at refl ∙ s.numbers;
       devices = ap (λ (ps : List (List Step)). length ps) u.pasts ∙ length-set stage.pasts u.text.device u.after ∙ s.devices;
       actors = actors-more r rounds lines stage now line s u;
       within = within-more r rounds lines stage now line s u;
@@ -263,15 +265,27 @@ stage-more r rounds lines stage now line s u =
 
 -- All lines
 
-append_one : (lines : List Line) (line : Line) (more : List Line) → (lines ++ line ∷ []) ++ more ≡ lines ++ line ∷ more
+-- each line's command is one that its actor's role has
+abbrev pub AreCommandsOf : RecordView → List Line → Type 0
+AreCommandsOf r lines = (i : ℕ) (line : Line) (actor : ActorText) → slice_get lines i ≡ Some line → slice_get r.actors line.actor ≡ Some actor → is_command_of actor.role line.command ≡ true
+
+pub may-do : (r : RecordView) (rounds : ℕ) (lines more : List Line) (stage : Stage) (line : Line) → IsStage r rounds lines stage → AreCommandsOf r (line ∷ more) → MayDo r stage line
+may-do r rounds lines more stage line s commands room text a past is_room is_text is_actor is_past =
+    let far : IsSoFar r rounds lines (description_at r text.device) text.role past a = s.actors line.actor a text past is_actor is_text is_past in (
+      number_is r rounds lines stage line.actor a s is_actor,
+      subst (λ (role : Role). is_command_of role line.command ≡ true) (sym far.role_is) (commands 0 line text refl is_text),
+    )
+
+pub append_one : (lines : List Line) (line : Line) (more : List Line) → (lines ++ line ∷ []) ++ more ≡ lines ++ line ∷ more
 append_one lines line more = append_assoc lines (line ∷ []) more
 
-pub stages : (r : RecordView) (rounds : ℕ) (lines more : List Line) (stage last : Stage) → IsStage r rounds lines stage → after_lines r rounds stage more ≡ Some last → IsStage r rounds (lines ++ more) last
+pub stages : (r : RecordView) (rounds : ℕ) (lines more : List Line) (stage last : Stage) → IsStage r rounds lines stage → AreCommandsOf r more → after_lines r rounds stage more ≡ Some last → IsStage r rounds (lines ++ more) last
 unfolding after_lines
-stages r rounds lines [] stage last s h =
+stages r rounds lines [] stage last s commands h =
     let same : stage ≡ last = cc in
     subst (λ (now : Stage). IsStage r rounds (lines ++ []) now) same (subst (λ (ls : List Line). IsStage r rounds ls stage) (sym (append-nil lines)) s)
-stages r rounds lines (line ∷ more) stage last s h =
+stages r rounds lines (line ∷ more) stage last s commands h =
     option_and_then_some _ (after_line r rounds stage line) last h (λ now is_now rest.
+    let done : IsLineDone r rounds stage now line = line-done r rounds stage now line (may-do r rounds lines more stage line s commands) is_now in
     subst (λ (ls : List Line). IsStage r rounds ls last) (append_one lines line more)
-    (stages r rounds (lines ++ line ∷ []) more now last (stage-more r rounds lines stage now line s (line-done r rounds stage now line is_now)) rest))
+    (stages r rounds (lines ++ line ∷ []) more now last (stage-more r rounds lines stage now line s done) (λ i. commands (suc i)) rest))

@@ -8,12 +8,20 @@ use Rattle.inp_model.specs.Reply.{answer, past_after}
 use Rattle.inp_caps.specs.Builder.{syn_alone}
 use Rattle.inp_actors.specs.declared.actor_text.ActorText.{ActorText}
 use Rattle.inp_actors.specs.declared.line.Line.{Line}
+use Rattle.inp_actors.specs.Command.{feedback_room}
 use Rattle.inp_actors.specs.Record.{RecordView}
 use Rattle.inp_reader.specs.Talk.{Talk, finish, ask}
+use Rattle.inp_feedback.specs.declared.feedback_call.FeedbackCall.{FeedbackCall}
+use Rattle.inp_feedback.specs.declared.fed.Fed.{Fed}
+use Rattle.inp_feedback.specs.declared.fed.Fed.TheVariants.{Took, Full}
+use Rattle.inp_feedback.specs.Feedback.{taken_by_feedback, fed}
+use Rattle.inp_feedback.specs.Kept.{kept_of}
 use Rattle.inp_script.specs.declared.run.DeviceRun.{DeviceRun}
 use Rattle.inp_script.specs.declared.run.Played.{Played}
+use Rattle.inp_script.specs.declared.stop.Stop.{Stop}
 use Rattle.inp_script.specs.Doing.{line_talk}
 use Rattle.inp_script.specs.Job.{Job, ActorView, first_job}
+use Rattle.inp_script.specs.Owner.{first_owning, after_feedback}
 use Rattle.inp_script.specs.Ended.{ended_of, device_run, played_of}
 use Rattle.inp_script.specs.Runs.{is_on_device}
 
@@ -21,6 +29,8 @@ use Rattle.inp_script.specs.Runs.{is_on_device}
 pub record Stage : Type 0 where
   -- the steps that each device accepted, newest first
   pub pasts : List (List Step)
+  -- the feedback calls that each device keeps, newest first
+  pub calls : List (List FeedbackCall)
   -- each actor, with what it did so far
   pub actors : List ActorView
 
@@ -40,12 +50,14 @@ first_actor r numbered = record {
   role = numbered.1.role;
   description = description_at r numbered.1.device;
   job = first_job numbered.1.role (description_at r numbered.1.device);
+  owning = first_owning;
 }
 
 -- before the first line: no device accepted a step
 abbrev pub first_stage : RecordView → Stage
 first_stage r = record {
   pasts = map (λ text. []) r.devices;
+  calls = map (λ text. []) r.devices;
   actors = map (first_actor r) (enumerate_from 0 r.actors);
 }
 
@@ -53,13 +65,42 @@ first_stage r = record {
 abbrev pub after_talk : Stage → ℕ → ActorView → Option Job × List Step → Option Stage
 after_talk stage device a done = option_map (λ job. record {
   pasts = slice_set stage.pasts device done.1;
+  calls = stage.calls;
   actors = slice_set stage.actors a.actor (record a { job = job });
 }) done.0
+
+-- the feedback calls that a device keeps after one that was answered so
+abbrev pub calls_after : Fed → List FeedbackCall → List FeedbackCall
+calls_after (Took at count) calls = record { at = at; count = count } ∷ calls
+calls_after (Full at) calls = calls
+
+-- the stage behind a feedback call of this owner, with room for so many events, on the device of this number, which keeps
+-- these steps and calls
+abbrev pub after_call : Stage → ℕ → ActorView → ℕ → List Step → List FeedbackCall → Stage
+after_call stage device a room past calls =
+    let kept = kept_of past calls in
+    let answer = fed a.description kept room in
+    record stage {
+      calls = slice_set stage.calls device (calls_after answer calls);
+      actors = slice_set stage.actors a.actor (record a { owning = after_feedback answer (taken_by_feedback a.description kept room) a.owning });
+    }
+
+-- the same where the owner has not stopped, so; else nothing is done
+abbrev pub unless_owner_stopped : Option Stop → Stage → ℕ → ActorView → ℕ → List Step → List FeedbackCall → Stage
+unless_owner_stopped None stage device a room past calls = after_call stage device a room past calls
+unless_owner_stopped (Some stop) stage device a room past calls = stage
+
+-- An owner makes its feedback call; what another actor does is its talk with the device.
+abbrev pub by_command : Option ℕ → Stage → ℕ → ActorView → List Step → Option Stage → Option Stage
+by_command None stage device a past talked = talked
+by_command (Some room) stage device a past talked =
+    option_map (λ calls. unless_owner_stopped a.owning.stop stage device a room past calls) (slice_get stage.calls device)
 
 -- The actor does the line on its device, in at most so many rounds. Nobody waits.
 abbrev pub after_line_of : RecordView → ℕ → Stage → Line → ℕ → ActorView → List Step → Option Stage
 after_line_of r rounds stage line device a past =
-    after_talk stage device a (talk_with a.description past (line_talk a.role a.description r.streams None rounds line.command a.job))
+    by_command (feedback_room line.command) stage device a past
+    (after_talk stage device a (talk_with a.description past (line_talk a.role a.description r.streams None rounds line.command a.job)))
 
 -- the stage behind a line, where so many rounds are enough for it
 unfoldable pub after_line : RecordView → ℕ → Stage → Line → Option Stage
@@ -93,6 +134,6 @@ pub record IsPlay (r : RecordView) (played : Played) : Type 0 where
   pub rounds : ℕ
   pub plays : play rounds r ≡ Some played
 
--- what comes of a record is one
+-- at most one outcome comes of a record
 abbrev pub HasOnePlay : Type 0
 HasOnePlay = (r : RecordView) (played other : Played) → IsPlay r played → IsPlay r other → played ≡ other

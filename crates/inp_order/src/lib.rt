@@ -4,8 +4,9 @@
 //! model's.
 //!
 //! Its contract: `specs/Play.antt` says what comes of a record, each device answering on one list of steps: a run of each
-//! device, and what came of each joystick. Two plays of a record give the same ([`at_most_one_play`]), and that is promised
-//! ([`each_play_is_promised`]).
+//! device, what came of each joystick, and what each owner was told. A feedback call makes no step: it is answered from the
+//! device's steps and the feedback calls before it, and nothing is done where its owner has stopped. Two plays of a record
+//! give the same ([`at_most_one_play`]), and that is promised ([`each_play_is_promised`]).
 #![tactic(auto)]
 
 mod laws;

@@ -9,7 +9,7 @@ use Rattle.inp_model.proofs.Leaves.{AreCalls-append}
 use Rattle.inp_actors.specs.declared.actor_text.ActorText.{ActorText}
 use Rattle.inp_actors.specs.declared.line.Line.{Line}
 use Rattle.inp_actors.specs.declared.role.Role.{Role}
-use Rattle.inp_actors.specs.declared.role.Role.TheVariants.{Source, Client, Tap, Joy}
+use Rattle.inp_actors.specs.declared.role.Role.TheVariants.{Source, Client, Tap, Joy, Owner}
 use Rattle.inp_actors.specs.Record.{RecordView}
 use Rattle.inp_reader.specs.Talk.{finish, EndsWith}
 use Rattle.inp_script.specs.declared.waiting.Waiting.{Waiting}
@@ -118,11 +118,13 @@ pub last-none : (wait : Option Waiting) (role : Role) (j : Job) → is_some wait
 last-none None role j h = refl
 last-none (Some waiting) role j h = absurd cc
 
-pub last-reader : (wait : Option Waiting) (role : Role) (j : Job) → (role ≡ Client) ⊎ (role ≡ Tap) ⊎ (role ≡ Joy) → last_talk wait role j ≡ finish (Some j)
+pub last-reader : (wait : Option Waiting) (role : Role) (j : Job) → (role ≡ Client) ⊎ (role ≡ Tap) ⊎ (role ≡ Joy) ⊎ (role ≡ Owner) → last_talk wait role j ≡ finish (Some j)
 last-reader None role j h = refl
 last-reader (Some waiting) Source j (inl h) = absurd cc
 last-reader (Some waiting) Source j (inr (inl h)) = absurd cc
-last-reader (Some waiting) Source j (inr (inr h)) = absurd cc
+last-reader (Some waiting) Source j (inr (inr (inl h))) = absurd cc
+last-reader (Some waiting) Source j (inr (inr (inr h))) = absurd cc
 last-reader (Some waiting) Client j h = refl
 last-reader (Some waiting) Tap j h = refl
 last-reader (Some waiting) Joy j h = refl
+last-reader (Some waiting) Owner j h = refl

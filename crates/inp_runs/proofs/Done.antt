@@ -1,5 +1,5 @@
 -- What comes of a device whose actors did all their lines is promised.
-use Rattle.std.proofs.Common.{◌≡◌, ℕ, ◌<◌, ◌≤◌, Bool, true, not, if◌then◌else◌, nat_lt, List, [], ◌∷◌, length, map, reverse, refl, sym, ap, subst, ◌∙◌, arith, inl, inr, Option, Some, None}
+use Rattle.std.proofs.Common.{◌≡◌, ℕ, ◌<◌, ◌≤◌, Bool, true, not, ◌||◌, if◌then◌else◌, nat_lt, List, [], ◌∷◌, length, map, reverse, refl, sym, ap, subst, ◌∙◌, arith, inl, inr, Option, Some, None}
 use Rattle.std.specs.Prelude.{filter, slice_get, option_map}
 use Rattle.std.specs.List.{range_with_len, sum_by}
 use Rattle.std.proofs.lemmas.Bool.{cases_lt}
@@ -15,8 +15,8 @@ use Rattle.inp_actors.specs.declared.actor_text.ActorText.{ActorText}
 use Rattle.inp_actors.specs.declared.device_text.DeviceText.{DeviceText}
 use Rattle.inp_actors.specs.declared.line.Line.{Line}
 use Rattle.inp_actors.specs.declared.role.Role.{Role}
-use Rattle.inp_actors.specs.declared.role.Role.TheVariants.{Joy}
-use Rattle.inp_actors.specs.Command.{is_joy}
+use Rattle.inp_actors.specs.declared.role.Role.TheVariants.{Joy, Owner}
+use Rattle.inp_actors.specs.Command.{is_joy, is_owner}
 use Rattle.inp_actors.specs.Record.{RecordView, IsRecord}
 use Rattle.inp_recon.specs.View.{IsSizedFor}
 use Rattle.inp_recon.proofs.FaithfulHistories.{faithful_by_reads}
@@ -25,22 +25,24 @@ use Rattle.inp_reader.specs.Talk.{Talk, EndsWith}
 use Rattle.inp_reader.proofs.Calls.{IsPlaceOf}
 use Rattle.inp_reader.proofs.Efforts.{place-below}
 use Rattle.inp_script.specs.declared.waiting.Waiting.{Waiting}
-use Rattle.inp_script.specs.Ended.{ended_of, jobs_among, joys_among, device_run}
+use Rattle.inp_script.specs.Ended.{ended_of, jobs_among, joys_among, owners_among, device_run}
 use Rattle.inp_script.specs.Fold.{IsFolded}
-use Rattle.inp_script.specs.Job.{ActorView, Job, JobView, JoyJobView, first_job, job_end, joy_end}
+use Rattle.inp_script.specs.Job.{ActorView, Job, JobView, JoyJobView, OwnerView, first_job, job_end, joy_end, owner_end}
 use Rattle.inp_script.specs.Legal.{entries_of}
-use Rattle.inp_script.specs.Runs.{is_on_device, is_joystick, actors_of, jobs_of, joysticks_of, joy_actors, IsRunOf}
+use Rattle.inp_script.specs.Runs.{is_on_device, is_joystick, is_owning, actors_of, jobs_of, joysticks_of, joy_actors, owners_of, owner_actors, IsRunOf}
 use Rattle.inp_runs.specs.Done.{HasFollowed, IsDeviceDone, IsRunAsPromised, calls_at}
 use Rattle.inp_runs.specs.Job.{lines_by, lines_talk, entries_at, AreTold, IsJob, IsJoyJob, IsRun, wait_of}
 use Rattle.inp_runs.specs.JobViews.{AreReportsSeen}
+use Rattle.inp_runs.specs.Owner.{rooms_of, HasOwned, IsOwner}
 use Rattle.inp_runs.proofs.Entries.{entries, told-counts}
 use Rattle.inp_runs.proofs.Folded.{its_lines, view-folded}
-use Rattle.inp_runs.proofs.JobEnds.{IsEndOf, is_stick, is_other, joy-role, jobs-kept, joys-kept, job-end_of, joy-end_of, cells-of, split-sums, sum-ends, end-numbers}
+use Rattle.inp_runs.proofs.JobEnds.{IsEndOf, OwnersCountNothing, is_stick, is_feeding, is_other, joy-role, owner-role, jobs-kept, joys-kept, owners-kept, job-end_of, joy-end_of, owner-end_of, cells-of, split-sums, sum-ends, end-numbers}
 use Rattle.inp_runs.proofs.JobSizes.{job-sized}
 use Rattle.inp_runs.proofs.JobTold.{job-told}
 use Rattle.inp_runs.proofs.JobViews.{IsShown, job-shown}
 use Rattle.inp_runs.proofs.Leaving.{AreAnswered}
 use Rattle.inp_runs.proofs.Listing.{IsAt, IsImage, filter-same, map-filter, option_map-some, slice_get-filter}
+use Rattle.inp_runs.proofs.OwnerTalks.{owner-silent}
 use Rattle.inp_runs.proofs.Memory.{answered-memory, gives_up-lines, talk-answered}
 use Rattle.inp_runs.proofs.Owners.{AreCallsOf, Counts, HasOwners, calls-of, counts-place, has-one, history-of-jobs, short-history}
 
@@ -191,6 +193,16 @@ same_text r i d wait history job text a its same is_text =
     let actor_is : job.actor ≡ a.actor = ap (λ (j : JobView). j.actor) (sym same) in
     same_Some its.text text (sym its.is_text ∙ ap (λ (n : ℕ). slice_get r.actors n) (sym actor_is) ∙ is_text)
 
+-- an owner saw nothing, so that it counts at no place
+owners-silent : (idle : Option ℕ) (r : RecordView) (i : ℕ) (d : Description) (history : List Step) (actors : List ActorView) (place : ℕ) → IsDeviceDone idle r i d history actors → OwnersCountNothing (calls_at place) actors
+owners-silent idle r i d history actors place s = λ k a is owner.
+    let wait : Option Waiting = wait_of idle r i in
+    let its : IsActorOf r i d wait history a = actor_of idle r i d history actors k a s is in
+    let f : HasFollowed r d wait history its.text.role a = its.followed in
+    let role : its.text.role ≡ Owner = sym f.is_role ∙ owner-role a.role owner in
+    ap (entries place) (owner-silent d r.streams wait f.rounds (lines_by a.actor r.lines) a.job f.calls
+    (subst (λ (x : Role). EndsWith (lines_talk x d r.streams wait f.rounds (lines_by a.actor r.lines) (first_job x d)) f.calls (Some a.job)) role f.follows))
+
 is_run : (idle : Option ℕ) (r : RecordView) (i : ℕ) (d : Description) (history : List Step) (actors : List ActorView) → IsRecord r → IsDescription d → IsDeviceDone idle r i d history actors
     → IsRun r d (wait_of idle r i) (record { history = history; jobs = jobs_among (map ended_of actors) }) (joys_among (map ended_of actors))
 is_run idle r i d history actors is_record described s =
@@ -218,34 +230,40 @@ is_run idle r i d history actors is_record described s =
           let shown : IsShown d history its.text.role e.actor.job.sight = shown-of r i d wait history actors e.index e.actor is_record owners e.is its in
           subst (λ (x : ActorText). AreReportsSeen d history x.role job.sight) (same_text r i d wait history job text e.actor its e.same is_text)
           (subst (λ (j : JobView). AreReportsSeen d history its.text.role j.sight) e.same shown.seen);
-      once = λ place. split-sums place actors ∙ sym (sum-ends place actors) ∙ once-each idle r i d history actors is_record s place;
+      once = λ place. split-sums place actors (owners-silent idle r i d history actors place s) ∙ sym (sum-ends place actors) ∙ once-each idle r i d history actors is_record s place;
     }
 
 -- Their numbers
 
--- a test of whether an actor is a joystick keeps the same of the record's as of these
-kept-numbers : (idle : Option ℕ) (r : RecordView) (i : ℕ) (d : Description) (history : List Step) (actors : List ActorView) (test : Bool → Bool) → IsDeviceDone idle r i d history actors
-    → map (λ (a : ActorView). a.actor) (filter (λ (a : ActorView). test (is_joy a.role)) actors) ≡ filter (λ (n : ℕ). test (is_joystick (slice_get r.actors n))) (actors_of r.actors i)
-kept-numbers idle r i d history actors test s =
+-- a test of an actor's role keeps the same of the record's actors as of these
+kept-numbers : (idle : Option ℕ) (r : RecordView) (i : ℕ) (d : Description) (history : List Step) (actors : List ActorView) (test : Role → Bool) (of_text : Option ActorText → Bool) → IsDeviceDone idle r i d history actors → ((text : ActorText) → of_text (Some text) ≡ test text.role)
+    → map (λ (a : ActorView). a.actor) (filter (λ (a : ActorView). test a.role) actors) ≡ filter (λ (n : ℕ). of_text (slice_get r.actors n)) (actors_of r.actors i)
+kept-numbers idle r i d history actors test of_text s agrees =
     let number : ActorView → ℕ = λ (a : ActorView). a.actor in
-    let in_record : ℕ → Bool = λ (n : ℕ). test (is_joystick (slice_get r.actors n)) in
-    let same : filter (λ (a : ActorView). test (is_joy a.role)) actors ≡ filter (λ (a : ActorView). in_record a.actor) actors =
-    filter-same (λ (a : ActorView). test (is_joy a.role)) (λ (a : ActorView). in_record a.actor) actors (λ k a is.
+    let in_record : ℕ → Bool = λ (n : ℕ). of_text (slice_get r.actors n) in
+    let same : filter (λ (a : ActorView). test a.role) actors ≡ filter (λ (a : ActorView). in_record a.actor) actors =
+    filter-same (λ (a : ActorView). test a.role) (λ (a : ActorView). in_record a.actor) actors (λ k a is.
     let its : IsActorOf r i d (wait_of idle r i) history a = actor_of idle r i d history actors k a s is in
-    ap (λ (role : Role). test (is_joy role)) its.followed.is_role ∙ ap (λ (o : Option ActorText). test (is_joystick o)) (sym its.is_text)) in
+    ap test its.followed.is_role ∙ sym (agrees its.text) ∙ ap of_text (sym its.is_text)) in
     ap (map number) same ∙ map-filter number in_record actors ∙ ap (filter in_record) s.numbers
 
 job-numbers : (idle : Option ℕ) (r : RecordView) (i : ℕ) (d : Description) (history : List Step) (actors : List ActorView) → IsDeviceDone idle r i d history actors → map (λ (job : JobView). job.actor) (jobs_among (map ended_of actors)) ≡ jobs_of r.actors i
 job-numbers idle r i d history actors s =
     ap (map (λ (job : JobView). job.actor)) (jobs-kept actors)
     ∙ end-numbers job_end (λ (job : JobView). job.actor) (λ a. refl) (filter is_other actors)
-    ∙ kept-numbers idle r i d history actors not s
+    ∙ kept-numbers idle r i d history actors (λ (role : Role). not (is_joy role || is_owner role)) (λ (o : Option ActorText). not (is_joystick o || is_owning o)) s (λ text. refl)
 
 joy-numbers : (idle : Option ℕ) (r : RecordView) (i : ℕ) (d : Description) (history : List Step) (actors : List ActorView) → IsDeviceDone idle r i d history actors → joy_actors (joys_among (map ended_of actors)) ≡ joysticks_of r.actors i
 joy-numbers idle r i d history actors s =
     ap joy_actors (joys-kept actors)
     ∙ end-numbers joy_end (λ (joy : JoyJobView). joy.actor) (λ a. refl) (filter is_stick actors)
-    ∙ kept-numbers idle r i d history actors (λ (b : Bool). b) s
+    ∙ kept-numbers idle r i d history actors is_joy is_joystick s (λ text. refl)
+
+owner-numbers : (idle : Option ℕ) (r : RecordView) (i : ℕ) (d : Description) (history : List Step) (actors : List ActorView) → IsDeviceDone idle r i d history actors → owner_actors (owners_among (map ended_of actors)) ≡ owners_of r.actors i
+owner-numbers idle r i d history actors s =
+    ap owner_actors (owners-kept actors)
+    ∙ end-numbers owner_end (λ (owner : OwnerView). owner.actor) (λ a. refl) (filter is_feeding actors)
+    ∙ kept-numbers idle r i d history actors is_owner is_owning s (λ text. refl)
 
 is_run_of : (idle : Option ℕ) (r : RecordView) (i : ℕ) (device : DeviceText) (history : List Step) (actors : List ActorView) → IsRecord r → IsDeviceDone idle r i device.caps history actors → IsRunOf r.actors i device (record { history = history; jobs = jobs_among (map ended_of actors) })
 is_run_of idle r i device history actors is_record s = record {
@@ -257,14 +275,26 @@ is_run_of idle r i device history actors is_record s = record {
       let its : IsActorOf r i d wait history e.actor = actor_of idle r i d history actors e.index e.actor s e.is in
       let f : HasFollowed r d wait history its.text.role e.actor = its.followed in
       let folded : IsFolded its.text.role d history e.actor.job = view-folded r d history wait f.rounds e.actor.actor its.text e.actor.job f.calls is_record its.is_text f.legal f.follows in
-      let other : not (is_joy its.text.role) ≡ true = ap (λ (role : Role). not (is_joy role)) (sym f.is_role) ∙ e.passes in
+      let other : not (is_joy its.text.role || is_owner its.text.role) ≡ true = ap (λ (role : Role). not (is_joy role || is_owner role)) (sym f.is_role) ∙ e.passes in
       subst (λ (j : JobView). IsSizedFor d.slots j.view) e.same (job-sized its.text.role d history e.actor.job other folded (cells-of d e.actor e.passes f.cells));
 }
+
+-- what came of an owner
+is_owner_of : (idle : Option ℕ) (r : RecordView) (i : ℕ) (d : Description) (history : List Step) (actors : List ActorView) (k : ℕ) (owner : OwnerView) → IsDeviceDone idle r i d history actors → slice_get (owners_among (map ended_of actors)) k ≡ Some owner → IsOwner d history (rooms_of (lines_by owner.actor r.lines)) owner
+is_owner_of idle r i d history actors k owner s h =
+    let e : IsEndOf owner_end is_feeding actors owner = owner-end_of actors k owner h in
+    let a : ActorView = e.actor in
+    let its : IsActorOf r i d (wait_of idle r i) history a = actor_of idle r i d history actors e.index a s e.is in
+    let role : its.text.role ≡ Owner = sym its.followed.is_role ∙ owner-role a.role e.passes in
+    let owned : HasOwned d history (rooms_of (lines_by a.actor r.lines)) a.owning = its.followed.owned role in
+    subst (λ (o : OwnerView). IsOwner d history (rooms_of (lines_by o.actor r.lines)) o) e.same (record { last = a.owning; owned = owned; ended = refl })
 
 pub device-promised : (idle : Option ℕ) (r : RecordView) (i : ℕ) (device : DeviceText) (history : List Step) (actors : List ActorView) → IsRecord r → IsDescription device.caps → IsDeviceDone idle r i device.caps history actors
     → IsRunAsPromised idle r i device (device_run history (map ended_of actors))
 device-promised idle r i device history actors is_record described s = record {
   run_of = is_run_of idle r i device history actors is_record s;
   joys_of = joy-numbers idle r i device.caps history actors s;
+  owners_are = owner-numbers idle r i device.caps history actors s;
   is_run = is_run idle r i device.caps history actors is_record described s;
+  owners = λ k owner h. is_owner_of idle r i device.caps history actors k owner s h;
 }

@@ -9,7 +9,7 @@ use Rattle.inp_model.specs.Run.{Call, IsLegalFrom, IsLegalRun, next_place}
 use Rattle.inp_actors.specs.declared.actor_text.ActorText.{ActorText}
 use Rattle.inp_actors.specs.declared.line.Line.{Line}
 use Rattle.inp_actors.specs.declared.role.Role.{Role}
-use Rattle.inp_actors.specs.declared.role.Role.TheVariants.{Source, Client, Tap, Joy}
+use Rattle.inp_actors.specs.declared.role.Role.TheVariants.{Source, Client, Tap, Joy, Owner}
 use Rattle.inp_actors.specs.Command.{is_command_of}
 use Rattle.inp_actors.specs.Record.{RecordView, IsRecord}
 use Rattle.inp_recon.proofs.Each.{Each}
@@ -50,6 +50,7 @@ last-folded (Some waiting) Source d h j k calls ends fold = end-folds (nothing_s
 last-folded (Some waiting) Client d h j k calls ends fold = same-folded Client d h j k calls ends fold
 last-folded (Some waiting) Tap d h j k calls ends fold = same-folded Tap d h j k calls ends fold
 last-folded (Some waiting) Joy d h j k calls ends fold = same-folded Joy d h j k calls ends fold
+last-folded (Some waiting) Owner d h j k calls ends fold = same-folded Owner d h j k calls ends fold
 
 lines-folded : (role : Role) (d : Description) (h : List Step) (streams : List (List Stamped)) (wait : Option Waiting) (rounds : ℕ) (lines : List Line) (j k : Job) (calls : List Call) → AreOfRole role lines → ArePlaced d h calls → EndsWith (lines_talk role d streams wait rounds lines j) calls (Some k) → IsFolded role d h j → IsFolded role d h k
 unfolding lines_talk

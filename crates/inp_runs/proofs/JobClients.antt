@@ -19,10 +19,10 @@ use Rattle.inp_model.specs.Reply.{Answer, is_accepted}
 use Rattle.inp_model.specs.Run.{Call}
 use Rattle.inp_model.specs.Step.{client_of, is_open_step}
 use Rattle.inp_actors.specs.declared.command.Command.{Command}
-use Rattle.inp_actors.specs.declared.command.Command.TheVariants.{Event as ToEvent, Tick, Inhibit, Uninhibit, Stream, Stream16, Open, Read, Next as ToNext, Skip, Follow, Force}
+use Rattle.inp_actors.specs.declared.command.Command.TheVariants.{Event as ToEvent, Tick, Inhibit, Uninhibit, Stream, Stream16, Open, Read, Next as ToNext, Skip, Follow, Force, Feedback}
 use Rattle.inp_actors.specs.declared.line.Line.{Line}
 use Rattle.inp_actors.specs.declared.role.Role.{Role}
-use Rattle.inp_actors.specs.declared.role.Role.TheVariants.{Source, Client, Tap, Joy}
+use Rattle.inp_actors.specs.declared.role.Role.TheVariants.{Source, Client, Tap, Joy, Owner}
 use Rattle.inp_recon.specs.declared.view.View.{View}
 use Rattle.inp_recon.specs.View.{view_after_answer, view_after_event}
 use Rattle.inp_recon.proofs.Each.{Each, Each-append}
@@ -70,12 +70,13 @@ unfoldable pub last_opened : ℕ → List Call → ℕ
 last_opened last [] = last
 last_opened last (call ∷ calls) = last_opened (client_after call.step call.answer.reply last) calls
 
--- the job reads as the client that was opened last; a source reads as none
+-- the job reads as the client that was opened last; a source reads as none, and so does an owner
 abbrev pub ReadsAs : Role → ℕ → Job → Type 0
 ReadsAs Source last j = Unit {0}
 ReadsAs Client last j = last ≡ j.reading.client
 ReadsAs Tap last j = last ≡ j.reading.client
 ReadsAs Joy last j = last ≡ j.reading.client
+ReadsAs Owner last j = Unit {0}
 
 -- Talks
 
@@ -282,6 +283,7 @@ names-command client (ToNext count) = tt
 names-command client (Skip count) = tt
 names-command client Follow = tt
 names-command client Force = tt
+names-command client (Feedback count) = tt
 names-command client _ = λ named e. inl (same_Some named client (sym e))
 
 abbrev is_opening_command : Command → Bool
@@ -296,6 +298,7 @@ shut-command client (ToNext count) h = tt
 shut-command client (Skip count) h = tt
 shut-command client Follow h = tt
 shut-command client Force h = tt
+shut-command client (Feedback count) h = tt
 shut-command client _ h = refl
 
 -- it is so of the job that a talk leaves, if there is one
@@ -578,6 +581,7 @@ names-role Source d streams wait n command j last is = names-source streams comm
 names-role Client d streams wait n command j last is = names-client d wait n command j last is
 names-role Tap d streams wait n command j last is = names-tap command j last is
 names-role Joy d streams wait n command j last is = joystick-names d n command j last is
+names-role Owner d streams wait n command j last is = is
 
 names-unless : (role : Role) (stop : Option Stop) (j : Job) (talk : Talk (Option Job)) (last : ℕ) → ReadsAs role last j → Names last talk (OfLeft role) → Names last (unless_stopped stop j talk) (OfLeft role)
 names-unless role None j talk last is h = h
@@ -599,6 +603,7 @@ names-last (Some waiting) Source j last is = names-end j.stop j last
 names-last (Some waiting) Client j last is = is
 names-last (Some waiting) Tap j last is = is
 names-last (Some waiting) Joy j last is = is
+names-last (Some waiting) Owner j last is = is
 
 names-lines : (role : Role) (d : Description) (streams : List (List Stamped)) (wait : Option Waiting) (n : ℕ) (lines : List Line) (j : Job) (last : ℕ) → ReadsAs role last j → Names last (lines_talk role d streams wait n lines j) (OfLeft role)
 unfolding lines_talk
@@ -628,6 +633,7 @@ first-reads Source d = tt
 first-reads Client d = refl
 first-reads Tap d = refl
 first-reads Joy d = refl
+first-reads Owner d = tt
 
 -- before the first line a job has opened no client
 pub job-names : (role : Role) (d : Description) (streams : List (List Stamped)) (wait : Option Waiting) (n : ℕ) (lines : List Line) (k : Job) (calls : List Call) → EndsWith (lines_talk role d streams wait n lines (first_job role d)) calls (Some k)

@@ -1,47 +1,64 @@
--- What came of a device's actors, apart: its jobs, and its joysticks' jobs.
-use Rattle.std.proofs.Common.{◌≡◌, ℕ, ◌+◌, ◌*◌, Bool, true, not, if◌then◌else◌, cond, List, [], ◌∷◌, length, map, refl, sym, ap, ◌∙◌, Some}
+-- What came of a device's actors, apart: its jobs, its joysticks' jobs, and its owners.
+use Rattle.std.proofs.Common.{◌≡◌, ℕ, suc, ◌+◌, ◌*◌, Bool, true, not, ◌||◌, if◌then◌else◌, cond, List, [], ◌∷◌, length, map, refl, sym, ap, ◌∙◌, arith, Some}
 use Rattle.std.specs.Prelude.{filter, slice_get}
 use Rattle.std.specs.List.{sum_by}
 use Rattle.std.proofs.lemmas.List.Sums.{sum_by-cons}
 use Rattle.std.proofs.lemmas.Option.{slice_get-map}
 use Rattle.inp_model.specs.Description.{Description}
 use Rattle.inp_actors.specs.declared.role.Role.{Role}
-use Rattle.inp_actors.specs.declared.role.Role.TheVariants.{Joy}
-use Rattle.inp_actors.specs.Command.{is_joy}
-use Rattle.inp_script.specs.Ended.{HasCells, ended_as, ended_of, jobs_among, joys_among}
-use Rattle.inp_script.specs.Job.{ActorView, JobView, JoyJobView, job_end, joy_end}
+use Rattle.inp_actors.specs.declared.role.Role.TheVariants.{Joy, Owner}
+use Rattle.inp_actors.specs.Command.{is_joy, is_owner}
+use Rattle.inp_script.specs.Ended.{HasCells, ended_as, ended_of, jobs_among, joys_among, owners_among}
+use Rattle.inp_script.specs.Job.{ActorView, JobView, JoyJobView, OwnerView, job_end, joy_end, owner_end}
 use Rattle.inp_runs.specs.Done.{calls_at}
 use Rattle.inp_runs.specs.Job.{entries_at, joy_entries_at}
 use Rattle.inp_runs.proofs.Entries.{entries}
-use Rattle.inp_runs.proofs.Listing.{IsAt, IsImage, option_map-some, slice_get-filter, sum_by-kept, sum_by-split}
+use Rattle.inp_runs.proofs.Listing.{IsAt, IsImage, option_map-some, slice_get-filter, sum_by-kept}
 
--- an actor is a joystick, and it is none
+-- an actor is a joystick, it is an owner, and it is neither
 abbrev pub is_stick : ActorView → Bool
 is_stick a = is_joy a.role
 
+abbrev pub is_feeding : ActorView → Bool
+is_feeding a = is_owner a.role
+
 abbrev pub is_other : ActorView → Bool
-is_other a = not (is_joy a.role)
+is_other a = not (is_joy a.role || is_owner a.role)
 
 pub joy-role : (role : Role) → is_joy role ≡ true → role ≡ Joy
 joy-role Joy h = refl
 joy-role _ h = absurd cc
 
--- the jobs are those of the actors that are no joysticks
+pub owner-role : (role : Role) → is_owner role ≡ true → role ≡ Owner
+owner-role Owner h = refl
+owner-role _ h = absurd cc
+
+-- the jobs are those of the actors that are neither joysticks nor owners
 pub jobs-kept : (actors : List ActorView) → jobs_among (map ended_of actors) ≡ map job_end (filter is_other actors)
 jobs-kept [] = refl
 jobs-kept (a ∷ actors) = by a.role (jobs-kept actors)
   where
-    by : (role : Role) → jobs_among (map ended_of actors) ≡ map job_end (filter is_other actors) → jobs_among (ended_as role a ∷ map ended_of actors) ≡ map job_end (cond (not (is_joy role)) (a ∷ filter is_other actors) (filter is_other actors))
+    by : (role : Role) → jobs_among (map ended_of actors) ≡ map job_end (filter is_other actors) → jobs_among (ended_as role a ∷ map ended_of actors) ≡ map job_end (cond (not (is_joy role || is_owner role)) (a ∷ filter is_other actors) (filter is_other actors))
     by Joy e = e
+    by Owner e = e
     by _ e = ap (λ (jobs : List JobView). job_end a ∷ jobs) e
 
--- and the others are those of the joysticks
+-- the joysticks' jobs are those of the joysticks
 pub joys-kept : (actors : List ActorView) → joys_among (map ended_of actors) ≡ map joy_end (filter is_stick actors)
 joys-kept [] = refl
 joys-kept (a ∷ actors) = by a.role (joys-kept actors)
   where
     by : (role : Role) → joys_among (map ended_of actors) ≡ map joy_end (filter is_stick actors) → joys_among (ended_as role a ∷ map ended_of actors) ≡ map joy_end (cond (is_joy role) (a ∷ filter is_stick actors) (filter is_stick actors))
     by Joy e = ap (λ (joys : List JoyJobView). joy_end a ∷ joys) e
+    by _ e = e
+
+-- and the owners are those of the owners
+pub owners-kept : (actors : List ActorView) → owners_among (map ended_of actors) ≡ map owner_end (filter is_feeding actors)
+owners-kept [] = refl
+owners-kept (a ∷ actors) = by a.role (owners-kept actors)
+  where
+    by : (role : Role) → owners_among (map ended_of actors) ≡ map owner_end (filter is_feeding actors) → owners_among (ended_as role a ∷ map ended_of actors) ≡ map owner_end (cond (is_owner role) (a ∷ filter is_feeding actors) (filter is_feeding actors))
+    by Owner e = ap (λ (owners : List OwnerView). owner_end a ∷ owners) e
     by _ e = e
 
 -- this came of an actor that passes a test
@@ -65,24 +82,43 @@ job-end_of actors k job h = end-of job_end is_other actors k job (ap (λ (jobs :
 pub joy-end_of : (actors : List ActorView) (k : ℕ) (joy : JoyJobView) → slice_get (joys_among (map ended_of actors)) k ≡ Some joy → IsEndOf joy_end is_stick actors joy
 joy-end_of actors k joy h = end-of joy_end is_stick actors k joy (ap (λ (joys : List JoyJobView). slice_get joys k) (sym (joys-kept actors)) ∙ h)
 
--- a view comes of an actor that is no joystick, which has the device's slots
+pub owner-end_of : (actors : List ActorView) (k : ℕ) (owner : OwnerView) → slice_get (owners_among (map ended_of actors)) k ≡ Some owner → IsEndOf owner_end is_feeding actors owner
+owner-end_of actors k owner h = end-of owner_end is_feeding actors k owner (ap (λ (owners : List OwnerView). slice_get owners k) (sym (owners-kept actors)) ∙ h)
+
+-- a view comes of an actor that is neither a joystick nor an owner, and has the device's slots
 pub cells-of : (d : Description) (a : ActorView) → is_other a ≡ true → HasCells d (ended_of a) → length a.job.reading.view.cells ≡ 14 * d.slots
 cells-of d a other cells = by a.role other cells
   where
-    by : (role : Role) → not (is_joy role) ≡ true → HasCells d (ended_as role a) → length a.job.reading.view.cells ≡ 14 * d.slots
+    by : (role : Role) → not (is_joy role || is_owner role) ≡ true → HasCells d (ended_as role a) → length a.job.reading.view.cells ≡ 14 * d.slots
     by Joy h c = absurd cc
+    by Owner h c = absurd cc
     by _ h c = c
 
--- the jobs and the joysticks' jobs have all entries
-pub split-sums : (place : ℕ) (actors : List ActorView) → entries_at place (jobs_among (map ended_of actors)) + joy_entries_at place (joys_among (map ended_of actors)) ≡ sum_by (calls_at place) actors
-split-sums place actors =
+-- of these actors no owner counts
+abbrev pub OwnersCountNothing : (ActorView → ℕ) → List ActorView → Type 0
+OwnersCountNothing f actors = (k : ℕ) (a : ActorView) → slice_get actors k ≡ Some a → is_owner a.role ≡ true → f a ≡ 0
+
+-- then the joysticks and those that are neither have the whole sum
+split-roles : (f : ActorView → ℕ) (actors : List ActorView) → OwnersCountNothing f actors → sum_by (λ a. if is_other a then f a else 0) actors + sum_by (λ a. if is_stick a then f a else 0) actors ≡ sum_by f actors
+split-roles f [] none = refl
+split-roles f (a ∷ actors) none =
+    omega (arith, one a.role (f a) (none 0 a refl), split-roles f actors (λ k b is. none (suc k) b is), sum_by-cons (λ b. if is_other b then f b else 0) a actors, sum_by-cons (λ b. if is_stick b then f b else 0) a actors, sum_by-cons f a actors)
+  where
+    one : (role : Role) (n : ℕ) → (is_owner role ≡ true → n ≡ 0) → (if not (is_joy role || is_owner role) then n else 0) + (if is_joy role then n else 0) ≡ n
+    one Joy n h = omega arith
+    one Owner n h = sym (h refl)
+    one _ n h = omega arith
+
+-- the jobs and the joysticks' jobs have all entries, where owners have none
+pub split-sums : (place : ℕ) (actors : List ActorView) → OwnersCountNothing (calls_at place) actors → entries_at place (jobs_among (map ended_of actors)) + joy_entries_at place (joys_among (map ended_of actors)) ≡ sum_by (calls_at place) actors
+split-sums place actors none =
     let jobs : entries_at place (jobs_among (map ended_of actors)) ≡ sum_by (λ (a : ActorView). if is_other a then calls_at place a else 0) actors =
     ap (entries_at place) (jobs-kept actors) ∙ sum_by-kept (λ (job : JobView). entries place job.sight) job_end is_other actors in
     let joys : joy_entries_at place (joys_among (map ended_of actors)) ≡ sum_by (λ (a : ActorView). if is_stick a then calls_at place a else 0) actors =
     ap (joy_entries_at place) (joys-kept actors) ∙ sum_by-kept (λ (joy : JoyJobView). entries place joy.sight) joy_end is_stick actors in
     ap (λ (n : ℕ). n + joy_entries_at place (joys_among (map ended_of actors))) jobs
     ∙ ap (λ (n : ℕ). sum_by (λ (a : ActorView). if is_other a then calls_at place a else 0) actors + n) joys
-    ∙ sum_by-split (calls_at place) is_stick actors
+    ∙ split-roles (calls_at place) actors none
 
 -- each actor counts as what comes of it
 pub sum-ends : (place : ℕ) (actors : List ActorView) → entries_at place (map job_end actors) ≡ sum_by (calls_at place) actors

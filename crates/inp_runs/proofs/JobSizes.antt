@@ -1,5 +1,5 @@
 -- How long the lists of a job's view are, by the fold that it is.
-use Rattle.std.proofs.Common.{◌≡◌, ◌*◌, Bool, true, false, not, if◌then◌else◌, List, [], ◌∷◌, length, sym, subst, ◌∙◌}
+use Rattle.std.proofs.Common.{◌≡◌, ◌*◌, Bool, true, false, not, ◌||◌, if◌then◌else◌, List, [], ◌∷◌, length, sym, subst, ◌∙◌}
 use Rattle.inp_model.specs.declared.event.TheConstants.{EV_SW, EV_LED}
 use Rattle.inp_model.specs.declared.event.Event.{Event}
 use Rattle.inp_model.specs.declared.taken.Taken.{Taken}
@@ -10,8 +10,8 @@ use Rattle.inp_model.specs.declared.reply.Reply.TheVariants.{Opened}
 use Rattle.inp_model.specs.Description.{Description}
 use Rattle.inp_model.specs.Reply.{is_accepted}
 use Rattle.inp_actors.specs.declared.role.Role.{Role}
-use Rattle.inp_actors.specs.declared.role.Role.TheVariants.{Source, Client, Tap, Joy}
-use Rattle.inp_actors.specs.Command.{is_joy}
+use Rattle.inp_actors.specs.declared.role.Role.TheVariants.{Source, Client, Tap, Joy, Owner}
+use Rattle.inp_actors.specs.Command.{is_joy, is_owner}
 use Rattle.inp_recon.specs.declared.view.View.{View}
 use Rattle.inp_recon.specs.View.{IsSizedFor, first_view, view_after_event, view_after_answer}
 use Rattle.inp_recon.proofs.Sizes.{IsSizedFor-first_view, length-keys_after_event, length-bits_after_event, length-axes_after_event, length-keys_after_answer, length-switches_after_answer, length-leds_after_answer, length-axes_after_answer}
@@ -113,13 +113,14 @@ long-client d h f (entry ∷ sight) l = long-client d h (after_client_entry d h 
 
 -- a job's view
 
-long-folded : (role : Role) (d : Description) (h : List Step) (j : Job) → not (is_joy role) ≡ true → IsFolded role d h j → IsLong j.reading.view
+long-folded : (role : Role) (d : Description) (h : List Step) (j : Job) → not (is_joy role || is_owner role) ≡ true → IsFolded role d h j → IsLong j.reading.view
 long-folded Source d h j other fold = subst IsLong (sym fold) (long-first d)
 long-folded Client d h j other fold = subst AreLong fold (long-client d h (settled (first_view d)) j.sight (long-first d))
 long-folded Tap d h j other fold = subst IsLong fold (long-tap d h (first_view d) j.sight (long-first d))
 long-folded Joy d h j other fold = absurd cc
+long-folded Owner d h j other fold = absurd cc
 
-pub job-sized : (role : Role) (d : Description) (h : List Step) (j : Job) → not (is_joy role) ≡ true → IsFolded role d h j → length j.reading.view.cells ≡ 14 * d.slots → IsSizedFor d.slots j.reading.view
+pub job-sized : (role : Role) (d : Description) (h : List Step) (j : Job) → not (is_joy role || is_owner role) ≡ true → IsFolded role d h j → length j.reading.view.cells ≡ 14 * d.slots → IsSizedFor d.slots j.reading.view
 job-sized role d h j other fold cells =
     let l : IsLong j.reading.view = long-folded role d h j other fold in
     record { keys = l.keys; switches = l.switches; leds = l.leds; axes = l.axes; cells = cells }

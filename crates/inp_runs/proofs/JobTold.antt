@@ -6,7 +6,7 @@ use Rattle.inp_model.specs.Description.{Description}
 use Rattle.inp_model.specs.Run.{Call}
 use Rattle.inp_actors.specs.declared.line.Line.{Line}
 use Rattle.inp_actors.specs.declared.role.Role.{Role}
-use Rattle.inp_actors.specs.declared.role.Role.TheVariants.{Source, Client, Tap, Joy}
+use Rattle.inp_actors.specs.declared.role.Role.TheVariants.{Source, Client, Tap, Joy, Owner}
 use Rattle.inp_recon.proofs.Sizes.{IsSizedFor-first_view}
 use Rattle.inp_reader.specs.Talk.{Talk, finish, EndsWith}
 use Rattle.inp_script.specs.declared.sight.Sight.{Sight}
@@ -35,6 +35,7 @@ last-told (Some waiting) Source j k calls h = end-told j.stop j k calls h
 last-told (Some waiting) Client j k calls h = same-told j k calls h
 last-told (Some waiting) Tap j k calls h = same-told j k calls h
 last-told (Some waiting) Joy j k calls h = same-told j k calls h
+last-told (Some waiting) Owner j k calls h = same-told j k calls h
 
 lines-told : (role : Role) (d : Description) (streams : List (List Stamped)) (wait : Option Waiting) (n : ℕ) (lines : List Line) (j k : Job) (calls : List Call) → EndsWith (lines_talk role d streams wait n lines j) calls (Some k) → Tells calls j.sight k.sight
 unfolding lines_talk

@@ -18,7 +18,7 @@ use Rattle.inp_actors.specs.declared.command.Command.{Command}
 use Rattle.inp_actors.specs.declared.command.Command.TheVariants.{Event as ToEvent, Tick, Inhibit, Uninhibit, Stream, Stream16, Open, Close, Read}
 use Rattle.inp_actors.specs.declared.line.Line.{Line}
 use Rattle.inp_actors.specs.declared.role.Role.{Role}
-use Rattle.inp_actors.specs.declared.role.Role.TheVariants.{Source, Client, Tap, Joy}
+use Rattle.inp_actors.specs.declared.role.Role.TheVariants.{Source, Client, Tap, Joy, Owner}
 use Rattle.inp_actors.specs.Command.{is_command_of}
 use Rattle.inp_actors.specs.Record.{RecordView, IsRecord}
 use Rattle.inp_model.specs.History.{IsHistory}
@@ -198,7 +198,7 @@ module _ (P : List Sight → Taken → Type 0) (d : Description) (h : List Step)
 
 -- ---- the lines of a job
 
--- what is promised of each event that a source or a joystick took: it took none
+-- what is promised of each event that a source, a joystick or an owner took: it took none
 abbrev TookNothing : List Sight → Taken → Type 0
 TookNothing sight taken = ⊥
 
@@ -208,20 +208,22 @@ JobStands Source d h Q least j = AtEach TookNothing [] j.sight
 JobStands Client d h Q least j = IsClientJob d h Q least j
 JobStands Tap d h Q least j = TapStands d h Q least j
 JobStands Joy d h Q least j = AtEach TookNothing [] j.sight
+JobStands Owner d h Q least j = AtEach TookNothing [] j.sight
 
 module _ (d : Description) (h : List Step) (Q : ℕ → Type 0) (history : IsHistory d (reverse h)) (short : length h < NO_CLIENT) where
-  command-stands : (role : Role) (streams : List (List Stamped)) (wait : Option Waiting) (n : ℕ) (command : Command) (least : ℕ) (j k : Job) (calls more : List Call) → is_command_of role command ≡ true → AreToCome d h Q least (calls ++ more)
-      → EndsWith (command_talk role d streams wait n command j) calls (Some k) → JobStands role d h Q least j → JobStands role d h Q (place_behind least calls) k
-  command-stands Source streams wait n command least j k calls more of_role c ends s = source-line TookNothing d h Q least streams command j k calls more of_role c ends s
-  command-stands Client streams wait n command least j k calls more of_role c ends s = client-line d h Q history short least wait n j k command calls more of_role c ends s
-  command-stands Joy streams wait n command least j k calls more of_role c ends s = joystick-line TookNothing d h Q least n command j k calls more of_role c ends s
-  command-stands Tap streams wait n command least j k calls more of_role c ends s = tap-line d h Q history short least j k command calls more of_role c ends s
-
   same-stands : (role : Role) (least : ℕ) (j k : Job) (calls : List Call) → EndsWith (finish (Some j)) calls (Some k) → JobStands role d h Q least j → JobStands role d h Q (place_behind least calls) k
   same-stands role least j k calls ends s =
       let f = finish-only (Some j) (Some k) calls ends in
       let same : j ≡ k = (let e = f.1 in cc) in
       subst (λ (cs : List Call). JobStands role d h Q (place_behind least cs) k) (sym f.0) (subst (JobStands role d h Q least) same s)
+
+  command-stands : (role : Role) (streams : List (List Stamped)) (wait : Option Waiting) (n : ℕ) (command : Command) (least : ℕ) (j k : Job) (calls more : List Call) → is_command_of role command ≡ true → AreToCome d h Q least (calls ++ more)
+      → EndsWith (command_talk role d streams wait n command j) calls (Some k) → JobStands role d h Q least j → JobStands role d h Q (place_behind least calls) k
+  command-stands Source streams wait n command least j k calls more of_role c ends s = source-line TookNothing d h Q least streams command j k calls more of_role c ends s
+  command-stands Client streams wait n command least j k calls more of_role c ends s = client-line d h Q history short least wait n j k command calls more of_role c ends s
+  command-stands Joy streams wait n command least j k calls more of_role c ends s = joystick-line TookNothing d h Q least n command j k calls more of_role c ends s
+  command-stands Owner streams wait n command least j k calls more of_role c ends s = same-stands Owner least j k calls ends s
+  command-stands Tap streams wait n command least j k calls more of_role c ends s = tap-line d h Q history short least j k command calls more of_role c ends s
 
   line-stands : (role : Role) (streams : List (List Stamped)) (wait : Option Waiting) (n : ℕ) (command : Command) (least : ℕ) (j k : Job) (calls more : List Call) → is_command_of role command ≡ true → AreToCome d h Q least (calls ++ more)
       → EndsWith (line_talk role d streams wait n command j) calls (Some k) → JobStands role d h Q least j → JobStands role d h Q (place_behind least calls) k
@@ -243,6 +245,7 @@ module _ (d : Description) (h : List Step) (Q : ℕ → Type 0) (history : IsHis
   last-stands (Some waiting) Client least j k calls c ends s = same-stands Client least j k calls ends s
   last-stands (Some waiting) Tap least j k calls c ends s = same-stands Tap least j k calls ends s
   last-stands (Some waiting) Joy least j k calls c ends s = same-stands Joy least j k calls ends s
+  last-stands (Some waiting) Owner least j k calls c ends s = same-stands Owner least j k calls ends s
 
   lines-stand : (role : Role) (streams : List (List Stamped)) (wait : Option Waiting) (n : ℕ) (lines : List Line) (least : ℕ) (j k : Job) (calls : List Call) → AreOfRole role lines → AreToCome d h Q least calls → EndsWith (lines_talk role d streams wait n lines j) calls (Some k)
       → JobStands role d h Q least j → JobStands role d h Q (place_behind least calls) k
@@ -267,11 +270,13 @@ module _ (d : Description) (h : List Step) (Q : ℕ → Type 0) (history : IsHis
   first-stands Client = client-first d h Q history short
   first-stands Tap = tap-first d h Q history short
   first-stands Joy = tt
+  first-stands Owner = tt
 
   stands-seen : (role : Role) (least : ℕ) (j : Job) → JobStands role d h Q least j → AreReportsSeen d h role j.sight
   stands-seen Source least j s = λ k taken at report. absurd (at_each-at TookNothing [] j.sight k taken s at)
   stands-seen Client least j s = λ k taken at report. (let saw : ClientSaw d h (take (suc k) j.sight) taken = at_each-at (ClientSaw d h) [] j.sight k taken s.seen at in saw.seen report)
   stands-seen Joy least j s = λ k taken at report. absurd (at_each-at TookNothing [] j.sight k taken s at)
+  stands-seen Owner least j s = λ k taken at report. absurd (at_each-at TookNothing [] j.sight k taken s at)
   stands-seen Tap least j s = λ k taken at report. at_each-at (TapSaw d h) [] j.sight k taken s.seen at
 
   -- each event that it took is the one of its own index
@@ -279,6 +284,7 @@ module _ (d : Description) (h : List Step) (Q : ℕ → Type 0) (history : IsHis
   stands-own Source least j s = λ k taken at. absurd (at_each-at TookNothing [] j.sight k taken s at)
   stands-own Client least j s = λ k taken at. (let saw : ClientSaw d h (take (suc k) j.sight) taken = at_each-at (ClientSaw d h) [] j.sight k taken s.seen at in saw.own)
   stands-own Joy least j s = λ k taken at. absurd (at_each-at TookNothing [] j.sight k taken s at)
+  stands-own Owner least j s = λ k taken at. absurd (at_each-at TookNothing [] j.sight k taken s at)
   stands-own Tap least j s = λ k taken at. shown-own d h (take (suc k) j.sight) taken (sight_view Tap d h (take (suc k) j.sight)) (at_each-at (TapSaw d h) [] j.sight k taken s.seen at)
 
 -- ---- all of it

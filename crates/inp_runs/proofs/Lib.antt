@@ -8,6 +8,9 @@ pub mod LineTalks
 pub mod Memory
 pub mod JobClients
 pub mod Owners
+pub mod OwnerTalks
+pub mod OwnerLaws
+pub mod FeedLines
 pub mod OwnUses
 pub mod Reports
 pub mod LastReads

@@ -13,7 +13,7 @@ use Rattle.inp_actors.specs.declared.command.Command.{Command}
 use Rattle.inp_actors.specs.declared.command.Command.TheVariants.{Stream, Stream16, Open, Read, Next as ToNext, Skip, Follow, Force}
 use Rattle.inp_actors.specs.declared.line.Line.{Line}
 use Rattle.inp_actors.specs.declared.role.Role.{Role}
-use Rattle.inp_actors.specs.declared.role.Role.TheVariants.{Source, Client, Tap, Joy}
+use Rattle.inp_actors.specs.declared.role.Role.TheVariants.{Source, Client, Tap, Joy, Owner}
 use Rattle.inp_recon.specs.View.{IsSizedFor, view_after_answer}
 use Rattle.inp_recon.proofs.Sizes.{IsSizedFor-after_events}
 use Rattle.inp_reader.specs.declared.mode.Mode.{Mode}
@@ -358,6 +358,7 @@ leaves-command Source d streams n command j entries h = leaves-source d streams 
 leaves-command Client d streams n command j entries h = leaves-client d n command j entries h
 leaves-command Tap d streams n command j entries h = leaves-tap_call_if d (step_of j.reading.client command) j entries h
 leaves-command Joy d streams n command j entries h = joystick-kept d n command j entries h
+leaves-command Owner d streams n command j entries h = h
 
 leaves_unless : (d : Description) (stop : Option Stop) (j : Job) (talk : Talk (Option Job)) (entries : List Sight) → IsKept d j entries → Leaves d (IsKeptIfSome d) entries talk → Leaves d (IsKeptIfSome d) entries (unless_stopped stop j talk)
 leaves_unless d None j talk entries h more = more

@@ -1,5 +1,5 @@
 -- Lists by their elements: one that is replaced, those that a test keeps, and sums over them.
-use Rattle.std.proofs.Common.{◌≡◌, ℕ, zero, suc, ◌+◌, Bool, true, false, not, if◌then◌else◌, cond, nat_eq, List, [], ◌∷◌, map, refl, sym, ap, ◌∙◌, arith, zero-add, ◌⊎◌, inl, inr, Option, Some, None}
+use Rattle.std.proofs.Common.{◌≡◌, ℕ, zero, suc, ◌+◌, Bool, true, false, if◌then◌else◌, cond, nat_eq, List, [], ◌∷◌, map, refl, sym, ap, ◌∙◌, arith, zero-add, ◌⊎◌, inl, inr, Option, Some, None}
 use Rattle.std.specs.Prelude.{filter, slice_get, slice_set, option_map}
 use Rattle.std.specs.List.{enumerate_from, range_with_len, sum_by}
 use Rattle.std.proofs.lemmas.Bool.Decides.{nat_tests}
@@ -135,13 +135,3 @@ sum_by-replaced f xs i x y h =
 pub sum_by-none : {X Y : Type 0} (f : Y → ℕ) (g : X → Y) (xs : List X) → ((x : X) → f (g x) ≡ 0) → sum_by f (map g xs) ≡ 0
 sum_by-none f g [] h = refl
 sum_by-none f g (x ∷ xs) h = sum_by-cons f (g x) (map g xs) ∙ ap (λ (n : ℕ). n + sum_by f (map g xs)) (h x) ∙ zero-add (sum_by f (map g xs)) ∙ sum_by-none f g xs h
-
--- those that pass a test, and those that do not
-pub sum_by-split : {X : Type 0} (f : X → ℕ) (p : X → Bool) (xs : List X) → sum_by (λ x. if not (p x) then f x else 0) xs + sum_by (λ x. if p x then f x else 0) xs ≡ sum_by f xs
-sum_by-split f p [] = refl
-sum_by-split f p (x ∷ xs) =
-    omega (arith, one (p x) (f x), sum_by-split f p xs, sum_by-cons (λ z. if not (p z) then f z else 0) x xs, sum_by-cons (λ z. if p z then f z else 0) x xs, sum_by-cons f x xs)
-  where
-    one : (b : Bool) (n : ℕ) → (if not b then n else 0) + (if b then n else 0) ≡ n
-    one true n = omega arith
-    one false n = omega arith

@@ -19,7 +19,7 @@ use Rattle.inp_actors.specs.declared.command.Command.{Command}
 use Rattle.inp_actors.specs.declared.command.Command.TheVariants.{Stream, Stream16, Open, Read, Next, Skip, Follow, Force}
 use Rattle.inp_actors.specs.declared.line.Line.{Line}
 use Rattle.inp_actors.specs.declared.role.Role.{Role}
-use Rattle.inp_actors.specs.declared.role.Role.TheVariants.{Source, Client, Tap, Joy}
+use Rattle.inp_actors.specs.declared.role.Role.TheVariants.{Source, Client, Tap, Joy, Owner}
 use Rattle.inp_actors.specs.Command.{is_command_of}
 use Rattle.inp_recon.specs.declared.view.View.{View}
 use Rattle.inp_recon.specs.View.{view_after_answer}
@@ -44,11 +44,12 @@ use Rattle.inp_script.specs.declared.waiting.Waiting.{Waiting}
 use Rattle.inp_script.specs.Client.{Going, Turn, goes_on, ends_with, is_done, mode_of, start_ends, start_job, after_next, next_round, on_turn, rounds, hand_talk, client_talk}
 use Rattle.inp_script.specs.Doing.{command_talk, unless_stopped, line_talk}
 use Rattle.inp_script.specs.Job.{Job, joying_of}
+use Rattle.inp_script.specs.Sight as script
 use Rattle.inp_script.specs.Joystick.{Reach, handed_out, line_ends, after_joy_start, start_joystick, after_joy_answer, after_read as after_joy_read, after_turns, read_on, on_reach, read_records, joystick_talk}
 use Rattle.inp_script.specs.Line.{step_of, call_if, after_call, stream_talk, stream_at, source_talk, end_talk, tap_call_if}
 use Rattle.inp_script.specs.Sight.{noted, call_sight}
 use Rattle.inp_script.proofs.Replies.{answer_has}
-use Rattle.inp_runs.specs.Job.{on_job, last_talk, lines_talk, is_no_memory, lacks_memory}
+use Rattle.inp_runs.specs.Job.{on_job, last_talk, lines_talk, lacks_memory}
 use Rattle.inp_runs.proofs.Folded.{AreOfRole}
 use Rattle.inp_runs.proofs.Leaving.{AreAnswered}
 
@@ -330,6 +331,7 @@ gives_up-command Source d streams wait n command j h = gives_up-source streams c
 gives_up-command Client d streams wait n command j h = gives_up-client d wait n command j
 gives_up-command Tap d streams wait n command j h = gives_up-tap (step_of j.reading.client command) j
 gives_up-command Joy d streams wait n command j h = joystick-gives_up d n command j
+gives_up-command Owner d streams wait n command j h = tt
 
 pub gives_up-line : (role : Role) (d : Description) (streams : List (List Stamped)) (wait : Option Waiting) (n : ℕ) (command : Command) (j : Job) → is_command_of role command ≡ true → GivesUp (line_talk role d streams wait n command j)
 unfolding line_talk
@@ -358,6 +360,7 @@ gives_up-last (Some waiting) Source j = gives_up-end j.stop j
 gives_up-last (Some waiting) Client j = tt
 gives_up-last (Some waiting) Tap j = tt
 gives_up-last (Some waiting) Joy j = tt
+gives_up-last (Some waiting) Owner j = tt
 
 pub gives_up-lines : (role : Role) (d : Description) (streams : List (List Stamped)) (wait : Option Waiting) (n : ℕ) (lines : List Line) (j : Job) → AreOfRole role lines → GivesUp (lines_talk role d streams wait n lines j)
 unfolding lines_talk
@@ -372,17 +375,17 @@ gives_up-lines role d streams wait n (line ∷ lines) j of_role =
 
 -- Calls of a talk that left a job
 
-memory_when_accepted : (d : Description) (past : List Step) (x : Step) → is_no_memory (accepted d past x).reply ≡ false
+memory_when_accepted : (d : Description) (past : List Step) (x : Step) → script.lacks_memory (accepted d past x).reply ≡ false
 memory_when_accepted d past ToOpen = refl
 memory_when_accepted d past _ = refl
 
-answer-memory : (d : Description) (past : List Step) (x : Step) → is_no_memory (answer d past x).reply ≡ false
-answer-memory d past x = answer_has (λ given. is_no_memory given.reply ≡ false) d past x (λ refusal is. is.memory) (λ none. memory_when_accepted d past x)
+answer-memory : (d : Description) (past : List Step) (x : Step) → script.lacks_memory (answer d past x).reply ≡ false
+answer-memory d past x = answer_has (λ given. script.lacks_memory given.reply ≡ false) d past x (λ refusal is. is.memory) (λ none. memory_when_accepted d past x)
 
 pub answered-memory : (d : Description) (calls : List Call) → AreAnswered d calls → list_any lacks_memory calls ≡ false
 answered-memory d [] answered = refl
 answered-memory d (call ∷ calls) answered =
-    let first : lacks_memory call ≡ false = ap (λ (a : Answer). is_no_memory a.reply) answered.1 ∙ answer-memory d answered.0 call.step in
+    let first : lacks_memory call ≡ false = ap (λ (a : Answer). script.lacks_memory a.reply) answered.1 ∙ answer-memory d answered.0 call.step in
     rw first (answered-memory d calls answered.2)
 
 pub never_both : (calls : List Call) (j : Job) → EndsWith (finish None) calls (Some j) → ⊥

@@ -7,7 +7,7 @@ use Rattle.inp_actors.specs.declared.command.Command.{Command}
 use Rattle.inp_actors.specs.declared.command.Command.TheVariants.{Open, Next, Skip, Follow, Force}
 use Rattle.inp_actors.specs.declared.line.Line.{Line}
 use Rattle.inp_actors.specs.declared.role.Role.{Role}
-use Rattle.inp_actors.specs.declared.role.Role.TheVariants.{Source, Client, Tap, Joy}
+use Rattle.inp_actors.specs.declared.role.Role.TheVariants.{Source, Client, Tap, Joy, Owner}
 use Rattle.inp_reader.specs.Talk.{Talk, finish, and_then, EndsWith}
 use Rattle.inp_script.specs.declared.stop.Stop.{Stop}
 use Rattle.inp_script.specs.declared.waiting.Waiting.{Waiting}
@@ -64,6 +64,7 @@ command-longer Source d streams wait n more command old = λ calls j h. h
 command-longer Client d streams wait n more command old = client-longer d wait n more command old
 command-longer Tap d streams wait n more command old = λ calls j h. h
 command-longer Joy d streams wait n more command old = λ calls j h. joystick-longer d n (n + more) command old j calls (omega arith) h
+command-longer Owner d streams wait n more command old = λ calls j h. h
 
 pub line-longer : (role : Role) (d : Description) (streams : List (List Stamped)) (wait : Option Waiting) (n more : ℕ) (command : Command) (old : Job)
     → Lasts (line_talk role d streams wait n command old) (line_talk role d streams wait (n + more) command old)

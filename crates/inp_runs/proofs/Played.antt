@@ -1,48 +1,89 @@
--- What came of a record is what came of its devices, and each joystick is found again on its device.
-use Rattle.std.proofs.Common.{◌≡◌, ℕ, zero, suc, ◌+◌, ◌<◌, Bool, true, false, List, [], ◌∷◌, ◌++◌, length, map, refl, sym, ap, subst, ◌∙◌, arith, add-zero, zero-add, append-nil, Option, Some, None}
+-- What came of a record is what came of its devices, and each joystick and each owner is found again on its device.
+use Rattle.std.proofs.Common.{◌≡◌, ℕ, zero, suc, ◌+◌, ◌<◌, Bool, true, false, List, [], ◌∷◌, ◌++◌, length, map, refl, sym, ap, subst, ◌∙◌, arith, add-zero, zero-add, append-nil, ◌⊎◌, inl, inr, Option, Some, None}
 use Rattle.std.specs.Prelude.{filter, flat_map, slice_get, option_map}
 use Rattle.std.specs.List.{range_with_len}
 use Rattle.std.proofs.lemmas.List.{length-map, map-append}
 use Rattle.std.proofs.lemmas.List.Elements.{filter-append}
-use Rattle.std.proofs.lemmas.Option.{slice_get-map}
+use Rattle.std.proofs.lemmas.Option.{same_Some, slice_get-map}
 use Rattle.inp_actors.specs.declared.actor_text.ActorText.{ActorText}
 use Rattle.inp_actors.specs.declared.device_text.DeviceText.{DeviceText}
 use Rattle.inp_actors.specs.Record.{RecordView}
 use Rattle.inp_script.specs.declared.run.DeviceRun.{DeviceRun}
 use Rattle.inp_script.specs.declared.run.Run.{Run}
 use Rattle.inp_script.specs.Ended.{played_of}
-use Rattle.inp_script.specs.Job.{JoyJobView}
-use Rattle.inp_script.specs.Runs.{is_on_device, is_joystick, actors_of, joysticks_of, joy_actors, IsRunOf}
+use Rattle.inp_script.specs.Job.{JoyJobView, OwnerView}
+use Rattle.inp_script.specs.Runs.{is_on_device, is_joystick, is_owning, actors_of, joysticks_of, joy_actors, owners_of, owner_actors, IsRunOf}
 use Rattle.inp_runs.specs.Done.{IsRunAsPromised}
-use Rattle.inp_runs.specs.Job.{IsRun, ArePromised, joys_on, wait_of}
+use Rattle.inp_runs.specs.Job.{lines_by, IsRun, ArePromised, joys_on, wait_of}
+use Rattle.inp_runs.specs.Owner.{rooms_of, IsOwner}
 use Rattle.inp_runs.proofs.Listing.{IsAt, IsImage, eq_false, eq_same, filter-all, filter-none, option_map-some, slice_get-filter}
+
+-- Parts of what came of each device, whose numbers are these of a device's number
+
+abbrev AreParts : {X : Type 0} → (ℕ → List ℕ) → (List X → List ℕ) → (DeviceRun → List X) → ℕ → List DeviceRun → Type 0
+AreParts of_device numbers part first done = (k : ℕ) (device : DeviceRun) → slice_get done k ≡ Some device → numbers (part device) ≡ of_device (first + k)
+
+parts-behind : {X : Type 0} (of_device : ℕ → List ℕ) (numbers : List X → List ℕ) (part : DeviceRun → List X) (first : ℕ) (device : DeviceRun) (done : List DeviceRun) → AreParts of_device numbers part first (device ∷ done) → AreParts of_device numbers part (first + 1) done
+parts-behind of_device numbers part first device done h = λ k other is.
+    let same : first + suc k ≡ (first + 1) + k = omega arith in
+    h (suc k) other is ∙ ap of_device same
+
+parts-first : {X : Type 0} (of_device : ℕ → List ℕ) (numbers : List X → List ℕ) (part : DeviceRun → List X) (first : ℕ) (device : DeviceRun) (done : List DeviceRun) → AreParts of_device numbers part first (device ∷ done) → numbers (part device) ≡ of_device first
+parts-first of_device numbers part first device done h = h 0 device refl ∙ ap of_device (add-zero first)
+
+parts-in_order : {X : Type 0} (of_device : ℕ → List ℕ) (number : X → ℕ) (part : DeviceRun → List X) (first : ℕ) (done : List DeviceRun) → AreParts of_device (map number) part first done → map number (flat_map part done) ≡ flat_map of_device (range_with_len first (length done))
+parts-in_order of_device number part first [] h = refl
+parts-in_order of_device number part first (device ∷ done) h =
+    map-append number (part device) (flat_map part done)
+    ∙ ap (λ (ns : List ℕ). ns ++ map number (flat_map part done)) (parts-first of_device (map number) part first device done h)
+    ∙ ap (λ (ns : List ℕ). of_device first ++ ns) (parts-in_order of_device number part (first + 1) done (parts-behind of_device (map number) part first device done h))
+
+-- a part of a list that was made of parts
+record IsPartOf {X Y : Type 0} (part : X → List Y) (xs : List X) (y : Y) : Type 0 where
+  index : ℕ
+  of : X
+  is : slice_get xs index ≡ Some of
+  place : ℕ
+  there : slice_get (part of) place ≡ Some y
+
+append-at : {Y : Type 0} (ys zs : List Y) (k : ℕ) (y : Y) → slice_get (ys ++ zs) k ≡ Some y → ((j : ℕ) × (slice_get ys j ≡ Some y)) ⊎ ((j : ℕ) × (slice_get zs j ≡ Some y))
+append-at [] zs k y h = inr (k, h)
+append-at (x ∷ ys) zs zero y h = inl (0, h)
+append-at (x ∷ ys) zs (suc k) y h = elim (append-at ys zs k y h) [ inl at ↦ inl (suc at.0, at.1) | inr at ↦ inr at ]
+
+part-of : {X Y : Type 0} (part : X → List Y) (xs : List X) (k : ℕ) (y : Y) → slice_get (flat_map part xs) k ≡ Some y → IsPartOf part xs y
+part-of part [] k y h = absurd cc
+part-of part (x ∷ xs) k y h = elim (append-at (part x) (flat_map part xs) k y h) [
+  | inl at ↦ record { index = 0; of = x; is = refl; place = at.0; there = at.1 }
+  | inr at ↦ (let p : IsPartOf part xs y = part-of part xs at.0 y at.1 in record { index = suc p.index; of = p.of; is = p.is; place = p.place; there = p.there })
+]
 
 -- Joysticks, device by device
 
 abbrev its_joys : DeviceRun → List JoyJobView
 its_joys device = device.joys
 
+abbrev its_owners : DeviceRun → List OwnerView
+its_owners device = device.owners
+
+abbrev its_run : DeviceRun → Run
+its_run device = device.run
+
 abbrev all_joys : List DeviceRun → List JoyJobView
 all_joys done = flat_map (λ (device : DeviceRun). device.joys) done
 
 -- the joysticks of each of these devices are the record's, where the first one has this number
 abbrev AreNumbered : List ActorText → ℕ → List DeviceRun → Type 0
-AreNumbered actors first done = (k : ℕ) (device : DeviceRun) → slice_get done k ≡ Some device → joy_actors device.joys ≡ joysticks_of actors (first + k)
+AreNumbered actors first done = AreParts (joysticks_of actors) (λ (joys : List JoyJobView). joy_actors joys) its_joys first done
 
 numbered-behind : (actors : List ActorText) (first : ℕ) (device : DeviceRun) (done : List DeviceRun) → AreNumbered actors first (device ∷ done) → AreNumbered actors (first + 1) done
-numbered-behind actors first device done h = λ k other is.
-    let same : first + suc k ≡ (first + 1) + k = omega arith in
-    h (suc k) other is ∙ ap (joysticks_of actors) same
+numbered-behind actors first device done h = parts-behind (joysticks_of actors) (λ (joys : List JoyJobView). joy_actors joys) its_joys first device done h
 
 numbered-first : (actors : List ActorText) (first : ℕ) (device : DeviceRun) (done : List DeviceRun) → AreNumbered actors first (device ∷ done) → joy_actors device.joys ≡ joysticks_of actors first
-numbered-first actors first device done h = h 0 device refl ∙ ap (joysticks_of actors) (add-zero first)
+numbered-first actors first device done h = parts-first (joysticks_of actors) (λ (joys : List JoyJobView). joy_actors joys) its_joys first device done h
 
 joys-in_order : (actors : List ActorText) (first : ℕ) (done : List DeviceRun) → AreNumbered actors first done → joy_actors (all_joys done) ≡ flat_map (joysticks_of actors) (range_with_len first (length done))
-joys-in_order actors first [] h = refl
-joys-in_order actors first (device ∷ done) h =
-    map-append (λ (joy : JoyJobView). joy.actor) device.joys (all_joys done)
-    ∙ ap (λ (ns : List ℕ). ns ++ joy_actors (all_joys done)) (numbered-first actors first device done h)
-    ∙ ap (λ (ns : List ℕ). joysticks_of actors first ++ ns) (joys-in_order actors (first + 1) done (numbered-behind actors first device done h))
+joys-in_order actors first done h = parts-in_order (joysticks_of actors) (λ (joy : JoyJobView). joy.actor) its_joys first done h
 
 -- The joysticks of one device among all
 
@@ -57,6 +98,16 @@ on-device actors number joys k joy same is =
     ap (λ (ns : List ℕ). slice_get ns k) (sym same) ∙ slice_get-map (λ (j : JoyJobView). j.actor) joys k ∙ ap (λ (o : Option JoyJobView). option_map (λ (j : JoyJobView). j.actor) o) is in
     let stick : IsAt (λ n. is_joystick (slice_get actors n)) (actors_of actors number) joy.actor = slice_get-filter (λ n. is_joystick (slice_get actors n)) (actors_of actors number) k joy.actor there in
     let at : IsAt on (range_with_len 0 (length actors)) joy.actor = slice_get-filter on (range_with_len 0 (length actors)) stick.index joy.actor stick.is in
+    at.passes
+
+-- one of a device's owners is on it
+owner-on_device : (actors : List ActorText) (number : ℕ) (owners : List OwnerView) (k : ℕ) (owner : OwnerView) → owner_actors owners ≡ owners_of actors number → slice_get owners k ≡ Some owner → is_on_device number (slice_get actors owner.actor) ≡ true
+owner-on_device actors number owners k owner same is =
+    let on : ℕ → Bool = λ (n : ℕ). is_on_device number (slice_get actors n) in
+    let there : slice_get (owners_of actors number) k ≡ Some owner.actor =
+    ap (λ (ns : List ℕ). slice_get ns k) (sym same) ∙ slice_get-map (λ (o : OwnerView). o.actor) owners k ∙ ap (λ (o : Option OwnerView). option_map (λ (x : OwnerView). x.actor) o) is in
+    let owns : IsAt (λ n. is_owning (slice_get actors n)) (actors_of actors number) owner.actor = slice_get-filter (λ n. is_owning (slice_get actors n)) (actors_of actors number) k owner.actor there in
+    let at : IsAt on (range_with_len 0 (length actors)) owner.actor = slice_get-filter on (range_with_len 0 (length actors)) owns.index owner.actor owns.is in
     at.passes
 
 -- and on no other one
@@ -109,6 +160,24 @@ text-at (z ∷ xs) [] i x long h = absurd cc
 text-at (z ∷ xs) (y ∷ ys) zero x long h = (y, refl)
 text-at (z ∷ xs) (y ∷ ys) (suc i) x long h = text-at xs ys i x (omega (arith, long)) h
 
+-- an actor's device is the one that it is on
+its-device : (number : ℕ) (o : Option ActorText) (text : ActorText) → o ≡ Some text → is_on_device number o ≡ true → text.device ≡ number
+its-device number None text h on = absurd cc
+its-device number (Some other) text h on = let same : other ≡ text = cc in ap (λ (x : ActorText). x.device) (sym same) ∙ eq_same other.device number on
+
+-- what came of an owner of the record
+is_owner_of : (idle : Option ℕ) (r : RecordView) (done : List DeviceRun) (k : ℕ) (owner : OwnerView) (text : ActorText) (device : DeviceText) (run : Run) → length done ≡ length r.devices → AllRunsPromised idle r done → slice_get (flat_map its_owners done) k ≡ Some owner
+    → slice_get r.actors owner.actor ≡ Some text → slice_get r.devices text.device ≡ Some device → slice_get (map its_run done) text.device ≡ Some run → IsOwner device.caps run.history (rooms_of (lines_by owner.actor r.lines)) owner
+is_owner_of idle r done k owner text device run long each is is_text is_device is_run =
+    let p : IsPartOf its_owners done owner = part-of its_owners done k owner is in
+    let named = text-at done r.devices p.index p.of long p.is in
+    let promised : IsRunAsPromised idle r p.index named.0 p.of = each p.index named.0 p.of named.1 p.is in
+    let here : text.device ≡ p.index = its-device p.index (slice_get r.actors owner.actor) text is_text (owner-on_device r.actors p.index p.of.owners p.place owner promised.owners_are p.there) in
+    let same_device : named.0 ≡ device = same_Some named.0 device (sym named.1 ∙ ap (λ (n : ℕ). slice_get r.devices n) (sym here) ∙ is_device) in
+    let same_run : p.of.run ≡ run = same_Some p.of.run run (sym (slice_get-map its_run done p.index ∙ ap (λ (o : Option DeviceRun). option_map its_run o) p.is) ∙ ap (λ (n : ℕ). slice_get (map its_run done) n) (sym here) ∙ is_run) in
+    subst (λ (x : DeviceText). IsOwner x.caps run.history (rooms_of (lines_by owner.actor r.lines)) owner) same_device
+    (subst (λ (x : Run). IsOwner named.0.caps x.history (rooms_of (lines_by owner.actor r.lines)) owner) same_run (promised.owners p.place owner p.there))
+
 pub all-promised : (idle : Option ℕ) (r : RecordView) (done : List DeviceRun) → length done ≡ length r.devices → AllRunsPromised idle r done → ArePromised idle r (played_of done)
 all-promised idle r done long each = record {
   runs_of = record {
@@ -119,6 +188,7 @@ all-promised idle r done long each = record {
         subst (IsRunOf r.actors i text) image.same p.run_of;
   };
   joys_of = joys-in_order r.actors 0 done numbered ∙ ap (λ (n : ℕ). flat_map (joysticks_of r.actors) (range_with_len 0 n)) long;
+  owners_of = parts-in_order (owners_of r.actors) (λ (owner : OwnerView). owner.actor) its_owners 0 done owned ∙ ap (λ (n : ℕ). flat_map (owners_of r.actors) (range_with_len 0 n)) long;
   each = λ i text run is_text is_run.
       let image : IsImage its_run (slice_get done i) run = image-of i run is_run in
       let p : IsRunAsPromised idle r i text image.from = each i text image.from is_text image.is in
@@ -126,11 +196,9 @@ all-promised idle r done long each = record {
       ap (λ (n : ℕ). filter (is_joy_on r.actors n) (all_joys done)) (sym (zero-add i)) ∙ joys-found r.actors 0 i done image.from numbered image.is in
       subst (λ (joys : List JoyJobView). IsRun r text.caps (wait_of idle r i) run joys) (sym found)
       (subst (λ (x : Run). IsRun r text.caps (wait_of idle r i) x image.from.joys) image.same p.is_run);
+  owners = λ k owner text device run is is_text is_device is_run. is_owner_of idle r done k owner text device run long each is is_text is_device is_run;
 }
   where
-    its_run : DeviceRun → Run
-    its_run device = device.run
-
     image-of : (i : ℕ) (run : Run) → slice_get (map its_run done) i ≡ Some run → IsImage its_run (slice_get done i) run
     image-of i run h = option_map-some its_run (slice_get done i) run (sym (slice_get-map its_run done i) ∙ h)
 
@@ -139,3 +207,9 @@ all-promised idle r done long each = record {
         let text = text-at done r.devices k device long is in
         let p : IsRunAsPromised idle r k text.0 device = each k text.0 device text.1 is in
         p.joys_of ∙ ap (joysticks_of r.actors) (sym (zero-add k))
+
+    owned : AreParts (owners_of r.actors) (map (λ (owner : OwnerView). owner.actor)) its_owners 0 done
+    owned = λ k device is.
+        let text = text-at done r.devices k device long is in
+        let p : IsRunAsPromised idle r k text.0 device = each k text.0 device text.1 is in
+        p.owners_are ∙ ap (owners_of r.actors) (sym (zero-add k))

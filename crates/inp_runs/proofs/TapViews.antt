@@ -22,7 +22,7 @@ use Rattle.inp_model.specs.Step.{client_of, is_open_step, is_same}
 use Rattle.inp_model.proofs.Allowed.{named_open}
 use Rattle.inp_model.proofs.Opens.{is_open-lt, opens-le}
 use Rattle.inp_actors.specs.declared.command.Command.{Command}
-use Rattle.inp_actors.specs.declared.command.Command.TheVariants.{Event as ToEvent, Tick, Inhibit, Uninhibit, Stream, Stream16, Open, Next, Skip, Follow, Force}
+use Rattle.inp_actors.specs.declared.command.Command.TheVariants.{Event as ToEvent, Tick, Inhibit, Uninhibit, Stream, Stream16, Open, Next, Skip, Follow, Force, Feedback}
 use Rattle.inp_actors.specs.declared.role.Role.TheVariants.{Tap}
 use Rattle.inp_actors.specs.Command.{is_command_of}
 use Rattle.inp_recon.specs.declared.view.View.{View}
@@ -663,6 +663,7 @@ module _ (d : Description) (h : List Step) (Q : ℕ → Type 0) (history : IsHis
   tap-step client (Skip count) h = absurd cc
   tap-step client Follow h = absurd cc
   tap-step client Force h = absurd cc
+  tap-step client (Feedback count) h = absurd cc
   tap-step client Open h = inl refl
   tap-step client _ h = inr refl
 

@@ -8,17 +8,20 @@ use Rattle.inp_model.specs.Run.{Call, IsLegalRun}
 use Rattle.inp_actors.specs.declared.actor_text.ActorText.{ActorText}
 use Rattle.inp_actors.specs.declared.device_text.DeviceText.{DeviceText}
 use Rattle.inp_actors.specs.declared.role.Role.{Role}
+use Rattle.inp_actors.specs.declared.role.Role.TheVariants.{Owner}
 use Rattle.inp_actors.specs.Record.{RecordView, IsRecord}
 use Rattle.inp_reader.specs.Talk.{EndsWith}
 use Rattle.inp_script.specs.declared.run.DeviceRun.{DeviceRun}
 use Rattle.inp_script.specs.declared.waiting.Waiting.{Waiting}
-use Rattle.inp_script.specs.Job.{ActorView, first_job}
-use Rattle.inp_script.specs.Runs.{actors_of, joysticks_of, joy_actors, IsRunOf}
+use Rattle.inp_script.specs.Job.{ActorView, OwnerView, first_job}
+use Rattle.inp_script.specs.Runs.{actors_of, joysticks_of, joy_actors, owners_of, owner_actors, IsRunOf}
 use Rattle.inp_script.specs.Ended.{HasCells, ended_of, device_run, played_of}
+use Rattle.inp_runs.specs.Owner.{rooms_of, HasOwned, IsOwner}
 use Rattle.inp_runs.specs.Job.{lines_by, lines_talk, is_entry_at, wait_of, IsRun, ArePromised}
 
 -- An actor did all its lines: its calls are a legal run of the device's history, and its job is what its lines and the
--- answers to these calls make. Its view has the device's slots, if a view comes of it.
+-- answers to these calls make. Its view has the device's slots, if a view comes of it. Where it is an owner its feedback
+-- calls are the device's.
 pub record HasFollowed (r : RecordView) (d : Description) (wait : Option Waiting) (history : List Step) (role : Role) (a : ActorView) : Type 0 where
   pub calls : List Call
   pub legal : IsLegalRun d history calls
@@ -26,6 +29,7 @@ pub record HasFollowed (r : RecordView) (d : Description) (wait : Option Waiting
   pub follows : EndsWith (lines_talk role d r.streams wait rounds (lines_by a.actor r.lines) (first_job role d)) calls (Some a.job)
   pub is_role : a.role ≡ role
   pub cells : HasCells d (ended_of a)
+  pub owned : role ≡ Owner → HasOwned d history (rooms_of (lines_by a.actor r.lines)) a.owning
 
 -- how many accepted calls at this place an actor's sight tells of
 abbrev pub calls_at : ℕ → ActorView → ℕ
@@ -42,7 +46,9 @@ pub record IsDeviceDone (idle : Option ℕ) (r : RecordView) (i : ℕ) (d : Desc
 pub record IsRunAsPromised (idle : Option ℕ) (r : RecordView) (i : ℕ) (device : DeviceText) (done : DeviceRun) : Type 0 where
   pub run_of : IsRunOf r.actors i device done.run
   pub joys_of : joy_actors done.joys ≡ joysticks_of r.actors i
+  pub owners_are : owner_actors done.owners ≡ owners_of r.actors i
   pub is_run : IsRun r device.caps (wait_of idle r i) done.run done.joys
+  pub owners : (k : ℕ) (owner : OwnerView) → slice_get done.owners k ≡ Some owner → IsOwner device.caps done.run.history (rooms_of (lines_by owner.actor r.lines)) owner
 
 -- what comes of a device whose actors did all their lines is promised
 abbrev pub DevicesDoneArePromised : Type 0

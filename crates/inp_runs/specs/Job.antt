@@ -4,9 +4,6 @@ use Rattle.std.specs.List.{count_by, list_any, sum_by}
 use Rattle.inp_model.specs.declared.stamped.Stamped.{Stamped}
 use Rattle.inp_model.specs.declared.taken.Taken.{Taken}
 use Rattle.inp_model.specs.declared.step.Step.{Step}
-use Rattle.inp_model.specs.declared.reply.Reply.{Reply}
-use Rattle.inp_model.specs.declared.reply.Reply.TheVariants.{Refused}
-use Rattle.inp_model.specs.declared.reply.Refusal.TheVariants.{NoMemory}
 use Rattle.inp_model.specs.Description.{Description, IsDescription}
 use Rattle.inp_model.specs.Event.{is_report}
 use Rattle.inp_model.specs.Reply.{is_accepted}
@@ -28,11 +25,14 @@ use Rattle.inp_script.specs.declared.sight.Sight.TheVariants.{Call, Took}
 use Rattle.inp_script.specs.declared.waiting.Waiting.{Waiting}
 use Rattle.inp_script.specs.Doing.{line_talk, source_count}
 use Rattle.inp_script.specs.Fold.{IsFolded}
-use Rattle.inp_script.specs.Job.{Job, JobView, JoyJobView, first_job, job_end, joy_end}
+use Rattle.inp_script.specs.Job.{Job, JobView, JoyJobView, OwnerView, first_job, job_end, joy_end}
 use Rattle.inp_script.specs.Legal.{entries_of, is_call_entry, LeavesOut}
 use Rattle.inp_script.specs.Line.{end_talk}
-use Rattle.inp_script.specs.Runs.{is_on_device, AreRunsOf, AreJoysOf}
+use Rattle.inp_script.specs.Owner.{first_owning}
+use Rattle.inp_script.specs.Sight as script
+use Rattle.inp_script.specs.Runs.{is_on_device, AreRunsOf, AreJoysOf, AreOwnersOf}
 use Rattle.inp_runs.specs.JobViews.{AreEventsOwn, AreReportsSeen, ShowsTheState, reads_as, index_in_history, sight_view}
+use Rattle.inp_runs.specs.Owner.{rooms_of, IsOwner}
 use Rattle.inp_runs.specs.Losses.{AreLossesCaused}
 
 -- the action lines of an actor, in file order
@@ -57,14 +57,9 @@ lines_talk role d streams wait rounds [] j = last_talk wait role j
 lines_talk role d streams wait rounds (line ∷ lines) j =
     and_then (line_talk role d streams wait rounds line.command j) (on_job (lines_talk role d streams wait rounds lines))
 
--- the step was refused for want of memory
-abbrev pub is_no_memory : Reply → Bool
-is_no_memory (Refused at NoMemory) = true
-is_no_memory _ = false
-
 -- a call that was refused for want of memory
 abbrev pub lacks_memory : model.Call → Bool
-lacks_memory call = is_no_memory call.answer.reply
+lacks_memory call = script.lacks_memory call.answer.reply
 
 -- The sight tells of these calls, but for some that were answered Again.
 pub record TellsAllBut (calls : List model.Call) (sight : List Sight) : Type 0 where
@@ -95,7 +90,7 @@ pub record IsJob (r : RecordView) (d : Description) (wait : Option Waiting) (his
   pub losses : AreLossesCaused d history job.sight
   -- its view is the fold of its whole sight
   pub folded : IsFolded role d history last
-  pub ended : job ≡ job_end (record { actor = job.actor; role = role; description = d; job = last })
+  pub ended : job ≡ job_end (record { actor = job.actor; role = role; description = d; job = last; owning = first_owning })
 
 -- What came of a joystick's job: the same of its calls, and its sight and its picture are what its lines and the answers to
 -- these calls make.
@@ -111,7 +106,7 @@ pub record IsJoyJob (r : RecordView) (d : Description) (wait : Option Waiting) (
   pub follows : EndsWith (lines_talk Joy d r.streams wait rounds (lines_by joy.actor r.lines) (first_job Joy d)) calls (Some last)
   -- its picture is what the records of its last startup and those behind it make
   pub pictured : IsFolded Joy d history last
-  pub ended : joy ≡ joy_end (record { actor = joy.actor; role = Joy; description = d; job = last })
+  pub ended : joy ≡ joy_end (record { actor = joy.actor; role = Joy; description = d; job = last; owning = first_owning })
 
 -- an accepted call at this place of the history
 abbrev pub is_entry_at : ℕ → Sight → Bool
@@ -155,12 +150,16 @@ wait_of (Some idle) r device = Some (record { idle = idle; sources = source_coun
 abbrev pub joys_on : RecordView → List JoyJobView → ℕ → List JoyJobView
 joys_on r joys device = filter (λ (joy : JoyJobView). is_on_device device (slice_get r.actors joy.actor)) joys
 
--- What came of a record: one run for each device, with one job for each of its actors, and each run is as above. With a
--- number, lines waited so.
+-- What came of a record: one run for each device, with one job for each of its actors, and each run and each owner is as
+-- above. With a number, lines waited so.
 pub record ArePromised (idle : Option ℕ) (r : RecordView) (played : Played) : Type 0 where
   pub runs_of : AreRunsOf r played.runs
   pub joys_of : AreJoysOf r played.joys
+  pub owners_of : AreOwnersOf r played.owners
   pub each : (i : ℕ) (device : DeviceText) (run : Run) → slice_get r.devices i ≡ Some device → slice_get played.runs i ≡ Some run → IsRun r device.caps (wait_of idle r i) run (joys_on r played.joys i)
+  -- each owner's calls are the feedback calls of its device, which kept no other ones
+  pub owners : (k : ℕ) (owner : OwnerView) (text : ActorText) (device : DeviceText) (run : Run) → slice_get played.owners k ≡ Some owner → slice_get r.actors owner.actor ≡ Some text
+      → slice_get r.devices text.device ≡ Some device → slice_get played.runs text.device ≡ Some run → IsOwner device.caps run.history (rooms_of (lines_by owner.actor r.lines)) owner
 
 -- at each report that a job took, its view up to then is the device's state at the end of that report's frame, where its
 -- client could follow the device up to there

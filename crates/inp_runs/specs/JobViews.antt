@@ -11,7 +11,7 @@ use Rattle.inp_model.specs.Queue.{took}
 use Rattle.inp_model.specs.Reply.{is_accepted, taken_of}
 use Rattle.inp_model.specs.Run.{place_of}
 use Rattle.inp_actors.specs.declared.role.Role.{Role}
-use Rattle.inp_actors.specs.declared.role.Role.TheVariants.{Source, Client, Tap, Joy}
+use Rattle.inp_actors.specs.declared.role.Role.TheVariants.{Source, Client, Tap, Joy, Owner}
 use Rattle.inp_recon.specs.declared.view.View.{View}
 use Rattle.inp_recon.specs.View.{first_view}
 use Rattle.inp_recon.specs.ClientView.{past_before_read, read_up_to, view_at}
@@ -98,6 +98,7 @@ abbrev pub sight_view : Role → Description → List Step → List Sight → Vi
 sight_view Source d history sight = first_view d
 sight_view Tap d history sight = tap_fold d history (first_view d) sight
 sight_view Joy d history sight = first_view d
+sight_view Owner d history sight = first_view d
 sight_view Client d history sight = folded_view (client_fold d history (settled (first_view d)) sight)
 
 -- Two views agree in each key, switch and LED, in each supported axis outside 0x2f to 0x3d, and in all values of all

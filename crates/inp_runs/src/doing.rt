@@ -86,6 +86,6 @@ fn end_lines<E: Evdev>(
     }
     match rec.actors().get(number as usize).role {
         Role::Source => actor.end(dev),
-        Role::Client | Role::Tap | Role::Joy => Ok(()),
+        Role::Client | Role::Tap | Role::Joy | Role::Owner => Ok(()),
     }
 }

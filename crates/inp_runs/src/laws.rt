@@ -1,4 +1,6 @@
 //! What is true of all that is promised of runs, by the definitions alone.
+ghost use Rattle.inp_runs.specs.Feeding.{OwnersLinesAreCalls};
+ghost use Rattle.inp_runs.specs.OwnerExamples.{TakesTheBellOnce, StopsAtItsLimit};
 ghost use Rattle.inp_runs.specs.IndexExamples.{CountsBehindTheLastRead, TellsEqualEventsApart, CountsAcceptedReadsOfItsClient};
 ghost use Rattle.inp_runs.specs.Done.{AllAsPromised, DevicesDoneArePromised};
 ghost use Rattle.inp_runs.specs.Job.{JobsShowTheDevice};
@@ -31,4 +33,15 @@ pub fn indices_on_a_short_sight()
     ensures counts { CountsBehindTheLastRead }
     ensures apart { TellsEqualEventsApart }
     ensures own_client { CountsAcceptedReadsOfItsClient }
+{}
+
+/// What comes of an owner, computed on a short row of a step and its calls. It does nothing: its contract is the point.
+pub fn owners_on_a_short_row()
+    ensures once { TakesTheBellOnce }
+    ensures limit { StopsAtItsLimit }
+{}
+
+/// Each line of an owner of a record is a feedback call. It does nothing: its contract is the point.
+pub fn owners_lines_are_calls()
+    ensures calls { OwnersLinesAreCalls }
 {}

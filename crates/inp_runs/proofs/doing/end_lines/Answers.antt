@@ -30,7 +30,10 @@ returns-in-Client g c =
     record {
       done = holds-nothing _ _ _ (last-reader c.args.wait c.args.actor.now.role c.args.actor.now.job (elim c.in-Client.is [
         | inl h ↦ inl (sym same ∙ h)
-        | inr rest ↦ elim rest [ inl h ↦ inr (inl (sym same ∙ h)) | inr h ↦ inr (inr (sym same ∙ h)) ]
+        | inr rest ↦ elim rest [
+          | inl h ↦ inr (inl (sym same ∙ h))
+          | inr more ↦ elim more [ inl h ↦ inr (inr (inl (sym same ∙ h))) | inr h ↦ inr (inr (inr (sym same ∙ h))) ]
+        ]
       ]));
       actor = refl;
       left = left-none _;
