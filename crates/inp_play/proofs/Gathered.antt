@@ -8,11 +8,12 @@ use Rattle.std.proofs.lemmas.List.Elements.{filter-append}
 use Rattle.std.proofs.lemmas.List.FromFn.{length-enumerate_from}
 use Rattle.std.proofs.lemmas.Option.{slice_get-map, slice_get_read, slice_get_within}
 use Rattle.inp_model.specs.declared.step.Step.{Step}
-use Rattle.inp_model.specs.DeviceView.{DeviceView}
 use Rattle.inp_actors.specs.declared.actor_text.ActorText.{ActorText}
 use Rattle.inp_actors.specs.declared.role.Role.{Role}
-use Rattle.inp_actors.specs.declared.role.Role.TheVariants.{Source, Client, Tap, Joy}
+use Rattle.inp_actors.specs.declared.role.Role.TheVariants.{Source, Client, Tap, Joy, Owner}
 use Rattle.inp_actors.specs.Record.{RecordView, IsRecord}
+use Rattle.inp_feedback.specs.UEntry.{steps_in}
+use Rattle.inp_uinput.specs.UdevView.{UdevView}
 use Rattle.inp_script.specs.declared.ended.Ended.{Ended}
 use Rattle.inp_script.specs.declared.run.DeviceRun.{DeviceRun}
 use Rattle.inp_script.specs.Doing.{HasActor}
@@ -27,10 +28,10 @@ use Rattle.inp_play.proofs.PlayerMaking.{slice_get-numbered}
 use Rattle.inp_play.proofs.PlayerLines.{same_item, some_item, length-devices}
 
 -- before the first actor
-pub no_ends : (r : RecordView) (devices : List DeviceView) → map first_ends devices ≡ all_ends r (stage_with devices [])
+pub no_ends : (r : RecordView) (devices : List UdevView) → map first_ends devices ≡ all_ends r (stage_with devices [])
 no_ends r devices = from 0 devices
   where
-    from : (n : ℕ) (ds : List DeviceView) → map first_ends ds ≡ map (ends_of r (stage_with devices [])) (enumerate_from n (pasts_of ds))
+    from : (n : ℕ) (ds : List UdevView) → map first_ends ds ≡ map (ends_of r (stage_with devices [])) (enumerate_from n (pasts_of ds))
     from n [] = refl
     from n (d ∷ ds) = ap (λ (all : List DeviceEnds). first_ends d ∷ all) (from (n + 1) ds)
 
@@ -43,12 +44,12 @@ actors_more : (r : RecordView) (ys : List ActorView) (a : ActorView) (device : �
 actors_more r ys a device b h =
     filter-append (is_on r device) ys (a ∷ []) ∙ ap (λ (c : Bool). jobs_on r ys device ++ (if c then a ∷ [] else [])) h
 
-ends_more : (r : RecordView) (devices : List DeviceView) (ys : List ActorView) (a : ActorView) (device : ℕ) (past : List Step) → is_on r device a ≡ true → with_end (ends_of r (stage_with devices ys) (device, past)) (ended_of a) ≡ ends_of r (stage_with devices (ys ++ a ∷ [])) (device, past)
+ends_more : (r : RecordView) (devices : List UdevView) (ys : List ActorView) (a : ActorView) (device : ℕ) (past : List Step) → is_on r device a ≡ true → with_end (ends_of r (stage_with devices ys) (device, past)) (ended_of a) ≡ ends_of r (stage_with devices (ys ++ a ∷ [])) (device, past)
 ends_more r devices ys a device past h =
     ap (λ (ends : List Ended). record { history = reverse past; ends = ends })
     (sym (map-append ended_of (jobs_on r ys device) (a ∷ [])) ∙ ap (λ (bs : List ActorView). map ended_of bs) (sym (actors_more r ys a device true h)))
 
-ends_same : (r : RecordView) (devices : List DeviceView) (ys : List ActorView) (a : ActorView) (device : ℕ) (past : List Step) → is_on r device a ≡ false → ends_of r (stage_with devices ys) (device, past) ≡ ends_of r (stage_with devices (ys ++ a ∷ [])) (device, past)
+ends_same : (r : RecordView) (devices : List UdevView) (ys : List ActorView) (a : ActorView) (device : ℕ) (past : List Step) → is_on r device a ≡ false → ends_of r (stage_with devices ys) (device, past) ≡ ends_of r (stage_with devices (ys ++ a ∷ [])) (device, past)
 ends_same r devices ys a device past h =
     ap (λ (bs : List ActorView). record { history = reverse past; ends = map ended_of bs }) (sym (actors_more r ys a device false h ∙ append-nil (jobs_on r ys device)))
 
@@ -63,7 +64,7 @@ other_device r a text device there other = ap (is_on_device device) there ∙ by
 own_device : (r : RecordView) (a : ActorView) (text : ActorText) (device : ℕ) → slice_get r.actors a.actor ≡ Some text → text.device ≡ device → is_on r device a ≡ true
 own_device r a text device there same = ap (is_on_device device) there ∙ eq-eqb text.device device same
 
-all_same : (r : RecordView) (devices : List DeviceView) (ys : List ActorView) (a : ActorView) (text : ActorText) (n : ℕ) (pasts : List (List Step)) → slice_get r.actors a.actor ≡ Some text → text.device < n → map (ends_of r (stage_with devices ys)) (enumerate_from n pasts) ≡ map (ends_of r (stage_with devices (ys ++ a ∷ []))) (enumerate_from n pasts)
+all_same : (r : RecordView) (devices : List UdevView) (ys : List ActorView) (a : ActorView) (text : ActorText) (n : ℕ) (pasts : List (List Step)) → slice_get r.actors a.actor ≡ Some text → text.device < n → map (ends_of r (stage_with devices ys)) (enumerate_from n pasts) ≡ map (ends_of r (stage_with devices (ys ++ a ∷ []))) (enumerate_from n pasts)
 all_same r devices ys a text n [] there below = refl
 all_same r devices ys a text n (past ∷ pasts) there below =
     let other : text.device ≢ n = λ e. omega (arith, e, below) in
@@ -72,7 +73,7 @@ all_same r devices ys a text n (past ∷ pasts) there below =
     ap (λ (first : DeviceEnds). first ∷ rest) (ends_same r devices ys a n past (other_device r a text n there other))
     ∙ ap (λ (all : List DeviceEnds). ends_of r (stage_with devices (ys ++ a ∷ [])) (n, past) ∷ all) (all_same r devices ys a text (n + 1) pasts there less)
 
-all_more : (r : RecordView) (devices : List DeviceView) (ys : List ActorView) (a : ActorView) (text : ActorText) (n : ℕ) (pasts : List (List Step)) (i : ℕ) (past : List Step) → slice_get r.actors a.actor ≡ Some text → text.device ≡ n + i → slice_get pasts i ≡ Some past
+all_more : (r : RecordView) (devices : List UdevView) (ys : List ActorView) (a : ActorView) (text : ActorText) (n : ℕ) (pasts : List (List Step)) (i : ℕ) (past : List Step) → slice_get r.actors a.actor ≡ Some text → text.device ≡ n + i → slice_get pasts i ≡ Some past
     → slice_set (map (ends_of r (stage_with devices ys)) (enumerate_from n pasts)) i (with_end (ends_of r (stage_with devices ys) (text.device, past)) (ended_of a)) ≡ map (ends_of r (stage_with devices (ys ++ a ∷ []))) (enumerate_from n pasts)
 all_more r devices ys a text n [] i past there place found = absurd cc
 all_more r devices ys a text n (past ∷ pasts) zero past' there place found =
@@ -94,31 +95,31 @@ all_more r devices ys a text n (past ∷ pasts) (suc i) past' there place found 
 
 -- the actor that comes next, and its device
 
-pub record IsNext (r : RecordView) (devices : List DeviceView) (a : ActorView) : Type 0 where
+pub record IsNext (r : RecordView) (devices : List UdevView) (a : ActorView) : Type 0 where
   pub text : ActorText
   pub is_text : slice_get r.actors a.actor ≡ Some text
-  pub device : DeviceView
+  pub device : UdevView
   pub is_device : slice_get devices text.device ≡ Some device
 
-pub is_next : (r : RecordView) (devices : List DeviceView) (actors : List ActorView) (n : ℕ) (a : ActorView) → IsRecord r → HasDevices r devices → HasActors r actors → (n < length actors) × (a ≡ get_or actors n a) → IsNext r devices a
+pub is_next : (r : RecordView) (devices : List UdevView) (actors : List ActorView) (n : ℕ) (a : ActorView) → IsRecord r → HasDevices r devices → HasActors r actors → (n < length actors) × (a ≡ get_or actors n a) → IsNext r devices a
 is_next r devices actors n a keeps has_devices has_actors turn =
     let found : slice_get actors n ≡ Some a = slice_get_read actors (length actors) n a refl turn.0 turn.1 in
     let has : HasActor r a = (has_actors.each n a found).1 in
     let few : length devices ≡ length r.devices = length-devices r devices has_devices in
-    let device : (d : DeviceView) × (slice_get devices has.text.device ≡ Some d) = some_item devices has.text.device (omega (arith, keeps.devices a.actor has.text has.is_text, few)) in
+    let device : (d : UdevView) × (slice_get devices has.text.device ≡ Some d) = some_item devices has.text.device (omega (arith, keeps.devices a.actor has.text has.is_text, few)) in
     record { text = has.text; is_text = has.is_text; device = device.0; is_device = device.1 }
 
-length-all_ends : (r : RecordView) (devices : List DeviceView) (ys : List ActorView) → length (all_ends r (stage_with devices ys)) ≡ length devices
+length-all_ends : (r : RecordView) (devices : List UdevView) (ys : List ActorView) → length (all_ends r (stage_with devices ys)) ≡ length devices
 length-all_ends r devices ys =
-    length-map (enumerate_from 0 (pasts_of devices)) (ends_of r (stage_with devices ys)) ∙ length-enumerate_from 0 (pasts_of devices) ∙ length-map devices (λ (d : DeviceView). d.past)
+    length-map (enumerate_from 0 (pasts_of devices)) (ends_of r (stage_with devices ys)) ∙ length-enumerate_from 0 (pasts_of devices) ∙ length-map devices (λ (d : UdevView). steps_in d.kept)
 
-pub one_more_end : (r : RecordView) (devices : List DeviceView) (ys : List ActorView) (a : ActorView) (old new : List DeviceEnds) (text : ActorText) → IsNext r devices a → slice_get r.actors a.actor ≡ Some text → old ≡ all_ends r (stage_with devices ys) → HasEndMore old new text.device (ended_of a) → new ≡ all_ends r (stage_with devices (ys ++ a ∷ []))
+pub one_more_end : (r : RecordView) (devices : List UdevView) (ys : List ActorView) (a : ActorView) (old new : List DeviceEnds) (text : ActorText) → IsNext r devices a → slice_get r.actors a.actor ≡ Some text → old ≡ all_ends r (stage_with devices ys) → HasEndMore old new text.device (ended_of a) → new ≡ all_ends r (stage_with devices (ys ++ a ∷ []))
 one_more_end r devices ys a old new text next there before more =
     let same : next.text ≡ text = same_item r.actors a.actor next.text text next.is_text there in
     let s : Stage = stage_with devices ys in
-    let past : List Step = next.device.past in
+    let past : List Step = steps_in next.device.kept in
     let found : slice_get (pasts_of devices) text.device ≡ Some past =
-    slice_get-map (λ (d : DeviceView). d.past) devices text.device ∙ ap (λ (t : ActorText). option_map (λ (d : DeviceView). d.past) (slice_get devices t.device)) (sym same) ∙ ap (option_map (λ (d : DeviceView). d.past)) next.is_device in
+    slice_get-map (λ (d : UdevView). steps_in d.kept) devices text.device ∙ ap (λ (t : ActorText). option_map (λ (d : UdevView). steps_in d.kept) (slice_get devices t.device)) (sym same) ∙ ap (option_map (λ (d : UdevView). steps_in d.kept)) next.is_device in
     let numbered : slice_get (enumerate_from 0 (pasts_of devices)) text.device ≡ Some (0 + text.device, past) =
     slice_get-numbered 0 (pasts_of devices) text.device ∙ ap (option_map (λ (p : List Step). (0 + text.device, p))) found in
     let zero_more : text.device ≡ 0 + text.device = omega arith in
@@ -131,10 +132,10 @@ one_more_end r devices ys a old new text next there before more =
     ∙ ap (λ (gathered : List DeviceEnds). slice_set gathered text.device (with_end (ends_of r s (text.device, past)) (ended_of a))) before
     ∙ all_more r devices ys a text 0 (pasts_of devices) text.device past there zero_more found
 
-pub next-actor : (r : RecordView) (devices : List DeviceView) (a : ActorView) → IsNext r devices a → a.actor < length r.actors
+pub next-actor : (r : RecordView) (devices : List UdevView) (a : ActorView) → IsNext r devices a → a.actor < length r.actors
 next-actor r devices a next = slice_get_within r.actors a.actor next.text next.is_text
 
-pub next-device : (r : RecordView) (devices : List DeviceView) (ys : List ActorView) (a : ActorView) (gathered : List DeviceEnds) (text : ActorText) → IsNext r devices a → slice_get r.actors a.actor ≡ Some text → gathered ≡ all_ends r (stage_with devices ys) → text.device < length gathered
+pub next-device : (r : RecordView) (devices : List UdevView) (ys : List ActorView) (a : ActorView) (gathered : List DeviceEnds) (text : ActorText) → IsNext r devices a → slice_get r.actors a.actor ≡ Some text → gathered ≡ all_ends r (stage_with devices ys) → text.device < length gathered
 next-device r devices ys a gathered text next there before =
     let same : next.text ≡ text = same_item r.actors a.actor next.text text next.is_text there in
     omega (arith, slice_get_within devices next.text.device next.device next.is_device, ap (λ (t : ActorText). t.device) same, ap length before, length-all_ends r devices ys)
@@ -147,6 +148,7 @@ ended-number Joy a = refl
 ended-number Source a = refl
 ended-number Client a = refl
 ended-number Tap a = refl
+ended-number Owner a = refl
 
 -- what came of the devices
 pub runs_gathered : (r : RecordView) (s : Stage) → map run_with (all_ends r s) ≡ runs_of r s

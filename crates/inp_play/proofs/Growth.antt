@@ -10,10 +10,11 @@ use Rattle.inp_actors.specs.declared.command.Command.{Command}
 use Rattle.inp_actors.specs.declared.command.Command.TheVariants.{Event, Open, Follow}
 use Rattle.inp_actors.specs.declared.line.Line.{Line}
 use Rattle.inp_actors.specs.declared.role.Role.{Role}
-use Rattle.inp_actors.specs.declared.role.Role.TheVariants.{Source, Client, Tap, Joy}
+use Rattle.inp_actors.specs.declared.role.Role.TheVariants.{Source, Client, Tap, Joy, Owner}
+use Rattle.inp_actors.specs.Command.{feedback_room}
 use Rattle.inp_actors.specs.Record.{RecordView}
 use Rattle.inp_reader.specs.declared.reader.TheConstants.{NO_CLIENT}
-use Rattle.inp_reader.specs.Talk.{Talk, EndsWith}
+use Rattle.inp_reader.specs.Talk.{Talk, finish, EndsWith}
 use Rattle.inp_script.specs.declared.stop.Stop.{Stop}
 use Rattle.inp_script.specs.Doing.{command_talk, unless_stopped, line_talk}
 use Rattle.inp_script.specs.Job.{Job, ActorView}
@@ -26,55 +27,67 @@ use Rattle.inp_order.proofs.LineDone.{IsLineDone, line-done}
 
 -- Commands
 
--- Whatever actor does it, a command adds at most so many steps, and stops no job while no step is refused as full.
+-- A command is no feedback call. Whatever actor does it, it adds at most so many steps, and stops no job while no step is refused as full.
 pub record IsBound (d : Description) (command : Command) (k : ℕ) : Type 0 where
+  pub no_feedback : feedback_room command ≡ None
   pub grows : (role : Role) (streams : List (List Stamped)) (n : ℕ) (j : Job) (past : List Step) → length (talk_with d past (command_talk role d streams None n command j)).1 ≤ length past + k
   pub stays : (role : Role) (streams : List (List Stamped)) (n : ℕ) (j : Job) → j.stop ≡ None → Stays NoStop (command_talk role d streams None n command j)
 
+-- an owner makes no step
+owner-length : (d : Description) (k : ℕ) (j : Job) (past : List Step) → length (talk_with d past (finish (Some j))).1 ≤ length past + k
+unfolding talk_with
+owner-length d k j past = omega arith
+
 pub event-bound : (d : Description) (moment kind code : ℕ) (value : _) → IsBound d (Event moment kind code value) 1
-event-bound d moment kind code value = record { grows = by_length; stays = by_stop }
+event-bound d moment kind code value = record { no_feedback = refl; grows = by_length; stays = by_stop }
   where
     by_length : (role : Role) (streams : List (List Stamped)) (n : ℕ) (j : Job) (past : List Step) → length (talk_with d past (command_talk role d streams None n (Event moment kind code value) j)).1 ≤ length past + 1
     by_length Source streams n j past = call-length d (step_of NO_CLIENT (Event moment kind code value)) j past
     by_length Client streams n j past = call-length d (step_of j.reading.client (Event moment kind code value)) j past
     by_length Tap streams n j past = tap_call-length d (step_of j.reading.client (Event moment kind code value)) j past
     by_length Joy streams n j past = call-length d (step_of j.reading.client (Event moment kind code value)) j past
+    by_length Owner streams n j past = owner-length d 1 j past
 
     by_stop : (role : Role) (streams : List (List Stamped)) (n : ℕ) (j : Job) → j.stop ≡ None → Stays NoStop (command_talk role d streams None n (Event moment kind code value) j)
     by_stop Source streams n j h = stays-call (step_of NO_CLIENT (Event moment kind code value)) j h
     by_stop Client streams n j h = stays-call (step_of j.reading.client (Event moment kind code value)) j h
     by_stop Tap streams n j h = stays-tap_call (step_of j.reading.client (Event moment kind code value)) j h
     by_stop Joy streams n j h = stays-call (step_of j.reading.client (Event moment kind code value)) j h
+    by_stop Owner streams n j h = h
 
 pub open-bound : (d : Description) (most : ℕ) → HasQueries d most → IsBound d Open (suc most)
-open-bound d most has = record { grows = by_length; stays = by_stop }
+open-bound d most has = record { no_feedback = refl; grows = by_length; stays = by_stop }
   where
     by_length : (role : Role) (streams : List (List Stamped)) (n : ℕ) (j : Job) (past : List Step) → length (talk_with d past (command_talk role d streams None n Open j)).1 ≤ length past + suc most
     by_length Source streams n j past = omega (arith, call-length d (step_of NO_CLIENT Open) j past)
     by_length Client streams n j past = start-length d most j past has
     by_length Tap streams n j past = omega (arith, tap_call-length d (step_of j.reading.client Open) j past)
     by_length Joy streams n j past = joy_start-length d most j past has
+    by_length Owner streams n j past = owner-length d (suc most) j past
 
     by_stop : (role : Role) (streams : List (List Stamped)) (n : ℕ) (j : Job) → j.stop ≡ None → Stays NoStop (command_talk role d streams None n Open j)
     by_stop Source streams n j h = stays-call (step_of NO_CLIENT Open) j h
     by_stop Client streams n j h = stays-start d j
     by_stop Tap streams n j h = stays-tap_call (step_of j.reading.client Open) j h
     by_stop Joy streams n j h = stays-joy_start d j
+    by_stop Owner streams n j h = h
 
 pub follow-bound : (d : Description) (most reads : ℕ) → HasQueries d most → ring d ≤ 64 * reads → IsBound d Follow (reads + suc most)
-follow-bound d most reads has fits = record { grows = by_length; stays = by_stop }
+follow-bound d most reads has fits = record { no_feedback = refl; grows = by_length; stays = by_stop }
   where
     by_length : (role : Role) (streams : List (List Stamped)) (n : ℕ) (j : Job) (past : List Step) → length (talk_with d past (command_talk role d streams None n Follow j)).1 ≤ length past + (reads + suc most)
     by_length Source streams n j past = omega (arith, call-length d (step_of NO_CLIENT Follow) j past)
     by_length Client streams n j past = follow-length d most reads n j past has fits
     by_length Tap streams n j past = omega (arith, tap_call-length d (step_of j.reading.client Follow) j past)
     by_length Joy streams n j past = omega (arith, call-length d (step_of j.reading.client Follow) j past)
+    by_length Owner streams n j past = owner-length d (reads + suc most) j past
 
     by_stop : (role : Role) (streams : List (List Stamped)) (n : ℕ) (j : Job) → j.stop ≡ None → Stays NoStop (command_talk role d streams None n Follow j)
     by_stop Source streams n j h = stays-call (step_of NO_CLIENT Follow) j h
     by_stop Client streams n j h = stays-follow d n j h
     by_stop Tap streams n j h = stays-tap_call (step_of j.reading.client Follow) j h
     by_stop Joy streams n j h = stays-call (step_of j.reading.client Follow) j h
+    by_stop Owner streams n j h = h
 
 -- Lines
 
@@ -105,7 +118,7 @@ line-talk role e d streams rounds command j new past after calls same none ends 
     ∙ exact-talk d past after (line_talk role d streams None rounds command j) calls (Some new) there exactly
 
 line-short : (r : RecordView) (d : Description) (rounds m k : ℕ) (stage now : Stage) (line : Line) → IsShort d m stage → IsBound d line.command k → m + k < d.log_limit → after_line r rounds stage line ≡ Some now → IsShort d (m + k) now
-line-short r d rounds m k stage now line s bound room h = of_line (line-done r rounds stage now line h)
+line-short r d rounds m k stage now line s bound room h = of_line (line-done r rounds stage now line (λ room text a past is. absurd (let both : None ≡ Some room = sym bound.no_feedback ∙ is in cc)) h)
   where
     of_line : IsLineDone r rounds stage now line → IsShort d (m + k) now
     of_line u =
@@ -121,14 +134,14 @@ line-short r d rounds m k stage now line s bound room h = of_line (line-done r r
         let stopless : u.job.stop ≡ None = subst (λ (t : Option Job × List Step). NoStop t.0) did stays in
         record {
           pasts = λ i past is. of_past i past within (set_either stage.pasts u.text.device i u.after past (ap (λ (ps : List (List Step)). slice_get ps i) (sym u.pasts) ∙ is));
-          actors = λ i b is. of_actor i b u (kept.0, stopless) (set_either stage.actors a.actor i (record a { job = u.job }) b (ap (λ (xs : List ActorView). slice_get xs i) (sym u.actors) ∙ is));
+          actors = λ i b is. of_actor i b u (kept.0, stopless) (set_either stage.actors a.actor i (record a { job = u.job; owning = u.owning }) b (ap (λ (xs : List ActorView). slice_get xs i) (sym u.actors) ∙ is));
         }
       where
         of_past : (i : ℕ) (past : List Step) → length u.after ≤ m + k → (past ≡ u.after) ⊎ (slice_get stage.pasts i ≡ Some past) → length past ≤ m + k
         of_past i past within (inl new) = omega (arith, within, ap length new)
         of_past i past within (inr old) = omega (arith, s.pasts i past old)
 
-        of_actor : (i : ℕ) (b : ActorView) (v : IsLineDone r rounds stage now line) → (v.actor.description ≡ d) × (v.job.stop ≡ None) → (b ≡ record v.actor { job = v.job }) ⊎ (slice_get stage.actors i ≡ Some b) → (b.description ≡ d) × (b.job.stop ≡ None)
+        of_actor : (i : ℕ) (b : ActorView) (v : IsLineDone r rounds stage now line) → (v.actor.description ≡ d) × (v.job.stop ≡ None) → (b ≡ record v.actor { job = v.job; owning = v.owning }) ⊎ (slice_get stage.actors i ≡ Some b) → (b.description ≡ d) × (b.job.stop ≡ None)
         of_actor i b v fine (inl new) = subst (λ (x : ActorView). (x.description ≡ d) × (x.job.stop ≡ None)) (sym new) fine
         of_actor i b v fine (inr old) = s.actors i b old
 

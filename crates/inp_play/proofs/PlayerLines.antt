@@ -1,22 +1,40 @@
 -- A line that an actor does on its device is one of a play.
-use Rattle.std.proofs.Common.{◌≡◌, ℕ, zero, suc, ◌<◌, ◌⊎◌, inl, inr, true, List, [], ◌∷◌, length, Option, Some, None, refl, sym, ap, subst, ◌∙◌, arith, length-set, get_or}
+use Rattle.std.proofs.Common.{◌≡◌, ℕ, zero, suc, ◌<◌, ◌⊎◌, inl, inr, Bool, true, false, if◌then◌else◌, min, List, [], ◌∷◌, length, Option, Some, None, refl, sym, ap, subst, ◌∙◌, arith, length-set, get_or}
 use Rattle.std.specs.Prelude.{map, slice_get, slice_set, option_map, option_and_then}
 use Rattle.std.proofs.lemmas.List.{map-set, length-map}
 use Rattle.std.proofs.lemmas.Option.{slice_get-map, slice_get_read}
+use Rattle.inp_model.specs.declared.event.Event.{Event}
 use Rattle.inp_model.specs.declared.step.Step.{Step}
 use Rattle.inp_model.specs.Description.{Description}
-use Rattle.inp_model.specs.DeviceView.{DeviceView, evdev_view}
 use Rattle.inp_actors.specs.declared.actor_text.ActorText.{ActorText}
 use Rattle.inp_actors.specs.declared.device_text.DeviceText.{DeviceText}
 use Rattle.inp_actors.specs.declared.line.Line.{Line}
-use Rattle.inp_actors.specs.Command.{is_command_of}
+use Rattle.inp_actors.specs.declared.role.Role.TheVariants.{Owner}
+use Rattle.inp_actors.specs.Command.{is_command_of, feedback_room}
 use Rattle.inp_actors.specs.Record.{RecordView, IsRecord}
+use Rattle.inp_feedback.specs.declared.u_entry.UEntry.{UEntry}
+use Rattle.inp_feedback.specs.declared.u_entry.UEntry.TheVariants.{Feedback}
+use Rattle.inp_feedback.specs.declared.feedback_call.FeedbackCall.{FeedbackCall}
+use Rattle.inp_feedback.specs.declared.fed.Fed.{Fed}
+use Rattle.inp_feedback.specs.declared.fed.Fed.TheVariants.{Took, Full}
+use Rattle.inp_feedback.specs.declared.fed.TheConstants.{FEEDBACK_MAX}
+use Rattle.inp_feedback.specs.UEntry.{steps_in}
+use Rattle.inp_feedback.specs.Feedback.{is_full_of_feedback, taken_by_feedback, fed, kept_after_feedback}
+use Rattle.inp_feedback.specs.Kept.{calls_in}
+use Rattle.inp_feedback.proofs.Few.{room-enough, room-enough-taken, room-enough-kept}
+use Rattle.inp_feedback.proofs.Woven.{kept-woven}
+use Rattle.inp_uinput.specs.UdevView.{UdevView, device_of, owned_view}
+use Rattle.inp_uinput.specs.OwnedFeeding.{IsFeedbackOf}
+use Rattle.inp_uinput.proofs.Tied.{untied-calls, tied-calls}
 use Rattle.inp_reader.specs.Talk.{Talk}
 use Rattle.inp_script.specs.Doing.{DoesLine, HasActor, IsLineOf, line_talk}
+use Rattle.inp_script.specs.declared.stop.Stop.{Stop}
 use Rattle.inp_script.specs.Job.{Job, ActorView}
-use Rattle.inp_order.specs.Play.{Stage, talk_with, after_talk, after_line, after_line_of}
-use Rattle.inp_play.specs.Player.{stage_with, pasts_of, HasDevices, HasActors}
+use Rattle.inp_script.specs.Owner.{Owning, after_feedback, IsFed, FeedsUnless, FeedsLine}
+use Rattle.inp_order.specs.Play.{Stage, talk_with, calls_after, after_talk, unless_owner_stopped, by_command, after_line, after_line_of}
+use Rattle.inp_play.specs.Player.{stage_with, pasts_of, calls_of, HasDevices, HasActors}
 use Rattle.inp_order.proofs.Alone.{device-alone}
+use Rattle.inp_order.proofs.LineDone.{feedback-of}
 use Rattle.inp_runs.proofs.Memory.{gives_up-line}
 
 -- Lists
@@ -48,7 +66,7 @@ set_same (y ∷ xs) (suc i) x h = ap (λ (zs : List _). y ∷ zs) (set_same xs i
 -- What a line finds
 
 -- the line of a number, its actor's text, the actor, and its device
-pub record IsFound (r : RecordView) (devices : List DeviceView) (actors : List ActorView) (number : ℕ) (line : Line) (text : ActorText) (a : ActorView) (device : DeviceView) : Type 0 where
+pub record IsFound (r : RecordView) (devices : List UdevView) (actors : List ActorView) (number : ℕ) (line : Line) (text : ActorText) (a : ActorView) (device : UdevView) : Type 0 where
   pub has_devices : HasDevices r devices
   pub has_actors : HasActors r actors
   pub is_line : slice_get r.lines number ≡ Some line
@@ -56,10 +74,10 @@ pub record IsFound (r : RecordView) (devices : List DeviceView) (actors : List A
   pub is_actor : slice_get actors line.actor ≡ Some a
   pub is_device : slice_get devices text.device ≡ Some device
 
-pub length-devices : (r : RecordView) (devices : List DeviceView) → HasDevices r devices → length devices ≡ length r.devices
-length-devices r devices has = sym (length-map devices (λ (d : DeviceView). d.description)) ∙ ap length has ∙ length-map r.devices (λ (t : DeviceText). t.caps)
+pub length-devices : (r : RecordView) (devices : List UdevView) → HasDevices r devices → length devices ≡ length r.devices
+length-devices r devices has = sym (length-map devices (λ (d : UdevView). d.description)) ∙ ap length has ∙ length-map r.devices (λ (t : DeviceText). t.caps)
 
-pub found : (r : RecordView) (devices : List DeviceView) (actors : List ActorView) (number : ℕ) (line : Line) (text : ActorText) (a : ActorView) (device : DeviceView) → IsRecord r → HasDevices r devices → HasActors r actors → slice_get r.lines number ≡ Some line → slice_get r.actors line.actor ≡ Some text → a ≡ get_or actors line.actor a → device ≡ get_or devices text.device device
+pub found : (r : RecordView) (devices : List UdevView) (actors : List ActorView) (number : ℕ) (line : Line) (text : ActorText) (a : ActorView) (device : UdevView) → IsRecord r → HasDevices r devices → HasActors r actors → slice_get r.lines number ≡ Some line → slice_get r.actors line.actor ≡ Some text → a ≡ get_or actors line.actor a → device ≡ get_or devices text.device device
     → IsFound r devices actors number line text a device
 found r devices actors number line text a device keeps has_devices has_actors is_line is_text here there =
     let few : length devices ≡ length r.devices = length-devices r devices has_devices in
@@ -72,24 +90,24 @@ found r devices actors number line text a device keeps has_devices has_actors is
       is_device = slice_get_read devices (length r.devices) text.device device (sym few) (keeps.devices line.actor text is_text) there;
     }
 
-pub found-line : (r : RecordView) (devices : List DeviceView) (actors : List ActorView) (number : ℕ) (line : Line) (text : ActorText) (a : ActorView) (device : DeviceView) → IsFound r devices actors number line text a device → IsLineOf r number a.actor
+pub found-line : (r : RecordView) (devices : List UdevView) (actors : List ActorView) (number : ℕ) (line : Line) (text : ActorText) (a : ActorView) (device : UdevView) → IsFound r devices actors number line text a device → IsLineOf r number a.actor
 found-line r devices actors number line text a device f = record { line = line; is_line = f.is_line; is_actor = sym (f.has_actors.each line.actor a f.is_actor).0 }
 
 -- the actor's own text is that one
-own_text : (r : RecordView) (devices : List DeviceView) (actors : List ActorView) (number : ℕ) (line : Line) (text : ActorText) (a : ActorView) (device : DeviceView) → (f : IsFound r devices actors number line text a device) → (f.has_actors.each line.actor a f.is_actor).1.text ≡ text
+own_text : (r : RecordView) (devices : List UdevView) (actors : List ActorView) (number : ℕ) (line : Line) (text : ActorText) (a : ActorView) (device : UdevView) → (f : IsFound r devices actors number line text a device) → (f.has_actors.each line.actor a f.is_actor).1.text ≡ text
 own_text r devices actors number line text a device f =
     let e = f.has_actors.each line.actor a f.is_actor in
     same_item r.actors line.actor e.1.text text (ap (slice_get r.actors) (sym e.0) ∙ e.1.is_text) f.is_text
 
-pub found-description : (r : RecordView) (devices : List DeviceView) (actors : List ActorView) (number : ℕ) (line : Line) (text : ActorText) (a : ActorView) (device : DeviceView) → IsFound r devices actors number line text a device → device.description ≡ a.description
+pub found-description : (r : RecordView) (devices : List UdevView) (actors : List ActorView) (number : ℕ) (line : Line) (text : ActorText) (a : ActorView) (device : UdevView) → IsFound r devices actors number line text a device → device.description ≡ a.description
 found-description r devices actors number line text a device f =
     let e = f.has_actors.each line.actor a f.is_actor in
     let there : slice_get r.devices text.device ≡ Some e.1.device = ap (λ (t : ActorText). slice_get r.devices t.device) (sym (own_text r devices actors number line text a device f)) ∙ e.1.is_device in
-    let mine : slice_get (map (λ (d : DeviceView). d.description) devices) text.device ≡ Some device.description = slice_get-map (λ (d : DeviceView). d.description) devices text.device ∙ ap (option_map (λ (d : DeviceView). d.description)) f.is_device in
+    let mine : slice_get (map (λ (d : UdevView). d.description) devices) text.device ≡ Some device.description = slice_get-map (λ (d : UdevView). d.description) devices text.device ∙ ap (option_map (λ (d : UdevView). d.description)) f.is_device in
     let its : slice_get (map (λ (t : DeviceText). t.caps) r.devices) text.device ≡ Some e.1.device.caps = slice_get-map (λ (t : DeviceText). t.caps) r.devices text.device ∙ ap (option_map (λ (t : DeviceText). t.caps)) there in
     some_one device.description e.1.device.caps (sym mine ∙ ap (λ (ds : List Description). slice_get ds text.device) f.has_devices ∙ its) ∙ e.1.description
 
-found-role : (r : RecordView) (devices : List DeviceView) (actors : List ActorView) (number : ℕ) (line : Line) (text : ActorText) (a : ActorView) (device : DeviceView) → IsRecord r → IsFound r devices actors number line text a device → is_command_of a.role line.command ≡ true
+found-role : (r : RecordView) (devices : List UdevView) (actors : List ActorView) (number : ℕ) (line : Line) (text : ActorText) (a : ActorView) (device : UdevView) → IsRecord r → IsFound r devices actors number line text a device → is_command_of a.role line.command ≡ true
 found-role r devices actors number line text a device keeps f =
     let e = f.has_actors.each line.actor a f.is_actor in
     let role : text.role ≡ a.role = ap (λ (t : ActorText). t.role) (sym (own_text r devices actors number line text a device f)) ∙ e.1.role in
@@ -97,12 +115,18 @@ found-role r devices actors number line text a device keeps f =
 
 -- A line that was done
 
-stage_after : (r : RecordView) (n : ℕ) (devices : List DeviceView) (actors : List ActorView) (number : ℕ) (line : Line) (text : ActorText) (a : ActorView) (device : DeviceView) → IsFound r devices actors number line text a device
-    → after_line r n (stage_with devices actors) line ≡ after_line_of r n (stage_with devices actors) line text.device a device.past
+past_at : (r : RecordView) (devices : List UdevView) (actors : List ActorView) (number : ℕ) (line : Line) (text : ActorText) (a : ActorView) (device : UdevView) → IsFound r devices actors number line text a device → slice_get (pasts_of devices) text.device ≡ Some (steps_in device.kept)
+past_at r devices actors number line text a device f = slice_get-map (λ (d : UdevView). steps_in d.kept) devices text.device ∙ ap (option_map (λ (d : UdevView). steps_in d.kept)) f.is_device
+
+calls_at : (r : RecordView) (devices : List UdevView) (actors : List ActorView) (number : ℕ) (line : Line) (text : ActorText) (a : ActorView) (device : UdevView) → IsFound r devices actors number line text a device → slice_get (calls_of devices) text.device ≡ Some (calls_in device.kept)
+calls_at r devices actors number line text a device f = slice_get-map (λ (d : UdevView). calls_in d.kept) devices text.device ∙ ap (option_map (λ (d : UdevView). calls_in d.kept)) f.is_device
+
+stage_after : (r : RecordView) (n : ℕ) (devices : List UdevView) (actors : List ActorView) (number : ℕ) (line : Line) (text : ActorText) (a : ActorView) (device : UdevView) → IsFound r devices actors number line text a device
+    → after_line r n (stage_with devices actors) line ≡ after_line_of r n (stage_with devices actors) line text.device a (steps_in device.kept)
 unfolding after_line
 stage_after r n devices actors number line text a device f =
     let s : Stage = stage_with devices actors in
-    let there : slice_get (pasts_of devices) text.device ≡ Some device.past = slice_get-map (λ (d : DeviceView). d.past) devices text.device ∙ ap (option_map (λ (d : DeviceView). d.past)) f.is_device in
+    let there : slice_get (pasts_of devices) text.device ≡ Some (steps_in device.kept) = past_at r devices actors number line text a device f in
     let by_past : ActorText → ActorView → List Step → Option Stage = λ t b past. after_line_of r n s line t.device b past in
     let by_actor : ActorText → ActorView → Option Stage = λ t b. option_and_then (by_past t b) (slice_get s.pasts t.device) in
     let by_text : ActorText → Option Stage = λ t. option_and_then (by_actor t) (slice_get s.actors line.actor) in
@@ -110,48 +134,163 @@ stage_after r n devices actors number line text a device f =
     ∙ ap (option_and_then (by_actor text)) f.is_actor
     ∙ ap (option_and_then (by_past text a)) there
 
+-- a device whose steps, or whose feedback calls, are as before
+pasts_same : (devices : List UdevView) (i : ℕ) (device after : UdevView) → slice_get devices i ≡ Some device → steps_in after.kept ≡ steps_in device.kept → pasts_of (slice_set devices i after) ≡ pasts_of devices
+pasts_same devices i device after there same =
+    let f : UdevView → List Step = λ d. steps_in d.kept in
+    map-set f devices i after
+    ∙ ap (slice_set (map f devices) i) same
+    ∙ set_same (map f devices) i (f device) (slice_get-map f devices i ∙ ap (option_map f) there)
+
+calls_same : (devices : List UdevView) (i : ℕ) (device after : UdevView) → slice_get devices i ≡ Some device → calls_in after.kept ≡ calls_in device.kept → calls_of (slice_set devices i after) ≡ calls_of devices
+calls_same devices i device after there same =
+    let f : UdevView → List FeedbackCall = λ d. calls_in d.kept in
+    map-set f devices i after
+    ∙ ap (slice_set (map f devices) i) same
+    ∙ set_same (map f devices) i (f device) (slice_get-map f devices i ∙ ap (option_map f) there)
+
+-- A line of calls of an evdev
+
 talk_at : (r : RecordView) (n : ℕ) (line : Line) (a : ActorView) → Talk (Option Job)
 talk_at r n line a = line_talk a.role a.description r.streams None n line.command a.job
 
-pub line_does : (r : RecordView) (devices : List DeviceView) (actors : List ActorView) (number : ℕ) (line : Line) (text : ActorText) (a : ActorView) (device after : DeviceView) (new : Job) → IsRecord r → IsFound r devices actors number line text a device
-    → (does : DoesLine (evdev_view device) (evdev_view after) a r None number new)
+pub line_does : (r : RecordView) (devices : List UdevView) (actors : List ActorView) (number : ℕ) (line : Line) (text : ActorText) (a : ActorView) (device after : UdevView) (new : Job) → IsRecord r → IsFound r devices actors number line text a device → feedback_room line.command ≡ None
+    → (does : DoesLine (owned_view device) (owned_view after) a r None number new)
     → after_line r does.rounds (stage_with devices actors) line ≡ Some (stage_with (slice_set devices text.device after) (slice_set actors line.actor (record a { job = new })))
 unfolding talk_at
-line_does r devices actors number line text a device after new keeps f does =
+line_does r devices actors number line text a device after new keeps f no_room does =
     let n : ℕ = does.rounds in
     let s : Stage = stage_with devices actors in
+    let past : List Step = steps_in device.kept in
+    let now : List Step = steps_in after.kept in
     let same : does.line ≡ line = same_item r.lines number does.line line does.is_line f.is_line in
     let role : is_command_of a.role does.line.command ≡ true = ap (λ (l : Line). is_command_of a.role l.command) same ∙ found-role r devices actors number line text a device keeps f in
-    let done : talk_with device.description device.past (talk_at r n does.line a) ≡ (Some new, after.past) =
-    device-alone device after (talk_at r n does.line a) does.holds.calls new (gives_up-line a.role a.description r.streams None n does.line.command a.job role) does.holds.talk_ends does.holds.are_calls in
-    let talk : talk_with a.description device.past (talk_at r n line a) ≡ (Some new, after.past) =
-    ap (λ (d : Description). talk_with d device.past (talk_at r n line a)) (sym (found-description r devices actors number line text a device f))
-    ∙ ap (λ (l : Line). talk_with device.description device.past (talk_at r n l a)) (sym same)
+    let done : talk_with device.description past (talk_at r n does.line a) ≡ (Some new, now) =
+    device-alone (device_of device) (device_of after) (talk_at r n does.line a) does.holds.calls new (gives_up-line a.role a.description r.streams None n does.line.command a.job role) does.holds.talk_ends
+    (untied-calls device after does.holds.calls does.holds.are_calls) in
+    let talk : talk_with a.description past (talk_at r n line a) ≡ (Some new, now) =
+    ap (λ (d : Description). talk_with d past (talk_at r n line a)) (sym (found-description r devices actors number line text a device f))
+    ∙ ap (λ (l : Line). talk_with device.description past (talk_at r n l a)) (sym same)
     ∙ done in
     let place : a.actor ≡ line.actor = (f.has_actors.each line.actor a f.is_actor).0 in
+    let calls : calls_of (slice_set devices text.device after) ≡ s.calls = calls_same devices text.device device after f.is_device (tied-calls device after does.holds.calls does.holds.are_calls) in
     stage_after r n devices actors number line text a device f
+    ∙ ap (λ (o : Option ℕ). by_command o s text.device a past (after_talk s text.device a (talk_with a.description past (talk_at r n line a)))) no_room
     ∙ ap (after_talk s text.device a) talk
-    ∙ ap (λ (i : ℕ). Some (record { pasts = slice_set s.pasts text.device after.past; actors = slice_set s.actors i (record a { job = new }) })) place
-    ∙ ap (λ (pasts : List (List Step)). Some (record { pasts = pasts; actors = slice_set s.actors line.actor (record a { job = new }) })) (sym (map-set (λ (d : DeviceView). d.past) devices text.device after))
+    ∙ ap (λ (i : ℕ). Some (record { pasts = slice_set s.pasts text.device now; calls = s.calls; actors = slice_set s.actors i (record a { job = new }) })) place
+    ∙ ap (λ (pasts : List (List Step)). Some (record { pasts = pasts; calls = s.calls; actors = slice_set s.actors line.actor (record a { job = new }) })) (sym (map-set (λ (d : UdevView). steps_in d.kept) devices text.device after))
+    ∙ ap (λ (cs : List (List FeedbackCall)). Some (record { pasts = pasts_of (slice_set devices text.device after); calls = cs; actors = slice_set s.actors line.actor (record a { job = new }) })) (sym calls)
+
+-- A line of a feedback call
+
+-- what it leaves of a device is what the device keeps of its steps, and of its calls
+steps_kept : (d : Description) (kept : List UEntry) (room : ℕ) → steps_in (kept_after_feedback d kept room) ≡ steps_in kept
+steps_kept d kept room = by_flag (is_full_of_feedback d kept)
+  where
+    count : ℕ
+    count = length (taken_by_feedback d kept room)
+
+    by_flag : (b : Bool) → steps_in (if b then kept else Feedback count ∷ kept) ≡ steps_in kept
+    by_flag true = refl
+    by_flag false = refl
+
+calls_kept : (d : Description) (kept : List UEntry) (room : ℕ) → calls_in (kept_after_feedback d kept room) ≡ calls_after (fed d kept room) (calls_in kept)
+calls_kept d kept room = by_flag (is_full_of_feedback d kept)
+  where
+    at : ℕ
+    at = length (steps_in kept)
+
+    count : ℕ
+    count = length (taken_by_feedback d kept room)
+
+    by_flag : (b : Bool) → calls_in (if b then kept else Feedback count ∷ kept) ≡ calls_after (if b then Full at else Took at count) (calls_in kept)
+    by_flag true = refl
+    by_flag false = refl
+
+-- A feedback call with room for so many events, but for no more than ever wait, is one with room for so many.
+record IsCallOf (device after : UdevView) (count : ℕ) (old new : Owning) : Type 0 where
+  noted : new ≡ after_feedback (fed device.description device.kept count) (taken_by_feedback device.description device.kept count) old
+  kept : after.kept ≡ kept_after_feedback device.description device.kept count
+
+call_of : (device after : UdevView) (count : ℕ) (old new : Owning) → IsFed IsFeedbackOf device after (min count FEEDBACK_MAX) old new → IsCallOf device after count old new
+call_of device after count old new h =
+    let d : Description = device.description in
+    let kept : List UEntry = device.kept in
+    let f : IsFeedbackOf device after (min count FEEDBACK_MAX) h.answer h.events = h.fed in
+    record {
+      noted =
+          h.noted
+          ∙ ap (λ (answer : Fed). after_feedback answer h.events old) (f.answered ∙ room-enough d kept count)
+          ∙ ap (λ (events : List Event). after_feedback (fed d kept count) events old) (f.taken ∙ room-enough-taken d kept count);
+      kept = ap (λ (u : UdevView). u.kept) f.kept ∙ room-enough-kept d kept count;
+    }
+
+-- what a line of an owner leaves, by whether it had stopped
+feed_leaves : (devices : List UdevView) (actors : List ActorView) (i number : ℕ) (a : ActorView) (device after : UdevView) (count : ℕ) (new : Owning) (stop : Option Stop) → slice_get devices i ≡ Some device → slice_get actors number ≡ Some a → a.actor ≡ number → device.description ≡ a.description
+    → FeedsUnless IsFeedbackOf stop device after (min count FEEDBACK_MAX) a.owning new
+    → unless_owner_stopped stop (stage_with devices actors) i a count (steps_in device.kept) (calls_in device.kept) ≡ stage_with (slice_set devices i after) (slice_set actors number (record a { owning = new }))
+feed_leaves devices actors i number a device after count new None is_device is_actor place description h =
+    let s : Stage = stage_with devices actors in
+    let d : Description = device.description in
+    let kept : List UEntry = device.kept in
+    let call : IsCallOf device after count a.owning new = call_of device after count a.owning new h in
+    let steps : steps_in after.kept ≡ steps_in kept = ap steps_in call.kept ∙ steps_kept d kept count in
+    let calls : calls_after (fed d kept count) (calls_in kept) ≡ calls_in after.kept = sym (ap calls_in call.kept ∙ calls_kept d kept count) in
+    let told : Description → List UEntry → Owning = λ e es. after_feedback (fed e es count) (taken_by_feedback e es count) a.owning in
+    let left : Description → List UEntry → Stage =
+    λ e es. record s { calls = slice_set s.calls i (calls_after (fed e es count) (calls_in kept)); actors = slice_set s.actors a.actor (record a { owning = told e es }) } in
+    ap (λ (es : List UEntry). left a.description es) (kept-woven kept)
+    ∙ ap (λ (e : Description). left e kept) (sym description)
+    ∙ ap (λ (cs : List FeedbackCall). record s { calls = slice_set s.calls i cs; actors = slice_set s.actors a.actor (record a { owning = told d kept }) }) calls
+    ∙ ap (λ (w : Owning). record s { calls = slice_set s.calls i (calls_in after.kept); actors = slice_set s.actors a.actor (record a { owning = w }) }) (sym call.noted)
+    ∙ ap (λ (k : ℕ). record s { calls = slice_set s.calls i (calls_in after.kept); actors = slice_set s.actors k (record a { owning = new }) }) place
+    ∙ ap (λ (cs : List (List FeedbackCall)). record s { calls = cs; actors = slice_set s.actors number (record a { owning = new }) }) (sym (map-set (λ (v : UdevView). calls_in v.kept) devices i after))
+    ∙ ap (λ (ps : List (List Step)). record { pasts = ps; calls = calls_of (slice_set devices i after); actors = slice_set s.actors number (record a { owning = new }) }) (sym (pasts_same devices i device after is_device steps))
+feed_leaves devices actors i number a device after count new (Some stop) is_device is_actor place description h =
+    sym (
+    ap (λ (v : UdevView). stage_with (slice_set devices i v) (slice_set actors number (record a { owning = new }))) h.0
+    ∙ ap (λ (w : Owning). stage_with (slice_set devices i device) (slice_set actors number (record a { owning = w }))) h.1
+    ∙ ap (λ (ds : List UdevView). stage_with ds (slice_set actors number a)) (set_same devices i device is_device)
+    ∙ ap (λ (bs : List ActorView). stage_with devices bs) (set_same actors number a is_actor)
+    )
+
+pub feed_does : (r : RecordView) (devices : List UdevView) (actors : List ActorView) (number : ℕ) (line : Line) (text : ActorText) (a : ActorView) (device after : UdevView) (count : ℕ) (new : Owning) → IsFound r devices actors number line text a device → feedback_room line.command ≡ Some count
+    → FeedsLine IsFeedbackOf device after (min count FEEDBACK_MAX) a.owning new
+    → after_line r 0 (stage_with devices actors) line ≡ Some (stage_with (slice_set devices text.device after) (slice_set actors line.actor (record a { owning = new })))
+feed_does r devices actors number line text a device after count new f is_room does =
+    let s : Stage = stage_with devices actors in
+    let past : List Step = steps_in device.kept in
+    let calls : List FeedbackCall = calls_in device.kept in
+    let talked : Option Stage = after_talk s text.device a (talk_with a.description past (line_talk a.role a.description r.streams None 0 line.command a.job)) in
+    stage_after r 0 devices actors number line text a device f
+    ∙ ap (λ (o : Option ℕ). by_command o s text.device a past talked) is_room
+    ∙ ap (option_map (λ (cs : List FeedbackCall). unless_owner_stopped a.owning.stop s text.device a count past cs)) (calls_at r devices actors number line text a device f)
+    ∙ ap (λ (t : Stage). Some t)
+    (feed_leaves devices actors text.device line.actor a device after count new a.owning.stop f.is_device f.is_actor (f.has_actors.each line.actor a f.is_actor).0
+    (found-description r devices actors number line text a device f) does)
+
+-- the actor of such a line is an owner
+pub found-owner : (r : RecordView) (devices : List UdevView) (actors : List ActorView) (number : ℕ) (line : Line) (text : ActorText) (a : ActorView) (device : UdevView) (count : ℕ) → IsRecord r → IsFound r devices actors number line text a device → feedback_room line.command ≡ Some count → a.role ≡ Owner
+found-owner r devices actors number line text a device count keeps f is_room = feedback-of a.role line.command count is_room (found-role r devices actors number line text a device keeps f)
 
 -- The devices and the actors are still the record's
 
-pub devices_stay : (r : RecordView) (devices : List DeviceView) (i : ℕ) (device after : DeviceView) → HasDevices r devices → slice_get devices i ≡ Some device → after.description ≡ device.description → HasDevices r (slice_set devices i after)
+pub devices_stay : (r : RecordView) (devices : List UdevView) (i : ℕ) (device after : UdevView) → HasDevices r devices → slice_get devices i ≡ Some device → after.description ≡ device.description → HasDevices r (slice_set devices i after)
 devices_stay r devices i device after has there same =
-    let f : DeviceView → Description = λ d. d.description in
+    let f : UdevView → Description = λ d. d.description in
     map-set f devices i after
     ∙ ap (slice_set (map f devices) i) same
     ∙ set_same (map f devices) i device.description (slice_get-map f devices i ∙ ap (option_map f) there)
     ∙ has
 
-pub actors_stay : (r : RecordView) (actors : List ActorView) (i : ℕ) (a : ActorView) (new : Job) → HasActors r actors → slice_get actors i ≡ Some a → HasActors r (slice_set actors i (record a { job = new }))
-actors_stay r actors i a new has there = record {
-  count = length-set actors i (record a { job = new }) ∙ has.count;
+pub actors_stay : (r : RecordView) (actors : List ActorView) (i : ℕ) (a : ActorView) (job : Job) (owning : Owning) → HasActors r actors → slice_get actors i ≡ Some a → HasActors r (slice_set actors i (record a { job = job; owning = owning }))
+actors_stay r actors i a job owning has there = record {
+  count = length-set actors i (record a { job = job; owning = owning }) ∙ has.count;
   each = λ k b h.
       let old = has.each i a there in
-      elim (set_or_before actors i k (record a { job = new }) b h) [
+      elim (set_or_before actors i k (record a { job = job; owning = owning }) b h) [
         | inl e ↦
-            let mine : HasActor r (record a { job = new }) = record { text = old.1.text; device = old.1.device; is_text = old.1.is_text; role = old.1.role; is_device = old.1.is_device; description = old.1.description } in
+            let mine : HasActor r (record a { job = job; owning = owning }) = record { text = old.1.text; device = old.1.device; is_text = old.1.is_text; role = old.1.role; is_device = old.1.is_device; description = old.1.description } in
             (ap (λ (c : ActorView). c.actor) e.1 ∙ old.0 ∙ sym e.0, subst (HasActor r) (sym e.1) mine)
         | inr e ↦ has.each k b e
       ];

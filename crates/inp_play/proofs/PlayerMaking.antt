@@ -7,15 +7,17 @@ use Rattle.std.proofs.lemmas.List.FromFn.{length-enumerate_from}
 use Rattle.std.proofs.lemmas.Option.{slice_get-map, slice_get_within, get_or_from_slice_get}
 use Rattle.inp_model.specs.declared.step.Step.{Step}
 use Rattle.inp_model.specs.Description.{Description}
-use Rattle.inp_model.specs.DeviceView.{DeviceView}
 use Rattle.inp_caps.specs.Builder.{syn_alone}
 use Rattle.inp_actors.specs.declared.actor_text.ActorText.{ActorText}
 use Rattle.inp_actors.specs.declared.device_text.DeviceText.{DeviceText}
 use Rattle.inp_actors.specs.Record.{RecordView, IsRecord}
+use Rattle.inp_feedback.specs.declared.feedback_call.FeedbackCall.{FeedbackCall}
 use Rattle.inp_script.specs.Doing.{HasActor}
 use Rattle.inp_script.specs.Job.{ActorView, first_job}
+use Rattle.inp_script.specs.Owner.{first_owning}
+use Rattle.inp_uinput.specs.UdevView.{UdevView}
 use Rattle.inp_order.specs.Play.{description_at, first_actor, first_stage}
-use Rattle.inp_play.specs.Player.{pasts_of, stage_with, first_device, first_actors, HasDevices, HasActors}
+use Rattle.inp_play.specs.Player.{pasts_of, calls_of, stage_with, first_device, first_actors, HasDevices, HasActors}
 use Rattle.inp_play.proofs.PlayerLines.{same_item, some_item}
 
 -- Lists
@@ -43,16 +45,17 @@ has_description r device text h =
     let f : DeviceText → Description = λ t. t.caps in
     get_or_from_slice_get (map f r.devices) device text.caps syn_alone (slice_get-map f r.devices device ∙ ap (option_map f) h)
 
-made_first : (r : RecordView) (i : ℕ) (text : ActorText) (a : ActorView) → HasActor r a → a.actor ≡ i → a.job ≡ first_job a.role a.description → slice_get r.actors i ≡ Some text → a ≡ first_actor r (i, text)
-made_first r i text a has number job there =
+made_first : (r : RecordView) (i : ℕ) (text : ActorText) (a : ActorView) → HasActor r a → a.actor ≡ i → a.job ≡ first_job a.role a.description → a.owning ≡ first_owning → slice_get r.actors i ≡ Some text → a ≡ first_actor r (i, text)
+made_first r i text a has number job owning there =
     let same : has.text ≡ text = same_item r.actors i has.text text (ap (slice_get r.actors) (sym number) ∙ has.is_text) there in
     let role : a.role ≡ text.role = sym has.role ∙ ap (λ (t : ActorText). t.role) same in
     let description : a.description ≡ description_at r text.device =
     sym has.description ∙ sym (has_description r has.text.device has.device has.is_device) ∙ ap (λ (t : ActorText). description_at r t.device) same in
-    ap (λ (j : _). record { actor = a.actor; role = a.role; description = a.description; job = j }) job
-    ∙ ap (λ (n : ℕ). record { actor = n; role = a.role; description = a.description; job = first_job a.role a.description }) number
-    ∙ ap (λ (role : _). record { actor = i; role = role; description = a.description; job = first_job role a.description }) role
-    ∙ ap (λ (d : Description). record { actor = i; role = text.role; description = d; job = first_job text.role d }) description
+    ap (λ (j : _). record { actor = a.actor; role = a.role; description = a.description; job = j; owning = a.owning }) job
+    ∙ ap (λ (w : _). record { actor = a.actor; role = a.role; description = a.description; job = first_job a.role a.description; owning = w }) owning
+    ∙ ap (λ (n : ℕ). record { actor = n; role = a.role; description = a.description; job = first_job a.role a.description; owning = first_owning }) number
+    ∙ ap (λ (role : _). record { actor = i; role = role; description = a.description; job = first_job role a.description; owning = first_owning }) role
+    ∙ ap (λ (d : Description). record { actor = i; role = text.role; description = d; job = first_job text.role d; owning = first_owning }) description
 
 first_at : (r : RecordView) (i : ℕ) (text : ActorText) → slice_get r.actors i ≡ Some text → slice_get (first_actors r) i ≡ Some (first_actor r (i, text))
 first_at r i text h =
@@ -61,11 +64,11 @@ first_at r i text h =
     ∙ ap (option_map (first_actor r)) (slice_get-numbered 0 r.actors i ∙ ap (option_map (λ (t : ActorText). (0 + i, t))) h)
     ∙ ap (λ (n : ℕ). Some (first_actor r (n, text))) zero_more
 
-pub one_more_actor : (r : RecordView) (i : ℕ) (a : ActorView) (actors : List ActorView) → i < length r.actors → HasActor r a → a.actor ≡ i → a.job ≡ first_job a.role a.description → actors ≡ take i (first_actors r) → actors ++ a ∷ [] ≡ take (i + 1) (first_actors r)
-one_more_actor r i a actors within has number job before =
+pub one_more_actor : (r : RecordView) (i : ℕ) (a : ActorView) (actors : List ActorView) → i < length r.actors → HasActor r a → a.actor ≡ i → a.job ≡ first_job a.role a.description → a.owning ≡ first_owning → actors ≡ take i (first_actors r) → actors ++ a ∷ [] ≡ take (i + 1) (first_actors r)
+one_more_actor r i a actors within has number job owning before =
     let t : (text : ActorText) × (slice_get r.actors i ≡ Some text) = some_item r.actors i within in
     ap (λ (xs : List ActorView). xs ++ a ∷ []) before
-    ∙ ap (λ (b : ActorView). take i (first_actors r) ++ b ∷ []) (made_first r i t.0 a has number job t.1)
+    ∙ ap (λ (b : ActorView). take i (first_actors r) ++ b ∷ []) (made_first r i t.0 a has number job owning t.1)
     ∙ sym (take-next (first_actors r) i (first_actor r (i, t.0)) (first_at r i t.0 t.1))
 
 pub length-first_actors : (r : RecordView) → length (first_actors r) ≡ length r.actors
@@ -87,13 +90,19 @@ first_has_actors r keeps = record {
 pub first_has_devices : (r : RecordView) → HasDevices r (map first_device r.devices)
 first_has_devices r = by_list r.devices
   where
-    by_list : (ds : List DeviceText) → map (λ (device : DeviceView). device.description) (map first_device ds) ≡ map (λ (text : DeviceText). text.caps) ds
+    by_list : (ds : List DeviceText) → map (λ (device : UdevView). device.description) (map first_device ds) ≡ map (λ (text : DeviceText). text.caps) ds
     by_list [] = refl
     by_list (d ∷ ds) = ap (λ (xs : List Description). d.caps ∷ xs) (by_list ds)
 
 pub first_stage_with : (r : RecordView) → stage_with (map first_device r.devices) (first_actors r) ≡ first_stage r
-first_stage_with r = ap (λ (pasts : List (List Step)). record { pasts = pasts; actors = first_actors r }) (by_list r.devices)
+first_stage_with r =
+    ap (λ (pasts : List (List Step)). record { pasts = pasts; calls = calls_of (map first_device r.devices); actors = first_actors r }) (by_list r.devices)
+    ∙ ap (λ (calls : List (List FeedbackCall)). record { pasts = map (λ text. []) r.devices; calls = calls; actors = first_actors r }) (no_calls r.devices)
   where
     by_list : (ds : List DeviceText) → pasts_of (map first_device ds) ≡ map (λ (text : DeviceText). []) ds
     by_list [] = refl
     by_list (d ∷ ds) = ap (λ (xs : List (List Step)). [] ∷ xs) (by_list ds)
+
+    no_calls : (ds : List DeviceText) → calls_of (map first_device ds) ≡ map (λ (text : DeviceText). []) ds
+    no_calls [] = refl
+    no_calls (d ∷ ds) = ap (λ (xs : List (List FeedbackCall)). [] ∷ xs) (no_calls ds)

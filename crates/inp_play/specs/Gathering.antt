@@ -2,23 +2,25 @@
 use Rattle.std.specs.Prelude.{◌≡◌, ℕ, List, [], ◌∷◌, ◌++◌, map, reverse, slice_get, slice_set, Some}
 use Rattle.std.specs.List.{enumerate_from}
 use Rattle.inp_model.specs.declared.step.Step.{Step}
-use Rattle.inp_model.specs.DeviceView.{DeviceView}
 use Rattle.inp_actors.specs.Record.{RecordView}
+use Rattle.inp_feedback.specs.UEntry.{steps_in}
 use Rattle.inp_script.specs.declared.ended.Ended.{Ended}
-use Rattle.inp_script.specs.declared.ended.Ended.TheVariants.{Job, Joy}
+use Rattle.inp_script.specs.declared.ended.Ended.TheVariants.{Job, Joy, Owner}
 use Rattle.inp_script.specs.declared.run.DeviceRun.{DeviceRun}
 use Rattle.inp_script.specs.Ended.{ended_of, device_run}
 use Rattle.inp_play.specs.declared.gathering.DeviceEnds.{DeviceEnds}
+use Rattle.inp_uinput.specs.UdevView.{UdevView}
 use Rattle.inp_order.specs.Play.{Stage, jobs_on}
 
 -- the number of the actor that ended so
 abbrev pub actor_of : Ended → ℕ
 actor_of (Job end) = end.actor
 actor_of (Joy end) = end.actor
+actor_of (Owner end) = end.actor
 
 -- a device's history, before anything of its actors is there
-abbrev pub first_ends : DeviceView → DeviceEnds
-first_ends device = record { history = reverse device.past; ends = [] }
+abbrev pub first_ends : UdevView → DeviceEnds
+first_ends device = record { history = reverse (steps_in device.kept); ends = [] }
 
 -- with what came of one actor more
 abbrev pub with_end : DeviceEnds → Ended → DeviceEnds

@@ -2,36 +2,43 @@
 use Rattle.std.specs.Prelude.{◌≡◌, ℕ, List, [], length, map, take, slice_get, Some}
 use Rattle.std.specs.List.{enumerate_from}
 use Rattle.inp_model.specs.declared.step.Step.{Step}
-use Rattle.inp_model.specs.DeviceView.{DeviceView}
 use Rattle.inp_actors.specs.declared.device_text.DeviceText.{DeviceText}
 use Rattle.inp_actors.specs.declared.line.Line.{Line}
 use Rattle.inp_actors.specs.Record.{RecordView}
+use Rattle.inp_feedback.specs.declared.feedback_call.FeedbackCall.{FeedbackCall}
+use Rattle.inp_feedback.specs.UEntry.{steps_in}
+use Rattle.inp_feedback.specs.Kept.{calls_in}
+use Rattle.inp_uinput.specs.UdevView.{UdevView}
 use Rattle.inp_script.specs.Doing.{HasActor}
 use Rattle.inp_script.specs.Job.{ActorView}
 use Rattle.inp_play.specs.declared.player.Player.{Player}
 use Rattle.inp_order.specs.Play.{Stage, first_actor, first_stage, after_line, after_lines}
 
-abbrev pub pasts_of : List DeviceView → List (List Step)
-pasts_of devices = map (λ (device : DeviceView). device.past) devices
+-- the steps that devices accepted, and the feedback calls that they keep, newest first
+abbrev pub pasts_of : List UdevView → List (List Step)
+pasts_of devices = map (λ (device : UdevView). steps_in device.kept) devices
+
+abbrev pub calls_of : List UdevView → List (List FeedbackCall)
+calls_of devices = map (λ (device : UdevView). calls_in device.kept) devices
 
 -- what stands between two lines, by the devices and the actors
-abbrev pub stage_with : List DeviceView → List ActorView → Stage
-stage_with devices actors = record { pasts = pasts_of devices; actors = actors }
+abbrev pub stage_with : List UdevView → List ActorView → Stage
+stage_with devices actors = record { pasts = pasts_of devices; calls = calls_of devices; actors = actors }
 
 abbrev pub stage_of : Player → Stage
 stage_of p = stage_with p.devices.items p.actors.items
 
--- a device that accepted no step
-abbrev pub first_device : DeviceText → DeviceView
-first_device text = record { description = text.caps; past = []; agains = 0 }
+-- a device that keeps nothing
+abbrev pub first_device : DeviceText → UdevView
+first_device text = record { description = text.caps; kept = []; agains = 0 }
 
 -- the actors of a record, before the first line
 abbrev pub first_actors : RecordView → List ActorView
 first_actors r = map (first_actor r) (enumerate_from 0 r.actors)
 
 -- there is a device for each of the record, of its description
-abbrev pub HasDevices : RecordView → List DeviceView → Type 0
-HasDevices r devices = map (λ (device : DeviceView). device.description) devices ≡ map (λ (text : DeviceText). text.caps) r.devices
+abbrev pub HasDevices : RecordView → List UdevView → Type 0
+HasDevices r devices = map (λ (device : UdevView). device.description) devices ≡ map (λ (text : DeviceText). text.caps) r.devices
 
 -- There is an actor for each of the record, in order.
 pub record HasActors (r : RecordView) (actors : List ActorView) : Type 0 where

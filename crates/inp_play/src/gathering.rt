@@ -2,9 +2,9 @@
 ghost use Rattle.std.specs.Prelude.{◌≡◌, ◌<◌, length, map, OnOk, IfOk};
 ghost use Rattle.inp_play.specs.Gathering.{actor_of, first_ends, run_with, HasEndMore};
 
-use inp_device::Device;
 use inp_model::{History, Items, NoMemory};
 use inp_script::{DeviceRun, Ended};
+use inp_uinput::Owned;
 use std::alloc::Global;
 
 /// The steps that a device accepted, and what came of its actors so far, in order.
@@ -15,7 +15,7 @@ pub(crate) struct DeviceEnds {
 }
 
 // The histories of devices that no actor works on any more, as yet without what came of actors.
-pub(crate) fn histories(alloc: Global, devices: Vec<Device>) -> Result<Vec<DeviceEnds>, NoMemory>
+pub(crate) fn histories(alloc: Global, devices: Vec<Owned>) -> Result<Vec<DeviceEnds>, NoMemory>
     ensures { IfOk result (λ gathered. gathered.items ≡ map first_ends devices.items) }
 {
     let mut gathered = Vec::new(alloc);
@@ -35,6 +35,7 @@ pub(crate) fn number_of(end: &Ended) -> u32
     match end {
         Ended::Job { end } => end.actor(),
         Ended::Joy { end } => end.actor(),
+        Ended::Owner { end } => end.actor(),
     }
 }
 

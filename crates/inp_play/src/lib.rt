@@ -1,11 +1,15 @@
 //! Playing a record: its lines are done in file order, each by its actor on its device, on one thread.
 //!
 //! This crate is for the program and for tests. It stands on `inp_actors` for records, on `inp_script` for actors and
-//! their jobs, on `inp_device` for the devices, and on `inp_runs` and `inp_order` for what is promised.
+//! their jobs, on `inp_uinput` for the devices, each with its owner, and on `inp_runs` and `inp_order` for what is
+//! promised. Each device is an [`Owned`](inp_uinput::Owned), also where the record gives it no owner: then it keeps its
+//! steps alone.
 //!
 //! Its contract: what is given is what comes of the record (`IsPlay` of `inp_order`), where each device answers on one
-//! list of steps, and of each device there is one history in which each job's replies, joysticks' too, are the one-thread
-//! device's at their places (`ArePromised` of `inp_runs`).
+//! list of steps. Of each device there is one history in which each job's replies, joysticks' too, are the one-thread
+//! device's at their places, and among its steps stand the feedback calls of the device's owner and no other ones, each
+//! answered from what was kept before it (`ArePromised` of `inp_runs`). A line `feedback` is done by its owner on its
+//! device and makes no step; any other line leaves the feedback calls as they are.
 #![tactic(auto)]
 
 mod gathering;

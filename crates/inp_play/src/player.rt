@@ -6,16 +6,16 @@ ghost use Rattle.inp_order.specs.Play.{first_stage, runs_of};
 ghost use Rattle.inp_play.specs.Player.{stage_of, first_device, first_actors, HasActors, IsPlayer, DoesOn};
 
 use crate::gathering::{device_runs, histories, number_of, push_end};
-use inp_actors::Record;
-use inp_device::Device;
+use inp_actors::{Command, Record};
 use inp_model::NoMemory;
 use inp_script::{Actor, Played};
+use inp_uinput::Owned;
 use std::alloc::Global;
 
 /// The devices and the actors of a record, each in file order, with what they did so far.
 #[derive(Drop)]
 pub(crate) struct Player {
-    devices: Vec<Device>,
+    devices: Vec<Owned>,
     actors: Vec<Actor>,
 }
 
@@ -39,9 +39,14 @@ impl Player {
         ensures done { OnOk result (DoesOn rec.now line self.old self.new) }
         ensures player { OnOk result (IsPlayer rec.now self.new) }
     {
-        let actor = rec.lines().get(line as usize).actor;
-        let device = rec.actors().get(actor as usize).device;
-        self.actors[actor as usize].line(&mut self.devices[device as usize], rec, line, None)
+        let text = rec.lines().get(line as usize);
+        let device = rec.actors().get(text.actor as usize).device;
+        let dev = &mut self.devices[device as usize];
+        let actor = &mut self.actors[text.actor as usize];
+        match text.command {
+            Command::Feedback { count } => actor.feed(dev, count),
+            _ => actor.line(dev, rec, line, None),
+        }
     }
 
     // What came of the devices and of the actors.
@@ -62,13 +67,13 @@ impl Player {
 }
 
 // The devices of a record before its first line. Each was made for a description.
-fn first_devices(alloc: Global, rec: &Record) -> Result<Vec<Device>, NoMemory>
+fn first_devices(alloc: Global, rec: &Record) -> Result<Vec<Owned>, NoMemory>
     ensures devices { IfOk result (λ devices. devices.items ≡ map first_device rec.now.devices) }
     ensures described { IfOk result (λ _. AreDescribed rec.now) }
 {
     let mut devices = Vec::new(alloc);
     for device in rec.devices().as_slice() {
-        devices.push(Device::new(alloc, device.caps.copy())?)?;
+        devices.push(Owned::new(alloc, device.caps.copy())?)?;
     }
     Ok(devices)
 }

@@ -28,6 +28,7 @@ fn record(alloc: Global) -> Result<Record, NoMemory>
     devices.push(DeviceText {
         name: Name::new(b"kbd"),
         caps: keyboard(),
+        requested: false,
     })?;
     let mut actors = Actors::new(alloc);
     actors.push(actor(b"s", Role::Source, 0))?;
@@ -66,7 +67,7 @@ fn do_line(client: &mut Actor, device: &mut Device, rec: &Record, line: u32) -> 
     client.line(device, rec, line, Some(waiting))
 }
 
-/// What comes of the client's job, which is no joystick's, where the source is not done, and nothing is injected.
+/// What comes of the client's job, which is no joystick's or owner's, where the source is not done, and nothing is injected.
 fn end_of_client(alloc: Global) -> Result<Option<JobEnd>, NoMemory> {
     let rec = record(alloc)?;
     let mut device = Device::new(alloc, keyboard())?;
@@ -75,13 +76,13 @@ fn end_of_client(alloc: Global) -> Result<Option<JobEnd>, NoMemory> {
     do_line(&mut client, &mut device, &rec, 1)?;
     match client.finish() {
         Ended::Job { end } => Ok(Some(end)),
-        Ended::Joy { .. } => Ok(None),
+        Ended::Joy { .. } | Ended::Owner { .. } => Ok(None),
     }
 }
 
 #[test]
 fn a_client_waits_for_so_many_reads(rt: HostRuntime) -> Result<(), Fail> {
-    let job = end_of_client(rt.alloc())?.expect(&rt, "a client is no joystick");
+    let job = end_of_client(rt.alloc())?.expect(&rt, "a client is no joystick and no owner");
     // The open and the query of keys come first.
     assert_eq!(rt; *job.stop(), Stop::Idle { turns: 5, at: 2 });
     let sight = job.sight().as_slice();

@@ -1,6 +1,8 @@
 -- An actor that did all its lines followed them on the whole history, of which it saw a beginning.
-use Rattle.std.proofs.Common.{◌≡◌, ℕ, List, [], ◌∷◌, sym, ap, subst, ◌∙◌, Option, Some}
+use Rattle.std.proofs.Common.{◌≡◌, ℕ, true, false, List, [], ◌∷◌, reverse, sym, ap, subst, ◌∙◌, Option, Some}
 use Rattle.std.specs.Prelude.{slice_get}
+use Rattle.std.specs.List.{count_by}
+use Rattle.std.proofs.lemmas.List.{reverse-reverse}
 use mathlib.Core.List.{IsPrefix}
 use Rattle.inp_model.specs.declared.step.Step.{Step}
 use Rattle.inp_model.specs.Description.{Description}
@@ -9,39 +11,80 @@ use Rattle.inp_model.specs.Run.{Call, IsLegalFrom, next_place}
 use Rattle.inp_model.proofs.Leaves.{HasPlace-longer}
 use Rattle.inp_actors.specs.declared.actor_text.ActorText.{ActorText}
 use Rattle.inp_actors.specs.declared.role.Role.{Role}
+use Rattle.inp_actors.specs.declared.role.Role.TheVariants.{Owner}
+use Rattle.inp_actors.specs.Command.{is_owner}
 use Rattle.inp_actors.specs.Record.{RecordView, IsRecord}
-use Rattle.inp_reader.specs.Talk.{EndsWith}
+use Rattle.inp_feedback.specs.declared.u_entry.UEntry.{UEntry}
+use Rattle.inp_feedback.specs.UEntry.{step_of}
+use Rattle.inp_reader.specs.Talk.{LeadsTo, EndsWith, finish}
 use Rattle.inp_script.specs.declared.waiting.Waiting.{Waiting}
 use Rattle.inp_script.specs.Ended.{HasCells, ended_of}
-use Rattle.inp_script.specs.Job.{ActorView, first_job}
+use Rattle.inp_script.specs.Job.{ActorView, Job, first_job}
 use Rattle.inp_runs.specs.Done.{HasFollowed, calls_at}
-use Rattle.inp_runs.specs.Job.{lines_by, lines_talk}
+use Rattle.inp_runs.specs.Job.{is_entry_at, lines_by, lines_talk}
+use Rattle.inp_runs.specs.Owner.{rooms_of}
 use Rattle.inp_runs.proofs.Done.{followed-told}
 use Rattle.inp_runs.proofs.Entries.{told-counts}
+use Rattle.inp_runs.proofs.OwnerTalks.{lines-nothing}
 use Rattle.inp_turn.specs.declared.pass_view.PassView.{PassView}
-use Rattle.inp_threads.specs.Worker.{HasWorked}
+use Rattle.inp_turn.specs.PassView.{OwnsSeen}
+use Rattle.inp_port.specs.Entries.{steps_of, step_places}
+use Rattle.inp_port.proofs.Places.{steps-begins, step_places-begins}
+use Rattle.inp_threads.specs.Worker.{HasWorked, HasOwnedLines}
+use Rattle.inp_threads.proofs.CallsAt.{HasAllCalls, calls-no_steps, lines-owned}
 use Rattle.inp_threads.proofs.Counting.{times, times-calls}
 
 pub legal-longer : (d : Description) (h k : List Step) (least : ℕ) (calls : List Call) → BeginsWith h k → IsLegalFrom d h least calls → IsLegalFrom d k least calls
 legal-longer d h k least [] begins l = tt
 legal-longer d h k least (call ∷ calls) begins l = (l.0, HasPlace-longer d h k call begins l.1, legal-longer d h k (next_place call.answer.reply) calls begins l.2)
 
-module _ (r : RecordView) (d : Description) (wait : Option Waiting) (a : ActorView) (view : PassView Description Step) (w : HasWorked r d wait a view) where
-  -- it followed its lines on each history that begins with what it saw
-  abbrev pub finished : (history : List Step) (role : Role) → a.role ≡ role → IsPrefix view.seen history → HasCells d (ended_of a) → HasFollowed r d wait history role a
-  finished history role is_role begins cells = record {
-    calls = w.calls;
-    legal = legal-longer d view.seen history 0 w.calls (begins.0, sym begins.1) w.legal;
-    rounds = w.rounds;
-    follows = subst (λ (x : Role). EndsWith (lines_talk x d r.streams wait w.rounds (lines_by a.actor r.lines) (first_job x d)) w.calls (Some a.job)) is_role w.follows;
+pub not_both : (role : Role) → is_owner role ≡ false → role ≡ Owner → ⊥
+not_both role caller owner = opposite (sym caller ∙ ap is_owner owner)
+  where
+    opposite : false ≡ true → ⊥
+    opposite e = cc
+
+module _ (r : RecordView) (d : Description) (wait : Option Waiting) (a : ActorView) (view : PassView Description UEntry) (entries : List UEntry) (text : ActorText) (is_role : a.role ≡ text.role) (begins : IsPrefix view.seen entries) (cells : HasCells d (ended_of a)) where
+  -- a caller followed its lines on the steps of all entries that begin with what it saw
+  abbrev pub caller-followed : is_owner text.role ≡ false → HasWorked r d wait a view → HasFollowed r d wait (steps_of step_of entries) text.role a
+  caller-followed caller w =
+      let begun = steps-begins step_of view.seen entries begins in
+      record {
+        calls = w.calls;
+        legal = legal-longer d (steps_of step_of view.seen) (steps_of step_of entries) 0 w.calls (begun.0, sym begun.1) w.legal;
+        rounds = w.rounds;
+        follows = subst (λ (x : Role). EndsWith (lines_talk x d r.streams wait w.rounds (lines_by a.actor r.lines) (first_job x d)) w.calls (Some a.job)) is_role w.follows;
+        is_role = is_role;
+        cells = cells;
+        owned = λ owner. absurd (not_both text.role caller owner);
+      }
+
+  -- an owner made no calls of an evdev, and all feedback calls
+  pub owner-followed : text.role ≡ Owner → HasOwnedLines r d a view → HasAllCalls (reverse entries) view.own → HasFollowed r d wait (steps_of step_of entries) text.role a
+  unfolding LeadsTo
+  owner-followed owner w all = record {
+    calls = [];
+    legal = tt;
+    rounds = 0;
+    follows = subst (λ (x : Role). EndsWith (lines_talk x d r.streams wait 0 (lines_by a.actor r.lines) (first_job x d)) [] (Some a.job)) (sym owner)
+        (lines-nothing d r.streams wait 0 (lines_by a.actor r.lines) (first_job Owner d) ∙ ap (λ (j : Job). finish (Some j)) (sym w.job));
     is_role = is_role;
     cells = cells;
+    owned = λ _. lines-owned d (rooms_of (lines_by a.actor r.lines)) view entries a.owning w.fed begins all;
   }
 
-  -- it has as many accepted calls at a place as its pass owns it
-  pub owns-calls : (history : List Step) (text : ActorText) → IsRecord r → slice_get r.actors a.actor ≡ Some text → a.role ≡ text.role → IsPrefix view.seen history → HasCells d (ended_of a)
-      → (place : ℕ) → calls_at place a ≡ times place view.own
-  owns-calls history text is_record is_text is_role begins cells = λ place.
-      sym (told-counts wait w.calls a.job.sight (followed-told r d wait history text a is_record is_text (finished history text.role is_role begins cells)) place)
-      ∙ sym (times-calls place w.calls)
-      ∙ ap (times place) (sym w.own)
+  module _ (owns : OwnsSeen view) where
+    -- a caller has as many accepted calls at a place as its pass owns it among the steps
+    pub caller-counts : is_owner text.role ≡ false → HasWorked r d wait a view → IsRecord r → slice_get r.actors a.actor ≡ Some text → (place : ℕ) → calls_at place a ≡ times place (step_places step_of entries view.own)
+    caller-counts caller w is_record is_text = λ place.
+        sym (told-counts wait w.calls a.job.sight (followed-told r d wait (steps_of step_of entries) text a is_record is_text (caller-followed caller w)) place)
+        ∙ sym (times-calls place w.calls)
+        ∙ ap (times place) (sym w.own ∙ sym (step_places-begins step_of view.seen entries view.own begins owns))
+
+    -- and an owner has none
+    pub owner-counts : HasOwnedLines r d a view → (place : ℕ) → calls_at place a ≡ times place (step_places step_of entries view.own)
+    owner-counts w = λ place.
+        let none : step_places step_of entries view.own ≡ [] = step_places-begins step_of view.seen entries view.own begins owns
+        ∙ ap (λ (es : List UEntry). step_places step_of es view.own) (sym (reverse-reverse view.seen))
+        ∙ calls-no_steps d (reverse view.seen) view.own w.fed.done w.fed.before w.fed.calls in
+        ap (λ (j : Job). count_by (is_entry_at place) j.sight) w.job ∙ ap (times place) (sym none)

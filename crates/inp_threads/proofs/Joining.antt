@@ -2,7 +2,7 @@
 use Rattle.std.proofs.Common.{◌≡◌, ℕ, Bool, true, false, ◌&&◌, List, [], ◌∷◌, ◌++◌, refl, sym, ap, ◌∙◌, arith, append_assoc, length-append}
 use Rattle.std.proofs.lemmas.List.Elements.{All-append, All-push, All-weaker}
 use mathlib.Core.List.{IsPrefix}
-use Rattle.inp_model.specs.declared.step.Step.{Step}
+use Rattle.inp_feedback.specs.declared.u_entry.UEntry.{UEntry}
 use Rattle.inp_model.specs.Description.{Description}
 use Rattle.inp_script.specs.declared.ended.Ended.{Ended}
 use Rattle.inp_script.specs.Ended.{ended_of}
@@ -21,7 +21,7 @@ ends_of-append [] vs = refl
 ends_of-append (w ∷ ws) vs = ap (λ (ends : List Ended). ended_of w.actor ∷ ends) (ends_of-append ws vs)
 
 -- the passes of some were joined, and then those of others
-pub joined-more : (ws vs : List Worker) (a b c : PassView Description Step) → AreJoined ws a b → AreJoined vs b c → AreJoined (ws ++ vs) a c
+pub joined-more : (ws vs : List Worker) (a b c : PassView Description UEntry) → AreJoined ws a b → AreJoined vs b c → AreJoined (ws ++ vs) a c
 joined-more ws vs a b c h k = record {
   share = omega (arith, h.share, k.share, length-append ws vs);
   own = k.own ∙ ap (λ (places : List ℕ). places ++ own_of vs) h.own ∙ append_assoc a.own (own_of ws) (own_of vs) ∙ ap (λ (places : List ℕ). a.own ++ places) (sym (own_of-append ws vs));

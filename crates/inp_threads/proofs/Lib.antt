@@ -1,3 +1,9 @@
+pub mod CallsAt
+pub mod StepPlaces
+pub mod Numbers
+pub mod Ties
+pub mod Feeding
+pub mod Owning
 pub mod Counting
 pub mod Followed
 pub mod Assembling

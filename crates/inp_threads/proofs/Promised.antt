@@ -10,14 +10,14 @@ use Rattle.inp_runs.specs.Job.{ArePromised}
 use Rattle.inp_runs.proofs.Played.{all-promised}
 use Rattle.inp_threads.specs.Promise.{IsPromisedOf}
 
-pub collected : (idle : ℕ) (r : RecordView) (slots : List (Option DeviceRun)) (devices : List DeviceRun) → length slots ≡ length r.devices
-    → ((i : ℕ) (d : Option DeviceRun) → i < length slots → IfSome (get_or slots i d) (IsPromisedOf idle r i))
-    → map Some devices ≡ slots → ArePromised (Some idle) r (played_of devices)
-collected idle r slots devices long each all =
+pub collected : (idle : ℕ) (r : RecordView) (outcomes : List (Option DeviceRun)) (devices : List DeviceRun) → length outcomes ≡ length r.devices
+    → ((i : ℕ) (d : Option DeviceRun) → i < length outcomes → IfSome (get_or outcomes i d) (IsPromisedOf idle r i))
+    → map Some devices ≡ outcomes → ArePromised (Some idle) r (played_of devices)
+collected idle r outcomes devices long each all =
     all-promised (Some idle) r devices (sym (length-map devices Some) ∙ ap length all ∙ long)
     (λ i device done is_device is_done.
-    (let there : slice_get slots i ≡ Some (Some done) =
+    (let there : slice_get outcomes i ≡ Some (Some done) =
     ap (λ (s : List (Option DeviceRun)). slice_get s i) (sym all) ∙ slice_get-map Some devices i ∙ ap (option_map Some) is_done in
     let promised : IfSome (Some done) (IsPromisedOf idle r i) =
-    subst (λ (slot : Option DeviceRun). IfSome slot (IsPromisedOf idle r i)) (get_or_from_slice_get slots i (Some done) None there) (each i None (slice_get_within slots i (Some done) there)) in
+    subst (λ (outcome : Option DeviceRun). IfSome outcome (IsPromisedOf idle r i)) (get_or_from_slice_get outcomes i (Some done) None there) (each i None (slice_get_within outcomes i (Some done) there)) in
     promised device is_device))

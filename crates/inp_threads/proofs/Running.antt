@@ -2,8 +2,8 @@
 use Rattle.std.proofs.Common.{◌≡◌, ℕ, suc, ◌<◌, ◌≤◌, List, [], ◌∷◌, ◌++◌, length, get_or, take, drop, refl, sym, ap, subst, ◌∙◌, arith, drop_of_length-le}
 use Rattle.std.specs.Prelude.{map, All}
 use Rattle.std.proofs.lemmas.List.{append-nil, take_all}
-use Rattle.inp_model.specs.declared.step.Step.{Step}
-use Rattle.inp_model.specs.DeviceView.{DeviceView}
+use Rattle.inp_feedback.specs.declared.u_entry.UEntry.{UEntry}
+use Rattle.inp_uinput.specs.UdevView.{UdevView}
 use Rattle.inp_actors.specs.Record.{RecordView}
 use Rattle.inp_script.specs.declared.waiting.Waiting.{Waiting}
 use Rattle.inp_script.specs.Doing.{source_count}
@@ -11,7 +11,7 @@ use Rattle.inp_port.specs.declared.port.PortOf.{PortOf}
 use Rattle.inp_threads.specs.declared.worker.Worker.{Worker}
 use Rattle.inp_threads.specs.Worker.{actor_number, IsReadyOn, IsReadyToWait}
 
-module _ (port : PortOf DeviceView Step) (r : RecordView) (device : ℕ) (waiting : Waiting) (sources : waiting.sources ≡ source_count r device) where
+module _ (port : PortOf UdevView UEntry) (r : RecordView) (device : ℕ) (waiting : Waiting) (sources : waiting.sources ≡ source_count r device) where
   pub ready-to-wait : (workers : List Worker) → All (IsReadyOn port r device) workers → 1 ≤ waiting.idle
       → (i : ℕ) (w : Worker) → i < length workers → w ≡ get_or workers i w → IsReadyToWait port r waiting w
   ready-to-wait workers all bound i w within is =

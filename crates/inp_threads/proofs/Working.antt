@@ -1,88 +1,75 @@
 -- What a worker's thread leaves: its pass is one of the same port, and its actor did its lines.
-use Rattle.std.proofs.Common.{◌≡◌, ℕ, zero, suc, Bool, true, false, List, [], ◌∷◌, ◌++◌, length, drop, refl, sym, ap, subst, ◌∙◌, Option, Some, None}
+use Rattle.std.proofs.Common.{◌≡◌, ℕ, Bool, true, false, List, [], ◌∷◌, ◌++◌, length, drop, refl, sym, ap, subst, ◌∙◌, Option, Some}
 use Rattle.std.specs.Prelude.{Result, Ok, Err, OnOk}
 use Rattle.std.specs.Result.{is_ok}
-use Rattle.inp_turn.specs.declared.shared.Shared.{Shared}
+use Rattle.std.proofs.lemmas.List.{append-nil}
 use Rattle.inp_model.specs.declared.step.Step.{Step}
 use Rattle.inp_model.specs.Description.{Description}
-use Rattle.inp_model.specs.DeviceView.{DeviceView}
 use Rattle.inp_model.specs.Evdev.{EvdevView}
 use Rattle.inp_model.specs.Leaves.{IsLeft, places_of}
 use Rattle.inp_model.specs.Run.{IsLegalRun, IsLegalFrom}
 use Rattle.inp_model.proofs.Leaves.{calls-legal, own-grown}
+use Rattle.inp_actors.specs.declared.role.Role.{Role}
+use Rattle.inp_actors.specs.declared.role.Role.TheVariants.{Source, Client, Tap, Joy, Owner}
+use Rattle.inp_actors.specs.Command.{is_owner}
 use Rattle.inp_actors.specs.Record.{RecordView}
+use Rattle.inp_feedback.specs.declared.u_entry.UEntry.{UEntry}
+use Rattle.inp_feedback.specs.UEntry.{step_of}
 use Rattle.inp_reader.specs.Talk.{EndsWith}
 use Rattle.inp_script.specs.declared.waiting.Waiting.{Waiting}
 use Rattle.inp_script.specs.Doing.{HasActor}
 use Rattle.inp_script.specs.Job.{ActorView, Job, first_job}
+use Rattle.inp_script.specs.Owner.{Owning}
 use Rattle.inp_runs.specs.Job.{lines_by, lines_talk}
 use Rattle.inp_runs.specs.DoingAll.{DoesAll}
 use Rattle.inp_turn.specs.declared.kept.Kept.{Ghosts}
 use Rattle.inp_turn.specs.declared.pass.Pass.{Pass}
 use Rattle.inp_turn.specs.declared.pass_view.PassView.{PassView}
 use Rattle.inp_turn.specs.Pass.{view_of}
-use Rattle.inp_turn.specs.PassView.{OwnsSeen}
 use Rattle.inp_turn.specs.Shared.{name_of}
 use Rattle.inp_port.specs.declared.port.PortOf.{PortOf}
+use Rattle.inp_port.specs.Entries.{steps_of, step_places, other_places}
 use Rattle.inp_port.specs.Port.{IsReadyAt, told_by}
-use Rattle.inp_port.proofs.Devices.{itself, told-device}
-use Rattle.inp_threads.specs.Worker.{HasPass, HasWorked}
+use Rattle.inp_uinput.specs.UdevView.{UdevView}
+use Rattle.inp_runs.specs.Owner.{rooms_of}
+use Rattle.inp_threads.specs.Owner.{HasFedLines}
+use Rattle.inp_threads.specs.Worker.{IsFresh, HasPass, HasWorked, HasOwnedLines, HasDoneLines}
+use Rattle.inp_threads.proofs.Ties.{numbers_in, number_at, as-long, same-table}
 
--- Which port
+module _ {K : Ghosts UdevView Description UEntry} where
+  -- Calls through a pass that has seen nothing leave its share, and it stays a pass of the port that it was one of. It owns
+  -- places of steps alone.
+  pub record IsCallersPass (port port' : PortOf UdevView UEntry) (p' : Pass UdevView Description UEntry K) : Type 0 where
+    pub back : HasPass port (Some p')
+    pub others : other_places step_of (view_of p').seen (view_of p').own ≡ []
 
-abbrev numbers_in : Option (List ℕ) → List ℕ
-numbers_in None = []
-numbers_in (Some numbers) = numbers
-
-abbrev number_at : ℕ → List ℕ → ℕ
-number_at k [] = 0
-number_at zero (n ∷ ns) = n
-number_at (suc k) (n ∷ ns) = number_at k ns
-
-same-table : (s s' : Shared DeviceView Description Step) → name_of s' ≡ name_of s → s'.table.shared.table_id ≡ s.table.shared.table_id
-same-table s s' e = λ i. record {
-  words = number_at 0 (e i);
-  slots = number_at 1 (e i);
-  views_name = number_at 2 (e i);
-  atom = number_at 3 (e i);
-  block = number_at 4 (e i);
-  offset = number_at 5 (e i);
-  slot_names = drop 6 (e i);
-}
-
-module _ {K : Ghosts DeviceView Description Step} where
-  -- calls through a pass leave its share, and it stays a pass of the port that it was one of
-  pub pass-back : (port port' : PortOf DeviceView Step) (p p' : Pass DeviceView Description Step K) (n n' : ℕ)
-      → OwnsSeen (view_of p) → OwnsSeen (view_of p') → IsLeft (told_by itself port p n) (told_by itself port' p' n')
-      → (view_of p).share ≡ 1 → IsReadyAt port' p' → HasPass port (Some p')
-  pass-back port port' p p' n n' owns owns' left share ready =
-      let old = told-device port.caps (name_of port.shared) (view_of p) n owns in
-      let new = told-device port'.caps (name_of port'.shared) (view_of p') n' owns' in
-      let tie : Some ((view_of p').share ∷ name_of port'.shared) ≡ Some ((view_of p).share ∷ name_of port.shared) =
-      sym (ap (λ (v : EvdevView). v.tie) new) ∙ left.leaves.tie ∙ ap (λ (v : EvdevView). v.tie) old in
-      let numbers : (view_of p').share ∷ name_of port'.shared ≡ (view_of p).share ∷ name_of port.shared = ap numbers_in tie in
-      let table = same-table port.shared port'.shared (ap (drop 1) numbers) in
+  pub pass-back : (port port' : PortOf UdevView UEntry) (p p' : Pass UdevView Description UEntry K) (n n' : ℕ)
+      → IsFresh port p → IsLeft (told_by step_of port p n) (told_by step_of port' p' n') → IsReadyAt port' p' → IsCallersPass port port' p'
+  pass-back port port' p p' n n' fresh left ready =
+      let others : List ℕ = other_places step_of (view_of p').seen (view_of p').own in
+      let none : other_places step_of (view_of p).seen (view_of p).own ≡ [] = ap (other_places step_of (view_of p).seen) fresh.own in
+      let tie : (view_of p').share ∷ length (name_of port'.shared) ∷ name_of port'.shared ++ others ≡ (view_of p).share ∷ length (name_of port.shared) ∷ name_of port.shared ++ other_places step_of (view_of p).seen (view_of p).own =
+      ap numbers_in left.leaves.tie in
+      let rest : name_of port'.shared ++ others ≡ name_of port.shared = ap (drop 2) tie ∙ ap (λ (l : List ℕ). name_of port.shared ++ l) none ∙ append-nil (name_of port.shared) in
+      let name = as-long (name_of port'.shared) (name_of port.shared) others (ap (number_at 1) tie) rest in
+      let table = same-table port.shared port'.shared name.0 in
       let caps : port'.caps ≡ port.caps = left.leaves.description in
       record {
-        pass = p';
-        is_pass = refl;
-        ready = record { own = ready.own ∙ table; free = ready.free; described = ready.described ∙ ap (λ (d : Description). Some d) caps };
-        share = ap (number_at 0) numbers ∙ share;
+        back = record {
+          pass = p';
+          is_pass = refl;
+          ready = record { own = ready.own ∙ table; free = ready.free; described = ready.described ∙ ap (λ (d : Description). Some d) caps };
+          share = ap (number_at 0) tie ∙ fresh.share;
+        };
+        others = name.1;
       }
-
-  -- what a pass has seen and owns is what its caller is told
-  pub told-seen : (port : PortOf DeviceView Step) (p : Pass DeviceView Description Step K) (n : ℕ) → OwnsSeen (view_of p) → (told_by itself port p n).seen ≡ (view_of p).seen
-  told-seen port p n owns = ap (λ (v : EvdevView). v.seen) (told-device port.caps (name_of port.shared) (view_of p) n owns)
-
-  pub told-own : (port : PortOf DeviceView Step) (p : Pass DeviceView Description Step K) (n : ℕ) → OwnsSeen (view_of p) → (told_by itself port p n).own ≡ (view_of p).own
-  told-own port p n owns = ap (λ (v : EvdevView). v.own) (told-device port.caps (name_of port.shared) (view_of p) n owns)
 
 -- What the actor did
 
-pub has-worked : (r : RecordView) (d : Description) (wait : Option Waiting) (a : ActorView) (new : Job) (b e : EvdevView) (v : PassView Description Step)
-    → b.seen ≡ [] → b.own ≡ [] → e.description ≡ d → e.seen ≡ v.seen → e.own ≡ v.own
+pub has-worked : (r : RecordView) (d : Description) (wait : Option Waiting) (a : ActorView) (new : Job) (b e : EvdevView) (v : PassView Description UEntry)
+    → b.seen ≡ [] → b.own ≡ [] → e.description ≡ d → e.seen ≡ steps_of step_of v.seen → e.own ≡ step_places step_of v.seen v.own → other_places step_of v.seen v.own ≡ []
     → a.description ≡ d → a.job ≡ first_job a.role a.description → DoesAll b e r wait a new → HasWorked r d wait (record a { job = new }) v
-has-worked r d wait a new b e v no_seen no_own same_d seen own described first does =
+has-worked r d wait a new b e v no_seen no_own same_d seen own others described first does =
     let h = does.holds in
     let from : IsLegalFrom e.description e.seen 0 h.calls = subst (λ (s : List Step). IsLegalFrom e.description e.seen (length s) h.calls) no_seen (calls-legal b e h.calls h.are_calls) in
     let run : IsLegalRun d e.seen h.calls = subst (λ (x : Description). IsLegalFrom x e.seen 0 h.calls) same_d from in
@@ -94,11 +81,34 @@ has-worked r d wait a new b e v no_seen no_own same_d seen own described first d
       rounds = does.rounds;
       follows = subst (λ (x : Description). EndsWith (lines_talk a.role x r.streams wait does.rounds (lines_by a.actor r.lines) (first_job a.role x)) h.calls (Some new)) described begun;
       own = sym own ∙ own-grown b e h.calls h.are_calls ∙ ap (λ (places : List ℕ). places ++ places_of h.calls) no_own;
+      others = others;
     }
 
--- a record has an actor, whatever its job
+-- an actor that is no owner did its lines by calls of an evdev
+pub calling-done : (role : Role) (r : RecordView) (d : Description) (wait : Option Waiting) (a : ActorView) (view : PassView Description UEntry) → is_owner role ≡ false → HasWorked r d wait a view → HasDoneLines role r d wait a view
+calling-done Source r d wait a view away h = h
+calling-done Client r d wait a view away h = h
+calling-done Tap r d wait a view away h = h
+calling-done Joy r d wait a view away h = h
+calling-done Owner r d wait a view away h = absurd cc
+
+-- an owner did its lines by feedback calls
+pub owning-done : (r : RecordView) (d : Description) (wait : Option Waiting) (n : ℕ) (old new : ActorView) (view : PassView Description UEntry) → new ≡ record old { owning = new.owning } → old.actor ≡ n → old.role ≡ Owner → old.description ≡ d → old.job ≡ first_job old.role old.description
+    → HasFedLines d (rooms_of (lines_by n r.lines)) view new.owning → HasDoneLines new.role r d wait new view
+owning-done r d wait n old new view same number owner described first fed =
+    let role : new.role ≡ Owner = ap (λ (a : ActorView). a.role) same ∙ owner in
+    let its : HasOwnedLines r d new view = record {
+      fed = subst (λ (m : ℕ). HasFedLines d (rooms_of (lines_by m r.lines)) view new.owning) (sym (ap (λ (a : ActorView). a.actor) same ∙ number)) fed;
+      job = ap (λ (a : ActorView). a.job) same ∙ first ∙ (λ i. first_job (owner i) (described i));
+    } in
+    subst (λ (x : Role). HasDoneLines x r d wait new view) (sym role) its
+
+-- a record has an actor, whatever its job and whatever it was told
 pub has_actor-job : (r : RecordView) (a : ActorView) (j : Job) → HasActor r a → HasActor r (record a { job = j })
 has_actor-job r a j h = record { text = h.text; device = h.device; is_text = h.is_text; role = h.role; is_device = h.is_device; description = h.description }
+
+pub has_actor-owning : (r : RecordView) (a : ActorView) (o : Owning) → HasActor r a → HasActor r (record a { owning = o })
+has_actor-owning r a o h = record { text = h.text; device = h.device; is_text = h.is_text; role = h.role; is_device = h.is_device; description = h.description }
 
 pub on-ok : {T E : Type 0} (P : Type 0) (result : Result T E) (b : Bool) → b ≡ is_ok result → b ≡ true → OnOk result P → P
 on-ok P (Ok x) b same good h = h

@@ -1,3 +1,4 @@
+pub mod Owner
 pub mod Worker
 pub mod Joined
 pub mod Promise

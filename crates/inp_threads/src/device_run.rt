@@ -5,11 +5,10 @@ ghost use Rattle.inp_threads.specs.Promise.{IsPromisedOf};
 use crate::gathered::{Gathered, gather};
 use crate::workers::{deal, run_all};
 use inp_actors::Record;
-use inp_device::Device;
 use inp_edge::Gate;
 use inp_model::NoMemory;
-use inp_port::Port;
 use inp_script::DeviceRun;
+use inp_uinput::{UPort, Udev};
 use std::alloc::Global;
 use std::sync::Wait;
 use std::thread::Threads;
@@ -28,7 +27,7 @@ pub(crate) fn run_device<R: Threads + Wait + Sync, G: Gate>(
     ensures promised { IfOk result (IsPromisedOf idle rec.now number) }
 {
     let caps = rec.devices().get(number as usize).caps.copy();
-    let Ok((port, mut pass)) = Port::new(alloc, Device::new(alloc, caps)?) else {
+    let Ok((port, mut pass)) = UPort::new(alloc, Udev::new(alloc, caps)?) else {
         return Err(NoMemory);
     };
     let mut workers = deal(alloc, rec, number, &port, &mut pass)?;

@@ -5,15 +5,14 @@ ghost use Rattle.inp_port.specs.Port.{IsReadyAt};
 ghost use Rattle.inp_threads.specs.Joined.{IsBack, AreJoined, AreDone, IsSized, AreSized, ends_of};
 
 use crate::worker::Worker;
-use inp_device::Device;
-use inp_port::Port;
 use inp_script::Ended;
 use inp_turn::Pass;
+use inp_uinput::{UPort, Udev};
 
 /// What the workers of a device left.
 pub(crate) struct Gathered {
     /// All passes, joined into one.
-    pub(crate) pass: Pass<Device>,
+    pub(crate) pass: Pass<Udev>,
     /// What came of their actors.
     pub(crate) ends: Vec<Ended>,
     /// Whether each of them did all its lines.
@@ -22,8 +21,8 @@ pub(crate) struct Gathered {
 
 // Joins the passes of all workers, and finishes their actors. There is room for what comes of them, so it takes no memory.
 pub(crate) fn gather(
-    port: &Port,
-    pass: Pass<Device>,
+    port: &UPort,
+    pass: Pass<Udev>,
     workers: Vec<Worker>,
     ends: Vec<Ended>,
 ) -> Gathered
@@ -49,7 +48,7 @@ pub(crate) fn gather(
 }
 
 // The same with one worker more.
-fn add(port: &Port, gathered: Gathered, worker: Worker) -> Gathered
+fn add(port: &UPort, gathered: Gathered, worker: Worker) -> Gathered
     requires ready { IsReadyAt port.now gathered.pass }
     requires back { IsBack port.now worker }
     requires room { vec_len gathered.ends < vec_capacity gathered.ends }

@@ -1,24 +1,33 @@
-//! Playing a record on threads: each source, client, tap and joystick of a device is a job on a thread of its own.
+//! Playing a record on threads: each source, client, tap, joystick and owner of a device is a job on a thread of its
+//! own.
 //!
-//! This crate is for the program and for tests. It stands on `inp_port` for devices that threads share, on `inp_script` for
-//! actors and their jobs, and on `inp_runs` for what is promised.
+//! This crate is for the program and for tests. It stands on `inp_uinput` for devices that may have an owner, on
+//! `inp_port` for sharing them among threads, on `inp_script` for actors and their jobs, and on `inp_runs` for what is
+//! promised.
 //!
 //! Its contract: in whatever order the threads made their steps, of each device there is one history in which each job's
 //! replies are the one-thread device's at their places, and all else that is promised of runs (`ArePromised` of
-//! `inp_runs`). What came of joysticks stands apart from the other jobs (`Played` of `inp_script`). A line `follow` waits
-//! there for what other threads inject (`Waiting` of `inp_script`), at most through the number of answers `Again` that the
-//! caller names, and a source whose lines are done says so by the step `End`.
+//! `inp_runs`). An owner makes no step. Its feedback calls stand among the steps, each answered from what was kept
+//! before it (`IsOwner` of `inp_runs`). What came of joysticks and of owners stands apart from the other jobs (`Played`
+//! of `inp_script`). A line `follow` waits there for what other threads inject (`Waiting` of `inp_script`), at most
+//! through the number of answers `Again` that the caller names, and a source whose lines are done says so by the step
+//! `End`.
 //!
-//! A device is shared by a port, and each of its actors gets a pass that was split off the first one (`AreDealt` in
-//! `specs/Worker.antt`). Its thread does all its lines, and gives the pass back, whatever came of it (`IsWorked`). The
-//! passes are joined (`AreJoined` in `specs/Joined.antt`), and the port is closed with the whole share. So each place of the
-//! history is one accepted call of one job. The devices know nothing of each other.
+//! Each device, made by requests or not, is a `Udev` of `inp_uinput`, which keeps its steps and, between them, its
+//! owner's feedback calls. It is shared by a port, and each of its actors gets a pass that was split off the first one
+//! (`AreDealt` in `specs/Worker.antt`). Its thread does all its lines, and gives the pass back, whatever came of it
+//! (`IsWorked`). A job passes the gate before each of its calls, an owner before each feedback call. The pass of an owner
+//! owns the places of its feedback calls alone (`HasFedLines` in `specs/Owner.antt`), any other one the places of its
+//! steps alone (`HasWorked`). The passes are joined (`AreJoined` in `specs/Joined.antt`), and the port is closed with the
+//! whole share. So each place of the history is one accepted call of one job, and all feedback calls of a device are its
+//! owner's, of which it has one at most. The devices know nothing of each other.
 //!
 //! Nothing says that a thread gets its turn, or who gets it first, and so nothing says that the call returns.
 #![tactic(auto)]
 
 mod device_run;
 mod gathered;
+mod owner_client;
 mod playing;
 mod worker;
 mod workers;

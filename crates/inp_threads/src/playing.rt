@@ -13,16 +13,17 @@ use std::sync::Wait;
 use std::thread;
 use std::thread::Threads;
 
-/// What comes of a record whose sources, clients, taps and joysticks do their lines on a thread each.
+/// What comes of a record whose sources, clients, taps, joysticks and owners do their lines on a thread each.
 ///
 /// `idle` is how long a line `follow` waits: after so many answers in a row that nothing is visible the job stops as idle,
 /// unless all sources of its device are done before, which ends the line. It must be at least 1.
 ///
 /// All devices are played side by side. Each device has a thread, and each of its actors one more. Where no thread can be
-/// made, jobs are done one after another. Before each call a job passes the gate.
+/// made, jobs are done one after another. Before each call a job passes the gate, an owner before each feedback call.
 ///
-/// It takes the memory of each device's history, of the actors, and of what they see. `NoMemory` comes where there is
-/// none, once all jobs have ended, and nothing that came of them is given then. Nothing says that the call returns.
+/// It takes the memory for all that each device may keep, of the actors, and of what they see. `NoMemory` comes where
+/// there is none, once all jobs have ended, and nothing that came of them is given then. Nothing says that the call
+/// returns.
 pub fn play_on_threads<R: Threads + Wait + Sync, G: Gate>(
     rt: &R,
     alloc: Global,
@@ -33,41 +34,41 @@ pub fn play_on_threads<R: Threads + Wait + Sync, G: Gate>(
     requires bound { 1 ≤ idle }
     ensures promised { IfOk result (ArePromised (Some idle) rec.now) }
 {
-    let mut slots = empty_slots(alloc, rec.devices().len())?;
-    let count = slots.len().max(1);
+    let mut outcomes = no_outcomes(alloc, rec.devices().len())?;
+    let count = outcomes.len().max(1);
     thread::for_each_mut(
         rt,
-        &mut slots,
+        &mut outcomes,
         count,
-        &|i, slot: &mut Option<DeviceRun>|
+        &|i, outcome: &mut Option<DeviceRun>|
             requires { IsToBeRun idle rec.now i }
-            ensures { IfSome slot.exit.now (IsPromisedOf idle rec.entry.now i) }
+            ensures { IfSome outcome.exit.now (IsPromisedOf idle rec.entry.now i) }
         {
-            *slot = run_device(rt, alloc, rec, i as u32, idle, gate).ok();
+            *outcome = run_device(rt, alloc, rec, i as u32, idle, gate).ok();
         },
     );
-    let devices = collect(alloc, slots)?;
+    let devices = collect(alloc, outcomes)?;
     Played::of(alloc, devices)
 }
 
-// So many empty slots.
-fn empty_slots(alloc: Global, count: usize) -> Result<Vec<Option<DeviceRun>>, NoMemory>
-    ensures count { IfOk result (λ slots. length slots.items ≡ count) }
+// So many outcomes, of which none has come yet.
+fn no_outcomes(alloc: Global, count: usize) -> Result<Vec<Option<DeviceRun>>, NoMemory>
+    ensures count { IfOk result (λ outcomes. length outcomes.items ≡ count) }
 {
-    let mut slots = Vec::new(alloc);
+    let mut outcomes = Vec::new(alloc);
     for _ in 0..count {
-        slots.push(None)?;
+        outcomes.push(None)?;
     }
-    Ok(slots)
+    Ok(outcomes)
 }
 
-// What came of the devices, where that lies in each slot.
-fn collect(alloc: Global, slots: Vec<Option<DeviceRun>>) -> Result<Vec<DeviceRun>, NoMemory>
-    ensures devices { IfOk result (λ devices. map Some devices.items ≡ slots.items) }
+// What came of the devices, where each outcome has come.
+fn collect(alloc: Global, outcomes: Vec<Option<DeviceRun>>) -> Result<Vec<DeviceRun>, NoMemory>
+    ensures devices { IfOk result (λ devices. map Some devices.items ≡ outcomes.items) }
 {
     let mut devices = Vec::new(alloc);
-    for slot in slots {
-        let Some(device) = slot else {
+    for outcome in outcomes {
+        let Some(device) = outcome else {
             return Err(NoMemory);
         };
         devices.push(device)?;

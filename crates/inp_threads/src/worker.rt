@@ -1,15 +1,18 @@
 //! A job on a thread.
-ghost use Rattle.std.specs.Prelude.{◌≡◌, Some};
+ghost use Rattle.std.specs.Prelude.{◌≡◌, false, Option, Some};
+ghost use Rattle.inp_actors.specs.declared.role.Role.TheVariants.{Owner};
+ghost use Rattle.inp_actors.specs.Command.{is_owner};
+ghost use Rattle.inp_script.specs.declared.waiting.Waiting.{Waiting};
 ghost use Rattle.inp_script.specs.Doing.{IsWaiting};
-ghost use Rattle.inp_threads.specs.Worker.{IsReady, IsWorked, actor_number};
+ghost use Rattle.inp_threads.specs.Worker.{IsAtStart, IsFresh, IsReady, IsWorked, actor_number};
 
-use inp_actors::Record;
-use inp_device::Device;
+use crate::owner_client::OwnerClient;
+use inp_actors::{Record, Role};
 use inp_edge::Gate;
-use inp_port::{Port, PortClient};
-use inp_runs::do_lines;
+use inp_runs::{do_lines, feed_lines};
 use inp_script::{Actor, Gated, Waiting};
 use inp_turn::Pass;
+use inp_uinput::{UClient, UPort, Udev};
 use std::sync::Wait;
 
 /// An actor of a record with a pass of its device's port.
@@ -20,7 +23,7 @@ pub(crate) struct Worker {
     /// Its number, which the gate is told.
     pub(crate) number: u32,
     /// The pass, but for the time in which the actor does its lines.
-    pub(crate) pass: Option<Pass<Device>>,
+    pub(crate) pass: Option<Pass<Udev>>,
     /// Whether the actor did all its lines.
     pub(crate) is_done: bool,
 }
@@ -30,7 +33,7 @@ impl Worker {
     pub(crate) fn work<R: Wait, G: Gate>(
         &mut self,
         rt: &R,
-        port: &Port,
+        port: &UPort,
         rec: &Record,
         waiting: Waiting,
         gate: &G,
@@ -43,7 +46,33 @@ impl Worker {
         let Some(pass) = self.pass.take() else {
             return;
         };
-        let client = PortClient {
+        match rec.actors().get(self.number as usize).role {
+            Role::Owner => self.own(rt, port, rec, gate, pass),
+            Role::Source | Role::Client | Role::Tap | Role::Joy => {
+                self.call(rt, port, rec, waiting, gate, pass)
+            }
+        }
+    }
+
+    // Does all lines of an actor that makes calls of an evdev.
+    fn call<R: Wait, G: Gate>(
+        &mut self,
+        rt: &R,
+        port: &UPort,
+        rec: &Record,
+        waiting: Waiting,
+        gate: &G,
+        pass: Pass<Udev>,
+    )
+        requires fresh { IsFresh port.now pass }
+        requires start { IsAtStart port.now rec.now self.old.actor }
+        requires number { self.old.actor.actor ≡ self.old.number }
+        requires caller { is_owner self.old.actor.role ≡ false }
+        requires waiting { IsWaiting rec.now self.old.actor waiting }
+        ensures worked { IsWorked port.now rec.now (Some waiting) self.new }
+        ensures number { actor_number self.new ≡ actor_number self.old }
+    {
+        let client = UClient {
             port,
             rt,
             pass,
@@ -53,5 +82,34 @@ impl Worker {
         let done = do_lines(&mut self.actor, &mut dev, rec, self.number, Some(waiting));
         self.is_done = done.is_ok();
         self.pass = Some(dev.inner.pass);
+    }
+
+    // Does all lines of an owner, which makes feedback calls alone. No line of it waits.
+    fn own<R: Wait, G: Gate>(
+        &mut self,
+        rt: &R,
+        port: &UPort,
+        rec: &Record,
+        gate: &G,
+        pass: Pass<Udev>,
+    )
+        requires fresh { IsFresh port.now pass }
+        requires start { IsAtStart port.now rec.now self.old.actor }
+        requires number { self.old.actor.actor ≡ self.old.number }
+        requires owner { self.old.actor.role ≡ Owner }
+        ensures worked { (wait : Option Waiting) → IsWorked port.now rec.now wait self.new }
+        ensures number { actor_number self.new ≡ actor_number self.old }
+    {
+        let mut dev = OwnerClient {
+            port,
+            rt,
+            pass,
+            gate,
+            job: self.number,
+            calls: 0,
+        };
+        let done = feed_lines(&mut self.actor, &mut dev, rec, self.number);
+        self.is_done = done.is_ok();
+        self.pass = Some(dev.pass);
     }
 }

@@ -12,12 +12,11 @@ ghost use Rattle.inp_threads.specs.Worker.{actor_number, IsPortOf, IsReadyOn, Is
 
 use crate::worker::Worker;
 use inp_actors::{ActorText, Record, Role};
-use inp_device::Device;
 use inp_edge::Gate;
 use inp_model::NoMemory;
-use inp_port::Port;
 use inp_script::{Actor, Waiting};
 use inp_turn::Pass;
+use inp_uinput::{UPort, Udev};
 use std::alloc::Global;
 use std::sync::Wait;
 use std::thread;
@@ -28,8 +27,8 @@ pub(crate) fn deal(
     alloc: Global,
     rec: &Record,
     device: u32,
-    port: &Port,
-    pass: &mut Pass<Device>,
+    port: &UPort,
+    pass: &mut Pass<Udev>,
 ) -> Result<Vec<Worker>, NoMemory>
     requires port { IsPortOf port.now rec.now device }
     requires ready { IsReadyAt port.now pass.old }
@@ -54,8 +53,8 @@ fn deal_one(
     rec: &Record,
     number: u32,
     device: u32,
-    port: &Port,
-    pass: &mut Pass<Device>,
+    port: &UPort,
+    pass: &mut Pass<Udev>,
     workers: &mut Vec<Worker>,
 ) -> Result<(), NoMemory>
     requires actor { is_on_device device (slice_get rec.now.actors number) ≡ true }
@@ -78,7 +77,7 @@ fn deal_one(
 // Has each worker do its lines, on a thread of its own.
 pub(crate) fn run_all<R: Threads + Wait + Sync, G: Gate>(
     rt: &R,
-    port: &Port,
+    port: &UPort,
     rec: &Record,
     device: u32,
     idle: u32,
@@ -129,6 +128,6 @@ fn is_source_of(actor: &ActorText, device: u32) -> bool
 {
     match actor.role {
         Role::Source => actor.device == device,
-        Role::Client | Role::Tap | Role::Joy => false,
+        Role::Client | Role::Tap | Role::Joy | Role::Owner => false,
     }
 }

@@ -10,7 +10,7 @@ loop-actor-preserved c =
     let few : length c.actors.result.now ≡ length c.args.rec.now.actors = ap length c.actors.ensures.actors in
     let within : c.loop-actor.actor < length c.args.rec.now.actors = omega (arith, c.loop-actor-test.true, c.len-actor-end.ensures.length, few) in
     ◌∙◌ {A = List ActorView} c.in_ok-push.ensures.items
-    (one_more_actor c.args.rec.now c.loop-actor.actor c.in_ok-new.field-0 c.loop-actor.actors.items within c.in_ok-new.ensures.actor c.in_ok-new.ensures.number c.in_ok-new.ensures.job c.loop-actor.invariant)
+    (one_more_actor c.args.rec.now c.loop-actor.actor c.in_ok-new.field-0 c.loop-actor.actors.items within c.in_ok-new.ensures.actor c.in_ok-new.ensures.number c.in_ok-new.ensures.job c.in_ok-new.ensures.owning c.loop-actor.invariant)
 
 pub returns-clause-first : goal.returns-clause-first
 returns-clause-first c =

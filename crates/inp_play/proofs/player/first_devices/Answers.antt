@@ -4,7 +4,7 @@ use Rattle.std.proofs.lemmas.List.{map_more}
 use Rattle.std.proofs.lemmas.Option.{same_Some, slice_get_within, slice_get-get_or}
 use Rattle.inp_model.specs.Description.{Description, IsDescription}
 use Rattle.inp_actors.specs.declared.device_text.DeviceText.{DeviceText}
-use Rattle.inp_model.specs.DeviceView.{DeviceView}
+use Rattle.inp_uinput.specs.UdevView.{UdevView}
 use Rattle.inp_play.specs.Player.{first_device}
 use Rattle.inp_play.proofs.player.first_devices.Goals as goal
 
@@ -15,8 +15,8 @@ pub loop-device-preserved : goal.loop-device-preserved
 loop-device-preserved c = record {
   made =
       c.in_ok-push.ensures.items
-      ∙ ap (λ (ds : List DeviceView). ds ++ c.in_ok-new.field-0 ∷ []) c.loop-device.invariant.made
-      ∙ ap (λ (d : DeviceView). map first_device (take c.loop-device.device-index c.as_slice-device-items.result.now) ++ d ∷ []) (c.in_ok-new.ensures.fresh ∙ ap (λ (caps : Description). record { description = caps; past = []; agains = 0 }) c.copy.ensures.same)
+      ∙ ap (λ (ds : List UdevView). ds ++ c.in_ok-new.field-0 ∷ []) c.loop-device.invariant.made
+      ∙ ap (λ (d : UdevView). map first_device (take c.loop-device.device-index c.as_slice-device-items.result.now) ++ d ∷ []) (c.in_ok-new.ensures.fresh ∙ ap (λ (caps : Description). record { description = caps; kept = []; agains = 0 }) c.copy.ensures.same)
       ∙ ap (λ (text : DeviceText). map first_device (take c.loop-device.device-index c.as_slice-device-items.result.now) ++ first_device text ∷ []) c.device-item.is
       ∙ sym (map_more first_device c.as_slice-device-items.result.now c.loop-device.device-index c.device-item.result c.loop-device-test.true);
   described = λ i text below is. by i text is (earlier_or_last i c.loop-device.device-index below);

@@ -1,11 +1,16 @@
-use Rattle.std.proofs.Common.{◌≡◌, List, [], length, sym, ap, subst, ◌∙◌, arith, Some}
+use Rattle.std.proofs.Common.{◌≡◌, List, [], length, refl, sym, ap, subst, ◌∙◌, arith, Some}
 use Rattle.std.specs.Prelude.{reverse, slice_get}
 use Rattle.std.proofs.lemmas.Option.{same_Some}
 use Rattle.std.proofs.lemmas.Result.{IfOk-weaker}
 use lib.ListN.{length-map}
 use Rattle.inp_model.specs.declared.step.Step.{Step}
 use Rattle.inp_model.specs.Description.{IsDescription}
-use Rattle.inp_model.specs.DeviceView.{DeviceView}
+use Rattle.inp_feedback.specs.declared.u_entry.UEntry.{UEntry}
+use Rattle.inp_feedback.specs.UEntry.{step_of}
+use Rattle.inp_port.specs.Entries.{steps_of}
+use Rattle.inp_uinput.specs.UdevView.{UdevView}
+use Rattle.inp_uinput.proofs.Serving.{steps-reverse}
+use Rattle.inp_script.specs.Ended.{device_run}
 use Rattle.inp_actors.specs.declared.device_text.DeviceText.{DeviceText}
 use Rattle.inp_script.specs.declared.run.DeviceRun.{DeviceRun}
 use Rattle.inp_runs.specs.Done.{IsRunAsPromised}
@@ -29,14 +34,17 @@ returns g c = record {
       (λ done is. λ device at.
       (let item : slice_get c.args.rec.now.devices c.args.number ≡ Some c.get.result.now = ap (λ (ds : List DeviceText). slice_get ds c.args.number) (sym c.devices.ensures.devices) ∙ c.get.ensures.item in
       let caps : c.copy-caps.result ≡ device.caps = c.copy-caps.ensures.same ∙ ap (λ (text : DeviceText). text.caps) (same_Some c.get.result.now device (sym item ∙ at)) in
-      let fresh : first_of c.in-Ok.port ≡ record { description = c.copy-caps.result; past = []; agains = 0 } = c.in-Ok.ensures.first ∙ c.in_ok-new.ensures.fresh in
-      let none : reverse (first_of c.in-Ok.port).past ≡ [] = ap (λ (v : DeviceView). reverse v.past) fresh in
-      let described : description_of c.in-Ok.port ≡ device.caps = c.in-Ok.ensures.description ∙ ap (λ (v : DeviceView). v.description) c.in_ok-new.ensures.fresh ∙ caps in
+      let fresh : first_of c.in-Ok.port ≡ record { description = c.copy-caps.result; kept = []; agains = 0 } = c.in-Ok.ensures.first ∙ c.in_ok-new.ensures.fresh in
+      let none : reverse (first_of c.in-Ok.port).kept ≡ [] = ap (λ (v : UdevView). reverse v.kept) fresh in
+      let described : description_of c.in-Ok.port ≡ device.caps = c.in-Ok.ensures.description ∙ ap (λ (v : UdevView). v.description) c.in_ok-new.ensures.fresh ∙ caps in
       let dealt = c.in_ok-workers.ensures.dealt in
-      let own : IsEachAddedOnce [] c.into_history-history.result (view_of c.gather-pass.result.pass).own =
-      subst (λ (first : List Step). IsEachAddedOnce first c.into_history-history.result (view_of c.gather-pass.result.pass).own) none
-      (subst (λ (steps : List Step). IsEachAddedOnce (reverse (first_of c.in-Ok.port).past) steps (view_of c.gather-pass.result.pass).own) (sym c.into_history-history.ensures.history) c.close.ensures.own) in
-      let left : IsLeftOf c.args.idle c.args.number c.args.rec.now device.caps c.in-Ok.port (view_of c.deal.new.pass) (view_of c.gather-pass.result.pass) c.run_all.new.workers.items c.into_history-history.result = record {
+      let joined = view_of c.gather-pass.result.pass in
+      let own : IsEachAddedOnce [] joined.seen joined.own =
+      subst (λ (first : List UEntry). IsEachAddedOnce first joined.seen joined.own) none
+      (subst (λ (entries : List UEntry). IsEachAddedOnce (reverse (first_of c.in-Ok.port).kept) entries joined.own) c.close.ensures.entries c.close.ensures.own) in
+      let history : c.into_history-history.result ≡ steps_of step_of joined.seen =
+      c.into_history-history.ensures.history ∙ sym (steps-reverse c.close.result.kept) ∙ ap (steps_of step_of) c.close.ensures.entries in
+      let left : IsLeftOf c.args.idle c.args.number c.args.rec.now device.caps c.in-Ok.port (view_of c.deal.new.pass) joined c.run_all.new.workers.items joined.seen = record {
         description = described;
         numbers = c.run_all.ensures.numbers ∙ dealt.numbers;
         worked = c.run_all.ensures.worked;
@@ -44,11 +52,11 @@ returns g c = record {
         sized = c.gather-pass.ensures.sized;
         are_joined = c.gather-pass.ensures.joined;
         none = dealt.own;
-        seen = sym c.close.ensures.entries ∙ sym c.into_history-history.ensures.history;
+        seen = refl;
         owned = own;
       } in
-      subst (λ (came : DeviceRun). IsRunAsPromised (Some c.args.idle) c.args.rec.now c.args.number device came) (sym is)
-      (left-promised c.args.idle c.args.number c.args.rec.now device c.in-Ok.port (view_of c.deal.new.pass) (view_of c.gather-pass.result.pass) c.run_all.new.workers.items c.into_history-history.result left
+      subst (λ (came : DeviceRun). IsRunAsPromised (Some c.args.idle) c.args.rec.now c.args.number device came) (ap (λ (h : List Step). device_run h c.gather-pass.result.ends.items) (sym history) ∙ sym is)
+      (left-promised c.args.idle c.args.number c.args.rec.now device c.in-Ok.port (view_of c.deal.new.pass) joined c.run_all.new.workers.items joined.seen left
       c.devices.ensures.record (subst IsDescription caps c.copy-caps.ensures.description) c.gather-pass.result.ends.items c.gather-pass.ensures.ends)))
       c.of.ensures.run;
 }

@@ -14,7 +14,7 @@ for_each_mut-requires-clause-accepts g c κs within =
     λ i p below is. (
       record {
         bound = c.requires.bound;
-        within = omega (arith, below, ap length c.deref_mut.ensures.value, c.in_ok-slots.ensures.count, c.len.ensures.length, ap length c.devices.ensures.devices);
+        within = omega (arith, below, ap length c.deref_mut.ensures.value, c.in_ok-outcomes.ensures.count, c.len.ensures.length, ap length c.devices.ensures.devices);
         few = c.devices.ensures.record.few_devices;
       },
       (record { shared = c.type_bounds.sync-R.shared }, record { shared = c.type_bounds.sync-G.shared }),
@@ -22,7 +22,7 @@ for_each_mut-requires-clause-accepts g c κs within =
 
 pub returns : goal.returns
 returns g c =
-    let items : List (Option DeviceRun) = c.in_ok-slots.slots.items in
+    let items : List (Option DeviceRun) = c.in_ok-outcomes.outcomes.items in
     let slice : List (Option DeviceRun) = c.deref_mut.result.now in
     let new : List (Option DeviceRun) = c.for_each_mut.new.s in
     let r = c.args.rec.now in
@@ -31,11 +31,11 @@ returns g c =
     let each : (i : ℕ) (d : Option DeviceRun) → i < length new → IfSome (get_or new i d) (IsPromisedOf c.args.idle r i) = λ i d below.
     (let k = (c.for_each_mut.ensures i d (omega (arith, below, long))).1 in
     let done : IfSome k.after_call.now (IsPromisedOf c.args.idle r i) = k.call in
-    subst (λ (slot : Option DeviceRun). IfSome slot (IsPromisedOf c.args.idle r i)) k.left done) in
-    let all = changed c.in_ok-slots.slots.len items new (omega (arith, c.in_ok-slots.slots.ok.0)) (long ∙ ap length same) in
+    subst (λ (outcome : Option DeviceRun). IfSome outcome (IsPromisedOf c.args.idle r i)) k.left done) in
+    let all = changed c.in_ok-outcomes.outcomes.len items new (omega (arith, c.in_ok-outcomes.outcomes.ok.0)) (long ∙ ap length same) in
     let devices : List DeviceRun = c.in_ok-devices.devices.items in
     let came : ArePromised (Some c.args.idle) r (played_of devices) =
-    collected c.args.idle r new devices (omega (arith, long, ap length same, c.in_ok-slots.ensures.count, c.len.ensures.length, ap length c.devices.ensures.devices)) each (c.in_ok-devices.ensures.devices ∙ all) in
+    collected c.args.idle r new devices (omega (arith, long, ap length same, c.in_ok-outcomes.ensures.count, c.len.ensures.length, ap length c.devices.ensures.devices)) each (c.in_ok-devices.ensures.devices ∙ all) in
     record {
       promised = IfOk-weaker c.of.result _ (ArePromised (Some c.args.idle) r)
           (λ played is. subst (λ (p : Played). ArePromised (Some c.args.idle) r p) (sym is) came)

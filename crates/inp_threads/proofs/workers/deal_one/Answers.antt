@@ -19,13 +19,18 @@ returns c =
     let w : Worker = record { actor = c.in_ok-actor.actor; number = c.args.number; pass = Some c.split.result; is_done = false } in
     let is_ready : IsReadyOn port r device w = record {
       ready = record {
-        pass = record { pass = c.split.result; is_pass = refl; ready = c.split.ensures.ready.1; share = ap (λ v. v.share) new };
-        seen = ap (λ v. v.seen) new ∙ before.seen;
-        own = ap (λ v. v.own) new;
+        pass = record {
+          pass = c.split.result;
+          is_pass = refl;
+          fresh = record { ready = c.split.ensures.ready.1; share = ap (λ v. v.share) new; seen = ap (λ v. v.seen) new ∙ before.seen; own = ap (λ v. v.own) new };
+        };
         number = actor.number;
-        actor = actor.actor;
-        description = its-description port r device c.args.number c.in_ok-actor.actor c.requires.port actor.actor actor.number c.requires.actor;
-        job = actor.job;
+        start = record {
+          actor = actor.actor;
+          description = its-description port r device c.args.number c.in_ok-actor.actor c.requires.port actor.actor actor.number c.requires.actor;
+          job = actor.job;
+          owning = actor.owning;
+        };
       };
       text = actor.actor.text;
       is_text = actor.actor.is_text;

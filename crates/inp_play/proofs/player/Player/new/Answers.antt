@@ -1,5 +1,5 @@
 use Rattle.std.proofs.Common.{List, map, sym, ap, subst, ◌∙◌}
-use Rattle.inp_model.specs.DeviceView.{DeviceView}
+use Rattle.inp_uinput.specs.UdevView.{UdevView}
 use Rattle.inp_script.specs.Job.{ActorView}
 use Rattle.inp_play.specs.Player.{stage_with, first_device, HasDevices}
 use Rattle.inp_play.proofs.PlayerMaking.{first_has_devices, first_stage_with}
@@ -13,6 +13,6 @@ returns-clause-player c = record {
 
 pub returns-clause-stage : goal.returns-clause-stage
 returns-clause-stage c =
-    ap (λ (ds : List DeviceView). stage_with ds c.in_ok-first_actors.field-0.items) c.in_ok-first_devices.ensures.devices
+    ap (λ (ds : List UdevView). stage_with ds c.in_ok-first_actors.field-0.items) c.in_ok-first_devices.ensures.devices
     ∙ ap (λ (bs : List ActorView). stage_with (map first_device c.args.rec.now.devices) bs) c.in_ok-first_actors.ensures.first
     ∙ first_stage_with c.args.rec.now
