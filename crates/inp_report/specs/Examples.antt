@@ -3,7 +3,7 @@ use Rattle.std.specs.Prelude.{◌≡◌, ℕ, pos, negsuc, true, false, List, []
 use Rattle.inp_model.specs.declared.event.Event.{Event}
 use Rattle.inp_model.specs.declared.axis_info.AxisInfo.{AxisInfo}
 use Rattle.inp_model.specs.declared.step.Step.{Step}
-use Rattle.inp_model.specs.declared.step.Step.TheVariants.{Inject, Open, Read, Discard, GetKeys, GetAxis, End}
+use Rattle.inp_model.specs.declared.step.Step.TheVariants.{Inject, Open, Read, Write, Discard, GetKeys, GetAxis, End}
 use Rattle.inp_model.specs.declared.reply.Reply.TheVariants.{Done, Opened, Took as Taking, Discarded, Bits, Axis, Refused}
 use Rattle.inp_model.specs.declared.reply.Refusal.TheVariants.{LogFull}
 use Rattle.inp_model.specs.Description.{Description, one_key}
@@ -11,26 +11,31 @@ use Rattle.inp_model.specs.Event.{syn_dropped}
 use Rattle.inp_model.specs.Examples.{at, key, report as syn_report}
 use Rattle.inp_model.specs.QueryExamples.{desk}
 use Rattle.inp_model.specs.SlotExamples.{touchpad, touch}
+use Rattle.inp_feedback.specs.declared.fed.Fed.TheVariants.{Took as FeedTook, Full as FeedFull}
+use Rattle.inp_feedback.specs.Examples.{caps_lock}
 use Rattle.inp_joy.specs.Examples.{stick, trigger}
 use Rattle.inp_joy.specs.Picture.{PictureView, blank_picture, up_to_64}
 use Rattle.inp_reader.specs.Examples.{axis}
 use Rattle.inp_recon.specs.declared.view.View.{View}
 use Rattle.inp_recon.specs.View.{first_view}
 use Rattle.inp_actors.specs.declared.role.Role.{Role}
-use Rattle.inp_actors.specs.declared.role.Role.TheVariants.{Source, Client, Tap, Joy}
+use Rattle.inp_actors.specs.declared.role.Role.TheVariants.{Source, Client, Tap, Joy, Owner}
 use Rattle.inp_actors.specs.declared.actor_text.ActorText.{ActorText}
 use Rattle.inp_actors.specs.Record.{RecordView}
+use Rattle.inp_script.specs.declared.fed_sight.FedSight.{FedSight}
+use Rattle.inp_script.specs.declared.fed_sight.FedSight.TheVariants.{Answer, Event as Given}
 use Rattle.inp_script.specs.declared.sight.Sight.{Sight}
 use Rattle.inp_script.specs.declared.sight.Sight.TheVariants.{Call, Took, Made, Again, Record}
 use Rattle.inp_script.specs.declared.stop.Stop.{Stop}
 use Rattle.inp_script.specs.declared.stop.Stop.TheVariants.{Finished, Idle, Full}
 use Rattle.inp_script.specs.declared.run.Run.{Run}
-use Rattle.inp_script.specs.Job.{JobView, JoyJobView}
+use Rattle.inp_script.specs.Job.{JobView, JoyJobView, OwnerView}
 use Rattle.inp_report.specs.Words.{LINE_FEED}
 use Rattle.inp_report.specs.Sights.{sight_line}
 use Rattle.inp_report.specs.Views.{view_text}
 use Rattle.inp_report.specs.Report.{stop_line, reading_text, report}
 use Rattle.inp_report.specs.JoyReport.{joy_report}
+use Rattle.inp_report.specs.OwnerReport.{owner_report}
 use Rattle.inp_report.specs.Summary.{summary}
 
 -- a text of these lines
@@ -43,7 +48,7 @@ actor role name = record { name = name; role = role; device = 0 }
 
 -- a record with this device and these actors; a report says nothing of its lines
 abbrev pub record_of : List ℕ → Description → List ActorText → RecordView
-record_of name d actors = record { version = 1; devices = record { name = name; caps = d } ∷ []; actors = actors; lines = []; streams = [] }
+record_of name d actors = record { version = 1; devices = record { name = name; caps = d; requested = false } ∷ []; actors = actors; lines = []; streams = [] }
 
 abbrev pub job : ℕ → List Sight → View → Stop → JobView
 job number sight view stop = record { actor = number; sight = sight; view = view; stop = stop }
@@ -243,6 +248,67 @@ ShowsAnAxisBelowNought =
     joy_report joystick (joy_job (
     Record (255 ∷ 255 ∷ 255 ∷ 255 ∷ 1 ∷ 128 ∷ 2 ∷ 0 ∷ []) ∷ []) (record blank_picture { axes = up_to_64 (pos 0) (negsuc 32766 ∷ []) }) (Full 9) ∷ [])
     ≡ text_of (codes "joy j" ∷ codes "js 4294967295 -32767 2 0" ∷ codes "buttons" ∷ codes "axes -32767" ∷ codes "stop full 9" ∷ [])
+
+-- A device with an LED, which is made by requests. A tap lights the LED two times, of which the second changes nothing. The
+-- owner takes the one event that was sent, and then none.
+abbrev pub lamp : Description
+lamp = record one_key {
+  kinds = true ∷ replicate 16 false ++ true ∷ replicate 46 false;
+  keys = replicate 768 false;
+  leds = false ∷ true ∷ replicate 62 false;
+}
+
+abbrev pub lamp_record : RecordView
+lamp_record = record (record_of (codes "u") lamp (actor Tap (codes "t") ∷ actor Owner (codes "o") ∷ [])) {
+  devices = record { name = codes "u"; caps = lamp; requested = true } ∷ [];
+}
+
+abbrev pub lit_twice : List Step
+lit_twice = Open ∷ Write 0 (caps_lock (pos 1)) 1 ∷ Write 0 (caps_lock (pos 1)) 2 ∷ []
+
+abbrev pub lighting : List Sight
+lighting =
+    Call Open (Opened 0 0 128)
+    ∷ Call (Write 0 (caps_lock (pos 1)) 1) (Done 1)
+    ∷ Call (Write 0 (caps_lock (pos 1)) 2) (Done 2)
+    ∷ []
+
+abbrev pub owner_of_lamp : List FedSight → Stop → OwnerView
+owner_of_lamp told stop = record { actor = 1; fed = told; stop = stop }
+
+abbrev pub ShowsAnOwner : Type 0
+ShowsAnOwner =
+    report lamp_record (record { history = lit_twice; jobs = job 0 lighting (first_view lamp) Finished ∷ [] } ∷ []) false
+    ++ owner_report lamp_record (owner_of_lamp (Answer (FeedTook 3 1) ∷ Given (caps_lock (pos 1)) ∷ Answer (FeedTook 3 0) ∷ []) Finished ∷ [])
+    ≡ text_of (codes "device u steps 3"
+    ∷ codes "tap t"
+    ∷ codes "call open reply opened 0 0 128"
+    ∷ codes "call write 0 1 EV_LED LED_CAPSL 1 reply done 1"
+    ∷ codes "call write 0 2 EV_LED LED_CAPSL 1 reply done 2"
+    ∷ codes "leds"
+    ∷ codes "stop finished"
+    ∷ codes "owner o"
+    ∷ codes "feedback 3 1"
+    ∷ codes "fed EV_LED LED_CAPSL 1"
+    ∷ codes "feedback 3 0"
+    ∷ codes "stop finished"
+    ∷ [])
+
+-- where two calls are kept at most, the third one is refused behind two steps: it has no line
+abbrev pub ShowsNoRefusedFeedback : Type 0
+ShowsNoRefusedFeedback =
+    owner_report lamp_record (owner_of_lamp (
+    Answer (FeedTook 2 1)
+    ∷ Given (caps_lock (pos 1))
+    ∷ Answer (FeedTook 2 0)
+    ∷ Answer (FeedFull 2)
+    ∷ []) (Full 2) ∷ [])
+    ≡ text_of (codes "owner o"
+    ∷ codes "feedback 2 1"
+    ∷ codes "fed EV_LED LED_CAPSL 1"
+    ∷ codes "feedback 2 0"
+    ∷ codes "stop full 2"
+    ∷ [])
 
 -- ten fingers, of which the last is told
 abbrev pub generated : RecordView

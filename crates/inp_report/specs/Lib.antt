@@ -5,5 +5,6 @@ pub mod Sights
 pub mod Views
 pub mod Report
 pub mod JoyReport
+pub mod OwnerReport
 pub mod Summary
 pub mod Examples

@@ -4,7 +4,7 @@ use Rattle.std.specs.List.{count_by, enumerate_from, zip}
 use Rattle.inp_model.specs.declared.step.Step.{Step}
 use Rattle.inp_model.specs.Description.{Description}
 use Rattle.inp_actors.specs.declared.role.Role.{Role}
-use Rattle.inp_actors.specs.declared.role.Role.TheVariants.{Source, Client, Tap, Joy}
+use Rattle.inp_actors.specs.declared.role.Role.TheVariants.{Source, Client, Tap, Joy, Owner}
 use Rattle.inp_actors.specs.declared.actor_text.ActorText.{ActorText}
 use Rattle.inp_actors.specs.declared.device_text.DeviceText.{DeviceText}
 use Rattle.inp_actors.specs.Record.{RecordView}
@@ -33,7 +33,7 @@ history_text history = flat_map step_line (enumerate_from 0 history)
 unfoldable pub source_line : List ℕ → ℕ → Stop → List ℕ
 source_line name calls stop = codes "source " ++ (name ++ (codes " calls " ++ (decimal calls ++ (codes " stop " ++ (stop_text stop ++ LINE_FEED)))))
 
--- client NAME or tap NAME
+-- client NAME, tap NAME, joy NAME or owner NAME
 unfoldable pub actor_line : Role → List ℕ → List ℕ
 actor_line role name = role_text role ++ (codes " " ++ (name ++ LINE_FEED))
 
@@ -46,12 +46,13 @@ abbrev pub reading_text : Role → List ℕ → Description → JobView → List
 reading_text role name d job =
     actor_line role name ++ (flat_map sight_line job.sight ++ (view_text d job.view ++ stop_line job.stop))
 
--- an actor's part, by its role; a joystick has none under its device (JoyReport.antt)
+-- an actor's part, by its role; a joystick and an owner have none under their device (JoyReport.antt, OwnerReport.antt)
 abbrev pub part_text : Role → List ℕ → Description → JobView → List ℕ
 part_text Source name d job = source_line name (count_by is_counted_call job.sight) job.stop
 part_text Client name d job = reading_text Client name d job
 part_text Tap name d job = reading_text Tap name d job
 part_text Joy name d job = []
+part_text Owner name d job = []
 
 abbrev pub actor_part : Option ActorText → Description → JobView → List ℕ
 actor_part None d job = []

@@ -4,7 +4,7 @@ use Rattle.std.specs.List.{count_by, zip}
 use Rattle.std.specs.Fmt.{signed_decimal}
 use Rattle.inp_model.specs.declared.multi_touch.TheConstants.{ABS_MT_POSITION_X, ABS_MT_POSITION_Y}
 use Rattle.inp_actors.specs.declared.role.Role.{Role}
-use Rattle.inp_actors.specs.declared.role.Role.TheVariants.{Source, Client, Tap, Joy}
+use Rattle.inp_actors.specs.declared.role.Role.TheVariants.{Source, Client, Tap, Joy, Owner}
 use Rattle.inp_actors.specs.declared.actor_text.ActorText.{ActorText}
 use Rattle.inp_actors.specs.declared.device_text.DeviceText.{DeviceText}
 use Rattle.inp_actors.specs.Record.{RecordView}
@@ -46,12 +46,13 @@ abbrev pub counts_line : Role → List ℕ → JobView → List ℕ
 counts_line role name job =
     role_text role ++ (codes " " ++ (name ++ (codes " " ++ (counts_text job.sight ++ (codes " " ++ (position_text job.view.cells ++ LINE_FEED))))))
 
--- an actor's line, by its role; a joystick has none
+-- an actor's line, by its role; a joystick and an owner have none
 abbrev pub brief_line : Role → List ℕ → JobView → List ℕ
 brief_line Source name job = calls_line name (count_by is_counted_call job.sight)
 brief_line Client name job = counts_line Client name job
 brief_line Tap name job = counts_line Tap name job
 brief_line Joy name job = []
+brief_line Owner name job = []
 
 abbrev pub actor_brief : Option ActorText → JobView → List ℕ
 actor_brief None job = []

@@ -121,7 +121,7 @@ fn push_brief(text: &mut String, actor: &ActorText, job: &JobEnd) -> Result<(), 
         Role::Source => push_calls(text, &actor.name, counted_calls(job.sight().as_slice())),
         Role::Client => push_counts(text, Role::Client, &actor.name, job),
         Role::Tap => push_counts(text, Role::Tap, &actor.name, job),
-        Role::Joy => Ok(()),
+        Role::Joy | Role::Owner => Ok(()),
     }
 }
 

@@ -45,7 +45,7 @@ fn push_part(
         }
         Role::Client => push_reading(text, Role::Client, &actor.name, caps, job),
         Role::Tap => push_reading(text, Role::Tap, &actor.name, caps, job),
-        Role::Joy => Ok(()),
+        Role::Joy | Role::Owner => Ok(()),
     }
 }
 

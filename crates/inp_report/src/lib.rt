@@ -1,21 +1,26 @@
-//! The printed text of a record of input devices and of what came of it: the report, that of its joysticks, and the summary.
+//! The printed text of a record of input devices and of what came of it: the report, that of its joysticks, that of its
+//! owners, and the summary.
 //!
 //! This crate is for whoever shows what was played. It stands on `inp_actors` for records, on `inp_script` for what came of
-//! them, on `inp_recon` for views, on `inp_joy` for joysticks' records and pictures, and on `inp_codes` for names.
+//! them, on `inp_recon` for views, on `inp_joy` for joysticks' records and pictures, on `inp_feedback` for what owners were
+//! answered, and on `inp_codes` for names.
 //!
-//! Its contract: [`report`], [`joy_report`] and [`summary`] give exactly the bytes that `specs/Report.antt`,
-//! `specs/JoyReport.antt` and `specs/Summary.antt` define of the record and of what came of it, with and without histories, row
-//! by row of the tables in docs/FORMATS.md, or want of memory. The caller must pass the runs and the joysticks of this record
-//! (`AreRunsOf` and `AreJoysOf` of `inp_script`): a run for each device and a job for each of its actors but joysticks, in
-//! order, with a view of the device, and a job for each joystick. [`examples`] shows the whole text of a key press, with its
-//! history too, a client's part, a loss and the synchronisation after it, a full history, the slots of a touchpad, a joystick,
-//! and a summary. A report takes time in proportion to what it prints, a summary to what was seen; no clause says so.
+//! Its contract: [`report`], [`joy_report`], [`owner_report`] and [`summary`] give exactly the bytes that
+//! `specs/Report.antt`, `specs/JoyReport.antt`, `specs/OwnerReport.antt` and `specs/Summary.antt` define of the record and of
+//! what came of it, with and without histories, row by row of the tables in docs/FORMATS.md, or want of memory. The caller
+//! must pass the runs, the joysticks and the owners of this record (`AreRunsOf`, `AreJoysOf` and `AreOwnersOf` of
+//! `inp_script`): a run for each device and a job for each of its actors but joysticks and owners, in order, with a view of
+//! the device, a job for each joystick, and what each owner was told. [`examples`] shows the whole text of a key press, with
+//! its history too, a client's part, a loss and the synchronisation after it, a full history, the slots of a touchpad, a
+//! joystick, an owner, and a summary. A report takes time in proportion to what it prints, a summary to what was seen; no
+//! clause says so.
 #![tactic(auto)]
 
 mod bits;
 mod brief;
 mod jobs;
 mod joysticks;
+mod owners;
 mod picture;
 mod sights;
 mod stamp;
@@ -27,5 +32,6 @@ mod words;
 
 pub use brief::summary;
 pub use joysticks::joy_report;
+pub use owners::owner_report;
 pub use text_examples::examples;
 pub use whole::report;

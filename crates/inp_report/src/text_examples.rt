@@ -1,5 +1,5 @@
 //! What the definitions say of a few records.
-ghost use Rattle.inp_report.specs.Examples.{ShowsAPress, ShowsItsHistory, ShowsAFullHistory, CountsNoEnd, ShowsAClient, ShowsALoss, ShowsEachClass, ShowsIdle, ShowsContacts, ShowsAJoystick, ShowsAnAxisBelowNought, SumsUp};
+ghost use Rattle.inp_report.specs.Examples.{ShowsAPress, ShowsItsHistory, ShowsAFullHistory, CountsNoEnd, ShowsAClient, ShowsALoss, ShowsEachClass, ShowsIdle, ShowsContacts, ShowsAJoystick, ShowsAnAxisBelowNought, ShowsAnOwner, ShowsNoRefusedFeedback, SumsUp};
 
 /// What the definitions of this crate make of a few records and of what came of them, worked out by hand. It does nothing:
 /// its contract is the point.
@@ -15,5 +15,7 @@ pub fn examples()
     ensures contacts { ShowsContacts }
     ensures joystick { ShowsAJoystick }
     ensures below_nought { ShowsAnAxisBelowNought }
+    ensures owner { ShowsAnOwner }
+    ensures refused { ShowsNoRefusedFeedback }
     ensures summary { SumsUp }
 {}

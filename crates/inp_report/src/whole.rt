@@ -14,8 +14,8 @@ use std::alloc::Global;
 /// The report of a record and of what came of it: the devices in order, each with the number of its steps, with all its
 /// steps where `history` is wanted, and with what each of its actors did, saw and knows at the end.
 ///
-/// `runs` must be those of this record: one run for each device, in order, each with one job for each actor of the device,
-/// in order, whose view is of the device. It takes time and memory in proportion to the text.
+/// `runs` must be those of this record: one run for each device, in order, each with one job for each actor of the device
+/// but joysticks and owners, in order, whose view is of the device. It takes time and memory in proportion to the text.
 ///
 /// # Errors
 ///

@@ -16,7 +16,7 @@ use Rattle.inp_record.specs.declared.refused.Refused.{Refused as Refusal}
 use Rattle.inp_record.specs.Meaning.{meaning}
 use Rattle.inp_script.specs.declared.run.Played.{Played}
 use Rattle.inp_script.specs.declared.run.Run.{Run}
-use Rattle.inp_script.specs.Job.{JoyJobView}
+use Rattle.inp_script.specs.Job.{JoyJobView, OwnerView}
 use Rattle.inp_upgrade.specs.Upgrade.{upgraded}
 use Rattle.inp_tool.specs.declared.end.End.{End}
 use Rattle.inp_tool.specs.declared.outcome.Outcome.{Outcome}
@@ -28,7 +28,7 @@ use Rattle.inp_tool.specs.Reading.{IsRead, IsUnread, IsTooLong, AreRead, IsParse
 use Rattle.inp_tool.specs.Promise.{Words, AskFor, NameFile, CameOf, whole_report, HasCause, IsWrittenWhole, IsWritten, Promise}
 use Rattle.inp_tool.specs.Complete.{IsFaultless, IsThere, AreThere, IsReadable, played_by, IsTold, made_summary, IsToldWhole, IsRewritten, IsComplete}
 use Rattle.inp_tool.proofs.MadeBounds.{asked-not_full}
-use Rattle.inp_tool.proofs.MadeJoys.{made-no_joys}
+use Rattle.inp_tool.proofs.MadeAlone.{made-no_joys, made-no_owners}
 use Rattle.inp_tool.proofs.StreamFiles.{line_found}
 use Rattle.inp_tool.proofs.Faults.{same_file, plays_file, migrates_file, made_names_none, refused_names_none}
 
@@ -181,10 +181,11 @@ module _ (r : Reads) (file : List ℕ) (recorded : RecordView) (readable : IsRea
       ∙ sym readable.whole
 
 -- the end has what was found
-same_played : (end : End) (played : Played) → end.runs ≡ played.runs → end.joys ≡ played.joys → played_by end ≡ played
-same_played end played runs joys =
-    ap (λ (rs : List Run). record { runs = rs; joys = end.joys }) runs
-    ∙ ap (λ (js : List JoyJobView). record { runs = played.runs; joys = js }) joys
+same_played : (end : End) (played : Played) → end.runs ≡ played.runs → end.joys ≡ played.joys → end.owners ≡ played.owners → played_by end ≡ played
+same_played end played runs joys owners =
+    ap (λ (rs : List Run). record { runs = rs; joys = end.joys; owners = end.owners }) runs
+    ∙ ap (λ (js : List JoyJobView). record { runs = played.runs; joys = js; owners = end.owners }) joys
+    ∙ ap (λ (os : List OwnerView). record { runs = played.runs; joys = played.joys; owners = os }) owners
 
 -- what came of a record was told
 is_told : (w : Writes) (idle : Option ℕ) (recorded : RecordView) (text : Played → List ℕ) (played : Played) (says : List ℕ) (end : End) → CameOf idle recorded played → says ≡ text played → played_by end ≡ played
@@ -244,7 +245,7 @@ by_outcome words r w end (WasPlayed played text) file history idle recorded aske
     let C : RecordView → Type 0 = λ x. CameOf idle x played in
     let says = h.says ∙ ap (λ (x : RecordView). whole_report x h.history played) its ∙ ap (λ (b : Bool). whole_report recorded b played) same_history in
     inr (is_told w idle recorded (whole_report recorded history) played text.items end (subst C its (subst (λ (o : Option ℕ). CameOf o h.recorded played) same_idle h.came)) says
-    (same_played end played whole.ended.runs whole.ended.joys) whole.ended.status whole.written)
+    (same_played end played whole.ended.runs whole.ended.joys whole.ended.owners) whole.ended.status whole.written)
 by_outcome words r w end (WasPlayed played text) file history idle recorded asked readable stays faultless there (inr h) whole = let never : ⊥ = cc (h.asked, asked) in absurd never
 by_outcome words r w end (Migrated text) file history idle recorded asked readable stays faultless there h whole = let never : ⊥ = cc (h.asked, asked) in absurd never
 
@@ -265,7 +266,7 @@ by_outcome_migrated words r w end (Migrated text) file recorded asked readable s
     let its = same_whole r file recorded readable stays faultless h.recorded (subst P same h.read) in
     let says : text.items ≡ record_text (upgraded recorded) = h.says ∙ ap (λ (x : RecordView). record_text (upgraded x)) its in
     let Q : List ℕ → Type 0 = λ t. Appends t w.before.written w.after.written in
-    inr (record { status = whole.ended.status; runs = whole.ended.runs; joys = whole.ended.joys; written = subst Q says whole.written })
+    inr (record { status = whole.ended.status; runs = whole.ended.runs; joys = whole.ended.joys; owners = whole.ended.owners; written = subst Q says whole.written })
 
 -- a record that was to be made was played, or memory ran out
 by_outcome_made : (words : Words) (r : Reads) (w : Writes) (end : End) (found : Outcome) (number count : ℕ) → requested words ≡ Some (Make number count) → HasCause words r found → IsWrittenWhole w found end
@@ -282,7 +283,7 @@ by_outcome_made words r w end (WasPlayed played text) number count asked (inr h)
     let c : h.count ≡ count = cc (h.asked, asked) in
     let C : ℕ → ℕ → Type 0 = λ x y. CameOf None (generated x y) played × (text.items ≡ made_summary x y played) in
     let here : C number count = subst (λ (y : ℕ). C number y) c (subst (λ (x : ℕ). C x h.count) n (h.came, h.says)) in
-    inr (is_told w None (generated number count) (made_summary number count) played text.items end here.0 here.1 (same_played end played whole.ended.runs whole.ended.joys) whole.ended.status whole.written)
+    inr (is_told w None (generated number count) (made_summary number count) played text.items end here.0 here.1 (same_played end played whole.ended.runs whole.ended.joys whole.ended.owners) whole.ended.status whole.written)
 
 when_read : (words : Words) (r : Reads) (w : Writes) (end : End) (p : Promise words r w end) → is_some r.after.left ≡ is_some r.before.left → (file : List ℕ) (history : Bool) (idle : Option ℕ) (recorded : RecordView)
     → AskFor words file history idle → IsReadable r file recorded → IsFaultless r.before.faults r.after.faults → IsFaultless w.before.faults w.after.faults
@@ -314,8 +315,9 @@ when_made words r w end p number count asked no_write = of_told (by_writing p.wr
     of_told (inl lacks) = inl lacks
     of_told (inr told) = inr (record {
       told = told;
-      status = told.status ∙ ap (λ (full : Bool). if full then 6 else 0) (asked-not_full words number count (played_by end) asked (told.came.in_order refl) told.came.promised.joys_of);
+      status = told.status ∙ ap (λ (full : Bool). if full then 6 else 0) (asked-not_full words number count (played_by end) asked (told.came.in_order refl) told.came.promised.joys_of told.came.promised.owners_of);
       joys = made-no_joys number count end.joys told.came.promised.joys_of;
+      owners = made-no_owners number count end.owners told.came.promised.owners_of;
     })
 
     by_writing : IsWritten w p.found end → (end.status ≡ 5) ⊎ IsTold w None (generated number count) (made_summary number count) end

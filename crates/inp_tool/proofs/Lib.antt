@@ -5,6 +5,6 @@ pub mod StreamAt
 pub mod Records
 pub mod Migrated
 pub mod Faults
-pub mod MadeJoys
+pub mod MadeAlone
 pub mod MadeBounds
 pub mod Completeness

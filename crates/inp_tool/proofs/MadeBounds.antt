@@ -17,23 +17,23 @@ use Rattle.inp_actors.specs.Record.{RecordView}
 use Rattle.inp_make.specs.Generated.{pad, fast, mid, slow, line, moment_of, injected, finger_events, touches, frame_events, follows, frame_lines, opens, lines, generated}
 use Rattle.inp_reader.specs.Reading.{queries, axes_among}
 use Rattle.inp_actors.specs.declared.role.Role.{Role}
-use Rattle.inp_actors.specs.declared.role.Role.TheVariants.{Source, Client, Tap, Joy}
+use Rattle.inp_actors.specs.declared.role.Role.TheVariants.{Source, Client, Tap, Joy, Owner}
 use Rattle.inp_script.specs.declared.ended.Ended.{Ended}
-use Rattle.inp_script.specs.declared.ended.Ended.TheVariants.{Job as JobEnded, Joy as JoyEnded}
+use Rattle.inp_script.specs.declared.ended.Ended.TheVariants.{Job as JobEnded, Joy as JoyEnded, Owner as OwnerEnded}
 use Rattle.inp_script.specs.declared.run.DeviceRun.{DeviceRun}
 use Rattle.inp_script.specs.declared.run.Played.{Played}
 use Rattle.inp_script.specs.declared.run.Run.{Run}
 use Rattle.inp_script.specs.Ended.{ended_as, ended_of, jobs_among, played_of}
 use Rattle.inp_script.specs.declared.stop.Stop.{Stop}
-use Rattle.inp_script.specs.Job.{ActorView, last_stop}
-use Rattle.inp_script.specs.Runs.{AreJoysOf}
+use Rattle.inp_script.specs.Job.{ActorView, last_stop, JoyJobView}
+use Rattle.inp_script.specs.Runs.{AreJoysOf, AreOwnersOf}
 use Rattle.inp_order.specs.Play.{Stage, first_stage, after_lines, run_of, runs_of, play, IsPlay}
 use Rattle.inp_play.proofs.Follows.{HasQueries}
 use Rattle.inp_play.proofs.Growth.{IsBound, IsShort, Adds, event-bound, open-bound, follow-bound, adds-none, adds-line, adds-more, adds-append}
 use Rattle.inp_runs.proofs.Listing.{IsImage, option_map-some}
 use Rattle.inp_play.proofs.OwnQueues.{quiet-keys, quiet-slots}
-use Rattle.inp_tool.specs.Outcome.{is_full, has_full_job, has_full_run, has_full_joy, has_full}
-use Rattle.inp_tool.proofs.MadeJoys.{made-no_joys}
+use Rattle.inp_tool.specs.Outcome.{is_full, has_full_job, has_full_run, has_full_joy, has_full_owner, has_full}
+use Rattle.inp_tool.proofs.MadeAlone.{made-no_joys, made-no_owners}
 
 -- The device
 
@@ -140,10 +140,11 @@ first_short number count = record { pasts = pasts; actors = actors }
 
 -- What came of it
 
--- an actor's job stopped since the history was full
+-- an actor's job stopped since the history was full; an owner's end is no job's
 abbrev is_full_end : Ended → Bool
 is_full_end (JobEnded job) = is_full job.stop
 is_full_end (JoyEnded joy) = is_full joy.stop
+is_full_end (OwnerEnded owner) = false
 
 no_full_end : (a : ActorView) → a.job.stop ≡ None → is_full_end (ended_of a) ≡ false
 no_full_end a none = by_role a.role
@@ -156,11 +157,13 @@ no_full_end a none = by_role a.role
     by_role Client = goes_on
     by_role Tap = goes_on
     by_role Joy = goes_on
+    by_role Owner = refl
 
 -- one more that did not
 no_more_full : (ended : Ended) (ends : List Ended) → is_full_end ended ≡ false → has_full_job (jobs_among ends) ≡ false → has_full_job (jobs_among (ended ∷ ends)) ≡ false
 no_more_full (JobEnded job) ends first more = ap (λ (x : Bool). x || has_full_job (jobs_among ends)) first ∙ more
 no_more_full (JoyEnded joy) ends first more = more
+no_more_full (OwnerEnded owner) ends first more = more
 
 no_full_job : (p : ActorView → Bool) (actors : List ActorView) → ((i : ℕ) (a : ActorView) → slice_get actors i ≡ Some a → a.job.stop ≡ None) → has_full_job (jobs_among (map ended_of (filter p actors))) ≡ false
 no_full_job p [] none = refl
@@ -190,10 +193,11 @@ made-no_full_run number count played least most is =
     adds-lines r number count is.rounds 0 (first_stage r) image.from (first_short number count) (omega (arith, most, pad-limit)) image.is in
     ap (λ (p : Played). has_full_run p.runs) (sym image.same) ∙ no_full_run r image.from (enumerate_from 0 image.from.pasts) (λ i a h. (short.actors i a h).1)
 
-made-not_full : (number count : ℕ) (played : Played) → 1 ≤ count → count ≤ 10000 → IsPlay (generated number count) played → AreJoysOf (generated number count) played.joys → has_full played ≡ false
-made-not_full number count played least most is joys =
-    ap (λ (x : Bool). x || has_full_joy played.joys) (made-no_full_run number count played least most is)
-    ∙ ap has_full_joy (made-no_joys number count played.joys joys)
+made-not_full : (number count : ℕ) (played : Played) → 1 ≤ count → count ≤ 10000 → IsPlay (generated number count) played → AreJoysOf (generated number count) played.joys → AreOwnersOf (generated number count) played.owners → has_full played ≡ false
+made-not_full number count played least most is joys owners =
+    ap (λ (x : Bool). x || has_full_joy played.joys || has_full_owner played.owners) (made-no_full_run number count played least most is)
+    ∙ ap (λ (js : List JoyJobView). has_full_joy js || has_full_owner played.owners) (made-no_joys number count played.joys joys)
+    ∙ ap has_full_owner (made-no_owners number count played.owners owners)
 
 -- The count that is asked for
 
@@ -260,7 +264,7 @@ has_count words number count h = by_flag (is_taken words) h
     by_flag false e = absurd cc
 
 -- what is asked for and comes of it in file order stops no job as full
-pub asked-not_full : (words : List (List ℕ)) (number count : ℕ) (played : Played) → requested words ≡ Some (Make number count) → IsPlay (generated number count) played → AreJoysOf (generated number count) played.joys → has_full played ≡ false
-asked-not_full words number count played asked is joys =
+pub asked-not_full : (words : List (List ℕ)) (number count : ℕ) (played : Played) → requested words ≡ Some (Make number count) → IsPlay (generated number count) played → AreJoysOf (generated number count) played.joys → AreOwnersOf (generated number count) played.owners → has_full played ≡ false
+asked-not_full words number count played asked is joys owners =
     let range = has_count words number count asked in
-    made-not_full number count played range.0 range.1 is joys
+    made-not_full number count played range.0 range.1 is joys owners

@@ -8,7 +8,7 @@ use Rattle.inp_script.specs.declared.stop.Stop.{Stop}
 use Rattle.inp_script.specs.declared.stop.Stop.TheVariants.{Full}
 use Rattle.inp_script.specs.declared.run.Played.{Played}
 use Rattle.inp_script.specs.declared.run.Run.{Run}
-use Rattle.inp_script.specs.Job.{JobView, JoyJobView}
+use Rattle.inp_script.specs.Job.{JobView, JoyJobView, OwnerView}
 use Rattle.inp_report.specs.Words.{LINE_FEED}
 use Rattle.inp_tool.specs.declared.outcome.Outcome.{Outcome}
 use Rattle.inp_tool.specs.declared.outcome.Outcome.TheVariants.{Usage, Unread, TooLong, Refused as IsRefused, NoMemory, Played as WasPlayed, Migrated}
@@ -42,8 +42,12 @@ has_full_run runs = list_any (λ (run : Run). has_full_job run.jobs) runs
 abbrev pub has_full_joy : List JoyJobView → Bool
 has_full_joy joys = list_any (λ (joy : JoyJobView). is_full joy.stop) joys
 
+-- an owner stopped since its calls were as many as may be kept
+abbrev pub has_full_owner : List OwnerView → Bool
+has_full_owner owners = list_any (λ (owner : OwnerView). is_full owner.stop) owners
+
 abbrev pub has_full : Played → Bool
-has_full played = has_full_run played.runs || has_full_joy played.joys
+has_full played = has_full_run played.runs || has_full_joy played.joys || has_full_owner played.owners
 
 -- the status where a report or a summary of what came of a record was written
 abbrev pub played_status : Played → ℕ
@@ -51,7 +55,7 @@ played_status played = if has_full played then 6 else 0
 
 -- what comes where nothing is played
 abbrev pub no_play : Played
-no_play = record { runs = []; joys = [] }
+no_play = record { runs = []; joys = []; owners = [] }
 
 abbrev pub text_of : Outcome → List ℕ
 text_of Usage = usage_text

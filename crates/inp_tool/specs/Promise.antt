@@ -17,6 +17,7 @@ use Rattle.inp_order.specs.Play.{IsPlay}
 use Rattle.inp_runs.specs.Job.{ArePromised}
 use Rattle.inp_upgrade.specs.Upgrade.{upgraded}
 use Rattle.inp_report.specs.JoyReport.{joy_report}
+use Rattle.inp_report.specs.OwnerReport.{owner_report}
 use Rattle.inp_report.specs.Report.{report}
 use Rattle.inp_report.specs.Summary.{summary}
 use Rattle.inp_tool.specs.declared.end.End.{End}
@@ -71,15 +72,18 @@ abbrev pub IsOutOfMemory : Reads → Type 0
 IsOutOfMemory r = (r.after ≡ r.before) ⊎ RanOut r
 
 -- What came of a record: each job's replies are the one-thread device's at their places in one history, its sight follows
--- its lines, and each place of the history is in one sight, where joysticks' jobs are jobs too (`inp_runs`). On one thread
+-- its lines, and each place of the history is in one sight, where joysticks' jobs are jobs too; and what each owner was told
+-- is what its feedback calls took of what was sent to its device (`inp_runs`). On one thread
 -- the lines were done in file order besides (`inp_order`).
 pub record CameOf (idle : Option ℕ) (recorded : RecordView) (played : Played) : Type 0 where
   pub promised : ArePromised idle recorded played
   pub in_order : idle ≡ None → IsPlay recorded played
 
--- the report of a record's devices, with the history or without, and behind it that of its joysticks
+-- the report of a record's devices, with the history or without, behind it that of its joysticks, and behind that the one
+-- of its owners
 abbrev pub whole_report : RecordView → Bool → Played → List ℕ
-whole_report recorded history played = report recorded played.runs history ++ joy_report recorded played.joys
+whole_report recorded history played =
+    report recorded played.runs history ++ (joy_report recorded played.joys ++ owner_report recorded played.owners)
 
 -- the record in FILE was read with its streams and played, and the text is its report
 pub record IsPlayed (words : Words) (r : Reads) (played : Played) (text : List ℕ) : Type 0 where
@@ -103,7 +107,7 @@ pub record IsMigrated (words : Words) (r : Reads) (text : List ℕ) : Type 0 whe
   pub means : meaning text ≡ Ok (upgraded read.parsed)
 
 -- The record was made from two numbers and played, the text is its summary, and the input is as it was. It has no
--- joystick.
+-- joystick and no owner.
 pub record IsMade (words : Words) (r : Reads) (played : Played) (text : List ℕ) : Type 0 where
   pub number : ℕ
   pub count : ℕ
@@ -112,6 +116,7 @@ pub record IsMade (words : Words) (r : Reads) (played : Played) (text : List ℕ
   pub came : CameOf None (generated number count) played
   pub says : text ≡ summary number count (generated number count) played.runs
   pub joys : played.joys ≡ []
+  pub owners : played.owners ≡ []
 
 -- Each outcome has its cause. Memory may run out anywhere, but never in place of a fault.
 abbrev pub HasCause : Words → Reads → Outcome → Type 0
@@ -133,6 +138,7 @@ pub record IsEnd (found : Outcome) (end : End) : Type 0 where
   pub refused : end.refused ≡ refused_of found
   pub runs : end.runs ≡ (played_in found).runs
   pub joys : end.joys ≡ (played_in found).joys
+  pub owners : end.owners ≡ (played_in found).owners
 
 -- the text of an outcome was written whole, and the end is that of the outcome
 pub record IsWrittenWhole (w : Writes) (found : Outcome) (end : End) : Type 0 where
@@ -148,6 +154,7 @@ pub record IsWrittenInPart (w : Writes) (found : Outcome) (end : End) : Type 0 w
   pub refused : end.refused ≡ None
   pub runs : end.runs ≡ (played_in found).runs
   pub joys : end.joys ≡ (played_in found).joys
+  pub owners : end.owners ≡ (played_in found).owners
 
 abbrev pub IsWritten : Writes → Outcome → End → Type 0
 IsWritten w found end = IsWrittenWhole w found end ⊎ IsWrittenInPart w found end

@@ -1,7 +1,7 @@
 //! How a call of the program ended.
 
 use inp_record::Refused;
-use inp_script::{JoyRuns, Runs};
+use inp_script::{JoyRuns, OwnerRuns, Runs};
 
 /// How a call of the program ended.
 #[derive(Drop)]
@@ -13,8 +13,10 @@ pub struct End {
     /// With status 1 the line that is refused, and why; else nothing.
     pub refused: Option<Refused>,
     /// With status 0 and 6, and with 4 where the text was a report or a summary, what came of the devices, where a record
-    /// was played; else nothing. A joystick's job is none of these.
+    /// was played; else nothing. What came of joysticks and of owners is none of these.
     pub runs: Runs,
     /// What came of the record's joysticks, with the same statuses.
     pub joys: JoyRuns,
+    /// What came of the record's owners, with the same statuses.
+    pub owners: OwnerRuns,
 }

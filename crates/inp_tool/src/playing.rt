@@ -2,8 +2,8 @@
 ghost use Rattle.std.specs.Prelude.{◌≡◌, ◌≤◌, [], IfOk, IfSome, None};
 ghost use Rattle.inp_make.specs.Generated.{generated};
 ghost use Rattle.inp_report.specs.Summary.{summary};
-ghost use Rattle.inp_tool.specs.Outcome.{has_full, has_full_run, has_full_job, has_full_joy, is_full};
-ghost use Rattle.inp_script.specs.Runs.{AreRunsOf, AreJoysOf};
+ghost use Rattle.inp_tool.specs.Outcome.{has_full, has_full_run, has_full_job, has_full_joy, has_full_owner, is_full};
+ghost use Rattle.inp_script.specs.Runs.{AreRunsOf, AreJoysOf, AreOwnersOf};
 ghost use Rattle.inp_tool.specs.Promise.{CameOf, whole_report};
 
 use inp_edge::Gate;
@@ -11,8 +11,8 @@ use inp_make::make;
 use inp_model::NoMemory;
 use inp_play::play;
 use inp_record::Record;
-use inp_report::{joy_report, report, summary};
-use inp_script::{Jobs, JoyRuns, Played, Runs, Stop};
+use inp_report::{joy_report, owner_report, report, summary};
+use inp_script::{Jobs, JoyRuns, OwnerRuns, Played, Runs, Stop};
 use inp_threads::play_on_threads;
 use std::alloc::Global;
 use std::sync::Wait;
@@ -37,7 +37,7 @@ pub(crate) fn play_and_report<R: Threads + Wait + Sync, G: Gate>(
     Ok((played, text))
 }
 
-/// The report of the record's devices, and behind it that of its joysticks.
+/// The report of the record's devices, behind it that of its joysticks, and behind that the one of its owners.
 fn whole_report(
     alloc: Global,
     recorded: &Record,
@@ -46,12 +46,15 @@ fn whole_report(
 ) -> Result<Vec<u8>, NoMemory>
     requires runs { AreRunsOf recorded.now played.now.runs }
     requires joys { AreJoysOf recorded.now played.now.joys }
+    requires owners { AreOwnersOf recorded.now played.now.owners }
     ensures text { IfOk result
         (λ text. text.items ≡ whole_report recorded.now history played.now) }
 {
     let mut text = report(alloc, recorded, &played.runs, history)?;
     let joysticks = joy_report(alloc, recorded, &played.joys)?;
     text.extend_from_slice(&joysticks)?;
+    let owners = owner_report(alloc, recorded, &played.owners)?;
+    text.extend_from_slice(&owners)?;
     Ok(text)
 }
 
@@ -72,7 +75,8 @@ fn play_as_asked<R: Threads + Wait + Sync, G: Gate>(
     }
 }
 
-/// What comes of the record that is made from a number and a count of frames, and its summary. It has no joystick.
+/// What comes of the record that is made from a number and a count of frames, and its summary. It has no joystick and
+/// no owner.
 pub(crate) fn make_and_play(
     alloc: Global,
     number: u32,
@@ -83,6 +87,7 @@ pub(crate) fn make_and_play(
     ensures text { IfOk result
         (λ done. (done.1).items ≡ summary number count (generated number count) (done.0).runs) }
     ensures joys { IfOk result (λ done. (done.0).joys ≡ []) }
+    ensures owners { IfOk result (λ done. (done.0).owners ≡ []) }
 {
     let made = make(alloc, number, count)?;
     let played = play(alloc, &made)?;
@@ -90,11 +95,11 @@ pub(crate) fn make_and_play(
     Ok((played, text))
 }
 
-/// Whether a job stopped since a history was full, a joystick's or another one.
+/// Whether a job stopped since a history was full, or an owner since its calls were as many as may be kept.
 pub(crate) fn has_full(played: &Played) -> bool
     ensures { result ≡ has_full played.now }
 {
-    has_full_run(&played.runs) || has_full_joy(&played.joys)
+    has_full_run(&played.runs) || has_full_joy(&played.joys) || has_full_owner(&played.owners)
 }
 
 /// Whether a job of a device stopped since the history was full.
@@ -133,7 +138,19 @@ fn has_full_joy(joys: &JoyRuns) -> bool
     false
 }
 
-/// Whether a job stopped since a history was full.
+/// Whether an owner stopped since its calls were as many as may be kept.
+fn has_full_owner(owners: &OwnerRuns) -> bool
+    ensures { result ≡ has_full_owner owners.now }
+{
+    for owner in owners.as_slice() {
+        if is_full(owner.stop()) {
+            return true;
+        }
+    }
+    false
+}
+
+/// Whether a job stopped since a list was full.
 fn is_full(stop: &Stop) -> bool
     ensures { result ≡ is_full stop.now }
 {

@@ -14,7 +14,7 @@ use crate::reading::read_record;
 use inp_args::{Request, WordsFault, read_words};
 use inp_edge::{Failed, Gate, Input, Sink, write_all};
 use inp_model::NoMemory;
-use inp_script::{JoyRuns, Played, Runs};
+use inp_script::{JoyRuns, OwnerRuns, Played, Runs};
 use std::alloc::Global;
 use std::sync::Wait;
 use std::thread::Threads;
@@ -24,7 +24,8 @@ const WRITE_FAULT: u8 = 4;
 
 /// Reads the record that the words name, with the streams that it names, or makes the one that they ask for; plays it, and
 /// writes the report or the summary of what its actors saw and what they believe. A record is played on one thread, its
-/// lines in file order, or, where `--threads` is among the words, each source, client, tap and joystick on a thread of its own.
+/// lines in file order, or, where `--threads` is among the words, each source, client, tap, joystick and owner on a thread of
+/// its own.
 /// Where `--migrate` is among them nothing is played: what is written is the record's canonical text in version 2.
 ///
 /// On each device, however the threads interleave, every reply is the one-thread device's at its place in one kept history;
@@ -167,6 +168,7 @@ fn write_outcome<O: Sink>(alloc: Global, found: Outcome, out: &mut O) -> End
             refused: None,
             runs: end.runs,
             joys: end.joys,
+            owners: end.owners,
         },
     }
 }
@@ -178,6 +180,7 @@ fn end_of(alloc: Global, found: Outcome) -> End
     let nothing = Played {
         runs: Runs::new(alloc),
         joys: JoyRuns::new(alloc),
+        owners: OwnerRuns::new(alloc),
     };
     let (status, refused, played) = match found {
         Outcome::Played { played, .. } => (played_status(&played), None, played),
@@ -193,6 +196,7 @@ fn end_of(alloc: Global, found: Outcome) -> End
         refused,
         runs: played.runs,
         joys: played.joys,
+        owners: played.owners,
     }
 }
 

@@ -39,6 +39,14 @@ pub returns-clause-below_nought : goal.returns-clause-below_nought
 unfolding computing
 returns-clause-below_nought c = refl
 
+pub returns-clause-owner : goal.returns-clause-owner
+unfolding computing
+returns-clause-owner c = refl
+
+pub returns-clause-refused : goal.returns-clause-refused
+unfolding computing
+returns-clause-refused c = refl
+
 pub returns-clause-summary : goal.returns-clause-summary
 unfolding computing
 returns-clause-summary c = refl
