@@ -247,4 +247,4 @@ class Numbers(FolderCase):
 
     def is_proved(self, repository, key):
         rows = repository.file(key.crate, key.path).rows
-        return any(row.startswith(f"const _: () = prove!({key.name} == ") for row in rows)
+        return any(row.startswith(f"const _: () = prove!({key.name} ") and " == " in row for row in rows)

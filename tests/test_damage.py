@@ -24,6 +24,8 @@ HEAD = "inputrecord 1\n"
 SOURCE = HEAD + "device d\nsource s\n"
 READERS = HEAD + "device d\ntap t\nclient c\n"
 LATER = "inputrecord 2\ndevice d\n"
+REQUESTED = "inputrecord 2\nudevice u\n"
+OWNER = REQUESTED + "owner o\n"
 
 # Texts and the line and the cause for which they are refused. The first cause in the order of FORMATS.md counts.
 CAUSES = [
@@ -102,6 +104,35 @@ CAUSES = [
     (READERS + "device e\ntap c\n", "6: twice"),
     (HEAD + "".join(f"device d{i}\n" for i in range(8)) + "device d0\n", "10: twice"),
     (HEAD + "device d\n" + "".join(f"tap t{i}\n" for i in range(64)) + 65 * "client c\n", "68: twice"),
+    (HEAD + "owner o\n", "2: bad-line"),
+    (HEAD + "device d\nudevice\n", "3: bad-line"),
+    ("inputrecord 2\nowner o\n", "2: out-of-place"),
+    (REQUESTED + "owner\n", "3: bad-line"),
+    (REQUESTED + "owner O\n", "3: bad-word"),
+    (REQUESTED + "udevice U\n", "3: bad-word"),
+    (REQUESTED + "device e\nowner O\n", "4: out-of-place"),
+    (REQUESTED + "tap t\nhint 8\n", "4: out-of-place"),
+    (REQUESTED + "hint 8\nhint 8\n", "4: twice"),
+    (REQUESTED + "udevice u\n", "3: twice"),
+    (LATER + "udevice d\n", "3: twice"),
+    (OWNER + "hint 8\n", "4: out-of-place"),
+    (OWNER + "owner o\n", "4: twice"),
+    (OWNER + "source o\n", "4: twice"),
+    (OWNER + "source s\nudevice v\nowner p\nowner q\n", "7: too-many"),
+    (OWNER + "udevice v\nowner o\n", "5: twice"),
+    (OWNER + "do o feedback 1\nowner p\n", "5: out-of-place"),
+    (OWNER + "do o feedback 1\ntap t\n", "5: out-of-place"),
+    (OWNER + "do o feedback\n", "4: bad-command"),
+    (OWNER + "do o feedback 1 1\n", "4: bad-command"),
+    (OWNER + "do o open\n", "4: bad-command"),
+    (OWNER + "do o feedback -1\n", "4: bad-word"),
+    (OWNER + "do o feedback 0x1001\n", "4: bad-word"),
+    (OWNER + "do o feedback all\n", "4: bad-word"),
+    (READERS + "do t feedback 1\n", "5: bad-command"),
+    (REQUESTED + "source s\ndo s feedback 1\n", "4: bad-command"),
+    (OWNER + "".join(f"tap t{i}\n" for i in range(129)), "132: too-many"),
+    ("inputrecord 2\n" + "".join(f"udevice u{i}\n" for i in range(8)) + "device d\n", "10: too-many"),
+    ("inputrecord 2\n" + "".join(f"udevice u{i}\n" for i in range(8)) + "device u7\n", "10: twice"),
 ]
 
 # Texts that are records, and their reports.
@@ -119,6 +150,15 @@ PLAYED = [
         + f"do s tick {1000 * '0'}9\ndo\ts  tick\t0x0fF \n",
         "device d steps 2\nsource s calls 2 stop finished\n",
     ),
+]
+
+PLAYED += [
+    (
+        "inputrecord 2\nudevice d\ntap d\nowner o\nsource s\ndo  o\tfeedback 0x1000 \ndo o feedback 004096\r\n",
+        "device d steps 0\ntap d\nstop finished\nsource s calls 0 stop finished\nowner o\nfeedback 0 0\nfeedback 0 0\n"
+        "stop finished\n",
+    ),
+    (OWNER, "device u steps 0\nowner o\nstop finished\n"),
 ]
 
 # Programs: the second one, and some that are not as it is.

@@ -168,6 +168,46 @@ do t mask EV_KEY 0 0x00000000000000ff
 """,
     ),
     (
+        "devices made by requests, and the owner of one",
+        b"""inputrecord 2
+udevice  kbd
+cap 17 1
+source s
+owner o
+tap t
+device d
+udevice other
+do o feedback 0x1000
+do t write 5 EV_LED 1 1
+do o  feedback 00001
+""",
+        b"""inputrecord 2
+udevice kbd
+hint 16
+log 1048576
+clock realtime 0
+clock boottime 0
+type EV_LED
+cap EV_LED LED_CAPSL
+source s
+owner o
+tap t
+device d
+hint 16
+log 1048576
+clock realtime 0
+clock boottime 0
+udevice other
+hint 16
+log 1048576
+clock realtime 0
+clock boottime 0
+do o feedback 4096
+do t write 5 EV_LED LED_CAPSL 1
+do o feedback 1
+""",
+    ),
+    (
         "streams of both forms",
         b"""inputrecord 2
 device d

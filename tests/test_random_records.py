@@ -16,6 +16,9 @@ from records_at_bounds import RECORDS
 
 SEED = 41
 COUNT = 60
+VERSIONS = ("inputrecord 1\n", "inputrecord 2\n")
+STREAMS = (" stream events-", " stream16 events-")
+OWNERS = ("\nudevice ", "\nowner ", " feedback 4096\n")
 FILTERS = ("\nfilter eat ", "\nfilter norepeat\n", "\nfilter chord ", "\nfilter bounce ")
 
 
@@ -51,7 +54,7 @@ class SecondProgram(FolderCase):
 
     def test_the_random_records_have_something_to_show(self):
         texts = [random_text(number, self.folder) for number in range(COUNT)]
-        for text in ("inputrecord 1\n", "inputrecord 2\n", " stream events-", " stream16 events-", "\nslots 256\n", "\njoy ", *FILTERS):
+        for text in (*VERSIONS, *STREAMS, "\nslots 256\n", "\njoy ", *OWNERS, *FILTERS):
             with self.subTest(text=text):
                 self.assertIn(text, "".join(texts))
         reports = b"".join(report_of(text, self.folder, history=True)[0] for text in texts)
@@ -69,6 +72,9 @@ class SecondProgram(FolderCase):
             b"\njs 0 1 129 ",
             b" 1 1 0\n",
             b"\nbuttons 0 1\n",
+            b" 0\nfeedback ",
+            b" 15\nfed ",
+            *(f"\nfed {kind} ".encode() for kind in ("EV_LED", "EV_SND", "EV_MSC", "EV_REP", "EV_SYN SYN_CONFIG")),
         ):
             with self.subTest(text=text):
                 self.assertIn(text, reports)

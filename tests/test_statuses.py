@@ -27,6 +27,9 @@ FULL_REPORT = (
 # A source that goes on when the history is full, and nobody else.
 FULL_ALONE = b"inputrecord 1\ndevice d\nlog 1\nsource s\ndo s uninhibit\ndo s uninhibit\n"
 
+# An owner that polls once more than there may be calls, and nobody else.
+FULL_OWNER = b"inputrecord 2\nudevice u\nlog 1\nowner o\ndo o feedback 1\ndo o feedback 1\ndo o feedback 1\n"
+
 # A source that injects what stands in a file.
 STREAM = b"inputrecord 1\ndevice d\ncap EV_KEY KEY_A\nsource s\ndo s stream keys\n"
 STREAM16 = STREAM.replace(b"inputrecord 1", b"inputrecord 2").replace(b"stream", b"stream16")
@@ -34,6 +37,8 @@ STREAM16 = STREAM.replace(b"inputrecord 1", b"inputrecord 2").replace(b"stream",
 DEVICE = "inputrecord 1\ndevice d\n"
 LATER_DEVICE = "inputrecord 2\ndevice d\n"
 SOURCE = DEVICE + "source s\n"
+REQUESTED = "inputrecord 2\nudevice u\n"
+OWNER = REQUESTED + "owner o\n"
 
 # The cause, a text, and the line that has the cause. The first line that has one is told, by its first cause.
 REFUSED = [
@@ -81,6 +86,18 @@ REFUSED = [
     ("bad-command", LATER_DEVICE + "joy j\ndo j grab\n", 4),
     ("bad-word", LATER_DEVICE + "joy j\ndo j read 4294967296\n", 4),
     ("too-many", LATER_DEVICE + "tap t\n" + "".join(f"joy j{i}\n" for i in range(128)), 131),
+    ("bad-line", "inputrecord 1\nudevice u\n", 2),
+    ("bad-line", DEVICE + "owner o\n", 3),
+    ("out-of-place", LATER_DEVICE + "owner o\n", 3),
+    ("out-of-place", OWNER + "do o feedback 1\nudevice v\n", 5),
+    ("bad-command", OWNER + "do o read 1\n", 4),
+    ("bad-command", REQUESTED + "joy j\ndo j feedback 1\n", 4),
+    ("bad-word", OWNER + "do o feedback 0\n", 4),
+    ("bad-word", OWNER + "do o feedback 4097\n", 4),
+    ("twice", REQUESTED + "device u\n", 3),
+    ("twice", OWNER + "device d\ntap o\n", 5),
+    ("too-many", OWNER + "owner p\n", 4),
+    ("too-many", REQUESTED + "".join(f"device d{i}\n" for i in range(4)) + "".join(f"udevice v{i}\n" for i in range(4)), 10),
 ]
 
 # As many of each as there may be. The file `keys` is empty.
@@ -88,6 +105,8 @@ MOST = [
     ("devices", "inputrecord 1\n" + "".join(f"device d{i}\n" for i in range(8))),
     ("sources", DEVICE + "".join(f"source s{i}\n" for i in range(8))),
     ("clients and taps", DEVICE + "".join(f"client c{i}\ntap t{i}\n" for i in range(64))),
+    ("readers beside an owner", OWNER + "".join(f"joy j{i}\ntap t{i}\n" for i in range(64))),
+    ("owners", "inputrecord 2\n" + "".join(f"udevice u{i}\nowner o{i}\n" for i in range(8))),
     ("streams", LATER_DEVICE + "source s\n" + "do s stream keys\ndo s stream16 keys\n" * 8),
 ]
 
@@ -283,6 +302,12 @@ class Statuses(FolderCase):
         for words in (["f"], ["--threads", "f"]):
             with self.subTest(words=words):
                 self.ends(words, 6, b"device d steps 1\nsource s calls 1 stop full 1\n")
+
+    def test_6_a_full_list_of_feedback_calls(self):
+        self.file("f", FULL_OWNER)
+        for words in (["f"], ["--threads", "f"]):
+            with self.subTest(words=words):
+                self.ends(words, 6, b"device u steps 0\nowner o\nfeedback 0 0\nstop full 0\n")
 
     def test_7_an_input_that_is_too_long(self):
         self.sparse("f", INPUT_LIMIT + 1)

@@ -401,8 +401,8 @@ class Records(StuckCase):
                 said = self.written("stuck", record).splitlines()
                 state = [line[2:] for line in said[said.index("the device at the end") + 1 :]]
                 played = subprocess.run([PROGRAM, record], cwd=EXAMPLES, capture_output=True, text=True)
-                # the parts of joysticks stand behind all others
-                report = played.stdout.split("\njoy ")[0]
+                # the parts of joysticks and owners stand behind all others
+                report = played.stdout.split("\njoy ")[0].split("\nowner ")[0]
                 parts = report.split("\nclient ")[1:]
                 parts = [part for behind in parts for part in behind.split("\ntap ")]
                 for part in parts or report.split("\ntap ")[1:]:

@@ -3,7 +3,9 @@
 from names import ABS, KEY, LED, MSC, REL, REP, SND, SW, SYN
 
 SLOT, FIRST, ID, LAST = 0x2F, 0x30, 0x39, 0x3D
-REPORT, DROPPED = 0, 3
+REPORT, CONFIG, DROPPED = 0, 1, 3
+# The most events that wait for a device's owner.
+MOST_WAITING = 15
 FUZZ_MAX = 2**30
 MASK_WORDS = {SYN: 1, KEY: 12, REL: 1, ABS: 1, MSC: 1, SW: 1, LED: 1, SND: 1}
 
@@ -14,6 +16,11 @@ def is_slot_value(code):
 
 def is_report(event):
     return event[:2] == (SYN, REPORT)
+
+
+def is_output(event):
+    """Whether an event goes to the device where it is passed."""
+    return event[0] in (LED, SND, MSC, REP) or event[:2] == (SYN, CONFIG)
 
 
 def new_slot():
@@ -163,6 +170,25 @@ class Client:
         self.queue = kept
 
 
+class Outputs:
+    """What was sent to a device and waits for its owner, whose calls are counted up to a limit."""
+
+    def __init__(self, most_calls):
+        self.waiting, self.calls, self.most_calls = [], 0, most_calls
+
+    def send(self, events):
+        """Takes passed events. Of those that wait the last 15 stay."""
+        self.waiting = (self.waiting + [event for event in events if is_output(event)])[-MOST_WAITING:]
+
+    def feedback(self, room):
+        """The events that a feedback call takes, or None where it is refused."""
+        if self.calls == self.most_calls:
+            return None
+        self.calls += 1
+        taken, self.waiting = self.waiting[:room], self.waiting[room:]
+        return taken
+
+
 class Device:
     def __init__(self, name, caps):
         self.name, self.caps, self.history = name, caps, []
@@ -175,6 +201,7 @@ class Device:
         self.batch, self.due, self.repeat_key, self.inhibited = [], None, 0, False
         self.clients, self.opens, self.holder, self.ends = {}, 0, None, 0
         self.filters = [Filter(*words) for words in caps.filters]
+        self.outputs = Outputs(caps.log)
 
     # The core
 
@@ -227,6 +254,7 @@ class Device:
 
     def raw(self, event, now, place):
         events = self.passed(event)
+        self.outputs.send(events)
         self.batch += events
         if is_report(event):
             frame, self.batch = self.batch, []
@@ -276,7 +304,11 @@ class Device:
             self.raw(event, now, place)
         self.inhibited = True
 
-    # Steps
+    # Steps, and what an owner does, which makes none
+
+    def feedback(self, room):
+        """The history's length at a feedback call, and what the call takes, or None where it is refused."""
+        return len(self.history), self.outputs.feedback(room)
 
     def refusal(self, step):
         op, *words = step

@@ -95,8 +95,7 @@ class Actor:
 
     def do(self, words, streams):
         if self.stop == "finished":
-            does = {"source": self.do_source, "tap": self.do_tap, "client": self.do_client, "joy": self.do_joy}
-            does[self.role](words, streams)
+            getattr(self, "do_" + self.role)(words, streams)
 
     def do_source(self, words, streams):
         for step in source_steps(words, streams):
@@ -201,6 +200,13 @@ class Actor:
                 self.sight.append("js " + " ".join(map(str, answer)))
                 handed += 1
 
+    def do_owner(self, words, _):
+        at, events = self.device.feedback(number(words[1]))
+        if events is None:
+            self.stop = f"full {at}"
+        else:
+            self.sight += [f"feedback {at} {len(events)}"] + [f"fed {event_text(event)}" for event in events]
+
     def waits_on(self, reply):
         """Whether a follow goes on behind its last call's reply. On one thread it never does."""
         return False
@@ -208,13 +214,13 @@ class Actor:
     def part(self):
         if self.role == "source":
             return [f"source {self.name} calls {self.accepted} stop {self.stop}"]
-        return [f"{self.role} {self.name}"] + self.sight + self.view_lines() + [f"stop {self.stop}"]
+        end = {"joy": self.picture_lines, "owner": list}.get(self.role, self.view_lines)()
+        return [f"{self.role} {self.name}"] + self.sight + end + [f"stop {self.stop}"]
 
-    def joy_part(self):
+    def picture_lines(self):
         down = [str(number) for number, value in enumerate(self.joystick.down) if value]
         values = [str(value) for value in self.joystick.values]
-        picture = [" ".join(["buttons"] + down), " ".join(["axes"] + values)]
-        return [f"joy {self.name}"] + self.sight + picture + [f"stop {self.stop}"]
+        return [" ".join(["buttons"] + down), " ".join(["axes"] + values)]
 
     def view_lines(self):
         caps, lines = self.device.caps, []
@@ -283,9 +289,9 @@ def read_record(text):
         words = line.split()
         if not words or words[0].startswith("#") or words[0] == "inputrecord":
             continue
-        if words[0] == "device":
+        if words[0] in ("device", "udevice"):
             descriptions.append((words[1], Caps()))
-        elif words[0] in ("source", "client", "tap", "joy"):
+        elif words[0] in ("source", "client", "tap", "joy", "owner"):
             actors.append((words[1], words[0], len(descriptions) - 1))
         elif words[0] == "do":
             actions.append(words[1:])
@@ -300,19 +306,25 @@ def streams_of(folder):
     return lambda file, form: read_stream(os.path.join(folder, file), form)
 
 
+# The roles whose parts stand behind all devices, in order.
+LATER_ROLES = ("joy", "owner")
+
+
 def report(devices, actors, history):
-    """The lines of the report on devices and, in record order, their actors; behind them all those on joysticks."""
+    """The lines of the report on devices and, in record order, their actors; behind them all those on joysticks, and
+    behind these those on owners."""
     lines = []
     for device in devices:
         lines.append(f"device {device.name} steps {len(device.history)}")
         if history:
             lines += [f"step {place} {step_text(step)}" for place, step in enumerate(device.history)]
         for actor in actors:
-            if actor.device is device and actor.role != "joy":
+            if actor.device is device and actor.role not in LATER_ROLES:
                 lines += actor.part()
-    for actor in actors:
-        if actor.role == "joy":
-            lines += actor.joy_part()
+    for role in LATER_ROLES:
+        for actor in actors:
+            if actor.role == role:
+                lines += actor.part()
     return lines
 
 

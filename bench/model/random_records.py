@@ -12,12 +12,15 @@ import sys
 
 from device import SLOT, ID
 from model import RECORD_FORMS, play
-from names import ABS, CODES, GREATEST, KEY, LED, MSC, REL, REP, SND, SW, code_text, kind_text
+from names import ABS, CODES, GREATEST, KEY, LED, MSC, REL, REP, SND, SW, SYN, code_text, kind_text
 
 CLOCKS = ["realtime", "monotonic", "boottime"]
 FULL = 2**64 - 1
 
 MOST_STREAMS = 16
+
+# What goes to a device, which its owner reads.
+OUTPUTS = (REP, MSC, LED, SND)
 
 # Buttons that a joystick numbers, of those before its own too.
 BUTTONS = [0x100, 0x101, 0x110, 0x120, 0x121, 0x130]
@@ -52,20 +55,21 @@ class Generator:
         return r.choice([0, 1, 1, -2, 5])
 
     def description(self, d):
-        """The lines of a device, and beside them its actors, the codes that its events take, and its slots."""
-        r, lines, codes = self.r, [f"device dev{d}"], []
+        """The lines of a device, and beside them the codes that its events take, and its slots."""
+        r, is_requested = self.r, self.version == 2 and self.r.random() < 0.5
+        lines, codes = [f"udevice dev{d}" if is_requested else f"device dev{d}"], []
         kinds = [kind for kind in (KEY, REL, ABS, MSC, SW, LED, SND) if r.random() < 0.55] or [KEY]
         hint = r.choice([2, 3, 5, 8, 8, 8, 16, 20, None])
         if hint:
             lines.append(f"hint {hint}")
-        log = r.choice([None] * 6 + [r.randint(1, 120)])
+        log = r.choice([None] * (2 if is_requested else 6) + [r.randint(1, 120)])
         if log:
             lines.append(f"log {log}")
         if r.random() < 0.5:
             lines.append(f"clock realtime {r.randint(0, 10**12)}")
         if r.random() < 0.5:
             lines.append(f"clock boottime {r.randint(0, 10**9)}")
-        slots = r.choice([0, 0, 1, 2, 3, 5] + ([70, 256] if self.version == 2 and r.random() < 0.2 else []))
+        slots = r.choice([0, 0, 1, 2, 3, 5] + ([70, 256] if self.version == 2 and r.random() < 0.3 else []))
         if slots:
             lines.append(f"slots {slots}")
         if r.random() < 0.5:
@@ -84,6 +88,8 @@ class Generator:
             codes += [(ABS, SLOT)] * 3 + [(ABS, ID)] * 2
         if self.version == 2 and r.random() < 0.6:
             lines += [f"filter {self.filter_words(codes)}" for _ in range(r.choice([1, 1, 2, 3, 8]))]
+        if is_requested:
+            codes += [(SYN, 1)] + 2 * [(kind, code) for kind, code in codes if kind in OUTPUTS]
         return lines, codes, slots
 
     def filter_words(self, codes):
@@ -115,10 +121,12 @@ class Generator:
 
     def actors(self, d, lines):
         r, actors = self.r, []
+        owners = int(r.random() < 0.8) if lines[0].startswith("udevice") else 0
         for role, count in (
             ("source", r.choice([1, 1, 2])),
             ("client", r.randint(1, 3)),
             ("tap", r.randint(0, 2)),
+            ("owner", owners),
             ("joy", r.choice([0, 1, 2]) if self.version == 2 else 0),
         ):
             for i in range(count):
@@ -130,19 +138,21 @@ class Generator:
         r, lines, actions = self.r, [f"inputrecord {self.version}"], []
         for d in range(r.choice([1, 1, 1, 2])):
             description, codes, slots = self.description(d)
+            self.devices.append((self.actors(d, description), codes, slots))
             lines += description
-            self.devices.append((self.actors(d, lines), codes, slots))
         busy = r.random() < 0.4
         for actors, _, _ in self.devices:
-            actions += [f"do {name} open" for role, name in actors if role != "source" and r.random() < 0.8]
+            opening = [name for role, name in actors if role not in ("source", "owner")]
+            actions += [f"do {name} open" for name in opening if r.random() < 0.8]
         for _ in range(r.randint(20, 260)):
             actors, codes, slots = r.choice(self.devices)
             weights = [(12 if busy else 3) if role == "source" else 1 for role, _ in actors]
             role, name = r.choices(actors, weights)[0]
-            act = {"source": self.source_action, "joy": self.joy_action}.get(role, self.client_action)
+            acts = {"source": self.source_action, "joy": self.joy_action, "owner": self.owner_action}
+            act = acts.get(role, self.client_action)
             actions += [f"do {name} {action}" for action in act(role, codes, slots, busy)]
         for actors, _, _ in self.devices:
-            last = {"client": "follow", "joy": "read 4294967295"}
+            last = {"client": "follow", "joy": "read 4294967295", "owner": "feedback 4096"}
             actions += [f"do {name} {last[role]}" for role, name in actors if role in last and r.random() < 0.7]
         return "\n".join(lines + actions) + "\n"
 
@@ -183,6 +193,11 @@ class Generator:
         if x < 0.1:
             return ["open"]
         return ["close"] if x < 0.13 else [f"read {r.choice([0, 1, 1, 2, 5, 20, 5000])}"]
+
+    def owner_action(self, *_):
+        """One feedback call, or so many that a small limit is met."""
+        r = self.r
+        return [f"feedback {r.choice([1, 1, 2, 5, 15, 16, 4096])}"] * (1 if r.random() < 0.9 else r.randint(2, 30))
 
     def new_description(self, codes):
         """A command that describes an axis anew, mostly one that the device has."""

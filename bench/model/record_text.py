@@ -12,7 +12,9 @@ MOMENT_MAX = 9000000000000000
 U16, U32, U64 = 2**16 - 1, 2**32 - 1, 2**64 - 1
 CLOCKS = ("realtime", "monotonic", "boottime")
 
-MOST_DEVICES, MOST_SOURCES, MOST_READERS, MOST_STREAMS = 8, 8, 128, 16
+MOST_DEVICES, MOST_STREAMS = 8, 16
+# The most actors of a device: the clients, taps and joysticks together are its readers.
+MOST = {"source": 8, "owner": 1, "reader": 128}
 
 # The number of bytes of a record, by the command that names the file.
 RECORD_SIZES = {"stream": 24, "stream16": 16}
@@ -100,6 +102,7 @@ FORMS = {
     "U32": lambda word: number(word, U32),
     "U64": lambda word: number(word, U64),
     "COUNT": lambda word: number(word, 4096),
+    "ROOM": lambda word: number(word, 4096) or no_word(),
     "MOMENT": lambda word: number(word, MOMENT_MAX),
     "CLOCK": lambda word: one_of(word, CLOCKS),
     "AHEAD": lambda word: one_of(word, ("realtime", "boottime")),
@@ -142,11 +145,12 @@ FILTERS = {
 }
 MOST_FILTERS = 8
 
-ACTORS = {"source": "NAME", "client": "NAME", "tap": "NAME", "joy": "NAME"}
-LINES = {"inputrecord": "FILE", "device": "NAME", **DESCRIPTION, **ACTORS}
+DEVICES = {"device": "NAME", "udevice": "NAME"}
+ACTORS = dict.fromkeys(("source", "client", "tap", "joy", "owner"), "NAME")
+LINES = {"inputrecord": "FILE", **DEVICES, **DESCRIPTION, **ACTORS}
 
 # The first words of lines that version 1 does not have.
-LATER = ("filter", "joy")
+LATER = ("filter", "joy", "udevice", "owner")
 
 READERS = {
     **dict.fromkeys(("open", "close", "grab", "ungrab", "revoke"), ""),
@@ -172,6 +176,7 @@ COMMANDS = {
         "slots": "CODE",
     },
     "joy": {"open": "", "close": "", "read": "U32"},
+    "owner": {"feedback": "ROOM"},
 }
 
 
@@ -247,8 +252,9 @@ class Text:
     def __init__(self):
         self.version, self.has_action = None, False
         self.devices, self.actors = set(), {}
-        # Of the latest device: what was given that may be given once, and its actors' roles.
-        self.given, self.roles, self.filters = set(), [], 0
+        # Of the latest device: what was given that may be given once, its actors' roles, and whether it is made by
+        # requests.
+        self.given, self.roles, self.filters, self.is_requested = set(), [], 0, False
         self.streams = []
 
     def take(self, line, words):
@@ -265,8 +271,8 @@ class Text:
             raise Cause("out-of-place")
         if first == "do":
             self.take_action(line, *rest)
-        elif first == "device":
-            self.take_device(*values_of("NAME", rest))
+        elif first in DEVICES:
+            self.take_device(first, *values_of("NAME", rest))
         elif first in ACTORS:
             self.take_actor(first, *values_of("NAME", rest))
         elif first == "filter":
@@ -279,17 +285,19 @@ class Text:
             return False
         if first == "inputrecord" or self.has_action:
             return True
-        if first == "device":
+        if first in DEVICES:
             return False
+        if first == "owner" and not self.is_requested:
+            return True
         return not self.devices or (first not in ACTORS and bool(self.roles))
 
-    def take_device(self, device):
+    def take_device(self, first, device):
         if device in self.devices:
             raise Cause("twice")
         if len(self.devices) == MOST_DEVICES:
             raise Cause("too-many")
         self.devices.add(device)
-        self.given, self.roles, self.filters = set(), [], 0
+        self.given, self.roles, self.filters, self.is_requested = set(), [], 0, first == "udevice"
 
     def take_description(self, first, values):
         what = (first, values[0]) if first in ("clock", "axis") else first
@@ -310,9 +318,9 @@ class Text:
     def take_actor(self, role, actor):
         if actor in self.actors:
             raise Cause("twice")
-        sources = self.roles.count("source")
-        is_full = sources == MOST_SOURCES if role == "source" else len(self.roles) - sources == MOST_READERS
-        if is_full:
+        kind = role if role in MOST else "reader"
+        kinds = [other if other in MOST else "reader" for other in self.roles]
+        if kinds.count(kind) == MOST[kind]:
             raise Cause("too-many")
         self.actors[actor] = role
         self.roles.append(role)

@@ -86,6 +86,18 @@ def devices():
     return record(device, actions)
 
 
+def owners():
+    """Eight owners of devices with small limits, who have room for one event and for 4096, where more are sent than can wait."""
+    device, actions = [], []
+    values = [LEAST + n for n in range(9)] + [GREATEST - n for n in range(9)]
+    for i in range(8):
+        device += [f"udevice u{i}", f"log {1 + 3 * i}", "type EV_REP", "cap EV_MSC 7", f"source s{i}", f"owner o{i}"]
+        actions += [f"do o{i} feedback 1", f"do s{i} event {MOMENT_MAX} EV_REP 1 {GREATEST}"]
+        actions += [f"do s{i} event 0 EV_MSC 7 {value}" for value in values]
+        actions += [f"do o{i} feedback 0x1"] + [f"do o{i} feedback 4096"] * 4
+    return record(device, actions, version=2)
+
+
 def full():
     """A history of one step."""
     device = ["device d", "log 1", "cap EV_KEY 30", "source s", "source z", "client c", "tap t"]
@@ -112,7 +124,8 @@ def nothing():
 
 
 # Each record by its name.
-RECORDS = {make.__name__: make for make in (clients, moments, fuzz, slots, counts, devices, full, full_start, blanks, nothing)}
+MAKERS = (clients, moments, fuzz, slots, counts, devices, owners, full, full_start, blanks, nothing)
+RECORDS = {make.__name__: make for make in MAKERS}
 
 
 def main():

@@ -14,8 +14,21 @@ import argparse
 import os
 import sys
 
-from device import Device
-from model import Actor, Record, code_of, event_of, kind_of, number, read_record, report, source_steps, step_text, streams_of
+from device import Device, Outputs
+from model import (
+    LATER_ROLES,
+    Actor,
+    Record,
+    code_of,
+    event_of,
+    kind_of,
+    number,
+    read_record,
+    report,
+    source_steps,
+    step_text,
+    streams_of,
+)
 from names import ABS
 
 IDLE = 1000000
@@ -66,32 +79,36 @@ class Played:
 
     def __init__(self, name, caps, texts, asked):
         self.device, self.answers, self.moments = Device(name, caps), [], {}
+        # What each step sends to the device.
+        self.sent = []
         for place, text in enumerate(texts):
             if place in asked:
                 self.moments[place] = Moment(self.device)
             step = step_of(text)
+            self.device.outputs = Outputs(caps.log)
             reply, written = self.device.step(step)
             if step_text(step) != text or reply[0] in ("again", "refused"):
                 raise Differs(f"device {name}: step {place} {text} is answered {reply[0]}")
             self.answers.append((reply, written))
+            self.sent.append(self.device.outputs.waiting)
         self.moments[len(texts)] = Moment(self.device)
-        self.owners = [None] * len(texts)
+        self.callers = [None] * len(texts)
 
     def ends(self, place):
         return self.device.history[:place].count(("end",))
 
-    def claim(self, place, step, owner):
-        if not place < len(self.owners) or self.device.history[place] != step:
-            raise Differs(f"{owner}: its call {step_text(step)} is not step {place} of the history")
-        if self.owners[place] is not None:
-            raise Differs(f"{owner}: step {place} is also a call of {self.owners[place]}")
-        self.owners[place] = owner
+    def claim(self, place, step, caller):
+        if not place < len(self.callers) or self.device.history[place] != step:
+            raise Differs(f"{caller}: its call {step_text(step)} is not step {place} of the history")
+        if self.callers[place] is not None:
+            raise Differs(f"{caller}: step {place} is also a call of {self.callers[place]}")
+        self.callers[place] = caller
         return self.answers[place]
 
-    def refuse(self, place, step, owner):
+    def refuse(self, place, step, caller):
         why = self.moments[place].refusal(step) if place in self.moments else None
         if why is None:
-            raise Differs(f"{owner}: its call {step_text(step)} is not refused at {place}")
+            raise Differs(f"{caller}: its call {step_text(step)} is not refused at {place}")
         return (("again", place) if why == "again" else ("refused", place, why)), None
 
 
@@ -101,6 +118,8 @@ class Share:
     def __init__(self, played, name, told):
         self.played, self.name, self.caps, self.history = played, name, played.device.caps, played.device.history
         self.told = iter([place_and_word(line) for line in told if is_call(line)])
+        self.told_feedback = iter([place for line in told for place in places_of_feedback(line)])
+        self.outputs = Outputs(self.caps.log)
         self.seen = 0
 
     def step(self, step):
@@ -113,6 +132,18 @@ class Share:
         self.seen = place + (not is_refused)
         return (self.played.refuse if is_refused else self.played.claim)(place, step, self.name)
 
+    def feedback(self, room):
+        """A feedback call, which takes of what the steps before the place sent that the owner printed."""
+        place = next(self.told_feedback, None)
+        if place is None:
+            raise Differs(f"{self.name}: it printed no call feedback {room}")
+        if not self.seen <= place <= len(self.history):
+            raise Differs(f"{self.name}: its feedback call at {place} is below what it had seen, or past the history")
+        for events in self.played.sent[self.seen : place]:
+            self.outputs.send(events)
+        self.seen = place
+        return place, self.outputs.feedback(room)
+
 
 def is_call(line):
     return line.startswith(("call ", "again "))
@@ -124,8 +155,16 @@ def place_and_word(line):
     return int(words[1]), words[0]
 
 
+def places_of_feedback(line):
+    """The history's length that an owner's line has, if it has one: that of a feedback call, or of its stop."""
+    words = line.split()
+    if words[0] == "feedback":
+        return [int(words[1])]
+    return [int(words[2])] if words[:2] == ["stop", "full"] else []
+
+
 class Job(Actor):
-    """A client, a tap or a joystick that does its lines again."""
+    """An actor that is no source and does its lines again."""
 
     def __init__(self, name, role, share, sources, idle):
         super().__init__(name, role, share)
@@ -157,7 +196,7 @@ def share_out(played, sources):
     """The steps that no other job made are those of the sources, each in its own order."""
     states = {(0,) * len(sources)}
     for place, step in enumerate(played.device.history):
-        if played.owners[place] is None:
+        if played.callers[place] is None:
             states = {
                 (*state[:i], state[i] + 1, *state[i + 1 :])
                 for state in states
@@ -171,8 +210,8 @@ def share_out(played, sources):
 
 
 def parts_of(lines):
-    """For each device its steps' texts, and its parts by their actors' names; beside them the parts of joysticks."""
-    devices, joysticks, part = [], {}, []
+    """For each device its steps' texts, and its parts by their actors' names; beside them the parts of joysticks and owners."""
+    devices, later, part = [], {}, []
     for line in lines:
         word, *words = line.split(" ", 2)
         if word == "device":
@@ -184,11 +223,11 @@ def parts_of(lines):
         elif word in ("source", "client", "tap"):
             part = devices[-1][1].setdefault(words[0], [])
             part += words[1:]
-        elif word == "joy":
-            part = joysticks.setdefault(words[0], [])
+        elif word in LATER_ROLES:
+            part = later.setdefault(words[0], [])
         else:
             part.append(line)
-    return devices, joysticks
+    return devices, later
 
 
 def replay_device(i, record, printed, streams, idle):
@@ -222,10 +261,10 @@ def replay_device(i, record, printed, streams, idle):
 def replay(text, printed, folder=".", idle=IDLE):
     """The report that comes of a printed one's histories; `Differs` where none does."""
     record = read_record(text)
-    devices, joysticks = parts_of(printed)
+    devices, later = parts_of(printed)
     if len(devices) != len(record.descriptions):
         raise Differs(f"the record has {len(record.descriptions)} devices, and the report {len(devices)}")
-    devices = [(texts, {**joysticks, **parts}) for texts, parts in devices]
+    devices = [(texts, {**later, **parts}) for texts, parts in devices]
     ended = [replay_device(i, record, device, streams_of(folder), idle) for i, device in enumerate(devices)]
     return report([device for device, _ in ended], [job for _, jobs in ended for job in jobs], history=True)
 

@@ -1,7 +1,7 @@
 #!/usr/bin/env python3
 """Plays a record as `inputplay --threads --history FILE` may do, with the jobs' calls in a random order.
 
-Each source, client and tap is a job. One job at a time makes a call on its device, and which one is drawn by
+Each source, client, tap, joystick and owner is a job. One job at a time makes a call on its device, and which one is drawn by
 the seed; so the same seed gives the same run. A `follow` waits as long as a source of its device has not
 ended, and stops its job after so many answers Again in a row. It shares no code with the program.
 """
@@ -53,6 +53,10 @@ class Share:
     def step(self, step):
         self.order.turn(self.name)
         return self.device.step(step)
+
+    def feedback(self, room):
+        self.order.turn(self.name)
+        return self.device.feedback(room)
 
 
 class Job(Actor):

@@ -26,11 +26,11 @@ class Causes:
 
     def __init__(self, state, handles, device, unread):
         self.state, self.handles, self.unread = state, handles, unread
-        self.owners = {}
+        self.openers = {}
         for part in device.parts:
             for entry in part.sight:
                 if entry[0] == "call" and entry[2][0] == "opened":
-                    self.owners[int(entry[2][2])] = part.name
+                    self.openers[int(entry[2][2])] = part.name
 
     def cause_of(self, walk, thing, point):
         """Since which place a belief is not the device's state, None for the start, and why."""
@@ -75,7 +75,7 @@ class Causes:
 
     def description_text(self, place):
         client = int(self.state.history[place][1])
-        return f"{self.owners.get(client, client)} described the axis anew at place {place}, which no event tells"
+        return f"{self.openers.get(client, client)} described the axis anew at place {place}, which no event tells"
 
     def description_behind(self, thing, frame):
         """The place of the description that gave the axis its value at the end of a frame which has no event
@@ -123,7 +123,7 @@ class Causes:
             return f"it was revoked at place {handles.revokes[client]}"
         grab = handles.grab_of_another(client, place)
         if grab is not None:
-            return f"grab of {self.owners.get(grab.client, grab.client)} {span_text(grab.begin, grab.end)}"
+            return f"grab of {self.openers.get(grab.client, grab.client)} {span_text(grab.begin, grab.end)}"
         mask = handles.mask_at(client, place, kind, code)
         return None if mask is None else f"its mask of {mask[0]} {span_text(*mask[1:])}"
 

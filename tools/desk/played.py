@@ -16,6 +16,10 @@ from desk.report import read_report
 from desk.slips import refusal_text
 
 
+# The command by which an actor reads all that is queued. A joystick's part is not asked for.
+READS = {"client": "follow", "tap": "read 4096"}
+
+
 class Unread:
     """What clients would lose if they read on at the end: the record is played again with such lines behind
     it."""
@@ -35,8 +39,8 @@ class Unread:
     def play(self):
         lines = ["", "# All that is queued is read."]
         for actor in self.record.actors.values():
-            if actor.role != "source":
-                lines.append(f"do {actor.name} " + ("follow" if actor.role == "client" else "read 4096"))
+            if actor.role in READS:
+                lines.append(f"do {actor.name} {READS[actor.role]}")
         with tempfile.TemporaryDirectory() as folder:
             path = os.path.join(folder, "unread.rec")
             with open(path, "w", encoding="latin-1", newline="") as file:

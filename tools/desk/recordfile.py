@@ -6,7 +6,7 @@ say. The forms of the lines are in docs/FORMATS.md.
 
 from desk.command import Wrong
 from desk.names import ABS, KEY, LED, SLOT, SW, TYPES, code_text, is_slot_value
-from desk.recordlines import Parser
+from desk.recordlines import DEVICE_WORDS, ROLES, Parser
 
 DEFAULT_HINT = 16
 
@@ -45,7 +45,7 @@ class Device:
 
 
 class Actor:
-    """A source, a client, a tap or a joystick, and the number of its device."""
+    """A source, a client, a tap, a joystick or an owner, and the number of its device."""
 
     def __init__(self, name, role, device):
         self.name, self.role, self.device = name, role, device
@@ -65,9 +65,9 @@ class Record:
             device.finish()
 
     def add(self, number, words):
-        if words[0] == "device":
+        if words[0] in DEVICE_WORDS:
             self.devices.append(Device(words[1]))
-        elif words[0] in ("source", "client", "tap", "joy"):
+        elif words[0] in ROLES:
             self.actors[words[1]] = Actor(words[1], words[0], len(self.devices) - 1)
         elif words[0] == "do":
             self.actions.append((number, words[1], words[2:]))

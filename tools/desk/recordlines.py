@@ -10,9 +10,10 @@ from desk.command import Wrong, at_line, number
 from desk.names import ABS, KEY, LED, REP, SLOT, SW, is_in_a_record, number_of_code, number_of_kind
 from desk.recording import GREATEST, LEAST, Axis, Device, Recording
 
-FIRST_WORDS = ("inputrecord", "device", "hint", "log", "clock", "slots", "type", "cap", "axis", "filter")
+DEVICE_WORDS = ("device", "udevice")
+FIRST_WORDS = ("inputrecord", *DEVICE_WORDS, "hint", "log", "clock", "slots", "type", "cap", "axis", "filter")
 GREATEST_LOG, GREATEST_OFFSET = 8388608, 9000000000000000
-ACTORS = ("source", "client", "tap", "joy", "do")
+ROLES = ("source", "client", "tap", "joy", "owner")
 
 
 def is_record(text):
@@ -119,10 +120,10 @@ def parse(text):
                 parsers[-1].take_state(words[2:])
             elif not words or words[0].startswith("#") or words[0] == "inputrecord":
                 continue
-            elif words[0] == "device" and len(words) == 2:
+            elif words[0] in DEVICE_WORDS and len(words) == 2:
                 parsers.append(Parser(words[1]))
                 is_behind_actors = False
-            elif words[0] in ACTORS or is_behind_actors:
+            elif words[0] in (*ROLES, "do") or is_behind_actors:
                 is_behind_actors = True
             else:
                 parsers = parsers or [Parser()]

@@ -69,11 +69,11 @@ def add_line(devices, words):
 
 
 def read_report(text):
-    """The devices of a report. The parts of joysticks, which stand behind all devices, are passed over."""
+    """The devices of a report. The parts of joysticks and owners, which stand behind all devices, are passed over."""
     devices = []
     for line in text.splitlines():
         words = line.split(" ")
-        if words[0] == "joy":
+        if words[0] in ("joy", "owner"):
             break
         add_line(devices, words)
     return devices

@@ -9,30 +9,31 @@ SLIPS = {
     "bad-header": "the first line that is no comment must be `inputrecord 1` or `inputrecord 2`",
     "bad-line": (
         "the line begins with no known word, or has too few or too many words (`axis` has CODE and "
-        "six numbers: value, minimum, maximum, fuzz, flat, resolution; `filter` and `joy` come with `inputrecord 2`)"
+        "six numbers: value, minimum, maximum, fuzz, flat, resolution; `filter`, `joy`, `udevice` and "
+        "`owner` come with `inputrecord 2`)"
     ),
     "out-of-place": (
         "the order is: a device, its description, its actors; the next device; all `do` lines behind "
-        "all devices; and `inputrecord` only once"
+        "all devices; and `inputrecord` only once. An `owner` is an actor of a `udevice`"
     ),
-    "no-actor": "no `source`, `client`, `tap` or `joy` line has this name",
+    "no-actor": "no `source`, `client`, `tap`, `joy` or `owner` line has this name",
     "bad-command": (
         "this actor has no such command, or it has another number of words: `event`, `tick`, `stream` "
         "are a source's; `keys`, `axis` a tap's; `read` a tap's and a joystick's, which has `open` and `close` besides and no "
-        "other; `follow`, `next`, `force` a client's; `stream16` "
-        "comes with `inputrecord 2`"
+        "other; `follow`, `next`, `force` a client's; `feedback` an owner's, which has no other; `stream16` comes with "
+        "`inputrecord 2`"
     ),
     "bad-word": (
         "a name that is in no table (write its number: `cap 1 280`), a code of another type, a number "
-        "out of its range, a moment that is no whole number of microseconds, or a `filter` other than "
-        "`eat`, `norepeat`, `chord` and `bounce`"
+        "out of its range (a `feedback` is of 1 to 4096 events), a moment that is no whole number of "
+        "microseconds, or a `filter` other than `eat`, `norepeat`, `chord` and `bounce`"
     ),
     "twice": (
         "a setting, an axis or a name is given a second time; names of actors are one list over all "
-        "devices"
+        "devices, and so are names of devices, `udevice` among them"
     ),
     "too-many": (
-        "at most 8 devices, 8 sources and 128 clients, taps and joysticks of a device, and 16 lines of `stream` "
+        "at most 8 devices, 8 sources, 128 clients, taps and joysticks and one owner of a device, and 16 lines of `stream` "
         "and `stream16` together"
     ),
     "bad-code": (
