@@ -44,7 +44,8 @@ impl Outputs {
         })
     }
 
-    // Takes one more accepted step.
+    // Takes one more accepted step. Most steps bring no output, so that is seen where the step is made.
+    #[inline(always)]
     pub(crate) fn note(&mut self, caps: &Caps, step: Step)
         ensures noted { (kept : List UEntry) → AreOutputs caps.now kept self.old
             → AreOutputs caps.now (Made step ∷ kept) self.new }
@@ -83,6 +84,7 @@ impl Outputs {
     }
 
     // Takes a raw event: it waits for the owner where it goes to the device.
+    #[inline(always)]
     fn send(&mut self, caps: &Caps, event: Event)
         ensures stands { (r : List RawItem) → StandsFor caps.now (outputs_of r) self.old.state
             → StandsFor caps.now (outputs_of (Occurred event ∷ r)) self.new.state }
@@ -103,6 +105,7 @@ impl Outputs {
 }
 
 // Whether a device is inhibited from a step on, where the step says it.
+#[inline(always)]
 fn inhibition_by(step: Step) -> Option<bool>
     ensures inhibition { result ≡ inhibition_of step }
 {
@@ -114,6 +117,7 @@ fn inhibition_by(step: Step) -> Option<bool>
 }
 
 // The raw event that a step brings to a device, which ignores it while it is inhibited.
+#[inline(always)]
 fn event_by(step: Step, inhibited: bool) -> Option<Event>
     ensures event { result ≡ (if inhibited then None else event_brought step) }
 {
@@ -134,6 +138,7 @@ fn is_for_device(disposition: Disposition) -> bool
 }
 
 // Whether an event goes to the device where it is passed.
+#[inline(always)]
 fn is_output(event: Event) -> bool
     ensures output { result ≡ is_output_event event }
 {
