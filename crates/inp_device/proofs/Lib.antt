@@ -10,7 +10,7 @@ pub mod Offers
 pub mod Calls
 pub mod Passing
 pub mod WholeFrames
-pub mod Standing
+pub mod StandsAfterStep
 pub mod Stored
 pub mod Making
 pub mod Entering

@@ -43,7 +43,7 @@ use Rattle.inp_device.proofs.Queues.{visible-map}
 use Rattle.inp_model.proofs.Allowed.{allowed, named_open}
 use Rattle.inp_device.proofs.Calls.{makes_events, leaves_clients, has_client-after, has_revoked_client-after, events_of-after, clients_after-read, clients_after-discard, clients_after-query, clients_after-open, clients_after-left}
 use Rattle.inp_device.proofs.Passing.{takes, filters-left}
-use Rattle.inp_device.proofs.Standing.{leaves_grab, stands_called, stands_framed, holder-keeps, opens-keeps, opens-open, ends-keeps, ends-end, ends-le, handler_stands, no_holder, own_grab, holder-grab, holder-ungrab}
+use Rattle.inp_device.proofs.StandsAfterStep.{leaves_grab, stands_called, stands_framed, holder-keeps, opens-keeps, opens-open, ends-keeps, ends-end, ends-le, handler_stands, no_holder, own_grab, holder-grab, holder-ungrab}
 
 -- the clients that are kept, with what they read of their cells
 abbrev pub shown : Present → List (ClientView Taken)

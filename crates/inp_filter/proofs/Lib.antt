@@ -1,5 +1,5 @@
 pub mod Computing
-pub mod Standing
+pub mod StandsAfterEvents
 pub mod Rows
 pub mod LetThrough
 pub mod RowLaws

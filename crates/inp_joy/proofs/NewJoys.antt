@@ -4,7 +4,7 @@ use Rattle.inp_model.specs.Description.{Description}
 use Rattle.inp_recon.specs.declared.view.View.{View}
 use Rattle.inp_recon.specs.View.{first_view}
 use Rattle.inp_reader.specs.KeptViews.{IsKeptView}
-use Rattle.inp_reader.proofs.Keeping.{IsKeptView-first_view}
+use Rattle.inp_reader.proofs.UnsetSlotAxes.{IsKeptView-first_view}
 use Rattle.inp_joy.specs.declared.joy_state.JoyState.{JoyState}
 use Rattle.inp_joy.specs.Codes.{buttons, axes, startup_len}
 use Rattle.inp_joy.specs.Kept.{IsJoyState, IsJoy, joying_of}

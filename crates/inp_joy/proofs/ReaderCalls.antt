@@ -10,9 +10,9 @@ use Rattle.inp_reader.specs.Reading.{Reading, ReaderView, next_talk}
 use Rattle.inp_reader.specs.Says.{Says}
 use Rattle.inp_reader.specs.Showing.{AnswerShows}
 use Rattle.inp_reader.specs.Standing.{StandsAt, Stands, IsAlone}
-use Rattle.inp_reader.proofs.Alones.{alone-first, alone-then}
-use Rattle.inp_reader.proofs.Leavings.{leaves_made-none, leaves_made-then}
-use Rattle.inp_reader.proofs.SayingStands.{client-in}
+use Rattle.inp_reader.proofs.UseAlone.{alone-first, alone-then}
+use Rattle.inp_reader.proofs.LeftByCalls.{leaves_made-none, leaves_made-then}
+use Rattle.inp_reader.proofs.StandsByCalls.{client-in}
 use Rattle.inp_joy.specs.Kept.{ReaderCalls}
 
 -- one `next`

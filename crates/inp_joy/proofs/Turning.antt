@@ -11,7 +11,7 @@ use Rattle.inp_reader.specs.Reading.{Reading, next_talk, start_talk}
 use Rattle.inp_reader.specs.Says.{Says}
 use Rattle.inp_reader.specs.Standing.{is_needed}
 use Rattle.inp_reader.specs.Talk.{Talk, finish}
-use Rattle.inp_reader.proofs.Saying.{says-nothing, says-then}
+use Rattle.inp_reader.proofs.SaysInTurn.{says-nothing, says-then}
 use Rattle.inp_joy.specs.declared.joy_read.JoyRead.{JoyRead}
 use Rattle.inp_joy.specs.declared.joy_record.JoyRecord.{JoyRecord}
 use Rattle.inp_joy.specs.Joying.{Joying, Turn, gives, goes_on, hand_out_record, stop_with, with_reading, with_startup, next_in_startup, after_start, joy_started, joy_start, stop_of, is_lost, after_next, stop_or_startup, after_sync, sync_turn, after_normal, event_turn, startup, record_or_turn, turn_talk}

@@ -12,12 +12,12 @@ use Rattle.inp_model.proofs.Telling.{called_by, given_place}
 use Rattle.inp_model.specs.Leaves.{AreCalls}
 use Rattle.inp_reader.specs.Talk.{Talk, finish, ask, LeadsTo, EndsWith}
 use Rattle.inp_model.specs.History.{IsHistory}
-use Rattle.inp_reader.proofs.Efforts.{place-below}
+use Rattle.inp_reader.proofs.LessEffort.{place-below}
 use Rattle.inp_script.proofs.Replies.{answer_has}
 use Rattle.inp_script.proofs.Runs.{runs-on}
 use Rattle.inp_model.proofs.Leaves.{seen-kept}
 use Rattle.inp_runs.specs.Job.{lacks_memory}
-use Rattle.inp_runs.proofs.Leaving.{AreAnswered}
+use Rattle.inp_runs.proofs.LeftByTalks.{AreAnswered}
 use Rattle.inp_runs.proofs.Memory.{answered-memory}
 use Rattle.inp_order.specs.Play.{talk_with}
 

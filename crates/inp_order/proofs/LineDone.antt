@@ -27,7 +27,7 @@ use Rattle.inp_script.specs.Legal.{entries_of}
 use Rattle.inp_script.specs.Owner.{Owning, after_feedback}
 use Rattle.inp_order.specs.Play.{Stage, talk_with, calls_after, after_talk, unless_owner_stopped, by_command, after_line_of, after_line}
 use Rattle.inp_order.proofs.Calls.{AreExact, calls_with, talk_with-ends, talk_with-exact, exact-answered}
-use Rattle.inp_runs.proofs.Leaving.{leaves-ends}
+use Rattle.inp_runs.proofs.LeftByTalks.{leaves-ends}
 use Rattle.inp_runs.proofs.LineTalks.{IsKept, IsKeptIfSome, leaves-line}
 use Rattle.inp_runs.proofs.Listing.{IsImage, option_map-some}
 

@@ -24,8 +24,8 @@ use Rattle.inp_reader.specs.Spare.{IsSpare}
 use Rattle.inp_reader.specs.Standing.{steps_of, view_after_answers}
 use Rattle.inp_model.proofs.Refused.{refused-not_accepted}
 use Rattle.inp_reader.proofs.Calls.{AreAnswered, AreAccepted}
-use Rattle.inp_reader.proofs.Spares.{IsSpare-first_view, has-cells}
-use Rattle.inp_reader.proofs.Standings.{IsMadeAnew}
+use Rattle.inp_reader.proofs.SpareAgrees.{IsSpare-first_view, has-cells}
+use Rattle.inp_reader.proofs.StandsAfterTalks.{IsMadeAnew}
 
 -- What is asked for
 

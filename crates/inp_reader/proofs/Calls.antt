@@ -15,7 +15,7 @@ use Rattle.inp_reader.specs.Leaving.{places_of}
 use Rattle.inp_model.specs.Leaves.{AreCalls}
 use Rattle.inp_reader.specs.Says.{kept_of, made_of}
 use Rattle.inp_reader.specs.Talk.{Talk, finish, ask, and_then, LeadsTo, EndsWith}
-use Rattle.inp_reader.proofs.Leavings.{places_of-append}
+use Rattle.inp_reader.proofs.LeftByCalls.{places_of-append}
 
 -- The calls of a talk, and of the one that its result says.
 

@@ -24,7 +24,7 @@ use Rattle.inp_reader.specs.Reading.{queries}
 use Rattle.inp_recon.specs.Synchronised.{is_start}
 use Rattle.inp_reader.specs.Standing.{is_use, is_use_of, calls_since, steps_of, view_after_answers, taken_by_calls, events_of, is_read, AreReads}
 use Rattle.inp_reader.proofs.Calls.{AreAnswered, AreAccepted}
-use Rattle.inp_reader.proofs.Agains.{NoneIsRead, NoneIsRead-queries}
+use Rattle.inp_reader.proofs.AgainCounts.{NoneIsRead, NoneIsRead-queries}
 
 -- One call
 

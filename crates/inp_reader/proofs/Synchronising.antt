@@ -17,8 +17,8 @@ use Rattle.inp_reader.specs.Synthesis.{synth}
 use Rattle.inp_reader.specs.Laws.{AreOfOneDevice}
 use Rattle.inp_reader.specs.Reading.{Reading, stop_of, hand_synthesised, handing, after_full_sync, after_failed_sync, go_on_after, sync_talk, talk_in}
 use Rattle.inp_reader.specs.KeptViews.{IsKeptView, synthesised_in, LeadsOn}
-use Rattle.inp_reader.proofs.Leading.{Leads-synth}
-use Rattle.inp_reader.proofs.Giving.{Gives, Gives-finish, Gives-then, Gives-sync, IsKeptResult}
+use Rattle.inp_reader.proofs.EventsLead.{Leads-synth}
+use Rattle.inp_reader.proofs.TalkResults.{Gives, Gives-finish, Gives-then, Gives-sync, IsKeptResult}
 
 -- two views that a reader of such devices keeps are of one device
 pub AreOfOneDevice-kept : (d : Description) (old new : View) → IsKeptView d old → IsKeptView d new → AreOfOneDevice d.slots old new

@@ -19,7 +19,7 @@ use Rattle.inp_losses.proofs.Causes.{all_taken-caused}
 use Rattle.inp_reader.specs.Standing.{is_use_of}
 use Rattle.inp_model.proofs.Refused.{refused-not_accepted}
 use Rattle.inp_reader.proofs.ClientViews.{idle-taken, used-taken}
-use Rattle.inp_reader.proofs.Meeting.{AreQuiet, IsMet}
+use Rattle.inp_reader.proofs.PastsAtCalls.{AreQuiet, IsMet}
 use Rattle.inp_script.specs.declared.sight.Sight.{Sight}
 use Rattle.inp_script.specs.declared.sight.Sight.TheVariants.{Took}
 use Rattle.inp_script.specs.Sight.{call_sight, again_sight, taken_sight}

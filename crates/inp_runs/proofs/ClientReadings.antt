@@ -39,11 +39,11 @@ use Rattle.inp_reader.specs.Standing.{is_use_of, calls_since}
 use Rattle.inp_reader.specs.Talk.{Talk, finish, LeadsTo, EndsWith}
 use Rattle.inp_reader.proofs.Agreeing.{spare-made_anew}
 use Rattle.inp_reader.proofs.Calls.{AreAnswered}
-use Rattle.inp_reader.proofs.Meeting.{AreMet, IsMet}
-use Rattle.inp_reader.proofs.SayingStands.{client-in}
-use Rattle.inp_reader.proofs.Showings.{handed-is-taken, agree-then}
-use Rattle.inp_reader.proofs.Sparing.{keeps-next, keeps-start}
-use Rattle.inp_reader.proofs.Standings.{IsHandedOut, HandsOut, IsOpenInStep, Leaves, met-opens, met-unused, in-step-kept, stands-after-next, stands-queried, open-step, open-opens}
+use Rattle.inp_reader.proofs.PastsAtCalls.{AreMet, IsMet}
+use Rattle.inp_reader.proofs.StandsByCalls.{client-in}
+use Rattle.inp_reader.proofs.ShowsDevice.{handed-is-taken, agree-then}
+use Rattle.inp_reader.proofs.TalksKeepSpare.{keeps-next, keeps-start}
+use Rattle.inp_reader.proofs.StandsAfterTalks.{IsHandedOut, HandsOut, IsOpenInStep, Leaves, met-opens, met-unused, in-step-kept, stands-after-next, stands-queried, open-step, open-opens}
 use Rattle.inp_script.proofs.LastAgain.{finish-only, and_then-parts}
 use Rattle.inp_script.specs.declared.sight.Sight.{Sight}
 use Rattle.inp_script.specs.Sight.{call_sight}

@@ -32,10 +32,10 @@ use Rattle.inp_reader.specs.declared.started.Started.{Started}
 use Rattle.inp_reader.specs.Reading.{Reading, is_dropped, start_talk, next_talk, with_sync_needed}
 use Rattle.inp_reader.specs.Showing.{index_handed_out}
 use Rattle.inp_reader.specs.Standing.{is_use, is_use_of}
-use Rattle.inp_reader.proofs.Standings.{IsOpenInStep}
+use Rattle.inp_reader.proofs.StandsAfterTalks.{IsOpenInStep}
 use Rattle.inp_reader.specs.Talk.{Talk, finish, LeadsTo, EndsWith}
-use Rattle.inp_reader.proofs.SayingStands.{client-in}
-use Rattle.inp_reader.proofs.Sparing.{new-spare}
+use Rattle.inp_reader.proofs.StandsByCalls.{client-in}
+use Rattle.inp_reader.proofs.TalksKeepSpare.{new-spare}
 use Rattle.inp_script.specs.declared.sight.Sight.{Sight}
 use Rattle.inp_script.specs.declared.sight.Sight.TheVariants.{Took, Made, Again as AgainSight}
 use Rattle.inp_script.specs.declared.stop.Stop.{Stop}

@@ -23,7 +23,7 @@ use Rattle.inp_recon.proofs.FaithfulHistories.{faithful_by_reads}
 use Rattle.inp_recon.proofs.FaithfulReads.{reads-faithful}
 use Rattle.inp_reader.specs.Talk.{Talk, EndsWith}
 use Rattle.inp_reader.proofs.Calls.{IsPlaceOf}
-use Rattle.inp_reader.proofs.Efforts.{place-below}
+use Rattle.inp_reader.proofs.LessEffort.{place-below}
 use Rattle.inp_script.specs.declared.waiting.Waiting.{Waiting}
 use Rattle.inp_script.specs.Ended.{ended_of, jobs_among, joys_among, owners_among, device_run}
 use Rattle.inp_script.specs.Fold.{IsFolded}
@@ -40,7 +40,7 @@ use Rattle.inp_runs.proofs.JobEnds.{IsEndOf, OwnersCountNothing, is_stick, is_fe
 use Rattle.inp_runs.proofs.JobSizes.{job-sized}
 use Rattle.inp_runs.proofs.JobTold.{job-told}
 use Rattle.inp_runs.proofs.JobViews.{IsShown, job-shown}
-use Rattle.inp_runs.proofs.Leaving.{AreAnswered}
+use Rattle.inp_runs.proofs.LeftByTalks.{AreAnswered}
 use Rattle.inp_runs.proofs.Listing.{IsAt, IsImage, filter-same, map-filter, option_map-some, slice_get-filter}
 use Rattle.inp_runs.proofs.OwnerTalks.{owner-silent}
 use Rattle.inp_runs.proofs.Memory.{answered-memory, gives_up-lines, talk-answered}

@@ -18,7 +18,7 @@ use Rattle.inp_script.proofs.LastAgain.{finish-only, and_then-parts}
 use Rattle.inp_script.proofs.LineTold.{line-told, end-told}
 use Rattle.inp_script.proofs.Told.{Tells, tells-none, tells-then}
 use Rattle.inp_runs.specs.Job.{on_job, last_talk, lines_talk, AreTold}
-use Rattle.inp_runs.proofs.Leaving.{AreAnswered, leaves-ends}
+use Rattle.inp_runs.proofs.LeftByTalks.{AreAnswered, leaves-ends}
 use Rattle.inp_runs.proofs.LineTalks.{IsKept, IsKeptIfSome, leaves-lines}
 
 -- Where lines wait

@@ -32,7 +32,7 @@ use Rattle.inp_joy.specs.JoyRecord.{bytes_of}
 use Rattle.inp_joy.specs.Joying.{JoyAnswer, joy_start, turns}
 use Rattle.inp_reader.specs.Talk.{Talk, finish, LeadsTo, EndsWith}
 use Rattle.inp_reader.proofs.ClientViews.{no_read-takes}
-use Rattle.inp_reader.proofs.Meeting.{AreAllOwn}
+use Rattle.inp_reader.proofs.PastsAtCalls.{AreAllOwn}
 use Rattle.inp_script.specs.declared.sight.Sight.{Sight}
 use Rattle.inp_script.specs.declared.sight.Sight.TheVariants.{Again as AgainSight, Record}
 use Rattle.inp_script.specs.declared.stop.Stop.{Stop}

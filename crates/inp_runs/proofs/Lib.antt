@@ -2,7 +2,7 @@ pub mod Listing
 pub mod LineRuns
 pub mod Entries
 pub mod Folded
-pub mod Leaving
+pub mod LeftByTalks
 pub mod ReaderTalks
 pub mod LineTalks
 pub mod Memory

@@ -45,7 +45,7 @@ use Rattle.inp_script.specs.Sight.{call_sight, again_sight, taken_sight, sight_o
 use Rattle.inp_script.proofs.Told.{no_calls_taken, call_kept, again_kept}
 use Rattle.inp_runs.specs.Job.{on_job, lines_talk}
 use Rattle.inp_runs.proofs.Entries.{call_entries}
-use Rattle.inp_runs.proofs.Leaving.{Leaves, leaves-then, Answers, answers-then, leaves-noted}
+use Rattle.inp_runs.proofs.LeftByTalks.{Leaves, leaves-then, Answers, answers-then, leaves-noted}
 use Rattle.inp_runs.proofs.ReaderTalks.{IsStarted, IsNext, again_of, sized-answered, answers-start, answers-next}
 
 -- the job's view has the device's slots, and its sight tells of these calls

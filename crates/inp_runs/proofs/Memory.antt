@@ -51,7 +51,7 @@ use Rattle.inp_script.specs.Sight.{noted, call_sight}
 use Rattle.inp_script.proofs.Replies.{answer_has}
 use Rattle.inp_runs.specs.Job.{on_job, last_talk, lines_talk, lacks_memory}
 use Rattle.inp_runs.proofs.Folded.{AreOfRole}
-use Rattle.inp_runs.proofs.Leaving.{AreAnswered}
+use Rattle.inp_runs.proofs.LeftByTalks.{AreAnswered}
 
 -- where an Open is refused for want of memory nothing more is asked, and there is no job
 abbrev pub GivesUp : Talk (Option Job) → Type 0

@@ -31,7 +31,7 @@ use Rattle.inp_script.proofs.ClientFolds.{AllNoRead, not_again, no_read-queries}
 use Rattle.inp_reader.proofs.Agreeing.{sized-answer}
 use Rattle.inp_script.proofs.Told as told
 use Rattle.inp_runs.proofs.Entries.{call_entries}
-use Rattle.inp_runs.proofs.Leaving.{Answers, answers-then}
+use Rattle.inp_runs.proofs.LeftByTalks.{Answers, answers-then}
 
 -- One answer
 

@@ -37,9 +37,9 @@ use Rattle.inp_reader.proofs.Agreeing.{AgreeBut}
 use Rattle.inp_model.proofs.Refused.{refused-not_accepted}
 use Rattle.inp_reader.proofs.Calls.{IsPlaceOf, place-least}
 use Rattle.inp_reader.proofs.ClientViews.{at-earlier, at-last, idle-step, idle-taken, used-view, taken-events}
-use Rattle.inp_reader.proofs.Meeting.{AreQuiet, IsMet, AreMet, AreAllOwn, later_own, past_before, quiet-from_places, quiet-reversed, slice_get-taken, slice_get-behind}
-use Rattle.inp_reader.proofs.Showings.{what_is_had, no-key-down, nothing-on}
-use Rattle.inp_reader.proofs.Spares.{no-keys, no-switches, no-leds, keys-stay}
+use Rattle.inp_reader.proofs.PastsAtCalls.{AreQuiet, IsMet, AreMet, AreAllOwn, later_own, past_before, quiet-from_places, quiet-reversed, slice_get-taken, slice_get-behind}
+use Rattle.inp_reader.proofs.ShowsDevice.{what_is_had, no-key-down, nothing-on}
+use Rattle.inp_reader.proofs.SpareAgrees.{no-keys, no-switches, no-leds, keys-stay}
 use Rattle.inp_reader.proofs.Supported.{events-of}
 use Rattle.inp_script.specs.declared.sight.Sight.{Sight}
 use Rattle.inp_script.specs.declared.sight.Sight.TheVariants.{Call as CallSight, Took, Made, Again as AgainSight, Record}

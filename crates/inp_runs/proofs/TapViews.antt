@@ -39,10 +39,10 @@ use Rattle.inp_reader.specs.Standing.{is_use, is_use_of, is_read, events_of}
 use Rattle.inp_reader.specs.Talk.{LeadsTo, EndsWith}
 use Rattle.inp_reader.proofs.Agreeing.{Compared, AgreeBut, is_get_keys, is_get_switches, is_get_leds, is_get_axis, is_sync_slots, agree-answer}
 use Rattle.inp_reader.proofs.ClientViews.{accepted-answer, accepted-accepts, at-last, idle-step, no-events, no_read-takes, read-view, taken-events, used-taken, used-view}
-use Rattle.inp_reader.proofs.Meeting.{AreQuiet}
-use Rattle.inp_reader.proofs.Showings.{what_is_had, agree-events, at-it}
-use Rattle.inp_reader.proofs.Spares.{has-cells}
-use Rattle.inp_reader.proofs.Standings.{open-opens, opens-step}
+use Rattle.inp_reader.proofs.PastsAtCalls.{AreQuiet}
+use Rattle.inp_reader.proofs.ShowsDevice.{what_is_had, agree-events, at-it}
+use Rattle.inp_reader.proofs.SpareAgrees.{has-cells}
+use Rattle.inp_reader.proofs.StandsAfterTalks.{open-opens, opens-step}
 use Rattle.inp_reader.proofs.Supported.{events-of}
 use Rattle.inp_script.specs.declared.sight.Sight.{Sight}
 use Rattle.inp_script.specs.declared.sight.Sight.TheVariants.{Call as CallSight, Took, Made, Again as AgainSight, Record}

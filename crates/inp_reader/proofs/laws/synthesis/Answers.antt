@@ -1,5 +1,5 @@
 -- The laws of the synthesised events.
-use Rattle.inp_reader.proofs.Leading.{Leads-synth}
+use Rattle.inp_reader.proofs.EventsLead.{Leads-synth}
 use Rattle.inp_reader.proofs.Counts.{length-synth}
 use Rattle.inp_reader.proofs.laws.synthesis.Goals as goal
 

@@ -2,8 +2,8 @@
 use Rattle.std.proofs.Common.{refl}
 use Rattle.inp_reader.specs.declared.mode.Mode.TheVariants.{Sync as Synchronising}
 use Rattle.inp_reader.specs.Reading.{start_talk, next_talk}
-use Rattle.inp_reader.proofs.Keeping.{IsKeptView-first_view}
-use Rattle.inp_reader.proofs.Giving.{HasKeptView, Gives-says, Gives-start, Gives-next}
+use Rattle.inp_reader.proofs.UnsetSlotAxes.{IsKeptView-first_view}
+use Rattle.inp_reader.proofs.TalkResults.{HasKeptView, Gives-says, Gives-start, Gives-next}
 use Rattle.inp_reader.proofs.Synchronising.{AreOfOneDevice-kept, ResultLeadsOn, Gives-needed, Gives-handing}
 use Rattle.inp_reader.proofs.laws.views.Goals as goal
 

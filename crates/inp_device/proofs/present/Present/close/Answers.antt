@@ -5,7 +5,7 @@ use Rattle.inp_client.specs.Clients.{without_client}
 use Rattle.inp_client.specs.Read.{clients_on}
 use Rattle.inp_client.proofs.OnClock.{without_client-on}
 use Rattle.inp_device.proofs.Calls.{clients_after-close}
-use Rattle.inp_device.proofs.Standing.{holder-close}
+use Rattle.inp_device.proofs.StandsAfterStep.{holder-close}
 use Rattle.inp_device.proofs.Making.{made_call, called, named_there}
 use Rattle.inp_device.proofs.present.Present.close.Goals as goal
 

@@ -1,7 +1,7 @@
 -- The hold goes on by the moment of the last release, and that moment by the releases that are not eaten.
 use Rattle.std.proofs.Common.{ℕ, Bool, ◌&&◌, not, Option, sym, ap, ◌∙◌}
 use Rattle.inp_model.specs.Filter.{is_on_key, is_release, is_soon, is_bounced, is_in_hold}
-use Rattle.inp_filter.proofs.Standing.{last_release-on, last_release-other}
+use Rattle.inp_filter.proofs.StandsAfterEvents.{last_release-on, last_release-other}
 use Rattle.inp_filter.proofs.bounce.Bounce.eats.Goals as goal
 
 pub returns-then-counts-clause-stands : goal.returns-then-counts-clause-stands

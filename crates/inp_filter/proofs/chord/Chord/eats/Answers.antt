@@ -3,7 +3,7 @@ use Rattle.std.proofs.Common.{◌≡◌, ℕ, false, ◌&&◌, not, sym, ap, ◌
 use Rattle.std.proofs.lemmas.Bool.{and_from, and_left, and_right, not_from_true, not_from_false}
 use Rattle.inp_model.specs.Event.{is_repeat}
 use Rattle.inp_model.specs.Filter.{is_on_key, is_chorded}
-use Rattle.inp_filter.proofs.Standing.{is_down-on, is_down-other}
+use Rattle.inp_filter.proofs.StandsAfterEvents.{is_down-on, is_down-other}
 use Rattle.inp_filter.proofs.chord.Chord.eats.Goals.{else-is_on_key-via-then-is_on_key+else-not-is_repeat, else-is_on_key-via-else-is_on_key}
 use Rattle.inp_filter.proofs.chord.Chord.eats.Goals as goal
 

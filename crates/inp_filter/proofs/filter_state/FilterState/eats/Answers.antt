@@ -5,7 +5,7 @@ use Rattle.inp_filter.specs.declared.filter_state.FilterState.{FilterState}
 use Rattle.inp_filter.specs.declared.filter_state.FilterState.TheVariants.{Eat as EatState, Norepeat as NorepeatState, Chord as ChordState, Bounce as BounceState}
 use Rattle.inp_model.specs.Filter.{Timed, eats, given_more}
 use Rattle.inp_filter.specs.FilterState.{FilterStandsFor}
-use Rattle.inp_filter.proofs.Standing.{of_eat, of_norepeat, of_chord, of_bounce}
+use Rattle.inp_filter.proofs.StandsAfterEvents.{of_eat, of_norepeat, of_chord, of_bounce}
 use Rattle.inp_filter.proofs.filter_state.FilterState.eats.Goals as goal
 
 pub returns-in-Eat-clause-eats : goal.returns-in-Eat-clause-eats

@@ -3,7 +3,7 @@ use Rattle.std.proofs.Common.{◌∙◌, sym, ap, arith}
 use Rattle.std.proofs.lemmas.Bool.Decides.{nat_tests}
 use Rattle.inp_filter.specs.declared.hold.Hold.{Hold}
 use Rattle.inp_model.specs.Filter.{Given, is_on_key}
-use Rattle.inp_filter.proofs.Standing.{last_press-other, last_press-on}
+use Rattle.inp_filter.proofs.StandsAfterEvents.{last_press-other, last_press-on}
 use Rattle.inp_filter.proofs.hold.Hold.eats.Goals.{then-is_press, else-is_press}
 use Rattle.inp_filter.proofs.hold.Hold.eats.Goals as goal
 

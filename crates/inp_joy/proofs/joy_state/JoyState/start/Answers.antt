@@ -4,7 +4,7 @@ use Rattle.inp_reader.specs.declared.call_made.CallMade.{CallMade}
 use Rattle.inp_reader.specs.declared.started.Started.{Started}
 use Rattle.inp_reader.specs.Reading.{Reading}
 use Rattle.inp_reader.specs.Says.{Says}
-use Rattle.inp_reader.proofs.Giving.{Gives-says, Gives-start, HasKeptView}
+use Rattle.inp_reader.proofs.TalkResults.{Gives-says, Gives-start, HasKeptView}
 use Rattle.inp_joy.specs.declared.joy_state.JoyState.{JoyState}
 use Rattle.inp_joy.specs.Codes.{startup_len}
 use Rattle.inp_joy.specs.Joying.{joy_start, with_reading, after_start}

@@ -3,7 +3,7 @@ use Rattle.inp_model.specs.declared.event.TheConstants.{EV_KEY, EV_LED, EV_SW}
 use Rattle.inp_model.specs.declared.step.Step.TheVariants.{GetKeys, GetLeds, GetSwitches}
 use Rattle.inp_model.specs.Description.{has_kind}
 use Rattle.inp_reader.specs.Reading.{only_if}
-use Rattle.inp_reader.proofs.Saying.{says-stop-if, says-go-on, says-only_if}
+use Rattle.inp_reader.proofs.SaysInTurn.{says-stop-if, says-go-on, says-only_if}
 use Rattle.inp_reader.proofs.asker.Asker.query_bits.Goals as goal
 
 pub returns-then-is_some-clause-says : goal.returns-then-is_some-clause-says

@@ -3,7 +3,7 @@ use Rattle.inp_model.specs.Description.{Description}
 use Rattle.inp_recon.specs.declared.view.View.{View}
 use Rattle.inp_recon.specs.View.{first_view}
 use Rattle.inp_recon.proofs.Sizes.{IsSizedFor-first_view}
-use Rattle.inp_reader.proofs.Sparing.{new-spare}
+use Rattle.inp_reader.proofs.TalksKeepSpare.{new-spare}
 use Rattle.inp_reader.proofs.reader.Reader.new.Goals as goal
 
 pub invariant_of-result : goal.invariant_of-result

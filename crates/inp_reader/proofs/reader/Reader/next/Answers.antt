@@ -3,11 +3,11 @@ use Rattle.inp_reader.specs.Effort.{effort, IsLess, is_idle}
 use Rattle.inp_reader.specs.Reading.{ReaderView}
 use Rattle.inp_reader.specs.Session.{reading_of}
 use Rattle.inp_reader.specs.Standing.{Stands}
-use Rattle.inp_reader.proofs.Sparing.{says-keeps_next}
-use Rattle.inp_reader.proofs.SayingStands.{next-stands, next-shows}
-use Rattle.inp_reader.proofs.Leavings.{says-anew, says-left}
-use Rattle.inp_reader.proofs.Agains.{says-agains}
-use Rattle.inp_reader.proofs.Efforts.{says-less}
+use Rattle.inp_reader.proofs.TalksKeepSpare.{says-keeps_next}
+use Rattle.inp_reader.proofs.StandsByCalls.{next-stands, next-shows}
+use Rattle.inp_reader.proofs.LeftByCalls.{says-anew, says-left}
+use Rattle.inp_reader.proofs.AgainCounts.{says-agains}
+use Rattle.inp_reader.proofs.LessEffort.{says-less}
 use Rattle.inp_reader.proofs.reader.Reader.next.Goals as goal
 
 pub returns-clause-left : goal.returns-clause-left

@@ -5,10 +5,10 @@ use Rattle.inp_reader.specs.Session.{reading_of}
 use Rattle.inp_reader.specs.Standing.{Stands}
 use Rattle.inp_reader.specs.Starting.{client_opened, after_refused_query}
 use Rattle.inp_reader.proofs.RefusedStarts.{says-open_refused, says-query_refused}
-use Rattle.inp_reader.proofs.Sparing.{says-keeps_start}
-use Rattle.inp_reader.proofs.SayingStands.{start-opens, start-stands}
-use Rattle.inp_reader.proofs.Leavings.{says-anew, says-left}
-use Rattle.inp_reader.proofs.Agains.{says-no_agains}
+use Rattle.inp_reader.proofs.TalksKeepSpare.{says-keeps_start}
+use Rattle.inp_reader.proofs.StandsByCalls.{start-opens, start-stands}
+use Rattle.inp_reader.proofs.LeftByCalls.{says-anew, says-left}
+use Rattle.inp_reader.proofs.AgainCounts.{says-no_agains}
 use Rattle.inp_reader.proofs.reader.Reader.start.Goals as goal
 
 pub returns-clause-left : goal.returns-clause-left

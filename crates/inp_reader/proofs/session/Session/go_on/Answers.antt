@@ -5,7 +5,7 @@ use Rattle.inp_reader.specs.declared.next.Next.{Next}
 use Rattle.inp_reader.specs.Reading.{Reading, go_on}
 use Rattle.inp_reader.specs.Session.{reading_of}
 use Rattle.inp_reader.specs.Talk.{finish}
-use Rattle.inp_reader.proofs.Sessions.{says-still}
+use Rattle.inp_reader.proofs.SaysSessions.{says-still}
 use Rattle.inp_reader.proofs.session.Session.go_on.Goals as goal
 
 pub returns-in-Sync-clause-says : goal.returns-in-Sync-clause-says

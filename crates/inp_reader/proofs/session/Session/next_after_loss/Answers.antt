@@ -1,5 +1,5 @@
 use Rattle.inp_reader.specs.Session.{reading_of}
-use Rattle.inp_reader.proofs.Sessions.{says-unsynchronised, says-synchronised}
+use Rattle.inp_reader.proofs.SaysSessions.{says-unsynchronised, says-synchronised}
 use Rattle.inp_reader.proofs.session.Session.next_after_loss.Goals as goal
 
 pub returns-in-Some-clause-says : goal.returns-in-Some-clause-says

@@ -2,7 +2,7 @@ use Rattle.std.proofs.Common.{ap, refl}
 use Rattle.inp_reader.specs.declared.mode.Mode.{Mode}
 use Rattle.inp_reader.specs.Reading.{plain_talk}
 use Rattle.inp_reader.specs.Session.{reading_of}
-use Rattle.inp_reader.proofs.Sessions.{says-still}
+use Rattle.inp_reader.proofs.SaysSessions.{says-still}
 use Rattle.inp_reader.proofs.session.Session.next_in_plain.Goals as goal
 
 pub returns-in-Sync-clause-says : goal.returns-in-Sync-clause-says

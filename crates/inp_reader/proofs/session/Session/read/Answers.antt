@@ -1,7 +1,7 @@
 use Rattle.std.proofs.Common.{sym, ap, ◌∙◌}
 use Rattle.inp_reader.specs.declared.asker.Asker.{Asker}
 use Rattle.inp_reader.specs.Session.{reading_of}
-use Rattle.inp_reader.proofs.Sessions.{says-took, says-read_nothing}
+use Rattle.inp_reader.proofs.SaysSessions.{says-took, says-read_nothing}
 use Rattle.inp_reader.proofs.session.Session.read.Goals as goal
 
 pub returns-then-is_accepted-clause-says : goal.returns-then-is_accepted-clause-says

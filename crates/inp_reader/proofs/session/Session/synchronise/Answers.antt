@@ -1,7 +1,7 @@
 use Rattle.std.proofs.Common.{◌∷◌}
 use Rattle.inp_model.specs.declared.step.Step.TheVariants.{Discard}
 use Rattle.inp_reader.specs.Reading.{queries, sync_talk}
-use Rattle.inp_reader.proofs.Sessions.{says-view}
+use Rattle.inp_reader.proofs.SaysSessions.{says-view}
 use Rattle.inp_reader.proofs.session.Session.synchronise.Goals as goal
 
 pub returns-then-is_some-clause-says : goal.returns-then-is_some-clause-says

@@ -33,7 +33,7 @@ use Rattle.inp_reader.specs.Standing.{is_use_of, calls_since, steps_of, view_aft
 use Rattle.inp_reader.specs.Talk.{Talk, finish, and_then, LeadsTo, EndsWith}
 use Rattle.inp_model.proofs.Refused.{refused-not_accepted}
 use Rattle.inp_reader.proofs.Calls.{IsSplit, split-and_then, finished, AreAnswered, AreAccepted}
-use Rattle.inp_reader.proofs.Meeting.{AreQuiet, IsMet, AreMet, AreMet-split, AreMet-answered}
+use Rattle.inp_reader.proofs.PastsAtCalls.{AreQuiet, IsMet, AreMet, AreMet-split, AreMet-answered}
 
 -- Steps since the client was opened
 

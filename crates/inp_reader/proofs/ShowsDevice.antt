@@ -28,7 +28,7 @@ use Rattle.inp_reader.specs.Showing.{index_handed_out, ShowsTheDevice}
 use Rattle.inp_recon.specs.Synchronised.{has_axis}
 use Rattle.inp_reader.specs.Spare.{IsSpare}
 use Rattle.inp_reader.specs.Standing.{calls_since, steps_of, view_after_answers, taken_by_calls, events_of}
-use Rattle.inp_reader.proofs.Standings.{IsHandedOut}
+use Rattle.inp_reader.proofs.StandsAfterTalks.{IsHandedOut}
 use Rattle.inp_reader.proofs.Answering.{length-rows}
 use Rattle.inp_reader.proofs.Agreeing.{Compared, AgreeBut, agree-answers, keys-spared, switches-spared, leds-spared, slots-spared, plain-asked}
 use Rattle.inp_reader.proofs.Calls.{AreAnswered, AreAccepted}

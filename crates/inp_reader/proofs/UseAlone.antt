@@ -12,7 +12,7 @@ use Rattle.inp_reader.specs.declared.call_made.CallMade.{CallMade}
 use Rattle.inp_reader.specs.Leaving.{LeavesMade, places_of}
 use Rattle.inp_reader.specs.Standing.{IsAlone, is_use_of}
 use Rattle.inp_reader.proofs.Calls.{IsPlaceOf, place-known, place-least}
-use Rattle.inp_reader.proofs.Leavings.{places_of-append}
+use Rattle.inp_reader.proofs.LeftByCalls.{places_of-append}
 
 -- the place of an accepted call is one of the history
 pub place-within : (d : Description) (history : List Step) (least place : ℕ) (calls : List Call) → IsLegalFrom d history least calls → IsPlaceOf place calls → place < length history

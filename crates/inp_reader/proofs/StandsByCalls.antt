@@ -30,12 +30,12 @@ use Rattle.inp_reader.specs.Standing.{StandsAt, IsAlone, has_opened}
 use Rattle.inp_reader.specs.Talk.{LeadsTo, EndsWith}
 use Rattle.inp_recon.proofs.FaithfulHistories.{faithful_by_reads}
 use Rattle.inp_recon.proofs.FaithfulReads.{reads-faithful}
-use Rattle.inp_reader.proofs.Showings.{shows-device}
-use Rattle.inp_reader.proofs.Sparing.{says-keeps_next}
+use Rattle.inp_reader.proofs.ShowsDevice.{shows-device}
+use Rattle.inp_reader.proofs.TalksKeepSpare.{says-keeps_next}
 use Rattle.inp_reader.proofs.Agreeing.{spare-made_anew}
 use Rattle.inp_reader.proofs.Calls.{IsSplit, split-and_then, finished}
-use Rattle.inp_reader.proofs.Meeting.{AreMet, says-met}
-use Rattle.inp_reader.proofs.Standings.{HandsOut, IsOpenInStep, Leaves, StoodOrOpened, stands-after-next, stands-after-start}
+use Rattle.inp_reader.proofs.PastsAtCalls.{AreMet, says-met}
+use Rattle.inp_reader.proofs.StandsAfterTalks.{HandsOut, IsOpenInStep, Leaves, StoodOrOpened, stands-after-next, stands-after-start}
 
 -- What is seen is a history of accepted steps
 

@@ -24,7 +24,7 @@ use Rattle.inp_reader.specs.Reading.{Reading, queries, ask_each, start_stop_of, 
 use Rattle.inp_model.specs.Leaves.{AreCalls}
 use Rattle.inp_reader.specs.Says.{Says}
 use Rattle.inp_reader.specs.KeptViews.{IsKeptView}
-use Rattle.inp_reader.proofs.Keeping.{IsKeptView-after_event, IsKeptView-after_call}
+use Rattle.inp_reader.proofs.UnsetSlotAxes.{IsKeptView-after_event, IsKeptView-after_call}
 
 -- each result of the talk has this property, on an evdev of this description
 pub Gives : {A : Type 0} → Description → (A → Type 0) → EvdevView → Talk A → Type 0

@@ -32,7 +32,7 @@ use Rattle.inp_reader.specs.Spare.{IsSpare, is_event_of, HasSpare}
 use Rattle.inp_reader.specs.Says.{Says}
 use Rattle.inp_reader.specs.Talk.{Talk, finish, and_then, LeadsTo, EndsWith}
 use Rattle.inp_reader.proofs.Calls.{IsSplit, split-and_then, finished, AreAnswered, answered, answered-first, answered-later}
-use Rattle.inp_reader.proofs.Spares.{IsWanted, IsSpare-after_event, IsSpare-after_answer, IsSpare-first_view}
+use Rattle.inp_reader.proofs.SpareAgrees.{IsWanted, IsSpare-after_event, IsSpare-after_answer, IsSpare-first_view}
 use Rattle.inp_reader.proofs.Supported.{events-of}
 
 -- All that is asked for is had

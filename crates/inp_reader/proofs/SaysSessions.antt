@@ -21,7 +21,7 @@ use Rattle.inp_reader.specs.Talk.{Talk, finish, ask, and_then}
 use Rattle.inp_reader.specs.Asking.{Reads}
 use Rattle.inp_reader.specs.Reading.{Reading, ask_each, read_or_hand_out, read_talk, after_read, hand_out, stop_of, start_stop_of, after_open, after_queries, start_talk, go_on, go_on_after, after_full_sync, after_failed_sync}
 use Rattle.inp_reader.specs.Says.{Says, kept_of}
-use Rattle.inp_reader.proofs.Saying.{says-nothing, says-then, says-call}
+use Rattle.inp_reader.proofs.SaysInTurn.{says-nothing, says-then, says-call}
 
 -- no call, and the calls that were kept stay
 pub says-still : {A : Type 0} (told : EvdevView) (old new : List CallMade) (talk : Talk A) (result : A) → new ≡ old → talk ≡ finish result → Says told told old new talk result
