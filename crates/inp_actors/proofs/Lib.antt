@@ -1,2 +1,1 @@
-mod Booleans
 pub mod Names

@@ -12,7 +12,7 @@ use Rattle.clap.specs.declared.error.kind.ErrorKind.TheVariants.{OutOfMemory}
 use Rattle.clap.specs.declared.parser.matches.ArgMatches.{ArgMatches}
 use Rattle.clap.proofs.OnLiterals.{clap_on_literals}
 use Rattle.clap.proofs.WalkLemmas.{first_value-rows}
-use Rattle.inp_args.specs.Command.{command, is_taken, text_of, HasTextsOf}
+use Rattle.inp_args.specs.Command.{command, is_taken, found_text, HasTextsOf}
 
 -- clap says exactly which words the command takes, and what it finds in them
 command_is_simple : is_simple_and_free command ≡ true
@@ -45,7 +45,7 @@ refused a words e is (inr among) other =
 
 -- the texts found
 pub found : (a : App) (words : List Text) (m : ArgMatches) → a ≡ command → HasMatchesOf a words m → HasTextsOf words m
-unfolding text_of
+unfolding found_text
 found a words m is matches name =
     let simple : is_simple a ≡ true = ap is_simple is ∙ command_finds in
     first_value-rows (found_of m) name ∙ ap (first_of name) ((matches simple).0 ∙ ap (λ (b : App). matches_of b words) is)

@@ -41,8 +41,8 @@ unfoldable pub is_taken : List Text → Bool
 is_taken words = is_empty (fault_of command words)
 
 -- the text that the command finds for an argument
-unfoldable pub text_of : Text → List Text → Option Text
-text_of name words = first_of name (matches_of command words)
+unfoldable pub found_text : Text → List Text → Option Text
+found_text name words = first_of name (matches_of command words)
 
 -- a flag has the text `true` where it is given, and else `false`
 abbrev pub is_given : Option Text → Bool
@@ -51,4 +51,4 @@ is_given (Some text) = bytes_eq text (codes "true")
 
 -- a parse found these texts
 abbrev pub HasTextsOf : List Text → ArgMatches → Type 0
-HasTextsOf words m = (name : Text) → first_value (found_of m) name ≡ text_of name words
+HasTextsOf words m = (name : Text) → first_value (found_of m) name ≡ found_text name words

@@ -1,17 +1,14 @@
 -- What words ask for, worked out by hand.
 use Rattle.std.specs.Prelude.{◌≡◌, ℕ, true, false, List, [], ◌∷◌, Some, None, codes}
 use Rattle.inp_args.specs.declared.request.Request.TheVariants.{Play, Migrate, Make}
-use Rattle.inp_args.specs.Request.{requested}
-
-abbrev pub Words : Type 0
-Words = List (List ℕ)
+use Rattle.inp_args.specs.Request.{Arguments, requested}
 
 -- words that ask for nothing
-abbrev pub IsRefused : Words → Type 0
-IsRefused words = requested words ≡ None
+abbrev pub AskForNothing : Arguments → Type 0
+AskForNothing words = requested words ≡ None
 
 -- words that ask for a record to be made
-abbrev pub Makes : Words → ℕ → ℕ → Type 0
+abbrev pub Makes : Arguments → ℕ → ℕ → Type 0
 Makes words number count = requested words ≡ Some (Make number count)
 
 -- a file is played; the flag stands before it or behind it
@@ -52,11 +49,11 @@ MigratesFiles =
 -- no file, and what belongs to a play or to a record that is made, also where its number is right
 abbrev pub RefusesMigrations : Type 0
 RefusesMigrations =
-    IsRefused (codes "--migrate" ∷ []) × IsRefused (codes "--migrate" ∷ codes "--history" ∷ codes "f" ∷ [])
-    × IsRefused (codes "--threads" ∷ codes "--migrate" ∷ codes "f" ∷ []) × IsRefused (codes "--migrate" ∷ codes "f" ∷ codes "--idle" ∷ codes "5" ∷ [])
-    × IsRefused (codes "--migrate" ∷ codes "f" ∷ codes "--count=5" ∷ []) × IsRefused (codes "--migrate" ∷ codes "f" ∷ codes "--make=7" ∷ [])
-    × IsRefused (codes "--migrate" ∷ codes "--make" ∷ codes "7" ∷ []) × IsRefused (codes "--migrate" ∷ codes "f" ∷ codes "g" ∷ [])
-    × IsRefused (codes "--migrate" ∷ codes "--migrate" ∷ codes "f" ∷ []) × IsRefused (codes "--migrate=2" ∷ codes "f" ∷ [])
+    AskForNothing (codes "--migrate" ∷ []) × AskForNothing (codes "--migrate" ∷ codes "--history" ∷ codes "f" ∷ [])
+    × AskForNothing (codes "--threads" ∷ codes "--migrate" ∷ codes "f" ∷ []) × AskForNothing (codes "--migrate" ∷ codes "f" ∷ codes "--idle" ∷ codes "5" ∷ [])
+    × AskForNothing (codes "--migrate" ∷ codes "f" ∷ codes "--count=5" ∷ []) × AskForNothing (codes "--migrate" ∷ codes "f" ∷ codes "--make=7" ∷ [])
+    × AskForNothing (codes "--migrate" ∷ codes "--make" ∷ codes "7" ∷ []) × AskForNothing (codes "--migrate" ∷ codes "f" ∷ codes "g" ∷ [])
+    × AskForNothing (codes "--migrate" ∷ codes "--migrate" ∷ codes "f" ∷ []) × AskForNothing (codes "--migrate=2" ∷ codes "f" ∷ [])
 
 -- the numbers at their bounds, and those that begin with a plus or with zeros
 abbrev pub ReadsNumbers : Type 0
@@ -68,37 +65,37 @@ ReadsNumbers =
 -- what is no number, and numbers out of range
 abbrev pub RefusesNumbers : Type 0
 RefusesNumbers =
-    IsRefused (codes "--make" ∷ codes "4294967296" ∷ []) × IsRefused (codes "--make" ∷ codes "" ∷ []) × IsRefused (codes "--make=" ∷ [])
-    × IsRefused (codes "--make" ∷ codes "-0" ∷ []) × IsRefused (codes "--make=-0" ∷ []) × IsRefused (codes "--make" ∷ codes "0x5" ∷ [])
-    × IsRefused (codes "--make" ∷ codes "5 " ∷ []) × IsRefused (codes "--make" ∷ codes "+" ∷ [])
+    AskForNothing (codes "--make" ∷ codes "4294967296" ∷ []) × AskForNothing (codes "--make" ∷ codes "" ∷ []) × AskForNothing (codes "--make=" ∷ [])
+    × AskForNothing (codes "--make" ∷ codes "-0" ∷ []) × AskForNothing (codes "--make=-0" ∷ []) × AskForNothing (codes "--make" ∷ codes "0x5" ∷ [])
+    × AskForNothing (codes "--make" ∷ codes "5 " ∷ []) × AskForNothing (codes "--make" ∷ codes "+" ∷ [])
 
 -- a bound that is out of range or no number is refused, wherever it stands
 abbrev pub RefusesBounds : Type 0
 RefusesBounds =
-    IsRefused (codes "--threads" ∷ codes "f" ∷ codes "--idle" ∷ codes "0" ∷ []) × IsRefused (codes "--threads" ∷ codes "f" ∷ codes "--idle" ∷ codes "1000000001" ∷ [])
-    × IsRefused (codes "--idle" ∷ codes "x" ∷ codes "f" ∷ []) × IsRefused (codes "--make" ∷ codes "7" ∷ codes "--idle" ∷ codes "0" ∷ [])
+    AskForNothing (codes "--threads" ∷ codes "f" ∷ codes "--idle" ∷ codes "0" ∷ []) × AskForNothing (codes "--threads" ∷ codes "f" ∷ codes "--idle" ∷ codes "1000000001" ∷ [])
+    × AskForNothing (codes "--idle" ∷ codes "x" ∷ codes "f" ∷ []) × AskForNothing (codes "--make" ∷ codes "7" ∷ codes "--idle" ∷ codes "0" ∷ [])
 
 abbrev pub RefusesCounts : Type 0
 RefusesCounts =
-    IsRefused (codes "--make" ∷ codes "7" ∷ codes "--count" ∷ codes "0" ∷ []) × IsRefused (codes "--make" ∷ codes "7" ∷ codes "--count" ∷ codes "10001" ∷ [])
-    × IsRefused (codes "--make" ∷ codes "7" ∷ codes "--count=" ∷ [])
+    AskForNothing (codes "--make" ∷ codes "7" ∷ codes "--count" ∷ codes "0" ∷ []) × AskForNothing (codes "--make" ∷ codes "7" ∷ codes "--count" ∷ codes "10001" ∷ [])
+    × AskForNothing (codes "--make" ∷ codes "7" ∷ codes "--count=" ∷ [])
 
 -- a file with `--make` or `--count`, a count without a number, the history or threads of a record that is made, and neither
 abbrev pub RefusesMixtures : Type 0
 RefusesMixtures =
-    IsRefused (codes "--make" ∷ codes "7" ∷ codes "x" ∷ []) × IsRefused (codes "--count" ∷ codes "5" ∷ codes "x" ∷ [])
-    × IsRefused (codes "--count" ∷ codes "5" ∷ []) × IsRefused (codes "--count=5" ∷ []) × IsRefused (codes "--make" ∷ codes "7" ∷ codes "--history" ∷ [])
-    × IsRefused (codes "--make" ∷ codes "7" ∷ codes "--threads" ∷ []) × IsRefused [] × IsRefused (codes "--history" ∷ []) × IsRefused (codes "--" ∷ [])
+    AskForNothing (codes "--make" ∷ codes "7" ∷ codes "x" ∷ []) × AskForNothing (codes "--count" ∷ codes "5" ∷ codes "x" ∷ [])
+    × AskForNothing (codes "--count" ∷ codes "5" ∷ []) × AskForNothing (codes "--count=5" ∷ []) × AskForNothing (codes "--make" ∷ codes "7" ∷ codes "--history" ∷ [])
+    × AskForNothing (codes "--make" ∷ codes "7" ∷ codes "--threads" ∷ []) × AskForNothing [] × AskForNothing (codes "--history" ∷ []) × AskForNothing (codes "--" ∷ [])
 
 -- two files, what is given twice, a name cut short, a flag with a text, and an option without its text
 abbrev pub RefusesForms : Type 0
 RefusesForms =
-    IsRefused (codes "f" ∷ codes "g" ∷ []) × IsRefused (codes "--history" ∷ codes "--history" ∷ codes "f" ∷ [])
-    × IsRefused (codes "--make" ∷ codes "7" ∷ codes "--make" ∷ codes "7" ∷ []) × IsRefused (codes "--thr" ∷ codes "f" ∷ [])
-    × IsRefused (codes "--hist" ∷ codes "f" ∷ []) × IsRefused (codes "--history=true" ∷ codes "f" ∷ []) × IsRefused (codes "--make" ∷ [])
+    AskForNothing (codes "f" ∷ codes "g" ∷ []) × AskForNothing (codes "--history" ∷ codes "--history" ∷ codes "f" ∷ [])
+    × AskForNothing (codes "--make" ∷ codes "7" ∷ codes "--make" ∷ codes "7" ∷ []) × AskForNothing (codes "--thr" ∷ codes "f" ∷ [])
+    × AskForNothing (codes "--hist" ∷ codes "f" ∷ []) × AskForNothing (codes "--history=true" ∷ codes "f" ∷ []) × AskForNothing (codes "--make" ∷ [])
 
 -- options that there are not, and a flag with a text
 abbrev pub RefusesOptions : Type 0
 RefusesOptions =
-    IsRefused (codes "--help" ∷ []) × IsRefused (codes "-h" ∷ []) × IsRefused (codes "--version" ∷ [])
-    × IsRefused (codes "--threads=2" ∷ codes "f" ∷ [])
+    AskForNothing (codes "--help" ∷ []) × AskForNothing (codes "-h" ∷ []) × AskForNothing (codes "--version" ∷ [])
+    × AskForNothing (codes "--threads=2" ∷ codes "f" ∷ [])

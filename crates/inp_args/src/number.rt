@@ -2,7 +2,7 @@
 ghost use Rattle.std.specs.Prelude.{◌≡◌};
 ghost use Rattle.std.specs.Option.{option_copied};
 ghost use Rattle.inp_args.specs.Number.{number_of};
-ghost use Rattle.inp_args.specs.Request.{count_of, idle_of, number_up_to};
+ghost use Rattle.inp_args.specs.Request.{count_of, idle_number, number_up_to};
 
 /// The greatest count of frames (this project's choice).
 const COUNT_MAX: u32 = 10_000;
@@ -34,8 +34,8 @@ pub(crate) fn count_of(text: Option<&str>) -> Option<u32>
 }
 
 // How many reads in a row may find nothing, by a text, or the default where there is none.
-pub(crate) fn idle_of(text: Option<&str>) -> Option<u32>
-    ensures { result ≡ idle_of (option_copied text.entry) }
+pub(crate) fn idle_number(text: Option<&str>) -> Option<u32>
+    ensures { result ≡ idle_number (option_copied text.entry) }
 {
     match text {
         Some(text) => number_up_to(text, IDLE_MAX),

@@ -2,11 +2,11 @@
 ghost use Rattle.std.specs.Prelude.{◌≡◌, None, Some, Err, map, string_bytes, IfOk};
 ghost use Rattle.std.specs.Option.{option_copied};
 ghost use Rattle.inp_args.specs.Command.{is_given};
-ghost use Rattle.inp_args.specs.Request.{IsInRange, made_of, migration_of, request_of, requested};
+ghost use Rattle.inp_args.specs.Request.{IsInRange, make_request, migration_of, request_of, requested};
 ghost use Rattle.inp_args.specs.declared.words_fault.WordsFault.{WordsFault};
 
 use crate::command::matches_in;
-use crate::number::{count_of, idle_of, number_of};
+use crate::number::{count_of, idle_number, number_of};
 use crate::{Request, WordsFault};
 use inp_actors::FileName;
 use std::alloc::Global;
@@ -31,7 +31,7 @@ pub fn read_words(alloc: Global, words: &[String]) -> Result<Request, WordsFault
     let bound = matches.get_str("idle");
     let history = is_given(matches.get_str("history"));
     let threads = is_given(matches.get_str("threads"));
-    let idle = idle_of(bound).ok_or(WordsFault::Usage)?;
+    let idle = idle_number(bound).ok_or(WordsFault::Usage)?;
     if is_given(matches.get_str("migrate")) {
         return migration_of(alloc, file, number, count, bound, history, threads);
     }
@@ -94,15 +94,15 @@ fn request_of(
             idle,
         }),
         (None, Some(number), count) if !history && idle.is_none() => {
-            made_of(number_of(number), count_of(count)).ok_or(WordsFault::Usage)
+            make_request(number_of(number), count_of(count)).ok_or(WordsFault::Usage)
         }
         _ => Err(WordsFault::Usage),
     }
 }
 
 // A record is to be made, where both numbers are there.
-fn made_of(number: Option<u32>, count: Option<u32>) -> Option<Request>
-    ensures { result ≡ made_of number count }
+fn make_request(number: Option<u32>, count: Option<u32>) -> Option<Request>
+    ensures { result ≡ make_request number count }
 {
     Some(Request::Make {
         number: number?,

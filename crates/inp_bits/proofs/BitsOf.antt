@@ -12,7 +12,7 @@ use Rattle.std.proofs.lemmas.Nat.Bits.{bit_at-zero, bit_at_ones}
 use Rattle.std.proofs.lemmas.Simd.{ones-mask_l}
 use Rattle.std.proofs.lemmas.Bool.{cases_eq}
 use lib.Lanes.{mask_l as number_of}
-use Rattle.inp_bits.specs.Bits.{is_set, word_bits}
+use Rattle.inp_bits.specs.Bits.{is_on_at, word_bits}
 use Rattle.inp_bits.specs.Words.{AreWords, bits_of, length-word_bits, get_or-word_bits, number_of-word_bits}
 
 -- ---- lengths and parts
@@ -69,10 +69,10 @@ get_or-bits_of (word ∷ words) (suc q) k h =
     get_or-append_right (word_bits word) (flat_map word_bits words) 64 (64 * suc q + k) false (length-word_bits word) (omega arith) ∙ ap (λ (i : ℕ). get_or (flat_map word_bits words) i false) there ∙ get_or-bits_of words q k h
 
 -- value i
-pub is_set-bits_of : (words : List ℕ) (i : ℕ) → is_set (bits_of words) i ≡ (bit_at (get_or words (i / 64) 0) (i % 64) == 1)
+pub is_set-bits_of : (words : List ℕ) (i : ℕ) → is_on_at (bits_of words) i ≡ (bit_at (get_or words (i / 64) 0) (i % 64) == 1)
 is_set-bits_of words i =
     let whole : i ≡ 64 * (i / 64) + i % 64 = omega arith in
-    ap (is_set (bits_of words)) whole ∙ get_or-bits_of words (i / 64) (i % 64) (omega arith)
+    ap (is_on_at (bits_of words)) whole ∙ get_or-bits_of words (i / 64) (i % 64) (omega arith)
 
 -- the bits of a word in which bit k alone was written
 pub word_bits-set : (word written k : ℕ) (on : Bool) → k < 64 → (bit_at written k == 1) ≡ on → ((j : ℕ) → j < 64 → (j ≡ k → ⊥) → bit_at written j ≡ bit_at word j) → word_bits written ≡ set (word_bits word) k on

@@ -5,19 +5,19 @@ use Rattle.std.specs.List.{filter, range_with_len}
 use Rattle.std.proofs.lemmas.List.{get_or_past, length-set, get_or-set_same, get_or-set_other}
 use Rattle.std.proofs.lemmas.Nat.Bits.{bit_at-zero, bit_at-trailing_zeros}
 use Rattle.std.proofs.lemmas.Bool.{cases_lt}
-use Rattle.inp_bits.specs.Bits.{is_set, true_indices}
+use Rattle.inp_bits.specs.Bits.{is_on_at, true_indices}
 use Rattle.inp_bits.specs.Ones.{IsFalseBelow, IsFirstTrue}
 use Rattle.inp_bits.specs.Words.{bits_of}
 use Rattle.inp_bits.proofs.BitsOf.{length-bits_of, get_or-bits_of, is_set-bits_of}
 use Rattle.inp_bits.proofs.Indices.{filter_first, filter_none}
 
 -- where a word is 0, each of its values is false
-false_in_zero : (words : List ℕ) (i : ℕ) → get_or words (i / 64) 0 ≡ 0 → is_set (bits_of words) i ≡ false
+false_in_zero : (words : List ℕ) (i : ℕ) → get_or words (i / 64) 0 ≡ 0 → is_on_at (bits_of words) i ≡ false
 false_in_zero words i h =
     is_set-bits_of words i ∙ ap (λ (w : ℕ). bit_at w (i % 64) == 1) h ∙ ap (λ (d : ℕ). d == 1) (bit_at-zero (i % 64))
 
 -- where the words from `first_word` on are 0, no value from there on is true
-pub none_true : (words : List ℕ) (first_word : ℕ) → ((q : ℕ) → first_word ≤ q → q < length words → get_or words q 0 ≡ 0) → (i : ℕ) → 64 * first_word ≤ i → is_set (bits_of words) i ≡ false
+pub none_true : (words : List ℕ) (first_word : ℕ) → ((q : ℕ) → first_word ≤ q → q < length words → get_or words q 0 ≡ 0) → (i : ℕ) → 64 * first_word ≤ i → is_on_at (bits_of words) i ≡ false
 none_true words first_word zeros i l =
     false_in_zero words i
     (elim (cases_lt (i / 64) (length words)) [
@@ -37,7 +37,7 @@ first_true_found words first_word at l m nonzero fits zeros =
         | inl below ↦ false_in_zero words k (zeros (k / 64) (omega arith) (omega arith))
         | inr above ↦ let split : k ≡ 64 * at + (k - 64 * at) = omega arith in
             let early : k - 64 * at < trailing_zeros w64 (get_or words at 0) = omega arith in
-            ap (is_set (bits_of words)) split ∙ get_or-bits_of words at (k - 64 * at) (omega (arith, lowest.0)) ∙ ap (λ (d : ℕ). d == 1) (lowest.2 (k - 64 * at) early)
+            ap (is_on_at (bits_of words)) split ∙ get_or-bits_of words at (k - 64 * at) (omega (arith, lowest.0)) ∙ ap (λ (d : ℕ). d == 1) (lowest.2 (k - 64 * at) early)
       ];
     }
 
@@ -45,13 +45,13 @@ first_true_found words first_word at l m nonzero fits zeros =
 pub true_indices-first : (bits : List Bool) (long start i : ℕ) → IsFalseBelow long start bits → IsFirstTrue bits start i → true_indices bits ≡ i ∷ true_indices (set bits i false)
 unfolding true_indices
 true_indices-first bits long start i below first =
-    filter_first (is_set bits) (is_set (set bits i false)) 0 (length bits) i (omega arith) (omega (arith, first.within)) first.is_true
+    filter_first (is_on_at bits) (is_on_at (set bits i false)) 0 (length bits) i (omega arith) (omega (arith, first.within)) first.is_true
     (get_or-set_same bits i false false first.within)
     (λ k l. elim (cases_lt k start) [ inl passed ↦ below.before k passed | inr ahead ↦ first.before k ahead l ])
-    (λ k ne. sym (get_or-set_other bits i k false false ne)) ∙ ap (λ (n : ℕ). i ∷ filter (is_set (set bits i false)) (range_with_len 0 n)) (sym (length-set bits i false))
+    (λ k ne. sym (get_or-set_other bits i k false false ne)) ∙ ap (λ (n : ℕ). i ∷ filter (is_on_at (set bits i false)) (range_with_len 0 n)) (sym (length-set bits i false))
 
 -- nothing is left
-pub true_indices-none : (bits : List Bool) (long start : ℕ) → IsFalseBelow long start bits → ((k : ℕ) → start ≤ k → is_set bits k ≡ false) → true_indices bits ≡ []
+pub true_indices-none : (bits : List Bool) (long start : ℕ) → IsFalseBelow long start bits → ((k : ℕ) → start ≤ k → is_on_at bits k ≡ false) → true_indices bits ≡ []
 unfolding true_indices
 true_indices-none bits long start below none =
-    filter_none (is_set bits) 0 (length bits) (λ k l m. elim (cases_lt k start) [ inl passed ↦ below.before k passed | inr ahead ↦ none k ahead ])
+    filter_none (is_on_at bits) 0 (length bits) (λ k l m. elim (cases_lt k start) [ inl passed ↦ below.before k passed | inr ahead ↦ none k ahead ])

@@ -9,7 +9,7 @@ use Rattle.std.proofs.lemmas.List.Elements.{All-nil, All-cons, All-contains, All
 use Rattle.std.proofs.lemmas.List.FromFn.{length-range_with_len, get_or-range_with_len, fill_by_all}
 use Rattle.std.proofs.lemmas.List.Sums.{length-filter, count_by-le-length, sum_by-cons}
 use Rattle.std.proofs.lemmas.List.Kept.{IsStrictlyIncreasing-filter}
-use Rattle.inp_bits.specs.Bits.{is_set, differ, true_indices, differing_indices}
+use Rattle.inp_bits.specs.Bits.{is_on_at, differ, true_indices, differing_indices}
 
 -- ---- the numbers of a range that pass a test
 
@@ -68,13 +68,13 @@ IsStrictlyIncreasing-range_with_len a n k l =
 -- ---- one value
 
 -- a list that is all false is true nowhere, also past its end
-pub is_set-replicate_false : (n i : ℕ) → is_set (replicate n false) i ≡ false
+pub is_set-replicate_false : (n i : ℕ) → is_on_at (replicate n false) i ≡ false
 is_set-replicate_false zero i = refl
 is_set-replicate_false (suc n) zero = refl
 is_set-replicate_false (suc n) (suc i) = is_set-replicate_false n i
 
--- within the list `is_set` is what `slice_get` gives
-pub slice_get-is_set : (bits : List Bool) (i : ℕ) → i < length bits → slice_get bits i ≡ Some (is_set bits i)
+-- within the list `is_on_at` is what `slice_get` gives
+pub slice_get-is_set : (bits : List Bool) (i : ℕ) → i < length bits → slice_get bits i ≡ Some (is_on_at bits i)
 slice_get-is_set [] i l = absurd (omega arith)
 slice_get-is_set (bit ∷ bits) zero l = refl
 slice_get-is_set (bit ∷ bits) (suc i) l = slice_get-is_set bits i (omega arith)
@@ -85,13 +85,13 @@ slice_get-is_set (bit ∷ bits) (suc i) l = slice_get-is_set bits i (omega arith
 pub true_indices-within : (bits : List Bool) (n : ℕ) → length bits ≡ n → All (λ i. i < n) (true_indices bits)
 unfolding true_indices
 true_indices-within bits n e =
-    All-weaker (λ i. i < 0 + length bits) (λ i. i < n) (λ i l. omega arith) (true_indices bits) (All-filter_range (is_set bits) 0 (length bits))
+    All-weaker (λ i. i < 0 + length bits) (λ i. i < n) (λ i l. omega arith) (true_indices bits) (All-filter_range (is_on_at bits) 0 (length bits))
 
 -- there are no more indices than values
 pub length-true_indices-le : (bits : List Bool) (n : ℕ) → length bits ≡ n → length (true_indices bits) ≤ n
 unfolding true_indices
 length-true_indices-le bits n e =
-    omega (arith, length-filter (is_set bits) (range_with_len 0 (length bits)), count_by-le-length (is_set bits) (range_with_len 0 (length bits)), length-range_with_len 0 (length bits))
+    omega (arith, length-filter (is_on_at bits) (range_with_len 0 (length bits)), count_by-le-length (is_on_at bits) (range_with_len 0 (length bits)), length-range_with_len 0 (length bits))
 
 count_by-map : (f : ℕ → Bool) (xs : List ℕ) → count_by (λ (on : Bool). on) (map f xs) ≡ count_by f xs
 count_by-map f [] = refl
@@ -102,30 +102,30 @@ count_by-map f (x ∷ xs) =
 pub length-true_indices : (bits : List Bool) → length (true_indices bits) ≡ count_by (λ on. on) bits
 unfolding true_indices
 length-true_indices bits =
-    length-filter (is_set bits) (range_with_len 0 (length bits)) ∙ sym (count_by-map (is_set bits) (range_with_len 0 (length bits))) ∙ ap (count_by (λ (on : Bool). on)) (sym (fill_by_all (is_set bits) bits (length bits) false refl (λ k l. refl)))
+    length-filter (is_on_at bits) (range_with_len 0 (length bits)) ∙ sym (count_by-map (is_on_at bits) (range_with_len 0 (length bits))) ∙ ap (count_by (λ (on : Bool). on)) (sym (fill_by_all (is_on_at bits) bits (length bits) false refl (λ k l. refl)))
 
 -- the indices ascend
 pub true_indices-ascend : (bits : List Bool) → IsStrictlyIncreasing (true_indices bits)
 unfolding true_indices
-true_indices-ascend bits = IsStrictlyIncreasing-filter (is_set bits) (range_with_len 0 (length bits)) (IsStrictlyIncreasing-range_with_len 0 (length bits))
+true_indices-ascend bits = IsStrictlyIncreasing-filter (is_on_at bits) (range_with_len 0 (length bits)) (IsStrictlyIncreasing-range_with_len 0 (length bits))
 
 -- an index at which the list is true is among them
-pub Contains-true_indices : (bits : List Bool) (i : ℕ) → i < length bits → is_set bits i ≡ true → Contains (true_indices bits) i
+pub Contains-true_indices : (bits : List Bool) (i : ℕ) → i < length bits → is_on_at bits i ≡ true → Contains (true_indices bits) i
 unfolding true_indices
-Contains-true_indices bits i l h = Contains-filter_range (is_set bits) 0 (length bits) i (omega arith) (omega arith) h
+Contains-true_indices bits i l h = Contains-filter_range (is_on_at bits) 0 (length bits) i (omega arith) (omega arith) h
 
 -- at each of them the list is true
-pub is_set-from_contains : (bits : List Bool) (i : ℕ) → Contains (true_indices bits) i → is_set bits i ≡ true
+pub is_set-from_contains : (bits : List Bool) (i : ℕ) → Contains (true_indices bits) i → is_on_at bits i ≡ true
 unfolding true_indices
 is_set-from_contains bits i h =
-    All-contains (λ k. is_set bits k ≡ true) (true_indices bits) i (filter_passes (is_set bits) (range_with_len 0 (length bits))) h
+    All-contains (λ k. is_on_at bits k ≡ true) (true_indices bits) i (filter_passes (is_on_at bits) (range_with_len 0 (length bits))) h
 
 -- ---- `differing_indices`
 
 -- the indices ascend
 pub differing_indices-ascend : (xs ys : List Bool) → IsStrictlyIncreasing (differing_indices xs ys)
 unfolding differing_indices
-differing_indices-ascend xs ys = IsStrictlyIncreasing-filter (λ i. differ (is_set xs i) (is_set ys i)) (range_with_len 0 (length xs)) (IsStrictlyIncreasing-range_with_len 0 (length xs))
+differing_indices-ascend xs ys = IsStrictlyIncreasing-filter (λ i. differ (is_on_at xs i) (is_on_at ys i)) (range_with_len 0 (length xs)) (IsStrictlyIncreasing-range_with_len 0 (length xs))
 
 differ_true : (x y : Bool) → (x ≡ y → ⊥) → differ x y ≡ true
 differ_true true true h = absurd (h refl)
@@ -138,24 +138,24 @@ differ_same true = refl
 differ_same false = refl
 
 -- an index at which the lists differ is among them
-pub Contains-differing_indices : (xs ys : List Bool) (i : ℕ) → i < length xs → (is_set xs i ≡ is_set ys i → ⊥) → Contains (differing_indices xs ys) i
+pub Contains-differing_indices : (xs ys : List Bool) (i : ℕ) → i < length xs → (is_on_at xs i ≡ is_on_at ys i → ⊥) → Contains (differing_indices xs ys) i
 unfolding differing_indices
 Contains-differing_indices xs ys i l h =
-    Contains-filter_range (λ k. differ (is_set xs k) (is_set ys k)) 0 (length xs) i (omega arith) (omega arith) (differ_true (is_set xs i) (is_set ys i) h)
+    Contains-filter_range (λ k. differ (is_on_at xs k) (is_on_at ys k)) 0 (length xs) i (omega arith) (omega arith) (differ_true (is_on_at xs i) (is_on_at ys i) h)
 
 -- at each of them the lists differ
-pub differ-from_contains : (xs ys : List Bool) (i : ℕ) → Contains (differing_indices xs ys) i → is_set xs i ≡ is_set ys i → ⊥
+pub differ-from_contains : (xs ys : List Bool) (i : ℕ) → Contains (differing_indices xs ys) i → is_on_at xs i ≡ is_on_at ys i → ⊥
 unfolding differing_indices
 differ-from_contains xs ys i h same =
-    let apart : differ (is_set xs i) (is_set ys i) ≡ true = All-contains (λ k. differ (is_set xs k) (is_set ys k) ≡ true) (differing_indices xs ys) i (filter_passes (λ k. differ (is_set xs k) (is_set ys k)) (range_with_len 0 (length xs))) h in
-    let alike : differ (is_set xs i) (is_set ys i) ≡ false = ap (λ b. differ b (is_set ys i)) same ∙ differ_same (is_set ys i) in
+    let apart : differ (is_on_at xs i) (is_on_at ys i) ≡ true = All-contains (λ k. differ (is_on_at xs k) (is_on_at ys k) ≡ true) (differing_indices xs ys) i (filter_passes (λ k. differ (is_on_at xs k) (is_on_at ys k)) (range_with_len 0 (length xs))) h in
+    let alike : differ (is_on_at xs i) (is_on_at ys i) ≡ false = ap (λ b. differ b (is_on_at ys i)) same ∙ differ_same (is_on_at ys i) in
     cc
 
 -- a list does not differ from itself
 pub differing_indices-same : (xs : List Bool) → differing_indices xs xs ≡ []
 unfolding differing_indices
 differing_indices-same xs =
-    filter_none (λ i. differ (is_set xs i) (is_set xs i)) 0 (length xs) (λ k l m. differ_same (is_set xs k))
+    filter_none (λ i. differ (is_on_at xs i) (is_on_at xs i)) 0 (length xs) (λ k l m. differ_same (is_on_at xs k))
 
 differ_false : (x : Bool) → differ x false ≡ x
 differ_false true = refl
@@ -165,7 +165,7 @@ differ_false false = refl
 pub differing_indices-replicate_false : (xs : List Bool) (n : ℕ) → differing_indices xs (replicate n false) ≡ true_indices xs
 unfolding differing_indices true_indices
 differing_indices-replicate_false xs n =
-    filter_same (λ i. differ (is_set xs i) (is_set (replicate n false) i)) (is_set xs) 0 (length xs) (λ k l m. ap (differ (is_set xs k)) (is_set-replicate_false n k) ∙ differ_false (is_set xs k))
+    filter_same (λ i. differ (is_on_at xs i) (is_on_at (replicate n false) i)) (is_on_at xs) 0 (length xs) (λ k l m. ap (differ (is_on_at xs k)) (is_set-replicate_false n k) ∙ differ_false (is_on_at xs k))
 
 same_unless : (x y : Bool) → ((x ≡ y → ⊥) → ⊥) → x ≡ y
 same_unless true true h = refl
@@ -176,4 +176,4 @@ same_unless false false h = refl
 -- two lists of one length that differ nowhere are one list
 pub same_from_no_differing : (xs ys : List Bool) → length xs ≡ length ys → differing_indices xs ys ≡ [] → xs ≡ ys
 same_from_no_differing xs ys e none =
-    ext_get_or false xs ys e (λ i l. same_unless (is_set xs i) (is_set ys i) (λ apart. let place = subst (λ (indices : List ℕ). Contains indices i) none (Contains-differing_indices xs ys i l apart) in absurd (omega (arith, place.1))))
+    ext_get_or false xs ys e (λ i l. same_unless (is_on_at xs i) (is_on_at ys i) (λ apart. let place = subst (λ (indices : List ℕ). Contains indices i) none (Contains-differing_indices xs ys i l apart) in absurd (omega (arith, place.1))))

@@ -17,9 +17,9 @@ bits_of words = flat_map word_bits words
 
 -- the words that keep a list of 64 values a word: each is the number whose binary digits are the next 64 values, the
 -- lowest first
-unfoldable pub words_of : ℕ → List Bool → List ℕ
-words_of zero bits = []
-words_of (suc n) bits = number_of (take 64 bits) ∷ words_of n (drop 64 bits)
+unfoldable pub words_from_bits : ℕ → List Bool → List ℕ
+words_from_bits zero bits = []
+words_from_bits (suc n) bits = number_of (take 64 bits) ∷ words_from_bits n (drop 64 bits)
 
 -- there are `width` words of 64 bits, and few enough that each index is below 65,536
 pub record AreWords (width : ℕ) (words : List ℕ) : Type 0 where
@@ -47,14 +47,14 @@ number_of-word_bits word h =
     h
     (λ i l. bit_mask_l (word_bits word) i ∙ ap (λ b. cond b 1 0) (get_or-word_bits word i l) ∙ digit_of_test (bit_at word i) (bit_at-lt word i))
 
-pub words_of-bits_of : (width : ℕ) (words : List ℕ) → length words ≡ width → ((k : ℕ) → get_or words k 0 < 2 ^ 64) → words_of width (bits_of words) ≡ words
-unfolding bits_of words_of
-words_of-bits_of zero [] e h = refl
-words_of-bits_of zero (word ∷ words) e h = absurd (omega arith)
-words_of-bits_of (suc n) [] e h = absurd (omega arith)
-words_of-bits_of (suc n) (word ∷ words) e h =
+pub words_from_bits-bits_of : (width : ℕ) (words : List ℕ) → length words ≡ width → ((k : ℕ) → get_or words k 0 < 2 ^ 64) → words_from_bits width (bits_of words) ≡ words
+unfolding bits_of words_from_bits
+words_from_bits-bits_of zero [] e h = refl
+words_from_bits-bits_of zero (word ∷ words) e h = absurd (omega arith)
+words_from_bits-bits_of (suc n) [] e h = absurd (omega arith)
+words_from_bits-bits_of (suc n) (word ∷ words) e h =
     let front : take 64 (word_bits word ++ flat_map word_bits words) ≡ word_bits word = take_at (word_bits word) (flat_map word_bits words) 64 (length-word_bits word) in
     let back : drop 64 (word_bits word ++ flat_map word_bits words) ≡ flat_map word_bits words = drop_at (word_bits word) (flat_map word_bits words) 64 (length-word_bits word) in
     let first : number_of (take 64 (word_bits word ++ flat_map word_bits words)) ≡ word = ap number_of front ∙ number_of-word_bits word (h 0) in
-    let others : words_of n (drop 64 (word_bits word ++ flat_map word_bits words)) ≡ words = ap (words_of n) back ∙ words_of-bits_of n words (omega arith) (λ k. h (suc k)) in
-    ap (λ (x : ℕ). x ∷ words_of n (drop 64 (word_bits word ++ flat_map word_bits words))) first ∙ ap (λ (xs : List ℕ). word ∷ xs) others
+    let others : words_from_bits n (drop 64 (word_bits word ++ flat_map word_bits words)) ≡ words = ap (words_from_bits n) back ∙ words_from_bits-bits_of n words (omega arith) (λ k. h (suc k)) in
+    ap (λ (x : ℕ). x ∷ words_from_bits n (drop 64 (word_bits word ++ flat_map word_bits words))) first ∙ ap (λ (xs : List ℕ). word ∷ xs) others

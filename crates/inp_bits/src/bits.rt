@@ -1,7 +1,7 @@
 //! The list of truth values.
 ghost use Rattle.std.specs.Prelude.{◌≡◌, ℕ, ◌*◌, ◌+◌, ◌<◌, ◌≤◌, ◌++◌, length, replicate, true, false, take, drop, slice_range, slice_set, count_by, IfSome, IfNone};
 ghost use Rattle.std.specs.List.{All};
-ghost use Rattle.inp_bits.specs.Bits.{is_set, word_bits, true_indices, differing_indices};
+ghost use Rattle.inp_bits.specs.Bits.{is_on_at, word_bits, true_indices, differing_indices};
 ghost use Rattle.inp_bits.specs.Ones.{IsFirstTrue};
 
 use crate::Ones;
@@ -20,7 +20,7 @@ pub struct Bits<const W: usize> {
 
 impl<const W: usize> Model for Bits<W> {
     ghost use Rattle.std.specs.Prelude.{List, Bool};
-    ghost use Rattle.inp_bits.specs.Words.{AreWords, bits_of, words_of, words_of-bits_of};
+    ghost use Rattle.inp_bits.specs.Words.{AreWords, bits_of, words_from_bits, words_from_bits-bits_of};
 
     ghost Value = { List Bool };
 
@@ -28,9 +28,9 @@ impl<const W: usize> Model for Bits<W> {
 
     ghost invariant = { λ b. AreWords W b.words };
 
-    ghost inverse = { λ bits. record { words = words_of W bits } };
+    ghost inverse = { λ bits. record { words = words_from_bits W bits } };
 
-    ghost inverse_ok = { λ b h i. record { words = words_of-bits_of W b.words h.count h.fit i } };
+    ghost inverse_ok = { λ b h i. record { words = words_from_bits-bits_of W b.words h.count h.fit i } };
 }
 
 impl<const W: usize> Bits<W> {
@@ -59,7 +59,7 @@ impl<const W: usize> Bits<W> {
     /// Value `index` of the list, for an index below 64·W, as the kernel's `test_bit` gives it.
     pub fn get(&self, index: u32) -> bool
         requires within { index < 64 * W }
-        ensures value { result ≡ is_set self.now index }
+        ensures value { result ≡ is_on_at self.now index }
         ensures len { length self.now ≡ 64 * W }
     {
         let word = self.words[index as usize / 64];
@@ -137,7 +137,7 @@ impl<const W: usize> Bits<W> {
     // The first index from `64 * first_word` on at which the list is true.
     pub(crate) fn first_true(&self, first_word: u32) -> Option<u32>
         ensures found { IfSome result (IsFirstTrue self.now (64 * first_word)) }
-        ensures none { IfNone result ((k : ℕ) → 64 * first_word ≤ k → is_set self.now k ≡ false) }
+        ensures none { IfNone result ((k : ℕ) → 64 * first_word ≤ k → is_on_at self.now k ≡ false) }
         ensures len { length self.now ≡ 64 * W }
     {
         for at in first_word as usize..W {

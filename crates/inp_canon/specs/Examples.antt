@@ -15,14 +15,11 @@ use Rattle.inp_actors.specs.declared.device_text.DeviceText.{DeviceText}
 use Rattle.inp_actors.specs.declared.actor_text.ActorText.{ActorText}
 use Rattle.inp_actors.specs.declared.line.Line.{Line}
 use Rattle.inp_actors.specs.Record.{RecordView}
+use Rattle.inp_texts.specs.Texts.{text_of_lines}
 use Rattle.inp_canon.specs.Words.{lines_text}
 use Rattle.inp_canon.specs.Command.{command_words}
 use Rattle.inp_canon.specs.Device.{description_lines}
 use Rattle.inp_canon.specs.Text.{actors_lines, record_text}
-
--- lines, each with its line feed
-abbrev pub text_of : List (List ℕ) → List ℕ
-text_of lines = flat_map (λ line. line ++ 10 ∷ []) lines
 
 abbrev pub device : List ℕ → Description → DeviceText
 device name d = record { name = name; caps = d; requested = false }
@@ -52,7 +49,7 @@ keyboard = record {
 abbrev pub WritesAKeyboard : Type 0
 WritesAKeyboard =
     record_text keyboard
-    ≡ text_of (codes "inputrecord 1"
+    ≡ text_of_lines (codes "inputrecord 1"
     ∷ codes "device kbd"
     ∷ codes "hint 16"
     ∷ codes "log 1048576"
@@ -81,7 +78,7 @@ requested_keyboard = record {
 abbrev pub WritesARequestedDevice : Type 0
 WritesARequestedDevice =
     record_text requested_keyboard
-    ≡ text_of (codes "inputrecord 2"
+    ≡ text_of_lines (codes "inputrecord 2"
     ∷ codes "udevice u"
     ∷ codes "hint 16"
     ∷ codes "log 1048576"
@@ -97,7 +94,7 @@ WritesARequestedDevice =
 abbrev pub WritesAVersion : Type 0
 WritesAVersion =
     record_text (record { version = 2; devices = []; actors = []; lines = []; streams = [] })
-    ≡ text_of (codes "inputrecord 2" ∷ [])
+    ≡ text_of_lines (codes "inputrecord 2" ∷ [])
 
 -- two slots, and the place of a contact
 abbrev pub touchpad : Description
@@ -110,7 +107,7 @@ touchpad =
 abbrev pub WritesSlots : Type 0
 WritesSlots =
     lines_text (description_lines touchpad)
-    ≡ text_of (codes "hint 64"
+    ≡ text_of_lines (codes "hint 64"
     ∷ codes "log 1048576"
     ∷ codes "clock realtime 5"
     ∷ codes "clock boottime 7"
@@ -132,7 +129,7 @@ mixed =
 abbrev pub WritesCodesAscending : Type 0
 WritesCodesAscending =
     lines_text (description_lines mixed)
-    ≡ text_of (codes "hint 16"
+    ≡ text_of_lines (codes "hint 16"
     ∷ codes "log 1048576"
     ∷ codes "clock realtime 0"
     ∷ codes "clock boottime 0"
@@ -157,7 +154,7 @@ filtered =
 abbrev pub WritesFiltersInOrder : Type 0
 WritesFiltersInOrder =
     lines_text (description_lines filtered)
-    ≡ text_of (codes "hint 16"
+    ≡ text_of_lines (codes "hint 16"
     ∷ codes "log 1048576"
     ∷ codes "clock realtime 0"
     ∷ codes "clock boottime 0"
@@ -181,45 +178,45 @@ actors =
     ∷ []
 
 pub record WritesActorsOfTheDevice : Type 0 where
-  pub first : lines_text (actors_lines actors 0) ≡ text_of (codes "source a" ∷ codes "tap c" ∷ codes "owner e" ∷ [])
-  pub second : lines_text (actors_lines actors 1) ≡ text_of (codes "client b" ∷ codes "joy d" ∷ [])
+  pub first : lines_text (actors_lines actors 0) ≡ text_of_lines (codes "source a" ∷ codes "tap c" ∷ codes "owner e" ∷ [])
+  pub second : lines_text (actors_lines actors 1) ≡ text_of_lines (codes "client b" ∷ codes "joy d" ∷ [])
 
 -- the line of a command alone
-abbrev pub IsWritten : command.Command → List ℕ → Type 0
-IsWritten command text = lines_text (command_words command ∷ []) ≡ text_of (text ∷ [])
+abbrev pub IsCommandText : command.Command → List ℕ → Type 0
+IsCommandText command text = lines_text (command_words command ∷ []) ≡ text_of_lines (text ∷ [])
 
 pub record WritesCommands : Type 0 where
-  pub event : IsWritten (commands.Event 7 EV_REL 8 (negsuc 0)) (codes "event 7 EV_REL REL_WHEEL -1")
-  pub tick : IsWritten (commands.Tick 9000000000000000) (codes "tick 9000000000000000")
-  pub inhibit : IsWritten (commands.Inhibit 9) (codes "inhibit 9")
-  pub uninhibit : IsWritten commands.Uninhibit (codes "uninhibit")
-  pub stream : IsWritten (commands.Stream (codes "a/b.bin") 3) (codes "stream a/b.bin")
-  pub stream16 : IsWritten (commands.Stream16 (codes "a/b.bin") 3) (codes "stream16 a/b.bin")
-  pub opening : IsWritten commands.Open (codes "open")
-  pub close : IsWritten commands.Close (codes "close")
-  pub grab : IsWritten commands.Grab (codes "grab")
-  pub ungrab : IsWritten commands.Ungrab (codes "ungrab")
-  pub revoke : IsWritten commands.Revoke (codes "revoke")
-  pub mask : IsWritten (commands.Mask EV_KEY 1 48879) (codes "mask EV_KEY 1 0x000000000000beef")
-  pub mask_all : IsWritten (commands.Mask 7 0 18446744073709551615) (codes "mask 7 0 0xffffffffffffffff")
-  pub mask_none : IsWritten (commands.Mask EV_SYN 65535 0) (codes "mask EV_SYN 65535 0x0000000000000000")
-  pub realtime : IsWritten (commands.Clock Realtime 1) (codes "clock realtime 1")
-  pub monotonic : IsWritten (commands.Clock Monotonic 5) (codes "clock monotonic 5")
-  pub boottime : IsWritten (commands.Clock Boottime 0) (codes "clock boottime 0")
-  pub write : IsWritten (commands.Write 7 7 300 (pos 1)) (codes "write 7 7 300 1")
-  pub describe : IsWritten (commands.SetAxis 0 (record no_info { value = pos 10; maximum = pos 200; fuzz = pos 8; flat = negsuc 2 })) (codes "setaxis ABS_X 10 0 200 8 -3 0")
-  pub read : IsWritten (commands.Read 0) (codes "read 0")
-  pub read_all : IsWritten (commands.Read 4294967295) (codes "read 4294967295")
-  pub discard : IsWritten commands.Discard (codes "discard")
-  pub keys : IsWritten commands.Keys (codes "keys")
-  pub switches : IsWritten commands.Switches (codes "switches")
-  pub leds : IsWritten commands.Leds (codes "leds")
-  pub sounds : IsWritten commands.Sounds (codes "sounds")
-  pub syncslots : IsWritten commands.SyncSlots (codes "syncslots")
-  pub axis : IsWritten (commands.Axis 0) (codes "axis ABS_X")
-  pub slots : IsWritten (commands.Slots 30) (codes "slots 30")
-  pub next : IsWritten (commands.Next 4294967295) (codes "next 4294967295")
-  pub skip : IsWritten (commands.Skip 2) (codes "skip 2")
-  pub follow : IsWritten commands.Follow (codes "follow")
-  pub force : IsWritten commands.Force (codes "force")
-  pub feedback : IsWritten (commands.Feedback 4096) (codes "feedback 4096")
+  pub event : IsCommandText (commands.Event 7 EV_REL 8 (negsuc 0)) (codes "event 7 EV_REL REL_WHEEL -1")
+  pub tick : IsCommandText (commands.Tick 9000000000000000) (codes "tick 9000000000000000")
+  pub inhibit : IsCommandText (commands.Inhibit 9) (codes "inhibit 9")
+  pub uninhibit : IsCommandText commands.Uninhibit (codes "uninhibit")
+  pub stream : IsCommandText (commands.Stream (codes "a/b.bin") 3) (codes "stream a/b.bin")
+  pub stream16 : IsCommandText (commands.Stream16 (codes "a/b.bin") 3) (codes "stream16 a/b.bin")
+  pub opening : IsCommandText commands.Open (codes "open")
+  pub close : IsCommandText commands.Close (codes "close")
+  pub grab : IsCommandText commands.Grab (codes "grab")
+  pub ungrab : IsCommandText commands.Ungrab (codes "ungrab")
+  pub revoke : IsCommandText commands.Revoke (codes "revoke")
+  pub mask : IsCommandText (commands.Mask EV_KEY 1 48879) (codes "mask EV_KEY 1 0x000000000000beef")
+  pub mask_all : IsCommandText (commands.Mask 7 0 18446744073709551615) (codes "mask 7 0 0xffffffffffffffff")
+  pub mask_none : IsCommandText (commands.Mask EV_SYN 65535 0) (codes "mask EV_SYN 65535 0x0000000000000000")
+  pub realtime : IsCommandText (commands.Clock Realtime 1) (codes "clock realtime 1")
+  pub monotonic : IsCommandText (commands.Clock Monotonic 5) (codes "clock monotonic 5")
+  pub boottime : IsCommandText (commands.Clock Boottime 0) (codes "clock boottime 0")
+  pub write : IsCommandText (commands.Write 7 7 300 (pos 1)) (codes "write 7 7 300 1")
+  pub describe : IsCommandText (commands.SetAxis 0 (record no_info { value = pos 10; maximum = pos 200; fuzz = pos 8; flat = negsuc 2 })) (codes "setaxis ABS_X 10 0 200 8 -3 0")
+  pub read : IsCommandText (commands.Read 0) (codes "read 0")
+  pub read_all : IsCommandText (commands.Read 4294967295) (codes "read 4294967295")
+  pub discard : IsCommandText commands.Discard (codes "discard")
+  pub keys : IsCommandText commands.Keys (codes "keys")
+  pub switches : IsCommandText commands.Switches (codes "switches")
+  pub leds : IsCommandText commands.Leds (codes "leds")
+  pub sounds : IsCommandText commands.Sounds (codes "sounds")
+  pub syncslots : IsCommandText commands.SyncSlots (codes "syncslots")
+  pub axis : IsCommandText (commands.Axis 0) (codes "axis ABS_X")
+  pub slots : IsCommandText (commands.Slots 30) (codes "slots 30")
+  pub next : IsCommandText (commands.Next 4294967295) (codes "next 4294967295")
+  pub skip : IsCommandText (commands.Skip 2) (codes "skip 2")
+  pub follow : IsCommandText commands.Follow (codes "follow")
+  pub force : IsCommandText commands.Force (codes "force")
+  pub feedback : IsCommandText (commands.Feedback 4096) (codes "feedback 4096")

@@ -14,14 +14,14 @@ use Rattle.inp_model.specs.Step.{Query, is_part_of}
 use Rattle.inp_model.specs.Queue.{stays, flush_behind, is_same_clock, clock_changed}
 use Rattle.inp_ring.specs.declared.cell.Cell.{Cell}
 use Rattle.inp_ring.specs.declared.cell.Held.{Held}
-use Rattle.inp_ring.specs.Store.{StoreView, entry, holders, holders_of, event_of, taken_of, HasCell, IsIdle, IsIdleSlot}
+use Rattle.inp_ring.specs.Store.{StoreView, entry, holders, holders_of, event_of, cell_taken, HasCell, IsIdle, IsIdleSlot}
 use Rattle.inp_ring.specs.Ring.{cell_at, AreFit, AreHeld, IsRing}
 use Rattle.inp_ring.proofs.Moves.{moved_none}
 use Rattle.inp_client.specs.declared.clients.Clients.TheInside.{Inside}
 use Rattle.inp_client.specs.Client.{ClientView, new_client, cell_of_event, after_take, after_flush, after_mask, after_clock, after_revoke}
 use Rattle.inp_client.specs.Clients.{ClientsView, has_client, client_named, events_of, has_revoked_client, map_client}
 use Rattle.inp_client.specs.Read.{client_on, clients_on}
-use Rattle.inp_client.specs.Member.{Member, ring_of, client_in, cells_in, times_in, wanted, AreStored, IsWritten}
+use Rattle.inp_client.specs.Member.{Member, ring_of, client_in, cells_in, times_in, wanted, AreStored, IsMemberChanged}
 use Rattle.inp_client.specs.Locations.{client_at, clients_in}
 use Rattle.inp_client.specs.Kept.{view_of, AreKept}
 use Rattle.inp_client.proofs.Locating.{client_at_found, located_after_write, members_after_write, members_long, member_in_location, member_number, members_apart}
@@ -79,10 +79,10 @@ timed_clock clock now place c h fit = changed (is_same_clock c.clock clock) c.ri
 
 -- A change that leaves the queue alone.
 
-pub written_revoke : (s : StoreView) (old new : Member) → new ≡ after_revoke old → IsWritten s s old new after_revoke
+pub written_revoke : (s : StoreView) (old new : Member) → new ≡ after_revoke old → IsMemberChanged s s old new after_revoke
 written_revoke s old new e = rw e (record { number = refl; places = refl; sound = λ h. h; moved = moved_none s old.ring.events; changed = refl })
 
-pub written_mask : (s : StoreView) (old new : Member) (kind word bits : ℕ) → new ≡ after_mask kind word bits old → IsWritten s s old new (after_mask kind word bits)
+pub written_mask : (s : StoreView) (old new : Member) (kind word bits : ℕ) → new ≡ after_mask kind word bits old → IsMemberChanged s s old new (after_mask kind word bits)
 written_mask s old new kind word bits e = rw e (record { number = refl; places = refl; sound = λ h. h; moved = moved_none s old.ring.events; changed = refl })
 
 module _ (k : Inside) (kept : AreKept k) (number key : ℕ) (location : Contains k.locations.items (record { number = number; key = key })) (old : Member) (found : get k.slab key ≡ Some old) where
@@ -127,19 +127,19 @@ module _ (k : Inside) (kept : AreKept k) (number key : ℕ) (location : Contains
   call_revoked = ap (λ o. option_map_or (λ (c : ClientView Cell). c.revoked) o false) named
 
   -- what it reads
-  pub call_read : (d : Description) → events_of number (clients_on d (view_of k).list) ≡ map (taken_of (offset d old.clock)) (map (cell_at k.store) old.ring.events)
+  pub call_read : (d : Description) → events_of number (clients_on d (view_of k).list) ≡ map (cell_taken (offset d old.clock)) (map (cell_at k.store) old.ring.events)
   call_read d =
       ap (λ o. option_map_or (λ (c : ClientView Taken). c.ring.events) o []) (client_named-on d number (view_of k).list ∙ ap (option_map (client_on d)) named)
 
-  module _ (new : Member) (after : StoreView) (change : ClientView Cell → ClientView Cell) (w : IsWritten k.store after old new change) (timed : AreFit (change (client_in k.store old)).ring.events) where
+  module _ (new : Member) (after : StoreView) (change : ClientView Cell → ClientView Cell) (w : IsMemberChanged k.store after old new change) (timed : AreFit (change (client_in k.store old)).ring.events) where
     abbrev next : Inside
     next = record k { slab = with_value k.slab key new; store = after }
 
     members_next : clients_in k.locations.items (with_value k.slab key new) ≡ set members location.0 new
     members_next = members_after_write kept.located location.0 (record { number = number; key = key }) key old new location.1 (ap (λ s. s.key) location.2) found
 
-    moved : IsWritten k.store after (get_or members location.0 (new_client 0 0)) new change
-    moved = let P : Member → Type 0 = λ m. IsWritten k.store after m new change in subst P (sym here) w
+    moved : IsMemberChanged k.store after (get_or members location.0 (new_client 0 0)) new change
+    moved = let P : Member → Type 0 = λ m. IsMemberChanged k.store after m new change in subst P (sym here) w
 
     new_timed : AreFit (client_in after new).ring.events
     new_timed = let P : ClientView Cell → Type 0 = λ c. AreFit c.ring.events in subst P (sym w.changed) timed

@@ -11,7 +11,7 @@ use Rattle.inp_model.specs.Event.{is_report}
 use Rattle.inp_model.specs.Queue.{is_empty, ends_in_report, put}
 use Rattle.inp_ring.specs.declared.cell.Cell.{Cell}
 use Rattle.inp_ring.specs.declared.cell.Held.{Held}
-use Rattle.inp_ring.specs.Store.{StoreView, entry, cell_in, cell_of, holders, holders_of, held_by, event_of, dropped_at, HasCell, IsIdle, IsIdleSlot}
+use Rattle.inp_ring.specs.Store.{StoreView, entry, cell_in, held_cell, holders, holders_of, held_by, event_of, dropped_at, HasCell, IsIdle, IsIdleSlot}
 use Rattle.inp_ring.specs.Ring.{times, cell_at, some_cell, AreFit, AreHeld, IsRing, IsMoved, IsEntered}
 use Rattle.inp_ring.proofs.Times.{once, times_push, once_same, once_other}
 use Rattle.inp_client.specs.declared.location.Location.{Location}
@@ -110,7 +110,7 @@ module _ {cell : Cell} {holder : Option ℕ} {number : ℕ} {locations : List Lo
       moved = let P : Member → Type 0 = λ m. IsMoved store after m.ring.events entered.before in subst P (sym old_is) entered.moved
 
       same_cell : cell_at store number ≡ cell
-      same_cell = ap (λ (o : Option Held). some_cell (cell_of o)) to.same
+      same_cell = ap (λ (o : Option Held). some_cell (held_cell o)) to.same
 
       became : (n : ℕ) → times n new.ring.events ≡ times n entered.before + owing number gained n
       became n = by_case is_in entered.entered
@@ -121,7 +121,7 @@ module _ {cell : Cell} {holder : Option ℕ} {number : ℕ} {locations : List Lo
 
       owed_stay : (n : ℕ) → 1 ≤ owing number taken n → cell_in after n ≡ cell_in store n
       owed_stay n some = elim (cases_eq n number) [
-        | inl e ↦ subst (λ (k : ℕ). cell_in after k ≡ cell_in store k) (sym e) (ap cell_of entered.same)
+        | inl e ↦ subst (λ (k : ℕ). cell_in after k ≡ cell_in store k) (sym e) (ap held_cell entered.same)
         | inr d ↦ absurd (omega (arith, some, owing_other number taken n d))
       ]
 

@@ -8,7 +8,7 @@ use Rattle.inp_model.specs.declared.event.Event.{Event}
 use Rattle.inp_model.specs.Queue.{put, put_all}
 use Rattle.inp_ring.specs.declared.cell.Cell.{Cell}
 use Rattle.inp_ring.specs.declared.cell.Held.{Held}
-use Rattle.inp_ring.specs.Store.{StoreView, entry, cell_in, cell_of, holders, holders_of, cell_count, held_by, held_more, event_of, dropped_at, IsIdle, IsIdleSlot, IsPut}
+use Rattle.inp_ring.specs.Store.{StoreView, entry, cell_in, held_cell, holders, holders_of, cell_count, held_by, held_more, event_of, dropped_at, IsIdle, IsIdleSlot, IsPut}
 use Rattle.inp_ring.proofs.Moves.{idle_none}
 use Rattle.inp_client.specs.declared.location.Location.{Location}
 use Rattle.inp_client.specs.Masks.{admits_of}
@@ -30,7 +30,7 @@ module _ {locations : List Location} {slab : Slab Member} {s after : StoreView} 
   added_stay : (n : ℕ) → 1 ≤ times_in n (clients_in locations slab) → cell_in after n ≡ cell_in s n
   added_stay n there = elim (cases_eq n number) [
     | inl e ↦ absurd (omega (arith, there, in_none, ap (λ (k : ℕ). times_in k (clients_in locations slab)) e))
-    | inr d ↦ ap cell_of (put.others n d)
+    | inr d ↦ ap held_cell (put.others n d)
   ]
 
   pub stored_add : cell_count s + s.spare ≤ cell_count after + after.spare → AreStored after (clients_in locations slab) (λ n. 0)
@@ -67,7 +67,7 @@ module _ {count : ℕ} {cell : Cell} {holder : Option ℕ} {number : ℕ} {locat
     free_stay : (n : ℕ) → 1 ≤ times_in n clients → cell_in after n ≡ cell_in store n
     free_stay n there = elim (cases_eq n number) [
       | inl e ↦ absurd (omega (arith, there, nobody, taken_times, ap (λ (k : ℕ). times_in k clients) e))
-      | inr d ↦ ap cell_of (put.others n d)
+      | inr d ↦ ap held_cell (put.others n d)
     ]
 
     pub shared_free : cell_count store + store.spare ≤ cell_count after + after.spare → AreShared locations slab after
@@ -103,8 +103,8 @@ module _ {count : ℕ} {cell : Cell} {holder : Option ℕ} {number : ℕ} {locat
 
     hold_stay : (n : ℕ) → 1 ≤ times_in n clients → cell_in after n ≡ cell_in store n
     hold_stay n there = elim (cases_eq n number) [
-      | inl e ↦ subst (λ (k : ℕ). cell_in after k ≡ cell_in store k) (sym e) (ap cell_of now_there ∙ sym (ap cell_of to.same))
-      | inr d ↦ ap cell_of (put.others n d)
+      | inl e ↦ subst (λ (k : ℕ). cell_in after k ≡ cell_in store k) (sym e) (ap held_cell now_there ∙ sym (ap held_cell to.same))
+      | inr d ↦ ap held_cell (put.others n d)
     ]
 
     pub shared_hold : cell_count store + store.spare ≤ cell_count after + after.spare → AreShared locations slab after

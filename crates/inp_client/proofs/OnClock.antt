@@ -13,7 +13,7 @@ use Rattle.inp_model.specs.Step.{Query, is_part_of}
 use Rattle.inp_model.specs.Queue as model
 use Rattle.inp_model.specs.Queue.{is_empty, ends_in_report, put, put_all, visible, follows_kept, stays, flush_behind, flush, is_same_clock, clock_changed}
 use Rattle.inp_ring.specs.declared.cell.Cell.{Cell}
-use Rattle.inp_ring.specs.Store.{event_of, dropped_at, taken_of}
+use Rattle.inp_ring.specs.Store.{event_of, dropped_at, cell_taken}
 use Rattle.inp_client.specs.Masks.{admits_of}
 use Rattle.inp_client.specs.Client.{ClientView, with_events, is_offered_to, cell_of_event, admitted_cells, after_offer, after_take, after_flush, after_clock}
 use Rattle.inp_client.specs.Clients.{has_number, has_client, client_named, has_revoked_client, events_of, map_client, with_client, without_client}
@@ -88,35 +88,35 @@ same_clock Boottime Boottime e = refl
 -- the calls
 module _ (d : Description) where
   pub visible-client_on : (c : ClientView Cell) → visible taken_event (client_on d c).ring.events ≡ visible event_of c.ring.events
-  visible-client_on c = visible-on (taken_of (offset d c.clock)) event_of taken_event (λ x. refl) c.ring.events
+  visible-client_on c = visible-on (cell_taken (offset d c.clock)) event_of taken_event (λ x. refl) c.ring.events
 
   pub on_take : (count : ℕ) (c : ClientView Cell) → client_on d (after_take count c) ≡ after_take count (client_on d c)
-  on_take count c = ap (λ q. with_events q (client_on d c)) (sym (drop-map (taken_of (offset d c.clock)) count c.ring.events))
+  on_take count c = ap (λ q. with_events q (client_on d c)) (sym (drop-map (cell_taken (offset d c.clock)) count c.ring.events))
 
   pub on_flush : (query : Query) (c : ClientView Cell) → client_on d (after_flush event_of query c) ≡ after_flush taken_event query (client_on d c)
-  on_flush query c = ap (λ q. with_events q (client_on d c)) (sym (flush_behind-on (taken_of (offset d c.clock)) event_of taken_event (λ x. refl) (is_part_of query) [] c.ring.events))
+  on_flush query c = ap (λ q. with_events q (client_on d c)) (sym (flush_behind-on (cell_taken (offset d c.clock)) event_of taken_event (λ x. refl) (is_part_of query) [] c.ring.events))
 
   pub on_clock : (clock : Clock) (now place : ℕ) (c : ClientView Cell) → client_on d (after_clock clock now place c) ≡ read_after_clock d clock now place (client_on d c)
   on_clock clock now place c =
       ap (λ q. record (client_on d c) { clock = clock; ring = record (client_on d c).ring { events = q } })
       (queue (is_same_clock c.clock clock) c.ring.events (λ e. ap (offset d) (sym (same_clock c.clock clock e))))
     where
-      queue : (b : Bool) (q : List Cell) → (b ≡ true → offset d clock ≡ offset d c.clock) → map (taken_of (offset d clock)) (clock_changed b (cell_of_event now place syn_dropped) q) ≡ clock_changed b (taken_at (now + offset d clock) place syn_dropped) (map (taken_of (offset d c.clock)) q)
+      queue : (b : Bool) (q : List Cell) → (b ≡ true → offset d clock ≡ offset d c.clock) → map (cell_taken (offset d clock)) (clock_changed b (cell_of_event now place syn_dropped) q) ≡ clock_changed b (taken_at (now + offset d clock) place syn_dropped) (map (cell_taken (offset d c.clock)) q)
       queue b [] h = refl
-      queue true (x ∷ q) h = ap (λ o. map (taken_of o) (x ∷ q)) (h refl)
+      queue true (x ∷ q) h = ap (λ o. map (cell_taken o) (x ∷ q)) (h refl)
       queue false (x ∷ q) h = refl
 
   pub on_offer : (frame : List Event) (now place : ℕ) (holder : Option ℕ) (c : ClientView Cell) → client_on d (after_offer frame now place holder c) ≡ read_after_offer d frame now place holder (client_on d c)
   on_offer frame now place holder c = either (is_offered_to holder c)
     where
-      items : (es : List Event) → map (taken_at (now + offset d c.clock) place) es ≡ map (taken_of (offset d c.clock)) (map (cell_of_event now place) es)
+      items : (es : List Event) → map (taken_at (now + offset d c.clock) place) es ≡ map (cell_taken (offset d c.clock)) (map (cell_of_event now place) es)
       items [] = refl
       items (e ∷ es) = ap (λ r. taken_at (now + offset d c.clock) place e ∷ r) (items es)
 
-      queue : put_all taken_event model.dropped_at c.ring.places (client_on d c).ring.events (admitted_events d frame now place (client_on d c)) ≡ map (taken_of (offset d c.clock)) (put_all event_of dropped_at c.ring.places c.ring.events (admitted_cells frame now place c))
+      queue : put_all taken_event model.dropped_at c.ring.places (client_on d c).ring.events (admitted_events d frame now place (client_on d c)) ≡ map (cell_taken (offset d c.clock)) (put_all event_of dropped_at c.ring.places c.ring.events (admitted_cells frame now place c))
       queue =
           ap (put_all taken_event model.dropped_at c.ring.places (client_on d c).ring.events) (items (filter (admits_of c.masks) frame))
-          ∙ put_all-on (taken_of (offset d c.clock)) event_of taken_event (λ x. refl) dropped_at model.dropped_at (λ x. refl) c.ring.places c.ring.events (admitted_cells frame now place c)
+          ∙ put_all-on (cell_taken (offset d c.clock)) event_of taken_event (λ x. refl) dropped_at model.dropped_at (λ x. refl) c.ring.places c.ring.events (admitted_cells frame now place c)
 
       either : (b : Bool) → client_on d (if b then with_events (put_all event_of dropped_at c.ring.places c.ring.events (admitted_cells frame now place c)) c else c)
           ≡ (if b then with_events (put_all taken_event model.dropped_at c.ring.places (client_on d c).ring.events (admitted_events d frame now place (client_on d c))) (client_on d c) else client_on d c)

@@ -10,7 +10,7 @@ use Rattle.inp_client.specs.declared.clients.Clients.TheInside.{Inside}
 use Rattle.inp_client.specs.declared.location.Location.{Location}
 use Rattle.inp_client.specs.Client.{new_client, with_events}
 use Rattle.inp_client.specs.Clients.{without_client, with_client}
-use Rattle.inp_client.specs.Member.{Member, ring_of, client_in, cells_in, wanted, AreStored, IsWritten}
+use Rattle.inp_client.specs.Member.{Member, ring_of, client_in, cells_in, wanted, AreStored, IsMemberChanged}
 use Rattle.inp_client.specs.Locations.{client_at, clients_in, IsPlaceFor}
 use Rattle.inp_client.specs.Kept.{view_of, AreKept}
 use Rattle.inp_client.proofs.Counting.{wanted_few}
@@ -45,12 +45,12 @@ module _ (k : Inside) (kept : AreKept k) (i : ℕ) (in_i : i < length k.location
   pub close_cells : old.ring.places + 1 ≤ k.cells
   close_cells = omega (arith, kept.counted, get_or-le-sum_by (λ (m : Member). m.ring.places + 1) members i (new_client 0 0) in_members, ap (λ (m : Member). m.ring.places) here)
 
-  module _ (slab : Slab Member) (removed : Updates k.slab slab key None) (new : Member) (after : StoreView) (w : IsWritten k.store after old new (with_events [])) (none : new.ring.events ≡ []) where
+  module _ (slab : Slab Member) (removed : Updates k.slab slab key None) (new : Member) (after : StoreView) (w : IsMemberChanged k.store after old new (with_events [])) (none : new.ring.events ≡ []) where
     members_left : clients_in (remove k.locations.items i) slab ≡ remove members i
     members_left = members_after_removal kept.located i d key slab in_i at removed
 
-    moved : IsWritten k.store after (get_or members i (new_client 0 0)) new (with_events [])
-    moved = let P : Member → Type 0 = λ m. IsWritten k.store after m new (with_events []) in subst P (sym here) w
+    moved : IsMemberChanged k.store after (get_or members i (new_client 0 0)) new (with_events [])
+    moved = let P : Member → Type 0 = λ m. IsMemberChanged k.store after m new (with_events []) in subst P (sym here) w
 
     pub stored_close : AreStored after (clients_in (remove k.locations.items i) slab) (λ n. 0)
     stored_close =

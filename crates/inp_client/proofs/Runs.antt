@@ -12,7 +12,7 @@ use Rattle.inp_model.specs.Event.{is_report}
 use Rattle.inp_model.specs.Queue.{is_empty, ends_in_report, put, put_all}
 use Rattle.inp_ring.specs.declared.cell.Cell.{Cell}
 use Rattle.inp_ring.specs.declared.cell.Held.{Held}
-use Rattle.inp_ring.specs.Store.{StoreView, entry, cell_of, holders, holders_of, cell_count, held_by, event_of, dropped_at, IsIdleSlot, IsPut}
+use Rattle.inp_ring.specs.Store.{StoreView, entry, held_cell, holders, holders_of, cell_count, held_by, event_of, dropped_at, IsIdleSlot, IsPut}
 use Rattle.inp_ring.specs.Ring.{times, cell_at, some_cell, AreFit, AreDifferent, IsRing}
 use Rattle.inp_ring.proofs.Times.{once, times-append, times_push, once_same, once_other, AreDifferent_push}
 use Rattle.inp_ring.proofs.Moves.{idle_none}
@@ -22,7 +22,7 @@ use Rattle.inp_client.specs.Masks.{MaskView, admits_of, full_masks}
 use Rattle.inp_client.specs.Client.{ClientView, new_client, with_events, is_offered_to, cell_of_event, after_offer}
 use Rattle.inp_client.specs.Member.{Member, ring_of, client_in, cells_in, times_in, wanted, AreStored}
 use Rattle.inp_client.specs.Locations.{client_at, clients_in, AreLocated}
-use Rattle.inp_client.specs.Offered.{AreShared, IsRun, AreAdded, TakesAll, takers_in, with_run, are_reports_apart, member_at}
+use Rattle.inp_client.specs.Offered.{AreShared, FitsInOneRun, AreAdded, TakesAll, takers_in, with_run, are_reports_apart, member_at}
 use Rattle.inp_client.proofs.MaskBits.{admits_of-full_masks}
 use Rattle.inp_client.proofs.Locating.{client_at_found, located_after_write, members_after_write, members_long, member_in_location}
 
@@ -113,8 +113,8 @@ added_more {first} {s} {cells} {count} {numbers} to some x cell new none put roo
   different = AreDifferent_push x numbers to.different absent;
   there =
       map_push (cell_at new) numbers x
-      ∙ ap (λ (q : List Cell). q ++ cell_at new x ∷ []) (queue_stays s new numbers (λ n there. ap cell_of (put.others n (apart n there))) ∙ to.there)
-      ∙ ap (λ (o : Option Held). cells ++ some_cell (cell_of o) ∷ []) put.changed;
+      ∙ ap (λ (q : List Cell). q ++ cell_at new x ∷ []) (queue_stays s new numbers (λ n there. ap held_cell (put.others n (apart n there))) ∙ to.there)
+      ∙ ap (λ (o : Option Held). cells ++ some_cell (held_cell o) ∷ []) put.changed;
   held = λ n there. elim (cases_eq n x) [
     | inl e ↦ ap (λ (k : ℕ). holders new k) e ∙ ap holders_of put.changed
     | inr d ↦ ap holders_of (put.others n d) ∙ to.held n (omega (arith, there, times_push n x numbers, once_other n x (λ e. d (sym e))))
@@ -301,7 +301,7 @@ module _ (holder : Option ℕ) (numbers : List ℕ) where
       )
 
 module _ {locations : List Location} {before : Slab Member} {first store : StoreView} {frame : List Event} (now place : ℕ) {takers : ℕ} {holder : Option ℕ} {numbers : List ℕ}
-    (shared : AreShared locations before first) (run : IsRun locations before first frame holder takers) (added : AreAdded first store (map (cell_of_event now place) frame) takers numbers) where
+    (shared : AreShared locations before first) (run : FitsInOneRun locations before first frame holder takers) (added : AreAdded first store (map (cell_of_event now place) frame) takers numbers) where
   abbrev ms : List Member
   ms = clients_in locations before
 
@@ -335,7 +335,7 @@ module _ {locations : List Location} {before : Slab Member} {first store : Store
     takes = All-get_or (TakesAll holder (length frame)) ms j (new_client 0 0) in_j run.all
 
     stays : map (cell_at store) m.ring.events ≡ map (cell_at first) m.ring.events
-    stays = queue_stays first store m.ring.events (λ n there. ap cell_of (added.others n (apart_from j in_j n there)))
+    stays = queue_stays first store m.ring.events (λ n there. ap held_cell (added.others n (apart_from j in_j n there)))
 
     queue_with : map (cell_at store) (m.ring.events ++ numbers) ≡ map (cell_at first) m.ring.events ++ cells
     queue_with = map-append (cell_at store) m.ring.events numbers ∙ ap (λ (q : List Cell). q ++ map (cell_at store) numbers) stays ∙ ap (λ (q : List Cell). map (cell_at first) m.ring.events ++ q) added.there

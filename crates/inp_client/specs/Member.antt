@@ -47,7 +47,7 @@ pub record AreStored (s : StoreView) (ms : List Member) (owed : ℕ → ℕ) : T
   pub room : wanted ms ≤ cell_count s + s.spare
 
 -- A call on one client left this of it and of the store.
-pub record IsWritten (s after : StoreView) (old new : Member) (change : ClientView Cell → ClientView Cell) : Type 0 where
+pub record IsMemberChanged (s after : StoreView) (old new : Member) (change : ClientView Cell → ClientView Cell) : Type 0 where
   pub number : new.number ≡ old.number
   pub places : new.ring.places ≡ old.ring.places
   pub sound : IsRing (ring_of old) → IsRing (ring_of new)

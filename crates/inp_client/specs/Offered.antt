@@ -1,5 +1,5 @@
 -- A frame is offered event by event: a cell for each, whose number comes into one ring after the other. A short frame
--- that each of its clients admits whole, with room for it, may go in one run (`IsRun`): a cell for each event first, and then
+-- that each of its clients admits whole, with room for it, may go in one run (`FitsInOneRun`): a cell for each event first, and then
 -- all their numbers into each ring.
 use Rattle.std.specs.Prelude.{◌≡◌, ◌≤◌, ◌<◌, ◌+◌, ◌&&◌, ◌++◌, ℕ, Bool, true, not, if◌then◌else◌, nat_eq, nat_lt, List, [], ◌∷◌, length, count_by, get_or, All, Option, None}
 use Rattle.slab.specs.Slab.{Slab}
@@ -34,7 +34,7 @@ abbrev pub takers_in : Option ℕ → List Member → ℕ
 takers_in holder ms = count_by (is_offered_to holder) ms
 
 -- A frame can be put in one run into the rings of the clients that it is offered to, which are so many.
-pub record IsRun (locations : List Location) (slab : Slab Member) (store : StoreView) (frame : List Event) (holder : Option ℕ) (takers : ℕ) : Type 0 where
+pub record FitsInOneRun (locations : List Location) (slab : Slab Member) (store : StoreView) (frame : List Event) (holder : Option ℕ) (takers : ℕ) : Type 0 where
   pub short : length frame ≤ 16
   pub spare : length frame ≤ store.spare
   pub apart : are_reports_apart true frame ≡ true

@@ -7,7 +7,7 @@ use Rattle.inp_model.specs.Description.{Description, offset}
 use Rattle.inp_model.specs.Event.{syn_dropped}
 use Rattle.inp_model.specs.Queue.{dropped_at, put_all, is_same_clock, clock_changed}
 use Rattle.inp_ring.specs.declared.cell.Cell.{Cell}
-use Rattle.inp_ring.specs.Store.{taken_of}
+use Rattle.inp_ring.specs.Store.{cell_taken}
 use Rattle.inp_client.specs.Masks.{admits_of}
 use Rattle.inp_client.specs.Client.{ClientView, with_events, is_offered_to, map_events}
 
@@ -17,7 +17,7 @@ taken_event t = t.event
 
 -- a client with its queue as it reads it on a device's clocks; all of its queue is on its present clock
 abbrev pub client_on : Description → ClientView Cell → ClientView Taken
-client_on d c = map_events (taken_of (offset d c.clock)) c
+client_on d c = map_events (cell_taken (offset d c.clock)) c
 
 abbrev pub clients_on : Description → List (ClientView Cell) → List (ClientView Taken)
 clients_on d clients = map (client_on d) clients

@@ -8,12 +8,12 @@ ghost use Rattle.inp_model.specs.Past.{has_mask, mask_words, is_other};
 ghost use Rattle.inp_model.specs.Queue.{visible, is_same_clock, put};
 ghost use Rattle.inp_model.specs.Reply.{written};
 ghost use Rattle.inp_model.specs.Step.{Codes, Slots};
-ghost use Rattle.inp_ring.specs.Store.{event_of, dropped_at, taken_of, cell_in};
+ghost use Rattle.inp_ring.specs.Store.{event_of, dropped_at, cell_taken, cell_in};
 ghost use Rattle.inp_ring.specs.Ring.{times, cell_at, AreFit, AreHeld, AreDifferent, IsEntered, IsRing};
 ghost use Rattle.inp_client.specs.Masks.{admits_of, full_masks};
 ghost use Rattle.inp_client.specs.Client.{new_client, with_events, is_offered_to, after_take, after_flush, after_mask, after_clock, after_revoke};
 ghost use Rattle.inp_client.specs.Offered.{with_run};
-ghost use Rattle.inp_client.specs.Member.{ring_of, client_in, after_event, IsWritten};
+ghost use Rattle.inp_client.specs.Member.{ring_of, client_in, after_event, IsMemberChanged};
 
 use crate::masks::Masks;
 use inp_caps::Caps;
@@ -96,7 +96,7 @@ impl Client {
     pub fn set_clock(&mut self, store: &mut Store, clock: Clock, now: u64, place: u32)
         requires room { 0 < store.old.spare }
         requires held { AreHeld store.old self.old.ring.events }
-        ensures set { IsWritten store.old store.new self.old self.new (after_clock clock now place) }
+        ensures set { IsMemberChanged store.old store.new self.old self.new (after_clock clock now place) }
     {
         if is_same_clock(self.clock, clock) {
             return;
@@ -122,8 +122,8 @@ impl Client {
         ensures count { let queue = map (cell_at store.old) self.old.ring.events in
             result ≡ min count (visible event_of queue) }
         ensures taken { let cells = take result (map (cell_at store.old) self.old.ring.events) in
-            out.new ≡ written (map (taken_of (offset caps.now self.old.clock)) cells) out.old }
-        ensures rest { IsWritten store.old store.new self.old self.new (after_take result) }
+            out.new ≡ written (map (cell_taken (offset caps.now self.old.clock)) cells) out.old }
+        ensures rest { IsMemberChanged store.old store.new self.old self.new (after_take result) }
     {
         let taken = self.ring.take(store, count, caps.offset(self.clock), out);
         self.ring.sound();
@@ -135,7 +135,7 @@ impl Client {
         requires held { AreHeld store.old self.old.ring.events }
         ensures count { let queue = map (cell_at store.old) self.old.ring.events in
             result ≡ visible event_of queue }
-        ensures rest { IsWritten store.old store.new self.old self.new (after_take result) }
+        ensures rest { IsMemberChanged store.old store.new self.old self.new (after_take result) }
     {
         let removed = self.ring.discard(store);
         self.ring.sound();
@@ -146,7 +146,7 @@ impl Client {
     pub fn flush(&mut self, store: &mut Store, kind: u16)
         requires not_syn { kind ≢ EV_SYN }
         requires held { AreHeld store.old self.old.ring.events }
-        ensures flushed { IsWritten store.old store.new self.old self.new
+        ensures flushed { IsMemberChanged store.old store.new self.old self.new
             (after_flush event_of (Codes kind)) }
     {
         self.ring.flush(store, kind);
@@ -156,7 +156,7 @@ impl Client {
     /// Removes the queued multi-touch events.
     pub fn flush_slots(&mut self, store: &mut Store)
         requires held { AreHeld store.old self.old.ring.events }
-        ensures flushed { IsWritten store.old store.new self.old self.new
+        ensures flushed { IsMemberChanged store.old store.new self.old self.new
             (after_flush event_of Slots) }
     {
         self.ring.flush_slots(store);
@@ -166,7 +166,7 @@ impl Client {
     /// Releases all that is queued.
     pub fn clear(&mut self, store: &mut Store)
         requires held { AreHeld store.old self.old.ring.events }
-        ensures cleared { IsWritten store.old store.new self.old self.new (with_events []) }
+        ensures cleared { IsMemberChanged store.old store.new self.old self.new (with_events []) }
         ensures none { self.new.ring.events ≡ [] }
     {
         self.ring.clear(store);

@@ -15,7 +15,7 @@ ghost use Rattle.inp_client.specs.Read.{clients_on};
 ghost use Rattle.inp_client.specs.Locations.{clients_in, AreLocated};
 ghost use Rattle.inp_client.specs.Member.{cells_in, wanted, after_event, AreStored};
 ghost use Rattle.inp_ring.specs.Ring.{AreDifferent};
-ghost use Rattle.inp_client.specs.Offered.{AreShared, IsEnteredTo, owing, IsRun, AreAdded, TakesAll, takers_in, with_run, are_reports_apart};
+ghost use Rattle.inp_client.specs.Offered.{AreShared, IsEnteredTo, owing, FitsInOneRun, AreAdded, TakesAll, takers_in, with_run, are_reports_apart};
 ghost use Rattle.inp_client.specs.declared.open_refused.OpenRefused.TheVariants.{TooMany};
 
 use crate::client::Client;
@@ -310,7 +310,7 @@ fn takers_of_all(
 ) -> Option<u32>
     requires located { AreLocated locations.now slab.now }
     requires few { length locations.now ≤ CLIENTS_MAX }
-    ensures all { IfSome result (IsRun locations.now slab.now store.now frame.now holder) }
+    ensures all { IfSome result (FitsInOneRun locations.now slab.now store.now frame.now holder) }
 {
     if frame.len() > RUN_MAX || frame.len() > store.spare() as usize || !are_reports_apart(frame) {
         return None;
@@ -378,7 +378,7 @@ fn offer_run(
     takers: u32,
 )
     requires before { AreShared locations.now slab.old store.old }
-    requires run { IsRun locations.now slab.old store.old frame.now holder takers }
+    requires run { FitsInOneRun locations.now slab.old store.old frame.now holder takers }
     requires moment { now ≤ MOMENT_MAX }
     ensures after { AreShared locations.now slab.new store.new }
     ensures offered { cells_in store.new (clients_in locations.now slab.new)

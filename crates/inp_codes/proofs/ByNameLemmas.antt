@@ -14,7 +14,7 @@ use Rattle.std.proofs.lemmas.List.Sorted.{searchable_from_sorted}
 use Rattle.std.proofs.lemmas.Map.Keys.{Less-from_sorted, sorted_from_all_adjacent}
 use Rattle.std.proofs.lemmas.Map.Text.{is_eq-slice_cmp}
 use Rattle.std.proofs.lemmas.Slice.Eq.{bytes_eq-Decides}
-use Rattle.inp_codes.specs.Table.{Entry, number_in}
+use Rattle.inp_codes.specs.Table.{NamedNumber, number_in}
 use Rattle.inp_codes.proofs.TableLemmas.{numbers_found, number_in-same}
 use Rattle.inp_codes.specs.ByName.{row_entries, AreInNameOrder, AreRowsOf}
 
@@ -122,6 +122,6 @@ module _ {N : Type 0} where
   AreInNameOrder-adjacent rows h = sorted_from_all_adjacent nat_list_cmp_total (map name_of_row rows) [] (rises_at (map name_of_row rows) h)
 
   -- rows that pass the tests against a table are the rows of that table
-  pub AreRowsOf-tested : (same : N → N → Bool) → ((a b : N) → same a b ≡ true → a ≡ b) → (rows : List (Bor (List ℕ) × N)) (entries : List (Entry N)) → texts_rise (map name_of_row rows) ≡ true → numbers_found same entries (row_entries rows) ≡ true → numbers_found same (row_entries rows) entries ≡ true → AreRowsOf rows entries
+  pub AreRowsOf-tested : (same : N → N → Bool) → ((a b : N) → same a b ≡ true → a ≡ b) → (rows : List (Bor (List ℕ) × N)) (entries : List (NamedNumber N)) → texts_rise (map name_of_row rows) ≡ true → numbers_found same entries (row_entries rows) ≡ true → numbers_found same (row_entries rows) entries ≡ true → AreRowsOf rows entries
   AreRowsOf-tested same same_is rows entries rise there back =
       record { in_order = AreInNameOrder-adjacent rows rise; numbers = number_in-same same same_is (row_entries rows) entries there back }

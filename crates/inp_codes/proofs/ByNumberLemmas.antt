@@ -2,7 +2,7 @@
 use Rattle.std.proofs.Common.{◌≡◌, ℕ, zero, suc, ◌+◌, ◌-◌, ◌<◌, ◌≤◌, Bool, true, false, ◌&&◌, List, [], ◌∷◌, ◌++◌, replicate, length, get_or, ◌==◌, Some, None, nat_le, nat_eq, refl, sym, ap, ◌∙◌, inl, inr, arith, leb-true, eq-eqb, eqb-true, ne_eqb}
 use Rattle.std.proofs.lemmas.Bool.{and_parts, cases_order, true≢false, false≢true}
 use Rattle.std.specs.Borrow.{Bor}
-use Rattle.inp_codes.specs.Table.{Entry, name_in}
+use Rattle.inp_codes.specs.Table.{NamedNumber, name_in}
 use Rattle.inp_codes.specs.ByNumber.{texts, names_by_number, names_from, name_at, unless_empty}
 
 -- the text has a byte
@@ -16,12 +16,12 @@ unless_empty-some [] h = absurd (false≢true h)
 unless_empty-some (b ∷ bs) h = refl
 
 -- the numbers rise from `first` on, and each has a name
-unfoldable pub numbers_rise : ℕ → List (Entry ℕ) → Bool
+unfoldable pub numbers_rise : ℕ → List (NamedNumber ℕ) → Bool
 numbers_rise first [] = true
 numbers_rise first (e ∷ es) = (nat_le first e.0 && is_some_text e.1) && numbers_rise (e.0 + 1) es
 
 -- no name is found below the first number
-name_in-below : (es : List (Entry ℕ)) (first number : ℕ) → numbers_rise first es ≡ true → number < first → name_in nat_eq es number ≡ None
+name_in-below : (es : List (NamedNumber ℕ)) (first number : ℕ) → numbers_rise first es ≡ true → number < first → name_in nat_eq es number ≡ None
 unfolding name_in numbers_rise
 name_in-below [] first number rise below = refl
 name_in-below (e ∷ es) first number rise below =
@@ -45,7 +45,7 @@ name_at-after (suc holes) i ts =
     rw sum (name_at-after holes i ts)
 
 -- the name of a number stands at its index
-name_at-names_from : (es : List (Entry ℕ)) (first i : ℕ) → numbers_rise first es ≡ true → name_at (names_from first es) i ≡ name_in nat_eq es (first + i)
+name_at-names_from : (es : List (NamedNumber ℕ)) (first i : ℕ) → numbers_rise first es ≡ true → name_at (names_from first es) i ≡ name_in nat_eq es (first + i)
 unfolding names_from name_in numbers_rise name_at
 name_at-names_from [] first i rise = refl
 name_at-names_from (e ∷ es) first i rise =
@@ -96,5 +96,5 @@ unless_empty-is [] h = absurd (true≢false h)
 unless_empty-is (b ∷ bs) h = refl
 
 -- the name of a number stands at its index, from 0 on
-pub name_at-names_by_number : (es : List (Entry ℕ)) (i : ℕ) → numbers_rise 0 es ≡ true → name_at (names_by_number es) i ≡ name_in nat_eq es i
+pub name_at-names_by_number : (es : List (NamedNumber ℕ)) (i : ℕ) → numbers_rise 0 es ≡ true → name_at (names_by_number es) i ≡ name_in nat_eq es i
 name_at-names_by_number es i rise = let sum : 0 + i ≡ i = omega arith in name_at-names_from es 0 i rise ∙ ap (name_in nat_eq es) sum

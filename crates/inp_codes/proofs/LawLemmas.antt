@@ -3,7 +3,7 @@ use Rattle.std.proofs.Common.{◌≡◌, true, nat_eq, eqb-true, refl}
 use Rattle.std.specs.List.{list_all}
 use Rattle.inp_codes.specs.CodeNames.{code_entries, name_of, code_of, is_same_code, CodeNamesAreEntries, CodesAreOneToOne, CodeNamesAreWords}
 use Rattle.inp_codes.specs.KindNames.{kind_entries, kind_name, kind_of, KindNamesAreEntries, KindsAreOneToOne, KindNamesAreWords}
-use Rattle.inp_codes.specs.Table.{is_word}
+use Rattle.inp_codes.specs.Table.{is_name_word}
 use Rattle.inp_codes.proofs.CodeNamesLemmas.{is_same_code-true}
 use Rattle.inp_codes.proofs.Computing.{event_codes}
 use Rattle.inp_codes.proofs.TableLemmas.{names_found, numbers_found, name_in-iff_entry, name_in-iff_number, is_word-name_in}
@@ -17,7 +17,7 @@ kind_numbers_found : numbers_found nat_eq kind_entries kind_entries ≡ true
 unfolding event_codes
 kind_numbers_found = refl
 
-kind_words : list_all (λ e. is_word e.1) kind_entries ≡ true
+kind_words : list_all (λ e. is_name_word e.1) kind_entries ≡ true
 unfolding event_codes
 kind_words = refl
 
@@ -30,7 +30,7 @@ code_numbers_found : numbers_found is_same_code code_entries code_entries ≡ tr
 unfolding event_codes
 code_numbers_found = refl
 
-code_words : list_all (λ e. is_word e.1) code_entries ≡ true
+code_words : list_all (λ e. is_name_word e.1) code_entries ≡ true
 unfolding event_codes
 code_words = refl
 

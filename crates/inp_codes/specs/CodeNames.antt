@@ -1,10 +1,10 @@
 -- The codes of each event type and their names, as the kernel's header `input-event-codes.h` has them.
 use Rattle.std.specs.Prelude.{◌≡◌, ◌↔◌, ℕ, Bool, ◌&&◌, ◌==◌, List, [], ◌∷◌, map, Option, Some, IsTrue, Contains, codes, if◌then◌else◌}
 use Rattle.std.specs.List.{flat_map}
-use Rattle.inp_codes.specs.Table.{Entry, name_in, number_in, is_word}
+use Rattle.inp_codes.specs.Table.{NamedNumber, name_in, number_in, is_name_word}
 
 -- EV_SYN: synchronisation events
-unfoldable pub syn_codes : List (Entry ℕ)
+unfoldable pub syn_codes : List (NamedNumber ℕ)
 syn_codes =
     (0, codes "SYN_REPORT")
     ∷ (1, codes "SYN_CONFIG")
@@ -13,7 +13,7 @@ syn_codes =
     ∷ []
 
 -- EV_KEY: keys and buttons
-unfoldable pub key_codes : List (Entry ℕ)
+unfoldable pub key_codes : List (NamedNumber ℕ)
 key_codes =
     (1, codes "KEY_ESC")
     ∷ (2, codes "KEY_1")
@@ -200,7 +200,7 @@ key_codes =
     ∷ []
 
 -- EV_REL: relative axes
-unfoldable pub rel_codes : List (Entry ℕ)
+unfoldable pub rel_codes : List (NamedNumber ℕ)
 rel_codes =
     (0x00, codes "REL_X")
     ∷ (0x01, codes "REL_Y")
@@ -217,7 +217,7 @@ rel_codes =
     ∷ []
 
 -- EV_ABS: absolute axes
-unfoldable pub abs_codes : List (Entry ℕ)
+unfoldable pub abs_codes : List (NamedNumber ℕ)
 abs_codes =
     (0x00, codes "ABS_X")
     ∷ (0x01, codes "ABS_Y")
@@ -263,7 +263,7 @@ abs_codes =
     ∷ []
 
 -- EV_MSC: miscellaneous events
-unfoldable pub msc_codes : List (Entry ℕ)
+unfoldable pub msc_codes : List (NamedNumber ℕ)
 msc_codes =
     (0x00, codes "MSC_SERIAL")
     ∷ (0x01, codes "MSC_PULSELED")
@@ -274,7 +274,7 @@ msc_codes =
     ∷ []
 
 -- EV_SW: switches
-unfoldable pub sw_codes : List (Entry ℕ)
+unfoldable pub sw_codes : List (NamedNumber ℕ)
 sw_codes =
     (0x00, codes "SW_LID")
     ∷ (0x01, codes "SW_TABLET_MODE")
@@ -290,7 +290,7 @@ sw_codes =
     ∷ []
 
 -- EV_LED: LEDs
-unfoldable pub led_codes : List (Entry ℕ)
+unfoldable pub led_codes : List (NamedNumber ℕ)
 led_codes =
     (0x00, codes "LED_NUML")
     ∷ (0x01, codes "LED_CAPSL")
@@ -306,7 +306,7 @@ led_codes =
     ∷ []
 
 -- EV_SND: sounds
-unfoldable pub snd_codes : List (Entry ℕ)
+unfoldable pub snd_codes : List (NamedNumber ℕ)
 snd_codes =
     (0x00, codes "SND_CLICK")
     ∷ (0x01, codes "SND_BELL")
@@ -314,14 +314,14 @@ snd_codes =
     ∷ []
 
 -- EV_REP: the autorepeat values
-unfoldable pub rep_codes : List (Entry ℕ)
+unfoldable pub rep_codes : List (NamedNumber ℕ)
 rep_codes =
     (0x00, codes "REP_DELAY")
     ∷ (0x01, codes "REP_PERIOD")
     ∷ []
 
 -- each type with its codes
-unfoldable pub kinds_with_codes : List (ℕ × List (Entry ℕ))
+unfoldable pub kinds_with_codes : List (ℕ × List (NamedNumber ℕ))
 kinds_with_codes =
     (0x00, syn_codes)
     ∷ (0x01, key_codes)
@@ -335,11 +335,11 @@ kinds_with_codes =
     ∷ []
 
 -- the codes of a type as entries of the type and the code
-abbrev pub entries_of_kind : ℕ × List (Entry ℕ) → List (Entry (ℕ × ℕ))
+abbrev pub entries_of_kind : ℕ × List (NamedNumber ℕ) → List (NamedNumber (ℕ × ℕ))
 entries_of_kind k = map (λ e. ((k.0, e.0), e.1)) k.1
 
 -- the codes of all types that have a name
-unfoldable pub code_entries : List (Entry (ℕ × ℕ))
+unfoldable pub code_entries : List (NamedNumber (ℕ × ℕ))
 code_entries = flat_map entries_of_kind kinds_with_codes
 
 -- the same type and the same code
@@ -369,13 +369,13 @@ CodesAreOneToOne =
 -- a code's name is a word
 abbrev pub CodeNamesAreWords : Type 0
 CodeNamesAreWords =
-    (kind code : ℕ) (name : List ℕ) → name_of kind code ≡ Some name → IsTrue (is_word name)
+    (kind code : ℕ) (name : List ℕ) → name_of kind code ≡ Some name → IsTrue (is_name_word name)
 
 -- the first list of codes that stands with this type, or none
-unfoldable pub codes_in : List (ℕ × List (Entry ℕ)) → ℕ → List (Entry ℕ)
+unfoldable pub codes_in : List (ℕ × List (NamedNumber ℕ)) → ℕ → List (NamedNumber ℕ)
 codes_in [] kind = []
 codes_in (k ∷ ks) kind = if k.0 == kind then k.1 else codes_in ks kind
 
 -- the codes of a type
-abbrev pub codes_of_kind : ℕ → List (Entry ℕ)
+abbrev pub codes_of_kind : ℕ → List (NamedNumber ℕ)
 codes_of_kind = codes_in kinds_with_codes

@@ -1,9 +1,9 @@
 -- The event types and their names, as the kernel's header `input-event-codes.h` has them.
 use Rattle.std.specs.Prelude.{◌≡◌, ◌↔◌, ℕ, List, [], ◌∷◌, Option, Some, IsTrue, Contains, codes, nat_eq}
-use Rattle.inp_codes.specs.Table.{Entry, name_in, number_in, is_word}
+use Rattle.inp_codes.specs.Table.{NamedNumber, name_in, number_in, is_name_word}
 
 -- the types that have a name
-unfoldable pub kind_entries : List (Entry ℕ)
+unfoldable pub kind_entries : List (NamedNumber ℕ)
 kind_entries =
     (0x00, codes "EV_SYN")
     ∷ (0x01, codes "EV_KEY")
@@ -37,4 +37,4 @@ KindsAreOneToOne =
 
 -- a type's name is a word
 abbrev pub KindNamesAreWords : Type 0
-KindNamesAreWords = (kind : ℕ) (name : List ℕ) → kind_name kind ≡ Some name → IsTrue (is_word name)
+KindNamesAreWords = (kind : ℕ) (name : List ℕ) → kind_name kind ≡ Some name → IsTrue (is_name_word name)

@@ -8,7 +8,7 @@ use Rattle.inp_model.specs.Event.{is_report, syn_dropped}
 use Rattle.inp_model.specs.Step.{Query, is_part_of}
 use Rattle.inp_model.specs.Queue.{is_empty, ends_in_report, put, flush, clock_changed}
 use Rattle.inp_ring.specs.declared.cell.Cell.{Cell}
-use Rattle.inp_ring.specs.Store.{StoreView, entry, cell_of, holders_of, held_by, event_of, dropped_at, IsPut}
+use Rattle.inp_ring.specs.Store.{StoreView, entry, held_cell, holders_of, held_by, event_of, dropped_at, IsPut}
 use Rattle.inp_ring.specs.Ring.{times, cell_at, some_cell, queue_in, AreFit, AreHeld}
 use Rattle.inp_ring.proofs.Rings.{queue_stays}
 use Rattle.inp_client.specs.Client.{new_client, with_events}
@@ -31,11 +31,11 @@ module _ (s t : StoreView) {u : StoreView} {number : ℕ} {cell : Cell} (grown :
   pub queue_added : queue_in u q ≡ queue_in s q
   queue_added = queue_stays s u q (λ n there. elim (cases_eq n number) [
     | inl e ↦ let none_of : times n q ≡ 0 = ap (λ k. times k q) e ∙ absent in absurd (omega (arith, there, none_of))
-    | inr d ↦ ap cell_of (added.others n d ∙ same_entry n)
+    | inr d ↦ ap held_cell (added.others n d ∙ same_entry n)
   ])
 
   pub cell_added : cell_at u number ≡ cell
-  cell_added = ap (λ o. some_cell (cell_of o)) added.changed
+  cell_added = ap (λ o. some_cell (held_cell o)) added.changed
 
 -- a queue that is the same as a fit one is fit
 pub fit_same : {q r : List Cell} → r ≡ q → AreFit q → AreFit r
@@ -54,7 +54,7 @@ module _ (s t : StoreView) (grown : t.slots ≡ s.slots) (q : List ℕ) where
   held_grown held n = omega (arith, held n, ap holders_of (grown_entry n))
 
   pub queue_grown : queue_in t q ≡ queue_in s q
-  queue_grown = queue_stays s t q (λ n there. ap cell_of (grown_entry n))
+  queue_grown = queue_stays s t q (λ n there. ap held_cell (grown_entry n))
 
 -- a queue with one cell more stays fit
 pub fit_put : (places : ℕ) (q : List Cell) (cell : Cell) → cell.now ≤ MOMENT_MAX → AreFit q → AreFit (put event_of dropped_at places q cell)

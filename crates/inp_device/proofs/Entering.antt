@@ -18,7 +18,7 @@ use Rattle.inp_model.specs.Reply.{Answer, alone, answer_by, answer, refused, acc
 use Rattle.inp_model.specs.History.{IsHistory}
 use Rattle.inp_model.proofs.Refused.{refused-not_accepted}
 use Rattle.inp_device.specs.declared.present.Present.{Present}
-use Rattle.inp_device.specs.Present.{StandsFor, IsReadyFor, IsMade, IsMadeOrLacks, IsKeptWith}
+use Rattle.inp_device.specs.Present.{PresentStandsFor, IsReadyFor, IsAcceptedStep, IsMadeOrLacks, IsKeptWith}
 use Rattle.inp_model.proofs.Allowed.{allowed}
 
 -- Refused
@@ -73,8 +73,8 @@ pub told_of : (lent p : Present) (now steps : List Step) (x : Step) (given : Opt
 told_of lent p now steps x given same same_steps exact =
     exact ∙ ap (λ (q : Present). refused q.caps (reverse now) x) same ∙ ap (λ (ss : List Step). refused p.caps (reverse ss) x) same_steps
 
-pub made_of : (lent p new : Present) (history : List Step) (x : Step) (reply : Reply) (out new_out : List Taken) (cells new_cells : List ℤ) → lent ≡ p → IsMade history x lent reply out new_out cells new_cells new → IsMade history x p reply out new_out cells new_cells new
-made_of lent p new history x reply out new_out cells new_cells same made = subst (λ (q : Present). IsMade history x q reply out new_out cells new_cells new) same made
+pub made_of : (lent p new : Present) (history : List Step) (x : Step) (reply : Reply) (out new_out : List Taken) (cells new_cells : List ℤ) → lent ≡ p → IsAcceptedStep history x lent reply out new_out cells new_cells new → IsAcceptedStep history x p reply out new_out cells new_cells new
+made_of lent p new history x reply out new_out cells new_cells same made = subst (λ (q : Present). IsAcceptedStep history x q reply out new_out cells new_cells new) same made
 
 pub lacks_of : (lent p new : Present) (history : List Step) (x : Step) (e : WantOfMemory) (out new_out : List Taken) (cells new_cells : List ℤ) → lent ≡ p → IsMadeOrLacks history x lent (Err e) out new_out cells new_cells new → IsMadeOrLacks history x p (Err e) out new_out cells new_cells new
 lacks_of lent p new history x e out new_out cells new_cells same lacks = subst (λ (q : Present). IsMadeOrLacks history x q (Err e) out new_out cells new_cells new) same lacks
@@ -93,7 +93,7 @@ pub ready : (p : Present) (steps now : List Step) (capacity : ℕ) (x : Step) (g
 ready p steps now capacity x given kept same exact is =
     let none : refused p.caps (reverse now) x ≡ None = ap (λ (ss : List Step). refused p.caps (reverse ss) x) same ∙ sym exact ∙ is in
     record {
-      stands = subst (λ (ss : List Step). StandsFor p.caps (reverse ss) p) (sym same) kept.stands;
+      stands = subst (λ (ss : List Step). PresentStandsFor p.caps (reverse ss) p) (sym same) kept.stands;
       few = omega (arith, below_limit p now x none, kept.range);
       allowed = none;
     }
@@ -106,7 +106,7 @@ room p steps now capacity x given kept same exact is =
 -- Entered
 
 pub entered_kept : (old new : Present) (steps now pushed : List Step) (capacity wider : ℕ) (x : Step) (reply : Reply) (out new_out : List Taken) (cells new_cells : List ℤ) (given : Option Reply)
-    → IsKeptWith steps capacity old → now ≡ steps → given ≡ refused old.caps (reverse steps) x → given ≡ None → IsMade now x old reply out new_out cells new_cells new → pushed ≡ steps ++ x ∷ [] → capacity ≤ wider → IsKeptWith pushed wider new
+    → IsKeptWith steps capacity old → now ≡ steps → given ≡ refused old.caps (reverse steps) x → given ≡ None → IsAcceptedStep now x old reply out new_out cells new_cells new → pushed ≡ steps ++ x ∷ [] → capacity ≤ wider → IsKeptWith pushed wider new
 entered_kept old new steps now pushed capacity wider x reply out new_out cells new_cells given kept same exact is made push wide =
     let none : refused old.caps (reverse now) x ≡ None = ap (λ (ss : List Step). refused old.caps (reverse ss) x) same ∙ sym exact ∙ is in
     let caps : new.caps ≡ old.caps = made.stands.caps in
@@ -114,7 +114,7 @@ entered_kept old new steps now pushed capacity wider x reply out new_out cells n
     let limit : new.caps.log_limit ≡ old.caps.log_limit = ap (λ (d : Description). d.log_limit) caps in
     let longer : length pushed ≡ length steps + 1 = ap length push ∙ length-append steps (x ∷ []) in
     record {
-      stands = subst (λ d. StandsFor d (reverse pushed) new) (sym caps) (subst (λ (past : List Step). StandsFor old.caps past new) turned made.stands);
+      stands = subst (λ d. PresentStandsFor d (reverse pushed) new) (sym caps) (subst (λ (past : List Step). PresentStandsFor old.caps past new) turned made.stands);
       accepted = subst (λ d. IsHistory d (reverse pushed)) (sym caps) (subst (λ (past : List Step). IsHistory old.caps past) turned (subst (λ (ss : List Step). IsHistory old.caps (reverse ss)) (sym same) kept.accepted, none));
       within = omega (arith, below_limit old now x none, ap length same, longer, limit);
       room = omega (arith, kept.room, limit, wide);
@@ -129,7 +129,7 @@ accepted-enters d past x = by x
     by y = refl
 
 pub device_made : (old new : Present) (steps now pushed : List Step) (agains : ℕ) (v : DeviceView) (x : Step) (reply : Reply) (out new_out : List Taken) (cells new_cells : List ℤ) (given : Option Reply)
-    → (let seen : DeviceView = record { description = old.caps; past = reverse steps; agains = agains } in seen ≡ v) → now ≡ steps → given ≡ refused old.caps (reverse steps) x → given ≡ None → IsMade now x old reply out new_out cells new_cells new → pushed ≡ steps ++ x ∷ []
+    → (let seen : DeviceView = record { description = old.caps; past = reverse steps; agains = agains } in seen ≡ v) → now ≡ steps → given ≡ refused old.caps (reverse steps) x → given ≡ None → IsAcceptedStep now x old reply out new_out cells new_cells new → pushed ≡ steps ++ x ∷ []
     → IsDeviceStep v.description v.past x reply out new_out cells new_cells (reverse pushed)
 device_made old new steps now pushed agains v x reply out new_out cells new_cells given view same exact is made push =
     let none : refused old.caps (reverse now) x ≡ None = ap (λ (ss : List Step). refused old.caps (reverse ss) x) same ∙ sym exact ∙ is in
@@ -164,10 +164,10 @@ device_lacks old new steps now now_again agains v x e reply out new_out cells ne
 -- what is kept after it
 pub lacks_kept : (old new : Present) (steps now : List Step) (capacity : ℕ) (x : Step) (e : WantOfMemory) (out new_out : List Taken) (cells new_cells : List ℤ) → IsKeptWith steps capacity old → now ≡ steps → IsMadeOrLacks now x old (Err e) out new_out cells new_cells new → IsKeptWith steps capacity new
 lacks_kept old new steps now capacity x e out new_out cells new_cells kept same lacks =
-    let stands : StandsFor old.caps (reverse now) new = lacks.3 in
+    let stands : PresentStandsFor old.caps (reverse now) new = lacks.3 in
     let limit : new.caps.log_limit ≡ old.caps.log_limit = ap (λ (d : Description). d.log_limit) stands.caps in
     record {
-      stands = subst (λ d. StandsFor d (reverse steps) new) (sym stands.caps) (subst (λ (ss : List Step). StandsFor old.caps (reverse ss) new) same stands);
+      stands = subst (λ d. PresentStandsFor d (reverse steps) new) (sym stands.caps) (subst (λ (ss : List Step). PresentStandsFor old.caps (reverse ss) new) same stands);
       accepted = subst (λ d. IsHistory d (reverse steps)) (sym stands.caps) kept.accepted;
       within = omega (arith, kept.within, limit);
       room = omega (arith, kept.room, limit);

@@ -20,7 +20,7 @@ use Rattle.inp_model.specs.Raw.{raw}
 use Rattle.inp_model.specs.Left.{given_in}
 use Rattle.inp_model.specs.Queue as model
 use Rattle.inp_model.specs.Queue.{Entry, visible, queue, taken_by}
-use Rattle.inp_model.specs.Reply.{Answer, alone, accepted, done_answer, bits_answer, cells_answer, took_answer, words_of, code_on, axis_answer, taken_of, written, is_bad_client, is_no_device, finds_nothing}
+use Rattle.inp_model.specs.Reply.{Answer, alone, accepted, done_answer, bits_answer, cells_answer, took_answer, bitmap_of, code_on, axis_answer, taken_of, written, is_bad_client, is_no_device, finds_nothing}
 use Rattle.inp_frames.specs.Core.{CoreStandsFor, IsFor, IsEntered}
 use Rattle.inp_frames.proofs.Keeping.{makes_no_events}
 use Rattle.inp_handles.specs.Handles.{HandleState}
@@ -37,7 +37,7 @@ use Rattle.inp_client.specs.Clients.{has_client, has_revoked_client, events_of, 
 use Rattle.inp_client.specs.Read.{taken_event, client_on, clients_on}
 use Rattle.inp_client.proofs.OnClock.{clients_on-map_client, has_client-on, has_revoked_client-on, visible-on_clock, length-on, with_client-on}
 use Rattle.inp_client.proofs.ClientLists.{AllBelow, unused_above, with_client_above}
-use Rattle.inp_device.specs.Present.{client_after, clients_after, HasBits, AsksBits, StandsFor, IsReadyFor, IsMade}
+use Rattle.inp_device.specs.Present.{client_after, clients_after, HasBits, AsksBits, PresentStandsFor, IsReadyFor, IsAcceptedStep}
 use Rattle.inp_model.proofs.Opens.{opens-le}
 use Rattle.inp_device.proofs.Queues.{visible-map}
 use Rattle.inp_model.proofs.Allowed.{allowed, named_open}
@@ -54,7 +54,7 @@ pub call_on_clock : (d : Description) (client : ℕ) (change : ClientView Cell �
 call_on_clock d client change change' old same e = ap (clients_on d) e ∙ clients_on-map_client d client change change' same old
 
 -- a step that answers a reply alone
-pub made_alone : (history : List Step) (x : Step) (old new : Present) (reply is : Reply) → accepted old.caps (reverse history) x ≡ alone is → reply ≡ is → StandsFor old.caps (x ∷ reverse history) new → IsMade history x old reply [] [] [] [] new
+pub made_alone : (history : List Step) (x : Step) (old new : Present) (reply is : Reply) → accepted old.caps (reverse history) x ≡ alone is → reply ≡ is → PresentStandsFor old.caps (x ∷ reverse history) new → IsAcceptedStep history x old reply [] [] [] [] new
 made_alone history x old new reply is e r stands = record {
   replied = r ∙ ap (λ (a : Answer). a.reply) (sym e);
   out_written = ap (λ (a : Answer). written a.events []) (sym e);
@@ -82,7 +82,7 @@ named_events history x old client ready named =
 -- a call that asks the core for nothing, and opens no client
 pub called : (history : List Step) (x : Step) (old new : Present) → IsReadyFor history x old → makes_no_events x ≡ true → is_open_step x ≡ false → is_end_step x ≡ false
     → new.caps ≡ old.caps → new.core ≡ old.core → new.handler.caps ≡ old.handler.caps → new.handler.filters ≡ old.handler.filters → new.opens ≡ old.opens → new.ends ≡ old.ends
-    → clients_on old.caps new.handler.clients.list ≡ clients_after old.caps (x ∷ reverse history) → new.handles.holder ≡ holder (x ∷ reverse history) → StandsFor old.caps (x ∷ reverse history) new
+    → clients_on old.caps new.handler.clients.list ≡ clients_after old.caps (x ∷ reverse history) → new.handles.holder ≡ holder (x ∷ reverse history) → PresentStandsFor old.caps (x ∷ reverse history) new
 called history x old new ready none opening ending caps core handler filters opened ended clients grab =
     let past : List Step = reverse history in
     stands_called old.caps past x old new ready.stands (allowed old.caps past x ready.allowed) none
@@ -106,14 +106,14 @@ pub clients_same : (history : List Step) (x : Step) (old : Present) → IsReadyF
 clients_same history x old ready leaves = ready.stands.handler.clients ∙ sym (clients_after-left old.caps (reverse history) x leaves)
 
 -- a call that is done
-pub made_call : (history : List Step) (x : Step) (old new : Present) (reply : Reply) → accepted old.caps (reverse history) x ≡ done_answer (reverse history) → reply ≡ Done (length history) → StandsFor old.caps (x ∷ reverse history) new → IsMade history x old reply [] [] [] [] new
+pub made_call : (history : List Step) (x : Step) (old new : Present) (reply : Reply) → accepted old.caps (reverse history) x ≡ done_answer (reverse history) → reply ≡ Done (length history) → PresentStandsFor old.caps (x ∷ reverse history) new → IsAcceptedStep history x old reply [] [] [] [] new
 made_call history x old new reply e r stands = made_alone history x old new reply (Done (length (reverse history))) e (done_at history reply r) stands
 
 -- a step that may end frames
 pub made_frames : (history : List Step) (x : Step) (old new : Present) (begun : Handler) (reply : Reply) → IsReadyFor history x old → makes_events x ≡ true → accepted old.caps (reverse history) x ≡ done_answer (reverse history) → reply ≡ Done (length history)
     → begun ≡ record old.handler { place = length history; holder = old.handles.holder } → IsEntered old.caps (reverse history) x new.core takes begun new.handler → IsFor old.caps new.core
     → new.caps ≡ old.caps → new.handles.holder ≡ old.handles.holder → new.opens ≡ old.opens → new.ends ≡ old.ends
-    → leaves_grab x ≡ true → is_open_step x ≡ false → is_end_step x ≡ false → IsMade history x old reply [] [] [] [] new
+    → leaves_grab x ≡ true → is_open_step x ≡ false → is_end_step x ≡ false → IsAcceptedStep history x old reply [] [] [] [] new
 made_frames history x old new begun reply ready makes e r begins entered made caps handles opened ended grab opening ending =
     made_alone history x old new reply (Done (length (reverse history))) e (done_at history reply r)
     (stands_framed old.caps (reverse history) x old new begun ready.stands (allowed old.caps (reverse history) x ready.allowed) makes
@@ -123,7 +123,7 @@ made_frames history x old new begun reply ready makes e r begins entered made ca
 -- a step that changes the core alone, and ends no frame
 pub stands_in_core : (history : List Step) (x : Step) (old new : Present) → IsReadyFor history x old → leaves_clients x ≡ true → leaves_grab x ≡ true → is_open_step x ≡ false → is_end_step x ≡ false
     → new.caps ≡ old.caps → CoreStandsFor old.caps (x ∷ reverse history) new.core → IsFor old.caps new.core → new.handler ≡ old.handler → new.handles.holder ≡ old.handles.holder → new.opens ≡ old.opens → new.ends ≡ old.ends
-    → StandsFor old.caps (x ∷ reverse history) new
+    → PresentStandsFor old.caps (x ∷ reverse history) new
 stands_in_core history x old new ready leaves free opening ending caps core made handler grab opened ended =
     let past : List Step = reverse history in
     record {
@@ -138,7 +138,7 @@ stands_in_core history x old new ready leaves free opening ending caps core made
     }
 
 -- a source is done
-pub stands_ended : (history : List Step) (old new : Present) → IsReadyFor history End old → new.caps ≡ old.caps → new.core ≡ old.core → new.handler ≡ old.handler → new.handles.holder ≡ old.handles.holder → new.opens ≡ old.opens → new.ends ≡ old.ends + 1 → StandsFor old.caps (End ∷ reverse history) new
+pub stands_ended : (history : List Step) (old new : Present) → IsReadyFor history End old → new.caps ≡ old.caps → new.core ≡ old.core → new.handler ≡ old.handler → new.handles.holder ≡ old.handles.holder → new.opens ≡ old.opens → new.ends ≡ old.ends + 1 → PresentStandsFor old.caps (End ∷ reverse history) new
 stands_ended history old new ready caps core handler grab opened ended =
     let past : List Step = reverse history in
     let more : ends past + 1 ≡ suc (ends past) = omega arith in
@@ -217,8 +217,8 @@ discarded_at history old client removed ready chosen =
     ∙ ap (λ (n : ℕ). Discarded (length (reverse history)) n) (chosen ∙ visible_of history (Discard client) old client ready refl)
 
 -- a reply with what is written to the caller's buffers
-pub made_written : (history : List Step) (x : Step) (old new : Present) (given : Answer) (reply : Reply) (out new_out : List Taken) (cells new_cells : List ℤ) → accepted old.caps (reverse history) x ≡ given → reply ≡ given.reply → new_out ≡ written given.events out → new_cells ≡ written given.cells cells → StandsFor old.caps (x ∷ reverse history) new
-    → IsMade history x old reply out new_out cells new_cells new
+pub made_written : (history : List Step) (x : Step) (old new : Present) (given : Answer) (reply : Reply) (out new_out : List Taken) (cells new_cells : List ℤ) → accepted old.caps (reverse history) x ≡ given → reply ≡ given.reply → new_out ≡ written given.events out → new_cells ≡ written given.cells cells → PresentStandsFor old.caps (x ∷ reverse history) new
+    → IsAcceptedStep history x old reply out new_out cells new_cells new
 made_written history x old new given reply out new_out cells new_cells e r o k stands = record {
   replied = r ∙ ap (λ (a : Answer). a.reply) (sym e);
   out_written = o ∙ ap (λ (a : Answer). written a.events out) (sym e);
@@ -287,7 +287,7 @@ opens_few history old ready =
 
 pub made_open : (history : List Step) (old new : Present) (places : ℕ) → IsReadyFor history Open old → places ≡ ring old.caps → new.caps ≡ old.caps → new.core ≡ old.core → new.handler.caps ≡ old.handler.caps → new.handler.filters ≡ old.handler.filters
     → new.handler.clients.list ≡ with_client (new_client old.opens places) old.handler.clients.list → new.handles.holder ≡ old.handles.holder → new.opens ≡ old.opens + 1 → new.ends ≡ old.ends
-    → IsMade history Open old (Opened (length history) old.opens places) [] [] [] [] new
+    → IsAcceptedStep history Open old (Opened (length history) old.opens places) [] [] [] [] new
 made_open history old new places ready ringed caps core handler filters clients grab opened ended =
     let past : List Step = reverse history in
     let more : opens past + 1 ≡ suc (opens past) = omega arith in
@@ -315,8 +315,8 @@ made_open history old new places ready ringed caps core handler filters clients 
     }))
 
 -- nothing changed
-pub stands_same : (d : Description) (past : List Step) (old new : Present) → StandsFor d past old → new.caps ≡ old.caps → new.core ≡ old.core → new.handler.caps ≡ old.handler.caps → new.handler.filters ≡ old.handler.filters → new.handler.clients ≡ old.handler.clients
-    → new.handles.holder ≡ old.handles.holder → new.opens ≡ old.opens → new.ends ≡ old.ends → StandsFor d past new
+pub stands_same : (d : Description) (past : List Step) (old new : Present) → PresentStandsFor d past old → new.caps ≡ old.caps → new.core ≡ old.core → new.handler.caps ≡ old.handler.caps → new.handler.filters ≡ old.handler.filters → new.handler.clients ≡ old.handler.clients
+    → new.handles.holder ≡ old.handles.holder → new.opens ≡ old.opens → new.ends ≡ old.ends → PresentStandsFor d past new
 stands_same d past old new was caps core handler filters clients grab opened ended = record {
   caps = caps ∙ was.caps;
   core = subst (CoreStandsFor d past) (sym core) was.core;
@@ -356,8 +356,8 @@ kind_not_syn (GetLeds n) client kind asks e = absurd (omega (arith, e, codes EV_
 kind_not_syn (GetSounds n) client kind asks e = absurd (omega (arith, e, codes EV_SND kind asks.whole))
 kind_not_syn x client kind asks e = absurd (cc (asks.whole))
 
-pub bits_at : (history : List Step) (old : Present) (kind : ℕ) (words : List ℕ) → words ≡ words_of (code_on old.caps (raw old.caps (reverse history)) kind)
-    → Bits (length history) words ≡ Bits (length (reverse history)) (words_of (code_on old.caps (raw old.caps (reverse history)) kind))
+pub bits_at : (history : List Step) (old : Present) (kind : ℕ) (words : List ℕ) → words ≡ bitmap_of (code_on old.caps (raw old.caps (reverse history)) kind)
+    → Bits (length history) words ≡ Bits (length (reverse history)) (bitmap_of (code_on old.caps (raw old.caps (reverse history)) kind))
 bits_at history old kind words e = ap (λ (n : ℕ). Bits n words) (sym (length-reverse history)) ∙ ap (λ (ws : List ℕ). Bits (length (reverse history)) ws) e
 
 pub axis_at : (history : List Step) (old : Present) (code : ℕ) (given : AxisInfo) → given ≡ axis_answer old.caps (raw old.caps (reverse history)) code
@@ -383,11 +383,11 @@ slots_kept history x old count ready e = e ∙ sym ready.stands.made.slots
 
 -- The code's tests of a client
 
-pub bad_client : (d : Description) (past : List Step) (p : Present) (x : Step) (client : ℕ) (is : Bool) → StandsFor d past p → client_of x ≡ Some client → is ≡ has_client client p.handler.clients.list → not is ≡ is_bad_client past (client_of x)
+pub bad_client : (d : Description) (past : List Step) (p : Present) (x : Step) (client : ℕ) (is : Bool) → PresentStandsFor d past p → client_of x ≡ Some client → is ≡ has_client client p.handler.clients.list → not is ≡ is_bad_client past (client_of x)
 bad_client d past p x client is stands named test =
     ap not (test ∙ sym (has_client-on d client p.handler.clients.list) ∙ ap (has_client client) stands.handler.clients ∙ has_client-after d past client) ∙ sym (ap (is_bad_client past) named)
 
-open_there : (d : Description) (past : List Step) (p : Present) (client : ℕ) → StandsFor d past p → has_client client p.handler.clients.list ≡ true → is_open past client ≡ true
+open_there : (d : Description) (past : List Step) (p : Present) (client : ℕ) → PresentStandsFor d past p → has_client client p.handler.clients.list ≡ true → is_open past client ≡ true
 open_there d past p client stands there = sym (has_client-after d past client) ∙ ap (has_client client) (sym stands.handler.clients) ∙ has_client-on d client p.handler.clients.list ∙ there
 
 not_close : (x : Step) (client : ℕ) → ((n : ℕ) → x ≡ Close n → ⊥) → is_close_of client x ≡ false
@@ -398,7 +398,7 @@ and_true : (b : Bool) → (b && true) ≡ b
 and_true true = refl
 and_true false = refl
 
-pub no_device : (d : Description) (past : List Step) (p : Present) (x : Step) (client : ℕ) (is : Bool) → StandsFor d past p → client_of x ≡ Some client → has_client client p.handler.clients.list ≡ true → is ≡ has_revoked_client client p.handler.clients.list → ((n : ℕ) → x ≡ Close n → ⊥)
+pub no_device : (d : Description) (past : List Step) (p : Present) (x : Step) (client : ℕ) (is : Bool) → PresentStandsFor d past p → client_of x ≡ Some client → has_client client p.handler.clients.list ≡ true → is ≡ has_revoked_client client p.handler.clients.list → ((n : ℕ) → x ≡ Close n → ⊥)
     → is ≡ is_no_device past x (client_of x)
 no_device d past p x client is stands named there test other =
     test ∙ sym (has_revoked_client-on d client p.handler.clients.list) ∙ ap (has_revoked_client client) stands.handler.clients ∙ has_revoked_client-after d past client (open_there d past p client stands there)
@@ -406,7 +406,7 @@ no_device d past p x client is stands named there test other =
     ∙ ap (λ b. is_revoked past client && not b) (sym (not_close x client other))
     ∙ sym (ap (is_no_device past x) named)
 
-pub nothing_found : (d : Description) (past : List Step) (p : Present) (x : Step) (client count seen : ℕ) → StandsFor d past p → x ≡ Read client count → has_client client p.handler.clients.list ≡ true → seen ≡ visible event_of (events_of client p.handler.clients.list)
+pub nothing_found : (d : Description) (past : List Step) (p : Present) (x : Step) (client count seen : ℕ) → PresentStandsFor d past p → x ≡ Read client count → has_client client p.handler.clients.list ≡ true → seen ≡ visible event_of (events_of client p.handler.clients.list)
     → nat_eq seen 0 ≡ finds_nothing d past x
 nothing_found d past p x client count seen stands is there test =
     ap (λ (n : ℕ). nat_eq n 0)
@@ -417,7 +417,7 @@ nothing_found d past p x client count seen stands is there test =
 
 -- Before any step
 
-pub stands_first : (d : Description) (p : Present) → p.caps ≡ d → CoreStandsFor d [] p.core → IsFor d p.core → IsFreshHandler d p.handler → p.handles.holder ≡ None → p.opens ≡ 0 → p.ends ≡ 0 → StandsFor d [] p
+pub stands_first : (d : Description) (p : Present) → p.caps ≡ d → CoreStandsFor d [] p.core → IsFor d p.core → IsFreshHandler d p.handler → p.handles.holder ≡ None → p.opens ≡ 0 → p.ends ≡ 0 → PresentStandsFor d [] p
 unfolding opens ends holder mask_bit clock_of is_revoked given_in
 stands_first d p caps core made handler grab opened ended = record {
   caps = caps;

@@ -20,7 +20,7 @@ use Rattle.inp_filter.specs.FilterState.{FiltersStandFor}
 use Rattle.inp_client.specs.Read.{clients_on}
 use Rattle.inp_device.specs.declared.handler.Handler.{Handler}
 use Rattle.inp_device.specs.declared.present.Present.{Present}
-use Rattle.inp_device.specs.Present.{clients_after, MasksEnd, IsFresh, AreFresh, HandlerStandsFor, StandsFor}
+use Rattle.inp_device.specs.Present.{clients_after, MasksEnd, IsFresh, AreFresh, HandlerStandsFor, PresentStandsFor}
 use Rattle.inp_device.proofs.MaskWords.{MasksEnd-mask}
 use Rattle.inp_device.proofs.Offers.{after_offers}
 use Rattle.inp_device.proofs.Calls.{clients_after-frames, makes_events}
@@ -168,7 +168,7 @@ pub record Leaves (d : Description) (past : List Step) (x : Step) (old new : Pre
   pub opens : new.opens ≡ opens (x ∷ past)
   pub ends : new.ends ≡ ends (x ∷ past)
 
-pub stands_called : (d : Description) (past : List Step) (x : Step) (old new : Present) → StandsFor d past old → IsAllowed d past x → makes_no_events x ≡ true → Leaves d past x old new → StandsFor d (x ∷ past) new
+pub stands_called : (d : Description) (past : List Step) (x : Step) (old new : Present) → PresentStandsFor d past old → IsAllowed d past x → makes_no_events x ≡ true → Leaves d past x old new → PresentStandsFor d (x ∷ past) new
 stands_called d past x old new was ok none is = record {
   caps = is.caps ∙ was.caps;
   core = subst (CoreStandsFor d (x ∷ past)) (sym is.core) (CoreStandsFor-keeps d past x old.core none was.core);
@@ -181,10 +181,10 @@ stands_called d past x old new was ok none is = record {
 
 -- A step that may end frames
 
-pub stands_framed : (d : Description) (past : List Step) (x : Step) (old new : Present) (begun : Handler) → StandsFor d past old → IsAllowed d past x → makes_events x ≡ true
+pub stands_framed : (d : Description) (past : List Step) (x : Step) (old new : Present) (begun : Handler) → PresentStandsFor d past old → IsAllowed d past x → makes_events x ≡ true
     → begun ≡ record old.handler { place = length past; holder = old.handles.holder } → IsEntered d past x new.core takes begun new.handler → IsFor d new.core
     → new.caps ≡ old.caps → new.handles.holder ≡ old.handles.holder → new.opens ≡ old.opens → new.ends ≡ old.ends
-    → leaves_grab x ≡ true → is_open_step x ≡ false → is_end_step x ≡ false → StandsFor d (x ∷ past) new
+    → leaves_grab x ≡ true → is_open_step x ≡ false → is_end_step x ≡ false → PresentStandsFor d (x ∷ past) new
 stands_framed d past x old new begun was ok makes begins entered made caps handles opened ended grab opening ending =
     let filters : FiltersStandFor d.filters (given_in d past) begun.filters.kept =
     subst (λ (h : Handler). FiltersStandFor d.filters (given_in d past) h.filters.kept) (sym begins) was.handler.filters in

@@ -21,7 +21,7 @@ use Rattle.inp_device.specs.Present.{client_after, HandlerStandsFor}
 -- how long the queues are, as they are kept, and as they follow from the past
 lengths : (clients : List (ClientView Cell)) (d : Description) → map (λ c. length c.ring.events) clients ≡ map (λ (c : ClientView Taken). length c.ring.events) (clients_on d clients)
 lengths [] d = refl
-lengths (c ∷ clients) d = ap (λ n. n ∷ map (λ (c : ClientView Cell). length c.ring.events) clients) (sym (length-map c.ring.events (store.taken_of (offset d c.clock)))) ∙ ap (λ ns. length (client_on d c).ring.events ∷ ns) (lengths clients d)
+lengths (c ∷ clients) d = ap (λ n. n ∷ map (λ (c : ClientView Cell). length c.ring.events) clients) (sym (length-map c.ring.events (store.cell_taken (offset d c.clock)))) ∙ ap (λ ns. length (client_on d c).ring.events ∷ ns) (lengths clients d)
 
 lengths_after : (d : Description) (past : List Step) (ns : List ℕ) → map (λ (c : ClientView Taken). length c.ring.events) (map (client_after d past) ns) ≡ map (λ n. length (queue d past n)) ns
 lengths_after d past [] = refl

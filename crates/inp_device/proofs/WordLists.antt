@@ -12,7 +12,7 @@ use Rattle.inp_bits.specs.Bits.{word_bits}
 use Rattle.inp_bits.specs.Words.{number_of-word_bits}
 use Rattle.inp_bits.proofs.WordParts.{is_set-word}
 use Rattle.inp_model.proofs.Descriptions.{get_or-replicate}
-use Rattle.inp_model.specs.Reply.{number_of, word_of, words_of}
+use Rattle.inp_model.specs.Reply.{number_of_bits, bitmap_word, bitmap_of}
 
 pub map-same : {X : Type 0} → (x : X) (n : ℕ) (f g : ℕ → X) → ((k : ℕ) → k < n → f k ≡ g k) → map f (range_with_len 0 n) ≡ map g (range_with_len 0 n)
 map-same x n f g same =
@@ -20,7 +20,7 @@ map-same x n f g same =
     (λ i l. let h : i < n = omega (arith, length-map-range_with_len f 0 n) in
     get_or-map-range_with_len f 0 n i i x h (omega arith) ∙ same i h ∙ sym (get_or-map-range_with_len g 0 n i i x h (omega arith)))
 
-number_of-mask : (bits : List Bool) → mask_l bits ≡ number_of bits
+number_of-mask : (bits : List Bool) → mask_l bits ≡ number_of_bits bits
 number_of-mask [] = refl
 number_of-mask (bit ∷ bits) = ap (λ n. (if bit then 1 else 0) + 2 * n) (number_of-mask bits)
 
@@ -34,42 +34,42 @@ word_bits-values bits q word e =
     map-same false 64 (λ k. bit_at word k == 1) (λ k. value_at bits (64 * q + k)) (λ k h. sym (is_set-word bits q k (64 * q + k) word refl h e))
 
 -- a word of the list
-pub word-values : (bits : List Bool) (q word : ℕ) → word < 2 ^ 64 → word_bits word ≡ slice_range bits (64 * q) (64 * q + 64) → word ≡ word_of (value_at bits) (64 * q)
+pub word-values : (bits : List Bool) (q word : ℕ) → word < 2 ^ 64 → word_bits word ≡ slice_range bits (64 * q) (64 * q + 64) → word ≡ bitmap_word (value_at bits) (64 * q)
 word-values bits q word fits e =
-    sym (number_of-word_bits word fits) ∙ number_of-mask (word_bits word) ∙ ap number_of (word_bits-values bits q word e)
+    sym (number_of-word_bits word fits) ∙ number_of-mask (word_bits word) ∙ ap number_of_bits (word_bits-values bits q word e)
 
-zero_word : number_of (map (λ (k : ℕ). false) (range_with_len 0 64)) ≡ 0
+zero_word : number_of_bits (map (λ (k : ℕ). false) (range_with_len 0 64)) ≡ 0
 zero_word = refl
 
 -- past the end of the list the words are 0
-word-past : (bits : List Bool) (q : ℕ) → length bits ≤ 64 * q → word_of (value_at bits) (64 * q) ≡ 0
+word-past : (bits : List Bool) (q : ℕ) → length bits ≤ 64 * q → bitmap_word (value_at bits) (64 * q) ≡ 0
 word-past bits q h =
-    ap number_of (map-same false 64 (λ k. value_at bits (64 * q + k)) (λ k. false) (λ k l. get_or_past bits (64 * q + k) false (omega arith)))
+    ap number_of_bits (map-same false 64 (λ k. value_at bits (64 * q + k)) (λ k. false) (λ k l. get_or_past bits (64 * q + k) false (omega arith)))
     ∙ zero_word
 
 -- the words up to an index are those of the list, and the others are 0
 pub record AreWordsBelow (index : ℕ) (bits : List Bool) (words : List ℕ) : Type 0 where
   pub count : length words ≡ 12
-  pub below : (k : ℕ) → k < index → get_or words k 0 ≡ word_of (value_at bits) (64 * k)
+  pub below : (k : ℕ) → k < index → get_or words k 0 ≡ bitmap_word (value_at bits) (64 * k)
   pub others : (k : ℕ) → index ≤ k → get_or words k 0 ≡ 0
 
 pub no_words : (bits : List Bool) → AreWordsBelow 0 bits (replicate 12 0)
 no_words bits = record { count = refl; below = λ k l. absurd (omega arith); others = λ k l. get_or-replicate 12 k 0 }
 
-pub more_words : (index : ℕ) (bits : List Bool) (words : List ℕ) (word : ℕ) → index < 12 → word ≡ word_of (value_at bits) (64 * index) → AreWordsBelow index bits words → AreWordsBelow (index + 1) bits (set words index word)
+pub more_words : (index : ℕ) (bits : List Bool) (words : List ℕ) (word : ℕ) → index < 12 → word ≡ bitmap_word (value_at bits) (64 * index) → AreWordsBelow index bits words → AreWordsBelow (index + 1) bits (set words index word)
 more_words index bits words word h is are = record {
   count = length-set words index word ∙ are.count;
   below = λ k l. elim (cases_eq k index) [
-    | inl same ↦ ap (λ (n : ℕ). get_or (set words index word) n 0) same ∙ get_or-set_same words index word 0 (omega (arith, are.count)) ∙ is ∙ ap (λ (n : ℕ). word_of (value_at bits) (64 * n)) (sym same)
+    | inl same ↦ ap (λ (n : ℕ). get_or (set words index word) n 0) same ∙ get_or-set_same words index word 0 (omega (arith, are.count)) ∙ is ∙ ap (λ (n : ℕ). bitmap_word (value_at bits) (64 * n)) (sym same)
     | inr other ↦ get_or-set_other words index k word 0 other ∙ are.below k (omega arith)
   ];
   others = λ k l. get_or-set_other words index k word 0 (λ same. absurd (omega arith)) ∙ are.others k (omega arith);
 }
 
 -- the words of the whole list
-pub words-values : (index : ℕ) (bits : List Bool) (words : List ℕ) → length bits ≤ 64 * index → AreWordsBelow index bits words → words ≡ words_of (value_at bits)
+pub words-values : (index : ℕ) (bits : List Bool) (words : List ℕ) → length bits ≤ 64 * index → AreWordsBelow index bits words → words ≡ bitmap_of (value_at bits)
 words-values index bits words h are =
-    let f : ℕ → ℕ = λ w. word_of (value_at bits) (64 * w) in
+    let f : ℕ → ℕ = λ w. bitmap_word (value_at bits) (64 * w) in
     ext_get_or 0 words (map f (range_with_len 0 12)) (are.count ∙ sym (length-map-range_with_len f 0 12))
     (λ i l. let within : i < 12 = omega (arith, are.count) in
     elim (cases_lt i index) [
@@ -78,5 +78,5 @@ words-values index bits words h are =
     ])
 
 -- the words of a test that the list stands for
-pub words-same : (bits : List Bool) (test : ℕ → Bool) (words : List ℕ) → words ≡ words_of (value_at bits) → ((code : ℕ) → value_at bits code ≡ test code) → words ≡ words_of test
-words-same bits test words h same = h ∙ ap words_of (fun_ext same)
+pub words-same : (bits : List Bool) (test : ℕ → Bool) (words : List ℕ) → words ≡ bitmap_of (value_at bits) → ((code : ℕ) → value_at bits code ≡ test code) → words ≡ bitmap_of test
+words-same bits test words h same = h ∙ ap bitmap_of (fun_ext same)

@@ -70,7 +70,7 @@ pub record HandlerStandsFor (d : Description) (past : List Step) (h : Handler) :
   pub fresh : AreFresh past
 
 -- What is kept stands for a past, newest first.
-pub record StandsFor (d : Description) (past : List Step) (p : Present) : Type 0 where
+pub record PresentStandsFor (d : Description) (past : List Step) (p : Present) : Type 0 where
   pub caps : p.caps ≡ d
   pub core : CoreStandsFor d past p.core
   pub made : IsFor d p.core
@@ -81,22 +81,22 @@ pub record StandsFor (d : Description) (past : List Step) (p : Present) : Type 0
 
 -- what is kept stands for the history, oldest first, and nothing refuses the step
 pub record IsReadyFor (history : List Step) (x : Step) (p : Present) : Type 0 where
-  pub stands : StandsFor p.caps (reverse history) p
+  pub stands : PresentStandsFor p.caps (reverse history) p
   pub few : length history < LOG_MAX
   pub allowed : refused p.caps (reverse history) x ≡ None
 
 -- What a step that nothing refuses leaves: its reply, what is written to the caller's buffers, and what is kept.
-pub record IsMade (history : List Step) (x : Step) (old : Present) (reply : Reply) (out new_out : List Taken) (cells new_cells : List ℤ) (new : Present) : Type 0 where
+pub record IsAcceptedStep (history : List Step) (x : Step) (old : Present) (reply : Reply) (out new_out : List Taken) (cells new_cells : List ℤ) (new : Present) : Type 0 where
   pub replied : reply ≡ (accepted old.caps (reverse history) x).reply
   pub out_written : new_out ≡ written (accepted old.caps (reverse history) x).events out
   pub cells_written : new_cells ≡ written (accepted old.caps (reverse history) x).cells cells
-  pub stands : StandsFor old.caps (x ∷ reverse history) new
+  pub stands : PresentStandsFor old.caps (x ∷ reverse history) new
 
 -- the same, or it was an open for which memory ran out, and nothing changed
 abbrev pub IsMadeOrLacks : List Step → Step → Present → Result Reply NoMemory → List Taken → List Taken → List ℤ → List ℤ → Present → Type 0
-IsMadeOrLacks history x old (Ok reply) out new_out cells new_cells new = IsMade history x old reply out new_out cells new_cells new
+IsMadeOrLacks history x old (Ok reply) out new_out cells new_cells new = IsAcceptedStep history x old reply out new_out cells new_cells new
 IsMadeOrLacks history x old (Err e) out new_out cells new_cells new =
-    (x ≡ Open) × (new_out ≡ out) × (new_cells ≡ cells) × StandsFor old.caps (reverse history) new
+    (x ≡ Open) × (new_out ≡ out) × (new_cells ≡ cells) × PresentStandsFor old.caps (reverse history) new
 
 -- an open client is named, if one is
 abbrev pub NamesOpen : List (ClientView Cell) → Option ℕ → Type 0
@@ -114,7 +114,7 @@ pub record AsksBits (x : Step) (client kind : ℕ) : Type 0 where
 
 -- what is kept stands for the history, which has room for all that it may have
 pub record IsKeptWith (history : List Step) (capacity : ℕ) (p : Present) : Type 0 where
-  pub stands : StandsFor p.caps (reverse history) p
+  pub stands : PresentStandsFor p.caps (reverse history) p
   -- it holds accepted steps only
   pub accepted : IsHistory p.caps (reverse history)
   pub within : length history ≤ p.caps.log_limit

@@ -2,7 +2,7 @@
 ghost use Rattle.std.specs.Prelude.{◌≤◌, [], length};
 ghost use Rattle.inp_model.specs.declared.stamped.TheConstants.{MOMENT_MAX};
 ghost use Rattle.inp_model.specs.declared.step.Step.TheVariants.{Open, Close, Read, Discard, Grab, Ungrab, Mask, Clock as ToClock, Revoke, End};
-ghost use Rattle.inp_device.specs.Present.{IsReadyFor, IsMade, IsMadeOrLacks};
+ghost use Rattle.inp_device.specs.Present.{IsReadyFor, IsAcceptedStep, IsMadeOrLacks};
 
 use crate::present::Present;
 use crate::replies::done;
@@ -34,7 +34,7 @@ impl Present {
     /// A client is closed, which ends its grab.
     pub fn close(&mut self, history: &[Step], client: u32) -> Reply
         requires ready { IsReadyFor history.now (Close client) self.old }
-        ensures made { IsMade history.now (Close client) self.old result [] [] [] [] self.new }
+        ensures made { IsAcceptedStep history.now (Close client) self.old result [] [] [] [] self.new }
     {
         self.handles.release(client);
         self.handler.clients.close(client);
@@ -45,7 +45,7 @@ impl Present {
     pub fn read(&mut self, history: &[Step], client: u32, count: u32, out: &mut [Taken]) -> Reply
         requires room { count ≤ length out.old }
         requires ready { IsReadyFor history.now (Read client count) self.old }
-        ensures made { IsMade history.now (Read client count) self.old result out.old out.new [] []
+        ensures made { IsAcceptedStep history.now (Read client count) self.old result out.old out.new [] []
             self.new }
     {
         let clients = &mut self.handler.clients;
@@ -59,7 +59,7 @@ impl Present {
     /// A client removes what it can see, unread.
     pub fn discard(&mut self, history: &[Step], client: u32) -> Reply
         requires ready { IsReadyFor history.now (Discard client) self.old }
-        ensures made { IsMade history.now (Discard client) self.old result [] [] [] [] self.new }
+        ensures made { IsAcceptedStep history.now (Discard client) self.old result [] [] [] [] self.new }
     {
         let removed = self.handler.clients.discard(client);
         Reply::Discarded {
@@ -71,7 +71,7 @@ impl Present {
     /// A client takes the grab, which nobody holds.
     pub fn grab(&mut self, history: &[Step], client: u32) -> Reply
         requires ready { IsReadyFor history.now (Grab client) self.old }
-        ensures made { IsMade history.now (Grab client) self.old result [] [] [] [] self.new }
+        ensures made { IsAcceptedStep history.now (Grab client) self.old result [] [] [] [] self.new }
     {
         let _ = self.handles.grab(client);
         done(history)
@@ -80,7 +80,7 @@ impl Present {
     /// A client gives up the grab, which it holds.
     pub fn ungrab(&mut self, history: &[Step], client: u32) -> Reply
         requires ready { IsReadyFor history.now (Ungrab client) self.old }
-        ensures made { IsMade history.now (Ungrab client) self.old result [] [] [] [] self.new }
+        ensures made { IsAcceptedStep history.now (Ungrab client) self.old result [] [] [] [] self.new }
     {
         let _ = self.handles.ungrab(client);
         done(history)
@@ -96,7 +96,7 @@ impl Present {
         bits: u64,
     ) -> Reply
         requires ready { IsReadyFor history.now (Mask client kind word bits) self.old }
-        ensures made { IsMade history.now (Mask client kind word bits) self.old result [] [] [] []
+        ensures made { IsAcceptedStep history.now (Mask client kind word bits) self.old result [] [] [] []
             self.new }
     {
         self.handler.clients.set_mask(client, kind, word, bits);
@@ -107,7 +107,7 @@ impl Present {
     pub fn set_clock(&mut self, history: &[Step], client: u32, clock: Clock, now: u64) -> Reply
         requires moment { now ≤ MOMENT_MAX }
         requires ready { IsReadyFor history.now (ToClock client clock now) self.old }
-        ensures made { IsMade history.now (ToClock client clock now) self.old result [] [] [] []
+        ensures made { IsAcceptedStep history.now (ToClock client clock now) self.old result [] [] [] []
             self.new }
     {
         let at = history.len() as u32;
@@ -120,7 +120,7 @@ impl Present {
     /// A client loses the device, and the grab with it.
     pub fn revoke(&mut self, history: &[Step], client: u32) -> Reply
         requires ready { IsReadyFor history.now (Revoke client) self.old }
-        ensures made { IsMade history.now (Revoke client) self.old result [] [] [] [] self.new }
+        ensures made { IsAcceptedStep history.now (Revoke client) self.old result [] [] [] [] self.new }
     {
         self.handles.release(client);
         self.handler.clients.revoke(client);
@@ -130,7 +130,7 @@ impl Present {
     /// A source is done.
     pub fn end(&mut self, history: &[Step]) -> Reply
         requires ready { IsReadyFor history.now End self.old }
-        ensures made { IsMade history.now End self.old result [] [] [] [] self.new }
+        ensures made { IsAcceptedStep history.now End self.old result [] [] [] [] self.new }
     {
         self.ends += 1;
         done(history)

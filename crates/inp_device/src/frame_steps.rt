@@ -2,7 +2,7 @@
 ghost use Rattle.std.specs.Prelude.{◌≤◌, []};
 ghost use Rattle.inp_model.specs.declared.stamped.TheConstants.{MOMENT_MAX};
 ghost use Rattle.inp_model.specs.declared.step.Step.TheVariants.{Inject, Tick, Write, Inhibit, Uninhibit, SetAxis};
-ghost use Rattle.inp_device.specs.Present.{IsReadyFor, IsMade};
+ghost use Rattle.inp_device.specs.Present.{IsReadyFor, IsAcceptedStep};
 
 use crate::present::Present;
 use crate::replies::done;
@@ -13,7 +13,7 @@ impl Present {
     pub fn inject(&mut self, history: &[Step], event: Event, now: u64) -> Reply
         requires moment { now ≤ MOMENT_MAX }
         requires ready { IsReadyFor history.now (Inject event now) self.old }
-        ensures made { IsMade history.now (Inject event now) self.old result [] [] [] [] self.new }
+        ensures made { IsAcceptedStep history.now (Inject event now) self.old result [] [] [] [] self.new }
     {
         self.handler
             .begin(history.len() as u32, self.handles.holder());
@@ -25,7 +25,7 @@ impl Present {
     pub fn write(&mut self, history: &[Step], client: u32, event: Event, now: u64) -> Reply
         requires moment { now ≤ MOMENT_MAX }
         requires ready { IsReadyFor history.now (Write client event now) self.old }
-        ensures made { IsMade history.now (Write client event now) self.old result [] [] [] []
+        ensures made { IsAcceptedStep history.now (Write client event now) self.old result [] [] [] []
             self.new }
     {
         self.handler
@@ -38,7 +38,7 @@ impl Present {
     pub fn tick(&mut self, history: &[Step], now: u64) -> Reply
         requires moment { now ≤ MOMENT_MAX }
         requires ready { IsReadyFor history.now (Tick now) self.old }
-        ensures made { IsMade history.now (Tick now) self.old result [] [] [] [] self.new }
+        ensures made { IsAcceptedStep history.now (Tick now) self.old result [] [] [] [] self.new }
     {
         self.handler
             .begin(history.len() as u32, self.handles.holder());
@@ -50,7 +50,7 @@ impl Present {
     pub fn inhibit(&mut self, history: &[Step], now: u64) -> Reply
         requires moment { now ≤ MOMENT_MAX }
         requires ready { IsReadyFor history.now (Inhibit now) self.old }
-        ensures made { IsMade history.now (Inhibit now) self.old result [] [] [] [] self.new }
+        ensures made { IsAcceptedStep history.now (Inhibit now) self.old result [] [] [] [] self.new }
     {
         self.handler
             .begin(history.len() as u32, self.handles.holder());
@@ -61,7 +61,7 @@ impl Present {
     /// The device is no longer inhibited.
     pub fn uninhibit(&mut self, history: &[Step]) -> Reply
         requires ready { IsReadyFor history.now Uninhibit self.old }
-        ensures made { IsMade history.now Uninhibit self.old result [] [] [] [] self.new }
+        ensures made { IsAcceptedStep history.now Uninhibit self.old result [] [] [] [] self.new }
     {
         self.core.uninhibit();
         done(history)
@@ -69,7 +69,7 @@ impl Present {
     /// A client describes an axis anew. No event is passed.
     pub fn set_axis(&mut self, history: &[Step], client: u32, code: u16, info: AxisInfo) -> Reply
         requires ready { IsReadyFor history.now (SetAxis client code info) self.old }
-        ensures made { IsMade history.now (SetAxis client code info) self.old result [] [] [] []
+        ensures made { IsAcceptedStep history.now (SetAxis client code info) self.old result [] [] [] []
             self.new }
     {
         self.core.describe(code, info);

@@ -28,6 +28,7 @@
 //! its history. A `Step` has at most 40 bytes.
 #![tactic(auto)]
 
+mod bitmap;
 mod cells;
 mod client_steps;
 mod device;
@@ -40,7 +41,6 @@ mod queries;
 mod query_steps;
 mod refusals;
 mod replies;
-mod words;
 
 pub use device::Device;
 pub use replies::count_again;

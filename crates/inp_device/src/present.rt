@@ -3,7 +3,7 @@ ghost use Rattle.std.specs.Prelude.{◌≤◌, [], IfOk};
 ghost use Rattle.inp_model.specs.declared.stamped.TheConstants.{MOMENT_MAX};
 ghost use Rattle.inp_model.specs.Step.{moment_of};
 ghost use Rattle.inp_model.specs.Reply.{HasRoom};
-ghost use Rattle.inp_device.specs.Present.{StandsFor, IsReadyFor, IsMadeOrLacks};
+ghost use Rattle.inp_device.specs.Present.{PresentStandsFor, IsReadyFor, IsMadeOrLacks};
 
 use crate::handler::Handler;
 use inp_caps::Caps;
@@ -29,7 +29,7 @@ pub struct Present {
 impl Present {
     /// The state of a device that made no step.
     pub fn new(alloc: Global, caps: Caps) -> Result<Present, NoMemory>
-        ensures fresh { IfOk result (λ present. StandsFor caps [] present) }
+        ensures fresh { IfOk result (λ present. PresentStandsFor caps [] present) }
     {
         let core = Core::new(alloc, &caps)?;
         let handler = Handler::new(alloc, &caps)?;

@@ -3,11 +3,11 @@ ghost use Rattle.std.specs.Prelude.{◌≡◌, ◌≤◌, List};
 ghost use Rattle.inp_model.specs.declared.step.Step.{Step};
 ghost use Rattle.inp_model.specs.Description.{Description};
 ghost use Rattle.inp_model.specs.Raw.{raw};
-ghost use Rattle.inp_model.specs.Reply.{words_of, code_on, present_value, axis_answer};
+ghost use Rattle.inp_model.specs.Reply.{bitmap_of, code_on, present_value, axis_answer};
 ghost use Rattle.inp_frames.specs.Core.{CoreStandsFor};
 ghost use Rattle.inp_device.specs.Present.{HasBits};
 
-use crate::words::words_of;
+use crate::bitmap::bitmap_of;
 use inp_caps::Caps;
 use inp_frames::Core;
 use inp_model::{ABS_MAX, ABS_MT_SLOT, ABS_MT_TOOL_Y, AxisInfo, EV_ABS, EV_KEY, EV_LED, EV_SW};
@@ -26,19 +26,19 @@ const NO_INFO: AxisInfo = AxisInfo {
 pub fn bits(core: &Core, kind: u16) -> [u64; 12]
     requires kind { HasBits kind }
     ensures bits { (d : Description) (past : List Step) → CoreStandsFor d past core.now
-        → result ≡ words_of (code_on d (raw d past) kind) }
+        → result ≡ bitmap_of (code_on d (raw d past) kind) }
 {
     let state = core.state();
     if kind == EV_KEY {
-        return words_of(state.keys());
+        return bitmap_of(state.keys());
     }
     if kind == EV_SW {
-        return words_of(state.switches());
+        return bitmap_of(state.switches());
     }
     if kind == EV_LED {
-        return words_of(state.leds());
+        return bitmap_of(state.leds());
     }
-    words_of(state.sounds())
+    bitmap_of(state.sounds())
 }
 
 /// An axis as it was described last, with its present value. All numbers of an axis that is not supported are 0.

@@ -2,7 +2,7 @@
 ghost use Rattle.std.specs.Prelude.{◌≡◌, ◌≤◌, ◌*◌, [], length};
 ghost use Rattle.inp_model.specs.declared.limits.TheConstants.{LOG_MAX};
 ghost use Rattle.inp_model.specs.declared.step.Step.TheVariants.{GetAxis, GetSlots, SyncSlots};
-ghost use Rattle.inp_device.specs.Present.{IsReadyFor, IsMade, AsksBits};
+ghost use Rattle.inp_device.specs.Present.{IsReadyFor, IsAcceptedStep, AsksBits};
 
 use crate::cells::{VALUES, write_column, write_rows};
 use crate::present::Present;
@@ -14,7 +14,7 @@ impl Present {
     pub fn get_bits(&mut self, history: &[Step], step: Step, client: u32, kind: u16) -> Reply
         requires asks { AsksBits step client kind }
         requires ready { IsReadyFor history.now step self.old }
-        ensures made { IsMade history.now step self.old result [] [] [] [] self.new }
+        ensures made { IsAcceptedStep history.now step self.old result [] [] [] [] self.new }
     {
         let words = queries::bits(&self.core, kind);
         self.handler.clients.flush(client, kind);
@@ -27,7 +27,7 @@ impl Present {
     /// A client asks for an axis.
     pub fn get_axis(&mut self, history: &[Step], client: u32, code: u16) -> Reply
         requires ready { IsReadyFor history.now (GetAxis client code) self.old }
-        ensures made { IsMade history.now (GetAxis client code) self.old result [] [] [] []
+        ensures made { IsAcceptedStep history.now (GetAxis client code) self.old result [] [] [] []
             self.new }
     {
         Reply::Axis {
@@ -46,7 +46,7 @@ impl Present {
     ) -> Reply
         requires room { 14 * self.old.caps.slots ≤ length cells.old }
         requires ready { IsReadyFor history.now (GetSlots client code) self.old }
-        ensures made { IsMade history.now (GetSlots client code) self.old result [] [] cells.old
+        ensures made { IsAcceptedStep history.now (GetSlots client code) self.old result [] [] cells.old
             cells.new self.new }
     {
         let count = self.caps.slots();
@@ -58,7 +58,7 @@ impl Present {
     pub fn sync_slots(&mut self, history: &[Step], client: u32, cells: &mut [i32]) -> Reply
         requires room { 14 * self.old.caps.slots ≤ length cells.old }
         requires ready { IsReadyFor history.now (SyncSlots client) self.old }
-        ensures made { IsMade history.now (SyncSlots client) self.old result [] [] cells.old
+        ensures made { IsAcceptedStep history.now (SyncSlots client) self.old result [] [] cells.old
             cells.new self.new }
     {
         let count = self.caps.slots();

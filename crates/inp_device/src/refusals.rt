@@ -6,7 +6,7 @@ ghost use Rattle.inp_model.specs.Description.{Description, is_slot_code, is_fixe
 ghost use Rattle.inp_model.specs.Step.{client_of, is_same};
 ghost use Rattle.inp_model.specs.Past.{has_mask, mask_words};
 ghost use Rattle.inp_model.specs.Reply.{refused, is_bad_client, is_no_device, is_bad_kind, is_bad_code, is_bad_info, finds_nothing, is_busy, is_not_grabber, is_one_too_many, is_full};
-ghost use Rattle.inp_device.specs.Present.{StandsFor, NamesOpen};
+ghost use Rattle.inp_device.specs.Present.{PresentStandsFor, NamesOpen};
 
 use crate::present::Present;
 use crate::replies::refuse;
@@ -21,7 +21,7 @@ impl Present {
     /// place in the history.
     pub fn refusal(&self, history: &[Step], step: Step) -> Option<Reply>
         requires few { length history.now ≤ LOG_MAX }
-        requires stands { StandsFor self.now.caps (reverse history.now) self.now }
+        requires stands { PresentStandsFor self.now.caps (reverse history.now) self.now }
         ensures exact { result ≡ refused self.now.caps (reverse history.now) step }
     {
         if self.is_bad_client(step) {
@@ -62,7 +62,7 @@ impl Present {
 
     // Whether a client is named that is not open.
     fn is_bad_client(&self, step: Step) -> bool
-        ensures exact { (d : Description) (past : List Step) → StandsFor d past self.now
+        ensures exact { (d : Description) (past : List Step) → PresentStandsFor d past self.now
             → result ≡ is_bad_client past (client_of step) }
         ensures open { result ≡ false → NamesOpen self.now.handler.clients.list (client_of step) }
     {
@@ -75,7 +75,7 @@ impl Present {
     // Whether a client is named that was revoked, for another step than closing it.
     fn is_no_device(&self, step: Step) -> bool
         requires open { NamesOpen self.now.handler.clients.list (client_of step) }
-        ensures exact { (d : Description) (past : List Step) → StandsFor d past self.now
+        ensures exact { (d : Description) (past : List Step) → PresentStandsFor d past self.now
             → result ≡ is_no_device past step (client_of step) }
     {
         if let Step::Close { .. } = step {
@@ -116,7 +116,7 @@ impl Present {
     // Whether a read finds nothing visible.
     fn finds_nothing(&self, step: Step) -> bool
         requires open { NamesOpen self.now.handler.clients.list (client_of step) }
-        ensures exact { (d : Description) (past : List Step) → StandsFor d past self.now
+        ensures exact { (d : Description) (past : List Step) → PresentStandsFor d past self.now
             → result ≡ finds_nothing d past step }
     {
         match step {
@@ -127,7 +127,7 @@ impl Present {
 
     // Whether the grab is taken while a client holds it.
     fn is_busy(&self, step: Step) -> bool
-        ensures exact { (d : Description) (past : List Step) → StandsFor d past self.now
+        ensures exact { (d : Description) (past : List Step) → PresentStandsFor d past self.now
             → result ≡ is_busy past step }
     {
         match step {
@@ -138,7 +138,7 @@ impl Present {
 
     // Whether the grab is given up by a client that does not hold it.
     fn is_not_grabber(&self, step: Step) -> bool
-        ensures exact { (d : Description) (past : List Step) → StandsFor d past self.now
+        ensures exact { (d : Description) (past : List Step) → PresentStandsFor d past self.now
             → result ≡ is_not_grabber past step }
     {
         match step {
@@ -149,7 +149,7 @@ impl Present {
 
     // Whether a client is opened while as many are open as may be.
     fn is_one_too_many(&self, step: Step) -> bool
-        ensures exact { (d : Description) (past : List Step) → StandsFor d past self.now
+        ensures exact { (d : Description) (past : List Step) → PresentStandsFor d past self.now
             → result ≡ is_one_too_many past step }
     {
         match step {

@@ -7,7 +7,7 @@ use Rattle.inp_model.specs.declared.step.Step.{Step}
 use Rattle.inp_feedback.specs.declared.u_entry.UEntry.{UEntry}
 use Rattle.inp_feedback.specs.declared.u_entry.UEntry.TheVariants.{Made, Feedback}
 use Rattle.inp_feedback.specs.declared.feedback_call.FeedbackCall.{FeedbackCall}
-use Rattle.inp_feedback.specs.UEntry.{step_of, is_feedback, steps_in, feedback_count}
+use Rattle.inp_feedback.specs.UEntry.{step_made, is_feedback, steps_in, feedback_count}
 use Rattle.inp_feedback.specs.Kept.{kept_of, StandsWithin}
 
 -- one item more, in the other order
@@ -27,7 +27,7 @@ unfolding kept_of
 steps_in-kept_of past [] = steps-made past
 steps_in-kept_of past (call ∷ calls) =
     let later : ℕ = length past - call.at in
-    filter_map-append step_of (map Made (take later past)) (Feedback call.count ∷ kept_of (drop later past) calls)
+    filter_map-append step_made (map Made (take later past)) (Feedback call.count ∷ kept_of (drop later past) calls)
     ∙ ap (λ xs. xs ++ steps_in (kept_of (drop later past) calls)) (steps-made (take later past))
     ∙ ap (λ xs. take later past ++ xs) (steps_in-kept_of (drop later past) calls)
     ∙ take-append-drop later past

@@ -31,10 +31,10 @@ AreInOrder count [] = Unit {0}
 AreInOrder count (call ∷ calls) = (call.at ≤ count) × AreInOrder call.at calls
 
 -- feedback calls as numbers: of each, behind how many steps it stands, and how many events it took
-abbrev pub numbers_of : List FeedbackCall → List ℕ
-numbers_of [] = []
-numbers_of (call ∷ calls) = call.at ∷ call.count ∷ numbers_of calls
+abbrev pub feedback_numbers : List FeedbackCall → List ℕ
+feedback_numbers [] = []
+feedback_numbers (call ∷ calls) = call.at ∷ call.count ∷ feedback_numbers calls
 
 -- the numbers of the feedback calls of a kept list, newest first
 abbrev pub call_numbers : List UEntry → List ℕ
-call_numbers kept = numbers_of (calls_in kept)
+call_numbers kept = feedback_numbers (calls_in kept)

@@ -11,9 +11,9 @@ use Rattle.inp_feedback.specs.declared.u_entry.UEntry.{UEntry}
 use Rattle.inp_feedback.specs.declared.u_entry.UEntry.TheVariants.{Made, Feedback}
 
 -- the step that an entry is, if it is one
-abbrev pub step_of : UEntry → Option Step
-step_of (Made step) = Some step
-step_of (Feedback count) = None
+abbrev pub step_made : UEntry → Option Step
+step_made (Made step) = Some step
+step_made (Feedback count) = None
 
 -- it is a feedback call
 abbrev pub is_feedback : UEntry → Bool
@@ -22,7 +22,7 @@ is_feedback (Feedback count) = true
 
 -- the steps among entries, in the order of the entries
 abbrev pub steps_in : List UEntry → List Step
-steps_in kept = filter_map step_of kept
+steps_in kept = filter_map step_made kept
 
 -- how many feedback calls are kept
 abbrev pub feedback_count : List UEntry → ℕ

@@ -11,7 +11,7 @@ use Rattle.inp_model.specs.Past.{is_inhibited}
 use Rattle.inp_model.specs.Cut.{pending, cut_events, cuts, at_frame}
 use Rattle.inp_model.specs.Timer.{repeats_keys, first_timer, setting, timer_at_events}
 use Rattle.inp_model.specs.Raw.{raw, timer, raw_and_timer}
-use Rattle.inp_state.specs.State.{Values, StandsFor}
+use Rattle.inp_state.specs.State.{Values, StateStandsFor}
 use Rattle.inp_slots.specs.Slots.{SlotValues, SlotsStandFor}
 use Rattle.inp_frames.specs.declared.passed.Passed.{Passed}
 use Rattle.inp_frames.specs.Batch.{Waiting, events_of, are_frame}
@@ -107,7 +107,7 @@ cut-ends d r e h =
 -- the core
 
 -- before any step nothing waits, no key is held and the device is not inhibited
-pub stands-first : (d : Description) (state : Values) (slots : SlotValues) (w : Waiting) (t : Timer) → StandsFor d [] state → SlotsStandFor d [] slots → slots.at_frame ≡ pos 0 → w.events ≡ [] → w.hint ≡ d.hint → t ≡ first_timer
+pub stands-first : (d : Description) (state : Values) (slots : SlotValues) (w : Waiting) (t : Timer) → StateStandsFor d [] state → SlotsStandFor d [] slots → slots.at_frame ≡ pos 0 → w.events ≡ [] → w.hint ≡ d.hint → t ≡ first_timer
     → CoreStandsFor d [] (record { state = state; slots = slots; batch = w.events; hint = w.hint; timer = t; inhibited = false })
 unfolding pending at_frame raw timer raw_and_timer is_inhibited
 stands-first d state slots w t s k f e h first = record {
@@ -124,15 +124,15 @@ stands-first d state slots w t s k f e h first = record {
 
 -- what the code knows once what e passes is put behind the events that waited
 pub record Adds (d : Description) (r : List RawItem) (e : Event) (new : Values) (touched : SlotValues) (w : Waiting) : Type 0 where
-  pub state : StandsFor d (Occurred e ∷ r) new
+  pub state : StateStandsFor d (Occurred e ∷ r) new
   pub slots : SlotsStandFor d (Occurred e ∷ r) touched
   pub at_frame : touched.at_frame ≡ at_frame d r
   pub waits : WaitsBehind d r e w
 
 pub adds : (d : Description) (r : List RawItem) (e : Event) (old : CoreValues) (state : Values) (slots : SlotValues) (given : Passed) (w : Waiting) → StandsAfter d r old
-    → ((q : List RawItem) → StandsFor d q old.state → StandsFor d (Occurred e ∷ q) state)
+    → ((q : List RawItem) → StateStandsFor d q old.state → StateStandsFor d (Occurred e ∷ q) state)
     → ((q : List RawItem) → SlotsStandFor d q old.slots → SlotsStandFor d (Occurred e ∷ q) slots)
-    → ((q : List RawItem) → StandsFor d q old.state → SlotsStandFor d q old.slots → events_of given ≡ passed d q e)
+    → ((q : List RawItem) → StateStandsFor d q old.state → SlotsStandFor d q old.slots → events_of given ≡ passed d q e)
     → slots.at_frame ≡ old.slots.at_frame
     → w.events ≡ old.batch ++ events_of given → w.hint ≡ old.hint
     → Adds d r e state slots w
@@ -174,7 +174,7 @@ framed d r e w report given h p q =
     ∙ ap (λ (x : List Event). if is_report e then x else x ++ core_report ∷ []) h.events
 
 -- the timer after the frame, by the settings of the state at its end
-timer-ends : (d : Description) (r : List RawItem) (e : Event) (now : ℕ) (s : Values) (given : List Event) (t : Timer) → StandsFor d (Occurred e ∷ r) s → given ≡ frame_events d r e → cuts d r (Occurred e ∷ []) ≡ cut_of e r (frame_events d r e) ∷ [] → timer_at_frame d now s given t ≡ timer_after_cuts d now (cuts d r (Occurred e ∷ [])) t
+timer-ends : (d : Description) (r : List RawItem) (e : Event) (now : ℕ) (s : Values) (given : List Event) (t : Timer) → StateStandsFor d (Occurred e ∷ r) s → given ≡ frame_events d r e → cuts d r (Occurred e ∷ []) ≡ cut_of e r (frame_events d r e) ∷ [] → timer_at_frame d now s given t ≡ timer_after_cuts d now (cuts d r (Occurred e ∷ [])) t
 timer-ends d r e now s given t h g c =
     ap (λ (x : ℤ). if repeats_keys d then timer_at_events now (1000 * unsigned_abs x) (1000 * unsigned_abs s.period) given t else t) h.delay
     ∙ ap (λ (x : ℤ). if repeats_keys d then timer_at_events now (setting d (Occurred e ∷ r) REP_DELAY) (1000 * unsigned_abs x) given t else t) h.period

@@ -11,7 +11,7 @@ use Rattle.inp_model.specs.Cut.{cuts, pending, at_frame}
 use Rattle.inp_model.specs.Timer.{repeats_keys}
 use Rattle.inp_model.specs.Raw.{raw, timer, raw_of_step, raw_and_timer}
 use Rattle.inp_model.specs.Frame.{cuts_of_step}
-use Rattle.inp_state.specs.State.{Values, StandsFor}
+use Rattle.inp_state.specs.State.{Values, StateStandsFor}
 use Rattle.inp_slots.proofs.Others.{SlotsStandFor-described}
 use Rattle.inp_frames.specs.Core.{CoreValues, StandsAfter, CoreStandsFor}
 use Rattle.inp_frames.proofs.Handling.{either}
@@ -91,7 +91,7 @@ unfolding raw_of_step cuts
 cuts_of_step-described d past client code i = refl
 
 -- what waits, the slots and the slot of the last frame stay, and the state is as it is described
-StandsAfter-described : (d : Description) (r : List RawItem) (core : CoreValues) (code : ℕ) (i : AxisInfo) (state : Values) → StandsFor d (Described code i ∷ r) state → StandsAfter d r core → StandsAfter d (Described code i ∷ r) (record core { state = state })
+StandsAfter-described : (d : Description) (r : List RawItem) (core : CoreValues) (code : ℕ) (i : AxisInfo) (state : Values) → StateStandsFor d (Described code i ∷ r) state → StandsAfter d r core → StandsAfter d (Described code i ∷ r) (record core { state = state })
 unfolding pending at_frame
 StandsAfter-described d r core code i state new h = record {
   made = record { hint = h.made.hint; slots = h.made.slots };
@@ -109,7 +109,7 @@ timer-described : (d : Description) (past : List Step) (client code : ℕ) (i : 
 unfolding timer raw_and_timer cuts
 timer-described d past client code i = either (repeats_keys d) (raw_and_timer d past).timer
 
-pub CoreStandsFor-described : (d : Description) (past : List Step) (client code : ℕ) (i : AxisInfo) (core : CoreValues) (state : Values) → ((r : List RawItem) → StandsFor d r core.state → StandsFor d (Described code i ∷ r) state) → CoreStandsFor d past core → CoreStandsFor d (SetAxis client code i ∷ past) (record core { state = state })
+pub CoreStandsFor-described : (d : Description) (past : List Step) (client code : ℕ) (i : AxisInfo) (core : CoreValues) (state : Values) → ((r : List RawItem) → StateStandsFor d r core.state → StateStandsFor d (Described code i ∷ r) state) → CoreStandsFor d past core → CoreStandsFor d (SetAxis client code i ∷ past) (record core { state = state })
 unfolding is_inhibited
 CoreStandsFor-described d past client code i core state moves k = record {
   raw_events = subst (λ (r : List RawItem). StandsAfter d r (record core { state = state })) (sym (raw-described d past client code i))

@@ -10,7 +10,7 @@ use Rattle.inp_model.specs.Event.{core_report}
 use Rattle.inp_model.specs.State.{key_down}
 use Rattle.inp_model.specs.declared.event.TheConstants.{KEY_MAX}
 use Rattle.inp_model.specs.Raw.{has_contact, slot_release, slot_releases, key_release, key_releases, releases}
-use Rattle.inp_bits.specs.Bits.{is_set, true_indices}
+use Rattle.inp_bits.specs.Bits.{is_on_at, true_indices}
 use Rattle.inp_frames.specs.Handling.{lift_events, release_events}
 
 pub flat_map-append : (f : ℕ → List Event) (xs ys : List ℕ) → flat_map f (xs ++ ys) ≡ flat_map f xs ++ flat_map f ys
@@ -54,16 +54,16 @@ only_if : (x y : Bool) (es : List Event) → x ≡ y → (if x then es else []) 
 only_if x y es h = ap (λ b. if b then es else []) h
 
 -- the contacts, of a list that is true at just the slots that have one
-lifts : (d : Description) (r : List RawItem) (contacts : List Bool) → length contacts ≡ 256 → d.slots ≤ 256 → ((slot : ℕ) → slot < d.slots → is_set contacts slot ≡ has_contact d r slot) → ((slot : ℕ) → d.slots ≤ slot → is_set contacts slot ≡ false) → flat_map lift_events (true_indices contacts) ≡ slot_releases d r 0 d.slots
+lifts : (d : Description) (r : List RawItem) (contacts : List Bool) → length contacts ≡ 256 → d.slots ≤ 256 → ((slot : ℕ) → slot < d.slots → is_on_at contacts slot ≡ has_contact d r slot) → ((slot : ℕ) → d.slots ≤ slot → is_on_at contacts slot ≡ false) → flat_map lift_events (true_indices contacts) ≡ slot_releases d r 0 d.slots
 unfolding true_indices
 lifts d r contacts len few there past =
-    let f : ℕ → List Event = λ slot. if is_set contacts slot then lift_events slot else [] in
+    let f : ℕ → List Event = λ slot. if is_on_at contacts slot then lift_events slot else [] in
     let count : length contacts ≡ d.slots + (256 - d.slots) = omega arith in
     let behind : flat_map f (range_with_len (0 + d.slots) (256 - d.slots)) ≡ [] =
-    flat_map-none f (0 + d.slots) (256 - d.slots) (λ slot l. only_if (is_set contacts slot) false (lift_events slot) (past slot (omega arith))) in
+    flat_map-none f (0 + d.slots) (256 - d.slots) (λ slot l. only_if (is_on_at contacts slot) false (lift_events slot) (past slot (omega arith))) in
     let before : flat_map f (range_with_len 0 d.slots) ≡ slot_releases d r 0 d.slots =
-    flat_map-range f (slot_release d r) 0 d.slots (λ slot l u. only_if (is_set contacts slot) (has_contact d r slot) (lift_events slot) (there slot (omega arith))) in
-    flat_map-filter lift_events (is_set contacts) (range_with_len 0 (length contacts))
+    flat_map-range f (slot_release d r) 0 d.slots (λ slot l u. only_if (is_on_at contacts slot) (has_contact d r slot) (lift_events slot) (there slot (omega arith))) in
+    flat_map-filter lift_events (is_on_at contacts) (range_with_len 0 (length contacts))
     ∙ ap (λ (n : ℕ). flat_map f (range_with_len 0 n)) count
     ∙ ap (flat_map f) (range-split 0 d.slots (256 - d.slots))
     ∙ flat_map-append f (range_with_len 0 d.slots) (range_with_len (0 + d.slots) (256 - d.slots))
@@ -72,16 +72,16 @@ lifts d r contacts len few there past =
     ∙ before
 
 -- the keys, of a list that is true at just those that are down
-key_lifts : (d : Description) (r : List RawItem) (keys : List Bool) → length keys ≡ 768 → ((key : ℕ) → is_set keys key ≡ key_down d r key) → flat_map release_events (true_indices keys) ≡ key_releases d r 0 (KEY_MAX + 1)
+key_lifts : (d : Description) (r : List RawItem) (keys : List Bool) → length keys ≡ 768 → ((key : ℕ) → is_on_at keys key ≡ key_down d r key) → flat_map release_events (true_indices keys) ≡ key_releases d r 0 (KEY_MAX + 1)
 unfolding true_indices
 key_lifts d r keys len down =
-    let f : ℕ → List Event = λ key. if is_set keys key then release_events key else [] in
-    flat_map-filter release_events (is_set keys) (range_with_len 0 (length keys))
+    let f : ℕ → List Event = λ key. if is_on_at keys key then release_events key else [] in
+    flat_map-filter release_events (is_on_at keys) (range_with_len 0 (length keys))
     ∙ ap (λ (n : ℕ). flat_map f (range_with_len 0 n)) len
-    ∙ flat_map-range f (key_release d r) 0 768 (λ key l u. only_if (is_set keys key) (key_down d r key) (release_events key) (down key))
+    ∙ flat_map-range f (key_release d r) 0 768 (λ key l u. only_if (is_on_at keys key) (key_down d r key) (release_events key) (down key))
 
 -- all that an inhibition stands for
-pub releases-by : (d : Description) (r : List RawItem) (contacts keys : List Bool) → length contacts ≡ 256 → d.slots ≤ 256 → ((slot : ℕ) → slot < d.slots → is_set contacts slot ≡ has_contact d r slot) → ((slot : ℕ) → d.slots ≤ slot → is_set contacts slot ≡ false) → length keys ≡ 768 → ((key : ℕ) → is_set keys key ≡ key_down d r key) → (flat_map lift_events (true_indices contacts) ++ flat_map release_events (true_indices keys)) ++ core_report ∷ [] ≡ releases d r
+pub releases-by : (d : Description) (r : List RawItem) (contacts keys : List Bool) → length contacts ≡ 256 → d.slots ≤ 256 → ((slot : ℕ) → slot < d.slots → is_on_at contacts slot ≡ has_contact d r slot) → ((slot : ℕ) → d.slots ≤ slot → is_on_at contacts slot ≡ false) → length keys ≡ 768 → ((key : ℕ) → is_on_at keys key ≡ key_down d r key) → (flat_map lift_events (true_indices contacts) ++ flat_map release_events (true_indices keys)) ++ core_report ∷ [] ≡ releases d r
 releases-by d r contacts keys len few there past count down =
     ap (λ (es : List Event). (es ++ flat_map release_events (true_indices keys)) ++ core_report ∷ []) (lifts d r contacts len few there past)
     ∙ ap (λ (es : List Event). (slot_releases d r 0 d.slots ++ es) ++ core_report ∷ []) (key_lifts d r keys count down)

@@ -10,7 +10,7 @@ use Rattle.inp_model.specs.Past.{is_inhibited}
 use Rattle.inp_model.specs.Cut.{pending, at_frame}
 use Rattle.inp_model.specs.Raw.{raw, timer}
 use Rattle.inp_model.specs.Frame.{cuts_of_step}
-use Rattle.inp_state.specs.State.{Values, StandsFor}
+use Rattle.inp_state.specs.State.{Values, StateStandsFor}
 use Rattle.inp_slots.specs.Slots.{SlotValues, SlotsStandFor}
 use Rattle.inp_frames.specs.Frames.{TakesAll}
 
@@ -36,7 +36,7 @@ pub record IsFor (d : Description) (core : CoreValues) : Type 0 where
 -- on a device with this description its state, slots and batch are those after the items r, newest first
 pub record StandsAfter (d : Description) (r : List RawItem) (core : CoreValues) : Type 0 where
   pub made : IsFor d core
-  pub state : StandsFor d r core.state
+  pub state : StateStandsFor d r core.state
   pub slots : SlotsStandFor d r core.slots
   pub at_frame : core.slots.at_frame ≡ at_frame d r
   pub batch : core.batch ≡ pending d r

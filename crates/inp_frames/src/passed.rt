@@ -6,7 +6,7 @@ ghost use Rattle.inp_model.specs.RawItem.{RawItem, Occurred};
 ghost use Rattle.inp_model.specs.Event.{slot_event};
 ghost use Rattle.inp_model.specs.Passed.{passes_as, passed};
 ghost use Rattle.inp_caps.specs.Disposition.{flags_of, flags_after};
-ghost use Rattle.inp_state.specs.State.{StandsFor};
+ghost use Rattle.inp_state.specs.State.{StateStandsFor};
 ghost use Rattle.inp_slots.specs.Slots.{SlotsStandFor};
 ghost use Rattle.inp_frames.specs.Batch.{events_of};
 
@@ -28,11 +28,11 @@ pub(crate) struct Passed {
 /// Handles a raw event: the state or the slots take it in. Gives what is passed for it.
 pub(crate) fn handle(state: &mut State, slots: &mut Slots, caps: &Caps, event: Event) -> Passed
     requires count { length slots.old.slots ≡ caps.now.slots }
-    ensures state { (r : List RawItem) → StandsFor caps.now r state.old
-        → StandsFor caps.now (Occurred event ∷ r) state.new }
+    ensures state { (r : List RawItem) → StateStandsFor caps.now r state.old
+        → StateStandsFor caps.now (Occurred event ∷ r) state.new }
     ensures slots { (r : List RawItem) → SlotsStandFor caps.now r slots.old
         → SlotsStandFor caps.now (Occurred event ∷ r) slots.new }
-    ensures passed { (r : List RawItem) → StandsFor caps.now r state.old
+    ensures passed { (r : List RawItem) → StateStandsFor caps.now r state.old
         → SlotsStandFor caps.now r slots.old
         → events_of result ≡ passed caps.now r event }
     ensures count { length slots.new.slots ≡ length slots.old.slots }
@@ -45,14 +45,14 @@ pub(crate) fn handle(state: &mut State, slots: &mut Slots, caps: &Caps, event: E
 // Handles a raw event, and says what becomes of it, with the value to pass.
 fn apply(state: &mut State, slots: &mut Slots, caps: &Caps, event: Event) -> (Disposition, i32)
     requires count { length slots.old.slots ≡ caps.now.slots }
-    ensures state { (r : List RawItem) → StandsFor caps.now r state.old
-        → StandsFor caps.now (Occurred event ∷ r) state.new }
+    ensures state { (r : List RawItem) → StateStandsFor caps.now r state.old
+        → StateStandsFor caps.now (Occurred event ∷ r) state.new }
     ensures slots { (r : List RawItem) → SlotsStandFor caps.now r slots.old
         → SlotsStandFor caps.now (Occurred event ∷ r) slots.new }
-    ensures disposition { (r : List RawItem) → StandsFor caps.now r state.old
+    ensures disposition { (r : List RawItem) → StateStandsFor caps.now r state.old
         → SlotsStandFor caps.now r slots.old
         → flags_of result.0 ≡ flags_after caps.now r event }
-    ensures value { (r : List RawItem) → StandsFor caps.now r state.old
+    ensures value { (r : List RawItem) → StateStandsFor caps.now r state.old
         → SlotsStandFor caps.now r slots.old
         → result.1 ≡ unwrap_or (passes_as caps.now r event) event.value }
     ensures count { length slots.new.slots ≡ length slots.old.slots }

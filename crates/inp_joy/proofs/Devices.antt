@@ -11,7 +11,7 @@ use Rattle.inp_recon.specs.declared.view.View.{View}
 use Rattle.inp_recon.specs.Faithful.{IsDeviceState}
 use Rattle.inp_recon.specs.Synchronised.{has_axis}
 use Rattle.inp_joy.specs.Codes.{codes_among, buttons, axes}
-use Rattle.inp_joy.specs.JoyRecord.{cut}
+use Rattle.inp_joy.specs.JoyRecord.{within_16_bits}
 use Rattle.inp_joy.specs.Picture.{PictureView, up_to_64, picture_by, is_down_in, value_in, picture_of_view, picture_of_device}
 use Rattle.inp_joy.proofs.CodeLists.{axes-are}
 
@@ -54,6 +54,6 @@ map-axes {X = X} d f g same =
 pub device-pictured : (d : Description) (r : List RawItem) (v : View) → IsDeviceState d r v → picture_of_view d v ≡ picture_of_device d r
 unfolding picture_by
 device-pictured d r v h =
-    ap (λ (bs : List Bool). let p : PictureView = record { buttons = up_to_64 false bs; axes = up_to_64 (pos 0) (map (λ code. cut (value_in v code)) (axes d)) } in p) (map-all (is_down_in v) (key_down d r) (buttons d) h.keys)
+    ap (λ (bs : List Bool). let p : PictureView = record { buttons = up_to_64 false bs; axes = up_to_64 (pos 0) (map (λ code. within_16_bits (value_in v code)) (axes d)) } in p) (map-all (is_down_in v) (key_down d r) (buttons d) h.keys)
     ∙ ap (λ (zs : List ℤ). let p : PictureView = record { buttons = up_to_64 false (map (key_down d r) (buttons d)); axes = up_to_64 (pos 0) zs } in p)
-    (map-axes d (λ code. cut (value_in v code)) (λ code. cut (axis_value d r code)) (λ c is. ap (λ (z : ℤ). cut z) (h.axes c is)))
+    (map-axes d (λ code. within_16_bits (value_in v code)) (λ code. within_16_bits (axis_value d r code)) (λ c is. ap (λ (z : ℤ). within_16_bits z) (h.axes c is)))

@@ -10,9 +10,9 @@ use Rattle.inp_model.specs.Description.{Description, is_multi_touch_code}
 use Rattle.inp_model.specs.Event.{is_report, is_repeat, is_set, is_multi_touch}
 use Rattle.inp_recon.specs.declared.view.View.{View}
 use Rattle.inp_recon.specs.View.{keys_after_event, axes_after_event, with_flag, with_value_at, view_after_event}
-use Rattle.inp_joy.specs.Codes.{buttons, axes, number_of}
-use Rattle.inp_joy.specs.JoyRecord.{cut, button_record, axis_record}
-use Rattle.inp_joy.specs.Joying.{last_value, record_of_key, record_of_axis, record_of}
+use Rattle.inp_joy.specs.Codes.{buttons, axes, number_among}
+use Rattle.inp_joy.specs.JoyRecord.{within_16_bits, button_record, axis_record}
+use Rattle.inp_joy.specs.Joying.{last_value, record_of_key, record_of_axis, joy_record_of}
 use Rattle.inp_joy.specs.Picture.{PictureView, picture_after, picture_after_if, up_to_64, picture_by, picture_of_view}
 use Rattle.inp_joy.proofs.Pictures.{button-tells}
 use Rattle.inp_joy.proofs.Numbers.{occurs, buttons-once, buttons-within, axes-once, axes-within, map-same, IsSetAt, number-set, number-none, fill-set}
@@ -96,7 +96,7 @@ abbrev down_by : Description → List Bool → List Bool
 down_by d keys = up_to_64 false (map (λ code. slice_index_or keys code false) (buttons d))
 
 abbrev values_by : Description → List ℤ → List ℤ
-values_by d values = up_to_64 (pos 0) (map (λ code. cut (slice_index_or values code (pos 0))) (axes d))
+values_by d values = up_to_64 (pos 0) (map (λ code. within_16_bits (slice_index_or values code (pos 0))) (axes d))
 
 down-none : (d : Description) (keys : List Bool) (e : Event) → occurs e.code (buttons d) ≡ 0 → down_by d keys ≡ down_by d (keys_after_event keys e)
 down-none d keys e none =
@@ -105,10 +105,10 @@ down-none d keys e none =
 values-none : (d : Description) (values : List ℤ) (e : Event) → occurs e.code (axes d) ≡ 0 → values_by d values ≡ values_by d (axes_after_event values e)
 values-none d values e none =
     ap (λ (zs : List ℤ). up_to_64 (pos 0) zs)
-    (sym (map-same (λ code. cut (slice_index_or values code (pos 0))) (λ code. cut (slice_index_or (axes_after_event values e) code (pos 0))) e.code (axes d) none (λ c h. ap (λ (z : ℤ). cut z) (axis-other values e c h))))
+    (sym (map-same (λ code. within_16_bits (slice_index_or values code (pos 0))) (λ code. within_16_bits (slice_index_or (axes_after_event values e) code (pos 0))) e.code (axes d) none (λ c h. ap (λ (z : ℤ). within_16_bits z) (axis-other values e c h))))
 
 -- a button that was pressed or released
-down-set : (d : Description) (keys : List Bool) (e : Event) (number : ℕ) → length keys ≡ 768 → nat_eq e.kind EV_KEY ≡ true → is_repeat e ≡ false → number_of e.code (buttons d) ≡ Some number → set (down_by d keys) number (is_set e) ≡ down_by d (keys_after_event keys e)
+down-set : (d : Description) (keys : List Bool) (e : Event) (number : ℕ) → length keys ≡ 768 → nat_eq e.kind EV_KEY ≡ true → is_repeat e ≡ false → number_among e.code (buttons d) ≡ Some number → set (down_by d keys) number (is_set e) ≡ down_by d (keys_after_event keys e)
 down-set d keys e number long is once at =
     let f : ℕ → Bool = λ code. slice_index_or keys code false in
     let g : ℕ → Bool = λ code. slice_index_or (keys_after_event keys e) code false in
@@ -120,22 +120,22 @@ down-set d keys e number long is once at =
 
 -- an axis that moved
 record Moved (d : Description) (values : List ℤ) (e : Event) (number : ℕ) : Type 0 where
-  set_is : set (values_by d values) number (cut e.value) ≡ values_by d (axes_after_event values e)
+  set_is : set (values_by d values) number (within_16_bits e.value) ≡ values_by d (axes_after_event values e)
   -- its cut value may be as before
-  same_is : cut e.value ≡ slice_index_or (values_by d values) number (pos 0) → values_by d values ≡ values_by d (axes_after_event values e)
+  same_is : within_16_bits e.value ≡ slice_index_or (values_by d values) number (pos 0) → values_by d values ≡ values_by d (axes_after_event values e)
 
-values-set : (d : Description) (values : List ℤ) (e : Event) (number : ℕ) → length values ≡ 64 → nat_eq e.kind EV_ABS ≡ true → number_of e.code (axes d) ≡ Some number → Moved d values e number
+values-set : (d : Description) (values : List ℤ) (e : Event) (number : ℕ) → length values ≡ 64 → nat_eq e.kind EV_ABS ≡ true → number_among e.code (axes d) ≡ Some number → Moved d values e number
 values-set d values e number long is at =
-    let f : ℕ → ℤ = λ code. cut (slice_index_or values code (pos 0)) in
-    let g : ℕ → ℤ = λ code. cut (slice_index_or (axes_after_event values e) code (pos 0)) in
-    let s : IsSetAt f g e.code (axes d) number = number-set f g e.code number (axes d) (axes-once d e.code) (λ c h. ap (λ (z : ℤ). cut z) (axis-other values e c h)) at in
+    let f : ℕ → ℤ = λ code. within_16_bits (slice_index_or values code (pos 0)) in
+    let g : ℕ → ℤ = λ code. within_16_bits (slice_index_or (axes_after_event values e) code (pos 0)) in
+    let s : IsSetAt f g e.code (axes d) number = number-set f g e.code number (axes d) (axes-once d e.code) (λ c h. ap (λ (z : ℤ). within_16_bits z) (axis-other values e c h)) at in
     let place : (e.code < 47) ⊎ ((62 ≤ e.code) × (e.code < 64)) = axes-within d e.code s.occurring in
-    let new : g e.code ≡ cut e.value =
-    ap (λ (zs : List ℤ). cut (slice_index_or zs e.code (pos 0))) (axes-set values e is (single e.code place))
-    ∙ ap (λ (z : ℤ). cut z) (at-same 64 values e.code e.value (pos 0) long (within e.code place)) in
+    let new : g e.code ≡ within_16_bits e.value =
+    ap (λ (zs : List ℤ). within_16_bits (slice_index_or zs e.code (pos 0))) (axes-set values e is (single e.code place))
+    ∙ ap (λ (z : ℤ). within_16_bits z) (at-same 64 values e.code e.value (pos 0) long (within e.code place)) in
     let there : number < length (map f (axes d)) = omega (arith, s.within, length-map (axes d) f) in
-    let filled : values_by d (axes_after_event values e) ≡ set (values_by d values) number (cut e.value) =
-    fill-set (pos 0) (cut e.value) (map f (axes d)) (map g (axes d)) number there (s.is_set_at ∙ ap (λ (z : ℤ). set (map f (axes d)) number z) new) in
+    let filled : values_by d (axes_after_event values e) ≡ set (values_by d values) number (within_16_bits e.value) =
+    fill-set (pos 0) (within_16_bits e.value) (map f (axes d)) (map g (axes d)) number there (s.is_set_at ∙ ap (λ (z : ℤ). set (map f (axes d)) number z) new) in
     record {
       set_is = sym filled;
       same_is = λ same. sym (filled ∙ ap (λ (z : ℤ). set (values_by d values) number z) same ∙ set-get_or (values_by d values) number (pos 0));
@@ -160,7 +160,7 @@ no_key : (e : Event) → nat_eq e.kind EV_KEY ≡ false → nat_eq e.kind EV_KEY
 no_key e off = ap (λ (b : Bool). b && not (is_repeat e)) off
 
 -- a key
-after-key : (d : Description) (v : View) (taken : Taken) (o : Option ℕ) → length v.keys ≡ 768 → nat_eq taken.event.kind EV_KEY ≡ true → nat_eq taken.event.kind EV_ABS ≡ false → number_of taken.event.code (buttons d) ≡ o → picture_after_if (of_view d v) (record_of_key o taken) ≡ of_view_after d v taken.event
+after-key : (d : Description) (v : View) (taken : Taken) (o : Option ℕ) → length v.keys ≡ 768 → nat_eq taken.event.kind EV_KEY ≡ true → nat_eq taken.event.kind EV_ABS ≡ false → number_among taken.event.code (buttons d) ≡ o → picture_after_if (of_view d v) (record_of_key o taken) ≡ of_view_after d v taken.event
 unfolding picture_after
 after-key d v taken None long is off at =
     same-parts _ _ _ _ (down-none d v.keys taken.event (number-none taken.event.code (buttons d) at)) (axes-stay d v taken.event off)
@@ -177,11 +177,11 @@ after-key d v taken (Some number) long is off at = by_repeat (is_repeat taken.ev
     by_repeat false once = pressed once
 
 -- an axis
-after-axis : (d : Description) (v : View) (taken : Taken) (o : Option ℕ) → length v.axes ≡ 64 → nat_eq taken.event.kind EV_ABS ≡ true → nat_eq taken.event.kind EV_KEY ≡ false → number_of taken.event.code (axes d) ≡ o → picture_after_if (of_view d v) (record_of_axis (of_view d v) o taken) ≡ of_view_after d v taken.event
+after-axis : (d : Description) (v : View) (taken : Taken) (o : Option ℕ) → length v.axes ≡ 64 → nat_eq taken.event.kind EV_ABS ≡ true → nat_eq taken.event.kind EV_KEY ≡ false → number_among taken.event.code (axes d) ≡ o → picture_after_if (of_view d v) (record_of_axis (of_view d v) o taken) ≡ of_view_after d v taken.event
 unfolding picture_after
 after-axis d v taken None long is off at =
     same-parts _ _ _ _ (keys-stay d v taken.event (no_key taken.event off)) (values-none d v.axes taken.event (number-none taken.event.code (axes d) at))
-after-axis d v taken (Some number) long is off at = by_value (int_eq (cut taken.event.value) (last_value (of_view d v) number)) refl
+after-axis d v taken (Some number) long is off at = by_value (int_eq (within_16_bits taken.event.value) (last_value (of_view d v) number)) refl
   where
     moved : Moved d v.axes taken.event number
     moved = values-set d v.axes taken.event number long is at
@@ -189,19 +189,19 @@ after-axis d v taken (Some number) long is off at = by_value (int_eq (cut taken.
     told_anew : picture_after (of_view d v) (axis_record number taken) ≡ of_view_after d v taken.event
     told_anew = same-parts _ _ _ _ (keys-stay d v taken.event (no_key taken.event off)) moved.set_is
 
-    by_value : (b : Bool) → int_eq (cut taken.event.value) (last_value (of_view d v) number) ≡ b → picture_after_if (of_view d v) (if b then None else Some (axis_record number taken)) ≡ of_view_after d v taken.event
-    by_value true same = same-parts _ _ _ _ (keys-stay d v taken.event (no_key taken.event off)) (moved.same_is ((Decides-int_eq (cut taken.event.value) (last_value (of_view d v) number)).0 same))
+    by_value : (b : Bool) → int_eq (within_16_bits taken.event.value) (last_value (of_view d v) number) ≡ b → picture_after_if (of_view d v) (if b then None else Some (axis_record number taken)) ≡ of_view_after d v taken.event
+    by_value true same = same-parts _ _ _ _ (keys-stay d v taken.event (no_key taken.event off)) (moved.same_is ((Decides-int_eq (within_16_bits taken.event.value) (last_value (of_view d v) number)).0 same))
     by_value false other = told_anew
 
 -- any event
 after-kind : (d : Description) (v : View) (taken : Taken) (key abs : Bool) → length v.keys ≡ 768 → length v.axes ≡ 64 → nat_eq taken.event.kind EV_KEY ≡ key → nat_eq taken.event.kind EV_ABS ≡ abs
-    → picture_after_if (of_view d v) (if key then record_of_key (number_of taken.event.code (buttons d)) taken else if abs then record_of_axis (of_view d v) (number_of taken.event.code (axes d)) taken else None) ≡ of_view_after d v taken.event
+    → picture_after_if (of_view d v) (if key then record_of_key (number_among taken.event.code (buttons d)) taken else if abs then record_of_axis (of_view d v) (number_among taken.event.code (axes d)) taken else None) ≡ of_view_after d v taken.event
 after-kind d v taken true true keys_long axes_long is_key is_abs = absurd (grind (arith, nat_tests, is_key, is_abs))
-after-kind d v taken true false keys_long axes_long is_key is_abs = after-key d v taken (number_of taken.event.code (buttons d)) keys_long is_key is_abs refl
-after-kind d v taken false true keys_long axes_long is_key is_abs = after-axis d v taken (number_of taken.event.code (axes d)) axes_long is_abs is_key refl
+after-kind d v taken true false keys_long axes_long is_key is_abs = after-key d v taken (number_among taken.event.code (buttons d)) keys_long is_key is_abs refl
+after-kind d v taken false true keys_long axes_long is_key is_abs = after-axis d v taken (number_among taken.event.code (axes d)) axes_long is_abs is_key refl
 after-kind d v taken false false keys_long axes_long is_key is_abs = same-parts _ _ _ _ (keys-stay d v taken.event (no_key taken.event is_key)) (axes-stay d v taken.event is_abs)
 
-pub event-pictured : (d : Description) (v : View) (taken : Taken) → length v.keys ≡ 768 → length v.axes ≡ 64 → picture_after_if (picture_of_view d v) (record_of d (picture_of_view d v) taken) ≡ picture_of_view d (view_after_event v taken.event)
+pub event-pictured : (d : Description) (v : View) (taken : Taken) → length v.keys ≡ 768 → length v.axes ≡ 64 → picture_after_if (picture_of_view d v) (joy_record_of d (picture_of_view d v) taken) ≡ picture_of_view d (view_after_event v taken.event)
 unfolding picture_by view_after_event
 event-pictured d v taken keys_long axes_long = after-kind d v taken (nat_eq taken.event.kind EV_KEY) (nat_eq taken.event.kind EV_ABS) keys_long axes_long refl refl
 
@@ -210,8 +210,8 @@ both-first : (b c : Bool) → b && c ≡ true → b ≡ true
 both-first true c h = refl
 both-first false c h = h
 
-pub report-none : (d : Description) (p : PictureView) (taken : Taken) → is_report taken.event ≡ true → record_of d p taken ≡ None
+pub report-none : (d : Description) (p : PictureView) (taken : Taken) → is_report taken.event ≡ true → joy_record_of d p taken ≡ None
 report-none d p taken h =
     let syn : nat_eq taken.event.kind EV_SYN ≡ true = both-first (nat_eq taken.event.kind EV_SYN) (nat_eq taken.event.code SYN_REPORT) h in
     let is : taken.event.kind ≡ 0 = grind (arith, nat_tests, syn) in
-    ap (λ (kind : ℕ). if nat_eq kind EV_KEY then record_of_key (number_of taken.event.code (buttons d)) taken else if nat_eq kind EV_ABS then record_of_axis p (number_of taken.event.code (axes d)) taken else None) is
+    ap (λ (kind : ℕ). if nat_eq kind EV_KEY then record_of_key (number_among taken.event.code (buttons d)) taken else if nat_eq kind EV_ABS then record_of_axis p (number_among taken.event.code (axes d)) taken else None) is

@@ -12,8 +12,8 @@ use Rattle.inp_joy.specs.declared.joy_read.JoyRead.TheVariants.{Frame, More}
 use Rattle.inp_joy.specs.declared.joy_record.JoyRecord.{JoyRecord}
 use Rattle.inp_joy.specs.declared.turn_end.TurnEnd.{TurnEnd}
 use Rattle.inp_joy.specs.declared.turn_end.TurnEnd.TheVariants.{Hands, Stops, GoesOn}
-use Rattle.inp_joy.specs.Joying.{Joying, Turn, gives, goes_on, hand_out_record, stop_with, stop_of, is_lost, record_of, record_or_on, after_next}
-use Rattle.inp_joy.specs.Kept.{turn_of, IsTurnEndLess}
+use Rattle.inp_joy.specs.Joying.{Joying, Turn, gives, goes_on, hand_out_record, stop_with, joy_read_of, is_lost, joy_record_of, record_or_on, joying_after_next}
+use Rattle.inp_joy.specs.Kept.{turn_of_end, IsTurnEndLess}
 use Rattle.inp_joy.specs.Reads.{IsReadLess}
 
 -- what is said of a turn's end, of the turn itself
@@ -21,16 +21,16 @@ abbrev IsTurnLess : Turn → ℕ → ℕ → Type 0
 IsTurnLess (gives answer) after before = IsReadLess answer.read after before
 IsTurnLess (goes_on j) after before = after < before
 
-outcome-less : (k : Joying) (outcome : TurnEnd) (turn : Turn) (after before : ℕ) → turn_of outcome k ≡ turn → IsTurnLess turn after before → IsTurnEndLess outcome after before
+outcome-less : (k : Joying) (outcome : TurnEnd) (turn : Turn) (after before : ℕ) → turn_of_end outcome k ≡ turn → IsTurnLess turn after before → IsTurnEndLess outcome after before
 outcome-less k outcome turn after before is h = by_outcome outcome (subst (λ (t : Turn). IsTurnLess t after before) (sym is) h)
   where
-    by_outcome : (o : TurnEnd) → IsTurnLess (turn_of o k) after before → IsTurnEndLess o after before
+    by_outcome : (o : TurnEnd) → IsTurnLess (turn_of_end o k) after before → IsTurnEndLess o after before
     by_outcome (Hands r) less = tt
     by_outcome (Stops read) less = less
     by_outcome GoesOn less = less
 
 -- a record of the startup
-pub startup-less : (j k : Joying) (r : JoyRecord) (outcome : TurnEnd) (after before : ℕ) → turn_of outcome k ≡ gives (hand_out_record j r) → IsTurnEndLess outcome after before
+pub startup-less : (j k : Joying) (r : JoyRecord) (outcome : TurnEnd) (after before : ℕ) → turn_of_end outcome k ≡ gives (hand_out_record j r) → IsTurnEndLess outcome after before
 startup-less j k r outcome after before is = outcome-less k outcome (gives (hand_out_record j r)) after before is tt
 
 -- an answer of the reader that stops a turn
@@ -38,10 +38,10 @@ abbrev IsStopLess : Option JoyRead → ℕ → ℕ → Type 0
 IsStopLess None after before = Unit {0}
 IsStopLess (Some read) after before = IsReadLess read after before
 
-pub stop-less : (next : Next) (read : JoyRead) (after before : ℕ) → Some read ≡ stop_of next → IsTurnEndLess (Stops read) after before
+pub stop-less : (next : Next) (read : JoyRead) (after before : ℕ) → Some read ≡ joy_read_of next → IsTurnEndLess (Stops read) after before
 stop-less next read after before is = subst (λ (o : Option JoyRead). IsStopLess o after before) (sym is) (by_next next)
   where
-    by_next : (n : Next) → IsStopLess (stop_of n) after before
+    by_next : (n : Next) → IsStopLess (joy_read_of n) after before
     by_next (NothingVisible at ends) = tt
     by_next Revoked = tt
     by_next NotOpen = tt
@@ -56,12 +56,12 @@ record_or_on-less : (j : Joying) (o : Option JoyRecord) (after before : ℕ) →
 record_or_on-less j None after before h = h
 record_or_on-less j (Some r) after before h = tt
 
-after_next-less : (d : Description) (j : Joying) (next : Next) (after before : ℕ) → IsLess next after before → IsTurnLess (after_next d j next) after before
+after_next-less : (d : Description) (j : Joying) (next : Next) (after before : ℕ) → IsLess next after before → IsTurnLess (joying_after_next d j next) after before
 after_next-less d j (Success taken) after before h = by_flag (is_report taken.event)
   where
-    by_flag : (b : Bool) → IsTurnLess (if b then gives (stop_with (Frame taken.place) j) else record_or_on j (record_of d j.picture taken)) after before
+    by_flag : (b : Bool) → IsTurnLess (if b then gives (stop_with (Frame taken.place) j) else record_or_on j (joy_record_of d j.picture taken)) after before
     by_flag true = h
-    by_flag false = record_or_on-less j (record_of d j.picture taken) after before h
+    by_flag false = record_or_on-less j (joy_record_of d j.picture taken) after before h
 after_next-less d j (Dropped taken) after before h = h
 after_next-less d j (Sync event) after before h = h
 after_next-less d j Synced after before h = h
@@ -70,8 +70,8 @@ after_next-less d j Revoked after before h = tt
 after_next-less d j NotOpen after before h = tt
 after_next-less d j (FullHistory at) after before h = tt
 
-pub next-less : (d : Description) (j k : Joying) (next : Next) (outcome : TurnEnd) (after before : ℕ) → turn_of outcome k ≡ after_next d j next → IsLess next after before → IsTurnEndLess outcome after before
-next-less d j k next outcome after before is h = outcome-less k outcome (after_next d j next) after before is (after_next-less d j next after before h)
+pub next-less : (d : Description) (j k : Joying) (next : Next) (outcome : TurnEnd) (after before : ℕ) → turn_of_end outcome k ≡ joying_after_next d j next → IsLess next after before → IsTurnEndLess outcome after before
+next-less d j k next outcome after before is h = outcome-less k outcome (joying_after_next d j next) after before is (after_next-less d j next after before h)
 
 -- one that lost some
 pub lost-less : (next : Next) (after before : ℕ) → is_lost next ≡ true → IsLess next after before → after < before

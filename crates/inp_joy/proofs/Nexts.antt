@@ -23,11 +23,12 @@ use Rattle.inp_reader.specs.declared.next.Next.{Next}
 use Rattle.inp_reader.specs.declared.next.Next.TheVariants.{Success, Dropped, Sync, Again, Synced, NoDevice, Closed, Full}
 use Rattle.inp_reader.specs.declared.started.Started.{Started}
 use Rattle.inp_reader.specs.declared.started.Started.TheVariants.{Opened as StartedOn, Refused}
-use Rattle.inp_reader.specs.Reading.{Reading, start_stop_of, after_queries, after_open, start_talk, ask_each, queries, stop_of as reader_stop, hand_out_event, hand_out, is_dropped, after_read, read_or_hand_out, read_talk, as_plain, handing, hand_synthesised, after_full_sync, after_failed_sync, go_on, go_on_after, sync_talk, talk_in, next_talk}
+use Rattle.inp_recon.specs.Synchronised.{is_dropped}
+use Rattle.inp_reader.specs.Reading.{Reading, start_stop_of, after_queries, after_open, start_talk, ask_each, queries, stop_of as reader_stop, hand_out_event, hand_out, after_read, read_or_hand_out, read_talk, as_plain, handing, hand_synthesised, after_full_sync, after_failed_sync, go_on, go_on_after, sync_talk, talk_in, next_talk}
 use Rattle.inp_reader.specs.Standing.{is_needed}
 use Rattle.inp_reader.specs.Talk.{Talk, finish, and_then, LeadsTo, EndsWith}
 use Rattle.inp_reader.proofs.Calls.{IsSplit, split-and_then, finished, AreAccepted}
-use Rattle.inp_joy.specs.Joying.{stop_of, is_lost}
+use Rattle.inp_joy.specs.Joying.{joy_read_of, is_lost}
 
 -- In Normal mode, where no synchronisation is needed
 
@@ -150,29 +151,29 @@ accepted-none : (calls : List Call) → calls ≡ [] → AreAccepted calls
 unfolding AreAccepted
 accepted-none calls e = subst (λ (cs : List Call). AreAccepted cs) (sym e) tt
 
-stops-refused : (at : ℕ) (why : Refusal) → stop_of (reader_stop (StepRefused at why)) ≡ None → ⊥
+stops-refused : (at : ℕ) (why : Refusal) → joy_read_of (reader_stop (StepRefused at why)) ≡ None → ⊥
 stops-refused at Revoked h = cc
 stops-refused at LogFull h = cc
 stops-refused at _ h = cc
 
-stops : (reply : Reply) → stop_of (reader_stop reply) ≡ None → ⊥
+stops : (reply : Reply) → joy_read_of (reader_stop reply) ≡ None → ⊥
 stops (NothingVisible at ends) h = cc
 stops (StepRefused at why) h = stops-refused at why h
 stops _ h = cc
 
-accepted-queued : (r : Reading) (queue : List Taken) (calls : List Call) (result : Next × Reading) → stop_of result.0 ≡ None → EndsWith (read_or_hand_out r queue) calls result → AreAccepted calls
+accepted-queued : (r : Reading) (queue : List Taken) (calls : List Call) (result : Next × Reading) → joy_read_of result.0 ≡ None → EndsWith (read_or_hand_out r queue) calls result → AreAccepted calls
 unfolding LeadsTo AreAccepted
 accepted-queued r [] [] result goes h = absurd cc
 accepted-queued r [] (call ∷ calls) result goes h =
     let f : (calls ≡ []) × (after_read r call.answer ≡ result) = finished (after_read r call.answer) result calls h.1 in
-    (by_flag (is_accepted call.answer.reply) refl (ap (λ (o : Next × Reading). stop_of o.0) f.1 ∙ goes), accepted-none calls f.0)
+    (by_flag (is_accepted call.answer.reply) refl (ap (λ (o : Next × Reading). joy_read_of o.0) f.1 ∙ goes), accepted-none calls f.0)
   where
-    by_flag : (b : Bool) → is_accepted call.answer.reply ≡ b → (let o : Next × Reading = if b then hand_out r call.answer.events else (reader_stop call.answer.reply, r) in stop_of o.0 ≡ None) → is_accepted call.answer.reply ≡ true
+    by_flag : (b : Bool) → is_accepted call.answer.reply ≡ b → (let o : Next × Reading = if b then hand_out r call.answer.events else (reader_stop call.answer.reply, r) in joy_read_of o.0 ≡ None) → is_accepted call.answer.reply ≡ true
     by_flag true is k = is
     by_flag false is k = absurd (stops call.answer.reply k)
 accepted-queued r (taken ∷ rest) calls result goes h = accepted-none calls (finished (hand_out_event r taken rest) result calls h).0
 
-accepted-read : (r : Reading) (calls : List Call) (result : Next × Reading) → stop_of result.0 ≡ None → EndsWith (read_talk r) calls result → AreAccepted calls
+accepted-read : (r : Reading) (calls : List Call) (result : Next × Reading) → joy_read_of result.0 ≡ None → EndsWith (read_talk r) calls result → AreAccepted calls
 unfolding read_talk
 accepted-read r calls result goes h = accepted-queued r r.queue calls result goes h
 
@@ -189,30 +190,30 @@ accepted-asked (x ∷ xs) view asked (call ∷ calls) h =
     accepted-if true is talk first told more go k = (is, go k)
     accepted-if false is talk first told more go k = let f : (more ≡ []) × (Err first.answer.reply ≡ Ok told) = finished (Err first.answer.reply) (Ok told) more k in absurd (let no = f.1 in cc)
 
-accepted-go_on : (mode : Mode) (r : Reading) (calls : List Call) (result : Next × Reading) → stop_of result.0 ≡ None → EndsWith (go_on mode r) calls result → AreAccepted calls
+accepted-go_on : (mode : Mode) (r : Reading) (calls : List Call) (result : Next × Reading) → joy_read_of result.0 ≡ None → EndsWith (go_on mode r) calls result → AreAccepted calls
 accepted-go_on Normal r calls result goes h = accepted-read (as_plain r) calls result goes h
 accepted-go_on Synchronising r calls result goes h = accepted-none calls (finished (handing r) result calls h).0
 
-accepted-after : (mode : Mode) (r : Reading) (xs : List Step) (asked : Result View Reply) (first later : List Call) (result : Next × Reading) → stop_of result.0 ≡ None → EndsWith (ask_each xs r.view) first asked → EndsWith (go_on_after mode r asked) later result → AreAccepted (first ++ later)
+accepted-after : (mode : Mode) (r : Reading) (xs : List Step) (asked : Result View Reply) (first later : List Call) (result : Next × Reading) → joy_read_of result.0 ≡ None → EndsWith (ask_each xs r.view) first asked → EndsWith (go_on_after mode r asked) later result → AreAccepted (first ++ later)
 accepted-after mode r xs (Ok view) first later result goes k h = accepted-append first later (accepted-asked xs r.view view first k) (accepted-go_on mode (after_full_sync r view) later result goes h)
 accepted-after mode r xs (Err reply) first later result goes k h =
     let o : Next × Reading = (reader_stop reply, after_failed_sync r) in
-    absurd (stops reply (ap (λ (p : Next × Reading). stop_of p.0) (finished o result later h).1 ∙ goes))
+    absurd (stops reply (ap (λ (p : Next × Reading). joy_read_of p.0) (finished o result later h).1 ∙ goes))
 
-accepted-needed : (d : Description) (mode : Mode) (r : Reading) (calls : List Call) (result : Next × Reading) → stop_of result.0 ≡ None → EndsWith (and_then (sync_talk d r) (go_on_after mode r)) calls result → AreAccepted calls
+accepted-needed : (d : Description) (mode : Mode) (r : Reading) (calls : List Call) (result : Next × Reading) → joy_read_of result.0 ≡ None → EndsWith (and_then (sync_talk d r) (go_on_after mode r)) calls result → AreAccepted calls
 unfolding sync_talk
 accepted-needed d mode r calls result goes h =
     let xs : List Step = Discard r.client ∷ queries d r.client in
     let s : IsSplit (ask_each xs r.view) (go_on_after mode r) calls result = split-and_then (ask_each xs r.view) (go_on_after mode r) calls result h in
     subst (λ (cs : List Call). AreAccepted cs) (sym s.calls_are) (accepted-after mode r xs s.between s.first s.later result goes s.first_ends s.later_ends)
 
-accepted-in : (d : Description) (mode : Mode) (phase : Phase) (r : Reading) (calls : List Call) (result : Next × Reading) → stop_of result.0 ≡ None → EndsWith (talk_in d mode phase r) calls result → AreAccepted calls
+accepted-in : (d : Description) (mode : Mode) (phase : Phase) (r : Reading) (calls : List Call) (result : Next × Reading) → joy_read_of result.0 ≡ None → EndsWith (talk_in d mode phase r) calls result → AreAccepted calls
 accepted-in d Normal Plain r calls result goes h = accepted-read r calls result goes h
 accepted-in d Synchronising Plain r calls result goes h = accepted-none calls (finished (Synced, r) result calls h).0
 accepted-in d mode Needed r calls result goes h = accepted-needed d mode r calls result goes h
 accepted-in d mode Handing r calls result goes h = accepted-go_on mode r calls result goes h
 
-pub next-accepted : (d : Description) (mode : Mode) (r : Reading) (calls : List Call) (result : Next × Reading) → stop_of result.0 ≡ None → EndsWith (next_talk d mode r) calls result → AreAccepted calls
+pub next-accepted : (d : Description) (mode : Mode) (r : Reading) (calls : List Call) (result : Next × Reading) → joy_read_of result.0 ≡ None → EndsWith (next_talk d mode r) calls result → AreAccepted calls
 next-accepted d mode r calls result goes h = accepted-in d mode r.phase r calls result goes h
 
 -- after lost events a synchronisation is needed

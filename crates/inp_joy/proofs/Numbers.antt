@@ -6,7 +6,7 @@ use Rattle.std.proofs.lemmas.Iterator.Adapters.{position_from-zero}
 use Rattle.std.proofs.lemmas.List.{set-append_left, length-set}
 use Rattle.inp_model.specs.declared.event.TheConstants.{EV_KEY, EV_ABS}
 use Rattle.inp_model.specs.Description.{Description, supports}
-use Rattle.inp_joy.specs.Codes.{codes_among, buttons, axes, number_of}
+use Rattle.inp_joy.specs.Codes.{codes_among, buttons, axes, number_among}
 use Rattle.inp_joy.specs.Picture.{up_to_64}
 use Rattle.inp_joy.proofs.CodeLists.{axes-are}
 
@@ -185,16 +185,16 @@ none-from code (c ∷ cs) i h = by_flag (nat_eq c code) h (λ k. none-from code 
     by_flag true k rest = absurd cc
     by_flag false k rest = rest k
 
-number-from : (code : ℕ) (codes : List ℕ) → number_of code codes ≡ position_from (λ c. nat_eq c code) 0 codes
+number-from : (code : ℕ) (codes : List ℕ) → number_among code codes ≡ position_from (λ c. nat_eq c code) 0 codes
 number-from code codes = position_from-zero (λ c. nat_eq c code) codes
 
-pub number-set : {X : Type 0} (f g : ℕ → X) (code number : ℕ) (codes : List ℕ) → occurs code codes ≤ 1 → ((c : ℕ) → nat_eq c code ≡ false → g c ≡ f c) → number_of code codes ≡ Some number → IsSetAt f g code codes number
+pub number-set : {X : Type 0} (f g : ℕ → X) (code number : ℕ) (codes : List ℕ) → occurs code codes ≤ 1 → ((c : ℕ) → nat_eq c code ≡ false → g c ≡ f c) → number_among code codes ≡ Some number → IsSetAt f g code codes number
 number-set f g code number codes once same h =
     let r : (k : ℕ) × (number ≡ 0 + k) × IsSetAt f g code codes k = set-from f g code codes 0 number once same (sym (number-from code codes) ∙ h) in
     let e : r.0 ≡ number = omega (arith, r.1) in
     subst (λ (k : ℕ). IsSetAt f g code codes k) e r.2
 
-pub number-none : (code : ℕ) (codes : List ℕ) → number_of code codes ≡ None → occurs code codes ≡ 0
+pub number-none : (code : ℕ) (codes : List ℕ) → number_among code codes ≡ None → occurs code codes ≡ 0
 number-none code codes h = none-from code codes 0 (sym (number-from code codes) ∙ h)
 
 -- The same of a list that is filled up

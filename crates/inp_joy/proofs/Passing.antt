@@ -9,13 +9,13 @@ use Rattle.inp_model.specs.Leaves.{AreCalls}
 use Rattle.inp_model.specs.Run.{Call}
 use Rattle.inp_model.proofs.Leaves.{AreCalls-append}
 use Rattle.inp_reader.specs.declared.call_made.CallMade.{CallMade}
-use Rattle.inp_reader.specs.Says.{Says, made_of}
+use Rattle.inp_reader.specs.Says.{Says, calls_kept}
 use Rattle.inp_reader.specs.Talk.{Talk, finish, LeadsTo, EndsWith}
 use Rattle.inp_reader.proofs.Talks.{LeadsTo-append, LeadsTo-and_then, made_of-append}
 use Rattle.inp_joy.specs.declared.turn_end.TurnEnd.{TurnEnd}
 use Rattle.inp_joy.specs.declared.turn_end.TurnEnd.TheVariants.{Hands, Stops, GoesOn}
 use Rattle.inp_joy.specs.Joying.{Joying, JoyAnswer, Turn, goes_on, is_startup_over, is_long, turn_talk, with_count, after_turn, turns}
-use Rattle.inp_joy.specs.Kept.{answer_of, turn_of, is_end, IsTurnEndLess, agains_after_turn, HasTurned}
+use Rattle.inp_joy.specs.Kept.{answer_of_turn, turn_of_end, is_end, IsTurnEndLess, agains_after_turn, HasTurned}
 use Rattle.inp_joy.proofs.Counting.{count_after, with_count-ends, count-kept}
 use Rattle.inp_joy.proofs.TurnEnds.{turn-accepted}
 
@@ -25,7 +25,7 @@ pub record Passed (before now : EvdevView) (d : Description) (start here : Joyin
   pub calls : List Call
   pub leads : (n m : ℕ) → m ≡ count + n → LeadsTo (turns d m 0 start) calls (turns d n (length made) here)
   pub are_calls : AreCalls before now calls
-  pub kept : made ≡ made_of calls
+  pub kept : made ≡ calls_kept calls
 
 pub passed-none : (told : EvdevView) (d : Description) (start : Joying) (made : List CallMade) → made ≡ [] → Passed told told d start start made
 unfolding LeadsTo AreCalls
@@ -47,29 +47,29 @@ one_turn d here turn n count calls h =
     LeadsTo-and_then (with_count (turn_talk d here) count) (finish (count_after calls count, turn)) next calls (with_count-ends (turn_talk d here) calls turn count h)
 
 -- a turn after which no other one follows
-ended : (d : Description) (go_on : ℕ → Joying → Talk (Option JoyAnswer)) (n : ℕ) (outcome : TurnEnd) (j : Joying) → is_end d outcome j n ≡ true → after_turn d go_on n (turn_of outcome j) ≡ finish (Some (answer_of outcome j))
+ended : (d : Description) (go_on : ℕ → Joying → Talk (Option JoyAnswer)) (n : ℕ) (outcome : TurnEnd) (j : Joying) → is_end d outcome j n ≡ true → after_turn d go_on n (turn_of_end outcome j) ≡ finish (Some (answer_of_turn outcome j))
 ended d go_on n (Hands r) j h = refl
 ended d go_on n (Stops read) j h = refl
-ended d go_on n GoesOn j h = ap (λ (b : Bool). if b then finish (Some (answer_of GoesOn j)) else go_on n j) h
+ended d go_on n GoesOn j h = ap (λ (b : Bool). if b then finish (Some (answer_of_turn GoesOn j)) else go_on n j) h
 
 -- another one
-goes : (d : Description) (go_on : ℕ → Joying → Talk (Option JoyAnswer)) (n : ℕ) (outcome : TurnEnd) (j : Joying) → is_end d outcome j n ≡ false → after_turn d go_on n (turn_of outcome j) ≡ go_on n j
+goes : (d : Description) (go_on : ℕ → Joying → Talk (Option JoyAnswer)) (n : ℕ) (outcome : TurnEnd) (j : Joying) → is_end d outcome j n ≡ false → after_turn d go_on n (turn_of_end outcome j) ≡ go_on n j
 goes d go_on n (Hands r) j h = absurd (true≢false h)
 goes d go_on n (Stops read) j h = absurd (true≢false h)
-goes d go_on n GoesOn j h = ap (λ (b : Bool). if b then finish (Some (answer_of GoesOn j)) else go_on n j) h
+goes d go_on n GoesOn j h = ap (λ (b : Bool). if b then finish (Some (answer_of_turn GoesOn j)) else go_on n j) h
 
-went-on : (d : Description) (outcome : TurnEnd) (j : Joying) (n : ℕ) → is_end d outcome j n ≡ false → turn_of outcome j ≡ goes_on j
+went-on : (d : Description) (outcome : TurnEnd) (j : Joying) (n : ℕ) → is_end d outcome j n ≡ false → turn_of_end outcome j ≡ goes_on j
 went-on d (Hands r) j n h = absurd (true≢false h)
 went-on d (Stops read) j n h = absurd (true≢false h)
 went-on d GoesOn j n h = refl
 
 -- the count of the calls that were accepted is that of those that were kept
-with_count-kept : (d : Description) (here next : Joying) (calls : List Call) (made new : List CallMade) → EndsWith (turn_talk d here) calls (goes_on next) → new ≡ made ++ made_of calls → count_after calls (length made) ≡ length new
+with_count-kept : (d : Description) (here next : Joying) (calls : List Call) (made new : List CallMade) → EndsWith (turn_talk d here) calls (goes_on next) → new ≡ made ++ calls_kept calls → count_after calls (length made) ≡ length new
 with_count-kept d here next calls made new h kept =
-    count-kept calls (length made) (turn-accepted d here next calls h) ∙ sym (ap length kept ∙ length-append made (made_of calls))
+    count-kept calls (length made) (turn-accepted d here next calls h) ∙ sym (ap length kept ∙ length-append made (calls_kept calls))
 
 -- after a turn that goes on
-pub passed-more : (before between after : EvdevView) (d : Description) (start here next : Joying) (made new : List CallMade) (outcome : TurnEnd) → Passed before between d start here made → Says between after made new (turn_talk d here) (turn_of outcome next) → is_end d outcome next (length new) ≡ false → Passed before after d start next new
+pub passed-more : (before between after : EvdevView) (d : Description) (start here next : Joying) (made new : List CallMade) (outcome : TurnEnd) → Passed before between d start here made → Says between after made new (turn_talk d here) (turn_of_end outcome next) → is_end d outcome next (length new) ≡ false → Passed before after d start next new
 passed-more before between after d start here next made new outcome s h on =
     let ends : EndsWith (turn_talk d here) h.calls (goes_on next) = subst (λ (t : Turn). EndsWith (turn_talk d here) h.calls t) (went-on d outcome next (length new) on) h.talk_ends in
     record {
@@ -78,31 +78,31 @@ passed-more before between after d start here next made new outcome s h on =
       leads = λ n m e.
           LeadsTo-append (turns d m 0 start) (turns d (suc n) (length made) here) (turns d n (length new) next) s.calls h.calls (s.leads (suc n) m (omega (arith, e)))
           (subst (λ (t : Talk (Option JoyAnswer)). LeadsTo (turns d (suc n) (length made) here) h.calls t)
-          (ap (λ (k : ℕ). after_turn d (turns d n) k (turn_of outcome next)) (with_count-kept d here next h.calls made new ends h.kept) ∙ goes d (turns d n) (length new) outcome next on)
-          (one_turn d here (turn_of outcome next) n (length made) h.calls h.talk_ends));
+          (ap (λ (k : ℕ). after_turn d (turns d n) k (turn_of_end outcome next)) (with_count-kept d here next h.calls made new ends h.kept) ∙ goes d (turns d n) (length new) outcome next on)
+          (one_turn d here (turn_of_end outcome next) n (length made) h.calls h.talk_ends));
       are_calls = AreCalls-append before between after s.calls h.calls s.are_calls h.are_calls;
-      kept = h.kept ∙ ap (λ (ms : List CallMade). ms ++ made_of h.calls) s.kept ∙ sym (made_of-append s.calls h.calls);
+      kept = h.kept ∙ ap (λ (ms : List CallMade). ms ++ calls_kept h.calls) s.kept ∙ sym (made_of-append s.calls h.calls);
     }
 
 -- the number of accepted calls after the last turn, where that matters
-end-with_count : (d : Description) (here next : Joying) (calls : List Call) (made new : List CallMade) (outcome : TurnEnd) → EndsWith (turn_talk d here) calls (turn_of outcome next) → new ≡ made ++ made_of calls → is_end d outcome next (length new) ≡ true → is_end d outcome next (count_after calls (length made)) ≡ true
+end-with_count : (d : Description) (here next : Joying) (calls : List Call) (made new : List CallMade) (outcome : TurnEnd) → EndsWith (turn_talk d here) calls (turn_of_end outcome next) → new ≡ made ++ calls_kept calls → is_end d outcome next (length new) ≡ true → is_end d outcome next (count_after calls (length made)) ≡ true
 end-with_count d here next calls made new (Hands r) h kept end = refl
 end-with_count d here next calls made new (Stops read) h kept end = refl
 end-with_count d here next calls made new GoesOn h kept end = ap (λ (n : ℕ). is_long d next n) (with_count-kept d here next calls made new h kept) ∙ end
 
 -- after the last one
-pub passed-last : (before between after : EvdevView) (d : Description) (start here next : Joying) (made new : List CallMade) (outcome : TurnEnd) → Passed before between d start here made → Says between after made new (turn_talk d here) (turn_of outcome next) → is_end d outcome next (length new) ≡ true → HasTurned before after d start new (answer_of outcome next)
+pub passed-last : (before between after : EvdevView) (d : Description) (start here next : Joying) (made new : List CallMade) (outcome : TurnEnd) → Passed before between d start here made → Says between after made new (turn_talk d here) (turn_of_end outcome next) → is_end d outcome next (length new) ≡ true → HasTurned before after d start new (answer_of_turn outcome next)
 passed-last before between after d start here next made new outcome s h end = record {
   count = s.count + 1;
   says = record {
     calls = s.calls ++ h.calls;
     talk_ends =
-        LeadsTo-append (turns d (s.count + 1) 0 start) (turns d (suc 0) (length made) here) (finish (Some (answer_of outcome next))) s.calls h.calls (s.leads (suc 0) (s.count + 1) (omega arith))
+        LeadsTo-append (turns d (s.count + 1) 0 start) (turns d (suc 0) (length made) here) (finish (Some (answer_of_turn outcome next))) s.calls h.calls (s.leads (suc 0) (s.count + 1) (omega arith))
         (subst (λ (t : Talk (Option JoyAnswer)). LeadsTo (turns d (suc 0) (length made) here) h.calls t)
         (ended d (turns d 0) (count_after h.calls (length made)) outcome next (end-with_count d here next h.calls made new outcome h.talk_ends h.kept end))
-        (one_turn d here (turn_of outcome next) 0 (length made) h.calls h.talk_ends));
+        (one_turn d here (turn_of_end outcome next) 0 (length made) h.calls h.talk_ends));
     are_calls = AreCalls-append before between after s.calls h.calls s.are_calls h.are_calls;
-    kept = h.kept ∙ ap (λ (ms : List CallMade). ms ++ made_of h.calls) s.kept ∙ sym (made_of-append s.calls h.calls);
+    kept = h.kept ∙ ap (λ (ms : List CallMade). ms ++ calls_kept h.calls) s.kept ∙ sym (made_of-append s.calls h.calls);
   };
 }
 

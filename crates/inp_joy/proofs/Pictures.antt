@@ -10,7 +10,7 @@ use Rattle.inp_recon.specs.declared.view.View.{View}
 use Rattle.inp_recon.specs.View.{first_view}
 use Rattle.inp_joy.specs.declared.joy_record.JoyRecord.{JoyRecord}
 use Rattle.inp_joy.specs.Codes.{buttons, axes, startup_len}
-use Rattle.inp_joy.specs.JoyRecord.{cut, startup_button, startup_axis}
+use Rattle.inp_joy.specs.JoyRecord.{within_16_bits, startup_button, startup_axis}
 use Rattle.inp_joy.specs.Joying.{map_numbered, startup, startup_buttons, startup_axes}
 use Rattle.inp_joy.specs.Picture.{PictureView, blank_picture, picture_after, picture_after_all, up_to_64, picture_by, is_down_in, value_in, picture_of_view}
 use Rattle.inp_joy.proofs.CodeLists.{length-buttons, length-axes}
@@ -76,11 +76,11 @@ pub startup-pictured : (d : Description) (v : View) → picture_after_all blank_
 unfolding startup picture_by
 startup-pictured d v =
     let bs : List Bool = map (is_down_in v) (buttons d) in
-    let zs : List ℤ = map (λ code. cut (value_in v code)) (axes d) in
+    let zs : List ℤ = map (λ code. within_16_bits (value_in v code)) (axes d) in
     let mid : PictureView = record { buttons = up_to_64 false bs; axes = up_to_64 (pos 0) [] } in
     after_all-append blank_picture (startup_buttons d v) (startup_axes d v)
     ∙ ap (λ (p : PictureView). picture_after_all p (startup_axes d v)) (buttons-fold [] bs (replicate 64 (pos 0)) (omega (arith, length-map (buttons d) (is_down_in v), length-buttons d)))
-    ∙ axes-fold [] zs (up_to_64 false bs) (omega (arith, length-map (axes d) (λ code. cut (value_in v code)), length-axes d))
+    ∙ axes-fold [] zs (up_to_64 false bs) (omega (arith, length-map (axes d) (λ code. within_16_bits (value_in v code)), length-axes d))
 
 -- a record of a startup more
 pub startup-more : (p end : PictureView) (records : List JoyRecord) (handed : ℕ) (r : JoyRecord) → slice_get records handed ≡ Some r → picture_after_all p (drop handed records) ≡ end → picture_after_all (picture_after p r) (drop (handed + 1) records) ≡ end
@@ -121,7 +121,7 @@ blank-fill f x codes few same =
 pub first-blank : (d : Description) → blank_picture ≡ picture_of_view d (first_view d)
 unfolding picture_by first_view
 first-blank d =
-    sym (ap (λ (bs : List Bool). let q : PictureView = record { buttons = bs; axes = up_to_64 (pos 0) (map (λ code. cut (value_in (first_view d) code)) (axes d)) } in q)
+    sym (ap (λ (bs : List Bool). let q : PictureView = record { buttons = bs; axes = up_to_64 (pos 0) (map (λ code. within_16_bits (value_in (first_view d) code)) (axes d)) } in q)
     (blank-fill (is_down_in (first_view d)) false (buttons d) (length-buttons d) (λ c. get_or-blank 768 c false))
     ∙ ap (λ (zs : List ℤ). let q : PictureView = record { buttons = replicate 64 false; axes = zs } in q)
-    (blank-fill (λ code. cut (value_in (first_view d) code)) (pos 0) (axes d) (omega (arith, length-axes d)) (λ c. ap (λ (z : ℤ). cut z) (get_or-blank 64 c (pos 0)))))
+    (blank-fill (λ code. within_16_bits (value_in (first_view d) code)) (pos 0) (axes d) (omega (arith, length-axes d)) (λ c. ap (λ (z : ℤ). within_16_bits z) (get_or-blank 64 c (pos 0)))))

@@ -19,9 +19,9 @@ use Rattle.inp_reader.specs.Talk.{EndsWith}
 use Rattle.inp_joy.specs.declared.joy_read.JoyRead.{JoyRead}
 use Rattle.inp_joy.specs.declared.joy_read.JoyRead.TheVariants.{Record, Frame, Again, NoDevice, Closed, Full, More}
 use Rattle.inp_joy.specs.declared.joy_record.JoyRecord.{JoyRecord}
-use Rattle.inp_joy.specs.JoyRecord.{bytes_of, record_in, cut, startup_button, startup_axis, button_record, axis_record}
-use Rattle.inp_joy.specs.Codes.{buttons, axes, number_of}
-use Rattle.inp_joy.specs.Joying.{Joying, JoyAnswer, Turn, gives, goes_on, hand_out_record, next_in_startup, map_numbered, startup, last_value, record_of_key, record_of_axis, record_of, record_or_on, event_or_on, stop_of, event_of, stop_or_event, after_next, stop_or_startup, turns, stop_with, with_reading}
+use Rattle.inp_joy.specs.JoyRecord.{bytes_of, record_in, within_16_bits, startup_button, startup_axis, button_record, axis_record}
+use Rattle.inp_joy.specs.Codes.{buttons, axes, number_among}
+use Rattle.inp_joy.specs.Joying.{Joying, JoyAnswer, Turn, gives, goes_on, hand_out_record, next_in_startup, map_numbered, startup, last_value, record_of_key, record_of_axis, joy_record_of, record_or_on, event_or_on, joy_read_of, event_handed_out, stop_or_event, joying_after_next, stop_or_startup, turns, stop_with, with_reading}
 use Rattle.inp_joy.specs.Picture.{PictureView, is_down_in, value_in}
 use Rattle.inp_joy.proofs.TurnCases.{Synchronises, TurnCase, of_startup, of_sync, of_loss, of_next, turn-case, turns-all}
 
@@ -42,7 +42,7 @@ record-back r h =
 
 -- Each record that a client makes
 
-cut-fits : (value : ℤ) → FitsSigned w16 (cut value)
+cut-fits : (value : ℤ) → FitsSigned w16 (within_16_bits value)
 cut-fits (pos n) = by_flag (nat_lt 32767 n) refl
   where
     by_flag : (b : Bool) → nat_lt 32767 n ≡ b → FitsSigned w16 (if b then pos 32767 else pos n)
@@ -72,15 +72,15 @@ buttons-fit n [] k r is = absurd cc
 buttons-fit n (down ∷ downs) zero r is = let same : startup_button n down ≡ r = cc in subst (λ (s : JoyRecord). FitsBytes s) same (record { time = omega arith; value = bit-fits down })
 buttons-fit n (down ∷ downs) (suc k) r is = buttons-fit (n + 1) downs k r is
 
-axes-fit : (n : ℕ) (value : ℕ → ℤ) (codes : List ℕ) → AllFit (map_numbered startup_axis n (map (λ code. cut (value code)) codes))
+axes-fit : (n : ℕ) (value : ℕ → ℤ) (codes : List ℕ) → AllFit (map_numbered startup_axis n (map (λ code. within_16_bits (value code)) codes))
 axes-fit n value [] k r is = absurd cc
-axes-fit n value (code ∷ codes) zero r is = let same : startup_axis n (cut (value code)) ≡ r = cc in subst (λ (s : JoyRecord). FitsBytes s) same (record { time = omega arith; value = cut-fits (value code) })
+axes-fit n value (code ∷ codes) zero r is = let same : startup_axis n (within_16_bits (value code)) ≡ r = cc in subst (λ (s : JoyRecord). FitsBytes s) same (record { time = omega arith; value = cut-fits (value code) })
 axes-fit n value (code ∷ codes) (suc k) r is = axes-fit (n + 1) value codes k r is
 
 pub startup-fits : (d : Description) (v : View) → AllFit (startup d v)
 unfolding startup
 startup-fits d v =
-    fit-append (map_numbered startup_button 0 (map (is_down_in v) (buttons d))) (map_numbered startup_axis 0 (map (λ code. cut (value_in v code)) (axes d)))
+    fit-append (map_numbered startup_button 0 (map (is_down_in v) (buttons d))) (map_numbered startup_axis 0 (map (λ code. within_16_bits (value_in v code)) (axes d)))
     (buttons-fit 0 (map (is_down_in v) (buttons d))) (axes-fit 0 (value_in v) (axes d))
 
 abbrev pub FitsIf : Option JoyRecord → Type 0
@@ -100,18 +100,18 @@ key-fits (Some number) taken = by_flag (is_repeat taken.event)
 
 axis-fits : (p : PictureView) (number : Option ℕ) (taken : Taken) → FitsIf (record_of_axis p number taken)
 axis-fits p None taken = tt
-axis-fits p (Some number) taken = by_flag (int_eq (cut taken.event.value) (last_value p number))
+axis-fits p (Some number) taken = by_flag (int_eq (within_16_bits taken.event.value) (last_value p number))
   where
     by_flag : (b : Bool) → FitsIf (if b then None else Some (axis_record number taken))
     by_flag true = tt
     by_flag false = record { time = milliseconds-below taken.time; value = cut-fits taken.event.value }
 
-pub event-fits : (d : Description) (p : PictureView) (taken : Taken) → FitsIf (record_of d p taken)
+pub event-fits : (d : Description) (p : PictureView) (taken : Taken) → FitsIf (joy_record_of d p taken)
 event-fits d p taken = by_flags (nat_eq taken.event.kind EV_KEY) (nat_eq taken.event.kind EV_ABS)
   where
-    by_flags : (key axis : Bool) → FitsIf (if key then record_of_key (number_of taken.event.code (buttons d)) taken else if axis then record_of_axis p (number_of taken.event.code (axes d)) taken else None)
-    by_flags true axis = key-fits (number_of taken.event.code (buttons d)) taken
-    by_flags false true = axis-fits p (number_of taken.event.code (axes d)) taken
+    by_flags : (key axis : Bool) → FitsIf (if key then record_of_key (number_among taken.event.code (buttons d)) taken else if axis then record_of_axis p (number_among taken.event.code (axes d)) taken else None)
+    by_flags true axis = key-fits (number_among taken.event.code (buttons d)) taken
+    by_flags false true = axis-fits p (number_among taken.event.code (axes d)) taken
     by_flags false false = tt
 
 -- Answers
@@ -144,7 +144,7 @@ turn-same : (t u : Turn) → t ≡ u → IsTurnAsSaid t → IsTurnAsSaid u
 turn-same t u e h = subst (λ (x : Turn). IsTurnAsSaid x) e h
 
 -- the answers of a reader that end a read hand out no record
-stopped-said : (next : Next) (read : JoyRead) → stop_of next ≡ Some read → HandsOutAsSaid read None
+stopped-said : (next : Next) (read : JoyRead) → joy_read_of next ≡ Some read → HandsOutAsSaid read None
 stopped-said (NothingVisible at ends) read h = let e : Again at ends ≡ read = cc in subst (λ (x : JoyRead). HandsOutAsSaid x None) e tt
 stopped-said Revoked read h = let e : NoDevice ≡ read = cc in subst (λ (x : JoyRead). HandsOutAsSaid x None) e tt
 stopped-said NotOpen read h = let e : Closed ≡ read = cc in subst (λ (x : JoyRead). HandsOutAsSaid x None) e tt
@@ -154,12 +154,12 @@ stopped-said (Dropped taken) read h = absurd cc
 stopped-said (Sync event) read h = absurd cc
 stopped-said Synced read h = absurd cc
 
-sync-said : (j : Joying) (next : Next) (stop : Option JoyRead) → stop_of next ≡ stop → IsTurnAsSaid (stop_or_startup j stop)
+sync-said : (j : Joying) (next : Next) (stop : Option JoyRead) → joy_read_of next ≡ stop → IsTurnAsSaid (stop_or_startup j stop)
 sync-said j next None is = tt
 sync-said j next (Some read) is = stopped-said next read is
 
 sync_turn-said : (d : Description) (j : Joying) (calls : List Call) (t : Turn) → Synchronises d j calls t → IsTurnAsSaid t
-sync_turn-said d j calls t s = turn-same (stop_or_startup (with_reading j s.reading) (stop_of s.next)) t s.comes_to (sync-said (with_reading j s.reading) s.next (stop_of s.next) refl)
+sync_turn-said d j calls t s = turn-same (stop_or_startup (with_reading j s.reading) (joy_read_of s.next)) t s.comes_to (sync-said (with_reading j s.reading) s.next (joy_read_of s.next) refl)
 
 made-said : (j : Joying) (o : Option JoyRecord) → FitsIf o → IsTurnAsSaid (record_or_on j o)
 made-said j None h = tt
@@ -169,11 +169,11 @@ event-said : (d : Description) (j : Joying) (event : Option Taken) → IsTurnAsS
 event-said d j None = tt
 event-said d j (Some taken) = by_flag (is_report taken.event)
   where
-    by_flag : (b : Bool) → IsTurnAsSaid (if b then gives (stop_with (Frame taken.place) j) else record_or_on j (record_of d j.picture taken))
+    by_flag : (b : Bool) → IsTurnAsSaid (if b then gives (stop_with (Frame taken.place) j) else record_or_on j (joy_record_of d j.picture taken))
     by_flag true = tt
-    by_flag false = made-said j (record_of d j.picture taken) (event-fits d j.picture taken)
+    by_flag false = made-said j (joy_record_of d j.picture taken) (event-fits d j.picture taken)
 
-next-said : (d : Description) (j : Joying) (next : Next) (stop : Option JoyRead) (event : Option Taken) → stop_of next ≡ stop → IsTurnAsSaid (stop_or_event d j stop event)
+next-said : (d : Description) (j : Joying) (next : Next) (stop : Option JoyRead) (event : Option Taken) → joy_read_of next ≡ stop → IsTurnAsSaid (stop_or_event d j stop event)
 next-said d j next None event is = event-said d j event
 next-said d j next (Some read) event is = stopped-said next read is
 
@@ -181,7 +181,7 @@ turn-said : (d : Description) (j : Joying) (calls : List Call) (t : Turn) → Tu
 turn-said d j calls t (of_startup r at none is) = turn-same (gives (hand_out_record (next_in_startup j) r)) t is (startup-fits d j.reading.view j.handed r at)
 turn-said d j calls t (of_sync needed s) = sync_turn-said d j calls t s
 turn-said d j calls t (of_loss first second next r plain whole h lost s) = sync_turn-said d (with_reading j r) second t s
-turn-said d j calls t (of_next next r plain h kept is) = turn-same (after_next d (with_reading j r) next) t is (next-said d (with_reading j r) next (stop_of next) (event_of next) refl)
+turn-said d j calls t (of_next next r plain h kept is) = turn-same (joying_after_next d (with_reading j r) next) t is (next-said d (with_reading j r) next (joy_read_of next) (event_handed_out next) refl)
 
 -- each answer of a read
 pub turns-said : (d : Description) (n count : ℕ) (j : Joying) (calls : List Call) (answer : JoyAnswer) → EndsWith (turns d n count j) calls (Some answer) → IsAnswerAsSaid answer

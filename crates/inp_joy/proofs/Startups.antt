@@ -8,7 +8,7 @@ use Rattle.inp_model.specs.Description.{Description}
 use Rattle.inp_recon.specs.declared.view.View.{View}
 use Rattle.inp_joy.specs.declared.joy_record.JoyRecord.{JoyRecord}
 use Rattle.inp_joy.specs.Codes.{buttons, axes, startup_len}
-use Rattle.inp_joy.specs.JoyRecord.{cut, startup_button, startup_axis}
+use Rattle.inp_joy.specs.JoyRecord.{within_16_bits, startup_button, startup_axis}
 use Rattle.inp_joy.specs.Joying.{startup, startup_buttons, startup_axes}
 use Rattle.inp_joy.specs.Picture.{is_down_in, value_in}
 use Rattle.inp_joy.proofs.Lists.{slice_get-left, slice_get-right, map_numbered-get, length-map_numbered}
@@ -25,9 +25,9 @@ button-found d v codes number code down r are at is made =
     ∙ ap (λ (b : Bool). Some (startup_button number b)) (sym is)
     ∙ ap (λ (x : JoyRecord). Some x) (sym made)
 
-pub axis-found : (d : Description) (v : View) (codes : List ℕ) (number code : ℕ) (value : ℤ) (r : JoyRecord) → codes ≡ axes d → slice_get codes number ≡ Some code → value ≡ cut (value_in v code) → r ≡ startup_axis number value → slice_get (startup_axes d v) number ≡ Some r
+pub axis-found : (d : Description) (v : View) (codes : List ℕ) (number code : ℕ) (value : ℤ) (r : JoyRecord) → codes ≡ axes d → slice_get codes number ≡ Some code → value ≡ within_16_bits (value_in v code) → r ≡ startup_axis number value → slice_get (startup_axes d v) number ≡ Some r
 axis-found d v codes number code value r are at is made =
-    let f : ℕ → ℤ = λ c. cut (value_in v c) in
+    let f : ℕ → ℤ = λ c. within_16_bits (value_in v c) in
     let there : slice_get (map f (axes d)) number ≡ Some (f code) =
     slice_get-map f (axes d) number ∙ ap (λ (cs : List ℕ). option_map f (slice_get cs number)) (sym are) ∙ ap (λ o. option_map f o) at in
     let e : 0 + number ≡ number = omega arith in
@@ -40,7 +40,7 @@ length-startup_buttons : (d : Description) (v : View) → length (startup_button
 length-startup_buttons d v = length-map_numbered startup_button 0 (map (is_down_in v) (buttons d)) ∙ length-map (buttons d) (is_down_in v)
 
 length-startup_axes : (d : Description) (v : View) → length (startup_axes d v) ≡ length (axes d)
-length-startup_axes d v = let f : ℕ → ℤ = λ c. cut (value_in v c) in length-map_numbered startup_axis 0 (map f (axes d)) ∙ length-map (axes d) f
+length-startup_axes d v = let f : ℕ → ℤ = λ c. within_16_bits (value_in v c) in length-map_numbered startup_axis 0 (map f (axes d)) ∙ length-map (axes d) f
 
 pub length-startup : (d : Description) (v : View) → length (startup d v) ≡ startup_len d
 unfolding startup

@@ -25,8 +25,8 @@ use Rattle.inp_joy.specs.declared.joy_record.JoyRecord.{JoyRecord}
 use Rattle.inp_joy.specs.declared.turn_end.TurnEnd.{TurnEnd}
 use Rattle.inp_joy.specs.declared.turn_end.TurnEnd.TheVariants.{Hands, Stops, GoesOn}
 use Rattle.inp_joy.specs.Codes.{startup_len}
-use Rattle.inp_joy.specs.Joying.{Joying, JoyAnswer, Turn, gives, goes_on, hand_out_record, stop_with, with_reading, with_startup, without_startup, next_in_startup, is_startup_over, after_start, startup, stop_of, is_lost, record_of, record_or_on, event_of, after_event, stop_or_event, after_next, stop_or_startup, after_sync, sync_turn, after_normal, event_turn, record_or_turn, turn_talk}
-use Rattle.inp_joy.specs.Kept.{turn_of}
+use Rattle.inp_joy.specs.Joying.{Joying, JoyAnswer, Turn, gives, goes_on, hand_out_record, stop_with, with_reading, with_startup, without_startup, next_in_startup, is_startup_over, joying_after_start, startup, joy_read_of, is_lost, joy_record_of, record_or_on, event_handed_out, joying_after_event, stop_or_event, joying_after_next, stop_or_startup, joying_after_sync, sync_turn, after_normal, event_turn, record_or_turn, turn_talk}
+use Rattle.inp_joy.specs.Kept.{turn_of_end}
 use Rattle.inp_joy.specs.Picture.{PictureView, picture_after_if, picture_of_view}
 use Rattle.inp_joy.specs.Reads.{IsPictured}
 use Rattle.inp_joy.proofs.Events.{event-pictured, report-none}
@@ -81,7 +81,7 @@ pub record-pictured : (d : Description) (j : Joying) (r : JoyRecord) → slice_g
 record-pictured d j r at h = λ plain. startup-more j.picture (picture_of_view d j.reading.view) (startup d j.reading.view) j.handed r at (h plain)
 
 -- a synchronisation
-sync-pictured : (d : Description) (j : Joying) (next : Next) (r : Reading) → IsSynced next r → IsTurnPictured d (stop_or_startup (with_reading j r) (stop_of next))
+sync-pictured : (d : Description) (j : Joying) (next : Next) (r : Reading) → IsSynced next r → IsTurnPictured d (stop_or_startup (with_reading j r) (joy_read_of next))
 sync-pictured d j (Success taken) r h = absurd h
 sync-pictured d j (Dropped taken) r h = absurd h
 sync-pictured d j (Sync event) r h = begun-pictured d r
@@ -94,8 +94,8 @@ sync-pictured d j (FullHistory at) r h = (needed-pictured d (with_reading j r) h
 sync_turn-pictured : (d : Description) (j : Joying) (calls : List Call) (t : Turn) → is_needed j.reading.phase ≡ true → EndsWith (sync_turn d j) calls t → IsTurnPictured d t
 unfolding sync_turn
 sync_turn-pictured d j calls t needed h =
-    let s : IsSplit (next_talk d Synchronising j.reading) (λ o. finish (after_sync j o)) calls t = split-and_then (next_talk d Synchronising j.reading) (λ o. finish (after_sync j o)) calls t h in
-    turn-same d (after_sync j s.between) t (finished (after_sync j s.between) t s.later s.later_ends).1
+    let s : IsSplit (next_talk d Synchronising j.reading) (λ o. finish (joying_after_sync j o)) calls t = split-and_then (next_talk d Synchronising j.reading) (λ o. finish (joying_after_sync j o)) calls t h in
+    turn-same d (joying_after_sync j s.between) t (finished (joying_after_sync j s.between) t s.later s.later_ends).1
     (sync-pictured d j s.between.0 s.between.1 (next-synced d j.reading s.first s.between needed s.first_ends))
 
 -- an event
@@ -103,19 +103,19 @@ event-gives : (d : Description) (j : Joying) (o : Option JoyRecord) → startup_
 event-gives d j None over shown = shown-pictured d j over shown
 event-gives d j (Some r) over shown = (shown-pictured d (hand_out_record j r).joying over shown, tt)
 
-taken-pictured : (d : Description) (j : Joying) (view : View) (taken : Taken) → IsSizedFor d.slots view → startup_len d ≤ j.handed → j.picture ≡ picture_of_view d view → j.reading.view ≡ view_after_event view taken.event → IsTurnPictured d (after_event d j taken)
+taken-pictured : (d : Description) (j : Joying) (view : View) (taken : Taken) → IsSizedFor d.slots view → startup_len d ≤ j.handed → j.picture ≡ picture_of_view d view → j.reading.view ≡ view_after_event view taken.event → IsTurnPictured d (joying_after_event d j taken)
 taken-pictured d j view taken sized over shown moved = by_flag (is_report taken.event) refl
   where
-    all : picture_after_if j.picture (record_of d j.picture taken) ≡ picture_of_view d j.reading.view
-    all = ap (λ (p : PictureView). picture_after_if p (record_of d p taken)) shown ∙ event-pictured d view taken sized.keys sized.axes ∙ ap (λ (v : View). picture_of_view d v) (sym moved)
+    all : picture_after_if j.picture (joy_record_of d j.picture taken) ≡ picture_of_view d j.reading.view
+    all = ap (λ (p : PictureView). picture_after_if p (joy_record_of d p taken)) shown ∙ event-pictured d view taken sized.keys sized.axes ∙ ap (λ (v : View). picture_of_view d v) (sym moved)
 
-    by_flag : (b : Bool) → is_report taken.event ≡ b → IsTurnPictured d (if b then gives (stop_with (Frame taken.place) j) else record_or_on j (record_of d j.picture taken))
+    by_flag : (b : Bool) → is_report taken.event ≡ b → IsTurnPictured d (if b then gives (stop_with (Frame taken.place) j) else record_or_on j (joy_record_of d j.picture taken))
     by_flag true is =
         let still : j.picture ≡ picture_of_view d j.reading.view = ap (λ (o : Option JoyRecord). picture_after_if j.picture o) (sym (report-none d j.picture taken is)) ∙ all in
         (shown-pictured d j over still, still)
-    by_flag false is = event-gives d j (record_of d j.picture taken) over all
+    by_flag false is = event-gives d j (joy_record_of d j.picture taken) over all
 
-next-pictured : (d : Description) (j : Joying) (next : Next) (r : Reading) → IsSizedFor d.slots j.reading.view → startup_len d ≤ j.handed → j.picture ≡ picture_of_view d j.reading.view → is_lost next ≡ false → IsTaken j.reading.view next r → IsTurnPictured d (after_next d (with_reading j r) next)
+next-pictured : (d : Description) (j : Joying) (next : Next) (r : Reading) → IsSizedFor d.slots j.reading.view → startup_len d ≤ j.handed → j.picture ≡ picture_of_view d j.reading.view → is_lost next ≡ false → IsTaken j.reading.view next r → IsTurnPictured d (joying_after_next d (with_reading j r) next)
 next-pictured d j (Success taken) r sized over shown lost h = taken-pictured d (with_reading j r) j.reading.view taken sized over shown h.0
 next-pictured d j (Dropped taken) r sized over shown lost h = absurd (true≢false lost)
 next-pictured d j (Sync event) r sized over shown lost h = absurd h
@@ -128,9 +128,9 @@ next-pictured d j (FullHistory at) r sized over shown lost h = (shown-pictured d
 normal-pictured : (d : Description) (j : Joying) (next : Next) (r : Reading) (later : List Call) (t : Turn) → IsSizedFor d.slots j.reading.view → startup_len d ≤ j.handed → j.picture ≡ picture_of_view d j.reading.view → IsTaken j.reading.view next r → EndsWith (after_normal d j (next, r)) later t → IsTurnPictured d t
 normal-pictured d j next r later t sized over shown taken h = by_flag (is_lost next) refl h
   where
-    by_flag : (b : Bool) → is_lost next ≡ b → EndsWith (if b then sync_turn d (with_reading j r) else finish (after_next d (with_reading j r) next)) later t → IsTurnPictured d t
+    by_flag : (b : Bool) → is_lost next ≡ b → EndsWith (if b then sync_turn d (with_reading j r) else finish (joying_after_next d (with_reading j r) next)) later t → IsTurnPictured d t
     by_flag true is k = sync_turn-pictured d (with_reading j r) later t (lost-in j.reading.view next r is taken) k
-    by_flag false is k = turn-same d (after_next d (with_reading j r) next) t (finished (after_next d (with_reading j r) next) t later k).1 (next-pictured d j next r sized over shown is taken)
+    by_flag false is k = turn-same d (joying_after_next d (with_reading j r) next) t (finished (joying_after_next d (with_reading j r) next) t later k).1 (next-pictured d j next r sized over shown is taken)
 
 event_turn-pictured : (d : Description) (j : Joying) (calls : List Call) (t : Turn) → IsSizedFor d.slots j.reading.view → startup_len d ≤ j.handed → is_needed j.reading.phase ≡ false → IsPictured d j → EndsWith (event_turn d j) calls t → IsTurnPictured d t
 unfolding event_turn
@@ -148,17 +148,17 @@ turn-pictured d j calls t sized pictured none h = by_flag (is_needed j.reading.p
     by_flag false plain k = event_turn-pictured d j calls t sized (over-none d j.reading.view j.handed none) plain pictured k
 
 -- as an outcome
-pub outcome-pictured : (d : Description) (k : Joying) (outcome : TurnEnd) → IsTurnPictured d (turn_of outcome k) → IsPictured d k
+pub outcome-pictured : (d : Description) (k : Joying) (outcome : TurnEnd) → IsTurnPictured d (turn_of_end outcome k) → IsPictured d k
 outcome-pictured d k (Hands r) h = h.0
 outcome-pictured d k (Stops read) h = h.0
 outcome-pictured d k GoesOn h = h
 
-pub frame-pictured : (d : Description) (k : Joying) (place : ℕ) → IsTurnPictured d (turn_of (Stops (Frame place)) k) → k.picture ≡ picture_of_view d k.reading.view
+pub frame-pictured : (d : Description) (k : Joying) (place : ℕ) → IsTurnPictured d (turn_of_end (Stops (Frame place)) k) → k.picture ≡ picture_of_view d k.reading.view
 frame-pictured d k place h = h.1
 
 -- A start
 
-pub start-pictured : (d : Description) (j l : Joying) (r : Reading) (started : Started) → IsLeftByStart j.reading started r → l ≡ after_start d (with_reading j r) started → IsPictured d j → IsPictured d l
+pub start-pictured : (d : Description) (j l : Joying) (r : Reading) (started : Started) → IsLeftByStart j.reading started r → l ≡ joying_after_start d (with_reading j r) started → IsPictured d j → IsPictured d l
 start-pictured d j l r (Opened client ring) left is h = subst (λ (m : Joying). IsPictured d m) (sym is) (begun-pictured d r)
 start-pictured d j l r (Refused at why) left is h = subst (λ (m : Joying). IsPictured d m) (sym is) (by_flag (is_needed r.phase) refl left)
   where
@@ -179,17 +179,17 @@ stop-none j k (Some read) h = absurd (gives-goes (stop_with read j) k h)
 sync_turn-accepted : (d : Description) (j k : Joying) (calls : List Call) → EndsWith (sync_turn d j) calls (goes_on k) → AreAccepted calls
 unfolding sync_turn AreAccepted
 sync_turn-accepted d j k calls h =
-    let s : IsSplit (next_talk d Synchronising j.reading) (λ o. finish (after_sync j o)) calls (goes_on k) = split-and_then (next_talk d Synchronising j.reading) (λ o. finish (after_sync j o)) calls (goes_on k) h in
-    let f : (s.later ≡ []) × (after_sync j s.between ≡ goes_on k) = finished (after_sync j s.between) (goes_on k) s.later s.later_ends in
+    let s : IsSplit (next_talk d Synchronising j.reading) (λ o. finish (joying_after_sync j o)) calls (goes_on k) = split-and_then (next_talk d Synchronising j.reading) (λ o. finish (joying_after_sync j o)) calls (goes_on k) h in
+    let f : (s.later ≡ []) × (joying_after_sync j s.between ≡ goes_on k) = finished (joying_after_sync j s.between) (goes_on k) s.later s.later_ends in
     subst (λ (cs : List Call). AreAccepted cs) (sym s.calls_are)
-    (accepted-append s.first s.later (next-accepted d Synchronising j.reading s.first s.between (stop-none (with_reading j s.between.1) k (stop_of s.between.0) f.1) s.first_ends)
+    (accepted-append s.first s.later (next-accepted d Synchronising j.reading s.first s.between (stop-none (with_reading j s.between.1) k (joy_read_of s.between.0) f.1) s.first_ends)
     (subst (λ (cs : List Call). AreAccepted cs) (sym f.0) tt))
 
 event-none : (d : Description) (j k : Joying) (o : Option JoyRead) (e : Option Taken) → stop_or_event d j o e ≡ goes_on k → o ≡ None
 event-none d j k None e h = refl
 event-none d j k (Some read) e h = absurd (gives-goes (stop_with read j) k h)
 
-lost-none : (next : Next) → is_lost next ≡ true → stop_of next ≡ None
+lost-none : (next : Next) → is_lost next ≡ true → joy_read_of next ≡ None
 lost-none (Dropped taken) h = refl
 lost-none (Success taken) h = refl
 lost-none (Sync event) h = refl
@@ -203,11 +203,11 @@ normal-accepted : (d : Description) (j k : Joying) (next : Next) (r : Reading) (
 unfolding AreAccepted
 normal-accepted d j k next r first later n h = by_flag (is_lost next) refl h
   where
-    by_flag : (b : Bool) → is_lost next ≡ b → EndsWith (if b then sync_turn d (with_reading j r) else finish (after_next d (with_reading j r) next)) later (goes_on k) → AreAccepted (first ++ later)
+    by_flag : (b : Bool) → is_lost next ≡ b → EndsWith (if b then sync_turn d (with_reading j r) else finish (joying_after_next d (with_reading j r) next)) later (goes_on k) → AreAccepted (first ++ later)
     by_flag true is m = accepted-append first later (next-accepted d Normal j.reading first (next, r) (lost-none next is) n) (sync_turn-accepted d (with_reading j r) k later m)
     by_flag false is m =
-        let f : (later ≡ []) × (after_next d (with_reading j r) next ≡ goes_on k) = finished (after_next d (with_reading j r) next) (goes_on k) later m in
-        accepted-append first later (next-accepted d Normal j.reading first (next, r) (event-none d (with_reading j r) k (stop_of next) (event_of next) f.1) n) (subst (λ (cs : List Call). AreAccepted cs) (sym f.0) tt)
+        let f : (later ≡ []) × (joying_after_next d (with_reading j r) next ≡ goes_on k) = finished (joying_after_next d (with_reading j r) next) (goes_on k) later m in
+        accepted-append first later (next-accepted d Normal j.reading first (next, r) (event-none d (with_reading j r) k (joy_read_of next) (event_handed_out next) f.1) n) (subst (λ (cs : List Call). AreAccepted cs) (sym f.0) tt)
 
 event_turn-accepted : (d : Description) (j k : Joying) (calls : List Call) → EndsWith (event_turn d j) calls (goes_on k) → AreAccepted calls
 unfolding event_turn

@@ -22,8 +22,8 @@ abbrev pub axes : Description → List ℕ
 axes d = plain_axes d
 
 -- the number of a code among these
-abbrev pub number_of : ℕ → List ℕ → Option ℕ
-number_of code codes = position (λ c. nat_eq c code) codes
+abbrev pub number_among : ℕ → List ℕ → Option ℕ
+number_among code codes = position (λ c. nat_eq c code) codes
 
 -- how many records a startup has
 abbrev pub startup_len : Description → ℕ

@@ -9,7 +9,7 @@ use Rattle.inp_model.specs.Description.{Description, no_info}
 use Rattle.inp_model.specs.Examples.{report}
 use Rattle.inp_reader.specs.declared.call_made.CallMade.{CallMade}
 use Rattle.inp_reader.specs.Examples.{played, new_reading, slider, slides, axis}
-use Rattle.inp_reader.specs.Says.{made_of}
+use Rattle.inp_reader.specs.Says.{calls_kept}
 use Rattle.inp_joy.specs.declared.joy_read.JoyRead.{JoyRead}
 use Rattle.inp_joy.specs.declared.joy_read.JoyRead.TheVariants.{Record, Frame, Again, More}
 use Rattle.inp_joy.specs.Codes.{startup_len}
@@ -31,7 +31,7 @@ new_joying d = record { reading = new_reading d; handed = startup_len d; picture
 abbrev pub after_joy_start : Description → List Step → JoyStand
 after_joy_start d steps =
     let p = played d (reverse steps) [] (joy_start d (new_joying d)) in
-    record { past = p.past; joying = p.result.1; answers = []; made = made_of p.calls }
+    record { past = p.past; joying = p.result.1; answers = []; made = calls_kept p.calls }
 
 -- so many reads, of at most four turns each
 abbrev pub after_reads : Description → List Step → Joying → ℕ → List (JoyRead × List ℕ) → List CallMade → JoyStand
@@ -39,7 +39,7 @@ after_reads d past j zero answers made = record { past = past; joying = j; answe
 after_reads d past j (suc n) answers made =
     let p = played d past [] (turns d 4 0 j) in
     let answer = unwrap_or p.result (stop_with More j) in
-    after_reads d p.past answer.joying n (answers ++ (answer.read, bytes_after answer.record_out []) ∷ []) (made ++ made_of p.calls)
+    after_reads d p.past answer.joying n (answers ++ (answer.read, bytes_after answer.record_out []) ∷ []) (made ++ calls_kept p.calls)
 
 -- a new client starts, these steps come, and it reads so often
 abbrev pub after_joy : Description → List Step → ℕ → JoyStand

@@ -21,8 +21,8 @@ record_in bytes = record {
 }
 
 -- the value of an axis, cut to those of 16 bits that have a negative
-abbrev pub cut : ℤ → ℤ
-cut value =
+abbrev pub within_16_bits : ℤ → ℤ
+within_16_bits value =
     if int_lt value (negsuc 32766) then negsuc 32766
     else if int_lt (pos 32767) value then pos 32767
     else value
@@ -48,7 +48,7 @@ button_record number taken =
 -- that an axis moved
 abbrev pub axis_record : ℕ → Taken → JoyRecord
 axis_record number taken =
-    record { time = milliseconds taken.time; value = cut taken.event.value; kind = JS_EVENT_AXIS; number = number }
+    record { time = milliseconds taken.time; value = within_16_bits taken.event.value; kind = JS_EVENT_AXIS; number = number }
 
 -- it is about a button, or about an axis
 abbrev pub is_of_button : JoyRecord → Bool

@@ -19,8 +19,8 @@ use Rattle.inp_reader.specs.Talk.{Talk, finish, ask, and_then}
 use Rattle.inp_joy.specs.declared.joy_read.JoyRead.{JoyRead}
 use Rattle.inp_joy.specs.declared.joy_read.JoyRead.TheVariants.{Record, Frame, Again, NoDevice, Closed, Full, More}
 use Rattle.inp_joy.specs.declared.joy_record.JoyRecord.{JoyRecord}
-use Rattle.inp_joy.specs.JoyRecord.{cut, startup_button, startup_axis, button_record, axis_record}
-use Rattle.inp_joy.specs.Codes.{buttons, axes, number_of, startup_len}
+use Rattle.inp_joy.specs.JoyRecord.{within_16_bits, startup_button, startup_axis, button_record, axis_record}
+use Rattle.inp_joy.specs.Codes.{buttons, axes, number_among, startup_len}
 use Rattle.inp_joy.specs.Picture.{PictureView, blank_picture, picture_after, is_down_in, value_in}
 
 pub record Joying : Type 0 where
@@ -50,7 +50,7 @@ abbrev pub startup_buttons : Description → View → List JoyRecord
 startup_buttons d v = map_numbered startup_button 0 (map (is_down_in v) (buttons d))
 
 abbrev pub startup_axes : Description → View → List JoyRecord
-startup_axes d v = map_numbered startup_axis 0 (map (λ code. cut (value_in v code)) (axes d))
+startup_axes d v = map_numbered startup_axis 0 (map (λ code. within_16_bits (value_in v code)) (axes d))
 
 -- the records of a startup: all buttons and then all axes
 unfoldable pub startup : Description → View → List JoyRecord
@@ -73,12 +73,12 @@ is_startup_over d j = nat_le (startup_len d) j.handed
 -- Starting
 
 -- a startup begins where a client was opened; where its queries were refused in part none is left
-abbrev pub after_start : Description → Joying → Started → Joying
-after_start d j (Opened client ring) = with_startup j.reading
-after_start d j (Refused at why) = if is_needed j.reading.phase then without_startup d j else j
+abbrev pub joying_after_start : Description → Joying → Started → Joying
+joying_after_start d j (Opened client ring) = with_startup j.reading
+joying_after_start d j (Refused at why) = if is_needed j.reading.phase then without_startup d j else j
 
 abbrev pub joy_started : Description → Joying → Started × Reading → Started × Joying
-joy_started d j o = (o.0, after_start d (with_reading j o.1) o.0)
+joy_started d j o = (o.0, joying_after_start d (with_reading j o.1) o.0)
 
 -- its reader starts
 unfoldable pub joy_start : Description → Joying → Talk (Started × Joying)
@@ -104,21 +104,21 @@ abbrev pub stop_with : JoyRead → Joying → JoyAnswer
 stop_with read j = record { read = read; record_out = None; joying = j }
 
 -- the answers of a reader that are answers of a read too
-abbrev pub stop_of : Next → Option JoyRead
-stop_of (NothingVisible at ends) = Some (Again at ends)
-stop_of Revoked = Some NoDevice
-stop_of NotOpen = Some Closed
-stop_of (FullHistory at) = Some (Full at)
-stop_of _ = None
+abbrev pub joy_read_of : Next → Option JoyRead
+joy_read_of (NothingVisible at ends) = Some (Again at ends)
+joy_read_of Revoked = Some NoDevice
+joy_read_of NotOpen = Some Closed
+joy_read_of (FullHistory at) = Some (Full at)
+joy_read_of _ = None
 
 abbrev pub is_lost : Next → Bool
 is_lost (Dropped taken) = true
 is_lost _ = false
 
 -- the event that a reader handed out
-abbrev pub event_of : Next → Option Taken
-event_of (Success taken) = Some taken
-event_of _ = None
+abbrev pub event_handed_out : Next → Option Taken
+event_handed_out (Success taken) = Some taken
+event_handed_out _ = None
 
 -- a key event gives a record where the key is a button, but for an autorepeat
 abbrev pub record_of_key : Option ℕ → Taken → Option JoyRecord
@@ -129,16 +129,16 @@ record_of_key (Some number) taken = if is_repeat taken.event then None else Some
 abbrev pub last_value : PictureView → ℕ → ℤ
 last_value p number = slice_index_or p.axes number (pos 0)
 
--- an axis event gives one where its cut value is not the last one that was handed out
+-- an axis event gives one where its value, cut to 16 bits, is not the last one that was handed out
 abbrev pub record_of_axis : PictureView → Option ℕ → Taken → Option JoyRecord
 record_of_axis p None taken = None
 record_of_axis p (Some number) taken =
-    if int_eq (cut taken.event.value) (last_value p number) then None else Some (axis_record number taken)
+    if int_eq (within_16_bits taken.event.value) (last_value p number) then None else Some (axis_record number taken)
 
-abbrev pub record_of : Description → PictureView → Taken → Option JoyRecord
-record_of d p taken =
-    if nat_eq taken.event.kind EV_KEY then record_of_key (number_of taken.event.code (buttons d)) taken
-    else if nat_eq taken.event.kind EV_ABS then record_of_axis p (number_of taken.event.code (axes d)) taken
+abbrev pub joy_record_of : Description → PictureView → Taken → Option JoyRecord
+joy_record_of d p taken =
+    if nat_eq taken.event.kind EV_KEY then record_of_key (number_among taken.event.code (buttons d)) taken
+    else if nat_eq taken.event.kind EV_ABS then record_of_axis p (number_among taken.event.code (axes d)) taken
     else None
 
 -- the record that is there is handed out
@@ -147,38 +147,38 @@ record_or_on j None = goes_on j
 record_or_on j (Some r) = gives (hand_out_record j r)
 
 -- after an event of the reader: a report ends a frame, and others may give a record
-abbrev pub after_event : Description → Joying → Taken → Turn
-after_event d j taken =
+abbrev pub joying_after_event : Description → Joying → Taken → Turn
+joying_after_event d j taken =
     if is_report taken.event then gives (stop_with (Frame taken.place) j)
-    else record_or_on j (record_of d j.picture taken)
+    else record_or_on j (joy_record_of d j.picture taken)
 
 abbrev pub event_or_on : Description → Joying → Option Taken → Turn
 event_or_on d j None = goes_on j
-event_or_on d j (Some taken) = after_event d j taken
+event_or_on d j (Some taken) = joying_after_event d j taken
 
 -- after an answer of the reader that lost no events
 abbrev pub stop_or_event : Description → Joying → Option JoyRead → Option Taken → Turn
 stop_or_event d j None event = event_or_on d j event
 stop_or_event d j (Some read) event = gives (stop_with read j)
 
-abbrev pub after_next : Description → Joying → Next → Turn
-after_next d j next = stop_or_event d j (stop_of next) (event_of next)
+abbrev pub joying_after_next : Description → Joying → Next → Turn
+joying_after_next d j next = stop_or_event d j (joy_read_of next) (event_handed_out next)
 
 -- after a synchronisation: a startup begins, unless it was stopped
 abbrev pub stop_or_startup : Joying → Option JoyRead → Turn
 stop_or_startup j None = goes_on (with_startup j.reading)
 stop_or_startup j (Some read) = gives (stop_with read j)
 
-abbrev pub after_sync : Joying → Next × Reading → Turn
-after_sync j o = stop_or_startup (with_reading j o.1) (stop_of o.0)
+abbrev pub joying_after_sync : Joying → Next × Reading → Turn
+joying_after_sync j o = stop_or_startup (with_reading j o.1) (joy_read_of o.0)
 
 -- the reader synchronises
 unfoldable pub sync_turn : Description → Joying → Talk Turn
-sync_turn d j = and_then (next_talk d Synchronising j.reading) (λ o. finish (after_sync j o))
+sync_turn d j = and_then (next_talk d Synchronising j.reading) (λ o. finish (joying_after_sync j o))
 
 abbrev pub after_normal : Description → Joying → Next × Reading → Talk Turn
 after_normal d j o =
-    if is_lost o.0 then sync_turn d (with_reading j o.1) else finish (after_next d (with_reading j o.1) o.0)
+    if is_lost o.0 then sync_turn d (with_reading j o.1) else finish (joying_after_next d (with_reading j o.1) o.0)
 
 -- the reader is asked for its next event, and synchronises where events were lost
 unfoldable pub event_turn : Description → Joying → Talk Turn

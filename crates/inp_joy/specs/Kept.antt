@@ -20,8 +20,8 @@ use Rattle.inp_joy.specs.Joying.{Joying, JoyView, JoyAnswer, Turn, gives, goes_o
 use Rattle.inp_joy.specs.Picture.{seen_as}
 use Rattle.inp_joy.specs.Reads.{IsPictured, PicturesTheDevice, IsReadLess, agains_after_read}
 
-abbrev pub joying_of : JoyState → Joying
-joying_of s = record { reading = s.reader.reading; handed = s.handed; picture = seen_as s.picture }
+abbrev pub kept_joying : JoyState → Joying
+kept_joying s = record { reading = s.reader.reading; handed = s.handed; picture = seen_as s.picture }
 
 -- what a joystick client keeps for devices of a description
 pub record IsJoyState (d : Description) (s : JoyState) : Type 0 where
@@ -32,24 +32,24 @@ pub record IsJoyState (d : Description) (s : JoyState) : Type 0 where
   pub view : IsKeptView d s.reader.reading.view
 
 abbrev pub joy_view : Inside → JoyView
-joy_view j = record { description = j.state.reader.description; joying = joying_of j.state; made = j.state.made }
+joy_view j = record { description = j.state.reader.description; joying = kept_joying j.state; made = j.state.made }
 
 -- it fits its reader's description, keeps few calls, and its picture is that of its reader's view
 pub record IsJoy (j : Inside) : Type 0 where
   pub state : IsJoyState j.state.reader.description j.state
   pub few : length j.state.made ≤ 128
-  pub pictured : IsPictured j.state.reader.description (joying_of j.state)
+  pub pictured : IsPictured j.state.reader.description (kept_joying j.state)
 
 -- the answer that a turn comes to; where it goes on, the read is over for now
-abbrev pub answer_of : TurnEnd → Joying → JoyAnswer
-answer_of (Hands r) j = record { read = Record; record_out = Some r; joying = j }
-answer_of (Stops read) j = stop_with read j
-answer_of GoesOn j = stop_with More j
+abbrev pub answer_of_turn : TurnEnd → Joying → JoyAnswer
+answer_of_turn (Hands r) j = record { read = Record; record_out = Some r; joying = j }
+answer_of_turn (Stops read) j = stop_with read j
+answer_of_turn GoesOn j = stop_with More j
 
-abbrev pub turn_of : TurnEnd → Joying → Turn
-turn_of (Hands r) j = gives (answer_of (Hands r) j)
-turn_of (Stops read) j = gives (answer_of (Stops read) j)
-turn_of GoesOn j = goes_on j
+abbrev pub turn_of_end : TurnEnd → Joying → Turn
+turn_of_end (Hands r) j = gives (answer_of_turn (Hands r) j)
+turn_of_end (Stops read) j = gives (answer_of_turn (Stops read) j)
+turn_of_end GoesOn j = goes_on j
 
 -- no other turn follows
 abbrev pub is_end : Description → TurnEnd → Joying → ℕ → Bool

@@ -11,7 +11,7 @@ use Rattle.inp_recon.specs.View.{IsSizedFor, view_after_event}
 use Rattle.inp_joy.specs.declared.joy_record.JoyRecord.{JoyRecord}
 use Rattle.inp_joy.specs.JoyRecord.{bytes_of, record_in}
 use Rattle.inp_joy.specs.Codes.{startup_len}
-use Rattle.inp_joy.specs.Joying.{startup, record_of}
+use Rattle.inp_joy.specs.Joying.{startup, joy_record_of}
 use Rattle.inp_joy.specs.Picture.{blank_picture, picture_after_all, picture_after_if, picture_of_view, picture_of_device}
 
 -- a startup has a record of each button and axis
@@ -30,7 +30,7 @@ StartupLeadsToItsView = (d : Description) (v : View) → picture_after_all blank
 abbrev pub EventLeadsToItsView : Type 0
 EventLeadsToItsView =
     (d : Description) (v : View) (taken : Taken) → IsSizedFor d.slots v
-    → picture_after_if (picture_of_view d v) (record_of d (picture_of_view d v) taken)
+    → picture_after_if (picture_of_view d v) (joy_record_of d (picture_of_view d v) taken)
     ≡ picture_of_view d (view_after_event v taken.event)
 
 -- the picture of a view that is the device's state is the device's

@@ -8,7 +8,7 @@ use Rattle.inp_model.specs.State.{key_down, axis_value}
 use Rattle.inp_recon.specs.declared.view.View.{View}
 use Rattle.inp_joy.specs.declared.joy_record.JoyRecord.{JoyRecord}
 use Rattle.inp_joy.specs.declared.picture.Picture.{Picture}
-use Rattle.inp_joy.specs.JoyRecord.{cut, is_of_button, is_of_axis}
+use Rattle.inp_joy.specs.JoyRecord.{within_16_bits, is_of_button, is_of_axis}
 use Rattle.inp_joy.specs.Codes.{buttons, axes}
 
 pub record PictureView : Type 0 where
@@ -50,7 +50,7 @@ up_to_64 filler xs = xs ++ replicate (64 - length xs) filler
 unfoldable pub picture_by : Description → (ℕ → Bool) → (ℕ → ℤ) → PictureView
 picture_by d is_down value = record {
   buttons = up_to_64 false (map is_down (buttons d));
-  axes = up_to_64 (pos 0) (map (λ code. cut (value code)) (axes d));
+  axes = up_to_64 (pos 0) (map (λ code. within_16_bits (value code)) (axes d));
 }
 
 -- in a view a key is down, and an axis has a value

@@ -27,7 +27,7 @@ bytes_after (Some r) out = bytes_of r
 
 -- The calls that were made are those of some number of turns, and the answer, what is kept and what is written are their
 -- result.
-pub record IsRead (before after : EvdevView) (d : Description) (old new : Joying) (made : List CallMade) (read : JoyRead) (out new_out : List ℕ) : Type 0 where
+pub record IsJoyRead (before after : EvdevView) (d : Description) (old new : Joying) (made : List CallMade) (read : JoyRead) (out new_out : List ℕ) : Type 0 where
   pub count : ℕ
   pub record_out : Option JoyRecord
   pub says : Says before after [] made (turns d count 0 old) (Some (record { read = read; record_out = record_out; joying = new }))

@@ -1,7 +1,7 @@
 //! Which codes of a device a joystick client numbers.
 ghost use Rattle.std.specs.Prelude.{◌≡◌, ◌≤◌, ◌<◌, ◌-◌, ◌+◌, [], ◌∷◌, ◌++◌, nat_eq, length, take, slice_get, IfOk, IfSome, Some};
 ghost use Rattle.std.specs.List.{position};
-ghost use Rattle.inp_joy.specs.Codes.{buttons, axes, codes_among, number_of};
+ghost use Rattle.inp_joy.specs.Codes.{buttons, axes, codes_among, number_among};
 
 use inp_caps::Caps;
 use inp_model::{ABS_MAX, ABS_MT_SLOT, ABS_MT_TOOL_Y, EV_ABS, EV_KEY, KEY_MAX, NoMemory};
@@ -119,8 +119,8 @@ impl CodeList {
     }
 
     // The number of a code.
-    pub(crate) fn number_of(&self, code: u16) -> Option<usize>
-        ensures number { result ≡ number_of code self.now }
+    pub(crate) fn number_among(&self, code: u16) -> Option<usize>
+        ensures number { result ≡ number_among code self.now }
         ensures few { IfSome result (λ number. number < 64) }
     {
         self.codes.iter().position(|c| *c == code)

@@ -10,7 +10,7 @@ ghost use Rattle.inp_recon.specs.View.{first_view};
 ghost use Rattle.inp_joy.specs.Codes.{startup_len};
 ghost use Rattle.inp_joy.specs.Joying.{joy_start};
 ghost use Rattle.inp_joy.specs.Picture.{blank_picture, seen_as};
-ghost use Rattle.inp_joy.specs.Reads.{IsRead, IsPictured, IsReadLess, JoyStands, ReadPictures, agains_after_read};
+ghost use Rattle.inp_joy.specs.Reads.{IsJoyRead, IsPictured, IsReadLess, JoyStands, ReadPictures, agains_after_read};
 
 use crate::code_list::CodeList;
 use crate::joy_calls::JoyCalls;
@@ -135,7 +135,7 @@ impl Joy {
     /// read that answers `Frame` or `More` leaves the reader less to do than before (a number, its effort).
     pub fn read<E: Evdev>(&mut self, dev: &mut E, out: &mut [u8; 8]) -> JoyRead
         requires description { (E.told dev.old).description ≡ self.old.description }
-        ensures says { IsRead (E.told dev.old) (E.told dev.new)
+        ensures says { IsJoyRead (E.told dev.old) (E.told dev.new)
             self.old.description self.old.joying self.new.joying self.new.made
             result out.old out.new }
         ensures joy { self.new.description ≡ self.old.description }

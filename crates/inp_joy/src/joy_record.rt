@@ -1,6 +1,6 @@
 //! The records that a joystick client hands out.
 ghost use Rattle.std.specs.Prelude.{◌≡◌};
-ghost use Rattle.inp_joy.specs.JoyRecord.{bytes_of, record_in, is_of_button, is_of_axis, startup_button, startup_axis, button_record, axis_record, cut, milliseconds};
+ghost use Rattle.inp_joy.specs.JoyRecord.{bytes_of, record_in, is_of_button, is_of_axis, startup_button, startup_axis, button_record, axis_record, within_16_bits, milliseconds};
 ghost use Rattle.inp_reader.specs.Synthesis.{bit_value};
 
 use inp_model::Taken;
@@ -112,7 +112,7 @@ impl JoyRecord {
     {
         JoyRecord {
             time: milliseconds(event.time),
-            value: cut(event.event.value),
+            value: within_16_bits(event.event.value),
             kind: JS_EVENT_AXIS,
             number,
         }
@@ -134,8 +134,8 @@ fn milliseconds(time: u64) -> u32
 }
 
 // The value of an axis, cut to those of 16 bits that have a negative.
-pub(crate) fn cut(value: i32) -> i16
-    ensures { result ≡ cut value }
+pub(crate) fn within_16_bits(value: i32) -> i16
+    ensures { result ≡ within_16_bits value }
 {
     if value < -32_767 {
         -32_767

@@ -7,16 +7,16 @@ ghost use Rattle.inp_reader.specs.Reading.{next_talk};
 ghost use Rattle.inp_reader.specs.Says.{Says};
 ghost use Rattle.inp_reader.specs.Showing.{AnswerShows};
 ghost use Rattle.inp_reader.specs.Standing.{IsAlone, is_needed, has_opened};
-ghost use Rattle.inp_joy.specs.Codes.{number_of, startup_len};
-ghost use Rattle.inp_joy.specs.Joying.{startup, startup_buttons, startup_axes, with_startup, without_startup, is_startup_over, is_long, hand_out_record, record_of, record_of_key, record_of_axis, last_value, after_event, after_next, after_start, sync_turn, event_turn, next_in_startup, record_or_turn, turn_talk, joy_start, gives};
-ghost use Rattle.inp_joy.specs.Kept.{joying_of, IsJoyState, answer_of, turn_of, is_end, IsTurnEndLess, agains_after_turn, ReaderCalls, TurnEndShows, TurnEndPictures, HasTurned, StateStands};
+ghost use Rattle.inp_joy.specs.Codes.{number_among, startup_len};
+ghost use Rattle.inp_joy.specs.Joying.{startup, startup_buttons, startup_axes, with_startup, without_startup, is_startup_over, is_long, hand_out_record, joy_record_of, record_of_key, record_of_axis, last_value, joying_after_event, joying_after_next, joying_after_start, sync_turn, event_turn, next_in_startup, record_or_turn, turn_talk, joy_start, gives};
+ghost use Rattle.inp_joy.specs.Kept.{kept_joying, IsJoyState, answer_of_turn, turn_of_end, is_end, IsTurnEndLess, agains_after_turn, ReaderCalls, TurnEndShows, TurnEndPictures, HasTurned, StateStands};
 ghost use Rattle.inp_joy.specs.Picture.{seen_as};
-ghost use Rattle.inp_joy.specs.Reads.{IsPictured, IsRead, IsReadLess, ReadPictures, agains_after_read};
+ghost use Rattle.inp_joy.specs.Reads.{IsPictured, IsJoyRead, IsReadLess, ReadPictures, agains_after_read};
 
 use crate::code_list::CodeList;
 use crate::joy_calls::JoyCalls;
-use crate::joy_record::cut;
-use crate::stops::{event_of, is_lost, stop_of};
+use crate::joy_record::within_16_bits;
+use crate::stops::{event_handed_out, is_lost, joy_read_of};
 use crate::turn_end::TurnEnd;
 use crate::views::{cut_axis_of, is_down};
 use crate::{JoyRead, JoyRecord, Picture};
@@ -102,7 +102,7 @@ impl JoyState {
 
     // A startup begins.
     fn begin_startup(&mut self)
-        ensures joying { joying_of self.new ≡ with_startup self.old.reader.reading }
+        ensures joying { kept_joying self.new ≡ with_startup self.old.reader.reading }
         ensures rest { self.new ≡ record self.old { handed = 0; picture = self.new.picture } }
     {
         self.handed = 0;
@@ -111,10 +111,10 @@ impl JoyState {
 
     // The record of a key event, if it gives one.
     fn button_record(&self, event: Taken) -> Option<JoyRecord>
-        ensures found { result ≡ record_of_key (number_of event.event.code self.now.buttons) event }
+        ensures found { result ≡ record_of_key (number_among event.event.code self.now.buttons) event }
         ensures number { IfSome result (λ joy_record. joy_record.number < 64) }
     {
-        let Some(number) = self.buttons.number_of(event.event.code) else {
+        let Some(number) = self.buttons.number_among(event.event.code) else {
             return None;
         };
         if event.event.is_repeat() {
@@ -136,13 +136,13 @@ impl JoyState {
     fn axis_record(&self, event: Taken) -> Option<JoyRecord>
         ensures found { result
             ≡ record_of_axis (seen_as self.now.picture)
-            (number_of event.event.code self.now.axes) event }
+            (number_among event.event.code self.now.axes) event }
         ensures number { IfSome result (λ joy_record. joy_record.number < 64) }
     {
-        let Some(number) = self.axes.number_of(event.event.code) else {
+        let Some(number) = self.axes.number_among(event.event.code) else {
             return None;
         };
-        if self.is_last_value(number, cut(event.event.value)) {
+        if self.is_last_value(number, within_16_bits(event.event.value)) {
             None
         } else {
             Some(JoyRecord::of_axis(number as u8, event))
@@ -153,7 +153,7 @@ impl JoyState {
     fn event_record(&self, event: Taken) -> Option<JoyRecord>
         requires state { IsJoyState self.now.reader.description self.now }
         ensures found { result
-            ≡ record_of self.now.reader.description (seen_as self.now.picture) event }
+            ≡ joy_record_of self.now.reader.description (seen_as self.now.picture) event }
         ensures number { IfSome result (λ joy_record. joy_record.number < 64) }
     {
         match event.event.kind {
@@ -166,8 +166,8 @@ impl JoyState {
     // Hands out a record.
     fn hand(&mut self, joy_record: JoyRecord) -> TurnEnd
         requires { joy_record.number < 64 }
-        ensures turn { turn_of result (joying_of self.new)
-            ≡ gives (hand_out_record (joying_of self.old) joy_record) }
+        ensures turn { turn_of_end result (kept_joying self.new)
+            ≡ gives (hand_out_record (kept_joying self.old) joy_record) }
         ensures rest { self.new ≡ record self.old { picture = self.new.picture } }
     {
         self.picture.take(joy_record);
@@ -177,8 +177,8 @@ impl JoyState {
     // After an event of the reader.
     fn after_event(&mut self, event: Taken) -> TurnEnd
         requires state { IsJoyState self.old.reader.description self.old }
-        ensures turn { turn_of result (joying_of self.new)
-            ≡ after_event self.old.reader.description (joying_of self.old) event }
+        ensures turn { turn_of_end result (kept_joying self.new)
+            ≡ joying_after_event self.old.reader.description (kept_joying self.old) event }
         ensures rest { self.new ≡ record self.old { picture = self.new.picture } }
     {
         if event.event.is_report() {
@@ -194,14 +194,14 @@ impl JoyState {
     // After an answer of the reader that lost no events.
     fn after_next(&mut self, next: Next) -> TurnEnd
         requires state { IsJoyState self.old.reader.description self.old }
-        ensures turn { turn_of result (joying_of self.new)
-            ≡ after_next self.old.reader.description (joying_of self.old) next }
+        ensures turn { turn_of_end result (kept_joying self.new)
+            ≡ joying_after_next self.old.reader.description (kept_joying self.old) next }
         ensures rest { self.new ≡ record self.old { picture = self.new.picture } }
     {
-        if let Some(read) = stop_of(next) {
+        if let Some(read) = joy_read_of(next) {
             return TurnEnd::Stops { read };
         }
-        match event_of(next) {
+        match event_handed_out(next) {
             Some(event) => self.after_event(event),
             None => TurnEnd::GoesOn,
         }
@@ -241,8 +241,8 @@ impl JoyState {
         requires needed { is_needed self.old.reader.reading.phase ≡ true }
         requires few { length self.old.made + 55 ≤ 128 }
         ensures says { Says (E.told dev.old) (E.told dev.new) self.old.made self.new.made
-            (sync_turn self.old.reader.description (joying_of self.old))
-            (turn_of result (joying_of self.new)) }
+            (sync_turn self.old.reader.description (kept_joying self.old))
+            (turn_of_end result (kept_joying self.new)) }
         ensures calls { ReaderCalls (E.told dev.old) (E.told dev.new) self.old.made self.new.made
             self.old.reader.description self.old.reader.reading self.new.reader.reading
             (TurnEndShows (E.told dev.new) self.new.reader result) }
@@ -254,7 +254,7 @@ impl JoyState {
         ensures few { length self.new.made ≤ length self.old.made + 55 }
     {
         let next = self.next(dev, Mode::Sync);
-        if let Some(read) = stop_of(next) {
+        if let Some(read) = joy_read_of(next) {
             return TurnEnd::Stops { read };
         }
         self.begin_startup();
@@ -268,8 +268,8 @@ impl JoyState {
         requires plain { is_needed self.old.reader.reading.phase ≡ false }
         requires few { length self.old.made < 64 }
         ensures says { Says (E.told dev.old) (E.told dev.new) self.old.made self.new.made
-            (event_turn self.old.reader.description (joying_of self.old))
-            (turn_of result (joying_of self.new)) }
+            (event_turn self.old.reader.description (kept_joying self.old))
+            (turn_of_end result (kept_joying self.new)) }
         ensures calls { ReaderCalls (E.told dev.old) (E.told dev.new) self.old.made self.new.made
             self.old.reader.description self.old.reader.reading self.new.reader.reading
             (TurnEndShows (E.told dev.new) self.new.reader result) }
@@ -295,8 +295,8 @@ impl JoyState {
             (startup self.old.reader.description self.old.reader.reading.view) self.old.handed
             ≡ Some joy_record }
         requires number { joy_record.number < 64 }
-        ensures turn { turn_of result (joying_of self.new)
-            ≡ gives (hand_out_record (next_in_startup (joying_of self.old)) joy_record) }
+        ensures turn { turn_of_end result (kept_joying self.new)
+            ≡ gives (hand_out_record (next_in_startup (kept_joying self.old)) joy_record) }
         ensures rest { self.new
             ≡ record self.old { handed = self.old.handed + 1; picture = self.new.picture } }
         ensures state { IsJoyState self.old.reader.description self.new }
@@ -311,8 +311,8 @@ impl JoyState {
         requires state { IsJoyState self.old.reader.description self.old }
         requires few { length self.old.made < 64 }
         ensures says { Says (E.told dev.old) (E.told dev.new) self.old.made self.new.made
-            (record_or_turn self.old.reader.description (joying_of self.old) None)
-            (turn_of result (joying_of self.new)) }
+            (record_or_turn self.old.reader.description (kept_joying self.old) None)
+            (turn_of_end result (kept_joying self.new)) }
         ensures calls { ReaderCalls (E.told dev.old) (E.told dev.new) self.old.made self.new.made
             self.old.reader.description self.old.reader.reading self.new.reader.reading
             (TurnEndShows (E.told dev.new) self.new.reader result) }
@@ -334,23 +334,23 @@ impl JoyState {
     fn turn<E: Evdev>(&mut self, dev: &mut E) -> TurnEnd
         requires description { (E.told dev.old).description ≡ self.old.reader.description }
         requires state { IsJoyState self.old.reader.description self.old }
-        requires pictured { IsPictured self.old.reader.description (joying_of self.old) }
-        requires short { is_startup_over self.old.reader.description (joying_of self.old) ≡ true
+        requires pictured { IsPictured self.old.reader.description (kept_joying self.old) }
+        requires short { is_startup_over self.old.reader.description (kept_joying self.old) ≡ true
             → length self.old.made < 64 }
         requires few { length self.old.made ≤ 128 }
         ensures says { Says (E.told dev.old) (E.told dev.new) self.old.made self.new.made
-            (turn_talk self.old.reader.description (joying_of self.old))
-            (turn_of result (joying_of self.new)) }
+            (turn_talk self.old.reader.description (kept_joying self.old))
+            (turn_of_end result (kept_joying self.new)) }
         ensures calls { ReaderCalls (E.told dev.old) (E.told dev.new) self.old.made self.new.made
             self.old.reader.description self.old.reader.reading self.new.reader.reading
             (TurnEndPictures (E.told dev.new) self.old.reader.description
-            (joying_of self.new) result) }
+            (kept_joying self.new) result) }
         ensures agains { (E.told dev.new).agains ≡ agains_after_turn result (E.told dev.old).agains }
         ensures less { IsTurnEndLess result
             (effort (E.told dev.new) self.new.reader.reading)
             (effort (E.told dev.old) self.old.reader.reading) }
         ensures state { IsJoyState self.old.reader.description self.new }
-        ensures pictured { IsPictured self.old.reader.description (joying_of self.new) }
+        ensures pictured { IsPictured self.old.reader.description (kept_joying self.new) }
         ensures few { length self.new.made ≤ 128 }
     {
         match self.startup_record() {
@@ -363,7 +363,7 @@ impl JoyState {
     fn is_end(&self, outcome: TurnEnd) -> bool
         requires { IsJoyState self.now.reader.description self.now }
         ensures { result
-            ≡ is_end self.now.reader.description outcome (joying_of self.now)
+            ≡ is_end self.now.reader.description outcome (kept_joying self.now)
             (length self.now.made) }
     {
         match outcome {
@@ -376,21 +376,21 @@ impl JoyState {
     fn take_turns<E: Evdev>(&mut self, dev: &mut E) -> TurnEnd
         requires description { (E.told dev.old).description ≡ self.old.reader.description }
         requires state { IsJoyState self.old.reader.description self.old }
-        requires pictured { IsPictured self.old.reader.description (joying_of self.old) }
+        requires pictured { IsPictured self.old.reader.description (kept_joying self.old) }
         requires anew { self.old.made ≡ [] }
         ensures says { HasTurned (E.told dev.old) (E.told dev.new)
-            self.old.reader.description (joying_of self.old) self.new.made
-            (answer_of result (joying_of self.new)) }
+            self.old.reader.description (kept_joying self.old) self.new.made
+            (answer_of_turn result (kept_joying self.new)) }
         ensures calls { ReaderCalls (E.told dev.old) (E.told dev.new) [] self.new.made
             self.old.reader.description self.old.reader.reading self.new.reader.reading
             (TurnEndPictures (E.told dev.new) self.old.reader.description
-            (joying_of self.new) result) }
+            (kept_joying self.new) result) }
         ensures agains { (E.told dev.new).agains ≡ agains_after_turn result (E.told dev.old).agains }
         ensures less { IsTurnEndLess result
             (effort (E.told dev.new) self.new.reader.reading)
             (effort (E.told dev.old) self.old.reader.reading) }
         ensures state { IsJoyState self.old.reader.description self.new }
-        ensures pictured { IsPictured self.old.reader.description (joying_of self.new) }
+        ensures pictured { IsPictured self.old.reader.description (kept_joying self.new) }
         ensures few { length self.new.made ≤ 128 }
     {
         loop {
@@ -405,19 +405,19 @@ impl JoyState {
     pub(crate) fn read<E: Evdev>(&mut self, dev: &mut E, out: &mut [u8; 8]) -> JoyRead
         requires description { (E.told dev.old).description ≡ self.old.reader.description }
         requires state { IsJoyState self.old.reader.description self.old }
-        requires pictured { IsPictured self.old.reader.description (joying_of self.old) }
-        ensures says { IsRead (E.told dev.old) (E.told dev.new)
-            self.old.reader.description (joying_of self.old) (joying_of self.new) self.new.made
+        requires pictured { IsPictured self.old.reader.description (kept_joying self.old) }
+        ensures says { IsJoyRead (E.told dev.old) (E.told dev.new)
+            self.old.reader.description (kept_joying self.old) (kept_joying self.new) self.new.made
             result out.old out.new }
         ensures calls { ReaderCalls (E.told dev.old) (E.told dev.new) [] self.new.made
             self.old.reader.description self.old.reader.reading self.new.reader.reading
-            (ReadPictures (E.told dev.new) self.old.reader.description (joying_of self.new) result) }
+            (ReadPictures (E.told dev.new) self.old.reader.description (kept_joying self.new) result) }
         ensures agains { (E.told dev.new).agains ≡ agains_after_read result (E.told dev.old).agains }
         ensures less { IsReadLess result
             (effort (E.told dev.new) self.new.reader.reading)
             (effort (E.told dev.old) self.old.reader.reading) }
         ensures state { IsJoyState self.old.reader.description self.new }
-        ensures pictured { IsPictured self.old.reader.description (joying_of self.new) }
+        ensures pictured { IsPictured self.old.reader.description (kept_joying self.new) }
         ensures few { length self.new.made ≤ 128 }
     {
         self.made.clear();
@@ -434,8 +434,8 @@ impl JoyState {
     // A startup begins where the reader opened a client; where its queries were refused in part none is left.
     fn after_start(&mut self, started: Started)
         requires state { IsJoyState self.old.reader.description self.old }
-        ensures joying { joying_of self.new
-            ≡ after_start self.old.reader.description (joying_of self.old) started }
+        ensures joying { kept_joying self.new
+            ≡ joying_after_start self.old.reader.description (kept_joying self.old) started }
         ensures rest { self.new
             ≡ record self.old { handed = self.new.handed; picture = self.new.picture } }
         ensures handed { self.new.handed ≤ startup_len self.old.reader.description }
@@ -461,10 +461,10 @@ impl JoyState {
     pub(crate) fn start<E: Evdev>(&mut self, dev: &mut E) -> Started
         requires description { (E.told dev.old).description ≡ self.old.reader.description }
         requires state { IsJoyState self.old.reader.description self.old }
-        requires pictured { IsPictured self.old.reader.description (joying_of self.old) }
+        requires pictured { IsPictured self.old.reader.description (kept_joying self.old) }
         ensures says { Says (E.told dev.old) (E.told dev.new) [] self.new.made
-            (joy_start self.old.reader.description (joying_of self.old))
-            (result, joying_of self.new) }
+            (joy_start self.old.reader.description (kept_joying self.old))
+            (result, kept_joying self.new) }
         ensures left { LeavesMade (E.told dev.old) (E.told dev.new) self.new.made }
         ensures agains { (E.told dev.new).agains ≡ (E.told dev.old).agains }
         ensures opened { has_opened result ≡ true
@@ -474,7 +474,7 @@ impl JoyState {
             → IsAlone (E.told dev.old) (E.told dev.new) self.new.reader.reading.client self.new.made
             → StateStands (E.told dev.new) self.new }
         ensures state { IsJoyState self.old.reader.description self.new }
-        ensures pictured { IsPictured self.old.reader.description (joying_of self.new) }
+        ensures pictured { IsPictured self.old.reader.description (kept_joying self.new) }
         ensures few { length self.new.made ≤ 64 }
     {
         self.made.clear();

@@ -1,14 +1,14 @@
 //! What an answer of a reader is to a joystick client.
 ghost use Rattle.std.specs.Prelude.{◌≡◌};
-ghost use Rattle.inp_joy.specs.Joying.{stop_of, is_lost, event_of};
+ghost use Rattle.inp_joy.specs.Joying.{joy_read_of, is_lost, event_handed_out};
 
 use crate::JoyRead;
 use inp_model::Taken;
 use inp_reader::Next;
 
 // The answer of a read that it is, if it is one.
-pub(crate) fn stop_of(next: Next) -> Option<JoyRead>
-    ensures { result ≡ stop_of next }
+pub(crate) fn joy_read_of(next: Next) -> Option<JoyRead>
+    ensures { result ≡ joy_read_of next }
 {
     match next {
         Next::Again { at, ends } => Some(JoyRead::Again { at, ends }),
@@ -27,8 +27,8 @@ pub(crate) fn is_lost(next: Next) -> bool
 }
 
 // The event that was handed out, if there was one.
-pub(crate) fn event_of(next: Next) -> Option<Taken>
-    ensures { result ≡ event_of next }
+pub(crate) fn event_handed_out(next: Next) -> Option<Taken>
+    ensures { result ≡ event_handed_out next }
 {
     match next {
         Next::Success { event } => Some(event),

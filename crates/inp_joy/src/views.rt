@@ -1,9 +1,9 @@
 //! What a view tells of a key and of an axis.
 ghost use Rattle.std.specs.Prelude.{◌≡◌, length};
-ghost use Rattle.inp_joy.specs.JoyRecord.{cut};
+ghost use Rattle.inp_joy.specs.JoyRecord.{within_16_bits};
 ghost use Rattle.inp_joy.specs.Picture.{is_down_in, value_in};
 
-use crate::joy_record::cut;
+use crate::joy_record::within_16_bits;
 use inp_recon::View;
 
 // Whether a key is down; none is past the last one.
@@ -26,10 +26,10 @@ fn axis_of(view: &View, code: u16) -> i32
     }
 }
 
-// The same, cut.
+// The same, cut to 16 bits.
 pub(crate) fn cut_axis_of(view: &View, code: u16) -> i16
     requires { length view.now.axes ≡ 64 }
-    ensures { result ≡ cut (value_in view.now code) }
+    ensures { result ≡ within_16_bits (value_in view.now code) }
 {
-    cut(axis_of(view, code))
+    within_16_bits(axis_of(view, code))
 }

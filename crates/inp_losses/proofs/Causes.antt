@@ -17,7 +17,7 @@ use Rattle.inp_model.specs.Frame.{frames_of_step}
 use Rattle.inp_model.specs.Queue.{Entry, event_of, entry_dropped_at, is_empty, ends_in_report, put, put_all, entries, visible, stays, flush_behind, flush_for, is_same_clock, clock_entry, clock_changed, left_by_call, queue, queue_with, taken_by, took, took_with}
 use Rattle.inp_recon.proofs.Each.{Each, Each-append, Each-weaker, Each-take, Each-drop}
 use Rattle.inp_recon.proofs.Queueing.{put_all-append, flush-each}
-use Rattle.inp_losses.specs.Losses.{queue_before_frames, MeetsFullRing, ChangesClock, HasCause, IsCaused, AreQueuedCaused, AreTakenCaused}
+use Rattle.inp_losses.specs.Losses.{queue_before_frames, MeetsFullRing, ChangesClock, IsCausedAt, IsCaused, AreQueuedCaused, AreTakenCaused}
 use Rattle.inp_losses.proofs.Passing.{ComesAt, cuts-no_loss, entries-come}
 
 -- ---- a ring's places
@@ -126,7 +126,7 @@ abbrev pub AreCaused : Description → List Step → ℕ → List Entry → Type
 AreCaused d past client q = Each (IsCaused d past client) q
 
 -- the newest step is the cause
-here : (d : Description) (past : List Step) (client place : ℕ) (x : Step) → place ≡ length past → MeetsFullRing d past client x ⊎ ChangesClock d past client x → HasCause d (x ∷ past) client place
+here : (d : Description) (past : List Step) (client place : ℕ) (x : Step) → place ≡ length past → MeetsFullRing d past client x ⊎ ChangesClock d past client x → IsCausedAt d (x ∷ past) client place
 here d past client place x at cause = record { before = past; step = x; later = []; whole = refl; at = at; cause = cause }
 
 -- a change of clock
@@ -247,7 +247,7 @@ read-caused d past client count = by (nat_eq client client)
     by false = tt
 
 -- a cause in a past is one in each longer past
-pub cause-later : (d : Description) (past more : List Step) (client place : ℕ) → HasCause d past client place → HasCause d (more ++ past) client place
+pub cause-later : (d : Description) (past more : List Step) (client place : ℕ) → IsCausedAt d past client place → IsCausedAt d (more ++ past) client place
 cause-later d past more client place c = record {
   before = c.before;
   step = c.step;

@@ -31,7 +31,7 @@ pub record ChangesClock (d : Description) (past : List Step) (client : ℕ) (x :
   pub queued : is_empty (queue d past client) ≡ false
 
 -- The step at this place of the past met a full ring of the client, or changed its clock.
-pub record HasCause (d : Description) (past : List Step) (client place : ℕ) : Type 0 where
+pub record IsCausedAt (d : Description) (past : List Step) (client place : ℕ) : Type 0 where
   pub before : List Step
   pub step : Step
   pub later : List Step
@@ -41,7 +41,7 @@ pub record HasCause (d : Description) (past : List Step) (client place : ℕ) : 
 
 -- where the entry tells of a loss, the step at its place caused it
 abbrev pub IsCaused : Description → List Step → ℕ → Entry → Type 0
-IsCaused d past client e = is_dropped (event_of e) ≡ true → HasCause d past client e.taken.place
+IsCaused d past client e = is_dropped (event_of e) ≡ true → IsCausedAt d past client e.taken.place
 
 -- each loss in a queue has its cause
 abbrev pub AreQueuedCaused : Type 0

@@ -3,7 +3,7 @@ ghost use Rattle.std.specs.Prelude.{◌≡◌, drop, map, string_bytes, IfOk};
 ghost use Rattle.std.specs.Process.{exit_status};
 ghost use Rattle.std.specs.Vec.Iter.{into_iter_items};
 ghost use Rattle.inp_tool.specs.Edge.{reads_of, writes_of};
-ghost use Rattle.inp_main.specs.Program.{EndsWith};
+ghost use Rattle.inp_main.specs.Program.{ExitsWith};
 
 use inp_edge::{Gate, Input, Sink};
 use inp_tool::inputplay;
@@ -24,7 +24,7 @@ pub fn run<R: Threads + Wait + Sync, I: Input, O: Sink, G: Gate>(
     out: &mut O,
     gate: &G,
 ) -> ExitCode
-    ensures ends { EndsWith (map string_bytes (drop 1 args.now))
+    ensures ends { ExitsWith (map string_bytes (drop 1 args.now))
         (reads_of I.files I.given I.left I.faults input.old input.new)
         (writes_of O.written O.faults out.old out.new)
         (exit_status result) }

@@ -4,7 +4,7 @@ use Rattle.inp_model.specs.declared.event.Event.{Event}
 use Rattle.inp_model.specs.Description.{supports, ring}
 use Rattle.inp_actors.specs.declared.line.Line.{Line}
 use Rattle.inp_actors.specs.declared.command.Command.TheVariants.{Follow}
-use Rattle.inp_make.specs.Generated.{pad, x_of, y_of, moment_of, follows, line, finger, fast, mid, slow, finger_events, frame_events, lines}
+use Rattle.inp_make.specs.Generated.{pad, x_of, y_of, frame_moment, follows, line, finger, fast, mid, slow, finger_events, frame_events, lines}
 
 -- how many lines an actor has
 abbrev pub line_count : ℕ → List Line → ℕ
@@ -35,7 +35,7 @@ HasFollows = (follows 8 ≡ line fast Follow ∷ []) × (follows 9 ≡ line fast
 
 -- the moments of the first frame and of the 20th
 abbrev pub HasMoments : Type 0
-HasMoments = (moment_of 0 ≡ 10000) × (moment_of 19 ≡ 200000)
+HasMoments = (frame_moment 0 ≡ 10000) × (frame_moment 19 ≡ 200000)
 
 -- the first frame has 42 events, and each later one 31
 abbrev pub CountsEvents : Type 0

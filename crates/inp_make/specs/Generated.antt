@@ -98,11 +98,11 @@ abbrev pub line : ℕ → Command → Line
 line number does = record { actor = number; command = does }
 
 -- all events of a frame have one moment, in microseconds
-abbrev pub moment_of : ℕ → ℕ
-moment_of frame = 10000 * (frame + 1)
+abbrev pub frame_moment : ℕ → ℕ
+frame_moment frame = 10000 * (frame + 1)
 
 abbrev pub injected : ℕ → Event → Line
-injected frame e = line finger (command.Event (moment_of frame) e.kind e.code e.value)
+injected frame e = line finger (command.Event (frame_moment frame) e.kind e.code e.value)
 
 -- `fast` reads after each frame, and `mid` after each tenth
 abbrev pub follows : ℕ → List Line

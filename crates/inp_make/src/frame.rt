@@ -1,7 +1,7 @@
 //! The lines of a frame.
 ghost use Rattle.std.specs.Prelude.{◌≡◌, ◌+◌, ◌%◌, [], ◌∷◌, ◌++◌, map, flat_map, OnOk};
 ghost use Rattle.std.specs.List.{range_with_len};
-ghost use Rattle.inp_make.specs.Generated.{x_of, y_of, axis_event, contact, finger_events, press, touches, frame_events, moment_of, injected, follows, frame_lines, finger, fast, mid, line};
+ghost use Rattle.inp_make.specs.Generated.{x_of, y_of, axis_event, contact, finger_events, press, touches, frame_events, frame_moment, injected, follows, frame_lines, finger, fast, mid, line};
 
 use crate::BTN_TOUCH;
 use inp_actors::{Command, Line, Lines};

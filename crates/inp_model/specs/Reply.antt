@@ -137,16 +137,16 @@ abbrev pub alone : Reply → Answer
 alone reply = record { reply = reply; events = []; cells = [] }
 
 -- a number by its binary digits, the lowest first
-abbrev pub number_of : List Bool → ℕ
-number_of [] = 0
-number_of (bit ∷ bits) = (if bit then 1 else 0) + 2 * number_of bits
+abbrev pub number_of_bits : List Bool → ℕ
+number_of_bits [] = 0
+number_of_bits (bit ∷ bits) = (if bit then 1 else 0) + 2 * number_of_bits bits
 
 -- 64 truth values from an index on, and so many words of them
-abbrev pub word_of : (ℕ → Bool) → ℕ → ℕ
-word_of test start = number_of (map (λ k. test (start + k)) (range_with_len 0 64))
+abbrev pub bitmap_word : (ℕ → Bool) → ℕ → ℕ
+bitmap_word test start = number_of_bits (map (λ k. test (start + k)) (range_with_len 0 64))
 
-abbrev pub words_of : (ℕ → Bool) → List ℕ
-words_of test = map (λ w. word_of test (64 * w)) (range_with_len 0 12)
+abbrev pub bitmap_of : (ℕ → Bool) → List ℕ
+bitmap_of test = map (λ w. bitmap_word test (64 * w)) (range_with_len 0 12)
 
 -- the present value of an axis; those whose values belong to slots have none of their own
 abbrev pub present_value : Description → List RawItem → ℕ → ℤ
@@ -178,7 +178,7 @@ code_on d r kind code = if nat_eq kind EV_KEY then key_down d r code else turned
 
 -- all codes of a type
 abbrev pub bits_answer : Description → List Step → ℕ → Answer
-bits_answer d past kind = alone (Bits (length past) (words_of (code_on d (raw d past) kind)))
+bits_answer d past kind = alone (Bits (length past) (bitmap_of (code_on d (raw d past) kind)))
 
 -- so many values of slots, with the slot that was announced when the last frame ended
 abbrev pub cells_answer : Description → List Step → ℕ → List ℤ → Answer

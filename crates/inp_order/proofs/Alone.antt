@@ -12,9 +12,8 @@ use Rattle.inp_model.specs.Past.{past_at}
 use Rattle.inp_model.specs.Reply.{Answer, IsAnswer, answer, is_accepted, past_after}
 use Rattle.inp_model.specs.Run.{Call, place_of}
 use Rattle.inp_model.specs.Leaves.{AreCalls}
-use Rattle.inp_reader.specs.Talk.{Talk, finish, ask, LeadsTo, EndsWith}
+use Rattle.inp_reader.specs.Talk.{Talk, finish, ask, LeadsTo, EndsWith, talk_with}
 use Rattle.inp_script.specs.Job.{Job}
-use Rattle.inp_order.specs.Play.{talk_with}
 use Rattle.inp_runs.proofs.Memory.{GivesUp, never_both}
 
 -- A call leaves no fewer places of others than there were
@@ -53,12 +52,12 @@ no_more xs [] none = ap reverse (append-nil xs)
 no_more xs (y ∷ more) none = absurd (omega (arith, none))
 
 -- the call was answered after all that was seen before, and nobody made a step besides
-record IsNextCall (d : Description) (past : List Step) (m : EvdevView) (call : Call) : Type 0 where
+record IsAloneAfterCall (d : Description) (past : List Step) (m : EvdevView) (call : Call) : Type 0 where
   exact : IsAnswer d past call.step call.answer
   now : reverse m.seen ≡ past_after call.answer.reply call.step past
   alone : length m.own ≡ length m.seen
 
-next_call : (d : Description) (a m : EvdevView) (call : Call) → a.description ≡ d → length a.own ≡ length a.seen → length m.seen ≤ length m.own → IsCall a m call → IsNextCall d (reverse a.seen) m call
+next_call : (d : Description) (a m : EvdevView) (call : Call) → a.description ≡ d → length a.own ≡ length a.seen → length m.seen ≤ length m.own → IsCall a m call → IsAloneAfterCall d (reverse a.seen) m call
 next_call d a m call same full few h = by_flag (is_accepted call.answer.reply) h.own h.long h.placed.entered refl
   where
     at : ℕ
@@ -77,7 +76,7 @@ next_call d a m call same full few h = by_flag (is_accepted call.answer.reply) h
         subst (λ (past : List Step). IsAnswer d past call.step call.answer) before
         (subst (λ (e : Description). IsAnswer e (past_at m.seen at) call.step call.answer) (h.description ∙ same) h.placed.exact)
 
-    by_flag : (b : Bool) → m.own ≡ (if b then a.own ++ at ∷ [] else a.own) → length m.seen ≡ (if b then suc at else at) → (IsTrue b → slice_get m.seen at ≡ Some call.step) → is_accepted call.answer.reply ≡ b → IsNextCall d (reverse a.seen) m call
+    by_flag : (b : Bool) → m.own ≡ (if b then a.own ++ at ∷ [] else a.own) → length m.seen ≡ (if b then suc at else at) → (IsTrue b → slice_get m.seen at ≡ Some call.step) → is_accepted call.answer.reply ≡ b → IsAloneAfterCall d (reverse a.seen) m call
     by_flag true own long entered e =
         let place : at ≡ length a.seen = omega (arith, h.fresh, long, few, full, ap length own, length-append a.own (at ∷ [])) in
         let one : length more ≡ 1 = omega (arith, long, place, ap length whole, length-append a.seen more) in
@@ -106,7 +105,7 @@ calls-alone d a b (finish o) (call ∷ calls) j same full all g h are = elim h [
 calls-alone d a b (ask x rest) (call ∷ calls) j same full all g h are =
     let m : EvdevView = are.0 in
     let few : length m.seen ≤ length m.own = omega (arith, all, calls-gap m b calls are.2) in
-    let next : IsNextCall d (reverse a.seen) m call = next_call d a m call same full few are.1 in
+    let next : IsAloneAfterCall d (reverse a.seen) m call = next_call d a m call same full few are.1 in
     let more : talk_with d (reverse m.seen) (rest call.answer) ≡ (Some j, reverse b.seen) =
     calls-alone d m b (rest call.answer) calls j (are.1.description ∙ same) next.alone all (g.1 call.answer) h.1 are.2 in
     elim next.exact [

@@ -10,23 +10,17 @@ use Rattle.inp_model.specs.Reply.{Answer, answer, refused, past_after, is_accept
 use Rattle.inp_model.specs.Run.{Call, IsLegalRun, place_of}
 use Rattle.inp_model.proofs.Telling.{called_by, given_place}
 use Rattle.inp_model.specs.Leaves.{AreCalls}
-use Rattle.inp_reader.specs.Talk.{Talk, finish, ask, LeadsTo, EndsWith}
+use Rattle.inp_reader.specs.Talk.{Talk, finish, ask, LeadsTo, EndsWith, talk_with, calls_with}
 use Rattle.inp_model.specs.History.{IsHistory}
 use Rattle.inp_reader.proofs.LessEffort.{place-below}
 use Rattle.inp_script.proofs.Replies.{answer_has}
 use Rattle.inp_script.proofs.Runs.{runs-on}
 use Rattle.inp_model.proofs.Leaves.{seen-kept}
-use Rattle.inp_runs.specs.Job.{lacks_memory}
+use Rattle.inp_runs.specs.Job.{call_lacks_memory}
 use Rattle.inp_runs.proofs.LeftByTalks.{AreAnswered}
 use Rattle.inp_runs.proofs.Memory.{answered-memory}
-use Rattle.inp_order.specs.Play.{talk_with}
 
--- the calls of a talk, after this past
-unfoldable pub calls_with : {A : Type 0} → Description → List Step → Talk A → List Call
-calls_with d past (finish a) = []
-calls_with d past (ask x rest) = record { step = x; answer = answer d past x } ∷ calls_with d (past_after (answer d past x).reply x past) (rest (answer d past x))
-
--- they are those of the talk
+-- the calls that a talk makes are its own
 pub talk_with-ends : {A : Type 0} (d : Description) (past : List Step) (talk : Talk A) → EndsWith talk (calls_with d past talk) (talk_with d past talk).0
 unfolding LeadsTo talk_with calls_with
 talk_with-ends d past (finish a) = refl
@@ -114,7 +108,7 @@ pub exact-answered : (d : Description) (past after : List Step) (calls : List Ca
 exact-answered d past after [] e = tt
 exact-answered d past after (call ∷ calls) e = (past, e.0, exact-answered d (past_after call.answer.reply call.step past) after calls e.1)
 
-pub exact-memory : (d : Description) (past after : List Step) (calls : List Call) → AreExact d past after calls → list_any lacks_memory calls ≡ false
+pub exact-memory : (d : Description) (past after : List Step) (calls : List Call) → AreExact d past after calls → list_any call_lacks_memory calls ≡ false
 exact-memory d past after calls e = answered-memory d calls (exact-answered d past after calls e)
 
 -- The history stays within its limit

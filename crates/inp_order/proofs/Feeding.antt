@@ -15,8 +15,8 @@ use Rattle.inp_feedback.proofs.Lists.{reverse-cons, steps_in-kept_of, kept_of-fe
 use Rattle.inp_feedback.proofs.Woven.{kept-longer}
 use Rattle.inp_script.specs.declared.stop.Stop.{Stop}
 use Rattle.inp_script.specs.Owner.{Owning, first_owning, stop_after_answer, after_feedback}
-use Rattle.inp_runs.specs.Owner.{HasFed, IsRefused, EndsFed}
-use Rattle.inp_order.specs.Play.{calls_after}
+use Rattle.inp_runs.specs.Owner.{HasFed, IsRefusedAtLimit, EndsFed}
+use Rattle.inp_order.specs.Play.{feedback_calls_after}
 
 -- An owner did the feedback calls with room for so many events each, on a device that keeps this: all of them, or those up
 -- to one that was refused.
@@ -89,7 +89,7 @@ fed-unstopped d (Feedback count ∷ kept) (room ∷ rooms) o h = ap (λ (w : Own
     by_flag false e = refl
 
 -- a refused call stops the owner
-refused-stops : (d : Description) (kept : List UEntry) (rooms done : List ℕ) (before last : Owning) → IsRefused d kept rooms done before last → last.stop ≡ None → ⊥
+refused-stops : (d : Description) (kept : List UEntry) (rooms done : List ℕ) (before last : Owning) → IsRefusedAtLimit d kept rooms done before last → last.stop ≡ None → ⊥
 refused-stops d kept rooms done before last refused none = by_flag (is_full_of_feedback d refused.found) refused.full (sym (ap (λ (w : Owning). w.stop) refused.told) ∙ none)
   where
     at : ℕ
@@ -124,7 +124,7 @@ so-far-stopped d kept rooms last room stop is s = record { done = s.done; before
     })
 
 -- a call stands behind the steps that were kept when it was made
-pub called-within : (d : Description) (past : List Step) (calls : List FeedbackCall) (room : ℕ) → StandsWithin (length past) calls → StandsWithin (length past) (calls_after (fed d (kept_of past calls) room) calls)
+pub called-within : (d : Description) (past : List Step) (calls : List FeedbackCall) (room : ℕ) → StandsWithin (length past) calls → StandsWithin (length past) (feedback_calls_after (fed d (kept_of past calls) room) calls)
 called-within d past calls room within = by_flag (is_full_of_feedback d (kept_of past calls))
   where
     at : ℕ
@@ -133,13 +133,13 @@ called-within d past calls room within = by_flag (is_full_of_feedback d (kept_of
     count : ℕ
     count = length (taken_by_feedback d (kept_of past calls) room)
 
-    by_flag : (b : Bool) → StandsWithin (length past) (calls_after (if b then Full at else Took at count) calls)
+    by_flag : (b : Bool) → StandsWithin (length past) (feedback_calls_after (if b then Full at else Took at count) calls)
     by_flag true = within
     by_flag false = omega (arith, ap length (steps_in-kept_of past calls))
 
 -- the owner made its call
 pub so-far-called : (d : Description) (past : List Step) (calls : List FeedbackCall) (rooms : List ℕ) (last : Owning) (room : ℕ) → last.stop ≡ None → IsFedSoFar d (kept_of past calls) rooms last
-    → IsFedSoFar d (kept_of past (calls_after (fed d (kept_of past calls) room) calls)) (rooms ++ room ∷ []) (after_feedback (fed d (kept_of past calls) room) (taken_by_feedback d (kept_of past calls) room) last)
+    → IsFedSoFar d (kept_of past (feedback_calls_after (fed d (kept_of past calls) room) calls)) (rooms ++ room ∷ []) (after_feedback (fed d (kept_of past calls) room) (taken_by_feedback d (kept_of past calls) room) last)
 unfolding HasFed
 so-far-called d past calls rooms last room going s = by_end s.ends
   where
@@ -153,7 +153,7 @@ so-far-called d past calls rooms last room going s = by_end s.ends
     taken = taken_by_feedback d kept room
 
     by_flag : (b : Bool) → is_full_of_feedback d kept ≡ b → reverse s.done ≡ rooms → last ≡ s.before
-        → IsFedSoFar d (kept_of past (calls_after (if b then Full at else Took at (length taken)) calls)) (rooms ++ room ∷ []) (after_feedback (if b then Full at else Took at (length taken)) taken last)
+        → IsFedSoFar d (kept_of past (feedback_calls_after (if b then Full at else Took at (length taken)) calls)) (rooms ++ room ∷ []) (after_feedback (if b then Full at else Took at (length taken)) taken last)
     by_flag true e all same = record {
       done = s.done;
       before = s.before;
@@ -189,6 +189,6 @@ so-far-called d past calls rooms last room going s = by_end s.ends
           ends = inl (reverse-cons s.done room ∙ ap (λ (rs : List ℕ). rs ++ room ∷ []) all, refl);
         })
 
-    by_end : EndsFed d kept rooms s.done s.before last → IsFedSoFar d (kept_of past (calls_after (fed d kept room) calls)) (rooms ++ room ∷ []) (after_feedback (fed d kept room) taken last)
+    by_end : EndsFed d kept rooms s.done s.before last → IsFedSoFar d (kept_of past (feedback_calls_after (fed d kept room) calls)) (rooms ++ room ∷ []) (after_feedback (fed d kept room) taken last)
     by_end (inl all) = by_flag (is_full_of_feedback d kept) refl all.0 all.1
     by_end (inr refused) = absurd (refused-stops d kept rooms s.done s.before last refused going)

@@ -18,15 +18,15 @@ use Rattle.inp_feedback.specs.declared.feedback_call.FeedbackCall.{FeedbackCall}
 use Rattle.inp_feedback.specs.declared.u_entry.UEntry.{UEntry}
 use Rattle.inp_feedback.specs.Feedback.{taken_by_feedback, fed}
 use Rattle.inp_feedback.specs.Kept.{kept_of}
-use Rattle.inp_reader.specs.Talk.{Talk, finish, LeadsTo, EndsWith}
+use Rattle.inp_reader.specs.Talk.{Talk, finish, LeadsTo, EndsWith, talk_with, calls_with}
 use Rattle.inp_script.specs.declared.sight.Sight.{Sight}
 use Rattle.inp_script.specs.declared.stop.Stop.{Stop}
 use Rattle.inp_script.specs.Doing.{line_talk, unless_stopped}
 use Rattle.inp_script.specs.Job.{Job, ActorView}
 use Rattle.inp_script.specs.Legal.{entries_of}
 use Rattle.inp_script.specs.Owner.{Owning, after_feedback}
-use Rattle.inp_order.specs.Play.{Stage, talk_with, calls_after, after_talk, unless_owner_stopped, by_command, after_line_of, after_line}
-use Rattle.inp_order.proofs.Calls.{AreExact, calls_with, talk_with-ends, talk_with-exact, exact-answered}
+use Rattle.inp_order.specs.Play.{Stage, feedback_calls_after, after_talk, unless_owner_stopped, by_command, after_line_of, after_line}
+use Rattle.inp_order.proofs.Calls.{AreExact, talk_with-ends, talk_with-exact, exact-answered}
 use Rattle.inp_runs.proofs.LeftByTalks.{leaves-ends}
 use Rattle.inp_runs.proofs.LineTalks.{IsKept, IsKeptIfSome, leaves-line}
 use Rattle.inp_runs.proofs.Listing.{IsImage, option_map-some}
@@ -36,18 +36,18 @@ use Rattle.inp_runs.proofs.Listing.{IsImage, option_map-some}
 abbrev pub IsFedUnless : Option Stop → Stage → Stage → ℕ → ActorView → ℕ → List Step → List FeedbackCall → Owning → Type 0
 IsFedUnless None stage now device a room past calls owning =
     let kept = kept_of past calls in
-    (now.calls ≡ slice_set stage.calls device (calls_after (fed a.description kept room) calls))
+    (now.calls ≡ slice_set stage.calls device (feedback_calls_after (fed a.description kept room) calls))
     × (owning ≡ after_feedback (fed a.description kept room) (taken_by_feedback a.description kept room) a.owning)
 IsFedUnless (Some stop) stage now device a room past calls owning = (now.calls ≡ stage.calls) × (owning ≡ a.owning)
 
 -- what a line leaves of the feedback calls and of what its actor keeps as an owner, by whether it is a feedback call
-abbrev pub IsFedBy : Option ℕ → Stage → Stage → ℕ → ActorView → List Step → Owning → Type 0
-IsFedBy None stage now device a past owning = (now.calls ≡ stage.calls) × (owning ≡ a.owning)
-IsFedBy (Some room) stage now device a past owning =
+abbrev pub IsFedWhereAsked : Option ℕ → Stage → Stage → ℕ → ActorView → List Step → Owning → Type 0
+IsFedWhereAsked None stage now device a past owning = (now.calls ≡ stage.calls) × (owning ≡ a.owning)
+IsFedWhereAsked (Some room) stage now device a past owning =
     (calls : List FeedbackCall) × (slice_get stage.calls device ≡ Some calls) × IsFedUnless a.owning.stop stage now device a room past calls owning
 
 -- An actor did a line on its device, after this past and up to the other one.
-pub record IsLineDone (r : RecordView) (rounds : ℕ) (stage now : Stage) (line : Line) : Type 0 where
+pub record IsLinePlayed (r : RecordView) (rounds : ℕ) (stage now : Stage) (line : Line) : Type 0 where
   pub text : ActorText
   pub is_text : slice_get r.actors line.actor ≡ Some text
   pub actor : ActorView
@@ -63,7 +63,7 @@ pub record IsLineDone (r : RecordView) (rounds : ℕ) (stage now : Stage) (line 
   pub kept : (entries : List Sight) → IsKept actor.description actor.job entries → IsKept actor.description job (entries ++ entries_of calls)
   pub pasts : now.pasts ≡ slice_set stage.pasts text.device after
   pub actors : now.actors ≡ slice_set stage.actors actor.actor (record actor { job = job; owning = owning })
-  pub is_fed : IsFedBy (feedback_room line.command) stage now text.device actor past owning
+  pub is_fed : IsFedWhereAsked (feedback_room line.command) stage now text.device actor past owning
 
 -- The actor of a feedback call's line stands at its number, and its role has the command.
 abbrev pub MayDo : RecordView → Stage → Line → Type 0
@@ -76,7 +76,7 @@ MayDo r stage line =
 -- a line of a talk
 
 talked : (r : RecordView) (rounds : ℕ) (stage now : Stage) (line : Line) (text : ActorText) (a : ActorView) (past : List Step) → slice_get r.actors line.actor ≡ Some text → slice_get stage.actors line.actor ≡ Some a → slice_get stage.pasts text.device ≡ Some past
-    → feedback_room line.command ≡ None → after_talk stage text.device a (talk_with a.description past (line_talk a.role a.description r.streams None rounds line.command a.job)) ≡ Some now → IsLineDone r rounds stage now line
+    → feedback_room line.command ≡ None → after_talk stage text.device a (talk_with a.description past (line_talk a.role a.description r.streams None rounds line.command a.job)) ≡ Some now → IsLinePlayed r rounds stage now line
 talked r rounds stage now line text a past is_text is_actor is_past no_room h =
     let d : Description = a.description in
     let talk : Talk (Option Job) = line_talk a.role d r.streams None rounds line.command a.job in
@@ -100,7 +100,7 @@ talked r rounds stage now line text a past is_text is_actor is_past no_room h =
           (leaves-ends d (IsKeptIfSome d) entries talk (calls_with d past talk) done.0 (exact-answered d past done.1 (calls_with d past talk) (talk_with-exact d past talk)) (talk_with-ends d past talk) (leaves-line a.role d r.streams rounds line.command a.job entries k));
       pasts = ap (λ (s : Stage). s.pasts) (sym image.same);
       actors = ap (λ (s : Stage). s.actors) (sym image.same);
-      is_fed = subst (λ (o : Option ℕ). IsFedBy o stage now text.device a past a.owning) (sym no_room) (ap (λ (s : Stage). s.calls) (sym image.same), refl);
+      is_fed = subst (λ (o : Option ℕ). IsFedWhereAsked o stage now text.device a past a.owning) (sym no_room) (ap (λ (s : Stage). s.calls) (sym image.same), refl);
     }
 
 -- a line of a feedback call
@@ -165,7 +165,7 @@ nothing-said r rounds line a role = owner-talk a.role a.description r.streams ro
 
 was-fed : (r : RecordView) (rounds : ℕ) (stage now : Stage) (line : Line) (text : ActorText) (a : ActorView) (past : List Step) (room : ℕ) → slice_get r.actors line.actor ≡ Some text → slice_get stage.actors line.actor ≡ Some a → slice_get stage.pasts text.device ≡ Some past
     → feedback_room line.command ≡ Some room → a.actor ≡ line.actor → a.role ≡ Owner
-    → option_map (λ calls. unless_owner_stopped a.owning.stop stage text.device a room past calls) (slice_get stage.calls text.device) ≡ Some now → IsLineDone r rounds stage now line
+    → option_map (λ calls. unless_owner_stopped a.owning.stop stage text.device a room past calls) (slice_get stage.calls text.device) ≡ Some now → IsLinePlayed r rounds stage now line
 was-fed r rounds stage now line text a past room is_text is_actor is_past is_room number role h =
     let image : IsImage (λ (calls : List FeedbackCall). unless_owner_stopped a.owning.stop stage text.device a room past calls) (slice_get stage.calls text.device) now =
     option_map-some (λ (calls : List FeedbackCall). unless_owner_stopped a.owning.stop stage text.device a room past calls) (slice_get stage.calls text.device) now h in
@@ -187,22 +187,22 @@ was-fed r rounds stage now line text a past room is_text is_actor is_past is_roo
       kept = λ entries k. subst (λ (es : List Sight). IsKept a.description a.job es) (sym (append-nil entries)) k;
       pasts = u.pasts ∙ sym (set_same stage.pasts text.device past is_past);
       actors = u.actors;
-      is_fed = subst (λ (o : Option ℕ). IsFedBy o stage now text.device a past u.owning) (sym is_room) (image.from, image.is, u.is_fed);
+      is_fed = subst (λ (o : Option ℕ). IsFedWhereAsked o stage now text.device a past u.owning) (sym is_room) (image.from, image.is, u.is_fed);
     }
 
 line_was_done : (r : RecordView) (rounds : ℕ) (stage now : Stage) (line : Line) (text : ActorText) (a : ActorView) (past : List Step) → MayDo r stage line → slice_get r.actors line.actor ≡ Some text → slice_get stage.actors line.actor ≡ Some a → slice_get stage.pasts text.device ≡ Some past
-    → after_line_of r rounds stage line text.device a past ≡ Some now → IsLineDone r rounds stage now line
+    → after_line_of r rounds stage line text.device a past ≡ Some now → IsLinePlayed r rounds stage now line
 line_was_done r rounds stage now line text a past may is_text is_actor is_past h = by_room (feedback_room line.command) refl h
   where
     by_room : (o : Option ℕ) → feedback_room line.command ≡ o
         → by_command o stage text.device a past (after_talk stage text.device a (talk_with a.description past (line_talk a.role a.description r.streams None rounds line.command a.job))) ≡ Some now
-        → IsLineDone r rounds stage now line
+        → IsLinePlayed r rounds stage now line
     by_room None e is = talked r rounds stage now line text a past is_text is_actor is_past e is
     by_room (Some room) e is =
         let m : (a.actor ≡ line.actor) × (is_command_of a.role line.command ≡ true) = may room text a past e is_text is_actor is_past in
         was-fed r rounds stage now line text a past room is_text is_actor is_past e m.0 (feedback-of a.role line.command room e m.1) is
 
-pub line-done : (r : RecordView) (rounds : ℕ) (stage now : Stage) (line : Line) → MayDo r stage line → after_line r rounds stage line ≡ Some now → IsLineDone r rounds stage now line
+pub line-done : (r : RecordView) (rounds : ℕ) (stage now : Stage) (line : Line) → MayDo r stage line → after_line r rounds stage line ≡ Some now → IsLinePlayed r rounds stage now line
 unfolding after_line
 line-done r rounds stage now line may h =
     option_and_then_some _ (slice_get r.actors line.actor) now h (λ text is_text h1.

@@ -23,10 +23,10 @@ use Rattle.inp_runs.specs.Job.{lines_by}
 use Rattle.inp_runs.specs.Owner.{rooms_of}
 use Rattle.inp_runs.proofs.LineRuns.{lines_by-more, lines_by-other}
 use Rattle.inp_runs.proofs.Listing.{eq_true, eq_false, slice_get-set, slice_get-set_same}
-use Rattle.inp_order.specs.Play.{Stage, description_at, calls_after, after_line, after_lines}
+use Rattle.inp_order.specs.Play.{Stage, description_at, feedback_calls_after, after_line, after_lines}
 use Rattle.inp_order.proofs.Calls.{AreExact}
 use Rattle.inp_order.proofs.Feeding.{IsFedSoFar, so-far-steps, so-far-stopped, so-far-called, called-within}
-use Rattle.inp_order.proofs.LineDone.{IsFedUnless, IsFedBy, IsLineDone, feedback-of, line-done}
+use Rattle.inp_order.proofs.LineDone.{IsFedUnless, IsFedWhereAsked, IsLinePlayed, feedback-of, line-done}
 use Rattle.inp_order.proofs.Stages.{IsStage, AreCommandsOf, number_is, may-do, stage-more, append_one, its_number, its_actor, actor-behind, past-behind}
 
 -- What stands of owners when these lines were done.
@@ -60,7 +60,7 @@ record IsGrown (stage : Stage) (i : ℕ) (after : List Step) : Type 0 where
   more : List Step
   grown : after ≡ more ++ past
 
-past-grown : (r : RecordView) (rounds : ℕ) (stage now : Stage) (line : Line) (u : IsLineDone r rounds stage now line) (i : ℕ) (after : List Step) → slice_get now.pasts i ≡ Some after → IsGrown stage i after
+past-grown : (r : RecordView) (rounds : ℕ) (stage now : Stage) (line : Line) (u : IsLinePlayed r rounds stage now line) (i : ℕ) (after : List Step) → slice_get now.pasts i ≡ Some after → IsGrown stage i after
 past-grown r rounds stage now line u i after is_after = by_past (past-behind r rounds stage now line u i after is_after)
   where
     by_past : ((i ≡ u.text.device) × (after ≡ u.after)) ⊎ ((i ≡ u.text.device → ⊥) × (slice_get stage.pasts i ≡ Some after)) → IsGrown stage i after
@@ -76,22 +76,22 @@ longer-within past after more (call ∷ calls) grown h = omega (arith, h, ap len
 -- What a line leaves of feedback calls
 
 -- The line made no feedback call: it is another one, or its owner had stopped.
-record IsUncalled (r : RecordView) (rounds : ℕ) (stage now : Stage) (line : Line) (u : IsLineDone r rounds stage now line) : Type 0 where
+record IsUncalled (r : RecordView) (rounds : ℕ) (stage now : Stage) (line : Line) (u : IsLinePlayed r rounds stage now line) : Type 0 where
   calls : now.calls ≡ stage.calls
   owning : u.owning ≡ u.actor.owning
   why : (feedback_room line.command ≡ None) ⊎ ((room : ℕ) × (feedback_room line.command ≡ Some room) × (stop : Stop) × (u.actor.owning.stop ≡ Some stop))
 
 -- The line made a feedback call.
-record IsCalled (r : RecordView) (rounds : ℕ) (stage now : Stage) (line : Line) (u : IsLineDone r rounds stage now line) : Type 0 where
+record IsCalled (r : RecordView) (rounds : ℕ) (stage now : Stage) (line : Line) (u : IsLinePlayed r rounds stage now line) : Type 0 where
   room : ℕ
   is_room : feedback_room line.command ≡ Some room
   going : u.actor.owning.stop ≡ None
   calls : List FeedbackCall
   is_calls : slice_get stage.calls u.text.device ≡ Some calls
-  now_calls : now.calls ≡ slice_set stage.calls u.text.device (calls_after (fed u.actor.description (kept_of u.past calls) room) calls)
+  now_calls : now.calls ≡ slice_set stage.calls u.text.device (feedback_calls_after (fed u.actor.description (kept_of u.past calls) room) calls)
   owning : u.owning ≡ after_feedback (fed u.actor.description (kept_of u.past calls) room) (taken_by_feedback u.actor.description (kept_of u.past calls) room) u.actor.owning
 
-by-call : (r : RecordView) (rounds : ℕ) (stage now : Stage) (line : Line) (u : IsLineDone r rounds stage now line) → IsUncalled r rounds stage now line u ⊎ IsCalled r rounds stage now line u
+by-call : (r : RecordView) (rounds : ℕ) (stage now : Stage) (line : Line) (u : IsLinePlayed r rounds stage now line) → IsUncalled r rounds stage now line u ⊎ IsCalled r rounds stage now line u
 by-call r rounds stage now line u = by_room (feedback_room line.command) refl u.is_fed
   where
     by_stop : (room : ℕ) → feedback_room line.command ≡ Some room → (calls : List FeedbackCall) → slice_get stage.calls u.text.device ≡ Some calls
@@ -100,7 +100,7 @@ by-call r rounds stage now line u = by_room (feedback_room line.command) refl u.
     by_stop room e calls is None f h = inr (record { room = room; is_room = e; going = f; calls = calls; is_calls = is; now_calls = h.0; owning = h.1 })
     by_stop room e calls is (Some stop) f h = inl (record { calls = h.0; owning = h.1; why = inr (room, e, stop, f) })
 
-    by_room : (o : Option ℕ) → feedback_room line.command ≡ o → IsFedBy o stage now u.text.device u.actor u.past u.owning → IsUncalled r rounds stage now line u ⊎ IsCalled r rounds stage now line u
+    by_room : (o : Option ℕ) → feedback_room line.command ≡ o → IsFedWhereAsked o stage now u.text.device u.actor u.past u.owning → IsUncalled r rounds stage now line u ⊎ IsCalled r rounds stage now line u
     by_room None e h = inl (record { calls = h.0; owning = h.1; why = inl e })
     by_room (Some room) e h = by_stop room e h.0 h.1 u.actor.owning.stop refl h.2
 
@@ -117,7 +117,7 @@ rooms-other number lines line other = ap rooms_of (lines_by-other number lines l
 
 -- One line
 
-within-more : (r : RecordView) (rounds : ℕ) (lines : List Line) (stage now : Stage) (line : Line) → AreOwned r lines stage → (u : IsLineDone r rounds stage now line)
+within-more : (r : RecordView) (rounds : ℕ) (lines : List Line) (stage now : Stage) (line : Line) → AreOwned r lines stage → (u : IsLinePlayed r rounds stage now line)
     → (i : ℕ) (past : List Step) (calls : List FeedbackCall) → slice_get now.pasts i ≡ Some past → slice_get now.calls i ≡ Some calls → StandsWithin (length past) calls
 within-more r rounds lines stage now line o u i past calls is_past is_calls = by (by-call r rounds stage now line u)
   where
@@ -127,25 +127,25 @@ within-more r rounds lines stage now line o u i past calls is_past is_calls = by
     as_before : slice_get stage.calls i ≡ Some calls → StandsWithin (length past) calls
     as_before is = longer-within g.past past g.more calls g.grown (o.within i g.past calls g.is_past is)
 
-    by_calls : (c : IsCalled r rounds stage now line u) → ((i ≡ u.text.device) × (calls ≡ calls_after (fed u.actor.description (kept_of u.past c.calls) c.room) c.calls)) ⊎ ((i ≡ u.text.device → ⊥) × (slice_get stage.calls i ≡ Some calls)) → StandsWithin (length past) calls
+    by_calls : (c : IsCalled r rounds stage now line u) → ((i ≡ u.text.device) × (calls ≡ feedback_calls_after (fed u.actor.description (kept_of u.past c.calls) c.room) c.calls)) ⊎ ((i ≡ u.text.device → ⊥) × (slice_get stage.calls i ≡ Some calls)) → StandsWithin (length past) calls
     by_calls c (inl here) =
         let before : g.past ≡ u.past = same_Some g.past u.past (sym g.is_past ∙ ap (λ (k : ℕ). slice_get stage.pasts k) here.0 ∙ u.is_past) in
-        let new : StandsWithin (length u.past) (calls_after (fed u.actor.description (kept_of u.past c.calls) c.room) c.calls) =
+        let new : StandsWithin (length u.past) (feedback_calls_after (fed u.actor.description (kept_of u.past c.calls) c.room) c.calls) =
         called-within u.actor.description u.past c.calls c.room (o.within u.text.device u.past c.calls u.is_past c.is_calls) in
         longer-within g.past past g.more calls g.grown
         (subst (λ (cs : List FeedbackCall). StandsWithin (length g.past) cs) (sym here.1)
-        (subst (λ (p : List Step). StandsWithin (length p) (calls_after (fed u.actor.description (kept_of u.past c.calls) c.room) c.calls)) (sym before) new))
+        (subst (λ (p : List Step). StandsWithin (length p) (feedback_calls_after (fed u.actor.description (kept_of u.past c.calls) c.room) c.calls)) (sym before) new))
     by_calls c (inr there) = as_before there.1
 
     by : IsUncalled r rounds stage now line u ⊎ IsCalled r rounds stage now line u → StandsWithin (length past) calls
     by (inl n) = as_before (ap (λ (cs : List (List FeedbackCall)). slice_get cs i) (sym n.calls) ∙ is_calls)
     by (inr c) =
         by_calls c
-        (slice_get-set stage.calls u.text.device i c.calls (calls_after (fed u.actor.description (kept_of u.past c.calls) c.room) c.calls) calls c.is_calls
+        (slice_get-set stage.calls u.text.device i c.calls (feedback_calls_after (fed u.actor.description (kept_of u.past c.calls) c.room) c.calls) calls c.is_calls
         (ap (λ (cs : List (List FeedbackCall)). slice_get cs i) (sym c.now_calls) ∙ is_calls))
 
 -- the owner of the line, behind it
-its_owning : (r : RecordView) (rounds : ℕ) (lines : List Line) (stage now : Stage) (line : Line) → IsStage r rounds lines stage → AreOwned r lines stage → (u : IsLineDone r rounds stage now line)
+its_owning : (r : RecordView) (rounds : ℕ) (lines : List Line) (stage now : Stage) (line : Line) → IsStage r rounds lines stage → AreOwned r lines stage → (u : IsLinePlayed r rounds stage now line)
     → (past : List Step) (calls : List FeedbackCall) → u.text.role ≡ Owner → slice_get now.pasts u.text.device ≡ Some past → slice_get now.calls u.text.device ≡ Some calls
     → IsFedSoFar (description_at r u.text.device) (kept_of past calls) (rooms_of (lines_by u.actor.actor (lines ++ line ∷ []))) u.owning
 its_owning r rounds lines stage now line s o u past calls owner is_past is_calls = by (by-call r rounds stage now line u)
@@ -186,7 +186,7 @@ its_owning r rounds lines stage now line s o u past calls owner is_past is_calls
         subst (λ (rs : List ℕ). IsFedSoFar d (kept_of u.past calls) rs u.actor.owning) (sym (rooms-line u.actor.actor lines line (Some stopped.0) own stopped.1))
         (so-far-stopped d (kept_of u.past calls) rooms u.actor.owning stopped.0 stopped.2 stopped.3 far)
 
-    called : (c : IsCalled r rounds stage now line u) → IsFedSoFar d (kept_of u.past (calls_after (fed d (kept_of u.past c.calls) c.room) c.calls)) (rooms ++ c.room ∷ []) (after_feedback (fed d (kept_of u.past c.calls) c.room) (taken_by_feedback d (kept_of u.past c.calls) c.room) u.actor.owning)
+    called : (c : IsCalled r rounds stage now line u) → IsFedSoFar d (kept_of u.past (feedback_calls_after (fed d (kept_of u.past c.calls) c.room) c.calls)) (rooms ++ c.room ∷ []) (after_feedback (fed d (kept_of u.past c.calls) c.room) (taken_by_feedback d (kept_of u.past c.calls) c.room) u.actor.owning)
     called c = so-far-called d u.past c.calls rooms u.actor.owning c.room c.going (old c.calls c.is_calls)
 
     by : IsUncalled r rounds stage now line u ⊎ IsCalled r rounds stage now line u → IsFedSoFar d (kept_of past calls) more_rooms u.owning
@@ -196,11 +196,11 @@ its_owning r rounds lines stage now line s o u past calls owner is_past is_calls
         (so-far-steps d u.past past g.more calls more_rooms u.actor.owning (o.within u.text.device u.past calls u.is_past is) grown (uncalled n (old calls is) n.why))
     by (inr c) =
         let e : Description = u.actor.description in
-        let new : List FeedbackCall = calls_after (fed e (kept_of u.past c.calls) c.room) c.calls in
+        let new : List FeedbackCall = feedback_calls_after (fed e (kept_of u.past c.calls) c.room) c.calls in
         let is : new ≡ calls = same_Some new calls (sym (slice_get-set_same stage.calls u.text.device c.calls new c.is_calls) ∙ ap (λ (cs : List (List FeedbackCall)). slice_get cs u.text.device) (sym c.now_calls) ∙ is_calls) in
         let far : IsFedSoFar d (kept_of u.past new) (rooms ++ c.room ∷ []) (after_feedback (fed e (kept_of u.past c.calls) c.room) (taken_by_feedback e (kept_of u.past c.calls) c.room) u.actor.owning) =
         subst
-        (λ (f : Description). IsFedSoFar d (kept_of u.past (calls_after (fed f (kept_of u.past c.calls) c.room) c.calls)) (rooms ++ c.room ∷ []) (after_feedback (fed f (kept_of u.past c.calls) c.room) (taken_by_feedback f (kept_of u.past c.calls) c.room) u.actor.owning))
+        (λ (f : Description). IsFedSoFar d (kept_of u.past (feedback_calls_after (fed f (kept_of u.past c.calls) c.room) c.calls)) (rooms ++ c.room ∷ []) (after_feedback (fed f (kept_of u.past c.calls) c.room) (taken_by_feedback f (kept_of u.past c.calls) c.room) u.actor.owning))
         (sym description)
         (called c) in
         let told : IsFedSoFar d (kept_of u.past new) more_rooms u.owning =
@@ -211,11 +211,11 @@ its_owning r rounds lines stage now line s o u past calls owner is_past is_calls
         (so-far-steps d u.past past g.more new more_rooms u.owning within grown told)
 
 -- a line is a feedback call of this owner, or leaves its device's calls
-calls-before : (r : RecordView) (rounds : ℕ) (stage now : Stage) (line : Line) → HasOneOwner r → (u : IsLineDone r rounds stage now line) → (feedback : (room : ℕ) → feedback_room line.command ≡ Some room → u.text.role ≡ Owner)
+calls-before : (r : RecordView) (rounds : ℕ) (stage now : Stage) (line : Line) → HasOneOwner r → (u : IsLinePlayed r rounds stage now line) → (feedback : (room : ℕ) → feedback_room line.command ≡ Some room → u.text.role ≡ Owner)
     → (i : ℕ) (text : ActorText) (calls : List FeedbackCall) → slice_get r.actors i ≡ Some text → text.role ≡ Owner → (i ≡ line.actor → ⊥) → slice_get now.calls text.device ≡ Some calls → slice_get stage.calls text.device ≡ Some calls
 calls-before r rounds stage now line one u feedback i text calls is_text owner other is_calls = by (by-call r rounds stage now line u)
   where
-    by_calls : (c : IsCalled r rounds stage now line u) → ((text.device ≡ u.text.device) × (calls ≡ calls_after (fed u.actor.description (kept_of u.past c.calls) c.room) c.calls)) ⊎ ((text.device ≡ u.text.device → ⊥) × (slice_get stage.calls text.device ≡ Some calls)) → slice_get stage.calls text.device ≡ Some calls
+    by_calls : (c : IsCalled r rounds stage now line u) → ((text.device ≡ u.text.device) × (calls ≡ feedback_calls_after (fed u.actor.description (kept_of u.past c.calls) c.room) c.calls)) ⊎ ((text.device ≡ u.text.device → ⊥) × (slice_get stage.calls text.device ≡ Some calls)) → slice_get stage.calls text.device ≡ Some calls
     by_calls c (inl here) = absurd (other (one i line.actor text u.text is_text u.is_text owner (feedback c.room c.is_room) here.0))
     by_calls c (inr there) = there.1
 
@@ -223,10 +223,10 @@ calls-before r rounds stage now line one u feedback i text calls is_text owner o
     by (inl n) = ap (λ (cs : List (List FeedbackCall)). slice_get cs text.device) (sym n.calls) ∙ is_calls
     by (inr c) =
         by_calls c
-        (slice_get-set stage.calls u.text.device text.device c.calls (calls_after (fed u.actor.description (kept_of u.past c.calls) c.room) c.calls) calls c.is_calls
+        (slice_get-set stage.calls u.text.device text.device c.calls (feedback_calls_after (fed u.actor.description (kept_of u.past c.calls) c.room) c.calls) calls c.is_calls
         (ap (λ (cs : List (List FeedbackCall)). slice_get cs text.device) (sym c.now_calls) ∙ is_calls))
 
-owners-more : (r : RecordView) (rounds : ℕ) (lines : List Line) (stage now : Stage) (line : Line) → IsStage r rounds lines stage → AreOwned r lines stage → HasOneOwner r → (u : IsLineDone r rounds stage now line) → (feedback : (room : ℕ) → feedback_room line.command ≡ Some room → u.text.role ≡ Owner)
+owners-more : (r : RecordView) (rounds : ℕ) (lines : List Line) (stage now : Stage) (line : Line) → IsStage r rounds lines stage → AreOwned r lines stage → HasOneOwner r → (u : IsLinePlayed r rounds stage now line) → (feedback : (room : ℕ) → feedback_room line.command ≡ Some room → u.text.role ≡ Owner)
     → (i : ℕ) (a : ActorView) (text : ActorText) (past : List Step) (calls : List FeedbackCall) → slice_get now.actors i ≡ Some a → slice_get r.actors i ≡ Some text → text.role ≡ Owner → slice_get now.pasts text.device ≡ Some past → slice_get now.calls text.device ≡ Some calls
     → IsFedSoFar (description_at r text.device) (kept_of past calls) (rooms_of (lines_by a.actor (lines ++ line ∷ []))) a.owning
 owners-more r rounds lines stage now line s o one u feedback i a text past calls is_a is_text owner is_past is_calls = by_actor (actor-behind r rounds lines stage now line s u i a is_a)
@@ -256,16 +256,16 @@ owners-more r rounds lines stage now line s o one u feedback i a text past calls
     by_actor (inl is) = own is.0 is.1
     by_actor (inr is) = other is.0 is.1
 
-counts-more : (r : RecordView) (rounds : ℕ) (lines : List Line) (stage now : Stage) (line : Line) → AreOwned r lines stage → IsLineDone r rounds stage now line → length now.calls ≡ length r.devices
+counts-more : (r : RecordView) (rounds : ℕ) (lines : List Line) (stage now : Stage) (line : Line) → AreOwned r lines stage → IsLinePlayed r rounds stage now line → length now.calls ≡ length r.devices
 counts-more r rounds lines stage now line o u = by (by-call r rounds stage now line u)
   where
     by : IsUncalled r rounds stage now line u ⊎ IsCalled r rounds stage now line u → length now.calls ≡ length r.devices
     by (inl n) = ap (λ (cs : List (List FeedbackCall)). length cs) n.calls ∙ o.counts
     by (inr c) =
         ap (λ (cs : List (List FeedbackCall)). length cs) c.now_calls
-        ∙ length-set stage.calls u.text.device (calls_after (fed u.actor.description (kept_of u.past c.calls) c.room) c.calls) ∙ o.counts
+        ∙ length-set stage.calls u.text.device (feedback_calls_after (fed u.actor.description (kept_of u.past c.calls) c.room) c.calls) ∙ o.counts
 
-owned-more : (r : RecordView) (rounds : ℕ) (lines : List Line) (stage now : Stage) (line : Line) → IsStage r rounds lines stage → AreOwned r lines stage → HasOneOwner r → (u : IsLineDone r rounds stage now line) → (feedback : (room : ℕ) → feedback_room line.command ≡ Some room → u.text.role ≡ Owner)
+owned-more : (r : RecordView) (rounds : ℕ) (lines : List Line) (stage now : Stage) (line : Line) → IsStage r rounds lines stage → AreOwned r lines stage → HasOneOwner r → (u : IsLinePlayed r rounds stage now line) → (feedback : (room : ℕ) → feedback_room line.command ≡ Some room → u.text.role ≡ Owner)
     → AreOwned r (lines ++ line ∷ []) now
 owned-more r rounds lines stage now line s o one u feedback = record {
   counts = counts-more r rounds lines stage now line o u;
@@ -282,7 +282,7 @@ owned-stages r rounds lines [] stage last one s o commands h =
     subst (λ (now : Stage). AreOwned r (lines ++ []) now) same (subst (λ (ls : List Line). AreOwned r ls stage) (sym (append-nil lines)) o)
 owned-stages r rounds lines (line ∷ more) stage last one s o commands h =
     option_and_then_some _ (after_line r rounds stage line) last h (λ now is_now rest.
-    let u : IsLineDone r rounds stage now line = line-done r rounds stage now line (may-do r rounds lines more stage line s commands) is_now in
+    let u : IsLinePlayed r rounds stage now line = line-done r rounds stage now line (may-do r rounds lines more stage line s commands) is_now in
     let feedback : (room : ℕ) → feedback_room line.command ≡ Some room → u.text.role ≡ Owner = λ room is. feedback-of u.text.role line.command room is (commands 0 line u.text refl u.is_text) in
     subst (λ (ls : List Line). AreOwned r ls last) (append_one lines line more)
     (owned-stages r rounds (lines ++ line ∷ []) more now last one (stage-more r rounds lines stage now line s u) (owned-more r rounds lines stage now line s o one u feedback) (λ i. commands (suc i)) rest))

@@ -11,15 +11,15 @@ use Rattle.inp_actors.specs.declared.line.Line.{Line}
 use Rattle.inp_actors.specs.declared.role.Role.{Role}
 use Rattle.inp_actors.specs.Command.{feedback_room}
 use Rattle.inp_actors.specs.Record.{RecordView}
-use Rattle.inp_reader.specs.Talk.{Talk, finish, ask, and_then, EndsWith}
+use Rattle.inp_reader.specs.Talk.{Talk, finish, ask, and_then, EndsWith, talk_with, calls_with}
 use Rattle.inp_script.specs.declared.run.Played.{Played}
 use Rattle.inp_script.specs.declared.waiting.Waiting.{Waiting}
 use Rattle.inp_script.specs.Doing.{line_talk}
 use Rattle.inp_script.specs.Ended.{played_of}
 use Rattle.inp_script.specs.Job.{Job, ActorView}
 use Rattle.inp_runs.proofs.MoreRounds.{line-longer}
-use Rattle.inp_order.specs.Play.{Stage, talk_with, first_stage, after_talk, by_command, after_line, after_line_of, after_lines, runs_of, play}
-use Rattle.inp_order.proofs.Calls.{calls_with, exact-talk, talk_with-ends, talk_with-exact}
+use Rattle.inp_order.specs.Play.{Stage, first_stage, after_talk, by_command, after_line, after_line_of, after_lines, runs_of, play}
+use Rattle.inp_order.proofs.Calls.{exact-talk, talk_with-ends, talk_with-exact}
 
 -- one talk with a device after another
 pub talk_with-then : {A B : Type 0} (d : Description) (past : List Step) (talk : Talk A) (next : A → Talk B) → talk_with d past (and_then talk next) ≡ talk_with d (talk_with d past talk).1 (next (talk_with d past talk).0)

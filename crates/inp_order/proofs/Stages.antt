@@ -22,10 +22,10 @@ use Rattle.inp_script.specs.Owner.{Owning}
 use Rattle.inp_script.specs.Runs.{is_on_device}
 use Rattle.inp_model.proofs.Leaves.{HasPlace-longer}
 use Rattle.inp_script.proofs.Told.{entries_of-append}
-use Rattle.inp_runs.specs.Job.{lines_by, lines_talk, lacks_memory}
+use Rattle.inp_runs.specs.Job.{lines_by, lines_talk, call_lacks_memory}
 use Rattle.inp_order.specs.Play.{Stage, description_at, after_line, after_lines}
 use Rattle.inp_order.proofs.Calls.{AreExact, exact-grows, exact-legal, exact-memory, exact-within, exact-history}
-use Rattle.inp_order.proofs.LineDone.{IsLineDone, MayDo, line-done}
+use Rattle.inp_order.proofs.LineDone.{IsLinePlayed, MayDo, line-done}
 use Rattle.inp_runs.proofs.LineRuns.{lines_talk-more, lines_by-more, lines_by-other}
 use Rattle.inp_runs.proofs.LineTalks.{IsKept}
 use Rattle.inp_runs.proofs.Listing.{eq_true, eq_false, slice_get-set, map-set_same, slice_get-range, sum_by-replaced}
@@ -38,7 +38,7 @@ pub record IsSoFar (r : RecordView) (rounds : ℕ) (lines : List Line) (d : Desc
   pub description : a.description ≡ d
   pub calls : List Call
   pub legal : IsLegalRun d (reverse past) calls
-  pub memory : list_any lacks_memory calls ≡ false
+  pub memory : list_any call_lacks_memory calls ≡ false
   pub told : entries_of calls ≡ filter is_call_entry a.job.sight
   pub follows : EndsWith (lines_talk role d r.streams None rounds (lines_by a.actor lines) (first_job role d)) calls (Some a.job)
   pub sized : IsSizedFor d.slots a.job.reading.view
@@ -71,11 +71,11 @@ legal-longer d h k least [] begins l = tt
 legal-longer d h k least (call ∷ calls) begins l = (l.0, HasPlace-longer d h k call begins l.1, legal-longer d h k (next_place call.answer.reply) calls begins l.2)
 
 -- of an actor that did another line
-memory-append : (calls more : List Call) → list_any lacks_memory calls ≡ false → list_any lacks_memory more ≡ false → list_any lacks_memory (calls ++ more) ≡ false
+memory-append : (calls more : List Call) → list_any call_lacks_memory calls ≡ false → list_any call_lacks_memory more ≡ false → list_any call_lacks_memory (calls ++ more) ≡ false
 memory-append [] more h k = k
-memory-append (call ∷ calls) more h k = by_flag (lacks_memory call) (λ e. memory-append calls more e k) h
+memory-append (call ∷ calls) more h k = by_flag (call_lacks_memory call) (λ e. memory-append calls more e k) h
   where
-    by_flag : (b : Bool) → (list_any lacks_memory calls ≡ false → list_any lacks_memory (calls ++ more) ≡ false) → (b || list_any lacks_memory calls) ≡ false → (b || list_any lacks_memory (calls ++ more)) ≡ false
+    by_flag : (b : Bool) → (list_any call_lacks_memory calls ≡ false → list_any call_lacks_memory (calls ++ more) ≡ false) → (b || list_any call_lacks_memory calls) ≡ false → (b || list_any call_lacks_memory (calls ++ more)) ≡ false
     by_flag true longer e = absurd cc
     by_flag false longer e = longer e
 
@@ -117,10 +117,10 @@ so_far-other r rounds lines line d role past after a s other grows = record {
 -- One line
 
 -- the line's actor stands at its number
-pub its_number : (r : RecordView) (rounds : ℕ) (lines : List Line) (stage now : Stage) (line : Line) → IsStage r rounds lines stage → (u : IsLineDone r rounds stage now line) → u.actor.actor ≡ line.actor
+pub its_number : (r : RecordView) (rounds : ℕ) (lines : List Line) (stage now : Stage) (line : Line) → IsStage r rounds lines stage → (u : IsLinePlayed r rounds stage now line) → u.actor.actor ≡ line.actor
 its_number r rounds lines stage now line s u = number_is r rounds lines stage line.actor u.actor s u.is_actor
 
-pub actor-behind : (r : RecordView) (rounds : ℕ) (lines : List Line) (stage now : Stage) (line : Line) → IsStage r rounds lines stage → (u : IsLineDone r rounds stage now line) → (i : ℕ) (a : ActorView) → slice_get now.actors i ≡ Some a
+pub actor-behind : (r : RecordView) (rounds : ℕ) (lines : List Line) (stage now : Stage) (line : Line) → IsStage r rounds lines stage → (u : IsLinePlayed r rounds stage now line) → (i : ℕ) (a : ActorView) → slice_get now.actors i ≡ Some a
     → ((i ≡ line.actor) × (a ≡ record u.actor { job = u.job; owning = u.owning })) ⊎ ((i ≡ line.actor → ⊥) × (slice_get stage.actors i ≡ Some a))
 actor-behind r rounds lines stage now line s u i a h =
     let number : u.actor.actor ≡ line.actor = its_number r rounds lines stage now line s u in
@@ -128,20 +128,20 @@ actor-behind r rounds lines stage now line s u i a h =
     slice_get-set stage.actors line.actor i u.actor new a u.is_actor
     (ap (λ (k : ℕ). slice_get (slice_set stage.actors k new) i) (sym number) ∙ ap (λ (xs : List ActorView). slice_get xs i) (sym u.actors) ∙ h)
 
-pub past-behind : (r : RecordView) (rounds : ℕ) (stage now : Stage) (line : Line) (u : IsLineDone r rounds stage now line) (i : ℕ) (past : List Step) → slice_get now.pasts i ≡ Some past
+pub past-behind : (r : RecordView) (rounds : ℕ) (stage now : Stage) (line : Line) (u : IsLinePlayed r rounds stage now line) (i : ℕ) (past : List Step) → slice_get now.pasts i ≡ Some past
     → ((i ≡ u.text.device) × (past ≡ u.after)) ⊎ ((i ≡ u.text.device → ⊥) × (slice_get stage.pasts i ≡ Some past))
 past-behind r rounds stage now line u i past h = slice_get-set stage.pasts u.text.device i u.past u.after past u.is_past (ap (λ (ps : List (List Step)). slice_get ps i) (sym u.pasts) ∙ h)
 
 -- the line's actor had done the lines before
-pub its_actor : (r : RecordView) (rounds : ℕ) (lines : List Line) (stage now : Stage) (line : Line) → IsStage r rounds lines stage → (u : IsLineDone r rounds stage now line) → IsSoFar r rounds lines (description_at r u.text.device) u.text.role u.past u.actor
+pub its_actor : (r : RecordView) (rounds : ℕ) (lines : List Line) (stage now : Stage) (line : Line) → IsStage r rounds lines stage → (u : IsLinePlayed r rounds stage now line) → IsSoFar r rounds lines (description_at r u.text.device) u.text.role u.past u.actor
 its_actor r rounds lines stage now line s u = s.actors line.actor u.actor u.text u.past u.is_actor u.is_text u.is_past
 
-its_kept : (r : RecordView) (rounds : ℕ) (lines : List Line) (stage now : Stage) (line : Line) → IsStage r rounds lines stage → (u : IsLineDone r rounds stage now line) → IsKept u.actor.description u.job (filter is_call_entry u.actor.job.sight ++ entries_of u.calls)
+its_kept : (r : RecordView) (rounds : ℕ) (lines : List Line) (stage now : Stage) (line : Line) → IsStage r rounds lines stage → (u : IsLinePlayed r rounds stage now line) → IsKept u.actor.description u.job (filter is_call_entry u.actor.job.sight ++ entries_of u.calls)
 its_kept r rounds lines stage now line s u =
     let far = its_actor r rounds lines stage now line s u in
     u.kept (filter is_call_entry u.actor.job.sight) (subst (λ (e : Description). IsSizedFor e.slots u.actor.job.reading.view) (sym far.description) far.sized, refl)
 
-actors-more : (r : RecordView) (rounds : ℕ) (lines : List Line) (stage now : Stage) (line : Line) → IsStage r rounds lines stage → (u : IsLineDone r rounds stage now line)
+actors-more : (r : RecordView) (rounds : ℕ) (lines : List Line) (stage now : Stage) (line : Line) → IsStage r rounds lines stage → (u : IsLinePlayed r rounds stage now line)
     → (i : ℕ) (a : ActorView) (text : ActorText) (past : List Step) → slice_get now.actors i ≡ Some a → slice_get r.actors i ≡ Some text → slice_get now.pasts text.device ≡ Some past → IsSoFar r rounds (lines ++ line ∷ []) (description_at r text.device) text.role past a
 actors-more r rounds lines stage now line s u i a text past is_a is_text is_past = by_actor (actor-behind r rounds lines stage now line s u i a is_a) (past-behind r rounds stage now line u text.device past is_past)
   where
@@ -177,7 +177,7 @@ actors-more r rounds lines stage now line s u i a text past is_a is_text is_past
         other is.0 is.1 u.past before (subst (λ (p : List Step). BeginsWith (reverse u.past) (reverse p)) (sym behind.1) (exact-grows u.actor.description u.past u.after u.calls u.exact history))
     by_actor (inr is) (inr behind) = other is.0 is.1 past behind.1 ([], sym (append-nil (reverse past)))
 
-within-more : (r : RecordView) (rounds : ℕ) (lines : List Line) (stage now : Stage) (line : Line) → IsStage r rounds lines stage → (u : IsLineDone r rounds stage now line)
+within-more : (r : RecordView) (rounds : ℕ) (lines : List Line) (stage now : Stage) (line : Line) → IsStage r rounds lines stage → (u : IsLinePlayed r rounds stage now line)
     → (i : ℕ) (past : List Step) → slice_get now.pasts i ≡ Some past → length past ≤ (description_at r i).log_limit
 within-more r rounds lines stage now line s u i past is_past = by_past (past-behind r rounds stage now line u i past is_past)
   where
@@ -189,7 +189,7 @@ within-more r rounds lines stage now line s u i past is_past = by_past (past-beh
         subst (λ (p : List Step). length p ≤ (description_at r i).log_limit) (sym behind.1) (subst (λ (k : ℕ). length u.after ≤ (description_at r k).log_limit) (sym behind.0) after)
     by_past (inr behind) = s.within i past behind.1
 
-history-more : (r : RecordView) (rounds : ℕ) (lines : List Line) (stage now : Stage) (line : Line) → IsStage r rounds lines stage → (u : IsLineDone r rounds stage now line)
+history-more : (r : RecordView) (rounds : ℕ) (lines : List Line) (stage now : Stage) (line : Line) → IsStage r rounds lines stage → (u : IsLinePlayed r rounds stage now line)
     → (i : ℕ) (past : List Step) → slice_get now.pasts i ≡ Some past → IsHistory (description_at r i) past
 history-more r rounds lines stage now line s u i past is_past = by_past (past-behind r rounds stage now line u i past is_past)
   where
@@ -213,7 +213,7 @@ weight_of r device place a text b is e =
     ap (λ (o : Option ActorText). if is_on_device device o then entries place a.job.sight else 0) is
     ∙ ap (λ (c : Bool). if c then entries place a.job.sight else 0) e
 
-once-more : (r : RecordView) (rounds : ℕ) (lines : List Line) (stage now : Stage) (line : Line) → IsStage r rounds lines stage → (u : IsLineDone r rounds stage now line)
+once-more : (r : RecordView) (rounds : ℕ) (lines : List Line) (stage now : Stage) (line : Line) → IsStage r rounds lines stage → (u : IsLinePlayed r rounds stage now line)
     → (i : ℕ) (past : List Step) (place : ℕ) → slice_get now.pasts i ≡ Some past → sum_by (weight r i place) now.actors ≡ below place (length past)
 once-more r rounds lines stage now line s u i past place is_past = by_past (past-behind r rounds stage now line u i past is_past)
   where
@@ -250,7 +250,7 @@ once-more r rounds lines stage now line s u i past place is_past = by_past (past
         (weight_of r i place u.actor u.text false its_text off ∙ sym (weight_of r i place new u.text false its_text off))
         ∙ s.once i past place behind.1
 
-pub stage-more : (r : RecordView) (rounds : ℕ) (lines : List Line) (stage now : Stage) (line : Line) → IsStage r rounds lines stage → IsLineDone r rounds stage now line → IsStage r rounds (lines ++ line ∷ []) now
+pub stage-more : (r : RecordView) (rounds : ℕ) (lines : List Line) (stage now : Stage) (line : Line) → IsStage r rounds lines stage → IsLinePlayed r rounds stage now line → IsStage r rounds (lines ++ line ∷ []) now
 stage-more r rounds lines stage now line s u =
     let number : ActorView → ℕ = λ (b : ActorView). b.actor in
     let at : slice_get stage.actors u.actor.actor ≡ Some u.actor = ap (λ (k : ℕ). slice_get stage.actors k) (its_number r rounds lines stage now line s u) ∙ u.is_actor in
@@ -286,6 +286,6 @@ stages r rounds lines [] stage last s commands h =
     subst (λ (now : Stage). IsStage r rounds (lines ++ []) now) same (subst (λ (ls : List Line). IsStage r rounds ls stage) (sym (append-nil lines)) s)
 stages r rounds lines (line ∷ more) stage last s commands h =
     option_and_then_some _ (after_line r rounds stage line) last h (λ now is_now rest.
-    let done : IsLineDone r rounds stage now line = line-done r rounds stage now line (may-do r rounds lines more stage line s commands) is_now in
+    let done : IsLinePlayed r rounds stage now line = line-done r rounds stage now line (may-do r rounds lines more stage line s commands) is_now in
     subst (λ (ls : List Line). IsStage r rounds ls last) (append_one lines line more)
     (stages r rounds (lines ++ line ∷ []) more now last (stage-more r rounds lines stage now line s done) (λ i. commands (suc i)) rest))

@@ -4,13 +4,12 @@ use Rattle.std.specs.Prelude.{◌≡◌, ℕ, List, [], ◌∷◌, map, filter, 
 use Rattle.std.specs.List.{enumerate_from}
 use Rattle.inp_model.specs.declared.step.Step.{Step}
 use Rattle.inp_model.specs.Description.{Description}
-use Rattle.inp_model.specs.Reply.{answer, past_after}
 use Rattle.inp_caps.specs.Builder.{syn_alone}
 use Rattle.inp_actors.specs.declared.actor_text.ActorText.{ActorText}
 use Rattle.inp_actors.specs.declared.line.Line.{Line}
 use Rattle.inp_actors.specs.Command.{feedback_room}
 use Rattle.inp_actors.specs.Record.{RecordView}
-use Rattle.inp_reader.specs.Talk.{Talk, finish, ask}
+use Rattle.inp_reader.specs.Talk.{Talk, talk_with}
 use Rattle.inp_feedback.specs.declared.feedback_call.FeedbackCall.{FeedbackCall}
 use Rattle.inp_feedback.specs.declared.fed.Fed.{Fed}
 use Rattle.inp_feedback.specs.declared.fed.Fed.TheVariants.{Took, Full}
@@ -33,11 +32,6 @@ pub record Stage : Type 0 where
   pub calls : List (List FeedbackCall)
   -- each actor, with what it did so far
   pub actors : List ActorView
-
--- A talk with the one-thread device after this past: its result, and the past behind it.
-unfoldable pub talk_with : {A : Type 0} → Description → List Step → Talk A → A × List Step
-talk_with d past (finish a) = (a, past)
-talk_with d past (ask x rest) = talk_with d (past_after (answer d past x).reply x past) (rest (answer d past x))
 
 -- the description of the device of this number; each actor of a record is one of a device
 abbrev pub description_at : RecordView → ℕ → Description
@@ -70,24 +64,24 @@ after_talk stage device a done = option_map (λ job. record {
 }) done.0
 
 -- the feedback calls that a device keeps after one that was answered so
-abbrev pub calls_after : Fed → List FeedbackCall → List FeedbackCall
-calls_after (Took at count) calls = record { at = at; count = count } ∷ calls
-calls_after (Full at) calls = calls
+abbrev pub feedback_calls_after : Fed → List FeedbackCall → List FeedbackCall
+feedback_calls_after (Took at count) calls = record { at = at; count = count } ∷ calls
+feedback_calls_after (Full at) calls = calls
 
 -- the stage behind a feedback call of this owner, with room for so many events, on the device of this number, which keeps
 -- these steps and calls
-abbrev pub after_call : Stage → ℕ → ActorView → ℕ → List Step → List FeedbackCall → Stage
-after_call stage device a room past calls =
+abbrev pub stage_after_feedback : Stage → ℕ → ActorView → ℕ → List Step → List FeedbackCall → Stage
+stage_after_feedback stage device a room past calls =
     let kept = kept_of past calls in
     let answer = fed a.description kept room in
     record stage {
-      calls = slice_set stage.calls device (calls_after answer calls);
+      calls = slice_set stage.calls device (feedback_calls_after answer calls);
       actors = slice_set stage.actors a.actor (record a { owning = after_feedback answer (taken_by_feedback a.description kept room) a.owning });
     }
 
 -- the same where the owner has not stopped, so; else nothing is done
 abbrev pub unless_owner_stopped : Option Stop → Stage → ℕ → ActorView → ℕ → List Step → List FeedbackCall → Stage
-unless_owner_stopped None stage device a room past calls = after_call stage device a room past calls
+unless_owner_stopped None stage device a room past calls = stage_after_feedback stage device a room past calls
 unless_owner_stopped (Some stop) stage device a room past calls = stage
 
 -- An owner makes its feedback call; what another actor does is its talk with the device.

@@ -23,8 +23,9 @@ use Rattle.inp_reader.specs.declared.phase.Phase.TheVariants.{Plain, Needed, Han
 use Rattle.inp_reader.specs.declared.started.Started.{Started}
 use Rattle.inp_reader.specs.declared.next.Next.{Next}
 use Rattle.inp_reader.specs.declared.next.Next.TheVariants.{Success, Dropped, Sync, Again, Synced, NoDevice, Closed, Full}
-use Rattle.inp_reader.specs.Reading.{Reading, ask_each, queries, after_queries, after_open, start_talk, stop_of, hand_out_event, hand_out, is_dropped, after_read, read_or_hand_out, read_talk, hand_synthesised, after_full_sync, go_on_after, sync_talk, talk_in, next_talk}
-use Rattle.inp_reader.specs.Talk.{Talk, finish, ask, and_then}
+use Rattle.inp_recon.specs.Synchronised.{is_dropped}
+use Rattle.inp_reader.specs.Reading.{Reading, ask_each, queries, after_queries, after_open, start_talk, stop_of, hand_out_event, hand_out, after_read, read_or_hand_out, read_talk, hand_synthesised, after_full_sync, go_on_after, sync_talk, talk_in, next_talk}
+use Rattle.inp_reader.specs.Talk.{Talk, finish, ask, and_then, talk_with}
 use Rattle.inp_script.specs.declared.sight.Sight.{Sight}
 use Rattle.inp_script.specs.Client.{Going, Turn, turn_after, after_next, mode_of, next_round, on_turn, rounds, hand_talk, start_job, start_ends}
 use Rattle.inp_script.specs.Job.{Job, joying_of}
@@ -32,7 +33,6 @@ use Rattle.inp_script.specs.Joystick.{after_joy_start, start_joystick}
 use Rattle.inp_script.specs.Line.{call_if, tap_call_if}
 use Rattle.inp_script.specs.Sight.{call_sight, noted}
 use Rattle.inp_script.proofs.Replies.{answer_has}
-use Rattle.inp_order.specs.Play.{talk_with}
 use Rattle.inp_order.proofs.Rounds.{talk_with-then}
 use Rattle.inp_play.proofs.OwnQueues.{IsQuiet, visible-le, read-leaves, discard-leaves}
 

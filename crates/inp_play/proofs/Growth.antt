@@ -14,16 +14,16 @@ use Rattle.inp_actors.specs.declared.role.Role.TheVariants.{Source, Client, Tap,
 use Rattle.inp_actors.specs.Command.{feedback_room}
 use Rattle.inp_actors.specs.Record.{RecordView}
 use Rattle.inp_reader.specs.declared.reader.TheConstants.{NO_CLIENT}
-use Rattle.inp_reader.specs.Talk.{Talk, finish, EndsWith}
+use Rattle.inp_reader.specs.Talk.{Talk, finish, EndsWith, talk_with}
 use Rattle.inp_script.specs.declared.stop.Stop.{Stop}
 use Rattle.inp_script.specs.Doing.{command_talk, unless_stopped, line_talk}
 use Rattle.inp_script.specs.Job.{Job, ActorView}
 use Rattle.inp_script.specs.Line.{step_of}
-use Rattle.inp_order.specs.Play.{Stage, talk_with, after_line, after_lines}
+use Rattle.inp_order.specs.Play.{Stage, after_line, after_lines}
 use Rattle.inp_order.proofs.Calls.{AreExact, exact-talk}
 use Rattle.inp_play.proofs.Follows.{HasQueries, follow-length, start-length, joy_start-length, call-length, tap_call-length}
 use Rattle.inp_play.proofs.Limits.{Stays, NoStop, stays-with, stays-start, stays-joy_start, stays-follow, stays-call, stays-tap_call}
-use Rattle.inp_order.proofs.LineDone.{IsLineDone, line-done}
+use Rattle.inp_order.proofs.LineDone.{IsLinePlayed, line-done}
 
 -- Commands
 
@@ -120,7 +120,7 @@ line-talk role e d streams rounds command j new past after calls same none ends 
 line-short : (r : RecordView) (d : Description) (rounds m k : ℕ) (stage now : Stage) (line : Line) → IsShort d m stage → IsBound d line.command k → m + k < d.log_limit → after_line r rounds stage line ≡ Some now → IsShort d (m + k) now
 line-short r d rounds m k stage now line s bound room h = of_line (line-done r rounds stage now line (λ room text a past is. absurd (let both : None ≡ Some room = sym bound.no_feedback ∙ is in cc)) h)
   where
-    of_line : IsLineDone r rounds stage now line → IsShort d (m + k) now
+    of_line : IsLinePlayed r rounds stage now line → IsShort d (m + k) now
     of_line u =
         let a : ActorView = u.actor in
         let kept = s.actors line.actor a u.is_actor in
@@ -141,7 +141,7 @@ line-short r d rounds m k stage now line s bound room h = of_line (line-done r r
         of_past i past within (inl new) = omega (arith, within, ap length new)
         of_past i past within (inr old) = omega (arith, s.pasts i past old)
 
-        of_actor : (i : ℕ) (b : ActorView) (v : IsLineDone r rounds stage now line) → (v.actor.description ≡ d) × (v.job.stop ≡ None) → (b ≡ record v.actor { job = v.job; owning = v.owning }) ⊎ (slice_get stage.actors i ≡ Some b) → (b.description ≡ d) × (b.job.stop ≡ None)
+        of_actor : (i : ℕ) (b : ActorView) (v : IsLinePlayed r rounds stage now line) → (v.actor.description ≡ d) × (v.job.stop ≡ None) → (b ≡ record v.actor { job = v.job; owning = v.owning }) ⊎ (slice_get stage.actors i ≡ Some b) → (b.description ≡ d) × (b.job.stop ≡ None)
         of_actor i b v fine (inl new) = subst (λ (x : ActorView). (x.description ≡ d) × (x.job.stop ≡ None)) (sym new) fine
         of_actor i b v fine (inr old) = s.actors i b old
 

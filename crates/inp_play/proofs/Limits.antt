@@ -22,16 +22,16 @@ use Rattle.inp_reader.specs.declared.phase.Phase.TheVariants.{Plain, Needed, Han
 use Rattle.inp_reader.specs.declared.started.Started.{Started}
 use Rattle.inp_reader.specs.declared.next.Next.{Next}
 use Rattle.inp_reader.specs.declared.next.Next.TheVariants.{Success, Dropped, Sync, Again, Synced, NoDevice, Closed, Full}
-use Rattle.inp_reader.specs.Reading.{Reading, ask_each, queries, after_queries, start_stop_of, after_open, start_talk, stop_of, hand_out_event, hand_out, is_dropped, after_read, read_or_hand_out, read_talk, as_plain, hand_synthesised, after_full_sync, go_on, go_on_after, sync_talk, talk_in, next_talk}
-use Rattle.inp_reader.specs.Talk.{Talk, finish, ask, and_then}
+use Rattle.inp_recon.specs.Synchronised.{is_dropped}
+use Rattle.inp_reader.specs.Reading.{Reading, ask_each, queries, after_queries, start_stop_of, after_open, start_talk, stop_of, hand_out_event, hand_out, after_read, read_or_hand_out, read_talk, as_plain, hand_synthesised, after_full_sync, go_on, go_on_after, sync_talk, talk_in, next_talk}
+use Rattle.inp_reader.specs.Talk.{Talk, finish, ask, and_then, talk_with}
 use Rattle.inp_script.specs.declared.sight.Sight.{Sight}
 use Rattle.inp_script.specs.declared.sight.Sight.TheVariants.{Took, Made}
-use Rattle.inp_script.specs.Client.{Going, Turn, goes_on, ends_with, start_job, start_ends, after_start, handed as handed_out, one_less, is_done, with_sight, turn_after, after_next, mode_of, next_round, on_turn, rounds, hand_talk}
+use Rattle.inp_script.specs.Client.{Going, Turn, goes_on, ends_with, start_job, start_ends, job_after_start, handed as handed_out, one_less, is_done, with_sight, turn_after, after_next, mode_of, next_round, on_turn, rounds, hand_talk}
 use Rattle.inp_script.specs.Job.{Job, joying_of, with_joying}
 use Rattle.inp_script.specs.Joystick.{after_joy_start, start_joystick}
 use Rattle.inp_script.specs.Line.{call_if, tap_call_if, after_tap_call}
 use Rattle.inp_script.specs.Sight.{call_sight, noted, stop_after, stop_after_start, lacks_memory, start_lacks_memory}
-use Rattle.inp_order.specs.Play.{talk_with}
 
 -- refused since the history is as long as it may be
 abbrev pub is_log_full : Reply → Bool
@@ -148,7 +148,7 @@ unfolding start_job start_talk
 stays-start d j =
     stays-then (λ (o : (Started × Reading) × List Sight). IsStarted o.0) NoStop (noted (start_talk d j.reading) j.sight) (λ o. finish (start_ends o))
     (stays-noted IsStarted (start_talk d j.reading) j.sight (λ given other. stays-opened d j.reading given.reply other))
-    (λ o h. unless-stop (start_lacks_memory o.0.0) (after_start o.0.0 o.0.1 o.1) h)
+    (λ o h. unless-stop (start_lacks_memory o.0.0) (job_after_start o.0.0 o.0.1 o.1) h)
 
 abbrev HasNoStop : Started × Joying → Type 0
 HasNoStop o = stop_after_start o.0 ≡ None

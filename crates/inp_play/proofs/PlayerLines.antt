@@ -26,13 +26,13 @@ use Rattle.inp_feedback.proofs.Woven.{kept-woven}
 use Rattle.inp_uinput.specs.UdevView.{UdevView, device_of, owned_view}
 use Rattle.inp_uinput.specs.OwnedFeeding.{IsFeedbackOf}
 use Rattle.inp_uinput.proofs.Tied.{untied-calls, tied-calls}
-use Rattle.inp_reader.specs.Talk.{Talk}
+use Rattle.inp_reader.specs.Talk.{Talk, talk_with}
 use Rattle.inp_script.specs.Doing.{DoesLine, HasActor, IsLineOf, line_talk}
 use Rattle.inp_script.specs.declared.stop.Stop.{Stop}
 use Rattle.inp_script.specs.Job.{Job, ActorView}
 use Rattle.inp_script.specs.Owner.{Owning, after_feedback, IsFed, FeedsUnless, FeedsLine}
-use Rattle.inp_order.specs.Play.{Stage, talk_with, calls_after, after_talk, unless_owner_stopped, by_command, after_line, after_line_of}
-use Rattle.inp_play.specs.Player.{stage_with, pasts_of, calls_of, HasDevices, HasActors}
+use Rattle.inp_order.specs.Play.{Stage, feedback_calls_after, after_talk, unless_owner_stopped, by_command, after_line, after_line_of}
+use Rattle.inp_play.specs.Player.{stage_with, pasts_of, feedback_calls_of, HasDevices, HasActors}
 use Rattle.inp_order.proofs.Alone.{device-alone}
 use Rattle.inp_order.proofs.LineDone.{feedback-of}
 use Rattle.inp_runs.proofs.Memory.{gives_up-line}
@@ -118,7 +118,7 @@ found-role r devices actors number line text a device keeps f =
 past_at : (r : RecordView) (devices : List UdevView) (actors : List ActorView) (number : ℕ) (line : Line) (text : ActorText) (a : ActorView) (device : UdevView) → IsFound r devices actors number line text a device → slice_get (pasts_of devices) text.device ≡ Some (steps_in device.kept)
 past_at r devices actors number line text a device f = slice_get-map (λ (d : UdevView). steps_in d.kept) devices text.device ∙ ap (option_map (λ (d : UdevView). steps_in d.kept)) f.is_device
 
-calls_at : (r : RecordView) (devices : List UdevView) (actors : List ActorView) (number : ℕ) (line : Line) (text : ActorText) (a : ActorView) (device : UdevView) → IsFound r devices actors number line text a device → slice_get (calls_of devices) text.device ≡ Some (calls_in device.kept)
+calls_at : (r : RecordView) (devices : List UdevView) (actors : List ActorView) (number : ℕ) (line : Line) (text : ActorText) (a : ActorView) (device : UdevView) → IsFound r devices actors number line text a device → slice_get (feedback_calls_of devices) text.device ≡ Some (calls_in device.kept)
 calls_at r devices actors number line text a device f = slice_get-map (λ (d : UdevView). calls_in d.kept) devices text.device ∙ ap (option_map (λ (d : UdevView). calls_in d.kept)) f.is_device
 
 stage_after : (r : RecordView) (n : ℕ) (devices : List UdevView) (actors : List ActorView) (number : ℕ) (line : Line) (text : ActorText) (a : ActorView) (device : UdevView) → IsFound r devices actors number line text a device
@@ -142,7 +142,7 @@ pasts_same devices i device after there same =
     ∙ ap (slice_set (map f devices) i) same
     ∙ set_same (map f devices) i (f device) (slice_get-map f devices i ∙ ap (option_map f) there)
 
-calls_same : (devices : List UdevView) (i : ℕ) (device after : UdevView) → slice_get devices i ≡ Some device → calls_in after.kept ≡ calls_in device.kept → calls_of (slice_set devices i after) ≡ calls_of devices
+calls_same : (devices : List UdevView) (i : ℕ) (device after : UdevView) → slice_get devices i ≡ Some device → calls_in after.kept ≡ calls_in device.kept → feedback_calls_of (slice_set devices i after) ≡ feedback_calls_of devices
 calls_same devices i device after there same =
     let f : UdevView → List FeedbackCall = λ d. calls_in d.kept in
     map-set f devices i after
@@ -173,7 +173,7 @@ line_does r devices actors number line text a device after new keeps f no_room d
     ∙ ap (λ (l : Line). talk_with device.description past (talk_at r n l a)) (sym same)
     ∙ done in
     let place : a.actor ≡ line.actor = (f.has_actors.each line.actor a f.is_actor).0 in
-    let calls : calls_of (slice_set devices text.device after) ≡ s.calls = calls_same devices text.device device after f.is_device (tied-calls device after does.holds.calls does.holds.are_calls) in
+    let calls : feedback_calls_of (slice_set devices text.device after) ≡ s.calls = calls_same devices text.device device after f.is_device (tied-calls device after does.holds.calls does.holds.are_calls) in
     stage_after r n devices actors number line text a device f
     ∙ ap (λ (o : Option ℕ). by_command o s text.device a past (after_talk s text.device a (talk_with a.description past (talk_at r n line a)))) no_room
     ∙ ap (after_talk s text.device a) talk
@@ -194,7 +194,7 @@ steps_kept d kept room = by_flag (is_full_of_feedback d kept)
     by_flag true = refl
     by_flag false = refl
 
-calls_kept : (d : Description) (kept : List UEntry) (room : ℕ) → calls_in (kept_after_feedback d kept room) ≡ calls_after (fed d kept room) (calls_in kept)
+calls_kept : (d : Description) (kept : List UEntry) (room : ℕ) → calls_in (kept_after_feedback d kept room) ≡ feedback_calls_after (fed d kept room) (calls_in kept)
 calls_kept d kept room = by_flag (is_full_of_feedback d kept)
   where
     at : ℕ
@@ -203,7 +203,7 @@ calls_kept d kept room = by_flag (is_full_of_feedback d kept)
     count : ℕ
     count = length (taken_by_feedback d kept room)
 
-    by_flag : (b : Bool) → calls_in (if b then kept else Feedback count ∷ kept) ≡ calls_after (if b then Full at else Took at count) (calls_in kept)
+    by_flag : (b : Bool) → calls_in (if b then kept else Feedback count ∷ kept) ≡ feedback_calls_after (if b then Full at else Took at count) (calls_in kept)
     by_flag true = refl
     by_flag false = refl
 
@@ -235,17 +235,17 @@ feed_leaves devices actors i number a device after count new None is_device is_a
     let kept : List UEntry = device.kept in
     let call : IsCallOf device after count a.owning new = call_of device after count a.owning new h in
     let steps : steps_in after.kept ≡ steps_in kept = ap steps_in call.kept ∙ steps_kept d kept count in
-    let calls : calls_after (fed d kept count) (calls_in kept) ≡ calls_in after.kept = sym (ap calls_in call.kept ∙ calls_kept d kept count) in
+    let calls : feedback_calls_after (fed d kept count) (calls_in kept) ≡ calls_in after.kept = sym (ap calls_in call.kept ∙ calls_kept d kept count) in
     let told : Description → List UEntry → Owning = λ e es. after_feedback (fed e es count) (taken_by_feedback e es count) a.owning in
     let left : Description → List UEntry → Stage =
-    λ e es. record s { calls = slice_set s.calls i (calls_after (fed e es count) (calls_in kept)); actors = slice_set s.actors a.actor (record a { owning = told e es }) } in
+    λ e es. record s { calls = slice_set s.calls i (feedback_calls_after (fed e es count) (calls_in kept)); actors = slice_set s.actors a.actor (record a { owning = told e es }) } in
     ap (λ (es : List UEntry). left a.description es) (kept-woven kept)
     ∙ ap (λ (e : Description). left e kept) (sym description)
     ∙ ap (λ (cs : List FeedbackCall). record s { calls = slice_set s.calls i cs; actors = slice_set s.actors a.actor (record a { owning = told d kept }) }) calls
     ∙ ap (λ (w : Owning). record s { calls = slice_set s.calls i (calls_in after.kept); actors = slice_set s.actors a.actor (record a { owning = w }) }) (sym call.noted)
     ∙ ap (λ (k : ℕ). record s { calls = slice_set s.calls i (calls_in after.kept); actors = slice_set s.actors k (record a { owning = new }) }) place
     ∙ ap (λ (cs : List (List FeedbackCall)). record s { calls = cs; actors = slice_set s.actors number (record a { owning = new }) }) (sym (map-set (λ (v : UdevView). calls_in v.kept) devices i after))
-    ∙ ap (λ (ps : List (List Step)). record { pasts = ps; calls = calls_of (slice_set devices i after); actors = slice_set s.actors number (record a { owning = new }) }) (sym (pasts_same devices i device after is_device steps))
+    ∙ ap (λ (ps : List (List Step)). record { pasts = ps; calls = feedback_calls_of (slice_set devices i after); actors = slice_set s.actors number (record a { owning = new }) }) (sym (pasts_same devices i device after is_device steps))
 feed_leaves devices actors i number a device after count new (Some stop) is_device is_actor place description h =
     sym (
     ap (λ (v : UdevView). stage_with (slice_set devices i v) (slice_set actors number (record a { owning = new }))) h.0

@@ -17,7 +17,7 @@ use Rattle.inp_script.specs.Job.{ActorView, first_job}
 use Rattle.inp_script.specs.Owner.{first_owning}
 use Rattle.inp_uinput.specs.UdevView.{UdevView}
 use Rattle.inp_order.specs.Play.{description_at, first_actor, first_stage}
-use Rattle.inp_play.specs.Player.{pasts_of, calls_of, stage_with, first_device, first_actors, HasDevices, HasActors}
+use Rattle.inp_play.specs.Player.{pasts_of, feedback_calls_of, stage_with, first_device, first_actors, HasDevices, HasActors}
 use Rattle.inp_play.proofs.PlayerLines.{same_item, some_item}
 
 -- Lists
@@ -96,13 +96,13 @@ first_has_devices r = by_list r.devices
 
 pub first_stage_with : (r : RecordView) → stage_with (map first_device r.devices) (first_actors r) ≡ first_stage r
 first_stage_with r =
-    ap (λ (pasts : List (List Step)). record { pasts = pasts; calls = calls_of (map first_device r.devices); actors = first_actors r }) (by_list r.devices)
+    ap (λ (pasts : List (List Step)). record { pasts = pasts; calls = feedback_calls_of (map first_device r.devices); actors = first_actors r }) (by_list r.devices)
     ∙ ap (λ (calls : List (List FeedbackCall)). record { pasts = map (λ text. []) r.devices; calls = calls; actors = first_actors r }) (no_calls r.devices)
   where
     by_list : (ds : List DeviceText) → pasts_of (map first_device ds) ≡ map (λ (text : DeviceText). []) ds
     by_list [] = refl
     by_list (d ∷ ds) = ap (λ (xs : List (List Step)). [] ∷ xs) (by_list ds)
 
-    no_calls : (ds : List DeviceText) → calls_of (map first_device ds) ≡ map (λ (text : DeviceText). []) ds
+    no_calls : (ds : List DeviceText) → feedback_calls_of (map first_device ds) ≡ map (λ (text : DeviceText). []) ds
     no_calls [] = refl
     no_calls (d ∷ ds) = ap (λ (xs : List (List FeedbackCall)). [] ∷ xs) (no_calls ds)

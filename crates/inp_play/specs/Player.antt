@@ -18,12 +18,12 @@ use Rattle.inp_order.specs.Play.{Stage, first_actor, first_stage, after_line, af
 abbrev pub pasts_of : List UdevView → List (List Step)
 pasts_of devices = map (λ (device : UdevView). steps_in device.kept) devices
 
-abbrev pub calls_of : List UdevView → List (List FeedbackCall)
-calls_of devices = map (λ (device : UdevView). calls_in device.kept) devices
+abbrev pub feedback_calls_of : List UdevView → List (List FeedbackCall)
+feedback_calls_of devices = map (λ (device : UdevView). calls_in device.kept) devices
 
 -- what stands between two lines, by the devices and the actors
 abbrev pub stage_with : List UdevView → List ActorView → Stage
-stage_with devices actors = record { pasts = pasts_of devices; calls = calls_of devices; actors = actors }
+stage_with devices actors = record { pasts = pasts_of devices; calls = feedback_calls_of devices; actors = actors }
 
 abbrev pub stage_of : Player → Stage
 stage_of p = stage_with p.devices.items p.actors.items

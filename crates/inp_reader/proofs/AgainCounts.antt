@@ -26,7 +26,8 @@ use Rattle.inp_reader.specs.declared.next.Next.TheVariants.{Success, Dropped, Sy
 use Rattle.inp_reader.specs.Standing.{is_read}
 use Rattle.inp_reader.specs.declared.started.Started.{Started}
 use Rattle.inp_reader.specs.Leaving.{agains_after_next}
-use Rattle.inp_reader.specs.Reading.{Reading, ask_each, queries, start_talk, next_talk, talk_in, plain_talk, go_on, go_on_after, sync_talk, after_open, after_queries, read_talk, read_or_hand_out, after_read, hand_out, hand_out_event, stop_of, handing, hand_synthesised, as_plain, after_full_sync, after_failed_sync, is_dropped, only_if, bit_queries, axis_queries, plain_axes, slot_queries}
+use Rattle.inp_recon.specs.Synchronised.{is_dropped}
+use Rattle.inp_reader.specs.Reading.{Reading, ask_each, queries, start_talk, next_talk, talk_in, plain_talk, go_on, go_on_after, sync_talk, after_open, after_queries, read_talk, read_or_hand_out, after_read, hand_out, hand_out_event, stop_of, handing, hand_synthesised, as_plain, after_full_sync, after_failed_sync, only_if, bit_queries, axis_queries, plain_axes, slot_queries}
 use Rattle.inp_model.specs.Leaves.{agains_after_calls}
 use Rattle.inp_model.proofs.Leaves.{agains-counted, agains-append}
 use Rattle.inp_reader.specs.Says.{Says}

@@ -11,9 +11,9 @@ use Rattle.inp_model.specs.Past.{past_at}
 use Rattle.inp_model.specs.Reply.{IsAnswer, is_accepted}
 use Rattle.inp_model.specs.Run.{Call, place_of, next_place, IsLegalFrom}
 use Rattle.inp_reader.specs.declared.call_made.CallMade.{CallMade}
-use Rattle.inp_reader.specs.Leaving.{places_of}
+use Rattle.inp_reader.specs.Leaving.{accepted_places}
 use Rattle.inp_model.specs.Leaves.{AreCalls}
-use Rattle.inp_reader.specs.Says.{kept_of, made_of}
+use Rattle.inp_reader.specs.Says.{kept_call, calls_kept}
 use Rattle.inp_reader.specs.Talk.{Talk, finish, ask, and_then, LeadsTo, EndsWith}
 use Rattle.inp_reader.proofs.LeftByCalls.{places_of-append}
 
@@ -81,23 +81,23 @@ unfoldable pub IsPlaceOf : ℕ → List Call → Type 0
 IsPlaceOf place [] = ⊥
 IsPlaceOf place (call ∷ calls) = ((is_accepted call.answer.reply ≡ true) × (place_of call.answer.reply ≡ place)) ⊎ IsPlaceOf place calls
 
-kept_places : (x : Step) (reply : Reply) (P : ℕ → Type 0) → (is_accepted reply ≡ true → P (place_of reply)) → All P (places_of (kept_of x reply))
+kept_places : (x : Step) (reply : Reply) (P : ℕ → Type 0) → (is_accepted reply ≡ true → P (place_of reply)) → All P (accepted_places (kept_call x reply))
 kept_places x (Again at n) P h = All-nil P
 kept_places x (Refused at why) P h = All-nil P
 kept_places x _ P h = All-cons P _ [] (h refl) (All-nil P)
 
-places-known : (calls : List Call) → All (λ place. IsPlaceOf place calls) (places_of (made_of calls))
+places-known : (calls : List Call) → All (λ place. IsPlaceOf place calls) (accepted_places (calls_kept calls))
 unfolding IsPlaceOf
 places-known [] = All-nil (λ place. IsPlaceOf place [])
 places-known (call ∷ calls) =
     let P : ℕ → Type 0 = λ place. IsPlaceOf place (call ∷ calls) in
-    let one : List CallMade = kept_of call.step call.answer.reply in
-    let first : All P (places_of one) = kept_places call.step call.answer.reply P (λ is. inl (is, refl)) in
-    let rest : All P (places_of (made_of calls)) = All-weaker (λ place. IsPlaceOf place calls) P (λ place k. inr k) (places_of (made_of calls)) (places-known calls) in
-    subst (λ (ps : List ℕ). All P ps) (sym (places_of-append one (made_of calls))) (All-append P (places_of one) (places_of (made_of calls)) first rest)
+    let one : List CallMade = kept_call call.step call.answer.reply in
+    let first : All P (accepted_places one) = kept_places call.step call.answer.reply P (λ is. inl (is, refl)) in
+    let rest : All P (accepted_places (calls_kept calls)) = All-weaker (λ place. IsPlaceOf place calls) P (λ place k. inr k) (accepted_places (calls_kept calls)) (places-known calls) in
+    subst (λ (ps : List ℕ). All P ps) (sym (places_of-append one (calls_kept calls))) (All-append P (accepted_places one) (accepted_places (calls_kept calls)) first rest)
 
-pub place-known : (calls : List Call) (place : ℕ) → Contains (places_of (made_of calls)) place → IsPlaceOf place calls
-place-known calls place h = All-contains (λ p. IsPlaceOf p calls) (places_of (made_of calls)) place (places-known calls) h
+pub place-known : (calls : List Call) (place : ℕ) → Contains (accepted_places (calls_kept calls)) place → IsPlaceOf place calls
+place-known calls place h = All-contains (λ p. IsPlaceOf p calls) (accepted_places (calls_kept calls)) place (places-known calls) h
 
 -- none is below what was seen before
 pub place-least : (d : Description) (history : List Step) (least place : ℕ) (calls : List Call) → IsLegalFrom d history least calls → IsPlaceOf place calls → least ≤ place

@@ -37,12 +37,12 @@ tells_ints = record {
 
 -- ---- one part of a view after the events of the indices at which it differs
 
-pub record Leads (v w : View) (es : List Event) : Type 0 where
+pub record LeadsTheView (v w : View) (es : List Event) : Type 0 where
   pub to : view_after_events v es ≡ w
   pub changes : EachChanges v es
 
 part-changes : {X : Type 0} (d : X) (new old : List X) (event : ℕ → Event) (count : ℕ) (P : ℕ → Type 0) (with_part : List X → View) (differ : X → X → Bool) → Tells differ → SetsPart d new (λ k. k) event count P with_part
-    → Each P (where_below count (differ_at d differ old new (λ k. k))) → length old ≡ count → length new ≡ count → Leads (with_part old) (with_part new) (map event (where_below count (differ_at d differ old new (λ k. k))))
+    → Each P (where_below count (differ_at d differ old new (λ k. k))) → length old ≡ count → length new ≡ count → LeadsTheView (with_part old) (with_part new) (map event (where_below count (differ_at d differ old new (λ k. k))))
 part-changes d new old event count P with_part differ tells sets each l m =
     let ks : List ℕ = where_below count (differ_at d differ old new (λ k. k)) in
     let within : (k : ℕ) → k < count → k < length new = λ k h. omega (arith, h, m) in
@@ -54,7 +54,7 @@ part-changes d new old event count P with_part differ tells sets each l m =
     }
 
 -- one group behind another
-pub Leads-behind : (u v w : View) (es later : List Event) → Leads u v es → Leads v w later → Leads u w (es ++ later)
+pub Leads-behind : (u v w : View) (es later : List Event) → LeadsTheView u v es → LeadsTheView v w later → LeadsTheView u w (es ++ later)
 Leads-behind u v w es later h m = record { to = leads-behind u v es later h.to ∙ m.to; changes = EachChanges-behind u v es later h.to h.changes m.changes }
 
 -- ---- keys
@@ -71,7 +71,7 @@ sets-keys v new count few = record {
   sets = λ k xs h l. ap (λ (ks : List Bool). record v { keys = ks }) (keys-set (get_or new k false) xs k (omega (arith, h, few)));
 }
 
-leads-keys : (v : View) (old new : List Bool) (count : ℕ) → count ≤ 768 → length old ≡ count → length new ≡ count → Leads (record v { keys = old }) (record v { keys = new }) (bit_changes EV_KEY count old new)
+leads-keys : (v : View) (old new : List Bool) (count : ℕ) → count ≤ 768 → length old ≡ count → length new ≡ count → LeadsTheView (record v { keys = old }) (record v { keys = new }) (bit_changes EV_KEY count old new)
 leads-keys v old new count few l m =
     part-changes false new old (bit_event EV_KEY new) count (λ k. k < count) (λ xs. record v { keys = xs }) differ tells_bits (sets-keys v new count few) (Each-where_below (λ k. k < count) count (bits_differ_at old new) (λ k h t. h)) l m
 
@@ -89,7 +89,7 @@ sets-leds v new count few = record {
   sets = λ k xs h l. ap (λ (bits : List Bool). record v { leds = bits }) (bits-set EV_LED (get_or new k false) xs k (omega (arith, h, few)));
 }
 
-leads-leds : (v : View) (old new : List Bool) (count : ℕ) → count ≤ 64 → length old ≡ count → length new ≡ count → Leads (record v { leds = old }) (record v { leds = new }) (bit_changes EV_LED count old new)
+leads-leds : (v : View) (old new : List Bool) (count : ℕ) → count ≤ 64 → length old ≡ count → length new ≡ count → LeadsTheView (record v { leds = old }) (record v { leds = new }) (bit_changes EV_LED count old new)
 leads-leds v old new count few l m =
     part-changes false new old (bit_event EV_LED new) count (λ k. k < count) (λ xs. record v { leds = xs }) differ tells_bits (sets-leds v new count few) (Each-where_below (λ k. k < count) count (bits_differ_at old new) (λ k h t. h)) l m
 
@@ -101,7 +101,7 @@ sets-switches v new count few = record {
   sets = λ k xs h l. ap (λ (bits : List Bool). record v { switches = bits }) (bits-set EV_SW (get_or new k false) xs k (omega (arith, h, few)));
 }
 
-leads-switches : (v : View) (old new : List Bool) (count : ℕ) → count ≤ 64 → length old ≡ count → length new ≡ count → Leads (record v { switches = old }) (record v { switches = new }) (bit_changes EV_SW count old new)
+leads-switches : (v : View) (old new : List Bool) (count : ℕ) → count ≤ 64 → length old ≡ count → length new ≡ count → LeadsTheView (record v { switches = old }) (record v { switches = new }) (bit_changes EV_SW count old new)
 leads-switches v old new count few l m =
     part-changes false new old (bit_event EV_SW new) count (λ k. k < count) (λ xs. record v { switches = xs }) differ tells_bits (sets-switches v new count few) (Each-where_below (λ k. k < count) count (bits_differ_at old new) (λ k h t. h)) l m
 
@@ -162,7 +162,7 @@ differing-plain old new same k h t =
     ]
 
 leads-axes : (v : View) (old new : List ℤ) (count : ℕ) → count ≤ 64 → ((code : ℕ) → 47 ≤ code → code ≤ 61 → value_at old code ≡ value_at new code) → length old ≡ count → length new ≡ count
-    → Leads (record v { axes = old }) (record v { axes = new }) (map (λ code. axis_event new code code) (where_below count (differs_at old new)))
+    → LeadsTheView (record v { axes = old }) (record v { axes = new }) (map (λ code. axis_event new code code) (where_below count (differs_at old new)))
 leads-axes v old new count few same l m =
     part-changes (pos 0) new old (λ k. axis_event new k k) count IsPlain (λ xs. record v { axes = xs }) ints_differ tells_ints (sets-axes v new count) (
     Each-where_below IsPlain count (differs_at old new) (λ k h t. differing-plain old new same k (omega (arith, h, few)) t)
@@ -170,7 +170,7 @@ leads-axes v old new count few same l m =
 
 -- ---- all classes
 
-pub leads-classes : (slots : ℕ) (old new : View) (slot : ℤ) (cells : List ℤ) → AreOfOneDevice slots old new → Leads (record old { slot = slot; cells = cells }) (record new { slot = slot; cells = cells }) (class_changes old new)
+pub leads-classes : (slots : ℕ) (old new : View) (slot : ℤ) (cells : List ℤ) → AreOfOneDevice slots old new → LeadsTheView (record old { slot = slot; cells = cells }) (record new { slot = slot; cells = cells }) (class_changes old new)
 leads-classes slots old new slot cells h =
     let v0 : View = record old { slot = slot; cells = cells } in
     let v1 : View = record v0 { keys = new.keys } in

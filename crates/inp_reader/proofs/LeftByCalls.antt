@@ -9,36 +9,36 @@ use Rattle.inp_model.specs.Reply.{is_accepted}
 use Rattle.inp_model.specs.Run.{Call, place_of}
 use Rattle.inp_model.proofs.Leaves.{own-grown, calls-leave, AreCalls-append}
 use Rattle.inp_reader.specs.declared.call_made.CallMade.{CallMade}
-use Rattle.inp_reader.specs.Leaving.{places_of, LeavesMade}
+use Rattle.inp_reader.specs.Leaving.{accepted_places, LeavesMade}
 use Rattle.inp_reader.specs.Talk.{Talk}
-use Rattle.inp_reader.specs.Says.{kept_of, made_of, Says}
+use Rattle.inp_reader.specs.Says.{kept_call, calls_kept, Says}
 use Rattle.inp_reader.proofs.Talks.{made_of-append}
 
 -- Own places
 
-pub places_of-append : (made more : List CallMade) → places_of (made ++ more) ≡ places_of made ++ places_of more
+pub places_of-append : (made more : List CallMade) → accepted_places (made ++ more) ≡ accepted_places made ++ accepted_places more
 places_of-append [] more = refl
 places_of-append (call ∷ made) more =
     let one : List ℕ = if is_accepted call.reply then place_of call.reply ∷ [] else [] in
-    ap (λ (ps : List ℕ). one ++ ps) (places_of-append made more) ∙ sym (append_assoc one (places_of made) (places_of more))
+    ap (λ (ps : List ℕ). one ++ ps) (places_of-append made more) ∙ sym (append_assoc one (accepted_places made) (accepted_places more))
 
-place-kept : (x : Step) (reply : Reply) → own_after reply [] ≡ places_of (kept_of x reply)
+place-kept : (x : Step) (reply : Reply) → own_after reply [] ≡ accepted_places (kept_call x reply)
 place-kept x (Again at n) = refl
 place-kept x (Refused at why) = refl
 place-kept x _ = refl
 
 -- a call that is not kept has no place
-pub places-kept : (calls : List Call) → places_of_calls calls ≡ places_of (made_of calls)
+pub places-kept : (calls : List Call) → places_of_calls calls ≡ accepted_places (calls_kept calls)
 places-kept [] = refl
 places-kept (call ∷ calls) =
-    let one : List CallMade = kept_of call.step call.answer.reply in
+    let one : List CallMade = kept_call call.step call.answer.reply in
     ap (λ (ps : List ℕ). own_after call.answer.reply [] ++ ps) (places-kept calls)
-    ∙ ap (λ (ps : List ℕ). ps ++ places_of (made_of calls)) (place-kept call.step call.answer.reply)
-    ∙ sym (places_of-append one (made_of calls))
+    ∙ ap (λ (ps : List ℕ). ps ++ accepted_places (calls_kept calls)) (place-kept call.step call.answer.reply)
+    ∙ sym (places_of-append one (calls_kept calls))
 
 -- All that calls leave
 
-pub made-left : (before after : EvdevView) (calls : List Call) (made : List CallMade) → made ≡ made_of calls → AreCalls before after calls → LeavesMade before after made
+pub made-left : (before after : EvdevView) (calls : List Call) (made : List CallMade) → made ≡ calls_kept calls → AreCalls before after calls → LeavesMade before after made
 made-left before after calls made kept are = record {
   calls = calls;
   kept = kept;
@@ -47,7 +47,7 @@ made-left before after calls made kept are = record {
   own =
       own-grown before after calls are
       ∙ ap (λ (ps : List ℕ). before.own ++ ps) (places-kept calls)
-      ∙ ap (λ (ms : List CallMade). before.own ++ places_of ms) (sym kept);
+      ∙ ap (λ (ms : List CallMade). before.own ++ accepted_places ms) (sym kept);
 }
 
 -- the calls of the last `start` or `next` are kept alone
@@ -72,5 +72,5 @@ leaves_made-none told = made-left told told [] [] refl refl
 pub leaves_made-then : (before between after : EvdevView) (made more : List CallMade) → LeavesMade before between made → LeavesMade between after more → LeavesMade before after (made ++ more)
 leaves_made-then before between after made more h k =
     made-left before after (h.calls ++ k.calls) (made ++ more)
-    (ap (λ (ms : List CallMade). ms ++ more) h.kept ∙ ap (λ (ms : List CallMade). made_of h.calls ++ ms) k.kept ∙ sym (made_of-append h.calls k.calls))
+    (ap (λ (ms : List CallMade). ms ++ more) h.kept ∙ ap (λ (ms : List CallMade). calls_kept h.calls ++ ms) k.kept ∙ sym (made_of-append h.calls k.calls))
     (AreCalls-append before between after h.calls k.calls h.are_calls k.are_calls)

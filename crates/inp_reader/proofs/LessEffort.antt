@@ -34,7 +34,8 @@ use Rattle.inp_reader.specs.declared.phase.Phase.{Phase}
 use Rattle.inp_reader.specs.declared.phase.Phase.TheVariants.{Plain, Needed, Handing}
 use Rattle.inp_reader.specs.declared.next.Next.{Next}
 use Rattle.inp_reader.specs.declared.next.Next.TheVariants.{Success, Dropped, Sync, Again, Synced, NoDevice, Closed, Full}
-use Rattle.inp_reader.specs.Reading.{Reading, ask_each, stop_of, hand_out_event, hand_out, is_dropped, after_read, read_or_hand_out, read_talk, as_plain, handing, hand_synthesised, after_full_sync, after_failed_sync, go_on, go_on_after, sync_talk, queries, talk_in, next_talk}
+use Rattle.inp_recon.specs.Synchronised.{is_dropped}
+use Rattle.inp_reader.specs.Reading.{Reading, ask_each, stop_of, hand_out_event, hand_out, after_read, read_or_hand_out, read_talk, as_plain, handing, hand_synthesised, after_full_sync, after_failed_sync, go_on, go_on_after, sync_talk, queries, talk_in, next_talk}
 use Rattle.inp_reader.specs.Effort.{steps_left, most_events, held_back, effort, IsLess, is_idle}
 use Rattle.inp_reader.specs.Says.{Says}
 use Rattle.inp_reader.specs.Synthesis.{synth}

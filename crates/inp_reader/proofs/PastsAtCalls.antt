@@ -12,9 +12,9 @@ use Rattle.inp_model.specs.Past.{past_at}
 use Rattle.inp_model.specs.Reply.{IsAnswer, is_accepted, past_after}
 use Rattle.inp_model.specs.Run.{Call, place_of, next_place}
 use Rattle.inp_reader.specs.declared.call_made.CallMade.{CallMade}
-use Rattle.inp_reader.specs.Leaving.{places_of}
+use Rattle.inp_reader.specs.Leaving.{accepted_places}
 use Rattle.inp_model.specs.Leaves.{AreCalls}
-use Rattle.inp_reader.specs.Says.{made_of}
+use Rattle.inp_reader.specs.Says.{calls_kept}
 use Rattle.inp_reader.specs.Standing.{is_use_of}
 use Rattle.inp_reader.proofs.Calls.{AreAnswered, IsPlaceOf, place-known, place-least}
 use Rattle.inp_model.proofs.Leaves.{seen-kept, calls-legal, slice_get-longer}
@@ -168,8 +168,8 @@ are-met d client before after (call ∷ calls) same h own =
     )
 
 -- What a caller shows of the places, read as the pasts of the calls.
-pub says-met : (d : Description) (client : ℕ) (before after : EvdevView) (made : List CallMade) (calls : List Call) → before.description ≡ d → AreCalls before after calls → made ≡ made_of calls
-    → ((place : ℕ) (x : Step) → length before.seen ≤ place → slice_get after.seen place ≡ Some x → is_use_of client x ≡ true → Contains (places_of made) place) → AreMet d client (reverse before.seen) (reverse after.seen) calls
+pub says-met : (d : Description) (client : ℕ) (before after : EvdevView) (made : List CallMade) (calls : List Call) → before.description ≡ d → AreCalls before after calls → made ≡ calls_kept calls
+    → ((place : ℕ) (x : Step) → length before.seen ≤ place → slice_get after.seen place ≡ Some x → is_use_of client x ≡ true → Contains (accepted_places made) place) → AreMet d client (reverse before.seen) (reverse after.seen) calls
 says-met d client before after made calls same h kept alone =
     are-met d client before after calls same h
-    (λ place x from at used. place-known calls place (subst (λ (ms : List CallMade). Contains (places_of ms) place) kept (alone place x from at used)))
+    (λ place x from at used. place-known calls place (subst (λ (ms : List CallMade). Contains (accepted_places ms) place) kept (alone place x from at used)))

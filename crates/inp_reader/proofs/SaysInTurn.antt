@@ -14,14 +14,14 @@ use Rattle.inp_reader.specs.Talk.{Talk, finish, ask, and_then, LeadsTo}
 use Rattle.inp_reader.specs.Asking.{Asks, asked_result}
 use Rattle.inp_reader.specs.Reading.{ask_each, only_if}
 use Rattle.inp_model.specs.Leaves.{AreCalls}
-use Rattle.inp_reader.specs.Says.{kept_of, made_of, Says}
+use Rattle.inp_reader.specs.Says.{kept_call, calls_kept, Says}
 use Rattle.inp_reader.proofs.Answering.{view-answered}
 use Rattle.inp_model.proofs.Leaves.{AreCalls-append}
 use Rattle.inp_reader.proofs.Talks.{LeadsTo-append, LeadsTo-and_then, EndsWith-ask_each, EndsWith-stop, made_of-append, told as told_view, stopped_at}
 
-kept_after : (old mid new : List CallMade) (calls more : List Call) → mid ≡ old ++ made_of calls → new ≡ mid ++ made_of more → new ≡ old ++ made_of (calls ++ more)
+kept_after : (old mid new : List CallMade) (calls more : List Call) → mid ≡ old ++ calls_kept calls → new ≡ mid ++ calls_kept more → new ≡ old ++ calls_kept (calls ++ more)
 kept_after old mid new calls more h k =
-    k ∙ ap (λ ms. ms ++ made_of more) h ∙ append_assoc old (made_of calls) (made_of more) ∙ ap (λ ms. old ++ ms) (sym (made_of-append calls more))
+    k ∙ ap (λ ms. ms ++ calls_kept more) h ∙ append_assoc old (calls_kept calls) (calls_kept more) ∙ ap (λ ms. old ++ ms) (sym (made_of-append calls more))
 
 -- no call
 pub says-nothing : {A : Type 0} (told : EvdevView) (made : List CallMade) (talk : Talk A) (result : A) → talk ≡ finish result → Says told told made made talk result
@@ -56,24 +56,24 @@ says-stop before after old new xs ys view stop s = record {
 }
 
 -- one call
-pub says-call : (before after : EvdevView) (old new : List CallMade) (x : Step) (answer : Answer) → IsCall before after (record { step = x; answer = answer }) → new ≡ old ++ kept_of x answer.reply → Says before after old new (ask x finish) answer
+pub says-call : (before after : EvdevView) (old new : List CallMade) (x : Step) (answer : Answer) → IsCall before after (record { step = x; answer = answer }) → new ≡ old ++ kept_call x answer.reply → Says before after old new (ask x finish) answer
 unfolding LeadsTo AreCalls
 says-call before after old new x answer call kept = record {
   calls = record { step = x; answer = answer } ∷ [];
   talk_ends = (refl, refl);
   are_calls = (after, call, refl);
-  kept = kept ∙ ap (λ ms. old ++ ms) (sym (append-nil (kept_of x answer.reply)));
+  kept = kept ∙ ap (λ ms. old ++ ms) (sym (append-nil (kept_call x answer.reply)));
 }
 
 -- one call that a query makes
-query_call : (before after : EvdevView) (old new : List CallMade) (x : Step) (answer : Answer) (view : View) (result : Result View Reply) → IsCall before after (record { step = x; answer = answer }) → new ≡ old ++ kept_of x answer.reply
+query_call : (before after : EvdevView) (old new : List CallMade) (x : Step) (answer : Answer) (view : View) (result : Result View Reply) → IsCall before after (record { step = x; answer = answer }) → new ≡ old ++ kept_call x answer.reply
     → (if is_accepted answer.reply then finish (Ok (view_after_answer view x answer.reply answer.cells)) else finish (Err answer.reply)) ≡ finish result → Says before after old new (ask_each (x ∷ []) view) result
 unfolding LeadsTo ask_each AreCalls
 query_call before after old new x answer view result call kept ended = record {
   calls = record { step = x; answer = answer } ∷ [];
   talk_ends = (refl, ended);
   are_calls = (after, call, refl);
-  kept = kept ∙ ap (λ ms. old ++ ms) (sym (append-nil (kept_of x answer.reply)));
+  kept = kept ∙ ap (λ ms. old ++ ms) (sym (append-nil (kept_call x answer.reply)));
 }
 
 -- a query that is accepted sets the view

@@ -18,9 +18,9 @@ use Rattle.inp_reader.specs.declared.next.Next.{Next}
 use Rattle.inp_reader.specs.declared.started.Started.{Started}
 use Rattle.inp_reader.specs.declared.started.Started.TheVariants.{Opened as StartedOn}
 use Rattle.inp_reader.specs.Talk.{Talk, finish, ask, and_then}
-use Rattle.inp_reader.specs.Asking.{Reads}
+use Rattle.inp_reader.specs.Asking.{MakesRead}
 use Rattle.inp_reader.specs.Reading.{Reading, ask_each, read_or_hand_out, read_talk, after_read, hand_out, stop_of, start_stop_of, after_open, after_queries, start_talk, go_on, go_on_after, after_full_sync, after_failed_sync}
-use Rattle.inp_reader.specs.Says.{Says, kept_of}
+use Rattle.inp_reader.specs.Says.{Says, kept_call}
 use Rattle.inp_reader.proofs.SaysInTurn.{says-nothing, says-then, says-call}
 
 -- no call, and the calls that were kept stay
@@ -28,7 +28,7 @@ pub says-still : {A : Type 0} (told : EvdevView) (old new : List CallMade) (talk
 says-still told old new talk result h k = subst (λ (ms : List CallMade). Says told told old ms talk result) (sym h) (says-nothing told old talk result k)
 
 -- one call, and then what its answer says
-pub says-first : {A : Type 0} (before between after : EvdevView) (old mid new : List CallMade) (x : Step) (answer : Answer) (rest : Answer → Talk A) (result : A) → IsCall before between (record { step = x; answer = answer }) → mid ≡ old ++ kept_of x answer.reply → Says between after mid new (rest answer) result → Says before after old new (ask x rest) result
+pub says-first : {A : Type 0} (before between after : EvdevView) (old mid new : List CallMade) (x : Step) (answer : Answer) (rest : Answer → Talk A) (result : A) → IsCall before between (record { step = x; answer = answer }) → mid ≡ old ++ kept_call x answer.reply → Says between after mid new (rest answer) result → Says before after old new (ask x rest) result
 says-first before between after old mid new x answer rest result call kept s =
     says-then before between after old mid new (ask x finish) rest answer result (says-call before between old mid x answer call kept) s
 
@@ -42,19 +42,19 @@ hand_out-queue : (r : Reading) (queue q : List Taken) → hand_out (record r { q
 hand_out-queue r queue [] = refl
 hand_out-queue r queue (taken ∷ rest) = refl
 
-says-by_read : (before after : EvdevView) (old new : List CallMade) (r : Reading) (answer : Answer) (reply : Reply) (result : Next × Reading) → r.queue ≡ [] → IsCall before after (record { step = Read r.client 64; answer = answer }) → reply ≡ answer.reply → new ≡ old ++ kept_of (Read r.client 64) reply
+says-by_read : (before after : EvdevView) (old new : List CallMade) (r : Reading) (answer : Answer) (reply : Reply) (result : Next × Reading) → r.queue ≡ [] → IsCall before after (record { step = Read r.client 64; answer = answer }) → reply ≡ answer.reply → new ≡ old ++ kept_call (Read r.client 64) reply
     → after_read r answer ≡ result → Says before after old new (read_talk r) result
 unfolding read_talk
 says-by_read before after old new r answer reply result empty call replied kept is =
     let talk : read_or_hand_out r r.queue ≡ ask (Read r.client 64) (λ (a : Answer). finish (after_read r a)) = ap (λ (q : List Taken). read_or_hand_out r q) empty in
     let s : Says before after old new (ask (Read r.client 64) (λ (a : Answer). finish (after_read r a))) result =
     says-first before after after old new new (Read r.client 64) answer (λ (a : Answer). finish (after_read r a)) result call
-    (kept ∙ ap (λ (rep : Reply). old ++ kept_of (Read r.client 64) rep) replied)
+    (kept ∙ ap (λ (rep : Reply). old ++ kept_call (Read r.client 64) rep) replied)
     (says-still after new new (finish (after_read r answer)) result refl (ap (λ (o : Next × Reading). finish o) is)) in
     subst (λ (t : Talk (Next × Reading)). Says before after old new t result) (sym talk) s
 
 -- a read that took events
-pub says-took : (before after : EvdevView) (old new : List CallMade) (r s : Reading) (reply : Reply) (queue : List Taken) (result : Next × Reading) → r.queue ≡ [] → Reads before after r.client reply queue → new ≡ old ++ kept_of (Read r.client 64) reply
+pub says-took : (before after : EvdevView) (old new : List CallMade) (r s : Reading) (reply : Reply) (queue : List Taken) (result : Next × Reading) → r.queue ≡ [] → MakesRead before after r.client reply queue → new ≡ old ++ kept_call (Read r.client 64) reply
     → s ≡ record r { queue = queue } → is_accepted reply ≡ true → result ≡ hand_out s queue → Says before after old new (read_talk r) result
 says-took before after old new r s reply queue result empty reads kept mid accepted handed =
     let a : Answer = reads.answer in
@@ -65,7 +65,7 @@ says-took before after old new r s reply queue result empty reads kept mid accep
     says-by_read before after old new r a reply result empty reads.is_call reads.replied kept (after_it ∙ sym out)
 
 -- a read that was not accepted
-pub says-read_nothing : (before after : EvdevView) (old new : List CallMade) (r s : Reading) (reply : Reply) (queue : List Taken) (next : Next) → r.queue ≡ [] → Reads before after r.client reply queue → new ≡ old ++ kept_of (Read r.client 64) reply
+pub says-read_nothing : (before after : EvdevView) (old new : List CallMade) (r s : Reading) (reply : Reply) (queue : List Taken) (next : Next) → r.queue ≡ [] → MakesRead before after r.client reply queue → new ≡ old ++ kept_call (Read r.client 64) reply
     → s ≡ record r { queue = queue } → is_accepted reply ≡ false → next ≡ stop_of reply → Says before after old new (read_talk r) (next, s)
 says-read_nothing before after old new r s reply queue next empty reads kept mid refused stopped =
     let a : Answer = reads.answer in
@@ -127,7 +127,7 @@ says-begun before after old new xs client ring r queue left view asked h none no
     (ap (λ (v : View). made v [] []) (sym same) ∙ ap (λ (q : List Taken). made view q []) (sym none) ∙ ap (λ (l : List Event). made view queue l) (sym nothing)))
 
 -- a start, once its Open was accepted
-pub says-opened : (before between after : EvdevView) (old mid new : List CallMade) (d : Description) (r : Reading) (reply : Reply) (result : Started × Reading) → (answer : Answer) → reply ≡ answer.reply → IsCall before between (record { step = Open; answer = answer }) → mid ≡ old ++ kept_of Open answer.reply
+pub says-opened : (before between after : EvdevView) (old mid new : List CallMade) (d : Description) (r : Reading) (reply : Reply) (result : Started × Reading) → (answer : Answer) → reply ≡ answer.reply → IsCall before between (record { step = Open; answer = answer }) → mid ≡ old ++ kept_call Open answer.reply
     → Says between after mid new (after_open d r reply) result → Says before after old new (start_talk d r) result
 unfolding start_talk
 says-opened before between after old mid new d r reply result answer replied call kept s =
@@ -139,7 +139,7 @@ after_open-stopped d r (Opened at client ring) h = absurd (h at client ring refl
 after_open-stopped d r _ h = refl
 
 -- a start whose Open was refused
-pub says-not_opened : (before after : EvdevView) (old new : List CallMade) (d : Description) (r : Reading) (reply : Reply) (started : Started) (answer : Answer) → reply ≡ answer.reply → IsCall before after (record { step = Open; answer = answer }) → new ≡ old ++ kept_of Open answer.reply
+pub says-not_opened : (before after : EvdevView) (old new : List CallMade) (d : Description) (r : Reading) (reply : Reply) (started : Started) (answer : Answer) → reply ≡ answer.reply → IsCall before after (record { step = Open; answer = answer }) → new ≡ old ++ kept_call Open answer.reply
     → ((at client ring : ℕ) → reply ≡ Opened at client ring → ⊥) → started ≡ start_stop_of reply → Says before after old new (start_talk d r) (started, r)
 says-not_opened before after old new d r reply started answer replied call kept h stopped =
     let result : Started × Reading = (started, r) in

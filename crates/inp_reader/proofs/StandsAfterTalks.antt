@@ -27,8 +27,8 @@ use Rattle.inp_reader.specs.declared.phase.Phase.TheVariants.{Plain, Needed, Han
 use Rattle.inp_reader.specs.declared.next.Next.{Next}
 use Rattle.inp_reader.specs.declared.next.Next.TheVariants.{Success, Dropped, Synced}
 use Rattle.inp_reader.specs.declared.started.Started.{Started}
-use Rattle.inp_reader.specs.Reading.{Reading, ask_each, queries, bit_queries, axis_queries, plain_axes, slot_queries, only_if, start_talk, next_talk, talk_in, plain_talk, go_on, go_on_after, sync_talk, after_open, after_queries, start_stop_of, read_talk, read_or_hand_out, after_read, hand_out, hand_out_event, stop_of, handing, hand_synthesised, as_plain, after_full_sync, after_failed_sync, is_dropped}
-use Rattle.inp_recon.specs.Synchronised.{is_discard_of, is_start}
+use Rattle.inp_reader.specs.Reading.{Reading, ask_each, queries, bit_queries, axis_queries, plain_axes, slot_queries, only_if, start_talk, next_talk, talk_in, plain_talk, go_on, go_on_after, sync_talk, after_open, after_queries, start_stop_of, read_talk, read_or_hand_out, after_read, hand_out, hand_out_event, stop_of, handing, hand_synthesised, as_plain, after_full_sync, after_failed_sync}
+use Rattle.inp_recon.specs.Synchronised.{is_discard_of, is_start, is_dropped}
 use Rattle.inp_reader.specs.Standing.{is_use_of, calls_since, steps_of, view_after_answers, taken_by_calls, events_of, is_read, AreReads, IsInStep, is_needed, has_opened}
 use Rattle.inp_reader.specs.Talk.{Talk, finish, and_then, LeadsTo, EndsWith}
 use Rattle.inp_model.proofs.Refused.{refused-not_accepted}

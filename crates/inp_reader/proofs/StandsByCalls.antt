@@ -22,7 +22,8 @@ use Rattle.inp_reader.specs.declared.phase.Phase.TheVariants.{Plain, Needed, Han
 use Rattle.inp_reader.specs.declared.next.Next.{Next}
 use Rattle.inp_reader.specs.declared.next.Next.TheVariants.{Success, Dropped, Synced}
 use Rattle.inp_reader.specs.declared.started.Started.{Started}
-use Rattle.inp_reader.specs.Reading.{Reading, start_talk, next_talk, talk_in, go_on, go_on_after, sync_talk, read_talk, read_or_hand_out, after_read, hand_out, hand_out_event, stop_of, handing, hand_synthesised, as_plain, after_full_sync, after_failed_sync, is_dropped}
+use Rattle.inp_recon.specs.Synchronised.{is_dropped}
+use Rattle.inp_reader.specs.Reading.{Reading, start_talk, next_talk, talk_in, go_on, go_on_after, sync_talk, read_talk, read_or_hand_out, after_read, hand_out, hand_out_event, stop_of, handing, hand_synthesised, as_plain, after_full_sync, after_failed_sync}
 use Rattle.inp_reader.specs.Says.{Says}
 use Rattle.inp_reader.specs.Spare.{IsSpare, HasSpare}
 use Rattle.inp_reader.specs.Showing.{AnswerShows}

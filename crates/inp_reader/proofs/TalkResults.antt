@@ -20,7 +20,8 @@ use Rattle.inp_reader.specs.declared.phase.Phase.TheVariants.{Plain, Needed, Han
 use Rattle.inp_reader.specs.declared.next.Next.{Next}
 use Rattle.inp_reader.specs.declared.next.Next.TheVariants.{Success, Dropped, Synced}
 use Rattle.inp_reader.specs.Talk.{Talk, finish, ask, and_then, LeadsTo, EndsWith}
-use Rattle.inp_reader.specs.Reading.{Reading, queries, ask_each, start_stop_of, after_queries, after_open, start_talk, is_dropped, stop_of, hand_out_event, hand_out, after_read, read_or_hand_out, read_talk, hand_synthesised, handing, as_plain, after_full_sync, after_failed_sync, go_on, go_on_after, sync_talk, plain_talk, talk_in, next_talk}
+use Rattle.inp_recon.specs.Synchronised.{is_dropped}
+use Rattle.inp_reader.specs.Reading.{Reading, queries, ask_each, start_stop_of, after_queries, after_open, start_talk, stop_of, hand_out_event, hand_out, after_read, read_or_hand_out, read_talk, hand_synthesised, handing, as_plain, after_full_sync, after_failed_sync, go_on, go_on_after, sync_talk, plain_talk, talk_in, next_talk}
 use Rattle.inp_model.specs.Leaves.{AreCalls}
 use Rattle.inp_reader.specs.Says.{Says}
 use Rattle.inp_reader.specs.KeptViews.{IsKeptView}

@@ -9,7 +9,7 @@ use Rattle.inp_recon.specs.declared.view.View.{View}
 use Rattle.inp_recon.specs.View.{view_after_answer}
 use Rattle.inp_reader.specs.Talk.{Talk, finish, ask, and_then, LeadsTo, EndsWith}
 use Rattle.inp_reader.specs.Reading.{ask_each}
-use Rattle.inp_reader.specs.Says.{kept_of, made_of}
+use Rattle.inp_reader.specs.Says.{kept_call, calls_kept}
 
 -- Talks
 
@@ -70,6 +70,6 @@ EndsWith-stop (x ∷ xs) ys view stop (call ∷ calls) h =
 
 -- Calls
 
-pub made_of-append : (calls more : List Call) → made_of (calls ++ more) ≡ made_of calls ++ made_of more
+pub made_of-append : (calls more : List Call) → calls_kept (calls ++ more) ≡ calls_kept calls ++ calls_kept more
 made_of-append [] more = refl
-made_of-append (call ∷ calls) more = ap (λ ms. kept_of call.step call.answer.reply ++ ms) (made_of-append calls more) ∙ sym (append_assoc (kept_of call.step call.answer.reply) (made_of calls) (made_of more))
+made_of-append (call ∷ calls) more = ap (λ ms. kept_call call.step call.answer.reply ++ ms) (made_of-append calls more) ∙ sym (append_assoc (kept_call call.step call.answer.reply) (calls_kept calls) (calls_kept more))

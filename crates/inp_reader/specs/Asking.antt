@@ -9,10 +9,10 @@ use Rattle.inp_model.specs.Evdev.{EvdevView, IsCall}
 use Rattle.inp_model.specs.Reply.{Answer, is_accepted, written}
 use Rattle.inp_recon.specs.declared.view.View.{View}
 use Rattle.inp_reader.specs.declared.call_made.CallMade.{CallMade}
-use Rattle.inp_reader.specs.Says.{kept_of}
+use Rattle.inp_reader.specs.Says.{kept_call}
 
 -- A call with a buffer of cells: its answer, and what it writes to the buffer.
-pub record Calls (before after : EvdevView) (x : Step) (reply : Reply) (cells new_cells : List ℤ) : Type 0 where
+pub record MakesCall (before after : EvdevView) (x : Step) (reply : Reply) (cells new_cells : List ℤ) : Type 0 where
   pub answer : Answer
   pub replied : reply ≡ answer.reply
   pub cells_written : new_cells ≡ written answer.cells cells
@@ -24,10 +24,10 @@ pub record Asks (before after : EvdevView) (old new : List CallMade) (x : Step) 
   pub replied : reply ≡ answer.reply
   pub cells_written : new_cells ≡ written answer.cells cells
   pub is_call : IsCall before after (record { step = x; answer = answer })
-  pub kept : new ≡ old ++ kept_of x answer.reply
+  pub kept : new ≡ old ++ kept_call x answer.reply
 
 -- A read of at most 64 events into an empty queue: all that it takes is queued.
-pub record Reads (before after : EvdevView) (client : ℕ) (reply : Reply) (queue : List Taken) : Type 0 where
+pub record MakesRead (before after : EvdevView) (client : ℕ) (reply : Reply) (queue : List Taken) : Type 0 where
   pub answer : Answer
   pub replied : reply ≡ answer.reply
   pub queued : queue ≡ (if is_accepted answer.reply then answer.events else [])

@@ -9,7 +9,6 @@ use Rattle.inp_model.specs.declared.reply.Reply.TheVariants.{Opened, Took, Disca
 use Rattle.inp_model.specs.declared.reply.Refusal.TheVariants.{LogFull}
 use Rattle.inp_model.specs.Description.{Description, one_key, no_info}
 use Rattle.inp_model.specs.Event.{syn_dropped}
-use Rattle.inp_model.specs.Reply.{answer, past_after}
 use Rattle.inp_model.specs.Run.{Call}
 use Rattle.inp_model.specs.Examples.{report, at, stroke}
 use Rattle.inp_recon.specs.View.{first_view}
@@ -21,9 +20,9 @@ use Rattle.inp_reader.specs.declared.started.Started.TheVariants.{Refused}
 use Rattle.inp_reader.specs.declared.next.Next.{Next}
 use Rattle.inp_reader.specs.declared.next.Next.TheVariants.{Dropped, Sync, Again, Synced, NoDevice, Closed}
 use Rattle.inp_reader.specs.declared.call_made.CallMade.{CallMade}
-use Rattle.inp_reader.specs.Talk.{Talk, finish, ask}
+use Rattle.inp_reader.specs.Talk.{Talk, talk_with, calls_with}
 use Rattle.inp_reader.specs.Reading.{Reading, start_talk, next_talk}
-use Rattle.inp_reader.specs.Says.{made_of}
+use Rattle.inp_reader.specs.Says.{calls_kept}
 
 -- a talk on a one-thread device: its calls, the past after them and its result
 pub record Played (A : Type 0) : Type 0 where
@@ -31,11 +30,10 @@ pub record Played (A : Type 0) : Type 0 where
   pub past : List Step
   pub result : A
 
-abbrev pub played : {A : Type 0} → Description → List Step → List Call → Talk A → Played A
-played d past before (finish result) = record { calls = before; past = past; result = result }
-played d past before (ask x rest) =
-    let given = answer d past x in
-    played d (past_after given.reply x past) (before ++ record { step = x; answer = given } ∷ []) (rest given)
+abbrev pub played : {A : Type 0} → Description → List Step → Talk A → Played A
+played d past talk =
+    let after = talk_with d past talk in
+    record { calls = calls_with d past talk; past = after.1; result = after.0 }
 
 -- a reader on a one-thread device, with its last answers and the calls that it made
 pub record Stand (A : Type 0) : Type 0 where
@@ -50,15 +48,15 @@ new_reading d = record { client = 4294967295; queue = []; view = first_view d; p
 -- a new reader starts after these steps
 abbrev pub after_start : Description → List Step → Stand Started
 after_start d steps =
-    let p = played d (reverse steps) [] (start_talk d (new_reading d)) in
-    record { past = p.past; reading = p.result.1; answers = p.result.0 ∷ []; made = made_of p.calls }
+    let p = played d (reverse steps) (start_talk d (new_reading d)) in
+    record { past = p.past; reading = p.result.1; answers = p.result.0 ∷ []; made = calls_kept p.calls }
 
 -- `next` is called in these modes
 abbrev pub after_nexts : Description → List Step → Reading → List Mode → List Next → List CallMade → Stand Next
 after_nexts d past r [] answers made = record { past = past; reading = r; answers = answers; made = made }
 after_nexts d past r (mode ∷ modes) answers made =
-    let p = played d past [] (next_talk d mode r) in
-    after_nexts d p.past p.result.1 modes (answers ++ p.result.0 ∷ []) (made ++ made_of p.calls)
+    let p = played d past (next_talk d mode r) in
+    after_nexts d p.past p.result.1 modes (answers ++ p.result.0 ∷ []) (made ++ calls_kept p.calls)
 
 -- a new reader starts after some steps, then these come, and `next` is called in these modes
 abbrev pub after_all : Description → List Step → List Step → List Mode → Stand Next

@@ -7,12 +7,12 @@ use Rattle.inp_model.specs.Run.{Call, place_of}
 use Rattle.inp_reader.specs.declared.call_made.CallMade.{CallMade}
 use Rattle.inp_reader.specs.declared.next.Next.{Next}
 use Rattle.inp_reader.specs.declared.next.Next.TheVariants.{Again}
-use Rattle.inp_reader.specs.Says.{made_of}
+use Rattle.inp_reader.specs.Says.{calls_kept}
 
 -- the places of the calls that were accepted, in order
-abbrev pub places_of : List CallMade → List ℕ
-places_of [] = []
-places_of (call ∷ calls) = (if is_accepted call.reply then place_of call.reply ∷ [] else []) ++ places_of calls
+abbrev pub accepted_places : List CallMade → List ℕ
+accepted_places [] = []
+accepted_places (call ∷ calls) = (if is_accepted call.reply then place_of call.reply ∷ [] else []) ++ accepted_places calls
 
 -- the count of answers Again after `next` answered; it stays at the end of its type
 abbrev pub agains_after_next : Next → ℕ → ℕ
@@ -23,7 +23,7 @@ agains_after_next _ n = n
 -- Again. What they leave is said of all of them (`Leaves` of `inp_model`), and the own places once more of those kept.
 pub record LeavesMade (before after : EvdevView) (made : List CallMade) : Type 0 where
   pub calls : List Call
-  pub kept : made ≡ made_of calls
+  pub kept : made ≡ calls_kept calls
   pub are_calls : AreCalls before after calls
   pub leaves : Leaves before after calls
-  pub own : after.own ≡ before.own ++ places_of made
+  pub own : after.own ≡ before.own ++ accepted_places made

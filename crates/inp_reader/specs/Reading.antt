@@ -14,6 +14,7 @@ use Rattle.inp_model.specs.Description.{Description, has_kind, supports}
 use Rattle.inp_model.specs.Reply.{Answer, is_accepted}
 use Rattle.inp_recon.specs.declared.view.View.{View}
 use Rattle.inp_recon.specs.View.{view_after_event, view_after_answer}
+use Rattle.inp_recon.specs.Synchronised.{is_dropped}
 use Rattle.inp_reader.specs.declared.call_made.CallMade.{CallMade}
 use Rattle.inp_reader.specs.declared.mode.Mode.{Mode}
 use Rattle.inp_reader.specs.declared.mode.Mode.TheVariants.{Normal, Sync as Synchronising}
@@ -110,10 +111,6 @@ unfoldable pub start_talk : Description → Reading → Talk (Started × Reading
 start_talk d r = ask Open (λ answer. after_open d r answer.reply)
 
 -- Reading
-
--- the event tells that events were lost
-abbrev pub is_dropped : Event → Bool
-is_dropped e = nat_eq e.kind EV_SYN && nat_eq e.code SYN_DROPPED
 
 -- how `next` ends on a step that was not accepted; the reply is Again at a read alone, and else one of three refusals
 abbrev pub stop_of : Reply → Next

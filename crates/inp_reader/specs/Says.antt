@@ -9,13 +9,13 @@ use Rattle.inp_reader.specs.declared.call_made.CallMade.{CallMade}
 use Rattle.inp_reader.specs.Talk.{Talk, EndsWith}
 
 -- what is kept of a call; one that was answered Again is not
-abbrev pub kept_of : Step → Reply → List CallMade
-kept_of x reply = if is_again reply then [] else record { step = x; reply = reply } ∷ []
+abbrev pub kept_call : Step → Reply → List CallMade
+kept_call x reply = if is_again reply then [] else record { step = x; reply = reply } ∷ []
 
 -- what is kept of calls, in order
-abbrev pub made_of : List Call → List CallMade
-made_of [] = []
-made_of (call ∷ calls) = kept_of call.step call.answer.reply ++ made_of calls
+abbrev pub calls_kept : List Call → List CallMade
+calls_kept [] = []
+calls_kept (call ∷ calls) = kept_call call.step call.answer.reply ++ calls_kept calls
 
 -- The calls that were made on an evdev are those of the talk, this is its result, and they are kept behind those that
 -- were kept before.
@@ -23,4 +23,4 @@ pub record Says {A : Type 0} (before after : EvdevView) (old new : List CallMade
   pub calls : List Call
   pub talk_ends : EndsWith talk calls result
   pub are_calls : AreCalls before after calls
-  pub kept : new ≡ old ++ made_of calls
+  pub kept : new ≡ old ++ calls_kept calls

@@ -21,7 +21,7 @@ use Rattle.inp_reader.specs.declared.phase.Phase.TheVariants.{Needed}
 use Rattle.inp_reader.specs.declared.started.Started.{Started}
 use Rattle.inp_reader.specs.declared.started.Started.TheVariants.{Opened}
 use Rattle.inp_reader.specs.Reading.{Reading, ReaderView, queries}
-use Rattle.inp_reader.specs.Leaving.{places_of}
+use Rattle.inp_reader.specs.Leaving.{accepted_places}
 
 -- What a client did since
 
@@ -107,7 +107,7 @@ Stands told reader = StandsAt reader.description (reverse told.seen) reader.read
 
 -- Nobody else used a client in between: each step that did and entered the history is one of these calls.
 pub record IsAlone (before after : EvdevView) (client : ℕ) (made : List CallMade) : Type 0 where
-  pub only_own : (place : ℕ) (x : Step) → length before.seen ≤ place → slice_get after.seen place ≡ Some x → is_use_of client x ≡ true → Contains (places_of made) place
+  pub only_own : (place : ℕ) (x : Step) → length before.seen ≤ place → slice_get after.seen place ≡ Some x → is_use_of client x ≡ true → Contains (accepted_places made) place
 
 -- a start opened a client
 abbrev pub has_opened : Started → Bool

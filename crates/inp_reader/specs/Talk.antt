@@ -1,7 +1,8 @@
 -- What a caller asks of an evdev: each step by the answers before it, and a result once nothing more is to be asked.
 use Rattle.std.specs.Prelude.{◌≡◌, List, [], ◌∷◌}
 use Rattle.inp_model.specs.declared.step.Step.{Step}
-use Rattle.inp_model.specs.Reply.{Answer}
+use Rattle.inp_model.specs.Description.{Description}
+use Rattle.inp_model.specs.Reply.{Answer, answer, past_after}
 use Rattle.inp_model.specs.Run.{Call}
 
 pub data Talk (A : Type 0) : Type 0 where
@@ -24,3 +25,14 @@ LeadsTo (ask x rest) (call ∷ calls) left = (call.step ≡ x) × LeadsTo (rest 
 -- the calls are all of a talk, and this is its result
 abbrev pub EndsWith : {A : Type 0} → Talk A → List Call → A → Type 0
 EndsWith talk calls result = LeadsTo talk calls (finish result)
+
+-- a talk with the one-thread device after this past: its result, and the past behind it
+unfoldable pub talk_with : {A : Type 0} → Description → List Step → Talk A → A × List Step
+talk_with d past (finish a) = (a, past)
+talk_with d past (ask x rest) = talk_with d (past_after (answer d past x).reply x past) (rest (answer d past x))
+
+-- its calls, each with what the device answered
+unfoldable pub calls_with : {A : Type 0} → Description → List Step → Talk A → List Call
+calls_with d past (finish a) = []
+calls_with d past (ask x rest) =
+    record { step = x; answer = answer d past x } ∷ calls_with d (past_after (answer d past x).reply x past) (rest (answer d past x))

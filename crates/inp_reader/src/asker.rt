@@ -6,7 +6,7 @@ ghost use Rattle.inp_model.specs.Step.{moment_of};
 ghost use Rattle.inp_model.specs.Reply.{HasRoom};
 ghost use Rattle.inp_reader.specs.Asking.{Asks, AsksAnAxis, asked_result};
 ghost use Rattle.inp_reader.specs.Reading.{queries, bit_queries, axis_queries, plain_axes, only_if, ask_each, axes_among};
-ghost use Rattle.inp_reader.specs.Says.{Says, kept_of};
+ghost use Rattle.inp_reader.specs.Says.{Says, kept_call};
 ghost use Rattle.inp_reader.specs.Session.{IsReady};
 
 use crate::CallMade;
@@ -33,7 +33,7 @@ impl Asker {
     // Keeps a call, unless it was answered Again.
     pub(crate) fn keep(&mut self, step: Step, reply: Reply)
         requires { length self.old.made < 64 }
-        ensures kept { self.new ≡ record self.old { made = self.old.made ++ kept_of step reply } }
+        ensures kept { self.new ≡ record self.old { made = self.old.made ++ kept_call step reply } }
         ensures few { length self.new.made ≤ length self.old.made + 1 }
     {
         match reply {

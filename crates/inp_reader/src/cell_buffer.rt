@@ -4,7 +4,7 @@ ghost use Rattle.inp_model.specs.declared.limits.TheConstants.{SLOTS_MAX};
 ghost use Rattle.inp_model.specs.declared.stamped.TheConstants.{MOMENT_MAX};
 ghost use Rattle.inp_model.specs.Step.{moment_of};
 ghost use Rattle.inp_model.specs.Reply.{HasRoom};
-ghost use Rattle.inp_reader.specs.Asking.{Calls};
+ghost use Rattle.inp_reader.specs.Asking.{MakesCall};
 
 use inp_model::{Evdev, NoMemory, Reply, Step, Taken};
 use std::alloc::Global;
@@ -48,7 +48,7 @@ impl CellBuffer {
     pub(crate) fn call<E: Evdev>(&mut self, dev: &mut E, step: Step) -> Reply
         requires moment { moment_of step ≤ MOMENT_MAX }
         requires room { HasRoom (E.told dev.old).description step [] self.old }
-        ensures calls { Calls (E.told dev.old) (E.told dev.new) step result self.old self.new }
+        ensures calls { MakesCall (E.told dev.old) (E.told dev.new) step result self.old self.new }
         ensures len { length self.new ≡ length self.old }
     {
         let mut nothing: [Taken; 0] = [];

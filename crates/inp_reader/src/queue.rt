@@ -1,6 +1,6 @@
 //! The events that a reader has read and not handed out.
 ghost use Rattle.std.specs.Prelude.{◌≡◌, ◌↔◌, [], ◌∷◌, IsTrue, IfSome, IfNone, length};
-ghost use Rattle.inp_reader.specs.Asking.{Reads};
+ghost use Rattle.inp_reader.specs.Asking.{MakesRead};
 
 use inp_model::{Evdev, Event, Reply, Step, Taken};
 use std::marker::Model;
@@ -80,7 +80,7 @@ impl Queue {
     // Reads at most 64 of a client's events into an empty queue.
     pub(crate) fn read<E: Evdev>(&mut self, dev: &mut E, client: u32) -> Reply
         requires { self.old ≡ [] }
-        ensures { Reads (E.told dev.old) (E.told dev.new) client result self.new }
+        ensures { MakesRead (E.told dev.old) (E.told dev.new) client result self.new }
     {
         let step = Step::Read {
             client,

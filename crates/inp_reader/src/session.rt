@@ -1,9 +1,9 @@
 //! What a reader keeps, and what it does.
 ghost use Rattle.std.specs.Prelude.{◌≡◌, ◌≤◌, ◌<◌, ◌+◌, false, [], ◌++◌, length};
 ghost use Rattle.inp_model.specs.declared.step.Step.TheVariants.{Read};
-ghost use Rattle.inp_reader.specs.Asking.{Reads, asked_result};
+ghost use Rattle.inp_reader.specs.Asking.{MakesRead, asked_result};
 ghost use Rattle.inp_reader.specs.Reading.{ask_each, queries, start_talk, after_queries, after_read, read_talk, hand_out, handing, as_plain, after_sync, sync_talk, go_on, go_on_after, plain_talk, next_talk, with_sync_needed};
-ghost use Rattle.inp_reader.specs.Says.{Says, kept_of};
+ghost use Rattle.inp_reader.specs.Says.{Says, kept_call};
 ghost use Rattle.inp_reader.specs.Session.{reading_of, IsSession};
 ghost use Rattle.inp_reader.specs.Standing.{is_needed};
 ghost use Rattle.inp_reader.specs.Talk.{ask, finish, and_then};
@@ -60,8 +60,8 @@ impl Session {
     fn read_queue<E: Evdev>(&mut self, dev: &mut E) -> Reply
         requires empty { self.old.queue ≡ [] }
         requires few { length self.old.asker.made < 64 }
-        ensures reads { Reads (E.told dev.old) (E.told dev.new) self.old.client result self.new.queue }
-        ensures asker { let made = self.old.asker.made ++ kept_of (Read self.old.client 64) result in
+        ensures reads { MakesRead (E.told dev.old) (E.told dev.new) self.old.client result self.new.queue }
+        ensures asker { let made = self.old.asker.made ++ kept_call (Read self.old.client 64) result in
             self.new.asker ≡ record self.old.asker { made = made } }
         ensures reading { reading_of self.new
             ≡ record (reading_of self.old) { queue = self.new.queue } }

@@ -33,7 +33,7 @@ use Rattle.inp_recon.proofs.Over.{over, over-idle, IsIdle}
 use Rattle.inp_recon.proofs.Queueing.{Promised}
 use Rattle.inp_recon.proofs.FrameEntries.{Receives}
 use Rattle.inp_recon.proofs.FrameSteps.{Says}
-use Rattle.inp_recon.proofs.Following.{AreWholeTo, IsBehind, StandsAt}
+use Rattle.inp_recon.proofs.Following.{AreWholeTo, IsBehind, FollowsReports}
 use Rattle.inp_recon.proofs.Sizes.{IsSizedFor-after_events}
 use Rattle.inp_recon.proofs.ViewSteps.{length-rows, client_view_with-sized}
 use Rattle.inp_recon.proofs.AxisPasses.{axis_after}
@@ -143,7 +143,7 @@ asked_where false asked e h = cc
 
 -- a report of a frame, in what a read takes
 pub read-says : {V : Type 0} (eats : Eats) (d : Description) (past : List Step) (client count : ℕ) (t : V → Event → V) (st : List RawItem → V) (v : V)
-    → StandsAt eats d client t st (start_place past client) (sync_place past client) (described_from d past client) (frames d past) (description_places past) (raw d past) v (queue_with eats d past client)
+    → FollowsReports eats d client t st (start_place past client) (sync_place past client) (described_from d past client) (frames d past) (description_places past) (raw d past) v (queue_with eats d past client)
     → (j : ℕ) (f : Frame) → IsReportAt (taken_by_with eats d past client (Read client count)) j f
     → IsFollowedWith eats d past client (take (suc j) (taken_by_with eats d past client (Read client count))) f
     → over t v (map event_of (take (suc j) (taken_by_with eats d past client (Read client count)))) ≡ st f.cut.until

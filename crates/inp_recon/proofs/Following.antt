@@ -100,7 +100,7 @@ frames-wanted eats d client start sync from past s all ps later below (x ∷ xs)
 -- Folded by the queue and the batch a value is the state now, where all frames since the start are whole, no axis was
 -- described anew, and nothing was lost. Folded by the queue up to a report it is the state at the end of its frame, where
 -- the frame is behind the last query, and up to it nothing was kept from the client, and no axis was described anew.
-pub record StandsAt {V : Type 0} (eats : Eats) (d : Description) (client : ℕ) (t : V → Event → V) (st : List RawItem → V) (start sync from : ℕ) (fs : List Frame) (ps : List ℕ) (r : List RawItem) (v : V) (q : List Entry) : Type 0 where
+pub record FollowsReports {V : Type 0} (eats : Eats) (d : Description) (client : ℕ) (t : V → Event → V) (st : List RawItem → V) (start sync from : ℕ) (fs : List Frame) (ps : List ℕ) (r : List RawItem) (v : V) (q : List Entry) : Type 0 where
   pub now : IsClear eats start from client fs ps → has_no_loss q ≡ true → over t (over t v (map event_of q)) (pending d r) ≡ st r
   pub reports : Promised (Says st (IsBehind eats start sync from client fs ps)) t v q
 
@@ -134,8 +134,8 @@ module _ (eats : Eats) (d : Description) (client : ℕ) {V : Type 0} (t : V → 
   -- the frames of a step that stands for raw events
   pub frames-stand : (past : List Step) (s : Step) (start sync from : ℕ) (ps : List ℕ) → Receives past client → start < length past → AreBelow (length past) ps → (xs r : List RawItem) → Each IsEventItem xs → (fs : List Frame) (v : V) (q : List Entry)
       → Each (IsEndedWithin (length r)) fs
-      → StandsAt eats d client t st start sync from fs ps r v q
-      → StandsAt eats d client t st start sync from (fs ++ frames_by d past s r xs) ps (raw_after r xs) v (offered_to eats d client q (frames_by d past s r xs))
+      → FollowsReports eats d client t st start sync from fs ps r v q
+      → FollowsReports eats d client t st start sync from (fs ++ frames_by d past s r xs) ps (raw_after r xs) v (offered_to eats d client q (frames_by d past s r xs))
   frames-stand past s start sync from ps receives later below xs r events fs v q ended h = record {
     now = λ clear none.
         let mine : Each (λ f. is_whole_for eats client f ≡ true) (frames_by d past s r xs) = here (cuts d r xs) (Each-right _ fs (frames_by d past s r xs) clear.0) in
@@ -160,7 +160,7 @@ module _ (eats : Eats) (d : Description) (client : ℕ) {V : Type 0} (t : V → 
 
   -- A step that describes an axis, since which nothing is said of the state now.
   stands-described : (start sync from n : ℕ) (fs : List Frame) (ps : List ℕ) (r later : List RawItem) (v : V) (q : List Entry) → from ≤ n
-      → StandsAt eats d client t st start sync from fs ps r v q → StandsAt eats d client t st start sync from fs (n ∷ ps) later v q
+      → FollowsReports eats d client t st start sync from fs ps r v q → FollowsReports eats d client t st start sync from fs (n ∷ ps) later v q
   stands-described start sync from n fs ps r later v q within h = record {
     now = λ clear none. absurd (let early : n < from = clear.1.0 in omega (arith, within, early));
     reports =
@@ -222,25 +222,25 @@ module _ (eats : Eats) (d : Description) (client : ℕ) {V : Type 0} (t : V → 
   -- the parts of a past, for what stands after it
   abbrev pub Stands : (List Step → V) → List Step → Type 0
   Stands b past =
-      StandsAt eats d client t st (start_place past client) (sync_place past client) (described_from d past client) (frames d past) (description_places past) (raw d past) (b past) (queue_with eats d past client)
+      FollowsReports eats d client t st (start_place past client) (sync_place past client) (described_from d past client) (frames d past) (description_places past) (raw d past) (b past) (queue_with eats d past client)
 
   carried : (start start2 sync sync2 from from2 : ℕ) (fs fs2 : List Frame) (ps ps2 : List ℕ) (r r2 : List RawItem) (v v2 : V) (q q2 : List Entry)
       → start ≡ start2 → sync ≡ sync2 → from ≡ from2 → fs ≡ fs2 → ps ≡ ps2 → r ≡ r2 → v ≡ v2 → q ≡ q2
-      → StandsAt eats d client t st start sync from fs ps r v q → StandsAt eats d client t st start2 sync2 from2 fs2 ps2 r2 v2 q2
+      → FollowsReports eats d client t st start sync from fs ps r v q → FollowsReports eats d client t st start2 sync2 from2 fs2 ps2 r2 v2 q2
   carried start start2 sync sync2 from from2 fs fs2 ps ps2 r r2 v v2 q q2 e1 e2 e3 e4 e5 e6 e7 e8 h =
-      subst (λ x. StandsAt eats d client t st start2 sync2 from2 fs2 ps2 r2 v2 x) e8
-      (subst (λ x. StandsAt eats d client t st start2 sync2 from2 fs2 ps2 r2 x q) e7
-      (subst (λ x. StandsAt eats d client t st start2 sync2 from2 fs2 ps2 x v q) e6
-      (subst (λ x. StandsAt eats d client t st start2 sync2 from2 fs2 x r v q) e5
-      (subst (λ x. StandsAt eats d client t st start2 sync2 from2 x ps r v q) e4
-      (subst (λ x. StandsAt eats d client t st start2 sync2 x fs ps r v q) e3
-      (subst (λ x. StandsAt eats d client t st start2 x from fs ps r v q) e2
-      (subst (λ x. StandsAt eats d client t st x sync from fs ps r v q) e1 h)))))))
+      subst (λ x. FollowsReports eats d client t st start2 sync2 from2 fs2 ps2 r2 v2 x) e8
+      (subst (λ x. FollowsReports eats d client t st start2 sync2 from2 fs2 ps2 r2 x q) e7
+      (subst (λ x. FollowsReports eats d client t st start2 sync2 from2 fs2 ps2 x v q) e6
+      (subst (λ x. FollowsReports eats d client t st start2 sync2 from2 fs2 x r v q) e5
+      (subst (λ x. FollowsReports eats d client t st start2 sync2 from2 x ps r v q) e4
+      (subst (λ x. FollowsReports eats d client t st start2 sync2 x fs ps r v q) e3
+      (subst (λ x. FollowsReports eats d client t st start2 x from fs ps r v q) e2
+      (subst (λ x. FollowsReports eats d client t st x sync from fs ps r v q) e1 h)))))))
 
   -- behind the client's own call, before the frames
   Midway : (List Step → V) → List Step → Step → Type 0
   Midway b past x =
-      StandsAt eats d client t st (start_place past client) (sync_place (x ∷ past) client) (described_from d past client) (frames d past) (description_places past) (raw d past) (b (x ∷ past)) (left_in_queue eats d past client x)
+      FollowsReports eats d client t st (start_place past client) (sync_place (x ∷ past) client) (described_from d past client) (frames d past) (description_places past) (raw d past) (b (x ∷ past)) (left_in_queue eats d past client x)
 
   frames_follow : (b : List Step → V) (past : List Step) (x : Step) → is_start past client x ≡ false → Receives past client → Midway b past x → Stands b (x ∷ past)
   unfolding Midway

@@ -26,7 +26,7 @@ use Rattle.inp_record.specs.declared.verb.Verb as verb
 use Rattle.inp_record.specs.declared.verb.Verb.TheVariants as verbs
 use Rattle.inp_record.specs.Keyword.{keyword_rows, keyword_of}
 use Rattle.inp_record.specs.Verb.{verb_rows, is_verb_of, argument_count, with_arguments, verb_of}
-use Rattle.inp_record.specs.Words.{word, moment_word, kind_and_code, info_words, stamped_words, count_max, plain_command, command_of, action_by, action_of}
+use Rattle.inp_record.specs.Words.{word, moment_word, kind_and_code, info_in_words, stamped_words, count_max, plain_command, command_of, action_by, action_of}
 use Rattle.inp_record.proofs.Sayable.{IsSayableEvent, IsSayableCommand}
 use Rattle.inp_record.proofs.CanonLines.{is_plain}
 use Rattle.inp_record.proofs.CanonWords.{decimal_read, decimal_plain, signed_read, signed_plain, bits_read, bits_plain, kind_read, kind_plain, code_read, code_plain, clock_read, clock_plain, info_read_behind, info_plain, is_plain-word}
@@ -186,7 +186,7 @@ module _ (name : List ℕ) (stream : ℕ) (r : role.Role) where
   words_read (commands.Clock clock moment) h s = rw (clock_read clock, moment_read moment h) refl
   words_read (commands.Write moment kind code value) h s = ap (option_map (λ (s : Stamped). commands.Write s.now s.event.kind s.event.code s.event.value)) (event_read (codes "do") name (codes "write") moment kind code value h s)
   words_read (commands.SetAxis code info) h s =
-      ap (λ (o : Option ℕ). option_and_then (λ (n : ℕ). option_map (λ (i : AxisInfo). commands.SetAxis n i) (info_words 4 (do_words name (commands.SetAxis code info)))) o) (code_read EV_ABS code s.0)
+      ap (λ (o : Option ℕ). option_and_then (λ (n : ℕ). option_map (λ (i : AxisInfo). commands.SetAxis n i) (info_in_words 4 (do_words name (commands.SetAxis code info)))) o) (code_read EV_ABS code s.0)
       ∙ ap (option_map (λ (i : AxisInfo). commands.SetAxis code i)) (info_read_behind (codes "do") name info s.1 (codes "setaxis") (code_text EV_ABS code))
   words_read (commands.Read count) h s = ap (option_map (λ (n : ℕ). commands.Read n)) (count_read r count h s)
   words_read commands.Discard h s = refl

@@ -27,9 +27,9 @@ use Rattle.inp_record.specs.declared.item.Item.TheVariants.{Header, Device, Hint
 use Rattle.inp_record.specs.declared.keyword.Keyword as keyword
 use Rattle.inp_record.specs.declared.keyword.Keyword.TheVariants as keywords
 use Rattle.inp_record.specs.Keyword.{keyword_rows, filter_rows, keyword_of}
-use Rattle.inp_record.specs.Place.{is_start, is_out_of_place}
-use Rattle.inp_record.specs.Words.{word, version_word, is_header, info_words, micros_word, offset_item, plain_item, action_with, or_bad_word, item_of}
-use Rattle.inp_record.specs.Past.{Past, place_of, version_of, is_requested, actors_of, stream_count, context_of}
+use Rattle.inp_record.specs.Place.{is_first_place, is_out_of_place}
+use Rattle.inp_record.specs.Words.{word, version_word, is_header, info_in_words, micros_word, offset_item, plain_item, action_with, or_bad_word, item_of}
+use Rattle.inp_record.specs.Past.{Past, next_place, version_of, is_requested, actors_in, stream_count, context_of}
 use Rattle.inp_record.specs.Meaning.{placed, item_of_words}
 use Rattle.inp_record.specs.Spelling.{item_words}
 use Rattle.inp_record.proofs.Sayable.{keyword_for_role, keyword_for_device, keyword_for_filter, is_later_role, IsSayableInfo, IsSayableFilter, IsSayableAction, IsSayable, IsInPlace}
@@ -38,19 +38,19 @@ use Rattle.inp_record.proofs.CanonWords.{decimal_read, decimal_plain, kind_read,
 use Rattle.inp_record.proofs.CanonCommands.{do_words, do_keyword, kind_and_code_read, command_read, command_plain}
 
 -- a line whose words are those of its keyword is read where it may stand
-placed_read : (past : Past) (k : keyword.Keyword) (ws : Words) (i : Item) → keyword_of (version_of past) (word 0 ws) (word 1 ws) (length ws) ≡ Some k → is_start (place_of past) ≡ false → is_out_of_place (place_of past) (is_requested past) k ≡ false
-    → item_of (actors_of past) (stream_count past) k ws ≡ Ok i → item_of_words (context_of past) ws ≡ Ok i
+placed_read : (past : Past) (k : keyword.Keyword) (ws : Words) (i : Item) → keyword_of (version_of past) (word 0 ws) (word 1 ws) (length ws) ≡ Some k → is_first_place (next_place past) ≡ false → is_out_of_place (next_place past) (is_requested past) k ≡ false
+    → item_of (actors_in past) (stream_count past) k ws ≡ Ok i → item_of_words (context_of past) ws ≡ Ok i
 unfolding item_of_words
 placed_read past k ws i is started within says =
-    by_start (is_start (place_of past)) started
+    by_start (is_first_place (next_place past)) started
     ∙ ap (λ (o : Option keyword.Keyword). placed (context_of past) o ws) is
-    ∙ by_place (is_out_of_place (place_of past) (is_requested past) k) within
+    ∙ by_place (is_out_of_place (next_place past) (is_requested past) k) within
   where
     by_start : (start : Bool) → start ≡ false → (if start && not (is_header ws) then Err BadHeader else placed (context_of past) (keyword_of (version_of past) (word 0 ws) (word 1 ws) (length ws)) ws) ≡ placed (context_of past) (keyword_of (version_of past) (word 0 ws) (word 1 ws) (length ws)) ws
     by_start true h = absurd (cc h)
     by_start false h = refl
 
-    by_place : (out : Bool) → out ≡ false → (if out then Err OutOfPlace else item_of (actors_of past) (stream_count past) k ws) ≡ Ok i
+    by_place : (out : Bool) → out ≡ false → (if out then Err OutOfPlace else item_of (actors_in past) (stream_count past) k ws) ≡ Ok i
     by_place true h = absurd (cc h)
     by_place false h = says
 
@@ -95,7 +95,7 @@ module _ (actors : List ActorText) (streams : ℕ) where
   axis_read : (code : ℕ) (i : AxisInfo) → code ≤ 65535 → IsSayableInfo i → item_of actors streams keywords.Axis (axis_words code i) ≡ Ok (Axis code i)
   unfolding item_of plain_item
   axis_read code i h s =
-      ap (λ (o : Option ℕ). or_bad_word (option_and_then (λ n. option_map (λ info. Axis n info) (info_words 2 (axis_words code i))) o)) (code_read EV_ABS code h)
+      ap (λ (o : Option ℕ). or_bad_word (option_and_then (λ n. option_map (λ info. Axis n info) (info_in_words 2 (axis_words code i))) o)) (code_read EV_ABS code h)
       ∙ ap (λ (o : Option AxisInfo). or_bad_word (option_map (λ info. Axis code info) o)) (info_read (codes "axis") (code_text EV_ABS code) i s)
 
   filter_read : (f : filter.Filter) → IsSayableFilter f → item_of actors streams (keyword_for_filter f) (filter_words f) ≡ Ok (Filter f)
@@ -149,7 +149,7 @@ action_said : (actors : List ActorText) (streams actor : ℕ) (does : command.Co
 action_said actors streams actor does s = ap (λ (o : Option ActorText). do_words (name_of_actor o) does) s.there
 
 -- a header is read where nothing stands before it
-header_read : (past : Past) (version : ℕ) (w : List ℕ) → version_word w ≡ Some version → is_start (place_of past) ≡ true → item_of_words (context_of past) (codes "inputrecord" ∷ w ∷ []) ≡ Ok (Header version)
+header_read : (past : Past) (version : ℕ) (w : List ℕ) → version_word w ≡ Some version → is_first_place (next_place past) ≡ true → item_of_words (context_of past) (codes "inputrecord" ∷ w ∷ []) ≡ Ok (Header version)
 unfolding item_of_words keyword_of keyword_rows item_of plain_item
 header_read past version w is h = by_version (version_word w) is
   where
@@ -158,8 +158,8 @@ header_read past version w is h = by_version (version_word w) is
     by_start false h = absurd (cc h)
 
     by_version : (o : Option ℕ) → o ≡ Some version
-        → (if is_start (place_of past) && not (is_some o) then Err BadHeader else if not (is_start (place_of past)) then Err OutOfPlace else or_bad_word (option_map (λ v. Header v) o)) ≡ Ok (Header version)
-    by_version o e = rw e (by_start (is_start (place_of past)) h)
+        → (if is_first_place (next_place past) && not (is_some o) then Err BadHeader else if not (is_first_place (next_place past)) then Err OutOfPlace else or_bad_word (option_map (λ v. Header v) o)) ≡ Ok (Header version)
+    by_version o e = rw e (by_start (is_first_place (next_place past)) h)
 
 -- a version, written and read again
 version_read : (version : ℕ) → 1 ≤ version → version ≤ VERSION_MAX → version_word (decimal version) ≡ Some version
@@ -173,23 +173,23 @@ version_plain : (version : ℕ) → 1 ≤ version → version ≤ VERSION_MAX �
 version_plain version some few = decimal_plain version (omega arith)
 
 -- an item that can be said, and may stand there, is read again
-pub item_read : (past : Past) (i : Item) → IsSayable (actors_of past) (stream_count past) i → IsInPlace past i → item_of_words (context_of past) (item_words (actors_of past) i) ≡ Ok i
+pub item_read : (past : Past) (i : Item) → IsSayable (actors_in past) (stream_count past) i → IsInPlace past i → item_of_words (context_of past) (item_words (actors_in past) i) ≡ Ok i
 unfolding keyword_of keyword_rows
 item_read past (Header version) s p = header_read past version (decimal version) (version_read version s.0 s.1) p
-item_read past (Device requested name) s p = placed_read past (keyword_for_device requested) (device_word requested ∷ name ∷ []) (Device requested name) (device_keyword (version_of past) requested name p.2) p.0 p.1 (device_read (actors_of past) (stream_count past) requested (device_word requested) name s)
-item_read past (Hint count) s p = placed_read past keywords.Hint (codes "hint" ∷ decimal count ∷ []) (Hint count) refl p.0 p.1 (hint_read (actors_of past) (stream_count past) count s)
-item_read past (Log count) s p = placed_read past keywords.Log (codes "log" ∷ decimal count ∷ []) (Log count) refl p.0 p.1 (log_read (actors_of past) (stream_count past) count s)
-item_read past (Realtime offset) s p = placed_read past keywords.Clock (codes "clock" ∷ clock_text clocks.Realtime ∷ decimal offset ∷ []) (Realtime offset) refl p.0 p.1 (offset_read (actors_of past) (stream_count past) clocks.Realtime offset s)
-item_read past (Boottime offset) s p = placed_read past keywords.Clock (codes "clock" ∷ clock_text clocks.Boottime ∷ decimal offset ∷ []) (Boottime offset) refl p.0 p.1 (offset_read (actors_of past) (stream_count past) clocks.Boottime offset s)
-item_read past (Slots count) s p = placed_read past keywords.Slots (codes "slots" ∷ decimal count ∷ []) (Slots count) refl p.0 p.1 (slots_read (actors_of past) (stream_count past) count s)
-item_read past (Kind kind) s p = placed_read past keywords.Kind (codes "type" ∷ kind_text kind ∷ []) (Kind kind) refl p.0 p.1 (kind_item_read (actors_of past) (stream_count past) kind s)
-item_read past (Code kind code) s p = placed_read past keywords.Code (codes "cap" ∷ kind_text kind ∷ code_text kind code ∷ []) (Code kind code) refl p.0 p.1 (code_item_read (actors_of past) (stream_count past) kind code s.0 s.1)
-item_read past (Axis code i) s p = placed_read past keywords.Axis (axis_words code i) (Axis code i) (axis_keyword (version_of past) code i) p.0 p.1 (axis_read (actors_of past) (stream_count past) code i s.0 s.1)
-item_read past (Filter f) s p = placed_read past (keyword_for_filter f) (filter_words f) (Filter f) (filter_keyword (version_of past) f p.2) p.0 p.1 (filter_read (actors_of past) (stream_count past) f s)
-item_read past (Actor r name) s p = placed_read past (keyword_for_role r) (role_text r ∷ name ∷ []) (Actor r name) (role_keyword (version_of past) r name p.2) p.0 p.1 (actor_read (actors_of past) (stream_count past) r (role_text r) name s)
+item_read past (Device requested name) s p = placed_read past (keyword_for_device requested) (device_word requested ∷ name ∷ []) (Device requested name) (device_keyword (version_of past) requested name p.2) p.0 p.1 (device_read (actors_in past) (stream_count past) requested (device_word requested) name s)
+item_read past (Hint count) s p = placed_read past keywords.Hint (codes "hint" ∷ decimal count ∷ []) (Hint count) refl p.0 p.1 (hint_read (actors_in past) (stream_count past) count s)
+item_read past (Log count) s p = placed_read past keywords.Log (codes "log" ∷ decimal count ∷ []) (Log count) refl p.0 p.1 (log_read (actors_in past) (stream_count past) count s)
+item_read past (Realtime offset) s p = placed_read past keywords.Clock (codes "clock" ∷ clock_text clocks.Realtime ∷ decimal offset ∷ []) (Realtime offset) refl p.0 p.1 (offset_read (actors_in past) (stream_count past) clocks.Realtime offset s)
+item_read past (Boottime offset) s p = placed_read past keywords.Clock (codes "clock" ∷ clock_text clocks.Boottime ∷ decimal offset ∷ []) (Boottime offset) refl p.0 p.1 (offset_read (actors_in past) (stream_count past) clocks.Boottime offset s)
+item_read past (Slots count) s p = placed_read past keywords.Slots (codes "slots" ∷ decimal count ∷ []) (Slots count) refl p.0 p.1 (slots_read (actors_in past) (stream_count past) count s)
+item_read past (Kind kind) s p = placed_read past keywords.Kind (codes "type" ∷ kind_text kind ∷ []) (Kind kind) refl p.0 p.1 (kind_item_read (actors_in past) (stream_count past) kind s)
+item_read past (Code kind code) s p = placed_read past keywords.Code (codes "cap" ∷ kind_text kind ∷ code_text kind code ∷ []) (Code kind code) refl p.0 p.1 (code_item_read (actors_in past) (stream_count past) kind code s.0 s.1)
+item_read past (Axis code i) s p = placed_read past keywords.Axis (axis_words code i) (Axis code i) (axis_keyword (version_of past) code i) p.0 p.1 (axis_read (actors_in past) (stream_count past) code i s.0 s.1)
+item_read past (Filter f) s p = placed_read past (keyword_for_filter f) (filter_words f) (Filter f) (filter_keyword (version_of past) f p.2) p.0 p.1 (filter_read (actors_in past) (stream_count past) f s)
+item_read past (Actor r name) s p = placed_read past (keyword_for_role r) (role_text r ∷ name ∷ []) (Actor r name) (role_keyword (version_of past) r name p.2) p.0 p.1 (actor_read (actors_in past) (stream_count past) r (role_text r) name s)
 item_read past (Action actor does) s p =
-    ap (item_of_words (context_of past)) (action_said (actors_of past) (stream_count past) actor does s)
-    ∙ placed_read past keywords.Action (do_words s.text.name does) (Action actor does) (do_keyword s.text.name (version_of past) does) p.0 p.1 (action_read (actors_of past) (stream_count past) actor does s)
+    ap (item_of_words (context_of past)) (action_said (actors_in past) (stream_count past) actor does s)
+    ∙ placed_read past keywords.Action (do_words s.text.name does) (Action actor does) (do_keyword s.text.name (version_of past) does) p.0 p.1 (action_read (actors_in past) (stream_count past) actor does s)
 
 -- its words make a line
 

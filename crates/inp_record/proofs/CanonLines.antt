@@ -4,9 +4,9 @@ use Rattle.std.specs.List.{list_all, slice_split}
 use Rattle.std.specs.Str.Lines.{strip_carriage_return}
 use Rattle.std.proofs.lemmas.Bool.Decides.{nat_tests}
 use Rattle.std.proofs.lemmas.List.Folds.{list_all-append}
+use Rattle.std.proofs.lemmas.Bool.{and_parts}
 use Rattle.inp_canon.specs.Words.{Words, further_text, line_text, lines_text}
 use Rattle.inp_words.specs.Line.{lines_of as text_lines, words_of, is_line_feed, is_blank, is_comment, is_text, is_text_byte, is_word}
-use Rattle.inp_words.proofs.Booleans.{both}
 use Rattle.inp_record.specs.Past.{Past}
 use Rattle.inp_record.specs.Meaning.{behind_words, behind_line}
 use Rattle.inp_record.proofs.Sayable.{is_visible}
@@ -63,21 +63,21 @@ printed_visible b h = grind (arith, nat_tests)
 
 all_printed : (w : List ℕ) → list_all is_visible w ≡ true → list_all is_printed w ≡ true
 all_printed [] h = refl
-all_printed (b ∷ w) h = together (is_printed b) (list_all is_printed w) (printed_visible b (both _ _ h).0) (all_printed w (both _ _ h).1)
+all_printed (b ∷ w) h = together (is_printed b) (list_all is_printed w) (printed_visible b (and_parts _ _ h).0) (all_printed w (and_parts _ _ h).1)
 
 append_printed : (v w : List ℕ) → list_all is_printed v ≡ true → list_all is_printed w ≡ true → list_all is_printed (v ++ w) ≡ true
 append_printed v w h k = list_all-append is_printed v w ∙ together (list_all is_printed v) (list_all is_printed w) h k
 
 plain_printed : (w : List ℕ) → is_plain w ≡ true → list_all is_printed w ≡ true
-plain_printed w h = all_printed w (both (is_word w) (list_all is_visible w) h).1
+plain_printed w h = all_printed w (and_parts (is_word w) (list_all is_visible w) h).1
 
 further_printed : (ws : Words) → list_all is_plain ws ≡ true → list_all is_printed (further_line ws) ≡ true
 further_printed [] h = refl
-further_printed (w ∷ ws) h = append_printed w (further_line ws) (plain_printed w (both _ _ h).0) (further_printed ws (both _ _ h).1)
+further_printed (w ∷ ws) h = append_printed w (further_line ws) (plain_printed w (and_parts _ _ h).0) (further_printed ws (and_parts _ _ h).1)
 
 line_printed : (ws : Words) → list_all is_plain ws ≡ true → list_all is_printed (line_of ws) ≡ true
 line_printed [] h = refl
-line_printed (w ∷ ws) h = append_printed w (further_line ws) (plain_printed w (both _ _ h).0) (further_printed ws (both _ _ h).1)
+line_printed (w ∷ ws) h = append_printed w (further_line ws) (plain_printed w (and_parts _ _ h).0) (further_printed ws (and_parts _ _ h).1)
 
 -- what is printed has no line feed and no carriage return
 
@@ -89,12 +89,12 @@ printed_no_return b h = grind (arith, nat_tests)
 
 printed_cut : (t more : List ℕ) → list_all is_printed t ≡ true → slice_split is_line_feed (t ++ 10 ∷ more) ≡ t ∷ slice_split is_line_feed more
 printed_cut [] more h = refl
-printed_cut (b ∷ t) more h = let g = both (is_printed b) (list_all is_printed t) h in rw (printed_no_feed b g.0, printed_cut t more g.1) refl
+printed_cut (b ∷ t) more h = let g = and_parts (is_printed b) (list_all is_printed t) h in rw (printed_no_feed b g.0, printed_cut t more g.1) refl
 
 printed_at : (t : List ℕ) (i : ℕ) → list_all is_printed t ≡ true → nat_eq (get_or t i 0) 13 ≡ false
 printed_at [] i h = refl
-printed_at (b ∷ t) zero h = printed_no_return b (both (is_printed b) (list_all is_printed t) h).0
-printed_at (b ∷ t) (suc i) h = printed_at t i (both (is_printed b) (list_all is_printed t) h).1
+printed_at (b ∷ t) zero h = printed_no_return b (and_parts (is_printed b) (list_all is_printed t) h).0
+printed_at (b ∷ t) (suc i) h = printed_at t i (and_parts (is_printed b) (list_all is_printed t) h).1
 
 printed_kept : (t : List ℕ) → list_all is_printed t ≡ true → strip_carriage_return t ≡ t
 printed_kept t h = rw (printed_at t (length t - 1) h) refl
@@ -119,21 +119,21 @@ visible_no_blank b h = grind (arith, nat_tests)
 
 word_cut : (w more : List ℕ) → list_all is_visible w ≡ true → slice_split is_blank (w ++ 32 ∷ more) ≡ w ∷ slice_split is_blank more
 word_cut [] more h = refl
-word_cut (b ∷ w) more h = let g = both (is_visible b) (list_all is_visible w) h in rw (visible_no_blank b g.0, word_cut w more g.1) refl
+word_cut (b ∷ w) more h = let g = and_parts (is_visible b) (list_all is_visible w) h in rw (visible_no_blank b g.0, word_cut w more g.1) refl
 
 last_cut : (w : List ℕ) → list_all is_visible w ≡ true → slice_split is_blank w ≡ w ∷ []
 last_cut [] h = refl
-last_cut (b ∷ w) h = let g = both (is_visible b) (list_all is_visible w) h in rw (visible_no_blank b g.0, last_cut w g.1) refl
+last_cut (b ∷ w) h = let g = and_parts (is_visible b) (list_all is_visible w) h in rw (visible_no_blank b g.0, last_cut w g.1) refl
 
 words_cut : (w : List ℕ) (ws : Words) → list_all is_plain (w ∷ ws) ≡ true → slice_split is_blank (w ++ further_line ws) ≡ w ∷ ws
-words_cut w [] h = ap (slice_split is_blank) (append-nil w) ∙ last_cut w (both (is_word w) _ (both (is_plain w) true h).0).1
+words_cut w [] h = ap (slice_split is_blank) (append-nil w) ∙ last_cut w (and_parts (is_word w) _ (and_parts (is_plain w) true h).0).1
 words_cut w (v ∷ ws) h =
-    word_cut w (v ++ further_line ws) (both (is_word w) _ (both (is_plain w) _ h).0).1
-    ∙ ap (λ (ls : Words). w ∷ ls) (words_cut v ws (both (is_plain w) _ h).1)
+    word_cut w (v ++ further_line ws) (and_parts (is_word w) _ (and_parts (is_plain w) _ h).0).1
+    ∙ ap (λ (ls : Words). w ∷ ls) (words_cut v ws (and_parts (is_plain w) _ h).1)
 
 all_kept : (ws : Words) → list_all is_plain ws ≡ true → filter is_word ws ≡ ws
 all_kept [] h = refl
-all_kept (w ∷ ws) h = rw ((both (is_word w) _ (both (is_plain w) _ h).0).0, all_kept ws (both (is_plain w) _ h).1) refl
+all_kept (w ∷ ws) h = rw ((and_parts (is_word w) _ (and_parts (is_plain w) _ h).0).0, all_kept ws (and_parts (is_plain w) _ h).1) refl
 
 pub words_kept : (w : List ℕ) (ws : Words) → list_all is_plain (w ∷ ws) ≡ true → words_of (line_of (w ∷ ws)) ≡ w ∷ ws
 words_kept w ws h = ap (filter is_word) (words_cut w ws h) ∙ all_kept (w ∷ ws) h
@@ -152,7 +152,7 @@ printed_text_byte b h = grind (arith, nat_tests)
 
 printed_text : (t : List ℕ) → list_all is_printed t ≡ true → is_text t ≡ true
 printed_text [] h = refl
-printed_text (b ∷ t) h = together (is_text_byte b) (is_text t) (printed_text_byte b (both _ _ h).0) (printed_text t (both _ _ h).1)
+printed_text (b ∷ t) h = together (is_text_byte b) (is_text t) (printed_text_byte b (and_parts _ _ h).0) (printed_text t (and_parts _ _ h).1)
 
 -- a line of plain words means what its words mean
 pub line_read : (past : Past) (ws : Words) → IsPlainLine ws → behind_line past (line_of ws) ≡ behind_words past ws

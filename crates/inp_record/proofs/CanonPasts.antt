@@ -20,10 +20,10 @@ use Rattle.inp_record.specs.declared.item.Item.TheVariants.{Header, Device, Hint
 use Rattle.inp_record.specs.declared.keyword.Keyword as keyword
 use Rattle.inp_record.specs.declared.keyword.Keyword.TheVariants as keywords
 use Rattle.inp_record.specs.Keyword.{keyword_of, keyword_rows}
-use Rattle.inp_record.specs.Place.{is_start, is_out_of_place}
+use Rattle.inp_record.specs.Place.{is_first_place, is_out_of_place}
 use Rattle.inp_record.specs.Words.{word, version_word, is_header, item_of, plain_item, or_bad_word}
-use Rattle.inp_record.specs.Past.{Past, place_of, version_of, is_requested, former_devices, actors_of, stream_count, context_of}
-use Rattle.inp_record.specs.Meaning.{checked, placed, item_of_words, behind, behind_words, behind_line, go_on, behind_lines, record_of, as_record, meaning}
+use Rattle.inp_record.specs.Past.{Past, next_place, version_of, is_requested, former_devices, actors_in, stream_count, context_of}
+use Rattle.inp_record.specs.Meaning.{checked, placed, item_of_words, behind, behind_words, behind_line, then_lines, behind_lines, record_of_past, as_record, meaning}
 use Rattle.inp_record.proofs.Inversions.{IsPlaced, checked_is, words_are, keyword_for as keyword_read}
 use Rattle.inp_record.proofs.Good.{push_get, item_is}
 use Rattle.inp_record.proofs.Keywords.{is_later_keyword, keyword_is_later}
@@ -36,7 +36,7 @@ WereAccepted [] = Unit {0}
 WereAccepted (i ∷ past) = IsAccepted past i × WereAccepted past
 
 -- each actor has a name
-pub actors_named : (past : Past) → WereAccepted past → AreNamed (actors_of past)
+pub actors_named : (past : Past) → WereAccepted past → AreNamed (actors_in past)
 actors_named [] h = λ i a e. absurd (cc e)
 actors_named (Header version ∷ past) h = actors_named past h.1
 actors_named (Device requested name ∷ past) h = actors_named past h.1
@@ -51,7 +51,7 @@ actors_named (Axis code info ∷ past) h = actors_named past h.1
 actors_named (Filter filter ∷ past) h = actors_named past h.1
 actors_named (Actor role name ∷ past) h = λ i a e.
     let old = actors_named past h.1 in
-    elim (push_get (actors_of past) (record { name = name; role = role; device = length (former_devices past) }) i a e) [
+    elim (push_get (actors_in past) (record { name = name; role = role; device = length (former_devices past) }) i a e) [
       | inl g ↦ old i a g
       | inr g ↦ let same : a.name ≡ name = ap (λ (x : ActorText). x.name) g in rw same h.0.sayable
     ]
@@ -82,9 +82,9 @@ header_item c ws i e = by_place (is_out_of_place c.place c.requested keywords.He
     by_place false None e = absurd (cc e)
     by_place false (Some version) e = let same : Header version ≡ i = cc e in ap is_header_item (sym same)
 
-first_header : (c : Context) (ws : List (List ℕ)) (i : Item) → is_start c.place ≡ true → item_of_words c ws ≡ Ok i → is_header_item i ≡ true
+first_header : (c : Context) (ws : List (List ℕ)) (i : Item) → is_first_place c.place ≡ true → item_of_words c ws ≡ Ok i → is_header_item i ≡ true
 unfolding item_of_words
-first_header c ws i start e = by_header (is_start c.place) (is_header ws) refl start e
+first_header c ws i start e = by_header (is_first_place c.place) (is_header ws) refl start e
   where
     by_header : (starts is : Bool) → is_header ws ≡ is → starts ≡ true → (if starts && not is then Err BadHeader else placed c (keyword_of c.version (word 0 ws) (word 1 ws) (length ws)) ws) ≡ Ok i → is_header_item i ≡ true
     by_header true true h s e = header_item c ws i (subst (λ (k : Option keyword.Keyword). placed c k ws ≡ Ok i) (header_keyword c.version ws h) e)
@@ -151,20 +151,20 @@ pub never_both : (a b : Bool) → (a ≡ true → b ≡ false) → (a && b) ≡ 
 never_both true b h = h refl
 never_both false b h = refl
 
-in_place : (past : Past) (i : Item) → (is_start (place_of past) ≡ true → is_header_item i ≡ true) → is_out_of_place (place_of past) (is_requested past) (keyword_for i) ≡ false → (is_later_item i ≡ true → nat_eq (version_of past) 1 ≡ false) → IsInPlace past i
-in_place past (Header version) first allowed later = not-false (is_start (place_of past)) allowed
-in_place past (Device requested name) first allowed later = (false_from_ne_true (is_start (place_of past)) (λ s. let e : false ≡ true = first s in cc e), allowed, never_both requested (nat_eq (version_of past) 1) later)
-in_place past (Hint count) first allowed later = (false_from_ne_true (is_start (place_of past)) (λ s. let e : false ≡ true = first s in cc e), allowed)
-in_place past (Log count) first allowed later = (false_from_ne_true (is_start (place_of past)) (λ s. let e : false ≡ true = first s in cc e), allowed)
-in_place past (Realtime offset) first allowed later = (false_from_ne_true (is_start (place_of past)) (λ s. let e : false ≡ true = first s in cc e), allowed)
-in_place past (Boottime offset) first allowed later = (false_from_ne_true (is_start (place_of past)) (λ s. let e : false ≡ true = first s in cc e), allowed)
-in_place past (Slots count) first allowed later = (false_from_ne_true (is_start (place_of past)) (λ s. let e : false ≡ true = first s in cc e), allowed)
-in_place past (Kind kind) first allowed later = (false_from_ne_true (is_start (place_of past)) (λ s. let e : false ≡ true = first s in cc e), allowed)
-in_place past (Code kind code) first allowed later = (false_from_ne_true (is_start (place_of past)) (λ s. let e : false ≡ true = first s in cc e), allowed)
-in_place past (Axis code info) first allowed later = (false_from_ne_true (is_start (place_of past)) (λ s. let e : false ≡ true = first s in cc e), allowed)
-in_place past (Filter filter) first allowed later = (false_from_ne_true (is_start (place_of past)) (λ s. let e : false ≡ true = first s in cc e), allowed, later refl)
-in_place past (Actor role name) first allowed later = (false_from_ne_true (is_start (place_of past)) (λ s. let e : false ≡ true = first s in cc e), allowed, never_both (is_later_role role) (nat_eq (version_of past) 1) later)
-in_place past (Action actor command) first allowed later = (false_from_ne_true (is_start (place_of past)) (λ s. let e : false ≡ true = first s in cc e), allowed)
+in_place : (past : Past) (i : Item) → (is_first_place (next_place past) ≡ true → is_header_item i ≡ true) → is_out_of_place (next_place past) (is_requested past) (keyword_for i) ≡ false → (is_later_item i ≡ true → nat_eq (version_of past) 1 ≡ false) → IsInPlace past i
+in_place past (Header version) first allowed later = not-false (is_first_place (next_place past)) allowed
+in_place past (Device requested name) first allowed later = (false_from_ne_true (is_first_place (next_place past)) (λ s. let e : false ≡ true = first s in cc e), allowed, never_both requested (nat_eq (version_of past) 1) later)
+in_place past (Hint count) first allowed later = (false_from_ne_true (is_first_place (next_place past)) (λ s. let e : false ≡ true = first s in cc e), allowed)
+in_place past (Log count) first allowed later = (false_from_ne_true (is_first_place (next_place past)) (λ s. let e : false ≡ true = first s in cc e), allowed)
+in_place past (Realtime offset) first allowed later = (false_from_ne_true (is_first_place (next_place past)) (λ s. let e : false ≡ true = first s in cc e), allowed)
+in_place past (Boottime offset) first allowed later = (false_from_ne_true (is_first_place (next_place past)) (λ s. let e : false ≡ true = first s in cc e), allowed)
+in_place past (Slots count) first allowed later = (false_from_ne_true (is_first_place (next_place past)) (λ s. let e : false ≡ true = first s in cc e), allowed)
+in_place past (Kind kind) first allowed later = (false_from_ne_true (is_first_place (next_place past)) (λ s. let e : false ≡ true = first s in cc e), allowed)
+in_place past (Code kind code) first allowed later = (false_from_ne_true (is_first_place (next_place past)) (λ s. let e : false ≡ true = first s in cc e), allowed)
+in_place past (Axis code info) first allowed later = (false_from_ne_true (is_first_place (next_place past)) (λ s. let e : false ≡ true = first s in cc e), allowed)
+in_place past (Filter filter) first allowed later = (false_from_ne_true (is_first_place (next_place past)) (λ s. let e : false ≡ true = first s in cc e), allowed, later refl)
+in_place past (Actor role name) first allowed later = (false_from_ne_true (is_first_place (next_place past)) (λ s. let e : false ≡ true = first s in cc e), allowed, never_both (is_later_role role) (nat_eq (version_of past) 1) later)
+in_place past (Action actor command) first allowed later = (false_from_ne_true (is_first_place (next_place past)) (λ s. let e : false ≡ true = first s in cc e), allowed)
 
 -- what is read is accepted
 
@@ -173,7 +173,7 @@ words_accepted past ws i were plain e =
     let h = checked_is (context_of past) (item_of_words (context_of past) ws) i e in
     let p = words_are (context_of past) ws i h.read in
     record {
-      sayable = item_said (actors_of past) (stream_count past) p.keyword ws i (actors_named past were) plain p.item;
+      sayable = item_said (actors_in past) (stream_count past) p.keyword ws i (actors_named past were) plain p.item;
       in_place = in_place past i (λ s. first_header (context_of past) ws i s h.read) (keyword_allowed (context_of past) ws i p) (item_later (context_of past) ws i p);
       in_version = h.in_version;
       once = h.once;
@@ -209,7 +209,7 @@ lines_accepted [] k past now were e = let same : past ≡ now = cc e in let P : 
 lines_accepted (line ∷ lines) k past now were e = by_line (behind_line past line) (λ after h. line_accepted past after line were h) (λ after h g. lines_accepted lines (suc k) after now h g) e
   where
     by_line : (means : Result Past Cause) → ((after : Past) → means ≡ Ok after → WereAccepted after) → ((after : Past) → WereAccepted after → behind_lines (suc k) lines after ≡ Ok now → WereAccepted now)
-        → go_on k means (λ x. behind_lines (suc k) lines x) ≡ Ok now → WereAccepted now
+        → then_lines k means (λ x. behind_lines (suc k) lines x) ≡ Ok now → WereAccepted now
     by_line (Err cause) one more e = absurd (cc e)
     by_line (Ok after) one more e = more after (one after refl) e
 
@@ -238,7 +238,7 @@ pub record IsOfPast (r : RecordView) : Type 0 where
   pub newest : Item
   pub past : Past
   pub accepted : WereAccepted (newest ∷ past)
-  pub same : record_of (newest ∷ past) ≡ r
+  pub same : record_of_past (newest ∷ past) ≡ r
 
 read_past : (count : ℕ) (o : Result Past Refused) (r : RecordView) → ((past : Past) → o ≡ Ok past → WereAccepted past) → as_record count o ≡ Ok r → IsOfPast r
 read_past count (Err refused) r were e = absurd (cc e)

@@ -16,9 +16,9 @@ use Rattle.inp_record.specs.declared.item.Item.TheVariants.{Header, Device, Hint
 use Rattle.inp_record.specs.declared.place.Place.{Place}
 use Rattle.inp_record.specs.declared.place.Place.TheVariants.{Start, Headed, Describing, Naming, Acting}
 use Rattle.inp_record.specs.declared.context.TheConstants.{SLOTS_OF_VERSION_1}
-use Rattle.inp_record.specs.Place.{is_start, is_describing, is_naming, is_acting, is_out_of_place}
-use Rattle.inp_record.specs.Past.{Past, place_of, version_of, context_of, latest_name, is_requested, latest_description, former_devices, devices_of, with_latest, actors_of, lines_of, stream_count, source_count, reader_count, owner_count}
-use Rattle.inp_record.specs.Meaning.{has_too_many_slots, record_of}
+use Rattle.inp_record.specs.Place.{is_first_place, is_describing, is_naming, is_acting, is_out_of_place}
+use Rattle.inp_record.specs.Past.{Past, next_place, version_of, context_of, latest_name, is_requested, latest_description, former_devices, devices_of, with_latest, actors_in, lines_in, stream_count, latest_source_count, reader_count, owner_count}
+use Rattle.inp_record.specs.Meaning.{has_too_many_slots, record_of_past}
 use Rattle.inp_record.specs.Spelling.{description_items, action_item_of}
 use Rattle.inp_record.proofs.Good.{owner_parts, push_get}
 use Rattle.inp_record.proofs.Reading.{start_is}
@@ -26,7 +26,7 @@ use Rattle.inp_record.proofs.Pasts.{code_slots, code_filters}
 use Rattle.inp_record.proofs.Sayable.{keyword_for_role, keyword_for_device, keyword_for_filter, are_early, IsAccepted, AreAccepted}
 use Rattle.inp_record.proofs.CanonPasts.{WereAccepted}
 use Rattle.inp_record.proofs.CanonLists.{head_items, all_items, AreBelow, head_device, head_actor, all_action, past_of_more}
-use Rattle.inp_record.proofs.MadeDescriptions.{AreDescribed, IsMade, made, built_slots, built_filters}
+use Rattle.inp_record.proofs.MadeDescriptions.{AreDescribed, IsMadeDescription, made, built_slots, built_filters}
 use Rattle.inp_record.proofs.DescriptionItems.{accepted-append}
 use Rattle.inp_record.proofs.DescriptionFilters.{description-accepted, description-behind, built-again}
 
@@ -36,20 +36,20 @@ past_of items = reverse items ++ []
 
 -- the canonical items of a past
 abbrev pub canon : Past → List Item
-canon past = all_items (version_of past) (actors_of past) (devices_of past) (lines_of past)
+canon past = all_items (version_of past) (actors_in past) (devices_of past) (lines_in past)
 
 -- two pasts that the next line, unless it describes, cannot tell apart, and that are of one record
 pub record IsLike (past new : Past) : Type 0 where
-  pub place : place_of new ≡ place_of past
+  pub place : next_place new ≡ next_place past
   pub version : version_of new ≡ version_of past
   pub name_is : latest_name new ≡ latest_name past
   pub requested_is : is_requested new ≡ is_requested past
   pub former : former_devices new ≡ former_devices past
   pub described : built (latest_description new) ≡ built (latest_description past)
-  pub actors : actors_of new ≡ actors_of past
-  pub lines : lines_of new ≡ lines_of past
+  pub actors : actors_in new ≡ actors_in past
+  pub lines : lines_in new ≡ lines_in past
   pub streams : stream_count new ≡ stream_count past
-  pub sources : source_count new ≡ source_count past
+  pub sources : latest_source_count new ≡ latest_source_count past
   pub readers : reader_count new ≡ reader_count past
   pub owners : owner_count new ≡ owner_count past
 
@@ -61,7 +61,7 @@ pub devices_like : (past new : Past) → IsLike past new → devices_of new ≡ 
 devices_like past new h =
     rw (h.former, h.name_is, h.requested_is) (same_devices (former_devices past) (latest_name past) (is_requested past) (latest_description new) (latest_description past) h.described)
 
-pub record_like : (past new : Past) → IsLike past new → record_of new ≡ record_of past
+pub record_like : (past new : Past) → IsLike past new → record_of_past new ≡ record_of_past past
 record_like past new h = rw (h.version, devices_like past new h, h.actors, h.lines, h.streams) refl
 
 -- the same line behind both
@@ -137,8 +137,8 @@ pub record IsBase (version : ℕ) (requested : Bool) (name : List ℕ) (former :
   pub device : IsAccepted (past_of (head_items version actors former)) (Device requested name)
   pub version_is : version_of (past_of (head_items version actors former)) ≡ version
   pub former_is : devices_of (past_of (head_items version actors former)) ≡ former
-  pub actors_are : actors_of (past_of (head_items version actors former)) ≡ actors
-  pub no_lines : lines_of (past_of (head_items version actors former)) ≡ []
+  pub actors_are : actors_in (past_of (head_items version actors former)) ≡ actors
+  pub no_lines : lines_in (past_of (head_items version actors former)) ≡ []
   pub no_streams : stream_count (past_of (head_items version actors former)) ≡ 0
   pub below : AreBelow (length former) actors
 
@@ -154,7 +154,7 @@ pub record IsBegun (version : ℕ) (latest : Option (List ℕ)) (requested : Boo
   pub no_owners : owners ≡ 0
 
 abbrev pub IsDescribing : Past → Type 0
-IsDescribing past = IsBegun (version_of past) (latest_name past) (is_requested past) (former_devices past) (actors_of past) (lines_of past) (stream_count past) (source_count past) (reader_count past) (owner_count past)
+IsDescribing past = IsBegun (version_of past) (latest_name past) (is_requested past) (former_devices past) (actors_in past) (lines_in past) (stream_count past) (latest_source_count past) (reader_count past) (owner_count past)
 
 -- the latest device has no more slots than its version allows, and filters where its version has them
 pub record FitsVersion (past : Past) : Type 0 where
@@ -167,9 +167,9 @@ pub record IsAgain (past : Past) : Type 0 where
   pub like : IsLike past (past_of (canon past))
 
 -- the canonical items of a past whose latest device has only been described
-canon_described : (past : Past) (b : IsDescribing past) → canon past ≡ head_items (version_of past) (actors_of past) (former_devices past) ++ Device (is_requested past) b.name ∷ description_items (built (latest_description past))
+canon_described : (past : Past) (b : IsDescribing past) → canon past ≡ head_items (version_of past) (actors_in past) (former_devices past) ++ Device (is_requested past) b.name ∷ description_items (built (latest_description past))
 canon_described past b =
-    let actors = actors_of past in
+    let actors = actors_in past in
     let former = former_devices past in
     let d : DeviceText = record { name = b.name; caps = built (latest_description past); requested = is_requested past } in
     ap (λ (ls : List Line). head_items (version_of past) actors (devices_of past) ++ map action_item_of ls) b.no_lines
@@ -177,10 +177,10 @@ canon_described past b =
     ∙ ap (λ (n : Option (List ℕ)). head_items (version_of past) actors (with_latest former n (is_requested past) (latest_description past))) b.name_is
     ∙ head_device (version_of past) actors former d b.base.below
 
-again_described : (past : Past) → place_of past ≡ Describing → IsMade (built (latest_description past)) → FitsVersion past → IsDescribing past → IsAgain past
+again_described : (past : Past) → next_place past ≡ Describing → IsMadeDescription (built (latest_description past)) → FitsVersion past → IsDescribing past → IsAgain past
 again_described past at m few b =
     let d = built (latest_description past) in
-    let heads = head_items (version_of past) (actors_of past) (former_devices past) in
+    let heads = head_items (version_of past) (actors_in past) (former_devices past) in
     let base = past_of heads in
     let is = canon_described past b in
     let behind : past_of (heads ++ Device (is_requested past) b.name ∷ description_items d) ≡ reverse (description_items d) ++ Device (is_requested past) b.name ∷ base = past_of_more heads (Device (is_requested past) b.name) (description_items d) [] in
@@ -217,11 +217,11 @@ again_more past i is g a l =
 -- what each past of accepted lines keeps
 pub record IsKept (past : Past) : Type 0 where
   pub again : IsAgain past
-  pub begun : is_describing (place_of past) ≡ true → IsDescribing past
-  pub named : (is_describing (place_of past) || is_naming (place_of past)) ≡ true → is_some (latest_name past) ≡ true
-  pub below : AreBelow (length (devices_of past)) (actors_of past)
-  pub no_lines : is_acting (place_of past) ≡ false → lines_of past ≡ []
-  pub no_streams : is_acting (place_of past) ≡ false → stream_count past ≡ 0
+  pub begun : is_describing (next_place past) ≡ true → IsDescribing past
+  pub named : (is_describing (next_place past) || is_naming (next_place past)) ≡ true → is_some (latest_name past) ≡ true
+  pub below : AreBelow (length (devices_of past)) (actors_in past)
+  pub no_lines : is_acting (next_place past) ≡ false → lines_in past ≡ []
+  pub no_streams : is_acting (next_place past) ≡ false → stream_count past ≡ 0
 
 -- no description refuses what was accepted
 described : (past : Past) → WereAccepted past → AreDescribed past
@@ -240,12 +240,12 @@ described (Filter filter ∷ past) h = (h.0.fits, tt, described past h.1)
 described (Actor role name ∷ past) h = (h.0.fits, tt, described past h.1)
 described (Action actor command ∷ past) h = (h.0.fits, tt, described past h.1)
 
-described_made : (past : Past) → WereAccepted past → IsMade (built (latest_description past))
+described_made : (past : Past) → WereAccepted past → IsMadeDescription (built (latest_description past))
 described_made past h = made past (described past h)
 
 -- the header
 
-starting : (p : Place) → is_start p ≡ true → p ≡ Start
+starting : (p : Place) → is_first_place p ≡ true → p ≡ Start
 starting Start e = refl
 starting Headed e = absurd (cc e)
 starting Describing e = absurd (cc e)
@@ -265,7 +265,7 @@ few_coded d version kind code h = rw (code_slots d kind code) h
 few_slots : (past : Past) → WereAccepted past → has_too_many_slots (context_of past) (Slots (latest_description past).slots) ≡ false
 few_slots [] h = refl
 few_slots (Header version ∷ past) h =
-    let none : [] ≡ past = sym (start_is past (starting (place_of past) h.0.in_place)) in
+    let none : [] ≡ past = sym (start_is past (starting (next_place past) h.0.in_place)) in
     let P : Past → Type 0 = λ x. has_too_many_slots (context_of (Header version ∷ x)) (Slots (latest_description x).slots) ≡ false in
     subst P none (few_none version)
 few_slots (Device requested name ∷ past) h = few_none (version_of past)
@@ -288,7 +288,7 @@ early_pushed version (g ∷ fs) f h = h
 late_filters : (past : Past) → WereAccepted past → are_early (version_of past) (latest_description past).filters ≡ false
 late_filters [] h = refl
 late_filters (Header version ∷ past) h =
-    let none : [] ≡ past = sym (start_is past (starting (place_of past) h.0.in_place)) in
+    let none : [] ≡ past = sym (start_is past (starting (next_place past) h.0.in_place)) in
     let P : Past → Type 0 = λ x. are_early version (latest_description x).filters ≡ false in
     subst P none refl
 late_filters (Device requested name ∷ past) h = refl
@@ -323,13 +323,13 @@ kept_first version a = record {
 
 kept_header : (past : Past) (version : ℕ) → IsAccepted past (Header version) → IsKept (Header version ∷ past)
 kept_header past version a =
-    let none : [] ≡ past = sym (start_is past (starting (place_of past) a.in_place)) in
+    let none : [] ≡ past = sym (start_is past (starting (next_place past) a.in_place)) in
     let P : Past → Type 0 = λ x. IsAccepted x (Header version) → IsKept (Header version ∷ x) in
     subst P none (kept_first version) a
 
 -- a device and what describes it
 
-kept_describing : (past : Past) → place_of past ≡ Describing → IsMade (built (latest_description past)) → FitsVersion past → IsDescribing past → IsKept past
+kept_describing : (past : Past) → next_place past ≡ Describing → IsMadeDescription (built (latest_description past)) → FitsVersion past → IsDescribing past → IsKept past
 kept_describing past at m few b =
     let one : devices_of past ≡ former_devices past ++ record { name = b.name; caps = built (latest_description past); requested = is_requested past } ∷ [] = ap (λ (n : Option (List ℕ)). with_latest (former_devices past) n (is_requested past) (latest_description past)) b.name_is in
     let count : length (devices_of past) ≡ length (former_devices past) + 1 = ap length one ∙ length-append (former_devices past) _ in
@@ -343,26 +343,26 @@ kept_describing past at m few b =
     }
 
 -- the canonical items of a past without actions
-canon_quiet : (past : Past) → lines_of past ≡ [] → canon past ≡ head_items (version_of past) (actors_of past) (devices_of past)
+canon_quiet : (past : Past) → lines_in past ≡ [] → canon past ≡ head_items (version_of past) (actors_in past) (devices_of past)
 canon_quiet past h =
-    ap (λ (ls : List Line). head_items (version_of past) (actors_of past) (devices_of past) ++ map action_item_of ls) h
-    ∙ append-nil (head_items (version_of past) (actors_of past) (devices_of past))
+    ap (λ (ls : List Line). head_items (version_of past) (actors_in past) (devices_of past) ++ map action_item_of ls) h
+    ∙ append-nil (head_items (version_of past) (actors_in past) (devices_of past))
 
 device_place : (requested : Bool) (p : Place) (latest : Bool) → is_out_of_place p latest (keyword_for_device requested) ≡ false → is_acting p ≡ false
 device_place true p latest e = e
 device_place false p latest e = e
 
-kept_device : (past : Past) (requested : Bool) (name : List ℕ) → IsKept past → IsAccepted past (Device requested name) → IsMade (built (latest_description (Device requested name ∷ past))) → FitsVersion (Device requested name ∷ past) → IsKept (Device requested name ∷ past)
+kept_device : (past : Past) (requested : Bool) (name : List ℕ) → IsKept past → IsAccepted past (Device requested name) → IsMadeDescription (built (latest_description (Device requested name ∷ past))) → FitsVersion (Device requested name ∷ past) → IsKept (Device requested name ∷ past)
 kept_device past requested name k a m few =
-    let quiet : is_acting (place_of past) ≡ false = device_place requested (place_of past) (is_requested past) a.in_place.1 in
+    let quiet : is_acting (next_place past) ≡ false = device_place requested (next_place past) (is_requested past) a.in_place.1 in
     let is = canon_quiet past (k.no_lines quiet) in
     let P : List Item → Type 0 = λ x. AreAccepted [] x in
-    let like : IsLike past (past_of (head_items (version_of past) (actors_of past) (devices_of past))) = subst (λ (x : List Item). IsLike past (past_of x)) is k.again.like in
-    let base : IsBase (version_of past) requested name (devices_of past) (actors_of past) = record {
+    let like : IsLike past (past_of (head_items (version_of past) (actors_in past) (devices_of past))) = subst (λ (x : List Item). IsLike past (past_of x)) is k.again.like in
+    let base : IsBase (version_of past) requested name (devices_of past) (actors_in past) = record {
       heads = subst P is k.again.accepted;
-      device = device_like past (past_of (head_items (version_of past) (actors_of past) (devices_of past))) requested name like a;
+      device = device_like past (past_of (head_items (version_of past) (actors_in past) (devices_of past))) requested name like a;
       version_is = like.version;
-      former_is = devices_like past (past_of (head_items (version_of past) (actors_of past) (devices_of past))) like;
+      former_is = devices_like past (past_of (head_items (version_of past) (actors_in past) (devices_of past))) like;
       actors_are = like.actors;
       no_lines = like.lines ∙ k.no_lines quiet;
       no_streams = like.streams ∙ k.no_streams quiet;
@@ -401,8 +401,8 @@ some_name (Some name) e = (name, refl)
 
 kept_actor : (past : Past) (role : Role) (name : List ℕ) → IsKept past → IsAccepted past (Actor role name) → IsKept (Actor role name ∷ past)
 kept_actor past role name k a =
-    let place = actor_place role (place_of past) (is_requested past) a.in_place.1 in
-    let quiet = not_acting (place_of past) place in
+    let place = actor_place role (next_place past) (is_requested past) a.in_place.1 in
+    let quiet = not_acting (next_place past) place in
     let latest = some_name (latest_name past) (k.named place) in
     let d : DeviceText = record { name = latest.0; caps = built (latest_description past); requested = is_requested past } in
     let new : ActorText = record { name = name; role = role; device = length (former_devices past) } in
@@ -410,15 +410,15 @@ kept_actor past role name k a =
     let count : length (devices_of past) ≡ length (former_devices past) + 1 = ap length one ∙ length-append (former_devices past) (d ∷ []) in
     let is : canon (Actor role name ∷ past) ≡ canon past ++ Actor role name ∷ [] =
     canon_quiet (Actor role name ∷ past) (k.no_lines quiet)
-    ∙ ap (head_items (version_of past) (actors_of past ++ new ∷ [])) one
-    ∙ head_actor (version_of past) (actors_of past) new (former_devices past) d refl
-    ∙ ap (λ (ds : List DeviceText). head_items (version_of past) (actors_of past) ds ++ Actor role name ∷ []) (sym one)
+    ∙ ap (head_items (version_of past) (actors_in past ++ new ∷ [])) one
+    ∙ head_actor (version_of past) (actors_in past) new (former_devices past) d refl
+    ∙ ap (λ (ds : List DeviceText). head_items (version_of past) (actors_in past) ds ++ Actor role name ∷ []) (sym one)
     ∙ ap (λ (l : List Item). l ++ Actor role name ∷ []) (sym (canon_quiet past (k.no_lines quiet))) in
     record {
       again = again_more past (Actor role name) is k.again (actor_like past (past_of (canon past)) role name k.again.like a) (like_actor past (past_of (canon past)) role name k.again.like);
       begun = λ e. absurd (cc e);
       named = λ e. k.named place;
-      below = λ i x e. elim (push_get (actors_of past) new i x e) [
+      below = λ i x e. elim (push_get (actors_in past) new i x e) [
         | inl g ↦ k.below i x g
         | inr g ↦ let at : x.device ≡ length (former_devices past) = ap (λ (y : ActorText). y.device) g in omega (arith, count, at)
       ];
@@ -430,7 +430,7 @@ kept_actor past role name k a =
 kept_action : (past : Past) (actor : ℕ) (command : Command) → IsKept past → IsAccepted past (Action actor command) → IsKept (Action actor command ∷ past)
 kept_action past actor command k a =
     record {
-      again = again_more past (Action actor command) (all_action (version_of past) (actors_of past) (devices_of past) (lines_of past) (record { actor = actor; command = command })) k.again
+      again = again_more past (Action actor command) (all_action (version_of past) (actors_in past) (devices_of past) (lines_in past) (record { actor = actor; command = command })) k.again
           (action_like past (past_of (canon past)) actor command k.again.like a) (like_action past (past_of (canon past)) actor command k.again.like);
       begun = λ e. absurd (cc e);
       named = λ e. absurd (cc e);
@@ -447,36 +447,36 @@ filter_describes p requested (filters.Chord first second) h = not-false (is_desc
 filter_describes p requested (filters.Bounce code micros) h = not-false (is_describing p) h
 
 -- a past of accepted lines that has a header keeps all this
-pub kept : (past : Past) → WereAccepted past → is_start (place_of past) ≡ false → IsKept past
+pub kept : (past : Past) → WereAccepted past → is_first_place (next_place past) ≡ false → IsKept past
 kept [] h s = absurd (cc s)
 kept (Header version ∷ past) h s = kept_header past version h.0
 kept (Device requested name ∷ past) h s = kept_device past requested name (kept past h.1 h.0.in_place.0) h.0 (described_made (Device requested name ∷ past) h) (fits_version (Device requested name ∷ past) h)
 kept (Hint count ∷ past) h s =
     let k = kept past h.1 h.0.in_place.0 in
-    kept_describing (Hint count ∷ past) refl (described_made (Hint count ∷ past) h) (fits_version (Hint count ∷ past) h) (k.begun (not-false (is_describing (place_of past)) h.0.in_place.1))
+    kept_describing (Hint count ∷ past) refl (described_made (Hint count ∷ past) h) (fits_version (Hint count ∷ past) h) (k.begun (not-false (is_describing (next_place past)) h.0.in_place.1))
 kept (Log count ∷ past) h s =
     let k = kept past h.1 h.0.in_place.0 in
-    kept_describing (Log count ∷ past) refl (described_made (Log count ∷ past) h) (fits_version (Log count ∷ past) h) (k.begun (not-false (is_describing (place_of past)) h.0.in_place.1))
+    kept_describing (Log count ∷ past) refl (described_made (Log count ∷ past) h) (fits_version (Log count ∷ past) h) (k.begun (not-false (is_describing (next_place past)) h.0.in_place.1))
 kept (Realtime offset ∷ past) h s =
     let k = kept past h.1 h.0.in_place.0 in
-    kept_describing (Realtime offset ∷ past) refl (described_made (Realtime offset ∷ past) h) (fits_version (Realtime offset ∷ past) h) (k.begun (not-false (is_describing (place_of past)) h.0.in_place.1))
+    kept_describing (Realtime offset ∷ past) refl (described_made (Realtime offset ∷ past) h) (fits_version (Realtime offset ∷ past) h) (k.begun (not-false (is_describing (next_place past)) h.0.in_place.1))
 kept (Boottime offset ∷ past) h s =
     let k = kept past h.1 h.0.in_place.0 in
-    kept_describing (Boottime offset ∷ past) refl (described_made (Boottime offset ∷ past) h) (fits_version (Boottime offset ∷ past) h) (k.begun (not-false (is_describing (place_of past)) h.0.in_place.1))
+    kept_describing (Boottime offset ∷ past) refl (described_made (Boottime offset ∷ past) h) (fits_version (Boottime offset ∷ past) h) (k.begun (not-false (is_describing (next_place past)) h.0.in_place.1))
 kept (Slots count ∷ past) h s =
     let k = kept past h.1 h.0.in_place.0 in
-    kept_describing (Slots count ∷ past) refl (described_made (Slots count ∷ past) h) (fits_version (Slots count ∷ past) h) (k.begun (not-false (is_describing (place_of past)) h.0.in_place.1))
+    kept_describing (Slots count ∷ past) refl (described_made (Slots count ∷ past) h) (fits_version (Slots count ∷ past) h) (k.begun (not-false (is_describing (next_place past)) h.0.in_place.1))
 kept (Kind kind ∷ past) h s =
     let k = kept past h.1 h.0.in_place.0 in
-    kept_describing (Kind kind ∷ past) refl (described_made (Kind kind ∷ past) h) (fits_version (Kind kind ∷ past) h) (k.begun (not-false (is_describing (place_of past)) h.0.in_place.1))
+    kept_describing (Kind kind ∷ past) refl (described_made (Kind kind ∷ past) h) (fits_version (Kind kind ∷ past) h) (k.begun (not-false (is_describing (next_place past)) h.0.in_place.1))
 kept (Code kind code ∷ past) h s =
     let k = kept past h.1 h.0.in_place.0 in
-    kept_describing (Code kind code ∷ past) refl (described_made (Code kind code ∷ past) h) (fits_version (Code kind code ∷ past) h) (k.begun (not-false (is_describing (place_of past)) h.0.in_place.1))
+    kept_describing (Code kind code ∷ past) refl (described_made (Code kind code ∷ past) h) (fits_version (Code kind code ∷ past) h) (k.begun (not-false (is_describing (next_place past)) h.0.in_place.1))
 kept (Axis code info ∷ past) h s =
     let k = kept past h.1 h.0.in_place.0 in
-    kept_describing (Axis code info ∷ past) refl (described_made (Axis code info ∷ past) h) (fits_version (Axis code info ∷ past) h) (k.begun (not-false (is_describing (place_of past)) h.0.in_place.1))
+    kept_describing (Axis code info ∷ past) refl (described_made (Axis code info ∷ past) h) (fits_version (Axis code info ∷ past) h) (k.begun (not-false (is_describing (next_place past)) h.0.in_place.1))
 kept (Filter filter ∷ past) h s =
     let k = kept past h.1 h.0.in_place.0 in
-    kept_describing (Filter filter ∷ past) refl (described_made (Filter filter ∷ past) h) (fits_version (Filter filter ∷ past) h) (k.begun (filter_describes (place_of past) (is_requested past) filter h.0.in_place.1))
+    kept_describing (Filter filter ∷ past) refl (described_made (Filter filter ∷ past) h) (fits_version (Filter filter ∷ past) h) (k.begun (filter_describes (next_place past) (is_requested past) filter h.0.in_place.1))
 kept (Actor role name ∷ past) h s = kept_actor past role name (kept past h.1 h.0.in_place.0) h.0
 kept (Action actor command ∷ past) h s = kept_action past actor command (kept past h.1 h.0.in_place.0) h.0

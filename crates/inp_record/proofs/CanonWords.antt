@@ -6,7 +6,8 @@ use Rattle.std.specs.Char.{digit_value, is_ascii_uppercase}
 use Rattle.std.specs.Str.Parse.{AllDigits, IsNumeral, digits_value, digits_value_after}
 use Rattle.std.proofs.lemmas.Bool.Decides.{nat_tests}
 use Rattle.std.proofs.lemmas.Fmt.{digits_is_IsNumeral, decimal_is_IsNumeral}
-use Rattle.inp_codes.specs.Table.{is_word as is_name_word, is_word_byte}
+use Rattle.std.proofs.lemmas.Bool.{and_parts}
+use Rattle.inp_codes.specs.Table.{is_name_word, is_word_byte}
 use Rattle.inp_codes.specs.KindNames.{kind_name, kind_of}
 use Rattle.inp_codes.specs.CodeNames.{name_of, code_of}
 use Rattle.inp_codes.proofs.LawLemmas.{kind_name-iff_kind_of, is_word-kind_name, name_of-iff_code_of, is_word-name_of}
@@ -16,13 +17,12 @@ use Rattle.inp_actors.specs.Name.{is_name, is_name_byte}
 use Rattle.inp_words.specs.Line.{is_word}
 use Rattle.inp_words.specs.Number.{digit_of, is_digit, value_of, is_hexadecimal, numeral, number, signed_number}
 use Rattle.inp_words.specs.Code.{or_number, kind_word, code_of_kind, code_word}
-use Rattle.inp_words.proofs.Booleans.{both}
 use Rattle.inp_words.proofs.Numerals.{numeral_is}
 use Rattle.inp_model.specs.declared.axis_info.AxisInfo.{AxisInfo}
 use Rattle.inp_model.specs.declared.clock.Clock as clock
 use Rattle.inp_model.specs.declared.clock.Clock.TheVariants.{Realtime, Monotonic, Boottime}
 use Rattle.inp_record.specs.Verb.{clock_rows}
-use Rattle.inp_record.specs.Words.{name_word, clock_word, three_numbers, info_words}
+use Rattle.inp_record.specs.Words.{name_word, clock_word, three_numbers, info_in_words}
 use Rattle.inp_record.proofs.Sayable.{is_visible, IsPlainWord, IsSayableInfo}
 use Rattle.inp_record.proofs.CanonLines.{is_plain}
 
@@ -111,7 +111,7 @@ pub signed_plain : (z : ℤ) → FitsSigned w32 z → is_plain (signed_decimal z
 signed_plain (pos n) h = let small : n < 2 ^ 31 = omega (arith, h.sfits) in decimal_plain n (omega arith)
 signed_plain (negsuc n) h =
     let small : n < 2 ^ 31 = omega (arith, h.sfits) in
-    let plain = both (is_word (decimal (suc n))) (list_all is_visible (decimal (suc n))) (decimal_plain (suc n) (omega arith)) in
+    let plain = and_parts (is_word (decimal (suc n))) (list_all is_visible (decimal (suc n))) (decimal_plain (suc n) (omega arith)) in
     rw (some_word (45 ∷ decimal (suc n)) (omega arith), plain.1) refl
 
 -- 64 bits
@@ -157,12 +157,12 @@ byte_visible b h = grind (arith, nat_tests)
 
 bytes_visible : (w : List ℕ) → list_all is_word_byte w ≡ true → list_all is_visible w ≡ true
 bytes_visible [] h = refl
-bytes_visible (b ∷ w) h = let g = both (is_word_byte b) (list_all is_word_byte w) h in rw (byte_visible b g.0, bytes_visible w g.1) refl
+bytes_visible (b ∷ w) h = let g = and_parts (is_word_byte b) (list_all is_word_byte w) h in rw (byte_visible b g.0, bytes_visible w g.1) refl
 
 name_plain : (w : List ℕ) → is_name_word w ≡ true → is_plain w ≡ true
 name_plain [] h = absurd (cc h)
 name_plain (b ∷ w) h =
-    let g = both (is_ascii_uppercase b) (list_all is_word_byte w) h in
+    let g = and_parts (is_ascii_uppercase b) (list_all is_word_byte w) h in
     rw (some_word (b ∷ w) (omega arith), upper_visible b g.0, bytes_visible w g.1) refl
 
 -- no number is a name
@@ -171,7 +171,7 @@ digit_no_name c h = grind (arith, nat_tests)
 
 decimal_no_name : (ds : List ℕ) → IsNumeral 10 ds → is_name_word ds ≡ true → ⊥
 decimal_no_name [] h n = omega (arith, h.0)
-decimal_no_name (c ∷ ds) h n = let e = (both (is_ascii_uppercase c) (list_all is_word_byte ds) n).0 in let d = digit_no_name c h.1.0 in cc (e, d)
+decimal_no_name (c ∷ ds) h n = let e = (and_parts (is_ascii_uppercase c) (list_all is_word_byte ds) n).0 in let d = digit_no_name c h.1.0 in cc (e, d)
 
 number_no_kind : (n : ℕ) → n < 2 ^ 64 → kind_of (decimal n) ≡ None
 number_no_kind n small = by_found (kind_of (decimal n)) refl
@@ -244,12 +244,12 @@ name_byte_visible b h = grind (arith, nat_tests)
 
 name_bytes_visible : (w : List ℕ) → list_all is_name_byte w ≡ true → list_all is_visible w ≡ true
 name_bytes_visible [] h = refl
-name_bytes_visible (b ∷ w) h = let g = both (is_name_byte b) (list_all is_name_byte w) h in rw (name_byte_visible b g.0, name_bytes_visible w g.1) refl
+name_bytes_visible (b ∷ w) h = let g = and_parts (is_name_byte b) (list_all is_name_byte w) h in rw (name_byte_visible b g.0, name_bytes_visible w g.1) refl
 
 pub is_plain-name : (w : List ℕ) → is_name w ≡ true → is_plain w ≡ true
 is_plain-name w h =
-    let g = both (nat_le 1 (length w) && nat_le (length w) 32) (list_all is_name_byte w) h in
-    let long = (both (nat_le 1 (length w)) (nat_le (length w) 32) g.0).0 in
+    let g = and_parts (nat_le 1 (length w) && nat_le (length w) 32) (list_all is_name_byte w) h in
+    let long = (and_parts (nat_le 1 (length w)) (nat_le (length w) 32) g.0).0 in
     let some : 0 < length w = grind (arith, nat_tests) in
     rw (some_word w some, name_bytes_visible w g.1) refl
 
@@ -259,13 +259,13 @@ is_plain-word w h = rw (h.some, h.visible) refl
 -- the data of an axis, behind two words and behind four
 
 module _ (first second : List ℕ) (i : AxisInfo) (s : IsSayableInfo i) where
-  pub info_read : info_words 2 (first ∷ second ∷ info_text i) ≡ Some i
-  unfolding info_words three_numbers info_text fuzz_words
+  pub info_read : info_in_words 2 (first ∷ second ∷ info_text i) ≡ Some i
+  unfolding info_in_words three_numbers info_text fuzz_words
   info_read =
       rw (signed_read i.value s.value, signed_read i.minimum s.minimum, signed_read i.maximum s.maximum, signed_read i.fuzz s.fuzz, signed_read i.flat s.flat, signed_read i.resolution s.resolution) refl
 
-  pub info_read_behind : (third fourth : List ℕ) → info_words 4 (first ∷ second ∷ third ∷ fourth ∷ info_text i) ≡ Some i
-  unfolding info_words three_numbers info_text fuzz_words
+  pub info_read_behind : (third fourth : List ℕ) → info_in_words 4 (first ∷ second ∷ third ∷ fourth ∷ info_text i) ≡ Some i
+  unfolding info_in_words three_numbers info_text fuzz_words
   info_read_behind third fourth =
       rw (signed_read i.value s.value, signed_read i.minimum s.minimum, signed_read i.maximum s.maximum, signed_read i.fuzz s.fuzz, signed_read i.flat s.flat, signed_read i.resolution s.resolution) refl
 

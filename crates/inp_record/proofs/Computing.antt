@@ -2,9 +2,9 @@
 use Rattle.inp_words.proofs.Computing.{words_computing}
 use Rattle.inp_record.specs.Keyword.{keyword_rows, filter_rows, keyword_of}
 use Rattle.inp_record.specs.Verb.{verb_rows, verb_of, clock_rows}
-use Rattle.inp_record.specs.Words.{three_numbers, info_words, stamped_words, plain_item, plain_command, command_of, actor_from, item_of}
+use Rattle.inp_record.specs.Words.{three_numbers, info_in_words, stamped_words, plain_item, plain_command, command_of, actor_from, item_of}
 use Rattle.inp_record.specs.Meaning.{item_of_words, behind_line, behind_lines, meaning}
 
 unfoldable pub record_computing : Type 0
-unfolding words_computing keyword_rows filter_rows keyword_of verb_rows verb_of clock_rows three_numbers info_words stamped_words plain_item plain_command command_of actor_from item_of item_of_words behind_line behind_lines meaning
+unfolding words_computing keyword_rows filter_rows keyword_of verb_rows verb_of clock_rows three_numbers info_in_words stamped_words plain_item plain_command command_of actor_from item_of item_of_words behind_line behind_lines meaning
 record_computing = Unit {0}

@@ -14,7 +14,7 @@ use Rattle.inp_record.specs.declared.item.Item.{Item}
 use Rattle.inp_record.specs.declared.item.Item.TheVariants.{Device, Slots, Kind, Code, Axis}
 use Rattle.inp_record.specs.Past.{Past, latest_description}
 use Rattle.inp_record.specs.Spelling.{number_items, slots_items, kind_items, code_items, axis_items, plain_items}
-use Rattle.inp_record.proofs.MadeDescriptions.{IsMade, IsGathered, AreKnownKinds, AreKnownCodes, AreKnownAxes, set_again}
+use Rattle.inp_record.proofs.MadeDescriptions.{IsMadeDescription, IsGathered, AreKnownKinds, AreKnownCodes, AreKnownAxes, set_again}
 use Rattle.inp_record.proofs.DescriptionItems.{behind_items, behind_items-append}
 
 -- truths that are written into a list one after another
@@ -420,6 +420,6 @@ sections_again d requested name past codes axes g enough_codes enough_axes =
     (all_caps_behind d codes types g enough_codes
     (types_behind d slots g.kinds (numbers_behind d requested name past)))
 
-pub plain-again : (d : Description) (requested : Bool) (name : List ℕ) (past : Past) → IsMade d → latest_description (behind_items (plain_items d) (Device requested name ∷ past)) ≡ record d { filters = [] }
+pub plain-again : (d : Description) (requested : Bool) (name : List ℕ) (past : Past) → IsMadeDescription d → latest_description (behind_items (plain_items d) (Device requested name ∷ past)) ≡ record d { filters = [] }
 unfolding plain_items
 plain-again d requested name past made = sections_again d requested name past (KEY_MAX + 1) (ABS_MAX + 1) made.gathered (omega arith) (omega arith)

@@ -14,12 +14,12 @@ use Rattle.inp_record.specs.declared.item.Item.{Item}
 use Rattle.inp_record.specs.declared.item.Item.TheVariants.{Device, Slots, Filter}
 use Rattle.inp_record.specs.declared.place.Place.{Place}
 use Rattle.inp_record.specs.declared.place.Place.TheVariants.{Describing}
-use Rattle.inp_record.specs.Place.{is_start, is_out_of_place}
-use Rattle.inp_record.specs.Past.{Past, place_of, version_of, context_of, is_requested, latest_description}
+use Rattle.inp_record.specs.Place.{is_first_place, is_out_of_place}
+use Rattle.inp_record.specs.Past.{Past, next_place, version_of, context_of, is_requested, latest_description}
 use Rattle.inp_record.specs.Meaning.{has_too_many_slots, refused_by}
 use Rattle.inp_record.specs.Spelling.{plain_items, filter_items, description_items}
 use Rattle.inp_record.proofs.Sayable.{keyword_for_filter, are_early, IsSayableFilter, IsAccepted, AreAccepted}
-use Rattle.inp_record.proofs.MadeDescriptions.{IsMade}
+use Rattle.inp_record.proofs.MadeDescriptions.{IsMadeDescription}
 use Rattle.inp_record.proofs.DescriptionItems.{behind_items, behind_items-reverse, behind_items-append, accepted_then, is_describing_item, IsDescribedBehind, described_behind, plain-behind, plain-accepted}
 use Rattle.inp_record.proofs.DescriptionAgain.{plain-again}
 
@@ -44,12 +44,12 @@ filter_place requested (filters.Bounce code micros) = refl
 filter_fits : (good full : Bool) → good ≡ true → full ≡ false → refused_by (if not good then Err BadCode else if full then Err BadFilter else Ok (tt {0})) ≡ None
 filter_fits good full g f = rw (g, f) refl
 
-filter_accepted : (past : Past) (f : filter.Filter) → place_of past ≡ Describing → nat_eq (version_of past) 1 ≡ false → is_filter f ≡ true → length (latest_description past).filters < FILTERS_MAX → IsAccepted past (Filter f)
+filter_accepted : (past : Past) (f : filter.Filter) → next_place past ≡ Describing → nat_eq (version_of past) 1 ≡ false → is_filter f ≡ true → length (latest_description past).filters < FILTERS_MAX → IsAccepted past (Filter f)
 filter_accepted past f at later good room =
     let full : nat_eq (length (latest_description past).filters) FILTERS_MAX ≡ false = ne_eqb (length (latest_description past).filters) FILTERS_MAX (λ e. absurd (omega arith)) in
     record {
       sayable = filter_sayable f good;
-      in_place = (ap is_start at, ap (λ (p : Place). is_out_of_place p (is_requested past) (keyword_for_filter f)) at ∙ filter_place (is_requested past) f, later);
+      in_place = (ap is_first_place at, ap (λ (p : Place). is_out_of_place p (is_requested past) (keyword_for_filter f)) at ∙ filter_place (is_requested past) f, later);
       in_version = refl;
       once = refl;
       few = refl;
@@ -62,7 +62,7 @@ early_none version [] h = refl
 early_none version (f ∷ fs) h = h
 
 -- filters one after another, behind those that are there
-filters_accepted : (fs : List filter.Filter) (past : Past) → place_of past ≡ Describing → are_early (version_of past) fs ≡ false → AreFilters ((latest_description past).filters ++ fs) → AreAccepted past (filters_of fs)
+filters_accepted : (fs : List filter.Filter) (past : Past) → next_place past ≡ Describing → are_early (version_of past) fs ≡ false → AreFilters ((latest_description past).filters ++ fs) → AreAccepted past (filters_of fs)
 filters_accepted [] past at later all = tt
 filters_accepted (f ∷ fs) past at later all =
     let old : List filter.Filter = (latest_description past).filters in
@@ -84,7 +84,7 @@ filters_describe [] = refl
 filters_describe (f ∷ fs) = and_from true (list_all is_describing_item (filters_of fs)) refl (filters_describe fs)
 
 -- The canonical items of a description are accepted behind the line of its device, where its version has its filters.
-pub description-accepted : (d : Description) (requested : Bool) (name : List ℕ) (past : Past) → IsMade d → has_too_many_slots (context_of past) (Slots d.slots) ≡ false → are_early (version_of past) d.filters ≡ false → AreAccepted (Device requested name ∷ past) (description_items d)
+pub description-accepted : (d : Description) (requested : Bool) (name : List ℕ) (past : Past) → IsMadeDescription d → has_too_many_slots (context_of past) (Slots d.slots) ≡ false → are_early (version_of past) d.filters ≡ false → AreAccepted (Device requested name ∷ past) (description_items d)
 unfolding description_items
 description-accepted d requested name past made few_slots later =
     let behind : Past = behind_items (plain_items d) (Device requested name ∷ past) in
@@ -103,12 +103,12 @@ description-behind d requested name past =
     (described_behind (filter_items d) requested name past (behind_items (plain_items d) (Device requested name ∷ past)) (filters_describe d.filters) (plain-behind d requested name past))
 
 -- The canonical items of a description give that description again.
-described-again : (d : Description) (requested : Bool) (name : List ℕ) (past : Past) → IsMade d → latest_description (reverse (description_items d) ++ Device requested name ∷ past) ≡ d
+described-again : (d : Description) (requested : Bool) (name : List ℕ) (past : Past) → IsMadeDescription d → latest_description (reverse (description_items d) ++ Device requested name ∷ past) ≡ d
 described-again d requested name past made =
     ap latest_description (sym (items_behind d (Device requested name ∷ past)))
     ∙ filters_behind d.filters (behind_items (plain_items d) (Device requested name ∷ past))
     ∙ ap (λ (x : Description). record x { filters = x.filters ++ d.filters }) (plain-again d requested name past made)
 
 -- The description that is built of them is that description too.
-pub built-again : (d : Description) (requested : Bool) (name : List ℕ) (past : Past) → IsMade d → built (latest_description (reverse (description_items d) ++ Device requested name ∷ past)) ≡ d
+pub built-again : (d : Description) (requested : Bool) (name : List ℕ) (past : Past) → IsMadeDescription d → built (latest_description (reverse (description_items d) ++ Device requested name ∷ past)) ≡ d
 built-again d requested name past made = ap built (described-again d requested name past made) ∙ made.whole

@@ -15,12 +15,12 @@ use Rattle.inp_record.specs.declared.item.Item.{Item}
 use Rattle.inp_record.specs.declared.item.Item.TheVariants.{Header, Device, Hint, Log, Realtime, Boottime, Slots, Kind, Code, Axis, Filter, Actor, Action}
 use Rattle.inp_record.specs.declared.place.Place.{Place}
 use Rattle.inp_record.specs.declared.place.Place.TheVariants.{Describing}
-use Rattle.inp_record.specs.Place.{is_start, is_out_of_place}
-use Rattle.inp_record.specs.Past.{Past, place_of, version_of, context_of, latest_name, is_requested, former_devices, actors_of, lines_of, stream_count, source_count, reader_count, owner_count, axes_of, has_slots}
+use Rattle.inp_record.specs.Place.{is_first_place, is_out_of_place}
+use Rattle.inp_record.specs.Past.{Past, next_place, version_of, context_of, latest_name, is_requested, former_devices, actors_in, lines_in, stream_count, latest_source_count, reader_count, owner_count, axes_of, has_slots}
 use Rattle.inp_record.specs.Meaning.{has_too_many_slots}
 use Rattle.inp_record.specs.Spelling.{number_items, slots_items, kind_items, code_items, codes_items, axis_items, plain_items}
 use Rattle.inp_record.proofs.Sayable.{IsAccepted, AreAccepted, keyword_for}
-use Rattle.inp_record.proofs.MadeDescriptions.{IsMade, IsGathered, AreKnownCodes}
+use Rattle.inp_record.proofs.MadeDescriptions.{IsMadeDescription, IsGathered, AreKnownCodes}
 
 -- lines one after another
 
@@ -60,15 +60,15 @@ is_describing_item _ = true
 
 -- what stands behind the lines of a description as it did behind its device line
 pub record IsDescribedBehind (requested : Bool) (name : List ℕ) (past new : Past) : Type 0 where
-  pub place : place_of new ≡ Describing
+  pub place : next_place new ≡ Describing
   pub version : version_of new ≡ version_of past
   pub name_is : latest_name new ≡ Some name
   pub requested_is : is_requested new ≡ requested
   pub devices : former_devices new ≡ former_devices (Device requested name ∷ past)
-  pub actors : actors_of new ≡ actors_of past
-  pub lines : lines_of new ≡ lines_of past
+  pub actors : actors_in new ≡ actors_in past
+  pub lines : lines_in new ≡ lines_in past
   pub streams : stream_count new ≡ stream_count past
-  pub sources : source_count new ≡ 0
+  pub sources : latest_source_count new ≡ 0
   pub readers : reader_count new ≡ 0
   pub owners : owner_count new ≡ 0
 
@@ -130,11 +130,11 @@ plain-behind d requested name past =
 -- a section of lines behind which the latest device has described no axis
 
 record IsOpen (past : Past) : Type 0 where
-  place : place_of past ≡ Describing
+  place : next_place past ≡ Describing
   axes : axes_of past ≡ []
 
-pub in_place : (past : Past) (i : Item) → place_of past ≡ Describing → is_out_of_place Describing (is_requested past) (keyword_for i) ≡ false → (is_start (place_of past) ≡ false) × (is_out_of_place (place_of past) (is_requested past) (keyword_for i) ≡ false)
-in_place past i at fits = (ap is_start at, ap (λ (p : Place). is_out_of_place p (is_requested past) (keyword_for i)) at ∙ fits)
+pub in_place : (past : Past) (i : Item) → next_place past ≡ Describing → is_out_of_place Describing (is_requested past) (keyword_for i) ≡ false → (is_first_place (next_place past) ≡ false) × (is_out_of_place (next_place past) (is_requested past) (keyword_for i) ≡ false)
+in_place past i at fits = (ap is_first_place at, ap (λ (p : Place). is_out_of_place p (is_requested past) (keyword_for i)) at ∙ fits)
 
 -- the types
 
@@ -242,7 +242,7 @@ not_among : (code : ℕ) (xs : List ℕ) → AreBelow code xs → list_any (λ x
 not_among code [] h = refl
 not_among code (x ∷ xs) h = or_from (nat_eq x code) (list_any (λ y. nat_eq y code) xs) (ne_eqb x code (λ e. absurd (omega (arith, h.0)))) (not_among code xs h.1)
 
-axis_accepted : (d : Description) (past : Past) (code : ℕ) → IsGathered d → place_of past ≡ Describing → AreBelow code (axes_of past) → code ≤ ABS_MAX → IsAccepted past (Axis code (info d code))
+axis_accepted : (d : Description) (past : Past) (code : ℕ) → IsGathered d → next_place past ≡ Describing → AreBelow code (axes_of past) → code ≤ ABS_MAX → IsAccepted past (Axis code (info d code))
 axis_accepted d past code g at below within = record {
   sayable = (omega arith, g.axes.said code);
   in_place = in_place past (Axis code (info d code)) at refl;
@@ -257,7 +257,7 @@ axis_then : (past : Past) (b : Bool) (i : Item) (more : List Item) → IsAccepte
 axis_then past true i more here with_it without = (here, with_it)
 axis_then past false i more here with_it without = without
 
-axes_accepted : (d : Description) (from n : ℕ) → IsGathered d → (past : Past) → place_of past ≡ Describing → AreBelow from (axes_of past) → from + n ≤ ABS_MAX + 1 → AreAccepted past (flat_map (axis_items d) (range_with_len from n))
+axes_accepted : (d : Description) (from n : ℕ) → IsGathered d → (past : Past) → next_place past ≡ Describing → AreBelow from (axes_of past) → from + n ≤ ABS_MAX + 1 → AreAccepted past (flat_map (axis_items d) (range_with_len from n))
 axes_accepted d from zero g past at below within = tt
 axes_accepted d from (suc n) g past at below within =
     axis_then past (supports d EV_ABS from) (Axis from (info d from)) (flat_map (axis_items d) (range_with_len (from + 1) n))
@@ -325,6 +325,6 @@ sections_accepted d requested name past kinds codes axes g few_slots within =
     (accepted_then behind_types (flat_map (λ kind. flat_map (code_items d kind) (range_with_len 0 codes)) coded_kinds) (flat_map (axis_items d) (range_with_len 0 axes)) caps.0
     (axes_accepted d 0 axes g behind_caps caps.1.place below (omega arith)))))
 
-pub plain-accepted : (d : Description) (requested : Bool) (name : List ℕ) (past : Past) → IsMade d → has_too_many_slots (context_of past) (Slots d.slots) ≡ false → AreAccepted (Device requested name ∷ past) (plain_items d)
+pub plain-accepted : (d : Description) (requested : Bool) (name : List ℕ) (past : Past) → IsMadeDescription d → has_too_many_slots (context_of past) (Slots d.slots) ≡ false → AreAccepted (Device requested name ∷ past) (plain_items d)
 unfolding plain_items
 plain-accepted d requested name past made few_slots = sections_accepted d requested name past EV_MAX (KEY_MAX + 1) (ABS_MAX + 1) made.gathered few_slots (omega arith)

@@ -31,8 +31,8 @@ use Rattle.inp_record.specs.declared.item.Item.TheVariants.{Header, Device, Hint
 use Rattle.inp_record.specs.declared.keyword.Keyword as keyword
 use Rattle.inp_record.specs.Place.{is_describing, is_naming, is_out_of_place}
 use Rattle.inp_record.specs.Words.{item_of, action_item, or_bad_word, plain_item, is_action}
-use Rattle.inp_record.specs.Past.{Past, place_of, latest_name, is_requested, latest_description, former_devices, devices_of, with_latest, actors_of, lines_of, source_count, reader_count, owner_count, stream_count, streams_in, version_of, context_of}
-use Rattle.inp_record.specs.Meaning.{device_count, has_all, is_too_many, checked, item_of_words, behind, behind_words, behind_line, go_on, behind_lines, record_of}
+use Rattle.inp_record.specs.Past.{Past, next_place, latest_name, is_requested, latest_description, former_devices, devices_of, with_latest, actors_in, lines_in, latest_source_count, reader_count, owner_count, stream_count, streams_in, version_of, context_of}
+use Rattle.inp_record.specs.Meaning.{device_count, has_all, is_too_many, checked, item_of_words, behind, behind_words, behind_line, then_lines, behind_lines, record_of_past}
 use Rattle.inp_record.proofs.Inversions.{IsAct, IsChecked, IsPlaced, keyword_for, checked_is, words_are, plain_keyword, act_is}
 use Rattle.inp_record.proofs.Rooms.{closed_length}
 
@@ -72,41 +72,41 @@ owner_parts false b e = absurd (cc e)
 
 -- how many actors the latest device has
 abbrev actor_count : Past → ℕ
-actor_count past = source_count past + reader_count past + owner_count past
+actor_count past = latest_source_count past + reader_count past + owner_count past
 
 -- Only a device has actors, and each device has only so many.
 pub record HasFewActors (past : Past) : Type 0 where
   pub devices : length (devices_of past) ≤ DEVICES_MAX
-  pub sources : source_count past ≤ SOURCES_MAX
+  pub sources : latest_source_count past ≤ SOURCES_MAX
   pub readers : reader_count past ≤ READERS_MAX
   pub owners : owner_count past ≤ OWNERS_MAX
   pub latest : actor_count past ≤ (if is_some (latest_name past) then SOURCES_MAX + READERS_MAX + OWNERS_MAX else 0)
-  pub all : length (actors_of past) ≤ (SOURCES_MAX + READERS_MAX + OWNERS_MAX) * length (former_devices past) + actor_count past
+  pub all : length (actors_in past) ≤ (SOURCES_MAX + READERS_MAX + OWNERS_MAX) * length (former_devices past) + actor_count past
 
 -- Only a device made by requests has an owner, and it has one.
 pub record HasFewOwners (past : Past) : Type 0 where
-  pub requested : (i : ℕ) (a : ActorText) (d : DeviceText) → slice_get (actors_of past) i ≡ Some a → a.role ≡ roles.Owner → slice_get (devices_of past) a.device ≡ Some d → d.requested ≡ true
-  pub one : (i k : ℕ) (a b : ActorText) → slice_get (actors_of past) i ≡ Some a → slice_get (actors_of past) k ≡ Some b → a.role ≡ roles.Owner → b.role ≡ roles.Owner → a.device ≡ b.device → i ≡ k
+  pub requested : (i : ℕ) (a : ActorText) (d : DeviceText) → slice_get (actors_in past) i ≡ Some a → a.role ≡ roles.Owner → slice_get (devices_of past) a.device ≡ Some d → d.requested ≡ true
+  pub one : (i k : ℕ) (a b : ActorText) → slice_get (actors_in past) i ≡ Some a → slice_get (actors_in past) k ≡ Some b → a.role ≡ roles.Owner → b.role ≡ roles.Owner → a.device ≡ b.device → i ≡ k
   -- an owner of the latest device is counted
-  pub counted : (i : ℕ) (a : ActorText) → slice_get (actors_of past) i ≡ Some a → a.role ≡ roles.Owner → a.device ≡ length (former_devices past) → 1 ≤ owner_count past
+  pub counted : (i : ℕ) (a : ActorText) → slice_get (actors_in past) i ≡ Some a → a.role ≡ roles.Owner → a.device ≡ length (former_devices past) → 1 ≤ owner_count past
 
 -- the lists of a past are those of a record, and no longer than so many
 pub record IsGood (n : ℕ) (past : Past) : Type 0 where
-  pub named : (is_describing (place_of past) || is_naming (place_of past)) ≡ true → is_some (latest_name past) ≡ true
-  pub devices : (i : ℕ) (a : ActorText) → slice_get (actors_of past) i ≡ Some a → a.device < length (devices_of past)
-  pub actors : (i : ℕ) (l : Line) → slice_get (lines_of past) i ≡ Some l → l.actor < length (actors_of past)
-  pub commands : (i : ℕ) (l : Line) (a : ActorText) → slice_get (lines_of past) i ≡ Some l → slice_get (actors_of past) l.actor ≡ Some a → is_command_of a.role l.command ≡ true
-  pub ranges : (i : ℕ) (l : Line) (a : ActorText) → slice_get (lines_of past) i ≡ Some l → slice_get (actors_of past) l.actor ≡ Some a → is_in_range a.role l.command ≡ true
-  pub numbered : streams_of (lines_of past) ≡ range_with_len 0 (stream_count past)
+  pub named : (is_describing (next_place past) || is_naming (next_place past)) ≡ true → is_some (latest_name past) ≡ true
+  pub devices : (i : ℕ) (a : ActorText) → slice_get (actors_in past) i ≡ Some a → a.device < length (devices_of past)
+  pub actors : (i : ℕ) (l : Line) → slice_get (lines_in past) i ≡ Some l → l.actor < length (actors_in past)
+  pub commands : (i : ℕ) (l : Line) (a : ActorText) → slice_get (lines_in past) i ≡ Some l → slice_get (actors_in past) l.actor ≡ Some a → is_command_of a.role l.command ≡ true
+  pub ranges : (i : ℕ) (l : Line) (a : ActorText) → slice_get (lines_in past) i ≡ Some l → slice_get (actors_in past) l.actor ≡ Some a → is_in_range a.role l.command ≡ true
+  pub numbered : streams_of (lines_in past) ≡ range_with_len 0 (stream_count past)
   pub few_devices : length (devices_of past) ≤ n
   pub few_actors : HasFewActors past
   pub few_owners : HasFewOwners past
-  pub few_lines : length (lines_of past) ≤ n
+  pub few_lines : length (lines_in past) ≤ n
   pub few_streams : stream_count past ≤ n
 
 -- a line that adds to none of the lists
-goes_on : (n : ℕ) (past new : Past) → IsGood n past → ((is_describing (place_of new) || is_naming (place_of new)) ≡ true → is_some (latest_name new) ≡ true)
-    → actors_of new ≡ actors_of past → lines_of new ≡ lines_of past → stream_count new ≡ stream_count past → length (devices_of new) ≡ length (devices_of past) → HasFewActors new → HasFewOwners new → IsGood (suc n) new
+goes_on : (n : ℕ) (past new : Past) → IsGood n past → ((is_describing (next_place new) || is_naming (next_place new)) ≡ true → is_some (latest_name new) ≡ true)
+    → actors_in new ≡ actors_in past → lines_in new ≡ lines_in past → stream_count new ≡ stream_count past → length (devices_of new) ≡ length (devices_of past) → HasFewActors new → HasFewOwners new → IsGood (suc n) new
 goes_on n past new good named a l s d few owners = record {
   named = named;
   devices = λ i x h. omega (arith, d, good.devices i x (rw a at h));
@@ -153,13 +153,13 @@ or_left true b h = refl
 or_left false b h = absurd (cc h)
 
 -- a description of the latest device
-described : (n : ℕ) (past : Past) (new : Past) → IsGood n past → not (is_describing (place_of past)) ≡ false → latest_name new ≡ latest_name past
-    → actors_of new ≡ actors_of past → lines_of new ≡ lines_of past → stream_count new ≡ stream_count past → former_devices new ≡ former_devices past → source_count new ≡ source_count past → reader_count new ≡ reader_count past → is_requested new ≡ is_requested past → owner_count new ≡ owner_count past → IsGood (suc n) new
+described : (n : ℕ) (past : Past) (new : Past) → IsGood n past → not (is_describing (next_place past)) ≡ false → latest_name new ≡ latest_name past
+    → actors_in new ≡ actors_in past → lines_in new ≡ lines_in past → stream_count new ≡ stream_count past → former_devices new ≡ former_devices past → latest_source_count new ≡ latest_source_count past → reader_count new ≡ reader_count past → is_requested new ≡ is_requested past → owner_count new ≡ owner_count past → IsGood (suc n) new
 described n past new good place name a l s f sources readers made owners =
     let long : length (devices_of new) ≡ length (devices_of past) = rw (f, name, made) (as_many past (latest_description new)) in
     let few_owners : HasFewOwners past = good.few_owners in
     let few : HasFewActors past = good.few_actors in
-    goes_on n past new good (λ h. rw name (good.named (or_left (is_describing (place_of past)) (is_naming (place_of past)) (describing (is_describing (place_of past)) place)))) a l s long
+    goes_on n past new good (λ h. rw name (good.named (or_left (is_describing (next_place past)) (is_naming (next_place past)) (describing (is_describing (next_place past)) place)))) a l s long
     (record {
       devices = omega (arith, long, few.devices);
       sources = omega (arith, sources, few.sources);
@@ -203,7 +203,7 @@ device_begun n past requested name good enough =
         readers = omega arith;
         owners = omega arith;
         latest = omega arith;
-        all = begun_all (length (actors_of past)) (length (former_devices past)) (length (devices_of past)) (actor_count past) (is_some (latest_name past)) few.all few.latest before;
+        all = begun_all (length (actors_in past)) (length (former_devices past)) (length (devices_of past)) (actor_count past) (is_some (latest_name past)) few.all few.latest before;
       };
       few_owners = record {
         requested = λ i x d h r g. few_owners.requested i x d h r (front_get (devices_of past) _ x.device d (good.devices i x h) g);
@@ -241,15 +241,15 @@ owner_added past r name old made enough =
     let is_new : (x : ActorText) → x ≡ new → x.role ≡ roles.Owner → (r ≡ roles.Owner) × (x.device ≡ length (former_devices past)) = λ x e o.
     (sym (ap (λ (y : ActorText). y.role) e) ∙ o, ap (λ (y : ActorText). y.device) e) in
     record {
-      requested = λ i x d h o g. elim (push_get (actors_of past) new i x h) [
+      requested = λ i x d h o g. elim (push_get (actors_in past) new i x h) [
         | inl k ↦ old.requested i x d k o g
         | inr e ↦
             let is = is_new x e o in
             let at : slice_get (devices_of past) (length (former_devices past)) ≡ Some d = subst (λ (k : ℕ). slice_get (devices_of past) k ≡ Some d) is.1 g in
             latest_requested (former_devices past) (latest_name past) (is_requested past) (latest_description past) d at ∙ made is.0
       ];
-      one = λ i k x y h g o p same. elim (push_at (actors_of past) new i x h) [
-        | inl a ↦ elim (push_at (actors_of past) new k y g) [
+      one = λ i k x y h g o p same. elim (push_at (actors_in past) new i x h) [
+        | inl a ↦ elim (push_at (actors_in past) new k y g) [
           | inl b ↦ old.one i k x y a b o p same
           | inr b ↦
               let is = is_new y b.1 p in
@@ -259,7 +259,7 @@ owner_added past r name old made enough =
         ]
         | inr a ↦
             let is = is_new x a.1 o in
-            elim (push_at (actors_of past) new k y g) [
+            elim (push_at (actors_in past) new k y g) [
               | inl b ↦
                   let none = none_owned past r is.0 enough in
                   let some = old.counted k y b p (sym same ∙ is.1) in
@@ -267,29 +267,29 @@ owner_added past r name old made enough =
               | inr b ↦ a.0 ∙ sym b.0
             ]
       ];
-      counted = λ i x h o at. elim (push_get (actors_of past) new i x h) [
+      counted = λ i x h o at. elim (push_get (actors_in past) new i x h) [
         | inl k ↦ let some = old.counted i x k o at in omega (arith, some)
         | inr e ↦ let is = is_new x e o in rw is.0 (omega arith)
       ];
     }
 
-actor_added : (n : ℕ) (past : Past) (r : role.Role) (name : List ℕ) → IsGood n past → (is_describing (place_of past) || is_naming (place_of past)) ≡ true → ((r ≡ roles.Owner) → is_requested past ≡ true) → has_all (context_of past) r ≡ false → IsGood (suc n) (Actor r name ∷ past)
+actor_added : (n : ℕ) (past : Past) (r : role.Role) (name : List ℕ) → IsGood n past → (is_describing (next_place past) || is_naming (next_place past)) ≡ true → ((r ≡ roles.Owner) → is_requested past ≡ true) → has_all (context_of past) r ≡ false → IsGood (suc n) (Actor r name ∷ past)
 actor_added n past r name good place made enough =
     let some : is_some (latest_name past) ≡ true = good.named place in
     let new : ActorText = record { name = name; role = r; device = length (former_devices past) } in
-    let size : length (actors_of past ++ new ∷ []) ≡ length (actors_of past) + 1 = length-append (actors_of past) (new ∷ []) in
+    let size : length (actors_in past ++ new ∷ []) ≡ length (actors_in past) + 1 = length-append (actors_in past) (new ∷ []) in
     let latest : length (devices_of past) ≡ length (former_devices past) + 1 = closed_length (former_devices past) (latest_name past) (is_requested past) (latest_description past) ∙ ap (λ (b : Bool). length (former_devices past) + (if b then 1 else 0)) some in
     let few : HasFewActors past = good.few_actors in
-    let more = one_more r (source_count past) (reader_count past) (owner_count past) few.sources few.readers few.owners enough in
+    let more = one_more r (latest_source_count past) (reader_count past) (owner_count past) few.sources few.readers few.owners enough in
     record {
       named = λ h. some;
-      devices = λ i x h. elim (push_get (actors_of past) new i x h) [
+      devices = λ i x h. elim (push_get (actors_in past) new i x h) [
         | inl g ↦ good.devices i x g
         | inr e ↦ let at : x.device ≡ length (former_devices past) = ap (λ (y : ActorText). y.device) e in omega (arith, latest, at)
       ];
       actors = λ i x h. omega (arith, size, good.actors i x h);
-      commands = λ i x y h g. good.commands i x y h (front_get (actors_of past) (new ∷ []) x.actor y (good.actors i x h) g);
-      ranges = λ i x y h g. good.ranges i x y h (front_get (actors_of past) (new ∷ []) x.actor y (good.actors i x h) g);
+      commands = λ i x y h g. good.commands i x y h (front_get (actors_in past) (new ∷ []) x.actor y (good.actors i x h) g);
+      ranges = λ i x y h g. good.ranges i x y h (front_get (actors_in past) (new ∷ []) x.actor y (good.actors i x h) g);
       numbered = good.numbered;
       few_devices = omega (arith, good.few_devices);
       few_actors = record {
@@ -311,32 +311,32 @@ few_in (commands.Stream16 file index) = omega arith
 few_in commands.Open = omega arith
 few_in _ = omega arith
 
-action_added : (n : ℕ) (past : Past) (actor : ℕ) (c : Command) → IsGood n past → IsAct (actors_of past) (stream_count past) actor c → IsGood (suc n) (Action actor c ∷ past)
+action_added : (n : ℕ) (past : Past) (actor : ℕ) (c : Command) → IsGood n past → IsAct (actors_in past) (stream_count past) actor c → IsGood (suc n) (Action actor c ∷ past)
 action_added n past actor c good act =
     let new : Line = record { actor = actor; command = c } in
-    let size : length (lines_of past ++ new ∷ []) ≡ length (lines_of past) + 1 = length-append (lines_of past) (new ∷ []) in
-    let within : actor < length (actors_of past) = slice_get_within (actors_of past) actor act.who act.named in
-    let by_new : (x : Line) (y : ActorText) → x ≡ new → slice_get (actors_of past) x.actor ≡ Some y → (y ≡ act.who) × (x.command ≡ c) = λ x y e g.
+    let size : length (lines_in past ++ new ∷ []) ≡ length (lines_in past) + 1 = length-append (lines_in past) (new ∷ []) in
+    let within : actor < length (actors_in past) = slice_get_within (actors_in past) actor act.who act.named in
+    let by_new : (x : Line) (y : ActorText) → x ≡ new → slice_get (actors_in past) x.actor ≡ Some y → (y ≡ act.who) × (x.command ≡ c) = λ x y e g.
     let at : x.actor ≡ actor = ap (λ (z : Line). z.actor) e in
-    let who : slice_get (actors_of past) actor ≡ Some y = subst (λ (k : ℕ). slice_get (actors_of past) k ≡ Some y) at g in
+    let who : slice_get (actors_in past) actor ≡ Some y = subst (λ (k : ℕ). slice_get (actors_in past) k ≡ Some y) at g in
     (cc (who, act.named), ap (λ (z : Line). z.command) e) in
     record {
       named = λ h. absurd (cc h);
       devices = good.devices;
-      actors = λ i x h. elim (push_get (lines_of past) new i x h) [
+      actors = λ i x h. elim (push_get (lines_in past) new i x h) [
         | inl g ↦ good.actors i x g
         | inr e ↦ let at : x.actor ≡ actor = ap (λ (y : Line). y.actor) e in omega (arith, within, at)
       ];
-      commands = λ i x y h g. elim (push_get (lines_of past) new i x h) [
+      commands = λ i x y h g. elim (push_get (lines_in past) new i x h) [
         | inl k ↦ good.commands i x y k g
         | inr e ↦ let is = by_new x y e g in rw (is.0, is.1) act.command
       ];
-      ranges = λ i x y h g. elim (push_get (lines_of past) new i x h) [
+      ranges = λ i x y h g. elim (push_get (lines_in past) new i x h) [
         | inl k ↦ good.ranges i x y k g
         | inr e ↦ let is = by_new x y e g in rw (is.0, is.1) act.range
       ];
-      numbered = flat_map-append (λ (l : Line). stream_of l.command) (lines_of past) (new ∷ [])
-          ∙ ap (λ (l : List ℕ). streams_of (lines_of past) ++ l) (append-nil (stream_of c))
+      numbered = flat_map-append (λ (l : Line). stream_of l.command) (lines_in past) (new ∷ [])
+          ∙ ap (λ (l : List ℕ). streams_of (lines_in past) ++ l) (append-nil (stream_of c))
           ∙ ap (λ (l : List ℕ). l ++ stream_of c) good.numbered
           ∙ ap (λ (l : List ℕ). range_with_len 0 (stream_count past) ++ l) act.stream
           ∙ ap (λ (k : ℕ). range_with_len 0 (stream_count past) ++ range_with_len k (streams_in c)) (omega arith)
@@ -348,7 +348,7 @@ action_added n past actor c good act =
       few_streams = omega (arith, good.few_streams, few_in c);
     }
 
-plain_added : (n : ℕ) (past : Past) (i : item.Item) → IsGood n past → is_out_of_place (place_of past) (is_requested past) (keyword_for i) ≡ false → is_action (keyword_for i) ≡ false → is_too_many (context_of past) i ≡ false → IsGood (suc n) (i ∷ past)
+plain_added : (n : ℕ) (past : Past) (i : item.Item) → IsGood n past → is_out_of_place (next_place past) (is_requested past) (keyword_for i) ≡ false → is_action (keyword_for i) ≡ false → is_too_many (context_of past) i ≡ false → IsGood (suc n) (i ∷ past)
 plain_added n past (Header version) good place plain enough =
     let few : HasFewActors past = good.few_actors in
     let owned : HasFewOwners past = good.few_owners in
@@ -368,12 +368,12 @@ plain_added n past (Filter (filters.Eat kind code)) good place plain enough = de
 plain_added n past (Filter filters.Norepeat) good place plain enough = described n past (Filter filters.Norepeat ∷ past) good place refl refl refl refl refl refl refl refl refl
 plain_added n past (Filter (filters.Chord first second)) good place plain enough = described n past (Filter (filters.Chord first second) ∷ past) good place refl refl refl refl refl refl refl refl refl
 plain_added n past (Filter (filters.Bounce code micros)) good place plain enough = described n past (Filter (filters.Bounce code micros) ∷ past) good place refl refl refl refl refl refl refl refl refl
-plain_added n past (Actor roles.Source name) good place plain enough = actor_added n past roles.Source name good (describing (is_describing (place_of past) || is_naming (place_of past)) place) (λ e. absurd (cc e)) enough
-plain_added n past (Actor roles.Client name) good place plain enough = actor_added n past roles.Client name good (describing (is_describing (place_of past) || is_naming (place_of past)) place) (λ e. absurd (cc e)) enough
-plain_added n past (Actor roles.Tap name) good place plain enough = actor_added n past roles.Tap name good (describing (is_describing (place_of past) || is_naming (place_of past)) place) (λ e. absurd (cc e)) enough
-plain_added n past (Actor roles.Joy name) good place plain enough = actor_added n past roles.Joy name good (describing (is_describing (place_of past) || is_naming (place_of past)) place) (λ e. absurd (cc e)) enough
+plain_added n past (Actor roles.Source name) good place plain enough = actor_added n past roles.Source name good (describing (is_describing (next_place past) || is_naming (next_place past)) place) (λ e. absurd (cc e)) enough
+plain_added n past (Actor roles.Client name) good place plain enough = actor_added n past roles.Client name good (describing (is_describing (next_place past) || is_naming (next_place past)) place) (λ e. absurd (cc e)) enough
+plain_added n past (Actor roles.Tap name) good place plain enough = actor_added n past roles.Tap name good (describing (is_describing (next_place past) || is_naming (next_place past)) place) (λ e. absurd (cc e)) enough
+plain_added n past (Actor roles.Joy name) good place plain enough = actor_added n past roles.Joy name good (describing (is_describing (next_place past) || is_naming (next_place past)) place) (λ e. absurd (cc e)) enough
 plain_added n past (Actor roles.Owner name) good place plain enough =
-    let parts = owner_parts (is_describing (place_of past) || is_naming (place_of past)) (is_requested past) place in
+    let parts = owner_parts (is_describing (next_place past) || is_naming (next_place past)) (is_requested past) place in
     actor_added n past roles.Owner name good parts.0 (λ e. parts.1) enough
 plain_added n past (Action actor command) good place plain enough = absurd (cc plain)
 
@@ -393,7 +393,7 @@ item_is actors s k ws i e = by_action (is_action k) refl e
     by_action false h e = inr (plain_keyword k ws i (or_bad_is (plain_item k ws) i e), h)
 
 added : (n : ℕ) (past : Past) (ws : List (List ℕ)) (i : item.Item) → IsGood n past → IsPlaced (context_of past) ws i → is_too_many (context_of past) i ≡ false → IsGood (suc n) (i ∷ past)
-added n past ws i good p enough = elim (item_is (actors_of past) (stream_count past) p.keyword ws i p.item) [
+added n past ws i good p enough = elim (item_is (actors_in past) (stream_count past) p.keyword ws i p.item) [
   | inl h ↦ let P : item.Item → Type 0 = λ x. IsGood (suc n) (x ∷ past) in subst P (sym h.2) (action_added n past h.0 h.1 good h.3)
   | inr h ↦ plain_added n past i good (rw h.0 p.in_place) (rw h.0 h.1) enough
 ]
@@ -447,7 +447,7 @@ lines_good [] k n past now good e =
 lines_good (line ∷ lines) k n past now good e = by_line (behind_line past line) (λ after h. line_good n past after line good h) (λ after h g. lines_good lines (suc k) (suc n) after now h g) e
   where
     by_line : (means : Result Past Cause) → ((after : Past) → means ≡ Ok after → IsGood (suc n) after) → ((after : Past) → IsGood (suc n) after → behind_lines (suc k) lines after ≡ Ok now → IsGood (suc n + length lines) now)
-        → go_on k means (λ x. behind_lines (suc k) lines x) ≡ Ok now → IsGood (n + length (line ∷ lines)) now
+        → then_lines k means (λ x. behind_lines (suc k) lines x) ≡ Ok now → IsGood (n + length (line ∷ lines)) now
     by_line (Err cause) one more e = absurd (cc e)
     by_line (Ok after) one more e = let Q : ℕ → Type 0 = λ x. IsGood x now in subst Q (omega arith) (more after (one after refl) e)
 
@@ -475,14 +475,14 @@ empty_length : (n : ℕ) → length (replicate {A = List Stamped} n []) ≡ n
 empty_length zero = refl
 empty_length (suc n) = omega (arith, empty_length n)
 
-all_few : (past : Past) → HasFewActors past → length (actors_of past) ≤ ACTORS_MAX
+all_few : (past : Past) → HasFewActors past → length (actors_in past) ≤ ACTORS_MAX
 all_few past few =
     let before : length (devices_of past) ≡ length (former_devices past) + (if is_some (latest_name past) then 1 else 0) = closed_length (former_devices past) (latest_name past) (is_requested past) (latest_description past) in
-    let most : length (actors_of past) ≤ 137 * length (devices_of past) + 0 = begun_all (length (actors_of past)) (length (former_devices past)) (length (devices_of past)) (actor_count past) (is_some (latest_name past)) few.all few.latest before in
+    let most : length (actors_in past) ≤ 137 * length (devices_of past) + 0 = begun_all (length (actors_in past)) (length (former_devices past)) (length (devices_of past)) (actor_count past) (is_some (latest_name past)) few.all few.latest before in
     omega (arith, most, few.devices)
 
 -- what lines mean is a record, where its version is one that there is
-pub IsRecord-read : (lines : List (List ℕ)) (past : Past) → length lines < 2 ^ 32 → behind_lines 1 lines [] ≡ Ok past → (1 ≤ version_of past) × (version_of past ≤ VERSION_MAX) → IsRecord (record_of past)
+pub IsRecord-read : (lines : List (List ℕ)) (past : Past) → length lines < 2 ^ 32 → behind_lines 1 lines [] ≡ Ok past → (1 ≤ version_of past) × (version_of past ≤ VERSION_MAX) → IsRecord (record_of_past past)
 IsRecord-read lines past h e version =
     let good = lines_good lines 1 0 [] past none_good e in
     let few = empty_length (stream_count past) in

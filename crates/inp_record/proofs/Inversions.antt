@@ -32,12 +32,12 @@ use Rattle.inp_record.specs.declared.verb.Verb.TheVariants as verbs
 use Rattle.inp_record.specs.declared.item.Item as item
 use Rattle.inp_record.specs.declared.item.Item.TheVariants as items
 use Rattle.inp_record.specs.Keyword.{keyword_of}
-use Rattle.inp_record.specs.Place.{is_start, is_out_of_place}
+use Rattle.inp_record.specs.Place.{is_first_place, is_out_of_place}
 use Rattle.inp_record.specs.Verb.{is_verb_of, argument_count, with_arguments, verb_of, verb_rows}
-use Rattle.inp_record.specs.Words.{word, version_word, is_header, name_word, count_word, wide_word, moment_word, clock_word, micros_word, kind_and_code, info_words, stamped_words, offset_item, plain_item, device_item, actor_item, count_max, feedback_word, plain_command, command_of, actor_from, action_of, action_by, action_with, action_item, item_of}
+use Rattle.inp_record.specs.Words.{word, version_word, is_header, name_word, count_word, wide_word, moment_word, clock_word, micros_word, kind_and_code, info_in_words, stamped_words, offset_item, plain_item, device_item, actor_item, count_max, feedback_word, plain_command, command_of, actor_from, action_of, action_by, action_with, action_item, item_of}
 use Rattle.inp_record.specs.Past.{streams_in}
 use Rattle.inp_record.proofs.Sayable.{keyword_for_device, keyword_for_filter}
-use Rattle.inp_record.specs.Meaning.{is_later_command, is_twice, is_too_many, has_too_many_slots, refusal, unless_refused, checked, placed, item_of_words}
+use Rattle.inp_record.specs.Meaning.{is_later_command, is_twice, is_too_many, has_too_many_slots, builder_refusal, unless_refused, checked, placed, item_of_words}
 use Rattle.inp_words.specs.Table.{named}
 
 -- what an option holds that is mapped
@@ -56,7 +56,7 @@ pub record IsChecked (c : Context) (means : Result item.Item Cause) (i : item.It
   pub once : is_twice c i ≡ false
   pub enough : is_too_many c i ≡ false
   pub few_slots : has_too_many_slots c i ≡ false
-  pub allowed : refusal c.builder i ≡ None
+  pub allowed : builder_refusal c.builder i ≡ None
 
 checked_by : (later twice many wide : Bool) (why : Option CapsRefused) (j i : item.Item) → (if later then Err BadCommand else if twice then Err Twice else if many then Err TooMany else if wide then Err (Caps BadSlots) else unless_refused why j) ≡ Ok i
     → (later ≡ false) × (twice ≡ false) × (many ≡ false) × (wide ≡ false) × (why ≡ None) × (j ≡ i)
@@ -70,14 +70,14 @@ checked_by false false false false (Some why) j i e = absurd (cc e)
 pub checked_is : (c : Context) (means : Result item.Item Cause) (i : item.Item) → checked c means ≡ Ok i → IsChecked c means i
 checked_is c (Err cause) i e = absurd (cc e)
 checked_is c (Ok j) i e =
-    let h = checked_by (is_later_command c j) (is_twice c j) (is_too_many c j) (has_too_many_slots c j) (refusal c.builder j) j i e in
+    let h = checked_by (is_later_command c j) (is_twice c j) (is_too_many c j) (has_too_many_slots c j) (builder_refusal c.builder j) j i e in
     record {
       read = ap (λ (x : item.Item). Ok x) h.5;
       in_version = subst (λ (x : item.Item). is_later_command c x ≡ false) h.5 h.0;
       once = subst (λ (x : item.Item). is_twice c x ≡ false) h.5 h.1;
       enough = subst (λ (x : item.Item). is_too_many c x ≡ false) h.5 h.2;
       few_slots = subst (λ (x : item.Item). has_too_many_slots c x ≡ false) h.5 h.3;
-      allowed = subst (λ (x : item.Item). refusal c.builder x ≡ None) h.5 h.4;
+      allowed = subst (λ (x : item.Item). builder_refusal c.builder x ≡ None) h.5 h.4;
     }
 
 -- a line that is read has a keyword that may stand there
@@ -103,7 +103,7 @@ pub words_are : (c : Context) (ws : List (List ℕ)) (i : item.Item) → item_of
 unfolding item_of_words
 words_are c ws i e =
     let k : Option keyword.Keyword = keyword_of c.version (word 0 ws) (word 1 ws) (length ws) in
-    placed_is c k ws i refl (unheaded (is_start c.place && not (is_header ws)) (placed c k ws) i e)
+    placed_is c k ws i refl (unheaded (is_first_place c.place && not (is_header ws)) (placed c k ws) i e)
 
 -- the keyword of a line with this meaning
 abbrev pub keyword_of_role : role.Role → keyword.Keyword
@@ -154,8 +154,8 @@ plain_keyword keywords.Slots ws i e = ap keyword_for (map_is (λ count. items.Sl
 plain_keyword keywords.Kind ws i e = ap keyword_for (map_is (λ kind. items.Kind kind) (kind_word (word 1 ws)) i e).2
 plain_keyword keywords.Code ws i e = ap keyword_for (map_is (λ (n : ℕ × ℕ). items.Code n.0 n.1) (kind_and_code (word 1 ws) (word 2 ws)) i e).2
 plain_keyword keywords.Axis ws i e =
-    let h = and_then_is (λ code. option_map (λ info. items.Axis code info) (info_words 2 ws)) (code_word EV_ABS (word 1 ws)) i e in
-    ap keyword_for (map_is (λ info. items.Axis h.0 info) (info_words 2 ws) i h.2).2
+    let h = and_then_is (λ code. option_map (λ info. items.Axis code info) (info_in_words 2 ws)) (code_word EV_ABS (word 1 ws)) i e in
+    ap keyword_for (map_is (λ info. items.Axis h.0 info) (info_in_words 2 ws) i h.2).2
 plain_keyword keywords.Filter ws i e = absurd (cc e)
 plain_keyword keywords.Eat ws i e =
     ap keyword_for (map_is (λ (n : ℕ × ℕ). items.Filter (filters.Eat n.0 n.1)) (kind_and_code (word 2 ws) (word 3 ws)) i e).2
@@ -244,8 +244,8 @@ command_is by verbs.Write ws c e =
     let h = map_is (λ (s : Stamped). commands.Write s.now s.event.kind s.event.code s.event.value) (stamped_words ws) c e in
     of_verb by verbs.Write c (commands.Write h.0.now h.0.event.kind h.0.event.code h.0.event.value) h.2 (record { role = λ r. refl; range = moment_within ws h.0 h.1; stream = λ s. refl })
 command_is by verbs.SetAxis ws c e =
-    let h = and_then_is (λ code. option_map (λ info. commands.SetAxis code info) (info_words 4 ws)) (code_word EV_ABS (word 3 ws)) c e in
-    let g = map_is (λ info. commands.SetAxis h.0 info) (info_words 4 ws) c h.2 in
+    let h = and_then_is (λ code. option_map (λ info. commands.SetAxis code info) (info_in_words 4 ws)) (code_word EV_ABS (word 3 ws)) c e in
+    let g = map_is (λ info. commands.SetAxis h.0 info) (info_in_words 4 ws) c h.2 in
     of_verb by verbs.SetAxis c (commands.SetAxis h.0 g.0) g.2 (record { role = λ r. refl; range = refl; stream = λ s. refl })
 command_is by verbs.Read ws c e =
     let h = map_is (λ count. commands.Read count) (number (count_max by) (word 3 ws)) c e in

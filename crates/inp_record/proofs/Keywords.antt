@@ -3,8 +3,8 @@ use Rattle.std.proofs.Common.{◌≡◌, ℕ, Bool, true, false, not, if◌then�
 use Rattle.std.specs.Prelude.{option_and_then}
 use Rattle.std.specs.List.{list_all}
 use Rattle.std.proofs.lemmas.Slice.Eq.{bytes_eq-Decides}
+use Rattle.std.proofs.lemmas.Bool.{and_parts}
 use Rattle.inp_words.specs.Table.{named}
-use Rattle.inp_words.proofs.Booleans.{both}
 use Rattle.inp_record.specs.declared.keyword.Keyword as keyword
 use Rattle.inp_record.specs.declared.keyword.Keyword.TheVariants as keywords
 use Rattle.inp_record.specs.Keyword.{keyword_rows, filter_rows, filter_keyword, keyword_under, has_words, with_words, keyword_of}
@@ -14,13 +14,13 @@ use Rattle.inp_record.proofs.Inversions.{and_then_is}
 -- what a table says of a word passes each test that all its rows pass
 pub named_passes : {T : Type 0} (test : List ℕ × T → Bool) (rows : List (List ℕ × T)) (word : List ℕ) (x : T) → list_all test rows ≡ true → named rows word ≡ Some x → test (word, x) ≡ true
 named_passes test [] word x all e = absurd (cc e)
-named_passes {T} test (row ∷ rows) word x all e = by_word (bytes_eq row.0 word) refl (λ g. named_passes test rows word x (both _ _ all).1 g) e
+named_passes {T} test (row ∷ rows) word x all e = by_word (bytes_eq row.0 word) refl (λ g. named_passes test rows word x (and_parts _ _ all).1 g) e
   where
     by_word : (same : Bool) → bytes_eq row.0 word ≡ same → (named rows word ≡ Some x → test (word, x) ≡ true) → (if same then Some row.1 else named rows word) ≡ Some x → test (word, x) ≡ true
     by_word true h more e =
         let here : row.0 ≡ word = (bytes_eq-Decides row.0 word).0 h in
         let says : row.1 ≡ x = cc e in
-        subst (λ (y : T). test (word, y) ≡ true) says (subst (λ (w : List ℕ). test (w, row.1) ≡ true) here (both _ _ all).0)
+        subst (λ (y : T). test (word, y) ≡ true) says (subst (λ (w : List ℕ). test (w, row.1) ≡ true) here (and_parts _ _ all).0)
     by_word false h more e = more e
 
 -- the word is do exactly where the keyword is that of an action

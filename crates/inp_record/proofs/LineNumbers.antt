@@ -18,10 +18,10 @@ use Rattle.inp_record.specs.declared.item.Item as item
 use Rattle.inp_record.specs.declared.item.Item.TheVariants.{Header, Device, Hint, Log, Realtime, Boottime, Slots, Kind, Code, Axis, Filter, Actor, Action}
 use Rattle.inp_record.specs.declared.keyword.Keyword as keyword
 use Rattle.inp_record.specs.Keyword.{keyword_of}
-use Rattle.inp_record.specs.Place.{is_start, is_out_of_place}
+use Rattle.inp_record.specs.Place.{is_first_place, is_out_of_place}
 use Rattle.inp_record.specs.Words.{word, has_word, is_header, is_action, or_bad_word, action_item, plain_item, item_of}
-use Rattle.inp_record.specs.Past.{Past, lines_of, context_of}
-use Rattle.inp_record.specs.Meaning.{placed, checked, item_of_words, behind, behind_words, behind_line, go_on, behind_lines, record_of, as_record, meaning}
+use Rattle.inp_record.specs.Past.{Past, lines_in, context_of}
+use Rattle.inp_record.specs.Meaning.{placed, checked, item_of_words, behind, behind_words, behind_line, then_lines, behind_lines, record_of_past, as_record, meaning}
 use Rattle.inp_record.specs.LineNumber.{is_action_line, action_numbers}
 use Rattle.inp_record.proofs.Inversions.{keyword_for, plain_keyword, checked_is, act_is}
 use Rattle.inp_record.proofs.Keywords.{action_is_do}
@@ -61,7 +61,7 @@ not_missed all lines n line left h z e =
 -- how many action lines there are
 
 -- an item adds a line exactly where its keyword is that of an action
-item_adds : (past : Past) (i : item.Item) → length (lines_of (i ∷ past)) ≡ length (lines_of past) + (if is_action (keyword_for i) then 1 else 0)
+item_adds : (past : Past) (i : item.Item) → length (lines_in (i ∷ past)) ≡ length (lines_in past) + (if is_action (keyword_for i) then 1 else 0)
 item_adds past (Header version) = omega arith
 item_adds past (Device true name) = omega arith
 item_adds past (Device false name) = omega arith
@@ -82,7 +82,7 @@ item_adds past (Actor roles.Client name) = omega arith
 item_adds past (Actor roles.Tap name) = omega arith
 item_adds past (Actor roles.Joy name) = omega arith
 item_adds past (Actor roles.Owner name) = omega arith
-item_adds past (Action actor command) = omega (arith, length-append (lines_of past) (record { actor = actor; command = command } ∷ []))
+item_adds past (Action actor command) = omega (arith, length-append (lines_in past) (record { actor = actor; command = command } ∷ []))
 
 or_bad_is : (o : Option item.Item) (i : item.Item) → or_bad_word o ≡ Ok i → o ≡ Some i
 or_bad_is None i e = absurd (cc e)
@@ -112,15 +112,15 @@ words_add : (c : Context) (ws : List (List ℕ)) (i : item.Item) → item_of_wor
 unfolding item_of_words
 words_add c ws i e =
     let k : Option keyword.Keyword = keyword_of c.version (word 0 ws) (word 1 ws) (length ws) in
-    placed_adds c k ws i (λ k h. action_is_do c.version (word 0 ws) (word 1 ws) (length ws) k h) (header_passed (is_start c.place && not (is_header ws)) (placed c k ws) i e)
+    placed_adds c k ws i (λ k h. action_is_do c.version (word 0 ws) (word 1 ws) (length ws) k h) (header_passed (is_first_place c.place && not (is_header ws)) (placed c k ws) i e)
 
-behind_adds : (past now : Past) (means : Result item.Item Cause) (does : Bool) → ((i : item.Item) → means ≡ Ok i → is_action (keyword_for i) ≡ does) → behind past means ≡ Ok now → length (lines_of now) ≡ length (lines_of past) + (if does then 1 else 0)
+behind_adds : (past now : Past) (means : Result item.Item Cause) (does : Bool) → ((i : item.Item) → means ≡ Ok i → is_action (keyword_for i) ≡ does) → behind past means ≡ Ok now → length (lines_in now) ≡ length (lines_in past) + (if does then 1 else 0)
 behind_adds past now (Err cause) does is e = absurd (cc e)
 behind_adds past now (Ok i) does is e =
     let same : i ∷ past ≡ now = cc e in
     rw (← same, ← is i refl) (item_adds past i)
 
-all_words_add : (past now : Past) (ws : List (List ℕ)) → behind_words past ws ≡ Ok now → length (lines_of now) ≡ length (lines_of past) + (if has_word ws 0 (codes "do") then 1 else 0)
+all_words_add : (past now : Past) (ws : List (List ℕ)) → behind_words past ws ≡ Ok now → length (lines_in now) ≡ length (lines_in past) + (if has_word ws 0 (codes "do") then 1 else 0)
 all_words_add past now [] e = let same : past ≡ now = cc e in rw (← same) (omega arith)
 all_words_add past now (w ∷ ws) e =
     behind_adds past now (checked (context_of past) (item_of_words (context_of past) (w ∷ ws))) (has_word (w ∷ ws) 0 (codes "do"))
@@ -143,16 +143,16 @@ comment_does_nothing (b ∷ line) h = by_blank (is_blank b) (comment_does_nothin
     by_blank true more h = more h
     by_blank false more h = comment_begins (slice_split is_blank line) b h
 
-line_adds : (past now : Past) (line : List ℕ) → behind_line past line ≡ Ok now → length (lines_of now) ≡ length (lines_of past) + (if is_action_line line then 1 else 0)
+line_adds : (past now : Past) (line : List ℕ) → behind_line past line ≡ Ok now → length (lines_in now) ≡ length (lines_in past) + (if is_action_line line then 1 else 0)
 unfolding behind_line
 line_adds past now line e = by_tests (is_comment line) (is_text line) refl e
   where
-    by_tests : (comment text : Bool) → is_comment line ≡ comment → (if comment then Ok past else if not text then Err NotText else behind_words past (words_of line)) ≡ Ok now → length (lines_of now) ≡ length (lines_of past) + (if is_action_line line then 1 else 0)
+    by_tests : (comment text : Bool) → is_comment line ≡ comment → (if comment then Ok past else if not text then Err NotText else behind_words past (words_of line)) ≡ Ok now → length (lines_in now) ≡ length (lines_in past) + (if is_action_line line then 1 else 0)
     by_tests true text h e = let same : past ≡ now = cc e in rw (← same, comment_does_nothing line h) (omega arith)
     by_tests false true h e = all_words_add past now (words_of line) e
     by_tests false false h e = absurd (cc e)
 
-lines_add : (lines : List (List ℕ)) (k n : ℕ) (past now : Past) → behind_lines k lines past ≡ Ok now → length (lines_of now) ≡ length (lines_of past) + length (action_numbers n lines)
+lines_add : (lines : List (List ℕ)) (k n : ℕ) (past now : Past) → behind_lines k lines past ≡ Ok now → length (lines_in now) ≡ length (lines_in past) + length (action_numbers n lines)
 unfolding behind_lines action_numbers
 lines_add [] k n past now e = let same : past ≡ now = cc e in rw (← same) (omega arith)
 lines_add (line ∷ lines) k n past now e = by_line (behind_line past line) (λ after h. line_adds past after line h) (λ after h. lines_add lines (suc k) (suc n) after now h) e
@@ -161,12 +161,12 @@ lines_add (line ∷ lines) k n past now e = by_line (behind_line past line) (λ 
     by_action true a b c one more = omega arith
     by_action false a b c one more = omega arith
 
-    by_line : (means : Result Past Cause) → ((after : Past) → means ≡ Ok after → length (lines_of after) ≡ length (lines_of past) + (if is_action_line line then 1 else 0)) → ((after : Past) → behind_lines (suc k) lines after ≡ Ok now → length (lines_of now) ≡ length (lines_of after) + length (action_numbers (suc n) lines))
-        → go_on k means (λ x. behind_lines (suc k) lines x) ≡ Ok now → length (lines_of now) ≡ length (lines_of past) + length (action_numbers n (line ∷ lines))
+    by_line : (means : Result Past Cause) → ((after : Past) → means ≡ Ok after → length (lines_in after) ≡ length (lines_in past) + (if is_action_line line then 1 else 0)) → ((after : Past) → behind_lines (suc k) lines after ≡ Ok now → length (lines_in now) ≡ length (lines_in after) + length (action_numbers (suc n) lines))
+        → then_lines k means (λ x. behind_lines (suc k) lines x) ≡ Ok now → length (lines_in now) ≡ length (lines_in past) + length (action_numbers n (line ∷ lines))
     by_line (Err cause) one more e = absurd (cc e)
-    by_line (Ok after) one more e = by_action (is_action_line line) (length (lines_of after)) (length (lines_of past)) (length (lines_of now)) (one after refl) (more after e)
+    by_line (Ok after) one more e = by_action (is_action_line line) (length (lines_in after)) (length (lines_in past)) (length (lines_in now)) (one after refl) (more after e)
 
-record_adds : (count : ℕ) (means : Result Past Refused) (r : RecordView) → as_record count means ≡ Ok r → (past : Past) × (means ≡ Ok past) × (record_of past ≡ r)
+record_adds : (count : ℕ) (means : Result Past Refused) (r : RecordView) → as_record count means ≡ Ok r → (past : Past) × (means ≡ Ok past) × (record_of_past past ≡ r)
 record_adds count (Err refused) r e = absurd (cc e)
 record_adds count (Ok []) r e = absurd (cc e)
 record_adds count (Ok (i ∷ past)) r e = (i ∷ past, refl, cc e)
@@ -177,5 +177,5 @@ unfolding meaning
 action_count bytes r e =
     let h = record_adds (length (text_lines bytes)) (behind_lines 1 (text_lines bytes) []) r e in
     let more = lines_add (text_lines bytes) 1 1 [] h.0 h.1 in
-    let same : lines_of h.0 ≡ r.lines = ap (λ (x : RecordView). x.lines) h.2 in
+    let same : lines_in h.0 ≡ r.lines = ap (λ (x : RecordView). x.lines) h.2 in
     omega (arith, more, ap (λ (l : List Line). length l) same)

@@ -19,7 +19,7 @@ use Rattle.inp_actors.specs.declared.device_text.DeviceText.{DeviceText}
 use Rattle.inp_record.specs.declared.item.Item.{Item}
 use Rattle.inp_record.specs.declared.item.Item.TheVariants.{Header, Device, Hint, Log, Realtime, Boottime, Slots, Kind, Code, Axis, Filter, Actor, Action}
 use Rattle.inp_record.specs.Past.{Past, latest_name, is_requested, latest_description, former_devices, devices_of, with_latest}
-use Rattle.inp_record.specs.Meaning.{refused_by, refusal}
+use Rattle.inp_record.specs.Meaning.{refused_by, builder_refusal}
 use Rattle.inp_record.proofs.Sayable.{IsSayableInfo}
 
 -- the data of an axis can be said, where a line describes one
@@ -30,7 +30,7 @@ IsSaid _ = Unit {0}
 -- no description refuses what these lines say
 abbrev pub AreDescribed : Past → Type 0
 AreDescribed [] = Unit {0}
-AreDescribed (i ∷ past) = (refusal (latest_description past) i ≡ None) × IsSaid i × AreDescribed past
+AreDescribed (i ∷ past) = (builder_refusal (latest_description past) i ≡ None) × IsSaid i × AreDescribed past
 
 -- sixty-four types, none of them unknown, EV_SYN among them
 pub record AreKnownKinds (kinds : List Bool) : Type 0 where
@@ -79,7 +79,7 @@ pub record IsGathered (d : Description) : Type 0 where
   pub numbers : AreNumbers d.slots d.hint d.log_limit d.realtime d.boottime
 
 -- a description of a device: with slots it has the axes that slots need
-pub record IsMade (d : Description) : Type 0 where
+pub record IsMadeDescription (d : Description) : Type 0 where
   pub gathered : IsGathered d
   pub whole : built d ≡ d
 
@@ -272,7 +272,7 @@ with_coded d kind code g e =
     let known = known_kind kind code e in
     gathered_code (with_kind d kind) kind code (gathered_kind d kind g known) e (kind_there d kind g known)
 
-with_described : (d : Description) (code : ℕ) (i : AxisInfo) → IsGathered d → refusal d (Axis code i) ≡ None → IsSayableInfo i → IsGathered (with_axis (with_kind d EV_ABS) code i)
+with_described : (d : Description) (code : ℕ) (i : AxisInfo) → IsGathered d → builder_refusal d (Axis code i) ≡ None → IsSayableInfo i → IsGathered (with_axis (with_kind d EV_ABS) code i)
 with_described d code i g e said =
     let passed = axis_passes (nat_lt ABS_MAX code) (is_bad_axis code i) e in
     gathered_axis (with_kind d EV_ABS) code i (gathered_kind d EV_ABS g refl) (ltb-false ABS_MAX code passed.0) passed.1 said (kind_there d EV_ABS g refl)
@@ -397,14 +397,14 @@ with_slots d g =
 built_again : (d : Description) → with_slot_axes d ≡ d → built d ≡ d
 built_again d e = cond_both (nat_eq d.slots 0) d (with_slot_axes d) (λ (x : Description). x ≡ d) (λ _. refl) (λ _. e)
 
-made_of : (d : Description) → IsGathered d → IsMade (built d)
+made_of : (d : Description) → IsGathered d → IsMadeDescription (built d)
 made_of d g =
-    cond_both (nat_eq d.slots 0) d (with_slot_axes d) IsMade
+    cond_both (nat_eq d.slots 0) d (with_slot_axes d) IsMadeDescription
     (λ e. record { gathered = g; whole = cond-true (nat_eq d.slots 0) d (with_slot_axes d) e })
     (λ e. let w = with_slots d g in record { gathered = w.0; whole = built_again (with_slot_axes d) (slot_axes_again (with_slot_axes d) w.1) })
 
 -- what the lines of the latest device describe
-pub made : (past : Past) → AreDescribed past → IsMade (built (latest_description past))
+pub made : (past : Past) → AreDescribed past → IsMadeDescription (built (latest_description past))
 made past h = made_of (latest_description past) (gathered past h)
 
 -- what the lines of each device describe
@@ -416,13 +416,13 @@ push_get (x ∷ xs) y zero a e = inl e
 push_get (x ∷ xs) y (suc i) a e = push_get xs y i a e
 
 abbrev AreMade : List DeviceText → Type 0
-AreMade devices = (i : ℕ) (t : DeviceText) → slice_get devices i ≡ Some t → IsMade t.caps
+AreMade devices = (i : ℕ) (t : DeviceText) → slice_get devices i ≡ Some t → IsMadeDescription t.caps
 
-latest_made : (former : List DeviceText) (name : Option (List ℕ)) (requested : Bool) (d : Description) → AreMade former → IsMade (built d) → AreMade (with_latest former name requested d)
+latest_made : (former : List DeviceText) (name : Option (List ℕ)) (requested : Bool) (d : Description) → AreMade former → IsMadeDescription (built d) → AreMade (with_latest former name requested d)
 latest_made former None requested d old new = old
 latest_made former (Some name) requested d old new = λ i t e. elim (push_get former (record { name = name; caps = built d; requested = requested }) i t e) [
   | inl before ↦ old i t before
-  | inr is ↦ subst IsMade (sym (ap (λ (x : DeviceText). x.caps) is)) new
+  | inr is ↦ subst IsMadeDescription (sym (ap (λ (x : DeviceText). x.caps) is)) new
 ]
 
 former_made : (past : Past) → AreDescribed past → AreMade (former_devices past)
@@ -441,5 +441,5 @@ former_made (Filter filter ∷ past) h = former_made past h.2
 former_made (Actor role name ∷ past) h = former_made past h.2
 former_made (Action actor command ∷ past) h = former_made past h.2
 
-pub all_made : (past : Past) → AreDescribed past → (i : ℕ) (t : DeviceText) → slice_get (devices_of past) i ≡ Some t → IsMade t.caps
+pub all_made : (past : Past) → AreDescribed past → (i : ℕ) (t : DeviceText) → slice_get (devices_of past) i ≡ Some t → IsMadeDescription t.caps
 all_made past h = latest_made (former_devices past) (latest_name past) (is_requested past) (latest_description past) (former_made past h) (made past h)

@@ -17,8 +17,8 @@ use Rattle.std.proofs.lemmas.List.Splits.{length-slice_split}
 use Rattle.std.proofs.lemmas.List.Sums.{count_by-le-length}
 use Rattle.inp_words.specs.Line.{is_line_feed, lines_of}
 use Rattle.inp_record.specs.Fault.{fault_at, IsParsing}
-use Rattle.inp_record.specs.Past.{Past, place_of, context_of}
-use Rattle.inp_record.specs.Meaning.{behind_line, go_on, behind_lines, record_of, as_record, meaning, IsBehind, AreRead}
+use Rattle.inp_record.specs.Past.{Past, next_place, context_of}
+use Rattle.inp_record.specs.Meaning.{behind_line, then_lines, behind_lines, record_of_past, as_record, meaning, IsBehind, AreLinesRead}
 
 -- the line at a place, and those behind it
 pub line_at : (parts : List (List ℕ)) (n : ℕ) (piece : List ℕ) → n < length parts → piece ≡ get_or parts n piece → drop n (map strip_carriage_return parts) ≡ strip_carriage_return piece ∷ drop (n + 1) (map strip_carriage_return parts)
@@ -38,20 +38,20 @@ few_lines text = omega (arith, lines_length (slice_split is_line_feed text), len
 
 -- one line more
 pub read_more : (lines : List (List ℕ)) (n : ℕ) (past : Past) (x : List ℕ) → drop n lines ≡ x ∷ drop (n + 1) lines → behind_lines 1 lines [] ≡ behind_lines (n + 1) (drop n lines) past
-    → behind_lines 1 lines [] ≡ go_on (n + 1) (behind_line past x) (λ now. behind_lines (suc (n + 1)) (drop (n + 1) lines) now)
+    → behind_lines 1 lines [] ≡ then_lines (n + 1) (behind_line past x) (λ now. behind_lines (suc (n + 1)) (drop (n + 1) lines) now)
 unfolding behind_lines
 read_more lines n past x d e = e ∙ ap (λ (ls : List (List ℕ)). behind_lines (n + 1) ls past) d
 
 -- a line that was read
 pub more_read : (lines : List (List ℕ)) (n : ℕ) (means : Result Past Cause) (done : Unit {0}) (now : Context)
-    → behind_lines 1 lines [] ≡ go_on (n + 1) means (λ now. behind_lines (suc (n + 1)) (drop (n + 1) lines) now) → IsBehind (Ok done) means now
+    → behind_lines 1 lines [] ≡ then_lines (n + 1) means (λ now. behind_lines (suc (n + 1)) (drop (n + 1) lines) now) → IsBehind (Ok done) means now
     → (past : Past) × (now ≡ context_of past) × (behind_lines 1 lines [] ≡ behind_lines (n + 1 + 1) (drop (n + 1) lines) past)
 more_read lines n means done now e h = (h.0, h.2, rw h.1 at e ∙ ap (λ k. behind_lines k (drop (n + 1) lines) h.0) (sym (add-one (n + 1))))
 
 -- a line that was not read
 pub fault_read : (lines : List (List ℕ)) (n : ℕ) (means : Result Past Cause) (f : LineFault) (now : Context)
-    → behind_lines 1 lines [] ≡ go_on (n + 1) means (λ now. behind_lines (suc (n + 1)) (drop (n + 1) lines) now) → IsBehind (Err f) means now
-    → AreRead (Err (fault_at (n + 1) f)) lines
+    → behind_lines 1 lines [] ≡ then_lines (n + 1) means (λ now. behind_lines (suc (n + 1)) (drop (n + 1) lines) now) → IsBehind (Err f) means now
+    → AreLinesRead (Err (fault_at (n + 1) f)) lines
 fault_read lines n means (line.Refused cause) now e h = rw h at e
 fault_read lines n means line.NoMemory now e h = tt
 
@@ -63,7 +63,7 @@ unfolding behind_lines
 all_read lines n context a b h = (h.0, h.2 ∙ ap (λ (ls : List (List ℕ)). behind_lines (n + 1) ls h.0) (drop_all n lines a), h.1, omega arith)
 
 -- a fault of a line is one of the text
-pub fault_parsed : (text : List ℕ) (f : ParseFault) → AreRead (Err f) (lines_of text) → IsParsing {A = RecordView} (Err f) (meaning text)
+pub fault_parsed : (text : List ℕ) (f : ParseFault) → AreLinesRead (Err f) (lines_of text) → IsParsing {A = RecordView} (Err f) (meaning text)
 unfolding meaning
 fault_parsed text (fault.Refused refused) h = ap (as_record (length (lines_of text))) h
 fault_parsed text fault.NoMemory h = tt
@@ -73,7 +73,7 @@ unfolding meaning
 meaning_read text past h = ap (as_record (length (lines_of text))) h
 
 -- nothing was read before the first line alone
-pub start_is : (past : Past) → place_of past ≡ Start → past ≡ []
+pub start_is : (past : Past) → next_place past ≡ Start → past ≡ []
 start_is [] e = refl
 start_is (Header version ∷ past) e = absurd (cc)
 start_is (Device requested name ∷ past) e = absurd (cc)
@@ -89,9 +89,9 @@ start_is (Filter filter ∷ past) e = absurd (cc)
 start_is (Actor role name ∷ past) e = absurd (cc)
 start_is (Action actor command ∷ past) e = absurd (cc)
 
-pub headless : (past : Past) (n : ℕ) → place_of past ≡ Start → as_record n (Ok past) ≡ Err (record { line = n; cause = BadHeader })
+pub headless : (past : Past) (n : ℕ) → next_place past ≡ Start → as_record n (Ok past) ≡ Err (record { line = n; cause = BadHeader })
 headless past n e = ap (λ (p : Past). as_record n (Ok p)) (start_is past e)
 
-pub headed : (past : Past) (n : ℕ) → (place_of past ≡ Start → ⊥) → as_record n (Ok past) ≡ Ok (record_of past)
+pub headed : (past : Past) (n : ℕ) → (next_place past ≡ Start → ⊥) → as_record n (Ok past) ≡ Ok (record_of_past past)
 headed [] n h = absurd (h refl)
 headed (item ∷ past) n h = refl

@@ -6,7 +6,7 @@ use Rattle.inp_actors.specs.declared.device_text.DeviceText.{DeviceText}
 use Rattle.inp_record.specs.declared.context.Context.{Context}
 use Rattle.inp_record.specs.declared.context.TheConstants.{DEVICES_MAX}
 use Rattle.inp_record.specs.declared.place.Place.TheVariants.{Describing}
-use Rattle.inp_record.specs.Past.{with_latest, no_given, HasRoom}
+use Rattle.inp_record.specs.Past.{with_latest, no_given, IsWithinCounts}
 use Rattle.inp_record.specs.Meaning.{closed, device_count}
 use Rattle.std.proofs.lemmas.Bool.Decides.{nat_tests}
 
@@ -17,8 +17,8 @@ closed_length devices (Some name) requested d =
     omega (arith, length-append devices (record { name = name; caps = built d; requested = requested } ∷ []))
 
 -- there is room behind a device that is begun
-pub begun_room : (c : Context) (requested : Bool) (name : List ℕ) → HasRoom c → nat_le DEVICES_MAX (device_count c) ≡ false
-    → HasRoom (record (closed c) { place = Describing; name = Some name; requested = requested; given = no_given; sources = 0; readers = 0; owners = 0 })
+pub begun_room : (c : Context) (requested : Bool) (name : List ℕ) → IsWithinCounts c → nat_le DEVICES_MAX (device_count c) ≡ false
+    → IsWithinCounts (record (closed c) { place = Describing; name = Some name; requested = requested; given = no_given; sources = 0; readers = 0; owners = 0 })
 begun_room c requested name room h =
     let count = closed_length c.devices c.name c.requested c.builder in
     let less : device_count c < 8 = grind (arith, nat_tests) in

@@ -22,10 +22,10 @@ use Rattle.inp_words.specs.Line.{lines_of as text_lines}
 use Rattle.inp_record.specs.declared.item.Item.{Item}
 use Rattle.inp_record.specs.declared.item.Item.TheVariants.{Header, Device, Hint, Log, Realtime, Boottime, Slots, Kind, Code, Axis, Filter, Actor, Action}
 use Rattle.inp_record.specs.declared.place.Place.TheVariants.{Start}
-use Rattle.inp_record.specs.Place.{is_start}
+use Rattle.inp_record.specs.Place.{is_first_place}
 use Rattle.inp_record.specs.Words.{is_action}
-use Rattle.inp_record.specs.Past.{Past, place_after, place_of, version_of, actors_of, devices_of, lines_of}
-use Rattle.inp_record.specs.Meaning.{behind_lines, record_of, meaning}
+use Rattle.inp_record.specs.Past.{Past, place_after, next_place, version_of, actors_in, devices_of, lines_in}
+use Rattle.inp_record.specs.Meaning.{behind_lines, record_of_past, meaning}
 use Rattle.inp_record.specs.Spelling.{item_words, number_items, slots_items, kind_items, code_items, codes_items, axis_items, plain_items, filter_items, description_items, actor_items, device_items, action_item_of, RoundTrips}
 use Rattle.inp_record.proofs.Reading.{meaning_read, headed}
 use Rattle.inp_record.proofs.Sayable.{keyword_for}
@@ -74,9 +74,9 @@ lines_are version actors devices lines =
     ∙ ap (λ (l : List Words). map f heads ++ l) (action_lines actors lines)
     ∙ sym (map-append f heads (map action_item_of lines)))
 
-text_is : (past : Past) → record_text (record_of past) ≡ lines_text (map (item_words (actors_of past)) (canon past))
+text_is : (past : Past) → record_text (record_of_past past) ≡ lines_text (map (item_words (actors_in past)) (canon past))
 unfolding record_text record_lines
-text_is past = ap lines_text (lines_are (version_of past) (actors_of past) (devices_of past) (lines_of past))
+text_is past = ap lines_text (lines_are (version_of past) (actors_in past) (devices_of past) (lines_in past))
 
 -- no line but an action names an actor of the whole record
 
@@ -159,27 +159,27 @@ plain_behind actors (i ∷ items) past more h g =
     let P : Past → Type 0 = λ x. AreBehindActors actors x more in
     (λ e. absurd (both_ways (is_action (keyword_for i)) (not-true (is_action (keyword_for i)) parts.0) e), plain_behind actors items (i ∷ past) more parts.1 (subst P (past_of_more [] i items past) g))
 
-actions_behind : (actors : List ActorText) (lines : List Line) (past : Past) → actors_of past ≡ actors → AreBehindActors actors past (map action_item_of lines)
+actions_behind : (actors : List ActorText) (lines : List Line) (past : Past) → actors_in past ≡ actors → AreBehindActors actors past (map action_item_of lines)
 actions_behind actors [] past h = tt
 actions_behind actors (l ∷ lines) past h = (λ e. h, actions_behind actors lines (action_item_of l ∷ past) h)
 
 -- actions leave the actors
-same_actors : (lines : List Line) (past : Past) → actors_of (reverse (map action_item_of lines) ++ past) ≡ actors_of past
+same_actors : (lines : List Line) (past : Past) → actors_in (reverse (map action_item_of lines) ++ past) ≡ actors_in past
 same_actors [] past = refl
 same_actors (l ∷ lines) past =
-    ap actors_of (past_of_more [] (action_item_of l) (map action_item_of lines) past) ∙ same_actors lines (action_item_of l ∷ past)
+    ap actors_in (past_of_more [] (action_item_of l) (map action_item_of lines) past) ∙ same_actors lines (action_item_of l ∷ past)
 
-all_behind : (past : Past) → IsLike past (past_of (canon past)) → AreBehindActors (actors_of past) [] (canon past)
+all_behind : (past : Past) → IsLike past (past_of (canon past)) → AreBehindActors (actors_in past) [] (canon past)
 all_behind past like =
-    let actors = actors_of past in
+    let actors = actors_in past in
     let heads = head_items (version_of past) actors (devices_of past) in
-    let actions = map action_item_of (lines_of past) in
-    let are : actors_of (past_of heads) ≡ actors = sym (same_actors (lines_of past) (past_of heads)) ∙ ap actors_of (sym (past_of_two heads actions [])) ∙ like.actors in
-    plain_behind actors heads [] actions (none_in_heads (version_of past) actors (devices_of past)) (actions_behind actors (lines_of past) (past_of heads) are)
+    let actions = map action_item_of (lines_in past) in
+    let are : actors_in (past_of heads) ≡ actors = sym (same_actors (lines_in past) (past_of heads)) ∙ ap actors_in (sym (past_of_two heads actions [])) ∙ like.actors in
+    plain_behind actors heads [] actions (none_in_heads (version_of past) actors (devices_of past)) (actions_behind actors (lines_in past) (past_of heads) are)
 
 -- a past with a line stands behind its start
 
-pub no_start : (i : Item) → is_start (place_after i) ≡ false
+pub no_start : (i : Item) → is_first_place (place_after i) ≡ false
 no_start (Header version) = refl
 no_start (Device requested name) = refl
 no_start (Hint count) = refl
@@ -194,13 +194,13 @@ no_start (Filter filter) = refl
 no_start (Actor role name) = refl
 no_start (Action actor command) = refl
 
-pub read_again : (past : Past) → WereAccepted past → is_start (place_of past) ≡ false → meaning (record_text (record_of past)) ≡ Ok (record_of past)
+pub read_again : (past : Past) → WereAccepted past → is_first_place (next_place past) ≡ false → meaning (record_text (record_of_past past)) ≡ Ok (record_of_past past)
 read_again past were s =
     let k = kept past were s in
     let new = past_of (canon past) in
-    let text = lines_text (map (item_words (actors_of past)) (canon past)) in
-    let read : behind_lines 1 (text_lines text) [] ≡ Ok new = items_read (actors_of past) (canon past) [] 1 k.again.accepted (all_behind past k.again.like) in
-    let later : place_of new ≡ Start → ⊥ = λ e. both_ways (is_start (place_of past)) s (ap is_start (sym k.again.like.place ∙ e)) in
+    let text = lines_text (map (item_words (actors_in past)) (canon past)) in
+    let read : behind_lines 1 (text_lines text) [] ≡ Ok new = items_read (actors_in past) (canon past) [] 1 k.again.accepted (all_behind past k.again.like) in
+    let later : next_place new ≡ Start → ⊥ = λ e. both_ways (is_first_place (next_place past)) s (ap is_first_place (sym k.again.like.place ∙ e)) in
     ap meaning (text_is past)
     ∙ meaning_read text new read
     ∙ headed new (length (text_lines text)) later

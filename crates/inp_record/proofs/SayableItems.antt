@@ -30,7 +30,7 @@ use Rattle.inp_record.specs.declared.verb.Verb.TheVariants as verbs
 use Rattle.inp_record.specs.declared.item.Item as item
 use Rattle.inp_record.specs.declared.item.Item.TheVariants as items
 use Rattle.inp_record.specs.Verb.{argument_count, is_verb_of, with_arguments, verb_of, verb_rows}
-use Rattle.inp_record.specs.Words.{word, version_word, name_word, count_word, wide_word, moment_word, clock_word, kind_and_code, info_words, stamped_words, micros_word, has_micros, offset_item, plain_item, device_item, actor_item, count_max, plain_command, command_of, actor_from, action_by, action_with, action_item, or_bad_word, is_action, item_of}
+use Rattle.inp_record.specs.Words.{word, version_word, name_word, count_word, wide_word, moment_word, clock_word, kind_and_code, info_in_words, stamped_words, micros_word, has_micros, offset_item, plain_item, device_item, actor_item, count_max, plain_command, command_of, actor_from, action_by, action_with, action_item, or_bad_word, is_action, item_of}
 use Rattle.inp_record.proofs.Good.{or_bad_is}
 use Rattle.inp_record.proofs.Inversions.{map_is, and_then_is, feedback_is, command_of_is, verb_is, action_of_is, act_is}
 use Rattle.inp_record.proofs.Sayable.{is_visible, IsPlainWord, IsSayableCommand, IsSayable}
@@ -181,8 +181,8 @@ plain_said actors s keywords.Code ws i e =
     let h = map_is (λ (n : ℕ × ℕ). items.Code n.0 n.1) (kind_and_code (word 1 ws) (word 2 ws)) i e in
     say actors s i (items.Code h.0.0 h.0.1) h.2 (pair_fits (word 1 ws) (word 2 ws) h.0 h.1)
 plain_said actors s keywords.Axis ws i e =
-    let h = and_then_is (λ code. option_map (λ info. items.Axis code info) (info_words 2 ws)) (code_word EV_ABS (word 1 ws)) i e in
-    let g = map_is (λ info. items.Axis h.0 info) (info_words 2 ws) i h.2 in
+    let h = and_then_is (λ code. option_map (λ info. items.Axis code info) (info_in_words 2 ws)) (code_word EV_ABS (word 1 ws)) i e in
+    let g = map_is (λ info. items.Axis h.0 info) (info_in_words 2 ws) i h.2 in
     say actors s i (items.Axis h.0 g.0) g.2 (code_fits EV_ABS (word 1 ws) h.0 h.1, info_fits 2 ws g.0 g.1)
 plain_said actors s keywords.Filter ws i e = absurd (cc e)
 plain_said actors s keywords.Eat ws i e =
@@ -249,8 +249,8 @@ command_said s by verbs.Write ws c e =
     let h = map_is (λ (s : Stamped). commands.Write s.now s.event.kind s.event.code s.event.value) (stamped_words ws) c e in
     command_say s c (commands.Write h.0.now h.0.event.kind h.0.event.code h.0.event.value) h.2 (event_fits ws h.0 h.1)
 command_said s by verbs.SetAxis ws c e =
-    let h = and_then_is (λ code. option_map (λ info. commands.SetAxis code info) (info_words 4 ws)) (code_word EV_ABS (word 3 ws)) c e in
-    let g = map_is (λ info. commands.SetAxis h.0 info) (info_words 4 ws) c h.2 in
+    let h = and_then_is (λ code. option_map (λ info. commands.SetAxis code info) (info_in_words 4 ws)) (code_word EV_ABS (word 3 ws)) c e in
+    let g = map_is (λ info. commands.SetAxis h.0 info) (info_in_words 4 ws) c h.2 in
     command_say s c (commands.SetAxis h.0 g.0) g.2 (code_fits EV_ABS (word 3 ws) h.0 h.1, info_fits 4 ws g.0 g.1)
 command_said s by verbs.Read ws c e =
     let h = map_is (λ count. commands.Read count) (number (count_max by) (word 3 ws)) c e in

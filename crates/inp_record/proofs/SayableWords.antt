@@ -7,7 +7,7 @@ use Rattle.std.proofs.lemmas.Bool.Decides.{nat_tests}
 use Rattle.std.proofs.lemmas.List.Recursion.{and_at}
 use Rattle.inp_model.specs.declared.stamped.Stamped.{Stamped}
 use Rattle.inp_model.specs.declared.axis_info.AxisInfo.{AxisInfo}
-use Rattle.inp_codes.specs.Table.{Entry}
+use Rattle.inp_codes.specs.Table.{NamedNumber}
 use Rattle.inp_codes.specs.KindNames.{kind_entries, kind_of}
 use Rattle.inp_codes.specs.CodeNames.{code_entries, code_of, is_same_code}
 use Rattle.inp_codes.proofs.Computing.{event_codes}
@@ -17,7 +17,7 @@ use Rattle.inp_words.specs.Number.{number, signed_number}
 use Rattle.inp_words.specs.Code.{kind_word, code_word, or_number, code_of_kind}
 use Rattle.inp_words.proofs.Numerals.{number_within}
 use Rattle.inp_record.proofs.Inversions.{map_is, and_then_is}
-use Rattle.inp_record.specs.Words.{three_numbers, info_words, kind_and_code, stamped_words, moment_word, word}
+use Rattle.inp_record.specs.Words.{three_numbers, info_in_words, kind_and_code, stamped_words, moment_word, word}
 use Rattle.inp_record.proofs.Sayable.{IsSayableInfo, IsSayableEvent}
 
 -- numbers
@@ -50,11 +50,11 @@ signed_fits (b ∷ digits) z e = by_minus (nat_eq b 45) e
 at_entry : {X : Type 0} (p : X → Bool) (xs : List X) (x : X) → list_all p xs ≡ true → Contains xs x → p x ≡ true
 at_entry p xs x all h = subst (λ y. p y ≡ true) h.2 (and_at (list_all p) p refl (λ _ _. refl) xs h.0 x h.1 all)
 
-kinds_small : list_all (λ (e : Entry ℕ). nat_le e.0 65535) kind_entries ≡ true
+kinds_small : list_all (λ (e : NamedNumber ℕ). nat_le e.0 65535) kind_entries ≡ true
 unfolding event_codes
 kinds_small = refl
 
-codes_small : list_all (λ (e : Entry (ℕ × ℕ)). nat_le e.0.1 65535) code_entries ≡ true
+codes_small : list_all (λ (e : NamedNumber (ℕ × ℕ)). nat_le e.0.1 65535) code_entries ≡ true
 unfolding event_codes
 codes_small = refl
 
@@ -64,12 +64,12 @@ same_number a b h = grind (arith, nat_tests)
 named_kind : (w : List ℕ) (kind : ℕ) → kind_of w ≡ Some kind → kind ≤ 65535
 unfolding kind_of
 named_kind w kind e =
-    leb-true kind 65535 (at_entry (λ (e : Entry ℕ). nat_le e.0 65535) kind_entries (kind, w) kinds_small (Contains-number_in nat_eq same_number kind_entries kind w e))
+    leb-true kind 65535 (at_entry (λ (e : NamedNumber ℕ). nat_le e.0 65535) kind_entries (kind, w) kinds_small (Contains-number_in nat_eq same_number kind_entries kind w e))
 
 named_code : (w : List ℕ) (named : ℕ × ℕ) → code_of w ≡ Some named → named.1 ≤ 65535
 unfolding code_of
 named_code w named e =
-    leb-true named.1 65535 (at_entry (λ (e : Entry (ℕ × ℕ)). nat_le e.0.1 65535) code_entries (named, w) codes_small (Contains-number_in is_same_code is_same_code-true code_entries named w e))
+    leb-true named.1 65535 (at_entry (λ (e : NamedNumber (ℕ × ℕ)). nat_le e.0.1 65535) code_entries (named, w) codes_small (Contains-number_in is_same_code is_same_code-true code_entries named w e))
 
 pub kind_fits : (w : List ℕ) (kind : ℕ) → kind_word w ≡ Some kind → kind ≤ 65535
 unfolding kind_word
@@ -110,8 +110,8 @@ three_fit i ws t e =
       third = signed_fits (word (suc (suc i)) ws) h.0 h.1;
     })
 
-pub info_fits : (n : ℕ) (ws : List (List ℕ)) (i : AxisInfo) → info_words n ws ≡ Some i → IsSayableInfo i
-unfolding info_words
+pub info_fits : (n : ℕ) (ws : List (List ℕ)) (i : AxisInfo) → info_in_words n ws ≡ Some i → IsSayableInfo i
+unfolding info_in_words
 info_fits n ws i e =
     let f = and_then_is (λ a. option_map (λ b. record { value = a.0; minimum = a.1; maximum = a.2; fuzz = b.0; flat = b.1; resolution = b.2 }) (three_numbers (n + 3) ws)) (three_numbers n ws) i e in
     let g = map_is (λ (b : ℤ × ℤ × ℤ). record { value = f.0.0; minimum = f.0.1; maximum = f.0.2; fuzz = b.0; flat = b.1; resolution = b.2 }) (three_numbers (n + 3) ws) i f.2 in

@@ -5,6 +5,7 @@ use Rattle.std.specs.List.{list_all, range_with_len}
 use Rattle.std.proofs.lemmas.List.{append-nil, take_rest}
 use Rattle.std.proofs.Math.Nat.{add-div_right, div-le_self}
 use Rattle.std.proofs.lemmas.Bool.Decides.{nat_tests}
+use Rattle.std.proofs.lemmas.Bool.{and_parts}
 use Rattle.inp_model.specs.declared.event.Event.{Event}
 use Rattle.inp_model.specs.declared.stamped.Stamped.{Stamped}
 use Rattle.inp_model.specs.declared.stamped.TheConstants.{MOMENT_MAX}
@@ -14,9 +15,8 @@ use Rattle.inp_actors.specs.Record.{streams_of}
 use Rattle.inp_model.specs.Injecting.{AreInTime}
 use Rattle.inp_stream.specs.declared.stream_refused.StreamRefused.{StreamRefused}
 use Rattle.inp_stream.specs.declared.stream_refused.StreamRefused.TheVariants.{Short, BadTime}
-use Rattle.inp_stream.specs.Stream.{record_len, microseconds_of, moment_of, event_of, decoded}
+use Rattle.inp_stream.specs.Stream.{record_len, microseconds_of, moment_in, event_in, decoded}
 use Rattle.inp_record.specs.Stream.{stamped_before, stamps_from, stamps_of}
-use Rattle.inp_words.proofs.Booleans.{both}
 
 not_refused : {V : Type 0} (short bad : Bool) (v w : V) → (if short then Err Short else if bad then Err BadTime else Ok v) ≡ Ok w → (short ≡ false) × (bad ≡ false) × (v ≡ w)
 not_refused true bad v w e = absurd (cc e)
@@ -30,9 +30,9 @@ second_false false b h = h
 -- what is read has the length of a record and a moment within its limit
 pub decoded_is : (t : ℕ) (bytes : List ℕ) (p : Event × ℕ) → decoded t bytes ≡ Ok p → (record_len t ≤ length bytes) × (p.1 ≤ MOMENT_MAX)
 decoded_is t bytes p e =
-    let h = not_refused (nat_lt (length bytes) (record_len t)) (nat_le 1000000 (microseconds_of t bytes) || nat_lt MOMENT_MAX (moment_of t bytes)) (event_of (drop (2 * t) bytes), moment_of t bytes) p e in
-    let late : nat_lt MOMENT_MAX (moment_of t bytes) ≡ false = second_false (nat_le 1000000 (microseconds_of t bytes)) (nat_lt MOMENT_MAX (moment_of t bytes)) h.1 in
-    let same : moment_of t bytes ≡ p.1 = ap (λ (q : Event × ℕ). q.1) h.2 in
+    let h = not_refused (nat_lt (length bytes) (record_len t)) (nat_le 1000000 (microseconds_of t bytes) || nat_lt MOMENT_MAX (moment_in t bytes)) (event_in (drop (2 * t) bytes), moment_in t bytes) p e in
+    let late : nat_lt MOMENT_MAX (moment_in t bytes) ≡ false = second_false (nat_le 1000000 (microseconds_of t bytes)) (nat_lt MOMENT_MAX (moment_in t bytes)) h.1 in
+    let same : moment_in t bytes ≡ p.1 = ap (λ (q : Event × ℕ). q.1) h.2 in
     within_is (length bytes) (record_len t) p.1 h.0 (rw same at late)
   where
     within_is : (count least moment : ℕ) → nat_lt count least ≡ false → nat_lt MOMENT_MAX moment ≡ false → (least ≤ count) × (moment ≤ MOMENT_MAX)
@@ -99,13 +99,13 @@ below a (suc n) =
 parts_all : (p : ℕ → Bool) (xs ys : List ℕ) → list_all p (xs ++ ys) ≡ true → (list_all p xs ≡ true) × (list_all p ys ≡ true)
 parts_all p [] ys h = (refl, h)
 parts_all p (x ∷ xs) ys h =
-    let first = (both (p x) (list_all p (xs ++ ys)) h).0 in
-    let rest = parts_all p xs ys (both (p x) (list_all p (xs ++ ys)) h).1 in
+    let first = (and_parts (p x) (list_all p (xs ++ ys)) h).0 in
+    let rest = parts_all p xs ys (and_parts (p x) (list_all p (xs ++ ys)) h).1 in
     (rw (first, rest.0) refl, rest.1)
 
 first_all : (p : ℕ → Bool) (xs : List ℕ) (k : ℕ) → first_of xs ≡ Some k → list_all p xs ≡ true → p k ≡ true
 first_all p [] k e h = absurd (cc e)
-first_all p (x ∷ xs) k e h = let same : x ≡ k = cc e in rw same at (both (p x) (list_all p xs) h).0
+first_all p (x ∷ xs) k e h = let same : x ≡ k = cc e in rw same at (and_parts (p x) (list_all p xs) h).0
 
 stream_all : (p : ℕ → Bool) (lines : List Line) (i : ℕ) (l : Line) (k : ℕ) → slice_get lines i ≡ Some l → first_of (stream_of l.command) ≡ Some k → list_all p (streams_of lines) ≡ true → p k ≡ true
 stream_all p [] i l k g s h = absurd (cc g)

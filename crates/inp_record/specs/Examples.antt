@@ -12,23 +12,20 @@ use Rattle.inp_actors.specs.declared.command.Command.TheVariants as commands
 use Rattle.inp_actors.specs.declared.role.Role.TheVariants as roles
 use Rattle.inp_actors.specs.Record.{RecordView}
 use Rattle.inp_stream.specs.Examples.{press as press_event, press_record, press_record16}
+use Rattle.inp_texts.specs.Texts.{text_of_lines}
 use Rattle.inp_record.specs.declared.cause.Cause.{Cause}
 use Rattle.inp_record.specs.declared.cause.Cause.TheVariants.{NotText, BadHeader, BadLine, OutOfPlace, NoActor, BadCommand, BadWord, Twice, TooMany, Caps}
 use Rattle.inp_record.specs.Past.{streams_in}
 use Rattle.inp_record.specs.Meaning.{meaning}
 use Rattle.inp_record.specs.Stream.{events_of}
 
--- lines, each with its line feed
-abbrev pub text_of : List (List ℕ) → List ℕ
-text_of lines = flat_map (λ line. line ++ 10 ∷ []) lines
-
 -- these lines are refused at this one
-abbrev pub IsRefused : ℕ → Cause → List (List ℕ) → Type 0
-IsRefused line cause lines = meaning (text_of lines) ≡ Err (record { line = line; cause = cause })
+abbrev pub AreRefusedAt : ℕ → Cause → List (List ℕ) → Type 0
+AreRefusedAt line cause lines = meaning (text_of_lines lines) ≡ Err (record { line = line; cause = cause })
 
 -- these lines are a record
-abbrev pub IsRead : List (List ℕ) → Type 0
-IsRead lines = is_ok (meaning (text_of lines)) ≡ true
+abbrev pub AreRecord : List (List ℕ) → Type 0
+AreRecord lines = is_ok (meaning (text_of_lines lines)) ≡ true
 
 abbrev pub header_lines : List (List ℕ)
 header_lines = codes "inputrecord 1" ∷ []
@@ -47,169 +44,169 @@ actor_lines = device_lines ++ codes "source s" ∷ codes "client c" ∷ codes "t
 
 -- A byte that is no text, outside comments.
 pub record RefusesOtherBytes : Type 0 where
-  pub first : IsRefused 1 NotText ((0 ∷ []) ∷ [])
-  pub blank : IsRefused 2 NotText (header_lines ++ (32 ∷ 7 ∷ []) ∷ [])
-  pub two_returns : IsRefused 1 NotText ((codes "inputrecord 1" ++ 13 ∷ 13 ∷ []) ∷ [])
-  pub return_before_comment : IsRefused 2 NotText (header_lines ++ (13 ∷ codes "#") ∷ [])
-  pub delete : IsRefused 3 NotText (device_lines ++ (codes "hint 16" ++ 127 ∷ []) ∷ [])
-  pub beyond_ascii : IsRefused 2 NotText (header_lines ++ (codes "device d" ++ 195 ∷ 164 ∷ []) ∷ [])
-  pub before_bad_line : IsRefused 2 NotText (header_lines ++ (codes "foo" ++ 1 ∷ []) ∷ [])
+  pub first : AreRefusedAt 1 NotText ((0 ∷ []) ∷ [])
+  pub blank : AreRefusedAt 2 NotText (header_lines ++ (32 ∷ 7 ∷ []) ∷ [])
+  pub two_returns : AreRefusedAt 1 NotText ((codes "inputrecord 1" ++ 13 ∷ 13 ∷ []) ∷ [])
+  pub return_before_comment : AreRefusedAt 2 NotText (header_lines ++ (13 ∷ codes "#") ∷ [])
+  pub delete : AreRefusedAt 3 NotText (device_lines ++ (codes "hint 16" ++ 127 ∷ []) ∷ [])
+  pub beyond_ascii : AreRefusedAt 2 NotText (header_lines ++ (codes "device d" ++ 195 ∷ 164 ∷ []) ∷ [])
+  pub before_bad_line : AreRefusedAt 2 NotText (header_lines ++ (codes "foo" ++ 1 ∷ []) ∷ [])
 
 -- A first line that is not the header.
 pub record RefusesHeaders : Type 0 where
   pub none : meaning [] ≡ Err (record { line = 1; cause = BadHeader })
-  pub comment_alone : IsRefused 2 BadHeader (codes "#" ∷ [])
-  pub version : IsRefused 1 BadHeader (codes "inputrecord 3" ∷ [])
-  pub version_number : IsRefused 1 BadHeader (codes "inputrecord 02" ∷ [])
-  pub no_version : IsRefused 1 BadHeader (codes "inputrecord" ∷ [])
-  pub more : IsRefused 1 BadHeader (codes "inputrecord 1 1" ∷ [])
-  pub device : IsRefused 2 BadHeader (codes "# a device" ∷ codes "device d" ∷ [])
-  pub no_keyword : IsRefused 1 BadHeader (codes "foo" ∷ [])
+  pub comment_alone : AreRefusedAt 2 BadHeader (codes "#" ∷ [])
+  pub version : AreRefusedAt 1 BadHeader (codes "inputrecord 3" ∷ [])
+  pub version_number : AreRefusedAt 1 BadHeader (codes "inputrecord 02" ∷ [])
+  pub no_version : AreRefusedAt 1 BadHeader (codes "inputrecord" ∷ [])
+  pub more : AreRefusedAt 1 BadHeader (codes "inputrecord 1 1" ∷ [])
+  pub device : AreRefusedAt 2 BadHeader (codes "# a device" ∷ codes "device d" ∷ [])
+  pub no_keyword : AreRefusedAt 1 BadHeader (codes "foo" ∷ [])
 
 -- A first word that begins no line, or another number of words.
 pub record RefusesLines : Type 0 where
-  pub keyword : IsRefused 2 BadLine (header_lines ++ codes "foo" ∷ [])
-  pub capital : IsRefused 2 BadLine (header_lines ++ codes "Device d" ∷ [])
-  pub second_header : IsRefused 2 BadLine (header_lines ++ codes "inputrecord" ∷ [])
-  pub device : IsRefused 2 BadLine (header_lines ++ codes "device" ∷ [])
-  pub device_more : IsRefused 2 BadLine (header_lines ++ codes "device a b" ∷ [])
-  pub hint : IsRefused 3 BadLine (device_lines ++ codes "hint" ∷ [])
-  pub log : IsRefused 3 BadLine (device_lines ++ codes "log 1 1" ∷ [])
-  pub clock : IsRefused 3 BadLine (device_lines ++ codes "clock realtime" ∷ [])
-  pub slots : IsRefused 3 BadLine (device_lines ++ codes "slots" ∷ [])
-  pub type_line : IsRefused 3 BadLine (device_lines ++ codes "type EV_KEY KEY_A" ∷ [])
-  pub cap : IsRefused 3 BadLine (device_lines ++ codes "cap EV_KEY" ∷ [])
-  pub axis : IsRefused 3 BadLine (device_lines ++ codes "axis ABS_X 0 0 0 0 0" ∷ [])
-  pub source : IsRefused 3 BadLine (device_lines ++ codes "source" ∷ [])
-  pub client : IsRefused 3 BadLine (device_lines ++ codes "client a b" ∷ [])
-  pub tap : IsRefused 3 BadLine (device_lines ++ codes "tap" ∷ [])
-  pub action : IsRefused 3 BadLine (device_lines ++ codes "do x" ∷ [])
-  pub before_place : IsRefused 2 BadLine (header_lines ++ codes "hint" ∷ [])
+  pub keyword : AreRefusedAt 2 BadLine (header_lines ++ codes "foo" ∷ [])
+  pub capital : AreRefusedAt 2 BadLine (header_lines ++ codes "Device d" ∷ [])
+  pub second_header : AreRefusedAt 2 BadLine (header_lines ++ codes "inputrecord" ∷ [])
+  pub device : AreRefusedAt 2 BadLine (header_lines ++ codes "device" ∷ [])
+  pub device_more : AreRefusedAt 2 BadLine (header_lines ++ codes "device a b" ∷ [])
+  pub hint : AreRefusedAt 3 BadLine (device_lines ++ codes "hint" ∷ [])
+  pub log : AreRefusedAt 3 BadLine (device_lines ++ codes "log 1 1" ∷ [])
+  pub clock : AreRefusedAt 3 BadLine (device_lines ++ codes "clock realtime" ∷ [])
+  pub slots : AreRefusedAt 3 BadLine (device_lines ++ codes "slots" ∷ [])
+  pub type_line : AreRefusedAt 3 BadLine (device_lines ++ codes "type EV_KEY KEY_A" ∷ [])
+  pub cap : AreRefusedAt 3 BadLine (device_lines ++ codes "cap EV_KEY" ∷ [])
+  pub axis : AreRefusedAt 3 BadLine (device_lines ++ codes "axis ABS_X 0 0 0 0 0" ∷ [])
+  pub source : AreRefusedAt 3 BadLine (device_lines ++ codes "source" ∷ [])
+  pub client : AreRefusedAt 3 BadLine (device_lines ++ codes "client a b" ∷ [])
+  pub tap : AreRefusedAt 3 BadLine (device_lines ++ codes "tap" ∷ [])
+  pub action : AreRefusedAt 3 BadLine (device_lines ++ codes "do x" ∷ [])
+  pub before_place : AreRefusedAt 2 BadLine (header_lines ++ codes "hint" ∷ [])
 
 -- A line that stands where it may not.
 pub record RefusesPlaces : Type 0 where
-  pub second_header : IsRefused 2 OutOfPlace (header_lines ++ codes "inputrecord 9" ∷ [])
-  pub hint : IsRefused 2 OutOfPlace (header_lines ++ codes "hint 16" ∷ [])
-  pub log : IsRefused 6 OutOfPlace (actor_lines ++ codes "log 16" ∷ [])
-  pub clock : IsRefused 7 OutOfPlace (actor_lines ++ codes "do t open" ∷ codes "clock realtime 0" ∷ [])
-  pub slots : IsRefused 2 OutOfPlace (header_lines ++ codes "slots 2" ∷ [])
-  pub type_line : IsRefused 4 OutOfPlace (device_lines ++ codes "source s" ∷ codes "type EV_KEY" ∷ [])
-  pub cap : IsRefused 4 OutOfPlace (device_lines ++ codes "tap t" ∷ codes "cap EV_KEY KEY_A" ∷ [])
-  pub axis : IsRefused 4 OutOfPlace (device_lines ++ codes "client c" ∷ codes "axis ABS_X 0 0 0 0 0 0" ∷ [])
-  pub source : IsRefused 2 OutOfPlace (header_lines ++ codes "source s" ∷ [])
-  pub client : IsRefused 7 OutOfPlace (actor_lines ++ codes "do t open" ∷ codes "client d" ∷ [])
-  pub tap : IsRefused 7 OutOfPlace (actor_lines ++ codes "do t open" ∷ codes "tap d" ∷ [])
-  pub device : IsRefused 7 OutOfPlace (actor_lines ++ codes "do t open" ∷ codes "device e" ∷ [])
-  pub before_words : IsRefused 2 OutOfPlace (header_lines ++ codes "hint x" ∷ [])
+  pub second_header : AreRefusedAt 2 OutOfPlace (header_lines ++ codes "inputrecord 9" ∷ [])
+  pub hint : AreRefusedAt 2 OutOfPlace (header_lines ++ codes "hint 16" ∷ [])
+  pub log : AreRefusedAt 6 OutOfPlace (actor_lines ++ codes "log 16" ∷ [])
+  pub clock : AreRefusedAt 7 OutOfPlace (actor_lines ++ codes "do t open" ∷ codes "clock realtime 0" ∷ [])
+  pub slots : AreRefusedAt 2 OutOfPlace (header_lines ++ codes "slots 2" ∷ [])
+  pub type_line : AreRefusedAt 4 OutOfPlace (device_lines ++ codes "source s" ∷ codes "type EV_KEY" ∷ [])
+  pub cap : AreRefusedAt 4 OutOfPlace (device_lines ++ codes "tap t" ∷ codes "cap EV_KEY KEY_A" ∷ [])
+  pub axis : AreRefusedAt 4 OutOfPlace (device_lines ++ codes "client c" ∷ codes "axis ABS_X 0 0 0 0 0 0" ∷ [])
+  pub source : AreRefusedAt 2 OutOfPlace (header_lines ++ codes "source s" ∷ [])
+  pub client : AreRefusedAt 7 OutOfPlace (actor_lines ++ codes "do t open" ∷ codes "client d" ∷ [])
+  pub tap : AreRefusedAt 7 OutOfPlace (actor_lines ++ codes "do t open" ∷ codes "tap d" ∷ [])
+  pub device : AreRefusedAt 7 OutOfPlace (actor_lines ++ codes "do t open" ∷ codes "device e" ∷ [])
+  pub before_words : AreRefusedAt 2 OutOfPlace (header_lines ++ codes "hint x" ∷ [])
 
 -- An action of no actor.
 pub record RefusesActors : Type 0 where
-  pub no_device : IsRefused 2 NoActor (header_lines ++ codes "do x open" ∷ [])
-  pub other : IsRefused 6 NoActor (actor_lines ++ codes "do x open" ∷ [])
-  pub no_name : IsRefused 6 NoActor (actor_lines ++ codes "do T open" ∷ [])
-  pub device : IsRefused 6 NoActor (actor_lines ++ codes "do d open" ∷ [])
-  pub before_command : IsRefused 6 NoActor (actor_lines ++ codes "do x foo" ∷ [])
+  pub no_device : AreRefusedAt 2 NoActor (header_lines ++ codes "do x open" ∷ [])
+  pub other : AreRefusedAt 6 NoActor (actor_lines ++ codes "do x open" ∷ [])
+  pub no_name : AreRefusedAt 6 NoActor (actor_lines ++ codes "do T open" ∷ [])
+  pub device : AreRefusedAt 6 NoActor (actor_lines ++ codes "do d open" ∷ [])
+  pub before_command : AreRefusedAt 6 NoActor (actor_lines ++ codes "do x foo" ∷ [])
 
 -- A command that its actor does not have, or with another number of words.
 pub record RefusesCommands : Type 0 where
-  pub none : IsRefused 6 BadCommand (actor_lines ++ codes "do t foo" ∷ [])
-  pub source : IsRefused 6 BadCommand (actor_lines ++ codes "do s open" ∷ [])
-  pub client : IsRefused 6 BadCommand (actor_lines ++ codes "do c read 1" ∷ [])
-  pub tap : IsRefused 6 BadCommand (actor_lines ++ codes "do t follow" ∷ [])
-  pub tap_source : IsRefused 6 BadCommand (actor_lines ++ codes "do t tick 1" ∷ [])
-  pub source_describes : IsRefused 6 BadCommand (actor_lines ++ codes "do s setaxis ABS_X 0 0 0 0 0 0" ∷ [])
-  pub less_of_an_axis : IsRefused 6 BadCommand (actor_lines ++ codes "do t setaxis ABS_X 0 0 0 0 0" ∷ [])
-  pub less : IsRefused 6 BadCommand (actor_lines ++ codes "do t read" ∷ [])
-  pub more : IsRefused 6 BadCommand (actor_lines ++ codes "do t open 1" ∷ [])
-  pub before_word : IsRefused 6 BadCommand (actor_lines ++ codes "do t read x x" ∷ [])
-  pub later : IsRefused 6 BadCommand (actor_lines ++ codes "do s stream16 f" ∷ [])
-  pub tap_of_version_2 : IsRefused 4 BadCommand (later_lines ++ codes "tap t" ∷ codes "do t stream16 f" ∷ [])
-  pub no_file : IsRefused 4 BadCommand (later_lines ++ codes "source s" ∷ codes "do s stream16" ∷ [])
+  pub none : AreRefusedAt 6 BadCommand (actor_lines ++ codes "do t foo" ∷ [])
+  pub source : AreRefusedAt 6 BadCommand (actor_lines ++ codes "do s open" ∷ [])
+  pub client : AreRefusedAt 6 BadCommand (actor_lines ++ codes "do c read 1" ∷ [])
+  pub tap : AreRefusedAt 6 BadCommand (actor_lines ++ codes "do t follow" ∷ [])
+  pub tap_source : AreRefusedAt 6 BadCommand (actor_lines ++ codes "do t tick 1" ∷ [])
+  pub source_describes : AreRefusedAt 6 BadCommand (actor_lines ++ codes "do s setaxis ABS_X 0 0 0 0 0 0" ∷ [])
+  pub less_of_an_axis : AreRefusedAt 6 BadCommand (actor_lines ++ codes "do t setaxis ABS_X 0 0 0 0 0" ∷ [])
+  pub less : AreRefusedAt 6 BadCommand (actor_lines ++ codes "do t read" ∷ [])
+  pub more : AreRefusedAt 6 BadCommand (actor_lines ++ codes "do t open 1" ∷ [])
+  pub before_word : AreRefusedAt 6 BadCommand (actor_lines ++ codes "do t read x x" ∷ [])
+  pub later : AreRefusedAt 6 BadCommand (actor_lines ++ codes "do s stream16 f" ∷ [])
+  pub tap_of_version_2 : AreRefusedAt 4 BadCommand (later_lines ++ codes "tap t" ∷ codes "do t stream16 f" ∷ [])
+  pub no_file : AreRefusedAt 4 BadCommand (later_lines ++ codes "source s" ∷ codes "do s stream16" ∷ [])
 
 -- A word that does not have its form or its range.
 pub record RefusesWords : Type 0 where
-  pub device : IsRefused 2 BadWord (header_lines ++ codes "device D" ∷ [])
-  pub long_name : IsRefused 2 BadWord (header_lines ++ codes "device abcdefghijklmnopqrstuvwxyz0123456" ∷ [])
-  pub hint : IsRefused 3 BadWord (device_lines ++ codes "hint x" ∷ [])
-  pub wide_hint : IsRefused 3 BadWord (device_lines ++ codes "hint 4294967296" ∷ [])
-  pub log : IsRefused 3 BadWord (device_lines ++ codes "log -1" ∷ [])
-  pub clock : IsRefused 3 BadWord (device_lines ++ codes "clock monotonic 0" ∷ [])
-  pub offset : IsRefused 3 BadWord (device_lines ++ codes "clock realtime 18446744073709551616" ∷ [])
-  pub slots : IsRefused 3 BadWord (device_lines ++ codes "slots 0x" ∷ [])
-  pub type_line : IsRefused 3 BadWord (device_lines ++ codes "type EV_FF" ∷ [])
-  pub cap : IsRefused 3 BadWord (device_lines ++ codes "cap 7 KEY_A" ∷ [])
-  pub axis_code : IsRefused 3 BadWord (device_lines ++ codes "axis KEY_A 0 0 0 0 0 0" ∷ [])
-  pub axis_number : IsRefused 3 BadWord (device_lines ++ codes "axis ABS_X 0 0 2147483648 0 0 0" ∷ [])
-  pub actor : IsRefused 3 BadWord (device_lines ++ codes "source S" ∷ [])
-  pub moment : IsRefused 6 BadWord (actor_lines ++ codes "do s tick 9000000000000001" ∷ [])
-  pub kind : IsRefused 6 BadWord (actor_lines ++ codes "do s event 0 65536 0 0" ∷ [])
-  pub code : IsRefused 6 BadWord (actor_lines ++ codes "do s event 0 EV_KEY ABS_X 0" ∷ [])
-  pub value : IsRefused 6 BadWord (actor_lines ++ codes "do s event 0 EV_KEY KEY_A 1.0" ∷ [])
-  pub count : IsRefused 6 BadWord (actor_lines ++ codes "do t read 4097" ∷ [])
-  pub mask : IsRefused 6 BadWord (actor_lines ++ codes "do t mask EV_KEY 65536 0" ∷ [])
-  pub described_code : IsRefused 6 BadWord (actor_lines ++ codes "do c setaxis KEY_A 0 0 0 0 0 0" ∷ [])
-  pub described_number : IsRefused 6 BadWord (actor_lines ++ codes "do c setaxis ABS_X 0 0 0 0 0 2147483648" ∷ [])
-  pub clock_moment : IsRefused 6 BadWord (actor_lines ++ codes "do t clock utc 0" ∷ [])
-  pub before_twice : IsRefused 4 BadWord (device_lines ++ codes "hint 16" ∷ codes "hint x" ∷ [])
+  pub device : AreRefusedAt 2 BadWord (header_lines ++ codes "device D" ∷ [])
+  pub long_name : AreRefusedAt 2 BadWord (header_lines ++ codes "device abcdefghijklmnopqrstuvwxyz0123456" ∷ [])
+  pub hint : AreRefusedAt 3 BadWord (device_lines ++ codes "hint x" ∷ [])
+  pub wide_hint : AreRefusedAt 3 BadWord (device_lines ++ codes "hint 4294967296" ∷ [])
+  pub log : AreRefusedAt 3 BadWord (device_lines ++ codes "log -1" ∷ [])
+  pub clock : AreRefusedAt 3 BadWord (device_lines ++ codes "clock monotonic 0" ∷ [])
+  pub offset : AreRefusedAt 3 BadWord (device_lines ++ codes "clock realtime 18446744073709551616" ∷ [])
+  pub slots : AreRefusedAt 3 BadWord (device_lines ++ codes "slots 0x" ∷ [])
+  pub type_line : AreRefusedAt 3 BadWord (device_lines ++ codes "type EV_FF" ∷ [])
+  pub cap : AreRefusedAt 3 BadWord (device_lines ++ codes "cap 7 KEY_A" ∷ [])
+  pub axis_code : AreRefusedAt 3 BadWord (device_lines ++ codes "axis KEY_A 0 0 0 0 0 0" ∷ [])
+  pub axis_number : AreRefusedAt 3 BadWord (device_lines ++ codes "axis ABS_X 0 0 2147483648 0 0 0" ∷ [])
+  pub actor : AreRefusedAt 3 BadWord (device_lines ++ codes "source S" ∷ [])
+  pub moment : AreRefusedAt 6 BadWord (actor_lines ++ codes "do s tick 9000000000000001" ∷ [])
+  pub kind : AreRefusedAt 6 BadWord (actor_lines ++ codes "do s event 0 65536 0 0" ∷ [])
+  pub code : AreRefusedAt 6 BadWord (actor_lines ++ codes "do s event 0 EV_KEY ABS_X 0" ∷ [])
+  pub value : AreRefusedAt 6 BadWord (actor_lines ++ codes "do s event 0 EV_KEY KEY_A 1.0" ∷ [])
+  pub count : AreRefusedAt 6 BadWord (actor_lines ++ codes "do t read 4097" ∷ [])
+  pub mask : AreRefusedAt 6 BadWord (actor_lines ++ codes "do t mask EV_KEY 65536 0" ∷ [])
+  pub described_code : AreRefusedAt 6 BadWord (actor_lines ++ codes "do c setaxis KEY_A 0 0 0 0 0 0" ∷ [])
+  pub described_number : AreRefusedAt 6 BadWord (actor_lines ++ codes "do c setaxis ABS_X 0 0 0 0 0 2147483648" ∷ [])
+  pub clock_moment : AreRefusedAt 6 BadWord (actor_lines ++ codes "do t clock utc 0" ∷ [])
+  pub before_twice : AreRefusedAt 4 BadWord (device_lines ++ codes "hint 16" ∷ codes "hint x" ∷ [])
 
 -- What may be given once, given twice.
 pub record RefusesRepeats : Type 0 where
-  pub hint : IsRefused 4 Twice (device_lines ++ codes "hint 16" ∷ codes "hint 1" ∷ [])
-  pub log : IsRefused 4 Twice (device_lines ++ codes "log 16" ∷ codes "log 16" ∷ [])
-  pub clock : IsRefused 4 Twice (device_lines ++ codes "clock realtime 1" ∷ codes "clock realtime 2" ∷ [])
-  pub slots : IsRefused 4 Twice (device_lines ++ codes "slots 2" ∷ codes "slots 0" ∷ [])
-  pub axis : IsRefused 4 Twice (device_lines ++ codes "axis ABS_X 0 0 0 0 0 0" ∷ codes "axis 0 0 0 0 0 0 0" ∷ [])
-  pub device : IsRefused 3 Twice (device_lines ++ codes "device d" ∷ [])
-  pub actor : IsRefused 4 Twice (device_lines ++ codes "source s" ∷ codes "tap s" ∷ [])
-  pub actor_of_another : IsRefused 5 Twice (device_lines ++ codes "source s" ∷ codes "device e" ∷ codes "source s" ∷ [])
+  pub hint : AreRefusedAt 4 Twice (device_lines ++ codes "hint 16" ∷ codes "hint 1" ∷ [])
+  pub log : AreRefusedAt 4 Twice (device_lines ++ codes "log 16" ∷ codes "log 16" ∷ [])
+  pub clock : AreRefusedAt 4 Twice (device_lines ++ codes "clock realtime 1" ∷ codes "clock realtime 2" ∷ [])
+  pub slots : AreRefusedAt 4 Twice (device_lines ++ codes "slots 2" ∷ codes "slots 0" ∷ [])
+  pub axis : AreRefusedAt 4 Twice (device_lines ++ codes "axis ABS_X 0 0 0 0 0 0" ∷ codes "axis 0 0 0 0 0 0 0" ∷ [])
+  pub device : AreRefusedAt 3 Twice (device_lines ++ codes "device d" ∷ [])
+  pub actor : AreRefusedAt 4 Twice (device_lines ++ codes "source s" ∷ codes "tap s" ∷ [])
+  pub actor_of_another : AreRefusedAt 5 Twice (device_lines ++ codes "source s" ∷ codes "device e" ∷ codes "source s" ∷ [])
 
 -- One more than there may be.
 pub record RefusesMore : Type 0 where
-  pub device : IsRefused 10 TooMany (header_lines ++ codes "device a" ∷ codes "device b" ∷ codes "device c" ∷ codes "device d" ∷ codes "device e" ∷ codes "device f" ∷ codes "device g" ∷ codes "device h" ∷ codes "device i" ∷ [])
-  pub source : IsRefused 11 TooMany (device_lines ++ codes "source a" ∷ codes "source b" ∷ codes "source c" ∷ codes "source d" ∷ codes "source e" ∷ codes "source f" ∷ codes "source g" ∷ codes "source h" ∷ codes "source i" ∷ [])
-  pub stream : IsRefused 20 TooMany (device_lines ++ codes "source s" ∷ replicate 17 (codes "do s stream f"))
-  pub both_streams : IsRefused 20 TooMany (later_lines ++ codes "source s" ∷ (replicate 9 (codes "do s stream16 f") ++ replicate 8 (codes "do s stream f")))
+  pub device : AreRefusedAt 10 TooMany (header_lines ++ codes "device a" ∷ codes "device b" ∷ codes "device c" ∷ codes "device d" ∷ codes "device e" ∷ codes "device f" ∷ codes "device g" ∷ codes "device h" ∷ codes "device i" ∷ [])
+  pub source : AreRefusedAt 11 TooMany (device_lines ++ codes "source a" ∷ codes "source b" ∷ codes "source c" ∷ codes "source d" ∷ codes "source e" ∷ codes "source f" ∷ codes "source g" ∷ codes "source h" ∷ codes "source i" ∷ [])
+  pub stream : AreRefusedAt 20 TooMany (device_lines ++ codes "source s" ∷ replicate 17 (codes "do s stream f"))
+  pub both_streams : AreRefusedAt 20 TooMany (later_lines ++ codes "source s" ∷ (replicate 9 (codes "do s stream16 f") ++ replicate 8 (codes "do s stream f")))
 
 -- What no device has.
 pub record RefusesDescriptions : Type 0 where
-  pub hint : IsRefused 3 (Caps BadHint) (device_lines ++ codes "hint 1" ∷ [])
-  pub wide_hint : IsRefused 3 (Caps BadHint) (device_lines ++ codes "hint 513" ∷ [])
-  pub log : IsRefused 3 (Caps BadLog) (device_lines ++ codes "log 0" ∷ [])
-  pub realtime : IsRefused 3 (Caps BadOffset) (device_lines ++ codes "clock realtime 9000000000000001" ∷ [])
-  pub boottime : IsRefused 4 (Caps BadOffset) (device_lines ++ codes "clock realtime 1" ∷ codes "clock boottime 9000000000000001" ∷ [])
-  pub slots : IsRefused 3 (Caps BadSlots) (device_lines ++ codes "slots 0" ∷ [])
-  pub slots_of_version_1 : IsRefused 3 (Caps BadSlots) (device_lines ++ codes "slots 65" ∷ [])
-  pub slots_of_version_2 : IsRefused 3 (Caps BadSlots) (later_lines ++ codes "slots 257" ∷ [])
-  pub type_line : IsRefused 3 (Caps BadCode) (device_lines ++ codes "type 6" ∷ [])
-  pub cap : IsRefused 3 (Caps BadCode) (device_lines ++ codes "cap EV_KEY 0" ∷ [])
-  pub cap_of_no_kind : IsRefused 3 (Caps BadCode) (device_lines ++ codes "cap 7 5" ∷ [])
-  pub cap_of_axis : IsRefused 3 (Caps BadCode) (device_lines ++ codes "cap EV_ABS ABS_X" ∷ [])
-  pub axis_code : IsRefused 3 (Caps BadCode) (device_lines ++ codes "axis 64 0 0 0 -1 0 0" ∷ [])
-  pub axis : IsRefused 3 (Caps BadAxis) (device_lines ++ codes "axis ABS_X 0 0 9 -1 0 0" ∷ [])
-  pub slot_fuzz : IsRefused 3 (Caps BadAxis) (device_lines ++ codes "axis ABS_MT_SLOT 0 0 9 1 0 0" ∷ [])
+  pub hint : AreRefusedAt 3 (Caps BadHint) (device_lines ++ codes "hint 1" ∷ [])
+  pub wide_hint : AreRefusedAt 3 (Caps BadHint) (device_lines ++ codes "hint 513" ∷ [])
+  pub log : AreRefusedAt 3 (Caps BadLog) (device_lines ++ codes "log 0" ∷ [])
+  pub realtime : AreRefusedAt 3 (Caps BadOffset) (device_lines ++ codes "clock realtime 9000000000000001" ∷ [])
+  pub boottime : AreRefusedAt 4 (Caps BadOffset) (device_lines ++ codes "clock realtime 1" ∷ codes "clock boottime 9000000000000001" ∷ [])
+  pub slots : AreRefusedAt 3 (Caps BadSlots) (device_lines ++ codes "slots 0" ∷ [])
+  pub slots_of_version_1 : AreRefusedAt 3 (Caps BadSlots) (device_lines ++ codes "slots 65" ∷ [])
+  pub slots_of_version_2 : AreRefusedAt 3 (Caps BadSlots) (later_lines ++ codes "slots 257" ∷ [])
+  pub type_line : AreRefusedAt 3 (Caps BadCode) (device_lines ++ codes "type 6" ∷ [])
+  pub cap : AreRefusedAt 3 (Caps BadCode) (device_lines ++ codes "cap EV_KEY 0" ∷ [])
+  pub cap_of_no_kind : AreRefusedAt 3 (Caps BadCode) (device_lines ++ codes "cap 7 5" ∷ [])
+  pub cap_of_axis : AreRefusedAt 3 (Caps BadCode) (device_lines ++ codes "cap EV_ABS ABS_X" ∷ [])
+  pub axis_code : AreRefusedAt 3 (Caps BadCode) (device_lines ++ codes "axis 64 0 0 0 -1 0 0" ∷ [])
+  pub axis : AreRefusedAt 3 (Caps BadAxis) (device_lines ++ codes "axis ABS_X 0 0 9 -1 0 0" ∷ [])
+  pub slot_fuzz : AreRefusedAt 3 (Caps BadAxis) (device_lines ++ codes "axis ABS_MT_SLOT 0 0 9 1 0 0" ∷ [])
 
 -- Filters that are none, that stand where they may not, or that no device has.
 pub record RefusesFilters : Type 0 where
-  pub version_1 : IsRefused 3 BadLine (device_lines ++ codes "filter norepeat" ∷ [])
-  pub version_1_first : IsRefused 2 BadLine (header_lines ++ codes "filter other" ∷ [])
-  pub alone : IsRefused 3 BadLine (later_lines ++ codes "filter" ∷ [])
-  pub more : IsRefused 3 BadLine (later_lines ++ codes "filter norepeat KEY_A" ∷ [])
-  pub less : IsRefused 3 BadLine (later_lines ++ codes "filter bounce KEY_A" ∷ [])
-  pub before_place : IsRefused 2 BadLine (codes "inputrecord 2" ∷ codes "filter eat EV_KEY" ∷ [])
-  pub place : IsRefused 2 OutOfPlace (codes "inputrecord 2" ∷ codes "filter other" ∷ [])
-  pub behind_an_actor : IsRefused 4 OutOfPlace (later_lines ++ codes "source s" ∷ codes "filter norepeat" ∷ [])
-  pub other : IsRefused 3 BadWord (later_lines ++ codes "filter other" ∷ [])
-  pub other_of_many_words : IsRefused 3 BadWord (later_lines ++ codes "filter other 1 2 3 4" ∷ [])
-  pub code : IsRefused 3 BadWord (later_lines ++ codes "filter eat EV_KEY REL_X" ∷ [])
-  pub key : IsRefused 3 BadWord (later_lines ++ codes "filter chord KEY_A REL_X" ∷ [])
-  pub no_time : IsRefused 3 BadWord (later_lines ++ codes "filter bounce KEY_A 0" ∷ [])
-  pub long_time : IsRefused 3 BadWord (later_lines ++ codes "filter bounce KEY_A 1000001" ∷ [])
-  pub report : IsRefused 3 (Caps BadCode) (later_lines ++ codes "filter eat EV_SYN SYN_REPORT" ∷ [])
-  pub key_0 : IsRefused 3 (Caps BadCode) (later_lines ++ codes "filter bounce 0 1" ∷ [])
-  pub one_key : IsRefused 3 (Caps BadCode) (later_lines ++ codes "filter chord KEY_A 30" ∷ [])
-  pub ninth : IsRefused 11 (Caps BadFilter) (later_lines ++ replicate 9 (codes "filter norepeat"))
-  pub ninth_code : IsRefused 11 (Caps BadCode) (later_lines ++ (replicate 8 (codes "filter norepeat") ++ codes "filter eat 7 0" ∷ []))
-  pub ninth_word : IsRefused 11 BadWord (later_lines ++ (replicate 8 (codes "filter norepeat") ++ codes "filter bounce KEY_A 0" ∷ []))
+  pub version_1 : AreRefusedAt 3 BadLine (device_lines ++ codes "filter norepeat" ∷ [])
+  pub version_1_first : AreRefusedAt 2 BadLine (header_lines ++ codes "filter other" ∷ [])
+  pub alone : AreRefusedAt 3 BadLine (later_lines ++ codes "filter" ∷ [])
+  pub more : AreRefusedAt 3 BadLine (later_lines ++ codes "filter norepeat KEY_A" ∷ [])
+  pub less : AreRefusedAt 3 BadLine (later_lines ++ codes "filter bounce KEY_A" ∷ [])
+  pub before_place : AreRefusedAt 2 BadLine (codes "inputrecord 2" ∷ codes "filter eat EV_KEY" ∷ [])
+  pub place : AreRefusedAt 2 OutOfPlace (codes "inputrecord 2" ∷ codes "filter other" ∷ [])
+  pub behind_an_actor : AreRefusedAt 4 OutOfPlace (later_lines ++ codes "source s" ∷ codes "filter norepeat" ∷ [])
+  pub other : AreRefusedAt 3 BadWord (later_lines ++ codes "filter other" ∷ [])
+  pub other_of_many_words : AreRefusedAt 3 BadWord (later_lines ++ codes "filter other 1 2 3 4" ∷ [])
+  pub code : AreRefusedAt 3 BadWord (later_lines ++ codes "filter eat EV_KEY REL_X" ∷ [])
+  pub key : AreRefusedAt 3 BadWord (later_lines ++ codes "filter chord KEY_A REL_X" ∷ [])
+  pub no_time : AreRefusedAt 3 BadWord (later_lines ++ codes "filter bounce KEY_A 0" ∷ [])
+  pub long_time : AreRefusedAt 3 BadWord (later_lines ++ codes "filter bounce KEY_A 1000001" ∷ [])
+  pub report : AreRefusedAt 3 (Caps BadCode) (later_lines ++ codes "filter eat EV_SYN SYN_REPORT" ∷ [])
+  pub key_0 : AreRefusedAt 3 (Caps BadCode) (later_lines ++ codes "filter bounce 0 1" ∷ [])
+  pub one_key : AreRefusedAt 3 (Caps BadCode) (later_lines ++ codes "filter chord KEY_A 30" ∷ [])
+  pub ninth : AreRefusedAt 11 (Caps BadFilter) (later_lines ++ replicate 9 (codes "filter norepeat"))
+  pub ninth_code : AreRefusedAt 11 (Caps BadCode) (later_lines ++ (replicate 8 (codes "filter norepeat") ++ codes "filter eat 7 0" ∷ []))
+  pub ninth_word : AreRefusedAt 11 BadWord (later_lines ++ (replicate 8 (codes "filter norepeat") ++ codes "filter bounce KEY_A 0" ∷ []))
 
 -- with a joystick
 abbrev pub joy_lines : List (List ℕ)
@@ -217,25 +214,25 @@ joy_lines = later_lines ++ codes "joy j" ∷ []
 
 -- Joysticks under version 1, which has none; joysticks that stand where they may not; commands that joysticks do not have.
 pub record RefusesJoysticks : Type 0 where
-  pub version_1 : IsRefused 3 BadLine (device_lines ++ codes "joy j" ∷ [])
-  pub version_1_first : IsRefused 2 BadLine (header_lines ++ codes "joy J J" ∷ [])
-  pub alone : IsRefused 3 BadLine (later_lines ++ codes "joy" ∷ [])
-  pub more : IsRefused 3 BadLine (later_lines ++ codes "joy a b" ∷ [])
-  pub place : IsRefused 2 OutOfPlace (codes "inputrecord 2" ∷ codes "joy J" ∷ [])
-  pub behind_an_action : IsRefused 5 OutOfPlace (joy_lines ++ codes "do j open" ∷ codes "joy k" ∷ [])
-  pub description_behind : IsRefused 4 OutOfPlace (joy_lines ++ codes "hint 16" ∷ [])
-  pub name : IsRefused 3 BadWord (later_lines ++ codes "joy J" ∷ [])
-  pub again : IsRefused 4 Twice (joy_lines ++ codes "tap j" ∷ [])
-  pub grab : IsRefused 4 BadCommand (joy_lines ++ codes "do j grab" ∷ [])
-  pub clock : IsRefused 4 BadCommand (joy_lines ++ codes "do j clock utc 0" ∷ [])
-  pub next : IsRefused 4 BadCommand (joy_lines ++ codes "do j next 1" ∷ [])
-  pub keys : IsRefused 4 BadCommand (joy_lines ++ codes "do j keys" ∷ [])
-  pub tick : IsRefused 4 BadCommand (joy_lines ++ codes "do j tick 1" ∷ [])
-  pub less : IsRefused 4 BadCommand (joy_lines ++ codes "do j read" ∷ [])
-  pub open_more : IsRefused 4 BadCommand (joy_lines ++ codes "do j open 1" ∷ [])
-  pub count : IsRefused 4 BadWord (joy_lines ++ codes "do j read 4294967296" ∷ [])
-  pub negative : IsRefused 4 BadWord (joy_lines ++ codes "do j read -1" ∷ [])
-  pub count_of_a_tap : IsRefused 5 BadWord (joy_lines ++ codes "tap t" ∷ codes "do t read 4097" ∷ [])
+  pub version_1 : AreRefusedAt 3 BadLine (device_lines ++ codes "joy j" ∷ [])
+  pub version_1_first : AreRefusedAt 2 BadLine (header_lines ++ codes "joy J J" ∷ [])
+  pub alone : AreRefusedAt 3 BadLine (later_lines ++ codes "joy" ∷ [])
+  pub more : AreRefusedAt 3 BadLine (later_lines ++ codes "joy a b" ∷ [])
+  pub place : AreRefusedAt 2 OutOfPlace (codes "inputrecord 2" ∷ codes "joy J" ∷ [])
+  pub behind_an_action : AreRefusedAt 5 OutOfPlace (joy_lines ++ codes "do j open" ∷ codes "joy k" ∷ [])
+  pub description_behind : AreRefusedAt 4 OutOfPlace (joy_lines ++ codes "hint 16" ∷ [])
+  pub name : AreRefusedAt 3 BadWord (later_lines ++ codes "joy J" ∷ [])
+  pub again : AreRefusedAt 4 Twice (joy_lines ++ codes "tap j" ∷ [])
+  pub grab : AreRefusedAt 4 BadCommand (joy_lines ++ codes "do j grab" ∷ [])
+  pub clock : AreRefusedAt 4 BadCommand (joy_lines ++ codes "do j clock utc 0" ∷ [])
+  pub next : AreRefusedAt 4 BadCommand (joy_lines ++ codes "do j next 1" ∷ [])
+  pub keys : AreRefusedAt 4 BadCommand (joy_lines ++ codes "do j keys" ∷ [])
+  pub tick : AreRefusedAt 4 BadCommand (joy_lines ++ codes "do j tick 1" ∷ [])
+  pub less : AreRefusedAt 4 BadCommand (joy_lines ++ codes "do j read" ∷ [])
+  pub open_more : AreRefusedAt 4 BadCommand (joy_lines ++ codes "do j open 1" ∷ [])
+  pub count : AreRefusedAt 4 BadWord (joy_lines ++ codes "do j read 4294967296" ∷ [])
+  pub negative : AreRefusedAt 4 BadWord (joy_lines ++ codes "do j read -1" ∷ [])
+  pub count_of_a_tap : AreRefusedAt 5 BadWord (joy_lines ++ codes "tap t" ∷ codes "do t read 4097" ∷ [])
 
 -- a device made by requests, of which nothing was said
 abbrev pub requested_lines : List (List ℕ)
@@ -248,52 +245,52 @@ owner_lines = requested_lines ++ codes "owner o" ∷ []
 -- Devices made by requests and owners under version 1, which has none; that stand where they may not; a second owner;
 -- commands that owners do not have, and that owners alone have.
 pub record RefusesOwners : Type 0 where
-  pub version_1 : IsRefused 2 BadLine (header_lines ++ codes "udevice u" ∷ [])
-  pub owner_of_version_1 : IsRefused 3 BadLine (device_lines ++ codes "owner o" ∷ [])
-  pub alone : IsRefused 3 BadLine (requested_lines ++ codes "owner" ∷ [])
-  pub more : IsRefused 2 BadLine (codes "inputrecord 2" ∷ codes "udevice a b" ∷ [])
-  pub under_device : IsRefused 3 OutOfPlace (later_lines ++ codes "owner o" ∷ [])
-  pub under_a_later_device : IsRefused 4 OutOfPlace (requested_lines ++ codes "device d" ∷ codes "owner O" ∷ [])
-  pub place : IsRefused 2 OutOfPlace (codes "inputrecord 2" ∷ codes "owner o" ∷ [])
-  pub behind_an_action : IsRefused 5 OutOfPlace (requested_lines ++ codes "tap t" ∷ codes "do t open" ∷ codes "owner o" ∷ [])
-  pub device_behind_an_action : IsRefused 5 OutOfPlace (owner_lines ++ codes "do o feedback 1" ∷ codes "udevice v" ∷ [])
-  pub description_behind : IsRefused 4 OutOfPlace (owner_lines ++ codes "hint 16" ∷ [])
-  pub device_name : IsRefused 2 BadWord (codes "inputrecord 2" ∷ codes "udevice U" ∷ [])
-  pub name : IsRefused 3 BadWord (requested_lines ++ codes "owner O" ∷ [])
-  pub again : IsRefused 4 Twice (owner_lines ++ codes "tap o" ∷ [])
-  pub again_first : IsRefused 4 Twice (owner_lines ++ codes "owner o" ∷ [])
-  pub device_again : IsRefused 3 Twice (later_lines ++ codes "udevice d" ∷ [])
-  pub requested_again : IsRefused 3 Twice (requested_lines ++ codes "device u" ∷ [])
-  pub second : IsRefused 4 TooMany (owner_lines ++ codes "owner p" ∷ [])
-  pub second_behind_others : IsRefused 6 TooMany (owner_lines ++ codes "tap t" ∷ codes "source s" ∷ codes "owner p" ∷ [])
-  pub ninth_device : IsRefused 10 TooMany (codes "inputrecord 2" ∷ codes "device a" ∷ codes "udevice b" ∷ codes "device c" ∷ codes "udevice d" ∷ codes "device e" ∷ codes "udevice f" ∷ codes "device g" ∷ codes "device h" ∷ codes "udevice i" ∷ [])
-  pub opening : IsRefused 4 BadCommand (owner_lines ++ codes "do o open" ∷ [])
-  pub read : IsRefused 4 BadCommand (owner_lines ++ codes "do o read 1" ∷ [])
-  pub tick : IsRefused 4 BadCommand (owner_lines ++ codes "do o tick 1" ∷ [])
-  pub feedback_of_a_tap : IsRefused 4 BadCommand (requested_lines ++ codes "tap t" ∷ codes "do t feedback 1" ∷ [])
-  pub feedback_of_a_source : IsRefused 6 BadCommand (actor_lines ++ codes "do s feedback 1" ∷ [])
-  pub less : IsRefused 4 BadCommand (owner_lines ++ codes "do o feedback" ∷ [])
-  pub feedback_of_more_words : IsRefused 4 BadCommand (owner_lines ++ codes "do o feedback 1 1" ∷ [])
-  pub no_count : IsRefused 4 BadWord (owner_lines ++ codes "do o feedback 0" ∷ [])
-  pub wide_count : IsRefused 4 BadWord (owner_lines ++ codes "do o feedback 4097" ∷ [])
-  pub negative : IsRefused 4 BadWord (owner_lines ++ codes "do o feedback -1" ∷ [])
+  pub version_1 : AreRefusedAt 2 BadLine (header_lines ++ codes "udevice u" ∷ [])
+  pub owner_of_version_1 : AreRefusedAt 3 BadLine (device_lines ++ codes "owner o" ∷ [])
+  pub alone : AreRefusedAt 3 BadLine (requested_lines ++ codes "owner" ∷ [])
+  pub more : AreRefusedAt 2 BadLine (codes "inputrecord 2" ∷ codes "udevice a b" ∷ [])
+  pub under_device : AreRefusedAt 3 OutOfPlace (later_lines ++ codes "owner o" ∷ [])
+  pub under_a_later_device : AreRefusedAt 4 OutOfPlace (requested_lines ++ codes "device d" ∷ codes "owner O" ∷ [])
+  pub place : AreRefusedAt 2 OutOfPlace (codes "inputrecord 2" ∷ codes "owner o" ∷ [])
+  pub behind_an_action : AreRefusedAt 5 OutOfPlace (requested_lines ++ codes "tap t" ∷ codes "do t open" ∷ codes "owner o" ∷ [])
+  pub device_behind_an_action : AreRefusedAt 5 OutOfPlace (owner_lines ++ codes "do o feedback 1" ∷ codes "udevice v" ∷ [])
+  pub description_behind : AreRefusedAt 4 OutOfPlace (owner_lines ++ codes "hint 16" ∷ [])
+  pub device_name : AreRefusedAt 2 BadWord (codes "inputrecord 2" ∷ codes "udevice U" ∷ [])
+  pub name : AreRefusedAt 3 BadWord (requested_lines ++ codes "owner O" ∷ [])
+  pub again : AreRefusedAt 4 Twice (owner_lines ++ codes "tap o" ∷ [])
+  pub again_first : AreRefusedAt 4 Twice (owner_lines ++ codes "owner o" ∷ [])
+  pub device_again : AreRefusedAt 3 Twice (later_lines ++ codes "udevice d" ∷ [])
+  pub requested_again : AreRefusedAt 3 Twice (requested_lines ++ codes "device u" ∷ [])
+  pub second : AreRefusedAt 4 TooMany (owner_lines ++ codes "owner p" ∷ [])
+  pub second_behind_others : AreRefusedAt 6 TooMany (owner_lines ++ codes "tap t" ∷ codes "source s" ∷ codes "owner p" ∷ [])
+  pub ninth_device : AreRefusedAt 10 TooMany (codes "inputrecord 2" ∷ codes "device a" ∷ codes "udevice b" ∷ codes "device c" ∷ codes "udevice d" ∷ codes "device e" ∷ codes "udevice f" ∷ codes "device g" ∷ codes "device h" ∷ codes "udevice i" ∷ [])
+  pub opening : AreRefusedAt 4 BadCommand (owner_lines ++ codes "do o open" ∷ [])
+  pub read : AreRefusedAt 4 BadCommand (owner_lines ++ codes "do o read 1" ∷ [])
+  pub tick : AreRefusedAt 4 BadCommand (owner_lines ++ codes "do o tick 1" ∷ [])
+  pub feedback_of_a_tap : AreRefusedAt 4 BadCommand (requested_lines ++ codes "tap t" ∷ codes "do t feedback 1" ∷ [])
+  pub feedback_of_a_source : AreRefusedAt 6 BadCommand (actor_lines ++ codes "do s feedback 1" ∷ [])
+  pub less : AreRefusedAt 4 BadCommand (owner_lines ++ codes "do o feedback" ∷ [])
+  pub feedback_of_more_words : AreRefusedAt 4 BadCommand (owner_lines ++ codes "do o feedback 1 1" ∷ [])
+  pub no_count : AreRefusedAt 4 BadWord (owner_lines ++ codes "do o feedback 0" ∷ [])
+  pub wide_count : AreRefusedAt 4 BadWord (owner_lines ++ codes "do o feedback 4097" ∷ [])
+  pub negative : AreRefusedAt 4 BadWord (owner_lines ++ codes "do o feedback -1" ∷ [])
 
 -- What is right although it looks wrong.
 pub record AcceptsLines : Type 0 where
-  pub comments : IsRead (codes "  # first" ∷ [] ∷ header_lines ++ (9 ∷ codes "#" ++ 0 ∷ 255 ∷ []) ∷ codes "  " ∷ codes "device d" ∷ [])
-  pub devices : IsRead (header_lines ++ codes "device a" ∷ codes "device b" ∷ codes "device c" ∷ codes "device d" ∷ codes "device e" ∷ codes "device f" ∷ codes "device g" ∷ codes "device h" ∷ [])
-  pub again : IsRead (actor_lines ++ codes "device e" ∷ codes "hint 16" ∷ codes "source r" ∷ [])
-  pub name_spaces : IsRead (device_lines ++ codes "source d" ∷ codes "device s" ∷ [])
-  pub long_name : IsRead (header_lines ++ codes "device abcdefghijklmnopqrstuvwxyz01_-23" ∷ [])
-  pub supported_twice : IsRead (device_lines ++ codes "type EV_SYN" ∷ codes "type 0" ∷ codes "cap 1 KEY_A" ∷ codes "cap EV_KEY 30" ∷ codes "cap EV_REP 0" ∷ [])
-  pub bounds : IsRead (device_lines ++ codes "hint 0x200" ∷ codes "log 8388608" ∷ codes "clock boottime 9000000000000000" ∷ codes "slots 64" ∷ codes "axis 0x3f -1 -2 -3 1073741824 -4 -5" ∷ [])
-  pub slots_of_version_2 : IsRead (later_lines ++ codes "slots 256" ∷ [])
-  pub filters_of_each : IsRead (later_lines ++ (replicate 8 (codes "filter norepeat") ++ codes "device e" ∷ replicate 8 (codes "filter eat EV_REP 1")))
-  pub joystick_of_each : IsRead (joy_lines ++ codes "source s" ∷ codes "device j" ∷ codes "joy d" ∷ [])
-  pub owner_of_each : IsRead (owner_lines ++ codes "tap t" ∷ codes "udevice v" ∷ codes "source s" ∷ codes "owner u" ∷ [])
-  pub no_owner : IsRead (requested_lines ++ codes "hint 16" ∷ codes "joy j" ∷ [])
-  pub moment : IsRead (actor_lines ++ codes "do s tick 9000000000000000" ∷ [])
-  pub streams : IsRead (device_lines ++ codes "source s" ∷ replicate 16 (codes "do s stream f"))
+  pub comments : AreRecord (codes "  # first" ∷ [] ∷ header_lines ++ (9 ∷ codes "#" ++ 0 ∷ 255 ∷ []) ∷ codes "  " ∷ codes "device d" ∷ [])
+  pub devices : AreRecord (header_lines ++ codes "device a" ∷ codes "device b" ∷ codes "device c" ∷ codes "device d" ∷ codes "device e" ∷ codes "device f" ∷ codes "device g" ∷ codes "device h" ∷ [])
+  pub again : AreRecord (actor_lines ++ codes "device e" ∷ codes "hint 16" ∷ codes "source r" ∷ [])
+  pub name_spaces : AreRecord (device_lines ++ codes "source d" ∷ codes "device s" ∷ [])
+  pub long_name : AreRecord (header_lines ++ codes "device abcdefghijklmnopqrstuvwxyz01_-23" ∷ [])
+  pub supported_twice : AreRecord (device_lines ++ codes "type EV_SYN" ∷ codes "type 0" ∷ codes "cap 1 KEY_A" ∷ codes "cap EV_KEY 30" ∷ codes "cap EV_REP 0" ∷ [])
+  pub bounds : AreRecord (device_lines ++ codes "hint 0x200" ∷ codes "log 8388608" ∷ codes "clock boottime 9000000000000000" ∷ codes "slots 64" ∷ codes "axis 0x3f -1 -2 -3 1073741824 -4 -5" ∷ [])
+  pub slots_of_version_2 : AreRecord (later_lines ++ codes "slots 256" ∷ [])
+  pub filters_of_each : AreRecord (later_lines ++ (replicate 8 (codes "filter norepeat") ++ codes "device e" ∷ replicate 8 (codes "filter eat EV_REP 1")))
+  pub joystick_of_each : AreRecord (joy_lines ++ codes "source s" ∷ codes "device j" ∷ codes "joy d" ∷ [])
+  pub owner_of_each : AreRecord (owner_lines ++ codes "tap t" ∷ codes "udevice v" ∷ codes "source s" ∷ codes "owner u" ∷ [])
+  pub no_owner : AreRecord (requested_lines ++ codes "hint 16" ∷ codes "joy j" ∷ [])
+  pub moment : AreRecord (actor_lines ++ codes "do s tick 9000000000000000" ∷ [])
+  pub streams : AreRecord (device_lines ++ codes "source s" ∷ replicate 16 (codes "do s stream f"))
 
 -- one key, one source and one tap
 abbrev pub stroke_lines : List (List ℕ)
@@ -312,7 +309,7 @@ stroke_lines =
 -- the same in other words, with blanks, comments and carriage returns, and without a last line feed
 abbrev pub loose_stroke : List ℕ
 loose_stroke =
-    text_of (
+    text_of_lines (
     codes "# one key" ∷ (codes " inputrecord" ++ 9 ∷ codes "1" ++ 13 ∷ []) ∷ codes "device  kbd" ∷ [] ∷ codes "cap 1 0x1e" ∷ codes "source s "
     ∷ codes "tap t" ∷ codes "do t open" ∷ codes "do s event 0x3e8 1 30 0x1" ∷ codes "do s event 001000 0 0 -0" ∷ []
     ) ++ codes "do t read 0016" ++ 13 ∷ []
@@ -335,9 +332,9 @@ stroke_record = record {
 pub record MeansRecords : Type 0 where
   pub header : meaning (codes "inputrecord 1") ≡ Ok (record { version = 1; devices = []; actors = []; lines = []; streams = [] })
   pub later_header : meaning (codes "inputrecord 2") ≡ Ok (record { version = 2; devices = []; actors = []; lines = []; streams = [] })
-  pub device : meaning (text_of device_lines) ≡ Ok (record { version = 1; devices = record { name = codes "d"; caps = syn_alone; requested = false } ∷ []; actors = []; lines = []; streams = [] })
+  pub device : meaning (text_of_lines device_lines) ≡ Ok (record { version = 1; devices = record { name = codes "d"; caps = syn_alone; requested = false } ∷ []; actors = []; lines = []; streams = [] })
   pub filters :
-      meaning (text_of (later_lines ++ codes "filter chord KEY_A 0x30" ∷ codes "filter norepeat" ∷ codes "filter bounce 30 001000" ∷ codes "filter norepeat" ∷ codes "filter eat 2 REL_WHEEL" ∷ []))
+      meaning (text_of_lines (later_lines ++ codes "filter chord KEY_A 0x30" ∷ codes "filter norepeat" ∷ codes "filter bounce 30 001000" ∷ codes "filter norepeat" ∷ codes "filter eat 2 REL_WHEEL" ∷ []))
       ≡ Ok (record {
         version = 2;
         devices = record { name = codes "d"; caps = record syn_alone { filters = Chord 30 48 ∷ Norepeat ∷ Bounce 30 1000 ∷ Norepeat ∷ Eat 2 8 ∷ [] }; requested = false } ∷ [];
@@ -345,13 +342,13 @@ pub record MeansRecords : Type 0 where
         lines = [];
         streams = [];
       })
-  pub one_key : meaning (text_of stroke_lines) ≡ Ok stroke_record
+  pub one_key : meaning (text_of_lines stroke_lines) ≡ Ok stroke_record
   pub loose : meaning loose_stroke ≡ Ok stroke_record
 
 -- the lines of a record of three actors with these actions
 abbrev pub AreActions : List (List ℕ) → List (ℕ × command.Command) → Type 0
 AreActions lines actions =
-    meaning (text_of (actor_lines ++ lines))
+    meaning (text_of_lines (actor_lines ++ lines))
     ≡ Ok (record {
       version = 1;
       devices = record { name = codes "d"; caps = syn_alone; requested = false } ∷ [];
@@ -379,7 +376,7 @@ pub record MeansActions : Type 0 where
       (codes "do t read 4096" ∷ codes "do t discard" ∷ codes "do t keys" ∷ codes "do t switches" ∷ codes "do t leds" ∷ codes "do t sounds" ∷ codes "do t syncslots" ∷ codes "do t axis ABS_X" ∷ codes "do t slots 0x35" ∷ [])
       ((2, commands.Read 4096) ∷ (2, commands.Discard) ∷ (2, commands.Keys) ∷ (2, commands.Switches) ∷ (2, commands.Leds) ∷ (2, commands.Sounds) ∷ (2, commands.SyncSlots) ∷ (2, commands.Axis 0) ∷ (2, commands.Slots 53) ∷ [])
   pub joystick :
-      meaning (text_of (joy_lines ++ codes "tap t" ∷ codes "do j open" ∷ codes "do j read 4294967295" ∷ codes "do j read 0x1001" ∷ codes "do t read 4096" ∷ codes "do j read 0" ∷ codes "do j close" ∷ []))
+      meaning (text_of_lines (joy_lines ++ codes "tap t" ∷ codes "do j open" ∷ codes "do j read 4294967295" ∷ codes "do j read 0x1001" ∷ codes "do t read 4096" ∷ codes "do j read 0" ∷ codes "do j close" ∷ []))
       ≡ Ok (record {
         version = 2;
         devices = record { name = codes "d"; caps = syn_alone; requested = false } ∷ [];
@@ -388,7 +385,7 @@ pub record MeansActions : Type 0 where
         streams = [];
       })
   pub owner :
-      meaning (text_of (later_lines ++ codes "udevice u" ∷ codes "owner o" ∷ codes "do o feedback 4096" ∷ codes "do o feedback 0x1" ∷ []))
+      meaning (text_of_lines (later_lines ++ codes "udevice u" ∷ codes "owner o" ∷ codes "do o feedback 4096" ∷ codes "do o feedback 0x1" ∷ []))
       ≡ Ok (record {
         version = 2;
         devices =
@@ -400,7 +397,7 @@ pub record MeansActions : Type 0 where
         streams = [];
       })
   pub of_version_2 :
-      meaning (text_of (later_lines ++ codes "source s" ∷ codes "do s stream16 a" ∷ codes "do s stream b" ∷ codes "do s stream16 b" ∷ []))
+      meaning (text_of_lines (later_lines ++ codes "source s" ∷ codes "do s stream16 a" ∷ codes "do s stream b" ∷ codes "do s stream16 b" ∷ []))
       ≡ Ok (record {
         version = 2;
         devices = record { name = codes "d"; caps = syn_alone; requested = false } ∷ [];

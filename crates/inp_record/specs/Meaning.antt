@@ -25,9 +25,9 @@ use Rattle.inp_record.specs.declared.keyword.Keyword.{Keyword}
 use Rattle.inp_record.specs.declared.item.Item.{Item}
 use Rattle.inp_record.specs.declared.item.Item.TheVariants.{Device, Hint, Log, Realtime, Boottime, Slots, Kind, Code, Axis, Filter, Actor, Action}
 use Rattle.inp_record.specs.Keyword.{keyword_of}
-use Rattle.inp_record.specs.Place.{is_start, is_out_of_place}
+use Rattle.inp_record.specs.Place.{is_first_place, is_out_of_place}
 use Rattle.inp_record.specs.Words.{word, is_header, item_of}
-use Rattle.inp_record.specs.Past.{Past, streams_in, is_later, version_of, latest_description, with_latest, devices_of, actors_of, lines_of, stream_count, context_of}
+use Rattle.inp_record.specs.Past.{Past, streams_in, is_later, version_of, latest_description, with_latest, devices_of, actors_in, lines_in, stream_count, context_of}
 
 -- the text is there and is this one
 abbrev pub is_text_of : List ℕ → Option (List ℕ) → Bool
@@ -86,18 +86,18 @@ refused_by (Ok done) = None
 refused_by (Err why) = Some why
 
 -- why this description can not have what a line says too
-abbrev pub refusal : Description → Item → Option CapsRefused
-refusal d (Hint count) = if nat_le HINT_MIN count && nat_le count HINT_MAX then None else Some BadHint
-refusal d (Log count) = if nat_le 1 count && nat_le count LOG_MAX then None else Some BadLog
-refusal d (Realtime offset) = if nat_le offset MOMENT_MAX then None else Some BadOffset
-refusal d (Boottime offset) = if nat_le offset MOMENT_MAX then None else Some BadOffset
-refusal d (Slots count) = if nat_le 1 count && nat_le count SLOTS_MAX then None else Some BadSlots
-refusal d (Kind kind) = if is_kind kind then None else Some BadCode
-refusal d (Code kind code) = if is_code kind code then None else Some BadCode
-refusal d (Axis code info) =
+abbrev pub builder_refusal : Description → Item → Option CapsRefused
+builder_refusal d (Hint count) = if nat_le HINT_MIN count && nat_le count HINT_MAX then None else Some BadHint
+builder_refusal d (Log count) = if nat_le 1 count && nat_le count LOG_MAX then None else Some BadLog
+builder_refusal d (Realtime offset) = if nat_le offset MOMENT_MAX then None else Some BadOffset
+builder_refusal d (Boottime offset) = if nat_le offset MOMENT_MAX then None else Some BadOffset
+builder_refusal d (Slots count) = if nat_le 1 count && nat_le count SLOTS_MAX then None else Some BadSlots
+builder_refusal d (Kind kind) = if is_kind kind then None else Some BadCode
+builder_refusal d (Code kind code) = if is_code kind code then None else Some BadCode
+builder_refusal d (Axis code info) =
     if nat_lt ABS_MAX code then Some BadCode else if is_bad_axis code info then Some BadAxis else None
-refusal d (Filter filter) = refused_by (filter_answer d filter)
-refusal d _ = None
+builder_refusal d (Filter filter) = refused_by (filter_answer d filter)
+builder_refusal d _ = None
 
 -- the item, unless a description refuses it
 abbrev pub unless_refused : Option CapsRefused → Item → Result Item Cause
@@ -118,7 +118,7 @@ checked c (Ok item) =
     else if is_twice c item then Err Twice
     else if is_too_many c item then Err TooMany
     else if has_too_many_slots c item then Err (Caps BadSlots)
-    else unless_refused (refusal c.builder item) item
+    else unless_refused (builder_refusal c.builder item) item
 
 -- what the words of a line with this keyword are, if it may stand there
 abbrev pub placed : Context → Option Keyword → List (List ℕ) → Result Item Cause
@@ -129,7 +129,7 @@ placed c (Some keyword) ws =
 -- what the words of a line are
 unfoldable pub item_of_words : Context → List (List ℕ) → Result Item Cause
 item_of_words c ws =
-    if is_start c.place && not (is_header ws) then Err BadHeader
+    if is_first_place c.place && not (is_header ws) then Err BadHeader
     else placed c (keyword_of c.version (word 0 ws) (word 1 ws) (length ws)) ws
 
 -- the past behind a line of this meaning
@@ -150,22 +150,22 @@ behind_line past line =
     else behind_words past (words_of line)
 
 -- what comes of a line with the number n, and then of those behind it
-abbrev pub go_on : ℕ → Result Past Cause → (Past → Result Past Refused) → Result Past Refused
-go_on n (Ok past) more = more past
-go_on n (Err cause) more = Err (record { line = n; cause = cause })
+abbrev pub then_lines : ℕ → Result Past Cause → (Past → Result Past Refused) → Result Past Refused
+then_lines n (Ok past) more = more past
+then_lines n (Err cause) more = Err (record { line = n; cause = cause })
 
 -- the past behind all lines, of which the first has the number n, or the first line that has no meaning
 unfoldable pub behind_lines : ℕ → List (List ℕ) → Past → Result Past Refused
 behind_lines n [] past = Ok past
-behind_lines n (line ∷ lines) past = go_on n (behind_line past line) (λ now. behind_lines (suc n) lines now)
+behind_lines n (line ∷ lines) past = then_lines n (behind_line past line) (λ now. behind_lines (suc n) lines now)
 
 -- the record of a past
-abbrev pub record_of : Past → RecordView
-record_of past = record {
+abbrev pub record_of_past : Past → RecordView
+record_of_past past = record {
   version = version_of past;
   devices = devices_of past;
-  actors = actors_of past;
-  lines = lines_of past;
+  actors = actors_in past;
+  lines = lines_in past;
   streams = replicate (stream_count past) [];
 }
 
@@ -188,18 +188,18 @@ record_in c = record {
 abbrev pub as_record : ℕ → Result Past Refused → Result RecordView Refused
 as_record count (Err refused) = Err refused
 as_record count (Ok []) = Err (record { line = count; cause = BadHeader })
-as_record count (Ok (item ∷ past)) = Ok (record_of (item ∷ past))
+as_record count (Ok (item ∷ past)) = Ok (record_of_past (item ∷ past))
 
 -- the record that bytes are, or the first line that has no meaning
 unfoldable pub meaning : List ℕ → Result RecordView Refused
 meaning bytes = as_record (length (text_lines bytes)) (behind_lines 1 (text_lines bytes) [])
 
 -- what a line leaves, where it is entered into what was before it, unless memory ran out
-abbrev pub IsEntered : Result (Unit {0}) LineFault → Past → Item → Context → Type 0
-IsEntered (Ok done) past item now = (refusal (latest_description past) item ≡ None) × (now ≡ context_of (item ∷ past))
-IsEntered (Err (line.Refused cause)) past item now =
-    unless_refused (refusal (latest_description past) item) item ≡ Err cause
-IsEntered (Err line.NoMemory) past item now = Unit {0}
+abbrev pub IsLineEntered : Result (Unit {0}) LineFault → Past → Item → Context → Type 0
+IsLineEntered (Ok done) past item now = (builder_refusal (latest_description past) item ≡ None) × (now ≡ context_of (item ∷ past))
+IsLineEntered (Err (line.Refused cause)) past item now =
+    unless_refused (builder_refusal (latest_description past) item) item ≡ Err cause
+IsLineEntered (Err line.NoMemory) past item now = Unit {0}
 
 -- what a line leaves behind these lines, unless memory ran out
 abbrev pub IsBehind : Result (Unit {0}) LineFault → Result Past Cause → Context → Type 0
@@ -209,8 +209,8 @@ IsBehind (Err line.NoMemory) means now = Unit {0}
 
 -- all lines were read: what stands behind them and their number, or the first line that has no meaning, unless memory ran
 -- out
-abbrev pub AreRead : Result (Context × ℕ) ParseFault → List (List ℕ) → Type 0
-AreRead (Ok read) lines =
+abbrev pub AreLinesRead : Result (Context × ℕ) ParseFault → List (List ℕ) → Type 0
+AreLinesRead (Ok read) lines =
     (past : Past) × (behind_lines 1 lines [] ≡ Ok past) × (read.0 ≡ context_of past) × (read.1 ≡ length lines)
-AreRead (Err (fault.Refused refused)) lines = behind_lines 1 lines [] ≡ Err refused
-AreRead (Err fault.NoMemory) lines = Unit {0}
+AreLinesRead (Err (fault.Refused refused)) lines = behind_lines 1 lines [] ≡ Err refused
+AreLinesRead (Err fault.NoMemory) lines = Unit {0}

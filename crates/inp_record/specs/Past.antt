@@ -32,9 +32,9 @@ place_after (Action actor command) = Acting
 place_after _ = Describing
 
 -- where the next line stands
-abbrev pub place_of : Past → place.Place
-place_of [] = Start
-place_of (item ∷ past) = place_after item
+abbrev pub next_place : Past → place.Place
+next_place [] = Start
+next_place (item ∷ past) = place_after item
 
 -- the version of the record, 1 before its header
 abbrev pub version_of : Past → ℕ
@@ -119,12 +119,12 @@ axes_of (Header version ∷ past) = axes_of past
 axes_of (_ ∷ past) = axes_of past
 
 -- how many sources the latest device has
-abbrev pub source_count : Past → ℕ
-source_count [] = 0
-source_count (Device requested name ∷ past) = 0
-source_count (Actor role name ∷ past) = source_count past + (if is_source role then 1 else 0)
-source_count (Header version ∷ past) = source_count past
-source_count (_ ∷ past) = source_count past
+abbrev pub latest_source_count : Past → ℕ
+latest_source_count [] = 0
+latest_source_count (Device requested name ∷ past) = 0
+latest_source_count (Actor role name ∷ past) = latest_source_count past + (if is_source role then 1 else 0)
+latest_source_count (Header version ∷ past) = latest_source_count past
+latest_source_count (_ ∷ past) = latest_source_count past
 
 -- how many clients, taps and joysticks the latest device has
 abbrev pub reader_count : Past → ℕ
@@ -161,18 +161,18 @@ abbrev pub devices_of : Past → List DeviceText
 devices_of past = with_latest (former_devices past) (latest_name past) (is_requested past) (latest_description past)
 
 -- the actors, each of the device that was the latest at its line
-abbrev pub actors_of : Past → List ActorText
-actors_of [] = []
-actors_of (Actor role name ∷ past) =
-    actors_of past ++ record { name = name; role = role; device = length (former_devices past) } ∷ []
-actors_of (Header version ∷ past) = actors_of past
-actors_of (_ ∷ past) = actors_of past
+abbrev pub actors_in : Past → List ActorText
+actors_in [] = []
+actors_in (Actor role name ∷ past) =
+    actors_in past ++ record { name = name; role = role; device = length (former_devices past) } ∷ []
+actors_in (Header version ∷ past) = actors_in past
+actors_in (_ ∷ past) = actors_in past
 
-abbrev pub lines_of : Past → List line.Line
-lines_of [] = []
-lines_of (Action actor command ∷ past) = lines_of past ++ record { actor = actor; command = command } ∷ []
-lines_of (Header version ∷ past) = lines_of past
-lines_of (_ ∷ past) = lines_of past
+abbrev pub lines_in : Past → List line.Line
+lines_in [] = []
+lines_in (Action actor command ∷ past) = lines_in past ++ record { actor = actor; command = command } ∷ []
+lines_in (Header version ∷ past) = lines_in past
+lines_in (_ ∷ past) = lines_in past
 
 -- how many streams a command takes
 abbrev pub streams_in : command.Command → ℕ
@@ -199,7 +199,7 @@ no_given = record { hint = false; log = false; slots = false; realtime = None; b
 -- all that the next line depends on
 abbrev pub context_of : Past → Context
 context_of past = record {
-  place = place_of past;
+  place = next_place past;
   version = version_of past;
   name = latest_name past;
   requested = is_requested past;
@@ -212,17 +212,17 @@ context_of past = record {
     boottime = boottime_of past;
     axes = axes_of past;
   };
-  sources = source_count past;
+  sources = latest_source_count past;
   readers = reader_count past;
   owners = owner_count past;
   devices = former_devices past;
-  actors = actors_of past;
-  lines = lines_of past;
+  actors = actors_in past;
+  lines = lines_in past;
   streams = stream_count past;
 }
 
 -- so few devices, actors of the latest one and streams that they can be counted, and offsets within their limit
-pub record HasRoom (c : Context) : Type 0 where
+pub record IsWithinCounts (c : Context) : Type 0 where
   pub devices : length c.devices + (if is_some c.name then 1 else 0) ≤ DEVICES_MAX
   pub sources : c.sources ≤ SOURCES_MAX
   pub readers : c.readers ≤ READERS_MAX

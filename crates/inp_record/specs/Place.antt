@@ -5,9 +5,9 @@ use Rattle.inp_record.specs.declared.keyword.Keyword.TheVariants.{Header, Device
 use Rattle.inp_record.specs.declared.place.Place.{Place}
 use Rattle.inp_record.specs.declared.place.Place.TheVariants.{Start, Describing, Naming, Acting}
 
-abbrev pub is_start : Place → Bool
-is_start Start = true
-is_start _ = false
+abbrev pub is_first_place : Place → Bool
+is_first_place Start = true
+is_first_place _ = false
 
 abbrev pub is_describing : Place → Bool
 is_describing Describing = true
@@ -25,7 +25,7 @@ is_acting _ = false
 -- device after an action, an actor with no device before it or after an action, an owner of a device that is not made by
 -- requests, a description with no device before it, after an actor of its device, or after an action
 abbrev pub is_out_of_place : Place → Bool → Keyword → Bool
-is_out_of_place place requested Header = not (is_start place)
+is_out_of_place place requested Header = not (is_first_place place)
 is_out_of_place place requested Device = is_acting place
 is_out_of_place place requested Udevice = is_acting place
 is_out_of_place place requested Source = not (is_describing place || is_naming place)

@@ -73,8 +73,8 @@ three_numbers i ws =
     (signed_number (word (suc (suc i)) ws))) (signed_number (word (suc i) ws))) (signed_number (word i ws))
 
 -- the data of an axis from this word on: value, minimum, maximum, fuzz, flat, resolution
-unfoldable pub info_words : ℕ → List (List ℕ) → Option AxisInfo
-info_words i ws =
+unfoldable pub info_in_words : ℕ → List (List ℕ) → Option AxisInfo
+info_in_words i ws =
     option_and_then (λ a. option_map (λ b.
     record { value = a.0; minimum = a.1; maximum = a.2; fuzz = b.0; flat = b.1; resolution = b.2 })
     (three_numbers (i + 3) ws)) (three_numbers i ws)
@@ -139,7 +139,7 @@ plain_item keywords.Slots ws = option_map (λ count. items.Slots count) (count_w
 plain_item keywords.Kind ws = option_map (λ kind. items.Kind kind) (kind_word (word 1 ws))
 plain_item keywords.Code ws = option_map (λ named. items.Code named.0 named.1) (kind_and_code (word 1 ws) (word 2 ws))
 plain_item keywords.Axis ws =
-    option_and_then (λ code. option_map (λ info. items.Axis code info) (info_words 2 ws)) (code_word EV_ABS (word 1 ws))
+    option_and_then (λ code. option_map (λ info. items.Axis code info) (info_in_words 2 ws)) (code_word EV_ABS (word 1 ws))
 plain_item keywords.Filter ws = None
 plain_item keywords.Eat ws = eat_item ws
 plain_item keywords.Norepeat ws = Some (items.Filter filters.Norepeat)
@@ -153,13 +153,13 @@ plain_item keywords.Owner ws = actor_item roles.Owner (word 1 ws)
 plain_item keywords.Action ws = None
 
 -- a word of a mask: its type, its place and its bits
-abbrev pub mask_words : List (List ℕ) → Option command.Command
-mask_words ws =
+abbrev pub mask_command : List (List ℕ) → Option command.Command
+mask_command ws =
     option_and_then (λ kind. option_and_then (λ place. option_map (λ bits. commands.Mask kind place bits)
     (wide_word (word 5 ws))) (number 65535 (word 4 ws))) (kind_word (word 3 ws))
 
-abbrev pub clock_words : List (List ℕ) → Option command.Command
-clock_words ws =
+abbrev pub clock_command : List (List ℕ) → Option command.Command
+clock_command ws =
     option_and_then (λ clock. option_map (λ moment. commands.Clock clock moment) (moment_word (word 4 ws))) (clock_word (word 3 ws))
 
 -- the greatest count of a read of this role
@@ -177,7 +177,7 @@ feedback_word w =
 
 abbrev pub set_axis_words : List (List ℕ) → Option command.Command
 set_axis_words ws =
-    option_and_then (λ code. option_map (λ info. commands.SetAxis code info) (info_words 4 ws)) (code_word EV_ABS (word 3 ws))
+    option_and_then (λ code. option_map (λ info. commands.SetAxis code info) (info_in_words 4 ws)) (code_word EV_ABS (word 3 ws))
 
 -- a command other than a stream with its words, of an actor of this role, if these have their forms
 unfoldable pub plain_command : role.Role → verb.Verb → List (List ℕ) → Option command.Command
@@ -192,8 +192,8 @@ plain_command role verbs.Close ws = Some commands.Close
 plain_command role verbs.Grab ws = Some commands.Grab
 plain_command role verbs.Ungrab ws = Some commands.Ungrab
 plain_command role verbs.Revoke ws = Some commands.Revoke
-plain_command role verbs.Mask ws = mask_words ws
-plain_command role verbs.Clock ws = clock_words ws
+plain_command role verbs.Mask ws = mask_command ws
+plain_command role verbs.Clock ws = clock_command ws
 plain_command role verbs.Write ws = option_map (λ s. commands.Write s.now s.event.kind s.event.code s.event.value) (stamped_words ws)
 plain_command role verbs.SetAxis ws = set_axis_words ws
 plain_command role verbs.Read ws = read_word role (word 3 ws)

@@ -1,7 +1,7 @@
 //! Why a line has no meaning.
 
 ghost use Rattle.std.specs.Prelude.{◌≡◌};
-ghost use Rattle.inp_record.specs.Cause.{cause_text, refusal_text};
+ghost use Rattle.inp_record.specs.Cause.{cause_text, caps_refused_text};
 
 use inp_caps::CapsRefused;
 use std::error::Error;
@@ -49,15 +49,15 @@ impl Cause {
             Cause::BadWord => "bad-word",
             Cause::Twice => "twice",
             Cause::TooMany => "too-many",
-            Cause::Caps(why) => refusal_text(why),
+            Cause::Caps(why) => caps_refused_text(why),
             Cause::BadStream => "bad-stream",
         }
     }
 }
 
 /// Why a description was refused, as it is printed.
-fn refusal_text(why: CapsRefused) -> &'static str
-    ensures { result.now ≡ refusal_text why }
+fn caps_refused_text(why: CapsRefused) -> &'static str
+    ensures { result.now ≡ caps_refused_text why }
 {
     match why {
         CapsRefused::BadCode => "bad-code",

@@ -3,11 +3,11 @@ ghost use Rattle.std.specs.Prelude.{◌≡◌, ◌+◌, ◌<◌, ◌≤◌, ◌^
 ghost use Rattle.inp_words.specs.Line.{AreText, is_text};
 ghost use Rattle.inp_record.specs.Fault.{IsReading};
 ghost use Rattle.inp_record.specs.Verb.{argument_count};
-ghost use Rattle.inp_record.specs.Words.{texts, moment_word, stamped_words, mask_words, clock_words, set_axis_words, count_max, read_word, feedback_word, plain_command, command_of, actor_from, action_item};
+ghost use Rattle.inp_record.specs.Words.{texts, moment_word, stamped_words, mask_command, clock_command, set_axis_words, count_max, read_word, feedback_word, plain_command, command_of, actor_from, action_item};
 
 use crate::Cause;
 use crate::item::Item;
-use crate::item_reader::{count_word, info_words, kind_and_code, word};
+use crate::item_reader::{count_word, info_in_words, kind_and_code, word};
 use crate::line_fault::LineFault;
 use crate::verb::{Verb, clock_word, verb_of};
 use inp_actors::{ActorText, Command, FileName, READ_MAX, Role};
@@ -36,9 +36,9 @@ fn stamped_words(words: &[&[u8]]) -> Option<Stamped>
 }
 
 /// A word of a mask: its type, its place and its bits.
-fn mask_words(words: &[&[u8]]) -> Option<Command>
+fn mask_command(words: &[&[u8]]) -> Option<Command>
     requires { 6 ≤ length words.now }
-    ensures { result ≡ mask_words (texts words.now) }
+    ensures { result ≡ mask_command (texts words.now) }
 {
     let kind = kind_word(word(words, 3))?;
     let place = number(word(words, 4), 65535)?;
@@ -51,9 +51,9 @@ fn mask_words(words: &[&[u8]]) -> Option<Command>
 }
 
 /// A clock with the moment of its choice.
-fn clock_words(words: &[&[u8]]) -> Option<Command>
+fn clock_command(words: &[&[u8]]) -> Option<Command>
     requires { 5 ≤ length words.now }
-    ensures { result ≡ clock_words (texts words.now) }
+    ensures { result ≡ clock_command (texts words.now) }
 {
     let clock = clock_word(word(words, 3))?;
     let moment = moment_word(word(words, 4))?;
@@ -66,7 +66,7 @@ fn set_axis_words(words: &[&[u8]]) -> Option<Command>
     ensures { result ≡ set_axis_words (texts words.now) }
 {
     let code = code_word(EV_ABS, word(words, 3))?;
-    let info = info_words(words, 4)?;
+    let info = info_in_words(words, 4)?;
     Some(Command::SetAxis { code, info })
 }
 
@@ -134,8 +134,8 @@ fn plain_command(role: Role, verb: Verb, words: &[&[u8]]) -> Option<Command>
         Verb::Grab => Some(Command::Grab),
         Verb::Ungrab => Some(Command::Ungrab),
         Verb::Revoke => Some(Command::Revoke),
-        Verb::Mask => mask_words(words),
-        Verb::Clock => clock_words(words),
+        Verb::Mask => mask_command(words),
+        Verb::Clock => clock_command(words),
         Verb::Write => {
             let stamped = stamped_words(words)?;
             Some(Command::Write {

@@ -3,8 +3,8 @@ ghost use Rattle.std.specs.Prelude.{◌≡◌, ◌+◌, ◌<◌, ◌≤◌, [], 
 ghost use Rattle.std.specs.List.{list_any};
 ghost use Rattle.std.specs.Str.{bytes_eq};
 ghost use Rattle.inp_actors.specs.Record.{IsRecord};
-ghost use Rattle.inp_record.specs.Past.{Past, context_of, no_given, HasRoom, streams_in, is_later};
-ghost use Rattle.inp_record.specs.Meaning.{is_twice, is_too_many, is_later_command, has_too_many_slots, is_text_of, has_device, has_all, device_count, IsEntered, closed, record_in};
+ghost use Rattle.inp_record.specs.Past.{Past, context_of, no_given, IsWithinCounts, streams_in, is_later};
+ghost use Rattle.inp_record.specs.Meaning.{is_twice, is_too_many, is_later_command, has_too_many_slots, is_text_of, has_device, has_all, device_count, IsLineEntered, closed, record_in};
 ghost use Rattle.inp_caps.specs.Builder.{with_filter, filter_answer};
 ghost use Rattle.inp_record.specs.Words.{has_micros};
 ghost use Rattle.inp_record.specs.declared.item.Item.TheVariants as items;
@@ -97,7 +97,7 @@ impl Context {
     /// Before the first line.
     pub(crate) fn new(alloc: Global) -> Context
         ensures context { result ≡ context_of [] }
-        ensures room { HasRoom result }
+        ensures room { IsWithinCounts result }
     {
         Context {
             place: Place::Start,
@@ -118,13 +118,13 @@ impl Context {
 
     /// Enters the meaning of a line, unless no description can have what it says.
     pub(crate) fn enter(&mut self, alloc: Global, item: Item) -> Result<(), LineFault>
-        requires room { HasRoom self.old }
+        requires room { IsWithinCounts self.old }
         requires enough { is_too_many self.old item ≡ false }
         requires micros { has_micros item ≡ true }
         ensures entered { (past : Past) → self.old ≡ context_of past
-            → IsEntered result past item self.new }
+            → IsLineEntered result past item self.new }
         ensures actors { OnOk result (length self.new.actors ≤ length self.old.actors + 1) }
-        ensures room { OnOk result (HasRoom self.new) }
+        ensures room { OnOk result (IsWithinCounts self.new) }
     {
         match item {
             Item::Header { version } => self.begin(version),
@@ -145,8 +145,8 @@ impl Context {
 
     fn begin(&mut self, version: u32) -> Result<(), LineFault>
         ensures entered { (past : Past) → self.old ≡ context_of past
-            → IsEntered result past (items.Header version) self.new }
-        ensures room { OnOk result (HasRoom self.old → HasRoom self.new) }
+            → IsLineEntered result past (items.Header version) self.new }
+        ensures room { OnOk result (IsWithinCounts self.old → IsWithinCounts self.new) }
         ensures actors { OnOk result (self.new.actors ≡ self.old.actors) }
     {
         self.version = version;
@@ -156,8 +156,8 @@ impl Context {
 
     fn set_hint(&mut self, count: u32) -> Result<(), LineFault>
         ensures entered { (past : Past) → self.old ≡ context_of past
-            → IsEntered result past (items.Hint count) self.new }
-        ensures room { OnOk result (HasRoom self.old → HasRoom self.new) }
+            → IsLineEntered result past (items.Hint count) self.new }
+        ensures room { OnOk result (IsWithinCounts self.old → IsWithinCounts self.new) }
         ensures actors { OnOk result (self.new.actors ≡ self.old.actors) }
     {
         if let Err(why) = self.builder.hint(count) {
@@ -170,8 +170,8 @@ impl Context {
 
     fn set_log(&mut self, count: u32) -> Result<(), LineFault>
         ensures entered { (past : Past) → self.old ≡ context_of past
-            → IsEntered result past (items.Log count) self.new }
-        ensures room { OnOk result (HasRoom self.old → HasRoom self.new) }
+            → IsLineEntered result past (items.Log count) self.new }
+        ensures room { OnOk result (IsWithinCounts self.old → IsWithinCounts self.new) }
         ensures actors { OnOk result (self.new.actors ≡ self.old.actors) }
     {
         if let Err(why) = self.builder.log(count) {
@@ -184,8 +184,8 @@ impl Context {
 
     fn set_slots(&mut self, count: u32) -> Result<(), LineFault>
         ensures entered { (past : Past) → self.old ≡ context_of past
-            → IsEntered result past (items.Slots count) self.new }
-        ensures room { OnOk result (HasRoom self.old → HasRoom self.new) }
+            → IsLineEntered result past (items.Slots count) self.new }
+        ensures room { OnOk result (IsWithinCounts self.old → IsWithinCounts self.new) }
         ensures actors { OnOk result (self.new.actors ≡ self.old.actors) }
     {
         if let Err(why) = self.builder.slots(count) {
@@ -198,8 +198,8 @@ impl Context {
 
     fn add_kind(&mut self, kind: u16) -> Result<(), LineFault>
         ensures entered { (past : Past) → self.old ≡ context_of past
-            → IsEntered result past (items.Kind kind) self.new }
-        ensures room { OnOk result (HasRoom self.old → HasRoom self.new) }
+            → IsLineEntered result past (items.Kind kind) self.new }
+        ensures room { OnOk result (IsWithinCounts self.old → IsWithinCounts self.new) }
         ensures actors { OnOk result (self.new.actors ≡ self.old.actors) }
     {
         if let Err(why) = self.builder.kind(kind) {
@@ -211,8 +211,8 @@ impl Context {
 
     fn add_code(&mut self, kind: u16, code: u16) -> Result<(), LineFault>
         ensures entered { (past : Past) → self.old ≡ context_of past
-            → IsEntered result past (items.Code kind code) self.new }
-        ensures room { OnOk result (HasRoom self.old → HasRoom self.new) }
+            → IsLineEntered result past (items.Code kind code) self.new }
+        ensures room { OnOk result (IsWithinCounts self.old → IsWithinCounts self.new) }
         ensures actors { OnOk result (self.new.actors ≡ self.old.actors) }
     {
         if let Err(why) = self.builder.code(kind, code) {
@@ -223,10 +223,10 @@ impl Context {
     }
 
     fn set_realtime(&mut self, offset: u64) -> Result<(), LineFault>
-        requires { HasRoom self.old }
+        requires { IsWithinCounts self.old }
         ensures entered { (past : Past) → self.old ≡ context_of past
-            → IsEntered result past (items.Realtime offset) self.new }
-        ensures room { OnOk result (HasRoom self.old → HasRoom self.new) }
+            → IsLineEntered result past (items.Realtime offset) self.new }
+        ensures room { OnOk result (IsWithinCounts self.old → IsWithinCounts self.new) }
         ensures actors { OnOk result (self.new.actors ≡ self.old.actors) }
     {
         let boottime = self.given.boottime.unwrap_or(0);
@@ -239,10 +239,10 @@ impl Context {
     }
 
     fn set_boottime(&mut self, offset: u64) -> Result<(), LineFault>
-        requires { HasRoom self.old }
+        requires { IsWithinCounts self.old }
         ensures entered { (past : Past) → self.old ≡ context_of past
-            → IsEntered result past (items.Boottime offset) self.new }
-        ensures room { OnOk result (HasRoom self.old → HasRoom self.new) }
+            → IsLineEntered result past (items.Boottime offset) self.new }
+        ensures room { OnOk result (IsWithinCounts self.old → IsWithinCounts self.new) }
         ensures actors { OnOk result (self.new.actors ≡ self.old.actors) }
     {
         let realtime = self.given.realtime.unwrap_or(0);
@@ -256,8 +256,8 @@ impl Context {
 
     fn add_axis(&mut self, code: u16, info: AxisInfo) -> Result<(), LineFault>
         ensures entered { (past : Past) → self.old ≡ context_of past
-            → IsEntered result past (items.Axis code info) self.new }
-        ensures room { OnOk result (HasRoom self.old → HasRoom self.new) }
+            → IsLineEntered result past (items.Axis code info) self.new }
+        ensures room { OnOk result (IsWithinCounts self.old → IsWithinCounts self.new) }
         ensures actors { OnOk result (self.new.actors ≡ self.old.actors) }
     {
         if let Err(why) = self.builder.axis(code, info) {
@@ -273,8 +273,8 @@ impl Context {
     fn add_filter(&mut self, filter: Filter) -> Result<(), LineFault>
         requires { has_micros (items.Filter filter) ≡ true }
         ensures entered { (past : Past) → self.old ≡ context_of past
-            → IsEntered result past (items.Filter filter) self.new }
-        ensures room { OnOk result (HasRoom self.old → HasRoom self.new) }
+            → IsLineEntered result past (items.Filter filter) self.new }
+        ensures room { OnOk result (IsWithinCounts self.old → IsWithinCounts self.new) }
         ensures actors { OnOk result (self.new.actors ≡ self.old.actors) }
     {
         if let Err(why) = add_filter(&mut self.builder, filter) {
@@ -301,12 +301,12 @@ impl Context {
 
     /// Begins a device, behind those before it.
     fn add_device(&mut self, alloc: Global, requested: bool, name: Name) -> Result<(), LineFault>
-        requires room { HasRoom self.old }
+        requires room { IsWithinCounts self.old }
         requires enough { is_too_many self.old (items.Device requested name) ≡ false }
         ensures entered { (past : Past) → self.old ≡ context_of past
-            → IsEntered result past (items.Device requested name) self.new }
+            → IsLineEntered result past (items.Device requested name) self.new }
         ensures actors { OnOk result (self.new.actors ≡ self.old.actors) }
-        ensures room { OnOk result (HasRoom self.new) }
+        ensures room { OnOk result (IsWithinCounts self.new) }
     {
         if self.close().is_err() {
             return Err(LineFault::NoMemory);
@@ -323,12 +323,12 @@ impl Context {
 
     /// Adds an actor of the latest device.
     fn add_actor(&mut self, role: Role, name: Name) -> Result<(), LineFault>
-        requires room { HasRoom self.old }
+        requires room { IsWithinCounts self.old }
         requires enough { is_too_many self.old (items.Actor role name) ≡ false }
         ensures entered { (past : Past) → self.old ≡ context_of past
-            → IsEntered result past (items.Actor role name) self.new }
+            → IsLineEntered result past (items.Actor role name) self.new }
         ensures actors { OnOk result (length self.new.actors ≤ length self.old.actors + 1) }
-        ensures room { OnOk result (HasRoom self.new) }
+        ensures room { OnOk result (IsWithinCounts self.new) }
     {
         let actor = ActorText {
             name,
@@ -349,12 +349,12 @@ impl Context {
 
     /// Adds an action.
     fn add_line(&mut self, actor: u32, command: Command) -> Result<(), LineFault>
-        requires room { HasRoom self.old }
+        requires room { IsWithinCounts self.old }
         requires enough { is_too_many self.old (items.Action actor command) ≡ false }
         ensures entered { (past : Past) → self.old ≡ context_of past
-            → IsEntered result past (items.Action actor command) self.new }
+            → IsLineEntered result past (items.Action actor command) self.new }
         ensures actors { OnOk result (self.new.actors ≡ self.old.actors) }
-        ensures room { OnOk result (HasRoom self.new) }
+        ensures room { OnOk result (IsWithinCounts self.new) }
     {
         let streams = streams_in(&command);
         if self.lines.push(Line { actor, command }).is_err() {
@@ -405,7 +405,7 @@ impl Context {
 
     /// How many devices there are.
     fn device_count(&self) -> usize
-        requires { HasRoom self.now }
+        requires { IsWithinCounts self.now }
         ensures { result ≡ device_count self.now }
     {
         self.devices.len() + usize::from(self.name.is_some())
@@ -413,7 +413,7 @@ impl Context {
 
     /// Whether a line is one more than there may be.
     pub(crate) fn is_too_many(&self, item: &Item) -> bool
-        requires { HasRoom self.now }
+        requires { IsWithinCounts self.now }
         ensures { result ≡ is_too_many self.now item.now }
     {
         match item {

@@ -2,7 +2,7 @@
 ghost use Rattle.std.specs.Prelude.{◌≡◌, ◌+◌, ◌<◌, ◌≤◌, ◌^◌, length, true};
 ghost use Rattle.inp_words.specs.Number.{number};
 ghost use Rattle.inp_record.specs.Keyword.{has_words};
-ghost use Rattle.inp_record.specs.Words.{texts, word, version_word, is_header, name_word, count_word, kind_and_code, three_numbers, info_words, offset_item, device_item, actor_item, micros_word, eat_item, chord_item, bounce_item, plain_item};
+ghost use Rattle.inp_record.specs.Words.{texts, word, version_word, is_header, name_word, count_word, kind_and_code, three_numbers, info_in_words, offset_item, device_item, actor_item, micros_word, eat_item, chord_item, bounce_item, plain_item};
 
 use crate::item::Item;
 use crate::keyword::Keyword;
@@ -84,10 +84,10 @@ fn three_numbers(words: &[&[u8]], place: usize) -> Option<(i32, i32, i32)>
 }
 
 /// The data of an axis from this word on: value, minimum, maximum, fuzz, flat, resolution.
-#[tactic(auto, unfolding(crate::specs::Words::info_words))]
-pub(crate) fn info_words(words: &[&[u8]], place: usize) -> Option<AxisInfo>
+#[tactic(auto, unfolding(crate::specs::Words::info_in_words))]
+pub(crate) fn info_in_words(words: &[&[u8]], place: usize) -> Option<AxisInfo>
     requires { place + 5 < length words.now }
-    ensures { result ≡ info_words place (texts words.now) }
+    ensures { result ≡ info_in_words place (texts words.now) }
 {
     let (value, minimum, maximum) = three_numbers(words, place)?;
     let (fuzz, flat, resolution) = three_numbers(words, place + 3)?;
@@ -194,7 +194,7 @@ pub(crate) fn plain_item(keyword: Keyword, words: &[&[u8]]) -> Option<Item>
         }
         Keyword::Axis => {
             let code = code_word(EV_ABS, word(words, 1))?;
-            let info = info_words(words, 2)?;
+            let info = info_in_words(words, 2)?;
             Some(Item::Axis { code, info })
         }
         Keyword::Filter => None,

@@ -4,7 +4,7 @@ ghost use Rattle.inp_words.specs.Line.{AreText};
 ghost use Rattle.inp_record.specs.Fault.{IsReading};
 ghost use Rattle.inp_record.specs.Keyword.{has_words};
 ghost use Rattle.inp_record.specs.Words.{texts, word, item_of};
-ghost use Rattle.inp_record.specs.Past.{Past, context_of, HasRoom};
+ghost use Rattle.inp_record.specs.Past.{Past, context_of, IsWithinCounts};
 ghost use Rattle.inp_record.specs.Meaning.{item_of_words, behind_words, behind_line, IsBehind};
 
 use crate::Cause;
@@ -83,12 +83,12 @@ fn item_of_words(context: &Context, alloc: Global, words: &[&[u8]]) -> Result<It
 
 /// Reads the words of a line.
 fn read_words(context: &mut Context, alloc: Global, words: &[&[u8]]) -> Result<(), LineFault>
-    requires room { HasRoom context.old }
+    requires room { IsWithinCounts context.old }
     requires actors { length context.old.actors + 1 < 2 ^ 32 }
     requires text { AreText (texts words.now) }
     ensures behind { (past : Past) → context.old ≡ context_of past
         → IsBehind result (behind_words past (texts words.now)) context.new }
-    ensures room { OnOk result (HasRoom context.new) }
+    ensures room { OnOk result (IsWithinCounts context.new) }
     ensures actors { OnOk result
         (length context.new.actors ≤ length context.old.actors + 1) }
 {
@@ -114,11 +114,11 @@ fn read_words(context: &mut Context, alloc: Global, words: &[&[u8]]) -> Result<(
 /// Reads a line. After a fault the context is given up.
 #[tactic(auto, unfolding(crate::specs::Meaning::behind_line))]
 pub(crate) fn read_line(context: &mut Context, alloc: Global, line: &[u8]) -> Result<(), LineFault>
-    requires room { HasRoom context.old }
+    requires room { IsWithinCounts context.old }
     requires actors { length context.old.actors + 1 < 2 ^ 32 }
     ensures behind { (past : Past) → context.old ≡ context_of past
         → IsBehind result (behind_line past line.now) context.new }
-    ensures room { OnOk result (HasRoom context.new) }
+    ensures room { OnOk result (IsWithinCounts context.new) }
     ensures actors { OnOk result
         (length context.new.actors ≤ length context.old.actors + 1) }
 {

@@ -4,7 +4,7 @@ ghost use Rattle.inp_words.specs.Line.{lines_of};
 ghost use Rattle.inp_record.specs.Fault.{IsParsing};
 ghost use Rattle.inp_actors.specs.Record.{IsRecord};
 ghost use Rattle.inp_record.specs.Past.{Past, context_of};
-ghost use Rattle.inp_record.specs.Meaning.{meaning, as_record, record_in, AreRead};
+ghost use Rattle.inp_record.specs.Meaning.{meaning, as_record, record_in, AreLinesRead};
 
 use crate::context::Context;
 use crate::line_reader::read_line;
@@ -17,7 +17,7 @@ use std::alloc::Global;
 /// Reads all lines, and counts them.
 fn read_lines(alloc: Global, text: &[u8]) -> Result<(Context, u32), ParseFault>
     requires few { length (lines_of text.now) < 2 ^ 32 }
-    ensures { AreRead result (lines_of text.now) }
+    ensures { AreLinesRead result (lines_of text.now) }
 {
     let mut context = Context::new(alloc);
     let mut line: u32 = 0;

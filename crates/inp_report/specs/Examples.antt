@@ -30,6 +30,7 @@ use Rattle.inp_script.specs.declared.stop.Stop.{Stop}
 use Rattle.inp_script.specs.declared.stop.Stop.TheVariants.{Finished, Idle, Full}
 use Rattle.inp_script.specs.declared.run.Run.{Run}
 use Rattle.inp_script.specs.Job.{JobView, JoyJobView, OwnerView}
+use Rattle.inp_texts.specs.Texts.{text_of_lines}
 use Rattle.inp_report.specs.Words.{LINE_FEED}
 use Rattle.inp_report.specs.Sights.{sight_line}
 use Rattle.inp_report.specs.Views.{view_text}
@@ -37,10 +38,6 @@ use Rattle.inp_report.specs.Report.{stop_line, reading_text, report}
 use Rattle.inp_report.specs.JoyReport.{joy_report}
 use Rattle.inp_report.specs.OwnerReport.{owner_report}
 use Rattle.inp_report.specs.Summary.{summary}
-
--- a text of these lines
-abbrev pub text_of : List (List ℕ) → List ℕ
-text_of lines = flat_map (λ line. line ++ LINE_FEED) lines
 
 -- an actor of the only device
 abbrev pub actor : Role → List ℕ → ActorText
@@ -94,12 +91,12 @@ tap_lines =
 abbrev pub ShowsAPress : Type 0
 ShowsAPress =
     report keyboard (runs_with injected Finished) false
-    ≡ text_of (codes "device kbd steps 4" ∷ codes "source s calls 2 stop finished" ∷ tap_lines)
+    ≡ text_of_lines (codes "device kbd steps 4" ∷ codes "source s calls 2 stop finished" ∷ tap_lines)
 
 abbrev pub ShowsItsHistory : Type 0
 ShowsItsHistory =
     report keyboard (runs_with injected Finished) true
-    ≡ text_of (codes "device kbd steps 4"
+    ≡ text_of_lines (codes "device kbd steps 4"
     ∷ codes "step 0 open"
     ∷ codes "step 1 inject 1000 EV_KEY KEY_A 1"
     ∷ codes "step 2 inject 1000 EV_SYN SYN_REPORT 0"
@@ -111,7 +108,7 @@ ShowsItsHistory =
 abbrev pub ShowsAFullHistory : Type 0
 ShowsAFullHistory =
     report keyboard (runs_with (injected ++ Call (Inject (key (pos 0)) 2000) (Refused 4 LogFull) ∷ []) (Full 4)) false
-    ≡ text_of (codes "device kbd steps 4" ∷ codes "source s calls 2 stop full 4" ∷ tap_lines)
+    ≡ text_of_lines (codes "device kbd steps 4" ∷ codes "source s calls 2 stop full 4" ∷ tap_lines)
 
 abbrev pub CountsNoEnd : Type 0
 CountsNoEnd =
@@ -131,7 +128,7 @@ ShowsAClient =
     ∷ Took (at 5 2000 syn_report)
     ∷ Again 7 0
     ∷ []) (first_view one_key) Finished)
-    ≡ text_of (codes "client c"
+    ≡ text_of_lines (codes "client c"
     ∷ codes "call open reply opened 0 0 128"
     ∷ codes "call getkeys 0 reply bits 1"
     ∷ codes "call read 0 64 reply took 6 4"
@@ -159,7 +156,7 @@ ShowsALoss =
     ∷ Made syn_report
     ∷ Again 71 0
     ∷ [])
-    ≡ text_of (codes "call read 0 64 reply took 68 4"
+    ≡ text_of_lines (codes "call read 0 64 reply took 68 4"
     ∷ codes "took 65 0 EV_SYN SYN_DROPPED 0"
     ∷ codes "call discard 0 reply discarded 69 0"
     ∷ codes "call getaxis 0 ABS_X reply axis 70 6 0 100 0 0 0"
@@ -172,11 +169,11 @@ ShowsALoss =
 abbrev pub ShowsEachClass : Type 0
 ShowsEachClass =
     view_text desk (record (first_view desk) { keys = desk.keys; axes = pos 6 ∷ replicate 63 (pos 0) })
-    ≡ text_of (codes "keys KEY_A KEY_B" ∷ codes "switches" ∷ codes "leds" ∷ codes "axes ABS_X=6" ∷ [])
+    ≡ text_of_lines (codes "keys KEY_A KEY_B" ∷ codes "switches" ∷ codes "leds" ∷ codes "axes ABS_X=6" ∷ [])
 
 -- a job that found nothing three times, the last at the place 12
 abbrev pub ShowsIdle : Type 0
-ShowsIdle = stop_line (Idle 3 12) ≡ text_of (codes "stop idle 3 12" ∷ [])
+ShowsIdle = stop_line (Idle 3 12) ≡ text_of_lines (codes "stop idle 3 12" ∷ [])
 
 -- A touchpad with two slots and no axis of its own: of each slot the place and the id, those of an empty slot too.
 abbrev pub ShowsContacts : Type 0
@@ -186,7 +183,7 @@ ShowsContacts =
       cells = (replicate 6 (pos 0) ++ pos 7 ∷ pos 0 ∷ pos 0 ∷ negsuc 0 ∷ replicate 4 (pos 0))
           ++ replicate 5 (pos 0) ++ pos 5 ∷ pos 0 ∷ pos 0 ∷ pos 0 ∷ pos 11 ∷ replicate 4 (pos 0);
     })
-    ≡ text_of (codes "keys"
+    ≡ text_of_lines (codes "keys"
     ∷ codes "axes"
     ∷ codes "current 1"
     ∷ codes "slot 0 ABS_MT_POSITION_X=0 ABS_MT_POSITION_Y=7 ABS_MT_TRACKING_ID=-1"
@@ -225,7 +222,7 @@ abbrev pub ShowsAJoystick : Type 0
 ShowsAJoystick =
     report joystick (record { history = pull; jobs = job 0 pulled (first_view stick) Finished ∷ [] } ∷ []) false
     ++ joy_report joystick (joy_job pull_read (record { buttons = up_to_64 false (true ∷ []); axes = up_to_64 (pos 0) (pos 32767 ∷ []) }) Finished ∷ [])
-    ≡ text_of (codes "device stick steps 7"
+    ≡ text_of_lines (codes "device stick steps 7"
     ∷ codes "source s calls 3 stop finished"
     ∷ codes "joy j"
     ∷ codes "call open reply opened 0 0 64"
@@ -247,7 +244,7 @@ abbrev pub ShowsAnAxisBelowNought : Type 0
 ShowsAnAxisBelowNought =
     joy_report joystick (joy_job (
     Record (255 ∷ 255 ∷ 255 ∷ 255 ∷ 1 ∷ 128 ∷ 2 ∷ 0 ∷ []) ∷ []) (record blank_picture { axes = up_to_64 (pos 0) (negsuc 32766 ∷ []) }) (Full 9) ∷ [])
-    ≡ text_of (codes "joy j" ∷ codes "js 4294967295 -32767 2 0" ∷ codes "buttons" ∷ codes "axes -32767" ∷ codes "stop full 9" ∷ [])
+    ≡ text_of_lines (codes "joy j" ∷ codes "js 4294967295 -32767 2 0" ∷ codes "buttons" ∷ codes "axes -32767" ∷ codes "stop full 9" ∷ [])
 
 -- A device with an LED, which is made by requests. A tap lights the LED two times, of which the second changes nothing. The
 -- owner takes the one event that was sent, and then none.
@@ -280,7 +277,7 @@ abbrev pub ShowsAnOwner : Type 0
 ShowsAnOwner =
     report lamp_record (record { history = lit_twice; jobs = job 0 lighting (first_view lamp) Finished ∷ [] } ∷ []) false
     ++ owner_report lamp_record (owner_of_lamp (Answer (FeedTook 3 1) ∷ Given (caps_lock (pos 1)) ∷ Answer (FeedTook 3 0) ∷ []) Finished ∷ [])
-    ≡ text_of (codes "device u steps 3"
+    ≡ text_of_lines (codes "device u steps 3"
     ∷ codes "tap t"
     ∷ codes "call open reply opened 0 0 128"
     ∷ codes "call write 0 1 EV_LED LED_CAPSL 1 reply done 1"
@@ -303,7 +300,7 @@ ShowsNoRefusedFeedback =
     ∷ Answer (FeedTook 2 0)
     ∷ Answer (FeedFull 2)
     ∷ []) (Full 2) ∷ [])
-    ≡ text_of (codes "owner o"
+    ≡ text_of_lines (codes "owner o"
     ∷ codes "feedback 2 1"
     ∷ codes "fed EV_LED LED_CAPSL 1"
     ∷ codes "feedback 2 0"
@@ -330,7 +327,7 @@ SumsUp =
           ∷ job 2 (Took (at 2 10000 syn_dropped) ∷ replicate 41 (Made syn_report) ++ Again 674 0 ∷ []) told Finished
           ∷ [];
     } ∷ [])
-    ≡ text_of (codes "make 7 20"
+    ≡ text_of_lines (codes "make 7 20"
     ∷ codes "device pad steps 674"
     ∷ codes "source finger calls 631"
     ∷ codes "client fast took 630 made 0 again 20 x 258 y 370"

@@ -42,6 +42,6 @@ abbrev pub is_made : Sight → Bool
 is_made (Made e) = true
 is_made _ = false
 
-abbrev pub is_again : Sight → Bool
-is_again (Again at ends) = true
-is_again _ = false
+abbrev pub is_again_sight : Sight → Bool
+is_again_sight (Again at ends) = true
+is_again_sight _ = false

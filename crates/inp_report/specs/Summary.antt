@@ -13,7 +13,7 @@ use Rattle.inp_script.specs.declared.run.Run.{Run}
 use Rattle.inp_script.specs.Job.{JobView}
 use Rattle.inp_texts.specs.Texts.{role_text}
 use Rattle.inp_report.specs.Words.{LINE_FEED}
-use Rattle.inp_report.specs.Sights.{is_counted_call, is_took, is_made, is_again}
+use Rattle.inp_report.specs.Sights.{is_counted_call, is_took, is_made, is_again_sight}
 use Rattle.inp_report.specs.Views.{cell_of}
 use Rattle.inp_report.specs.Report.{device_line}
 
@@ -33,7 +33,7 @@ calls_line name calls = codes "source " ++ (name ++ (codes " calls " ++ (decimal
 unfoldable pub counts_text : List Sight → List ℕ
 counts_text sight =
     codes "took " ++ (decimal (count_by is_took sight)
-    ++ (codes " made " ++ (decimal (count_by is_made sight) ++ (codes " again " ++ decimal (count_by is_again sight)))))
+    ++ (codes " made " ++ (decimal (count_by is_made sight) ++ (codes " again " ++ decimal (count_by is_again_sight sight)))))
 
 -- x X y Y, of the slot that is told
 unfoldable pub position_text : List ℤ → List ℕ

@@ -4,7 +4,7 @@ ghost use Rattle.std.specs.List.{count_by};
 ghost use Rattle.inp_model.specs.Step.{is_end_step};
 ghost use Rattle.inp_report.specs.Steps.{step_text};
 ghost use Rattle.inp_report.specs.Replies.{query_kind, reply_text};
-ghost use Rattle.inp_report.specs.Sights.{stamp_text, joy_record_text, sight_line, is_counted_call, is_took, is_made, is_again};
+ghost use Rattle.inp_report.specs.Sights.{stamp_text, joy_record_text, sight_line, is_counted_call, is_took, is_made, is_again_sight};
 
 use crate::bits::push_bits;
 use crate::stamp::Stamp;
@@ -181,7 +181,7 @@ pub(crate) fn made_count(sights: &[Sight]) -> usize
 }
 
 pub(crate) fn again_count(sights: &[Sight]) -> usize
-    ensures count { result ≡ count_by is_again sights.now }
+    ensures count { result ≡ count_by is_again_sight sights.now }
 {
     sights
         .iter()

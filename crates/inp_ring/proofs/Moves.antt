@@ -3,7 +3,7 @@ use Rattle.std.proofs.Common.{◌≡◌, ◌≤◌, ◌<◌, ℕ, zero, suc, ◌
 use Rattle.std.proofs.lemmas.Bool.{cases_eq, eq-eqb, ne_eqb, cond-true, cond-false}
 use Rattle.inp_ring.specs.declared.cell.Cell.{Cell}
 use Rattle.inp_ring.specs.declared.cell.Held.{Held}
-use Rattle.inp_ring.specs.Store.{StoreView, entry, cell_in, holders, holders_of, cell_of, cell_count, held_more, held_less, held_by, HasCell, IsIdle, IsIdleSlot, IsPut}
+use Rattle.inp_ring.specs.Store.{StoreView, entry, cell_in, holders, holders_of, held_cell, cell_count, held_more, held_less, held_by, HasCell, IsIdle, IsIdleSlot, IsPut}
 use Rattle.inp_ring.specs.Ring.{times, AreHeld, IsMoved, IsTakenOut, IsEntered}
 use Rattle.inp_ring.proofs.Times.{once, once_same, once_other, times-append, times_push}
 
@@ -62,7 +62,7 @@ moved_add {s} {new} m cell none put room = record {
   ];
   kept = λ n h. elim (cases_eq n m) [
     | inl e ↦ let before : holders s n ≡ 0 = ap (λ k. holders s k) e ∙ ap holders_of none in absurd (omega (arith, before))
-    | inr d ↦ ap cell_of (put.others n d)
+    | inr d ↦ ap held_cell (put.others n d)
   ];
   idle = λ n h. elim (cases_eq n m) [
     | inl e ↦
@@ -113,9 +113,9 @@ taken_first {s} {new} x q h put spare room = record {
     less : holders new x + 1 ≡ holders s x
     less = omega (arith, ap holders_of put.changed, one_less (entry s x) some)
 
-    stays : (o : Option Held) → 1 < holders_of o → cell_of (held_less o) ≡ cell_of o
+    stays : (o : Option Held) → 1 < holders_of o → held_cell (held_less o) ≡ held_cell o
     stays None h = absurd (omega arith)
-    stays (Some h) some = ap cell_of (cond-false (nat_eq h.holders 1) None (Some (record h { holders = h.holders - 1 })) (ne_eqb h.holders 1 (λ e. omega (arith, e))))
+    stays (Some h) some = ap held_cell (cond-false (nat_eq h.holders 1) None (Some (record h { holders = h.holders - 1 })) (ne_eqb h.holders 1 (λ e. omega (arith, e))))
 
     last : (o : Option Held) → 0 < holders_of o → IsIdleSlot (held_less o) → ⊥
     last None some i = i
@@ -128,8 +128,8 @@ taken_first {s} {new} x q h put spare room = record {
 
     same : (n : ℕ) → (n ≡ x → 1 < holders s x) → cell_in new n ≡ cell_in s n
     same n many = elim (cases_eq n x) [
-      | inl e ↦ subst (λ (k : ℕ). cell_in new k ≡ cell_in s k) (sym e) (ap cell_of put.changed ∙ stays (entry s x) (many e))
-      | inr d ↦ ap cell_of (put.others n d)
+      | inl e ↦ subst (λ (k : ℕ). cell_in new k ≡ cell_in s k) (sym e) (ap held_cell put.changed ∙ stays (entry s x) (many e))
+      | inr d ↦ ap held_cell (put.others n d)
     ]
 
 -- Beside numbers that leave others stay.
@@ -175,7 +175,7 @@ number_there s q at x held e = held_there s x (omega (arith, held x, among q at 
 pub entry_same : {old new : StoreView} {from to : List ℕ} (n : ℕ) → IsMoved old new from to → HasCell old n → times n from ≡ 0 → times n to ≡ 0 → entry new n ≡ entry old n
 entry_same {old} {new} n m there out absent = same (entry old n) (entry new n) there (λ i. m.rest n i absent) (λ h. m.kept n (omega arith)) (omega (arith, m.held n))
   where
-    same : (o p : Option Held) → IsSome o → (IsIdleSlot o → p ≡ o) → (0 < holders_of o → cell_of p ≡ cell_of o) → holders_of p ≡ holders_of o → p ≡ o
+    same : (o p : Option Held) → IsSome o → (IsIdleSlot o → p ≡ o) → (0 < holders_of o → held_cell p ≡ held_cell o) → holders_of p ≡ holders_of o → p ≡ o
     same None p some idle kept equal = cc
     same (Some h) None some idle kept equal = elim (cases_eq h.holders 0) [
       | inl e ↦ idle e
@@ -198,8 +198,8 @@ moved_hold {s} {t} {u} {from} {to} x e absent there put room =
         | inr d ↦ omega (arith, ap holders_of (put.others n d), ap (times n) e.entered, times_push n x e.before, once_other n x (λ i. d (sym i)), e.moved.held n)
       ];
       kept = λ n h. elim (cases_eq n x) [
-        | inl i ↦ subst (λ (k : ℕ). cell_in u k ≡ cell_in s k) (sym i) (ap cell_of put.changed ∙ same_cell (entry t x) ∙ ap cell_of e.same)
-        | inr d ↦ ap cell_of (put.others n d) ∙ e.moved.kept n h
+        | inl i ↦ subst (λ (k : ℕ). cell_in u k ≡ cell_in s k) (sym i) (ap held_cell put.changed ∙ same_cell (entry t x) ∙ ap held_cell e.same)
+        | inr d ↦ ap held_cell (put.others n d) ∙ e.moved.kept n h
       ];
       idle = λ n h. elim (cases_eq n x) [
         | inl i ↦ absurd (omega (arith, more, idle_none u n h, ap (λ (k : ℕ). holders u k) i))
@@ -216,6 +216,6 @@ moved_hold {s} {t} {u} {from} {to} x e absent there put room =
     plus None h = cc
     plus (Some h) i = refl
 
-    same_cell : (o : Option Held) → cell_of (held_more 1 o) ≡ cell_of o
+    same_cell : (o : Option Held) → held_cell (held_more 1 o) ≡ held_cell o
     same_cell None = refl
     same_cell (Some h) = refl

@@ -26,9 +26,9 @@ abbrev pub holders_of : Option Held → ℕ
 holders_of None = 0
 holders_of (Some h) = h.holders
 
-abbrev pub cell_of : Option Held → Option Cell
-cell_of None = None
-cell_of (Some h) = Some h.cell
+abbrev pub held_cell : Option Held → Option Cell
+held_cell None = None
+held_cell (Some h) = Some h.cell
 
 -- a cell that no ring holds
 abbrev pub IsIdleSlot : Option Held → Type 0
@@ -40,7 +40,7 @@ abbrev pub entry : StoreView → ℕ → Option Held
 entry s number = slice_index_or s.slots number None
 
 abbrev pub cell_in : StoreView → ℕ → Option Cell
-cell_in s number = cell_of (entry s number)
+cell_in s number = held_cell (entry s number)
 
 -- how many rings hold the cell under a number, 0 where there is none
 abbrev pub holders : StoreView → ℕ → ℕ
@@ -86,5 +86,5 @@ abbrev pub dropped_at : Cell → Cell
 dropped_at cell = record cell { event = syn_dropped }
 
 -- a cell as it is read on a clock that is so far ahead
-abbrev pub taken_of : ℕ → Cell → Taken
-taken_of offset cell = record { event = cell.event; time = cell.now + offset; place = cell.place }
+abbrev pub cell_taken : ℕ → Cell → Taken
+cell_taken offset cell = record { event = cell.event; time = cell.now + offset; place = cell.place }

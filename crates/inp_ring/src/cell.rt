@@ -1,7 +1,7 @@
 //! What a store keeps of an event.
 ghost use Rattle.std.specs.Prelude.{◌≡◌, ◌≤◌};
 ghost use Rattle.inp_model.specs.declared.stamped.TheConstants.{MOMENT_MAX};
-ghost use Rattle.inp_ring.specs.Store.{taken_of};
+ghost use Rattle.inp_ring.specs.Store.{cell_taken};
 
 use inp_model::{Event, MOMENT_MAX, Taken};
 
@@ -21,7 +21,7 @@ impl Cell {
     pub fn taken(self, offset: u64) -> Taken
         requires now { self.now ≤ MOMENT_MAX }
         requires offset { offset ≤ MOMENT_MAX }
-        ensures taken { result ≡ taken_of offset self }
+        ensures taken { result ≡ cell_taken offset self }
     {
         Taken {
             event: self.event,

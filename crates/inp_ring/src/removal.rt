@@ -7,7 +7,7 @@ ghost use Rattle.inp_model.specs.Queue.{flush};
 ghost use Rattle.inp_model.specs.Reply.{written};
 ghost use Rattle.inp_model.specs.Step.{is_part_of};
 ghost use Rattle.inp_ring.specs.Class.{query_of};
-ghost use Rattle.inp_ring.specs.Store.{event_of, taken_of, HasCell};
+ghost use Rattle.inp_ring.specs.Store.{event_of, cell_taken, HasCell};
 ghost use Rattle.inp_ring.specs.Ring.{times, cell_at, queue_in, AreHeld, AreFit, IsMoved, IsTakenOut};
 
 use crate::cell::Cell;
@@ -66,7 +66,7 @@ pub fn read_front(
     requires offset { offset ≤ MOMENT_MAX }
     requires moments { AreFit (queue_in store.old numbers.old.items) }
     ensures read { let cells = take count (queue_in store.old numbers.old.items) in
-        out.new ≡ written (map (taken_of offset) cells) out.old }
+        out.new ≡ written (map (cell_taken offset) cells) out.old }
     ensures rest { numbers.new ≡ buffer (drop count numbers.old.items) numbers.old.capacity }
     ensures moved { IsTakenOut store.old store.new numbers.old.items numbers.new.items }
 {
@@ -83,7 +83,7 @@ fn read_each(store: &mut Store, numbers: &[u32], offset: u64, out: &mut [Taken],
     requires room { from + length numbers.now ≤ length out.old }
     requires offset { offset ≤ MOMENT_MAX }
     requires moments { AreFit (queue_in store.old numbers.now) }
-    ensures read { let events = map (taken_of offset) (queue_in store.old numbers.now) in
+    ensures read { let events = map (cell_taken offset) (queue_in store.old numbers.now) in
         out.new ≡ take from out.old ++ written events (drop from out.old) }
     ensures moved { IsTakenOut store.old store.new numbers.now [] }
 {

@@ -9,7 +9,7 @@ ghost use Rattle.inp_model.specs.Queue.{is_empty, ends_in_report, put, visible, 
 ghost use Rattle.inp_model.specs.Reply.{written};
 ghost use Rattle.inp_model.specs.Step.{is_part_of, Codes, Slots};
 ghost use Rattle.inp_ring.specs.Class.{query_of};
-ghost use Rattle.inp_ring.specs.Store.{entry, cell_in, event_of, dropped_at, taken_of, holders, HasCell};
+ghost use Rattle.inp_ring.specs.Store.{entry, cell_in, event_of, dropped_at, cell_taken, holders, HasCell};
 ghost use Rattle.inp_ring.specs.Ring.{times, cell_at, queue_in, IsRing, AreFit, AreHeld, AreDifferent, EntersAlone, HoldsAllButOne, IsMoved, IsTakenOut, IsEntered};
 
 use crate::cell::Cell;
@@ -200,7 +200,7 @@ impl Ring {
         ensures count { let queue = queue_in store.old self.old.numbers in
             result ≡ min count (visible event_of queue) }
         ensures taken { let cells = take result (queue_in store.old self.old.numbers) in
-            out.new ≡ written (map (taken_of offset) cells) out.old }
+            out.new ≡ written (map (cell_taken offset) cells) out.old }
         ensures rest { self.new ≡ record self.old { numbers = drop result self.old.numbers } }
         ensures left { let queue = queue_in store.old self.old.numbers in
             queue_in store.new self.new.numbers ≡ drop result queue }

@@ -14,7 +14,7 @@ use Rattle.inp_model.specs.Reply.{Answer, IsAnswer, answer, answer_by, accepted,
 use Rattle.inp_model.specs.Run.{Call, HasPlace, place_of, next_place}
 use Rattle.inp_recon.specs.declared.view.View.{View}
 use Rattle.inp_recon.specs.Synchronised.{is_dropped}
-use Rattle.inp_losses.specs.Losses.{HasCause}
+use Rattle.inp_losses.specs.Losses.{IsCausedAt}
 use Rattle.inp_losses.proofs.Causes.{all_taken-caused}
 use Rattle.inp_reader.specs.Standing.{is_use_of}
 use Rattle.inp_model.proofs.Refused.{refused-not_accepted}
@@ -49,7 +49,7 @@ entry-at (e ∷ entries) (suc index) taken h =
 pub own-caused : (d : Description) (h : List Step) (sight : List Sight) (taken : Taken) → IsOwnEvent d h sight taken → is_dropped taken.event ≡ true → HasLossCause d h sight taken
 own-caused d h sight taken o lost =
     let e : IsEntryAt (took d (reverse h) (reads_as sight)) o.index taken = entry-at (took d (reverse h) (reads_as sight)) o.index taken o.is_taken in
-    subst (λ (t : Taken). HasCause d (reverse h) (reads_as sight) t.place) e.same
+    subst (λ (t : Taken). IsCausedAt d (reverse h) (reads_as sight) t.place) e.same
     (all_taken-caused d (reverse h) (reads_as sight) o.index e.entry e.at (ap (λ (t : Taken). is_dropped t.event) e.same ∙ lost))
 
 -- a view that is shown at the event's own index tells so

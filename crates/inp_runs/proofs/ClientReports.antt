@@ -29,7 +29,8 @@ use Rattle.inp_reader.specs.declared.next.Next.{Next}
 use Rattle.inp_reader.specs.declared.next.Next.TheVariants.{Success, Dropped, Sync, Again, Synced, NoDevice, Closed, Full}
 use Rattle.inp_reader.specs.declared.reader.TheConstants.{NO_CLIENT}
 use Rattle.inp_reader.specs.declared.started.Started.{Started}
-use Rattle.inp_reader.specs.Reading.{Reading, is_dropped, start_talk, next_talk, with_sync_needed}
+use Rattle.inp_recon.specs.Synchronised.{is_dropped}
+use Rattle.inp_reader.specs.Reading.{Reading, start_talk, next_talk, with_sync_needed}
 use Rattle.inp_reader.specs.Showing.{index_handed_out}
 use Rattle.inp_reader.specs.Standing.{is_use, is_use_of}
 use Rattle.inp_reader.proofs.StandsAfterTalks.{IsOpenInStep}
@@ -41,10 +42,10 @@ use Rattle.inp_script.specs.declared.sight.Sight.TheVariants.{Took, Made, Again 
 use Rattle.inp_script.specs.declared.stop.Stop.{Stop}
 use Rattle.inp_script.specs.declared.stop.Stop.TheVariants.{Idle, Full as FullHistory}
 use Rattle.inp_script.specs.declared.waiting.Waiting.{Waiting}
-use Rattle.inp_script.specs.Client.{Going, Turn, goes_on, ends_with, start_job, start_ends, after_start, handed, one_less, is_done, patience, after_again, turn_after, after_next, mode_of, with_sight, with_stop, next_round, on_turn, rounds, hand_talk, forced, client_talk}
+use Rattle.inp_script.specs.Client.{Going, Turn, goes_on, ends_with, start_job, start_ends, job_after_start, handed, one_less, is_done, patience, after_again, turn_after, after_next, mode_of, with_sight, with_stop, next_round, on_turn, rounds, hand_talk, forced, client_talk}
 use Rattle.inp_script.specs.Fold.{settled, after_first_call, client_fold}
 use Rattle.inp_script.specs.Job.{Job, first_job, first_reading}
-use Rattle.inp_script.specs.Line.{after_call, call_talk, client_after}
+use Rattle.inp_script.specs.Line.{after_call, call_talk, tap_client_after}
 use Rattle.inp_script.specs.Sight.{noted, call_sight, again_sight, taken_sight, start_lacks_memory}
 use Rattle.inp_script.proofs.ClientFolds.{next-folds, entries_of_next}
 use Rattle.inp_script.proofs.Folds.{ArePlaced}
@@ -90,7 +91,7 @@ not-both e lost report =
     omega (arith, one, other)
 
 -- the client that the entries of calls lead to
-call-client : (client : ℕ) (x : Step) (reply : Reply) → client_after_sight client (call_sight x reply) ≡ client_after x reply client
+call-client : (client : ℕ) (x : Step) (reply : Reply) → client_after_sight client (call_sight x reply) ≡ tap_client_after x reply client
 unfolding client_after_sight
 call-client client x (NothingVisible at n) = sym (client_after-none x at n client)
 call-client client x _ = refl
@@ -101,7 +102,7 @@ noted-client client [] = refl
 noted-client client (call ∷ calls) =
     client_after-append client (call_sight call.step call.answer.reply) (noted_sight calls)
     ∙ ap (λ (n : ℕ). client_after_sight n (noted_sight calls)) (call-client client call.step call.answer.reply)
-    ∙ noted-client (client_after call.step call.answer.reply client) calls
+    ∙ noted-client (tap_client_after call.step call.answer.reply client) calls
 
 split-come : (d : Description) (h : List Step) (Q : ℕ → Type 0) (least : ℕ) (calls first second more : List Call) → calls ≡ first ++ second → AreToCome d h Q least (calls ++ more) → AreToCome d h Q least (first ++ (second ++ more))
 split-come d h Q least calls first second more e c = subst (AreToCome d h Q least) (ap (λ (cs : List Call). cs ++ more) e ∙ append_assoc first second more) c
@@ -339,7 +340,7 @@ module _ (d : Description) (h : List Step) (Q : ℕ → Type 0) (history : IsHis
       let p = and_then-parts (noted (start_talk d j.reading) j.sight) next calls (Some k) ends in
       let f = finish-only (start_ends p.mid) (Some k) p.second p.second_ends in
       let b = noted-back (start_talk d j.reading) j.sight p.first p.mid p.first_ends in
-      let new : Job = after_start p.mid.0.0 p.mid.0.1 p.mid.1 in
+      let new : Job = job_after_start p.mid.0.0 p.mid.0.1 p.mid.1 in
       let same : new ≡ k = memory_there (start_lacks_memory p.mid.0.0) new k f.1 in
       let here : AreToCome d h Q least (p.first ++ (p.second ++ more)) = split-come d h Q least calls p.first p.second more p.whole c in
       let folded : IsClientFold d h (first_view d) k = start_job-folds d h (first_view d) j k calls (placed least calls more c) ends s.folded in

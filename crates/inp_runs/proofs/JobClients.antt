@@ -35,12 +35,13 @@ use Rattle.inp_reader.specs.declared.next.Next.TheVariants.{Success, Dropped, Sy
 use Rattle.inp_reader.specs.declared.started.Started.{Started}
 use Rattle.inp_reader.specs.declared.started.Started.TheVariants.{Opened as StartedOn, Refused}
 use Rattle.inp_reader.specs.declared.reader.TheConstants.{NO_CLIENT}
-use Rattle.inp_reader.specs.Reading.{Reading, ask_each, queries, bit_queries, axis_queries, plain_axes, slot_queries, only_if, after_queries, after_open, start_talk, stop_of, is_dropped, hand_out_event, hand_out, after_read, read_or_hand_out, read_talk, hand_synthesised, as_plain, after_full_sync, go_on, go_on_after, sync_talk, talk_in, next_talk}
+use Rattle.inp_recon.specs.Synchronised.{is_dropped}
+use Rattle.inp_reader.specs.Reading.{Reading, ask_each, queries, bit_queries, axis_queries, plain_axes, slot_queries, only_if, after_queries, after_open, start_talk, stop_of, hand_out_event, hand_out, after_read, read_or_hand_out, read_talk, hand_synthesised, as_plain, after_full_sync, go_on, go_on_after, sync_talk, talk_in, next_talk}
 use Rattle.inp_joy.specs.declared.joy_read.JoyRead.{JoyRead}
 use Rattle.inp_joy.specs.declared.joy_read.JoyRead.TheVariants.{Record as HandedOut, Frame, Again as NothingToRead, NoDevice as Revoked, Closed as NotOpen, Full as FullHistory, More}
 use Rattle.inp_joy.specs.declared.joy_record.JoyRecord.{JoyRecord}
 use Rattle.inp_joy.specs.Joying as joy
-use Rattle.inp_joy.specs.Joying.{Joying, JoyAnswer, Turn as JoyTurn, gives, goes_on as reads_on, startup, with_reading, without_startup, joy_started, joy_start, stop_with, is_lost, event_of, record_of, record_or_on, stop_or_event, stop_or_startup, after_sync, sync_turn, after_normal, event_turn, record_or_turn, turn_talk, with_count, is_long, after_turn, turns}
+use Rattle.inp_joy.specs.Joying.{Joying, JoyAnswer, Turn as JoyTurn, gives, goes_on as reads_on, startup, with_reading, without_startup, joy_started, joy_start, stop_with, is_lost, event_handed_out, joy_record_of, record_or_on, stop_or_event, stop_or_startup, joying_after_sync, sync_turn, after_normal, event_turn, record_or_turn, turn_talk, with_count, is_long, after_turn, turns}
 use Rattle.inp_reader.specs.Standing.{is_needed}
 use Rattle.inp_reader.specs.Talk.{Talk, finish, ask, and_then, LeadsTo, EndsWith}
 use Rattle.inp_script.specs.declared.sight.Sight.{Sight}
@@ -48,11 +49,11 @@ use Rattle.inp_script.specs.declared.sight.Sight.TheVariants.{Took, Made, Again 
 use Rattle.inp_script.specs.declared.stop.Stop.{Stop}
 use Rattle.inp_script.specs.declared.stop.Stop.TheVariants.{Idle}
 use Rattle.inp_script.specs.declared.waiting.Waiting.{Waiting}
-use Rattle.inp_script.specs.Client.{Going, Turn, goes_on, ends_with, start_job, start_ends, after_start, handed, one_less, is_done, patience, after_again, turn_after, after_next, mode_of, with_sight, with_stop, next_round, on_turn, rounds, hand_talk, client_talk}
+use Rattle.inp_script.specs.Client.{Going, Turn, goes_on, ends_with, start_job, start_ends, job_after_start, handed, one_less, is_done, patience, after_again, turn_after, after_next, mode_of, with_sight, with_stop, next_round, on_turn, rounds, hand_talk, client_talk}
 use Rattle.inp_script.specs.Doing.{command_talk, unless_stopped, line_talk}
 use Rattle.inp_script.specs.Job.{Job, first_job, joying_of, with_joying}
-use Rattle.inp_script.specs.Joystick.{Reach, handed_out, line_ends, after_joy_start, start_joystick, after_joy_answer, after_read as after_joy_read, after_turns, read_on, on_reach, read_records, joystick_talk}
-use Rattle.inp_script.specs.Line.{step_of, after_call, call_if, stream_talk, stream_at, source_talk, end_talk, client_after, after_tap_call, tap_call_if, tap_talk}
+use Rattle.inp_script.specs.Joystick.{Reach, handed_out, line_ends, after_joy_start, start_joystick, after_joy_answer, after_joy_read, after_turns, read_on, on_reach, read_records, joystick_talk}
+use Rattle.inp_script.specs.Line.{step_of, after_call, call_if, stream_talk, stream_numbered, source_talk, end_talk, tap_client_after, after_tap_call, tap_call_if, tap_talk}
 use Rattle.inp_script.specs.Sight.{noted, call_sight, lacks_memory, start_lacks_memory, stop_after_start}
 use Rattle.inp_runs.specs.Job.{on_job, last_talk, lines_talk}
 
@@ -63,12 +64,12 @@ NamesOr last x = (client : ℕ) → client_of x ≡ Some client → (client ≡ 
 -- it is so of each of these calls, where this client was opened last before them
 unfoldable pub NameLast : ℕ → List Call → Type 0
 NameLast last [] = Unit {0}
-NameLast last (call ∷ calls) = NamesOr last call.step × NameLast (client_after call.step call.answer.reply last) calls
+NameLast last (call ∷ calls) = NamesOr last call.step × NameLast (tap_client_after call.step call.answer.reply last) calls
 
 -- the client that was opened last behind these calls
 unfoldable pub last_opened : ℕ → List Call → ℕ
 last_opened last [] = last
-last_opened last (call ∷ calls) = last_opened (client_after call.step call.answer.reply last) calls
+last_opened last (call ∷ calls) = last_opened (tap_client_after call.step call.answer.reply last) calls
 
 -- the job reads as the client that was opened last; a source reads as none, and so does an owner
 abbrev pub ReadsAs : Role → ℕ → Job → Type 0
@@ -83,15 +84,15 @@ ReadsAs Owner last j = Unit {0}
 -- Each call of a talk names so, whatever is answered, and this is so of its result and of the client opened last.
 abbrev Names : {A : Type 0} → ℕ → Talk A → (ℕ → A → Type 0) → Type 0
 Names last (finish a) P = P last a
-Names last (ask x rest) P = NamesOr last x × ((answer : Answer) → Names (client_after x answer.reply last) (rest answer) P)
+Names last (ask x rest) P = NamesOr last x × ((answer : Answer) → Names (tap_client_after x answer.reply last) (rest answer) P)
 
 names-then : {A B : Type 0} (last : ℕ) (talk : Talk A) (next : A → Talk B) (Q : ℕ → A → Type 0) (P : ℕ → B → Type 0) → Names last talk Q → ((now : ℕ) (a : A) → Q now a → Names now (next a) P) → Names last (and_then talk next) P
 names-then last (finish a) next Q P h more = more last a h
-names-then last (ask x rest) next Q P h more = (h.0, λ answer. names-then (client_after x answer.reply last) (rest answer) next Q P (h.1 answer) more)
+names-then last (ask x rest) next Q P h more = (h.0, λ answer. names-then (tap_client_after x answer.reply last) (rest answer) next Q P (h.1 answer) more)
 
 names-noted : {A : Type 0} (last : ℕ) (talk : Talk A) (sight : List Sight) (P : ℕ → A → Type 0) → Names last talk P → Names last (noted talk sight) (λ (now : ℕ) (o : A × List Sight). P now o.0)
 names-noted last (finish a) sight P h = h
-names-noted last (ask x rest) sight P h = (h.0, λ answer. names-noted (client_after x answer.reply last) (rest answer) (sight ++ call_sight x answer.reply) P (h.1 answer))
+names-noted last (ask x rest) sight P h = (h.0, λ answer. names-noted (tap_client_after x answer.reply last) (rest answer) (sight ++ call_sight x answer.reply) P (h.1 answer))
 
 names-ends : {A : Type 0} (last : ℕ) (talk : Talk A) (P : ℕ → A → Type 0) (calls : List Call) (result : A) → Names last talk P → EndsWith talk calls result → NameLast last calls × P (last_opened last calls) result
 unfolding LeadsTo NameLast last_opened
@@ -99,9 +100,9 @@ names-ends last (finish a) P [] result h e = (tt, (let same : a ≡ result = cc 
 names-ends last (finish a) P (call ∷ calls) result h e = elim e [ ]
 names-ends last (ask x rest) P [] result h e = absurd cc
 names-ends last (ask x rest) P (call ∷ calls) result h e =
-    let now : ℕ = client_after x call.answer.reply last in
+    let now : ℕ = tap_client_after x call.answer.reply last in
     let more : NameLast now calls × P (last_opened now calls) result = names-ends now (rest call.answer) P calls result (h.1 call.answer) e.1 in
-    subst (λ (y : Step). (NamesOr last y × NameLast (client_after y call.answer.reply last) calls) × P (last_opened (client_after y call.answer.reply last) calls) result) (sym e.0) ((h.0, more.0), more.1)
+    subst (λ (y : Step). (NamesOr last y × NameLast (tap_client_after y call.answer.reply last) calls) × P (last_opened (tap_client_after y call.answer.reply last) calls) result) (sym e.0) ((h.0, more.0), more.1)
 
 -- Steps
 
@@ -116,7 +117,7 @@ abbrev IsNamed : ℕ → Step → Type 0
 IsNamed last x = NamesOr last x × (is_open_step x ≡ false)
 
 -- a step that opens no client leaves the one that was opened last
-stays-last : (x : Step) (reply : Reply) (last : ℕ) → is_open_step x ≡ false → client_after x reply last ≡ last
+stays-last : (x : Step) (reply : Reply) (last : ℕ) → is_open_step x ≡ false → tap_client_after x reply last ≡ last
 stays-last ToOpen reply last h = absurd (true≢false h)
 stays-last _ reply last h = refl
 
@@ -178,7 +179,7 @@ names-start d r last h = (names-none last ToOpen refl, λ answer. by answer.repl
     asked client ring now (Ok view) e = e
     asked client ring now (Err reply) e = e
 
-    by : (reply : Reply) → Names (client_after ToOpen reply last) (after_open d r reply) OfStart
+    by : (reply : Reply) → Names (tap_client_after ToOpen reply last) (after_open d r reply) OfStart
     by (Opened at client ring) =
         names-then client (ask_each (queries d client) r.view) (λ o. finish (after_queries client ring r o)) (StaysLast client) OfStart (names-asked (queries d client) r.view client (named-queries d client))
         (λ now o e. asked client ring now o e)
@@ -338,15 +339,15 @@ names-source_call None j last h = tt
 names-source_call (Some x) j last h = (no-client last x h, λ answer. tt)
 
 names-source : (streams : List (List Stamped)) (command : Command) (j : Job) (last : ℕ) → Names last (source_talk streams command j) (OfLeft Source)
-names-source streams (Stream file index) j last = names-stream (stream_at streams index) j last
-names-source streams (Stream16 file index) j last = names-stream (stream_at streams index) j last
+names-source streams (Stream file index) j last = names-stream (stream_numbered streams index) j last
+names-source streams (Stream16 file index) j last = names-stream (stream_numbered streams index) j last
 names-source streams command j last = names-source_call (step_of NO_CLIENT command) j last (names-command NO_CLIENT command)
 
 -- Taps
 
 names-tap_call : (o : Option Step) (j : Job) (last : ℕ) → OfStep (NamesOr last) o → last ≡ j.reading.client → Names last (tap_call_if j o) (OfLeft Tap)
 names-tap_call None j last h is = is
-names-tap_call (Some x) j last h is = (h, λ answer. left-unless Tap (client_after x answer.reply last) (lacks_memory answer.reply) (after_tap_call j x answer) (ap (λ (n : ℕ). client_after x answer.reply n) is))
+names-tap_call (Some x) j last h is = (h, λ answer. left-unless Tap (tap_client_after x answer.reply last) (lacks_memory answer.reply) (after_tap_call j x answer) (ap (λ (n : ℕ). tap_client_after x answer.reply n) is))
 
 names-tap : (command : Command) (j : Job) (last : ℕ) → last ≡ j.reading.client → Names last (tap_talk command j) (OfLeft Tap)
 names-tap command j last is =
@@ -356,14 +357,14 @@ names-tap command j last is =
 
 names-client_call : (role : Role) → ((k : Job) (now : ℕ) → now ≡ k.reading.client → ReadsAs role now k) → (o : Option Step) (j : Job) (last : ℕ) → OfStep (NamesOr last) o → OfStep (λ x. is_open_step x ≡ false) o → last ≡ j.reading.client → Names last (call_if j o) (OfLeft role)
 names-client_call role reads None j last h shut is = reads j last is
-names-client_call role reads (Some x) j last h shut is = (h, λ answer. reads (after_call j x answer) (client_after x answer.reply last) (stays-last x answer.reply last shut ∙ is))
+names-client_call role reads (Some x) j last h shut is = (h, λ answer. reads (after_call j x answer) (tap_client_after x answer.reply last) (stays-last x answer.reply last shut ∙ is))
 
 names-start_job : (d : Description) (j : Job) (last : ℕ) → last ≡ j.reading.client → Names last (start_job d j) (OfLeft Client)
 unfolding start_job
 names-start_job d j last is =
     names-then last (noted (start_talk d j.reading) j.sight) (λ o. finish (start_ends o)) (λ (now : ℕ) (o : (Started × Reading) × List Sight). OfStart now o.0) (OfLeft Client)
     (names-noted last (start_talk d j.reading) j.sight OfStart (names-start d j.reading last is))
-    (λ now o e. left-unless Client now (start_lacks_memory o.0.0) (after_start o.0.0 o.0.1 o.1) e)
+    (λ now o e. left-unless Client now (start_lacks_memory o.0.0) (job_after_start o.0.0 o.0.1 o.1) e)
 
 abbrev OfTurn : ℕ → Turn → Type 0
 OfTurn now (goes_on g) = now ≡ g.job.reading.client
@@ -460,8 +461,8 @@ turn-startup k (Some read) now e = e
 names-sync_turn : (d : Description) (k : Joying) (last : ℕ) → last ≡ k.reading.client → Names last (sync_turn d k) OfJoyTurn
 unfolding sync_turn
 names-sync_turn d k last is =
-    names-then last (next_talk d Synchronising k.reading) (λ o. finish (after_sync k o)) OfAnswer OfJoyTurn (names-next d Synchronising k.reading last is)
-    (λ now o e. turn-startup (with_reading k o.1) (joy.stop_of o.0) now e.0)
+    names-then last (next_talk d Synchronising k.reading) (λ o. finish (joying_after_sync k o)) OfAnswer OfJoyTurn (names-next d Synchronising k.reading last is)
+    (λ now o e. turn-startup (with_reading k o.1) (joy.joy_read_of o.0) now e.0)
 
 turn-record : (k : Joying) (out : Option JoyRecord) (now : ℕ) → now ≡ k.reading.client → OfJoyTurn now (record_or_on k out)
 turn-record k None now e = e
@@ -472,16 +473,16 @@ turn-event d k (Some read) event now e = e
 turn-event d k None None now e = e
 turn-event d k None (Some taken) now e = by (is_report taken.event)
   where
-    by : (b : Bool) → OfJoyTurn now (if b then gives (stop_with (Frame taken.place) k) else record_or_on k (record_of d k.picture taken))
+    by : (b : Bool) → OfJoyTurn now (if b then gives (stop_with (Frame taken.place) k) else record_or_on k (joy_record_of d k.picture taken))
     by true = e
-    by false = turn-record k (record_of d k.picture taken) now e
+    by false = turn-record k (joy_record_of d k.picture taken) now e
 
-names-normal : (d : Description) (k : Joying) (next : Next) (last : ℕ) → last ≡ k.reading.client → Names last (if is_lost next then sync_turn d k else finish (joy.after_next d k next)) OfJoyTurn
+names-normal : (d : Description) (k : Joying) (next : Next) (last : ℕ) → last ≡ k.reading.client → Names last (if is_lost next then sync_turn d k else finish (joy.joying_after_next d k next)) OfJoyTurn
 names-normal d k next last is = by (is_lost next)
   where
-    by : (b : Bool) → Names last (if b then sync_turn d k else finish (joy.after_next d k next)) OfJoyTurn
+    by : (b : Bool) → Names last (if b then sync_turn d k else finish (joy.joying_after_next d k next)) OfJoyTurn
     by true = names-sync_turn d k last is
-    by false = turn-event d k (joy.stop_of next) (event_of next) last is
+    by false = turn-event d k (joy.joy_read_of next) (event_handed_out next) last is
 
 names-event_turn : (d : Description) (k : Joying) (last : ℕ) → last ≡ k.reading.client → Names last (event_turn d k) OfJoyTurn
 unfolding event_turn
@@ -499,7 +500,7 @@ names-joy_turn d k None last is = by (is_needed k.reading.phase)
 
 names-counted : {A : Type 0} (last : ℕ) (talk : Talk A) (n : ℕ) (P : ℕ → A → Type 0) → Names last talk P → Names last (with_count talk n) (λ (now : ℕ) (o : ℕ × A). P now o.1)
 names-counted last (finish a) n P h = h
-names-counted last (ask x rest) n P h = (h.0, λ answer. names-counted (client_after x answer.reply last) (rest answer) (if is_accepted answer.reply then n + 1 else n) P (h.1 answer))
+names-counted last (ask x rest) n P h = (h.0, λ answer. names-counted (tap_client_after x answer.reply last) (rest answer) (if is_accepted answer.reply then n + 1 else n) P (h.1 answer))
 
 abbrev OfJoyRead : ℕ → Option JoyAnswer → Type 0
 OfJoyRead now None = Unit {0}

@@ -40,8 +40,8 @@ use Rattle.inp_script.specs.declared.stop.Stop.TheVariants.{Full}
 use Rattle.inp_script.specs.declared.waiting.Waiting.{Waiting}
 use Rattle.inp_script.specs.Doing.{command_talk, unless_stopped, line_talk}
 use Rattle.inp_script.specs.Job.{Job, JobView, first_job, joying_of, with_joying}
-use Rattle.inp_script.specs.Joystick.{Reach, handed_out, line_ends, record_sight, after_joy_start, start_joystick, after_joy_answer, after_read, after_turns, read_on, on_reach, read_records, joystick_talk}
-use Rattle.inp_script.specs.Line.{step_of, after_call, call_if, stream_talk, stream_at, source_talk, end_talk}
+use Rattle.inp_script.specs.Joystick.{Reach, handed_out, line_ends, record_sight, after_joy_start, start_joystick, after_joy_answer, after_joy_read, after_turns, read_on, on_reach, read_records, joystick_talk}
+use Rattle.inp_script.specs.Line.{step_of, after_call, call_if, stream_talk, stream_numbered, source_talk, end_talk}
 use Rattle.inp_script.specs.Client.{with_sight, with_stop}
 use Rattle.inp_script.specs.Sight.{call_sight, again_sight, taken_sight, noted, stop_after_start, start_lacks_memory}
 use Rattle.inp_script.proofs.LastAgain.{finish-only, and_then-parts}
@@ -119,8 +119,8 @@ module _ (P : List Sight → Taken → Type 0) (d : Description) (h : List Step)
       by false mid had more_of e = source-same mid k calls e had
 
   source-line : (least : ℕ) (streams : List (List Stamped)) (command : Command) (j k : Job) (calls more : List Call) → is_command_of Source command ≡ true → AreToCome d h Q least (calls ++ more) → EndsWith (source_talk streams command j) calls (Some k) → AtEach P [] j.sight → AtEach P [] k.sight
-  source-line least streams (Stream file index) j k calls more of_role c ends s = source-stream least (stream_at streams index) j k calls more c ends s
-  source-line least streams (Stream16 file index) j k calls more of_role c ends s = source-stream least (stream_at streams index) j k calls more c ends s
+  source-line least streams (Stream file index) j k calls more of_role c ends s = source-stream least (stream_numbered streams index) j k calls more c ends s
+  source-line least streams (Stream16 file index) j k calls more of_role c ends s = source-stream least (stream_numbered streams index) j k calls more c ends s
   source-line least streams command j k calls more of_role c ends s = source-if least j k (step_of NO_CLIENT command) calls more (source-step NO_CLIENT command of_role) c ends s
 
   -- Joysticks: their calls are told, and no events
@@ -162,7 +162,7 @@ module _ (P : List Sight → Taken → Type 0) (d : Description) (h : List Step)
       by_answer p.mid.0 p.mid.1 p.second (λ (here : Job) e t. joystick-read_on most n here reach p.second e t) p.second_ends
       (joystick-noted (turns d most 0 (joying_of j)) j.sight p.first p.mid p.first_ends s)
     where
-      by_read : (read : JoyRead) (here : Job) (second : List Call) → (EndsWith (read_on d most n here) second reach → AtReach reach) → EndsWith (after_read (read_on d most n) read here) second reach → AtEach P [] here.sight → AtReach reach
+      by_read : (read : JoyRead) (here : Job) (second : List Call) → (EndsWith (read_on d most n here) second reach → AtReach reach) → EndsWith (after_joy_read (read_on d most n) read here) second reach → AtEach P [] here.sight → AtReach reach
       by_read HandedOut here second more e t = joystick-ends AtReach (Some (handed_out here)) reach second e t
       by_read (Frame place) here second more e t = more e
       by_read More here second more e t = more e

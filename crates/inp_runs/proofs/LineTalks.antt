@@ -29,18 +29,18 @@ use Rattle.inp_joy.specs.declared.joy_read.JoyRead.TheVariants.{Record as Handed
 use Rattle.inp_joy.specs.declared.joy_record.JoyRecord.{JoyRecord}
 use Rattle.inp_joy.specs.JoyRecord.{bytes_of}
 use Rattle.inp_joy.specs.Joying as joy
-use Rattle.inp_joy.specs.Joying.{Joying, JoyAnswer, Turn as JoyTurn, gives, goes_on as reads_on, startup, with_reading, without_startup, joy_started, joy_start, stop_with, is_lost, record_of, record_or_on, after_event, stop_or_startup, after_sync, sync_turn, after_normal, event_turn, record_or_turn, turn_talk, with_count, is_long, after_turn, turns}
+use Rattle.inp_joy.specs.Joying.{Joying, JoyAnswer, Turn as JoyTurn, gives, goes_on as reads_on, startup, with_reading, without_startup, joy_started, joy_start, stop_with, is_lost, joy_record_of, record_or_on, joying_after_event, stop_or_startup, joying_after_sync, sync_turn, after_normal, event_turn, record_or_turn, turn_talk, with_count, is_long, after_turn, turns}
 use Rattle.inp_reader.specs.Standing.{is_needed}
 use Rattle.inp_reader.specs.Talk.{Talk, finish, ask}
 use Rattle.inp_script.specs.declared.sight.Sight.{Sight}
 use Rattle.inp_script.specs.declared.sight.Sight.TheVariants.{Took, Made, Again as AgainSight, Record}
 use Rattle.inp_script.specs.declared.stop.Stop.{Stop}
-use Rattle.inp_script.specs.Client.{Going, Turn, goes_on, ends_with, start_job, start_ends, after_start, handed, one_less, is_done, turn_after, after_next, mode_of, with_sight, next_round, on_turn, rounds, hand_talk, client_talk}
+use Rattle.inp_script.specs.Client.{Going, Turn, goes_on, ends_with, start_job, start_ends, job_after_start, handed, one_less, is_done, turn_after, after_next, mode_of, with_sight, next_round, on_turn, rounds, hand_talk, client_talk}
 use Rattle.inp_script.specs.Doing.{command_talk, unless_stopped, line_talk}
 use Rattle.inp_script.specs.Job.{Job, joying_of, with_joying}
-use Rattle.inp_script.specs.Joystick.{Reach, handed_out, line_ends, record_sight, after_joy_start, start_joystick, after_joy_answer, after_read, after_turns, read_on, on_reach, read_records, joystick_talk}
+use Rattle.inp_script.specs.Joystick.{Reach, handed_out, line_ends, record_sight, after_joy_start, start_joystick, after_joy_answer, after_joy_read, after_turns, read_on, on_reach, read_records, joystick_talk}
 use Rattle.inp_script.specs.Legal.{is_call_entry}
-use Rattle.inp_script.specs.Line.{step_of, after_call, call_if, stream_talk, stream_at, source_talk, event_of_taken, after_tap_call, tap_call_if}
+use Rattle.inp_script.specs.Line.{step_of, after_call, call_if, stream_talk, stream_numbered, source_talk, event_of_taken, after_tap_call, tap_call_if}
 use Rattle.inp_script.specs.Sight.{call_sight, again_sight, taken_sight, sight_of_call, noted, lacks_memory, start_lacks_memory, stop_after_start}
 use Rattle.inp_script.proofs.Told.{no_calls_taken, call_kept, again_kept}
 use Rattle.inp_runs.specs.Job.{on_job, lines_talk}
@@ -106,8 +106,8 @@ leaves-stream d (stamped ∷ stream) j entries h = λ past.
     stream_if d (is_accepted a.reply) (stream_talk stream mid) mid (entries ++ call_entries x a.reply) now (leaves-stream d stream mid (entries ++ call_entries x a.reply) now)
 
 leaves-source : (d : Description) (streams : List (List Stamped)) (command : Command) (j : Job) (entries : List Sight) → IsKept d j entries → Leaves d (IsKeptIfSome d) entries (source_talk streams command j)
-leaves-source d streams (Stream file index) j entries h = leaves-stream d (stream_at streams index) j entries h
-leaves-source d streams (Stream16 file index) j entries h = leaves-stream d (stream_at streams index) j entries h
+leaves-source d streams (Stream file index) j entries h = leaves-stream d (stream_numbered streams index) j entries h
+leaves-source d streams (Stream16 file index) j entries h = leaves-stream d (stream_numbered streams index) j entries h
 leaves-source d streams command j entries h = leaves-call_if d (step_of NO_CLIENT command) j entries h
 
 -- Clients
@@ -118,7 +118,7 @@ leaves-start d j entries h =
     leaves-then d (λ (o : (Started × Reading) × List Sight) (es : List Sight). IsStarted d o.0 (filter is_call_entry o.1) es) (IsKeptIfSome d) entries
     (noted (start_talk d j.reading) j.sight) (λ o. finish (start_ends o))
     (leaves-noted d (IsStarted d) entries entries j.sight (start_talk d j.reading) h.1 (answers-start d j.reading entries h.0))
-    (λ o es k. kept_unless d (start_lacks_memory o.0.0) (after_start o.0.0 o.0.1 o.1) es k)
+    (λ o es k. kept_unless d (start_lacks_memory o.0.0) (job_after_start o.0.0 o.0.1 o.1) es k)
 
 abbrev pub IsKeptTurn : Description → Turn → List Sight → Type 0
 IsKeptTurn d (goes_on g) entries = IsKept d g.job entries
@@ -197,25 +197,25 @@ abbrev IsTurned : Description → JoyTurn → List Sight → List Sight → Type
 IsTurned d (gives answer) kept entries = IsSizedFor d.slots answer.joying.reading.view × (kept ++ again_of_read answer.read ≡ entries)
 IsTurned d (reads_on k) kept entries = IsSizedFor d.slots k.reading.view × (kept ≡ entries)
 
-turned-startup : (d : Description) (k : Joying) (next : Next) (kept entries : List Sight) → IsSizedFor d.slots k.reading.view → kept ++ again_of next ≡ entries → IsTurned d (stop_or_startup k (joy.stop_of next)) kept entries
+turned-startup : (d : Description) (k : Joying) (next : Next) (kept entries : List Sight) → IsSizedFor d.slots k.reading.view → kept ++ again_of next ≡ entries → IsTurned d (stop_or_startup k (joy.joy_read_of next)) kept entries
 turned-startup d k (Again at ends) kept entries sized h = (sized, h)
 turned-startup d k NoDevice kept entries sized h = (sized, h)
 turned-startup d k Closed kept entries sized h = (sized, h)
 turned-startup d k (Full at) kept entries sized h = (sized, h)
 turned-startup d k _ kept entries sized h = (sized, sym (append-nil kept) ∙ h)
 
-turned-taken : (d : Description) (k : Joying) (taken : Taken) (kept entries : List Sight) → IsSizedFor d.slots k.reading.view → kept ++ [] ≡ entries → IsTurned d (after_event d k taken) kept entries
+turned-taken : (d : Description) (k : Joying) (taken : Taken) (kept entries : List Sight) → IsSizedFor d.slots k.reading.view → kept ++ [] ≡ entries → IsTurned d (joying_after_event d k taken) kept entries
 turned-taken d k taken kept entries sized h = by_flag (is_report taken.event)
   where
     by_record : (out : Option JoyRecord) → IsTurned d (record_or_on k out) kept entries
     by_record None = (sized, sym (append-nil kept) ∙ h)
     by_record (Some r) = (sized, h)
 
-    by_flag : (b : Bool) → IsTurned d (if b then gives (stop_with (Frame taken.place) k) else record_or_on k (record_of d k.picture taken)) kept entries
+    by_flag : (b : Bool) → IsTurned d (if b then gives (stop_with (Frame taken.place) k) else record_or_on k (joy_record_of d k.picture taken)) kept entries
     by_flag true = (sized, h)
-    by_flag false = by_record (record_of d k.picture taken)
+    by_flag false = by_record (joy_record_of d k.picture taken)
 
-turned-next : (d : Description) (k : Joying) (next : Next) (kept entries : List Sight) → IsSizedFor d.slots k.reading.view → kept ++ again_of next ≡ entries → IsTurned d (joy.after_next d k next) kept entries
+turned-next : (d : Description) (k : Joying) (next : Next) (kept entries : List Sight) → IsSizedFor d.slots k.reading.view → kept ++ again_of next ≡ entries → IsTurned d (joy.joying_after_next d k next) kept entries
 turned-next d k (Success taken) kept entries sized h = turned-taken d k taken kept entries sized h
 turned-next d k (Again at ends) kept entries sized h = (sized, h)
 turned-next d k NoDevice kept entries sized h = (sized, h)
@@ -226,10 +226,10 @@ turned-next d k _ kept entries sized h = (sized, sym (append-nil kept) ∙ h)
 answers-sync_turn : (d : Description) (k : Joying) (entries : List Sight) → IsSizedFor d.slots k.reading.view → Answers d (IsTurned d) entries entries (sync_turn d k)
 unfolding sync_turn
 answers-sync_turn d k entries sized =
-    answers-then d (IsNext d) (IsTurned d) entries entries (next_talk d Synchronising k.reading) (λ o. finish (after_sync k o)) (answers-next d Synchronising k.reading entries sized)
+    answers-then d (IsNext d) (IsTurned d) entries entries (next_talk d Synchronising k.reading) (λ o. finish (joying_after_sync k o)) (answers-next d Synchronising k.reading entries sized)
     (λ o ks es h. turned-startup d (with_reading k o.1) o.0 ks es h.0 h.1)
 
-answers-normal : (d : Description) (k : Joying) (next : Next) (kept entries : List Sight) → IsSizedFor d.slots k.reading.view → kept ++ again_of next ≡ entries → Answers d (IsTurned d) kept entries (if is_lost next then sync_turn d k else finish (joy.after_next d k next))
+answers-normal : (d : Description) (k : Joying) (next : Next) (kept entries : List Sight) → IsSizedFor d.slots k.reading.view → kept ++ again_of next ≡ entries → Answers d (IsTurned d) kept entries (if is_lost next then sync_turn d k else finish (joy.joying_after_next d k next))
 answers-normal d k (Dropped taken) kept entries sized h =
     let same : kept ≡ entries = sym (append-nil kept) ∙ h in
     subst (λ (es : List Sight). Answers d (IsTurned d) kept es (sync_turn d k)) same (answers-sync_turn d k kept sized)
@@ -294,7 +294,7 @@ leaves-read_on d most (suc n) j entries h =
     (leaves-noted d (IsJoyRead d) entries entries j.sight (turns d most 0 (joying_of j)) h.1 (answers-turns d most 0 (joying_of j) entries h.0))
     (λ o es k. by_answer o.0 o.1 es (λ (here : Job) m. leaves-read_on d most n here es m) k)
   where
-    by_read : (read : JoyRead) (here : Job) (es : List Sight) → (IsKept d here es → Leaves d (IsKeptReach d) es (read_on d most n here)) → IsSizedFor d.slots here.reading.view → filter is_call_entry here.sight ++ again_of_read read ≡ es → Leaves d (IsKeptReach d) es (after_read (read_on d most n) read here)
+    by_read : (read : JoyRead) (here : Job) (es : List Sight) → (IsKept d here es → Leaves d (IsKeptReach d) es (read_on d most n here)) → IsSizedFor d.slots here.reading.view → filter is_call_entry here.sight ++ again_of_read read ≡ es → Leaves d (IsKeptReach d) es (after_joy_read (read_on d most n) read here)
     by_read HandedOut here es more sized told = (sized, silent here.sight es told)
     by_read (Frame place) here es more sized told = more (sized, silent here.sight es told)
     by_read More here es more sized told = more (sized, silent here.sight es told)

@@ -35,7 +35,7 @@ use Rattle.inp_joy.specs.declared.joy_read.JoyRead.{JoyRead}
 use Rattle.inp_joy.specs.declared.joy_read.JoyRead.TheVariants.{Frame, More}
 use Rattle.inp_joy.specs.declared.joy_record.JoyRecord.{JoyRecord}
 use Rattle.inp_joy.specs.Joying as joy
-use Rattle.inp_joy.specs.Joying.{Joying, JoyAnswer, Turn as JoyTurn, gives, goes_on as reads_on, startup, with_reading, joy_started, joy_start, stop_with, is_lost, after_sync, sync_turn, after_normal, event_turn, record_or_turn, turn_talk, with_count, is_long, after_turn, turns}
+use Rattle.inp_joy.specs.Joying.{Joying, JoyAnswer, Turn as JoyTurn, gives, goes_on as reads_on, startup, with_reading, joy_started, joy_start, stop_with, is_lost, joying_after_sync, sync_turn, after_normal, event_turn, record_or_turn, turn_talk, with_count, is_long, after_turn, turns}
 use Rattle.inp_reader.specs.Standing.{is_needed}
 use Rattle.inp_reader.specs.Talk.{Talk, finish, ask, and_then, LeadsTo, EndsWith}
 use Rattle.inp_script.specs.declared.sight.Sight.{Sight}
@@ -45,11 +45,11 @@ use Rattle.inp_script.specs.Client.{Going, Turn, goes_on, ends_with, is_done, mo
 use Rattle.inp_script.specs.Doing.{command_talk, unless_stopped, line_talk}
 use Rattle.inp_script.specs.Job.{Job, joying_of}
 use Rattle.inp_script.specs.Sight as script
-use Rattle.inp_script.specs.Joystick.{Reach, handed_out, line_ends, after_joy_start, start_joystick, after_joy_answer, after_read as after_joy_read, after_turns, read_on, on_reach, read_records, joystick_talk}
-use Rattle.inp_script.specs.Line.{step_of, call_if, after_call, stream_talk, stream_at, source_talk, end_talk, tap_call_if}
+use Rattle.inp_script.specs.Joystick.{Reach, handed_out, line_ends, after_joy_start, start_joystick, after_joy_answer, after_joy_read, after_turns, read_on, on_reach, read_records, joystick_talk}
+use Rattle.inp_script.specs.Line.{step_of, call_if, after_call, stream_talk, stream_numbered, source_talk, end_talk, tap_call_if}
 use Rattle.inp_script.specs.Sight.{noted, call_sight}
 use Rattle.inp_script.proofs.Replies.{answer_has}
-use Rattle.inp_runs.specs.Job.{on_job, last_talk, lines_talk, lacks_memory}
+use Rattle.inp_runs.specs.Job.{on_job, last_talk, lines_talk, call_lacks_memory}
 use Rattle.inp_runs.proofs.Folded.{AreOfRole}
 use Rattle.inp_runs.proofs.LeftByTalks.{AreAnswered}
 
@@ -218,8 +218,8 @@ gives_up-stream (stamped ∷ stream) j =
 -- Lines
 
 gives_up-source : (streams : List (List Stamped)) (command : Command) (j : Job) → is_command_of Source command ≡ true → GivesUp (source_talk streams command j)
-gives_up-source streams (Stream file index) j h = gives_up-stream (stream_at streams index) j
-gives_up-source streams (Stream16 file index) j h = gives_up-stream (stream_at streams index) j
+gives_up-source streams (Stream file index) j h = gives_up-stream (stream_numbered streams index) j
+gives_up-source streams (Stream16 file index) j h = gives_up-stream (stream_numbered streams index) j
 gives_up-source streams Open j h = absurd cc
 gives_up-source streams command j h = gives_up-call (step_of NO_CLIENT command) j refl
 
@@ -235,13 +235,13 @@ gives_up-client d wait n command j = gives_up-call (step_of j.reading.client com
 
 no_open-sync_turn : (d : Description) (k : Joying) → NoOpen (sync_turn d k)
 unfolding sync_turn
-no_open-sync_turn d k = no_open-then (next_talk d Synchronising k.reading) (λ o. finish (after_sync k o)) (no_open-next d Synchronising k.reading.phase k.reading) (λ o. tt)
+no_open-sync_turn d k = no_open-then (next_talk d Synchronising k.reading) (λ o. finish (joying_after_sync k o)) (no_open-next d Synchronising k.reading.phase k.reading) (λ o. tt)
 
 no_open-event_turn : (d : Description) (k : Joying) → NoOpen (event_turn d k)
 unfolding event_turn
 no_open-event_turn d k =
     no_open-then (next_talk d Normal k.reading) (after_normal d k) (no_open-next d Normal k.reading.phase k.reading)
-    (λ o. by_flag (is_lost o.0) (with_reading k o.1) (joy.after_next d (with_reading k o.1) o.0))
+    (λ o. by_flag (is_lost o.0) (with_reading k o.1) (joy.joying_after_next d (with_reading k o.1) o.0))
   where
     by_flag : (b : Bool) (here : Joying) (turn : JoyTurn) → NoOpen (if b then sync_turn d here else finish turn)
     by_flag true here turn = no_open-sync_turn d here
@@ -382,10 +382,10 @@ memory_when_accepted d past _ = refl
 answer-memory : (d : Description) (past : List Step) (x : Step) → script.lacks_memory (answer d past x).reply ≡ false
 answer-memory d past x = answer_has (λ given. script.lacks_memory given.reply ≡ false) d past x (λ refusal is. is.memory) (λ none. memory_when_accepted d past x)
 
-pub answered-memory : (d : Description) (calls : List Call) → AreAnswered d calls → list_any lacks_memory calls ≡ false
+pub answered-memory : (d : Description) (calls : List Call) → AreAnswered d calls → list_any call_lacks_memory calls ≡ false
 answered-memory d [] answered = refl
 answered-memory d (call ∷ calls) answered =
-    let first : lacks_memory call ≡ false = ap (λ (a : Answer). script.lacks_memory a.reply) answered.1 ∙ answer-memory d answered.0 call.step in
+    let first : call_lacks_memory call ≡ false = ap (λ (a : Answer). script.lacks_memory a.reply) answered.1 ∙ answer-memory d answered.0 call.step in
     rw first (answered-memory d calls answered.2)
 
 pub never_both : (calls : List Call) (j : Job) → EndsWith (finish None) calls (Some j) → ⊥

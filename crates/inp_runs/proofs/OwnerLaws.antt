@@ -63,14 +63,14 @@ fed-more-few d kept rooms room o free h =
 -- An owner and its device, line by line
 
 -- What an owner was told by its lines so far, with room for so many events each, of a device that kept this.
-pub record IsTold (d : Description) (kept : List UEntry) (rooms : List ℕ) (last : Owning) : Type 0 where
+pub record IsToldByLines (d : Description) (kept : List UEntry) (rooms : List ℕ) (last : Owning) : Type 0 where
   pub done : List ℕ
   pub before : Owning
   pub fed : HasFed d kept done before
   pub ends : EndsFed d kept rooms done before last
 
 -- before its first line, whatever steps were made
-pub told-first : (d : Description) (xs : List Step) → IsTold d (map Made xs) [] first_owning
+pub told-first : (d : Description) (xs : List Step) → IsToldByLines d (map Made xs) [] first_owning
 unfolding HasFed
 told-first d xs = record {
   done = [];
@@ -97,7 +97,7 @@ ends-steps d kept rooms done before last xs (inr f) =
     })
 
 -- behind further steps
-pub told-steps : (d : Description) (kept : List UEntry) (rooms : List ℕ) (o : Owning) (xs : List Step) → IsTold d kept rooms o → IsTold d (map Made xs ++ kept) rooms o
+pub told-steps : (d : Description) (kept : List UEntry) (rooms : List ℕ) (o : Owning) (xs : List Step) → IsToldByLines d kept rooms o → IsToldByLines d (map Made xs ++ kept) rooms o
 told-steps d kept rooms o xs t = record {
   done = t.done;
   before = t.before;
@@ -135,10 +135,10 @@ fed-goes_on d (Feedback count ∷ kept) (room ∷ rooms) o h =
 -- The same behind one call more, which was made or refused. It has room for no more events than ever wait.
 abbrev pub IsToldMore : Description → List UEntry → List ℕ → ℕ → Owning → Type 0
 IsToldMore d kept rooms room o =
-    IsTold d (kept_after_feedback d kept (min room FEEDBACK_MAX)) (rooms ++ room ∷ []) (after_feedback (fed d kept (min room FEEDBACK_MAX)) (taken_by_feedback d kept (min room FEEDBACK_MAX)) o)
+    IsToldByLines d (kept_after_feedback d kept (min room FEEDBACK_MAX)) (rooms ++ room ∷ []) (after_feedback (fed d kept (min room FEEDBACK_MAX)) (taken_by_feedback d kept (min room FEEDBACK_MAX)) o)
 
 -- a line of an owner that goes on
-pub told-call : (d : Description) (kept : List UEntry) (rooms : List ℕ) (room : ℕ) (o : Owning) → o.stop ≡ None → IsTold d kept rooms o
+pub told-call : (d : Description) (kept : List UEntry) (rooms : List ℕ) (room : ℕ) (o : Owning) → o.stop ≡ None → IsToldByLines d kept rooms o
     → IsToldMore d kept rooms room o
 told-call d kept rooms room o goes_on t = by_ends t.ends
   where
@@ -154,7 +154,7 @@ told-call d kept rooms room o goes_on t = by_ends t.ends
     stopped all same full =
         let answer : fed d kept (min room FEEDBACK_MAX) ≡ fed d kept room = room-enough d kept room in
         let none : taken_by_feedback d kept (min room FEEDBACK_MAX) ≡ [] = taken-full d kept (min room FEEDBACK_MAX) full in
-        subst (λ (ks : List UEntry). IsTold d ks (rooms ++ room ∷ []) (after_feedback (fed d kept (min room FEEDBACK_MAX)) (taken_by_feedback d kept (min room FEEDBACK_MAX)) o)) (sym (kept-full d kept (min room FEEDBACK_MAX) full))
+        subst (λ (ks : List UEntry). IsToldByLines d ks (rooms ++ room ∷ []) (after_feedback (fed d kept (min room FEEDBACK_MAX)) (taken_by_feedback d kept (min room FEEDBACK_MAX)) o)) (sym (kept-full d kept (min room FEEDBACK_MAX) full))
         (record {
           done = t.done;
           before = t.before;
@@ -187,7 +187,7 @@ told-call d kept rooms room o goes_on t = by_ends t.ends
         absurd cc
 
 -- a line of an owner that stopped
-pub told-stopped : (d : Description) (kept : List UEntry) (rooms : List ℕ) (room : ℕ) (o : Owning) (stop : Stop) → o.stop ≡ Some stop → IsTold d kept rooms o → IsTold d kept (rooms ++ room ∷ []) o
+pub told-stopped : (d : Description) (kept : List UEntry) (rooms : List ℕ) (room : ℕ) (o : Owning) (stop : Stop) → o.stop ≡ Some stop → IsToldByLines d kept rooms o → IsToldByLines d kept (rooms ++ room ∷ []) o
 told-stopped d kept rooms room o stop stops t = record { done = t.done; before = t.before; fed = t.fed; ends = by t.ends }
   where
     by : EndsFed d kept rooms t.done t.before o → EndsFed d kept (rooms ++ room ∷ []) t.done t.before o
@@ -207,7 +207,7 @@ told-stopped d kept rooms room o stop stops t = record { done = t.done; before =
         })
 
 -- what an owner was told by its lines is so at their end
-pub told-end : (d : Description) (kept : List UEntry) (rooms : List ℕ) (o : Owning) → IsTold d kept rooms o → HasOwned d (reverse (steps_in kept)) rooms o
+pub told-end : (d : Description) (kept : List UEntry) (rooms : List ℕ) (o : Owning) → IsToldByLines d kept rooms o → HasOwned d (reverse (steps_in kept)) rooms o
 told-end d kept rooms o t = record { kept = kept; steps = refl; done = t.done; before = t.before; fed = t.fed; ends = t.ends }
 
 -- an owner with no line
@@ -225,26 +225,26 @@ AnswersByKept {S = S} feeds d kept =
     → (kept after ≡ kept_after_feedback d (kept before) room) × (answer ≡ fed d (kept before) room) × (es ≡ taken_by_feedback d (kept before) room)
 
 -- one line more
-pub told-line : {S : Type 0} (feeds : Feeding S) (d : Description) (kept : S → List UEntry) (before after : S) (rooms : List ℕ) (room : ℕ) (old new : Owning) → AnswersByKept feeds d kept → FeedsLine feeds before after (min room FEEDBACK_MAX) old new → IsTold d (kept before) rooms old → IsTold d (kept after) (rooms ++ room ∷ []) new
+pub told-line : {S : Type 0} (feeds : Feeding S) (d : Description) (kept : S → List UEntry) (before after : S) (rooms : List ℕ) (room : ℕ) (old new : Owning) → AnswersByKept feeds d kept → FeedsLine feeds before after (min room FEEDBACK_MAX) old new → IsToldByLines d (kept before) rooms old → IsToldByLines d (kept after) (rooms ++ room ∷ []) new
 told-line {S = S} feeds d kept before after rooms room old new answers line t = by old.stop refl line
   where
-    by : (stop : Option Stop) → old.stop ≡ stop → FeedsUnless feeds stop before after (min room FEEDBACK_MAX) old new → IsTold d (kept after) (rooms ++ room ∷ []) new
+    by : (stop : Option Stop) → old.stop ≡ stop → FeedsUnless feeds stop before after (min room FEEDBACK_MAX) old new → IsToldByLines d (kept after) (rooms ++ room ∷ []) new
     by None e h =
         let a = answers before after (min room FEEDBACK_MAX) h.answer h.events h.fed in
         let told : new ≡ after_feedback (fed d (kept before) (min room FEEDBACK_MAX)) (taken_by_feedback d (kept before) (min room FEEDBACK_MAX)) old =
         h.noted ∙ ap (λ (answer : Fed). after_feedback answer h.events old) a.1 ∙ ap (λ (es : List Event). after_feedback (fed d (kept before) (min room FEEDBACK_MAX)) es old) a.2 in
-        subst (λ (o : Owning). IsTold d (kept after) (rooms ++ room ∷ []) o) (sym told)
-        (subst (λ (ks : List UEntry). IsTold d ks (rooms ++ room ∷ []) (after_feedback (fed d (kept before) (min room FEEDBACK_MAX)) (taken_by_feedback d (kept before) (min room FEEDBACK_MAX)) old)) (sym a.0) (told-call d (kept before) rooms room old e t))
+        subst (λ (o : Owning). IsToldByLines d (kept after) (rooms ++ room ∷ []) o) (sym told)
+        (subst (λ (ks : List UEntry). IsToldByLines d ks (rooms ++ room ∷ []) (after_feedback (fed d (kept before) (min room FEEDBACK_MAX)) (taken_by_feedback d (kept before) (min room FEEDBACK_MAX)) old)) (sym a.0) (told-call d (kept before) rooms room old e t))
     by (Some stop) e h =
-        subst (λ (s : S). IsTold d (kept s) (rooms ++ room ∷ []) new) (sym h.0)
-        (subst (λ (o : Owning). IsTold d (kept before) (rooms ++ room ∷ []) o) (sym h.1) (told-stopped d (kept before) rooms room old stop e t))
+        subst (λ (s : S). IsToldByLines d (kept s) (rooms ++ room ∷ []) new) (sym h.0)
+        (subst (λ (o : Owning). IsToldByLines d (kept before) (rooms ++ room ∷ []) o) (sym h.1) (told-stopped d (kept before) rooms room old stop e t))
 
 -- lines, one after another, with no step between them
-pub told-lines : {S : Type 0} (feeds : Feeding S) (d : Description) (kept : S → List UEntry) (before after : S) (rooms more : List ℕ) (old new : Owning) → AnswersByKept feeds d kept → AreFed feeds before after more old new → IsTold d (kept before) rooms old → IsTold d (kept after) (rooms ++ more) new
+pub told-lines : {S : Type 0} (feeds : Feeding S) (d : Description) (kept : S → List UEntry) (before after : S) (rooms more : List ℕ) (old new : Owning) → AnswersByKept feeds d kept → AreFed feeds before after more old new → IsToldByLines d (kept before) rooms old → IsToldByLines d (kept after) (rooms ++ more) new
 unfolding AreFed
 told-lines {S = S} feeds d kept before after rooms [] old new answers h t =
-    subst (λ (s : S). IsTold d (kept s) (rooms ++ []) new) (sym h.0)
-    (subst (λ (o : Owning). IsTold d (kept before) (rooms ++ []) o) (sym h.1) (subst (λ (ns : List ℕ). IsTold d (kept before) ns old) (sym (append-nil rooms)) t))
+    subst (λ (s : S). IsToldByLines d (kept s) (rooms ++ []) new) (sym h.0)
+    (subst (λ (o : Owning). IsToldByLines d (kept before) (rooms ++ []) o) (sym h.1) (subst (λ (ns : List ℕ). IsToldByLines d (kept before) ns old) (sym (append-nil rooms)) t))
 told-lines feeds d kept before after rooms (room ∷ more) old new answers h t =
-    subst (λ (ns : List ℕ). IsTold d (kept after) ns new) (append_assoc rooms (room ∷ []) more)
+    subst (λ (ns : List ℕ). IsToldByLines d (kept after) ns new) (append_assoc rooms (room ∷ []) more)
     (told-lines feeds d kept h.0 after (rooms ++ room ∷ []) more h.1 new answers h.3 (told-line feeds d kept before h.0 rooms room old h.1 answers h.2 t))

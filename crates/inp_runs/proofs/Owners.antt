@@ -29,7 +29,7 @@ use Rattle.inp_reader.proofs.Calls.{IsPlaceOf}
 use Rattle.inp_script.specs.declared.waiting.Waiting.{Waiting}
 use Rattle.inp_script.specs.Job.{Job, JobView, first_job}
 use Rattle.inp_script.specs.Legal.{entries_of}
-use Rattle.inp_script.specs.Line.{client_after}
+use Rattle.inp_script.specs.Line.{tap_client_after}
 use Rattle.inp_runs.specs.Job.{lines_talk, entries_at, AreTold}
 use Rattle.inp_runs.proofs.Entries.{entries, entries-cons_call, told-counts}
 use Rattle.inp_runs.proofs.JobClients.{NameLast, job-names}
@@ -256,7 +256,7 @@ no-client history client calls short o is =
 
 -- Who makes a step that names a client
 
-after-or : (x : Step) (reply : Reply) (last client : ℕ) → client_after x reply last ≡ client → (last ≡ client) ⊎ (is_opening_of client reply ≡ true)
+after-or : (x : Step) (reply : Reply) (last client : ℕ) → tap_client_after x reply last ≡ client → (last ≡ client) ⊎ (is_opening_of client reply ≡ true)
 after-or Open (Opened at opened ring) last client h = inr (eq_true opened client h)
 after-or Open _ last client h = inl h
 after-or _ reply last client h = inl h
@@ -284,13 +284,13 @@ names-opened d history least last place client x (call ∷ calls) legal names (i
     by (inl e) = inl (sym e)
     by (inr e) = absurd (other e)
 names-opened d history least last place client x (call ∷ calls) legal names (inr h) at is other =
-    by (names-opened d history (next_place call.answer.reply) (client_after call.step call.answer.reply last) place client x calls legal.2 names.1 h at is other)
+    by (names-opened d history (next_place call.answer.reply) (tap_client_after call.step call.answer.reply last) place client x calls legal.2 names.1 h at is other)
   where
     or : (last ≡ client) ⊎ (is_opening_of client call.answer.reply ≡ true) → (last ≡ client) ⊎ (list_any (is_opened_as client) (call ∷ calls) ≡ true)
     or (inl e) = inl e
     or (inr e) = inr (or-first (is_opened_as client call) (list_any (is_opened_as client) calls) e)
 
-    by : (client_after call.step call.answer.reply last ≡ client) ⊎ (list_any (is_opened_as client) calls ≡ true) → (last ≡ client) ⊎ (list_any (is_opened_as client) (call ∷ calls) ≡ true)
+    by : (tap_client_after call.step call.answer.reply last ≡ client) ⊎ (list_any (is_opened_as client) calls ≡ true) → (last ≡ client) ⊎ (list_any (is_opened_as client) (call ∷ calls) ≡ true)
     by (inl e) = or (after-or call.step call.answer.reply last client e)
     by (inr e) = inr (or-true (is_opened_as client call) (list_any (is_opened_as client) calls) e)
 

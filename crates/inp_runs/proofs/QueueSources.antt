@@ -19,7 +19,8 @@ use Rattle.inp_reader.specs.declared.phase.Phase.{Phase}
 use Rattle.inp_reader.specs.declared.phase.Phase.TheVariants.{Plain, Needed, Handing}
 use Rattle.inp_reader.specs.declared.next.Next.{Next}
 use Rattle.inp_reader.specs.declared.next.Next.TheVariants.{Success, Dropped, Synced}
-use Rattle.inp_reader.specs.Reading.{Reading, is_dropped, stop_of, hand_out_event, hand_out, after_read, read_or_hand_out, read_talk, hand_synthesised, as_plain, after_full_sync, after_failed_sync, go_on, go_on_after, sync_talk, talk_in, next_talk}
+use Rattle.inp_recon.specs.Synchronised.{is_dropped}
+use Rattle.inp_reader.specs.Reading.{Reading, stop_of, hand_out_event, hand_out, after_read, read_or_hand_out, read_talk, hand_synthesised, as_plain, after_full_sync, after_failed_sync, go_on, go_on_after, sync_talk, talk_in, next_talk}
 use Rattle.inp_reader.specs.Talk.{LeadsTo, EndsWith}
 use Rattle.inp_script.proofs.LastAgain.{finish-only, and_then-parts}
 
@@ -30,7 +31,7 @@ with_handed (Dropped taken) queue = taken ∷ queue
 with_handed _ queue = queue
 
 -- The last of these calls is an accepted read, and gave these events.
-pub record IsReadLast (client : ℕ) (calls : List Call) (events : List Taken) : Type 0 where
+pub record EndsWithRead (client : ℕ) (calls : List Call) (events : List Taken) : Type 0 where
   pub first : List Call
   pub read : Call
   pub whole : calls ≡ first ++ read ∷ []
@@ -40,7 +41,7 @@ pub record IsReadLast (client : ℕ) (calls : List Call) (events : List Taken) :
 
 -- there is none, or no call was made and they are those of before, or the last call read them
 abbrev pub ComeFrom : ℕ → List Taken → List Call → List Taken → Type 0
-ComeFrom client old calls events = (events ≡ []) ⊎ (((calls ≡ []) × (events ≡ old)) ⊎ IsReadLast client calls events)
+ComeFrom client old calls events = (events ≡ []) ⊎ (((calls ≡ []) × (events ≡ old)) ⊎ EndsWithRead client calls events)
 
 -- the same of what a reader has at hand with the event that it handed out
 abbrev IsSourced : Reading → List Call → Next × Reading → Type 0

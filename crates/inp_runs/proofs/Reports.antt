@@ -20,7 +20,7 @@ use Rattle.inp_model.specs.Event.{is_repeat}
 use Rattle.inp_model.specs.Past.{past_at}
 use Rattle.inp_model.specs.Queue.{Entry, event_of, taken_by, took, took_with}
 use Rattle.inp_model.specs.Raw.{raw}
-use Rattle.inp_model.specs.Reply.{Answer, IsAnswer, answer, answer_by, accepted, refused, is_accepted, past_after, taken_of, words_of, code_on}
+use Rattle.inp_model.specs.Reply.{Answer, IsAnswer, answer, answer_by, accepted, refused, is_accepted, past_after, taken_of, bitmap_of, code_on}
 use Rattle.inp_model.specs.Run.{Call, IsLegalFrom, HasPlace, place_of, next_place}
 use Rattle.inp_recon.specs.declared.view.View.{View}
 use Rattle.inp_recon.specs.View.{IsSizedFor, key_count, code_count, with_flag, bits_in, flags_after_reply, keys_after_answer, switches_after_answer, leds_after_answer, first_view, view_after_event, view_after_events, view_after_answer}
@@ -170,11 +170,11 @@ all-off zero code = refl
 all-off (suc n) zero = refl
 all-off (suc n) (suc code) = all-off n code
 
-told-off : (count : ℕ) (test : ℕ → Bool) → count ≤ 768 → ((code : ℕ) → test code ≡ false) → bits_in count (words_of test) ≡ replicate count false
+told-off : (count : ℕ) (test : ℕ → Bool) → count ≤ 768 → ((code : ℕ) → test code ≡ false) → bits_in count (bitmap_of test) ≡ replicate count false
 unfolding bits_in
 told-off count test few off =
-    let long : length (bits_in count (words_of test)) ≡ count = length-map-range_with_len _ 0 count in
-    ext_get_or false (bits_in count (words_of test)) (replicate count false) (long ∙ sym (length-replicate count false))
+    let long : length (bits_in count (bitmap_of test)) ≡ count = length-map-range_with_len _ 0 count in
+    ext_get_or false (bits_in count (bitmap_of test)) (replicate count false) (long ∙ sym (length-replicate count false))
     (λ code within. told_flag count test code (omega (arith, within, long)) (omega (arith, within, long, few)) ∙ off code ∙ sym (all-off count code))
 
 not-told : (count : ℕ) (reply : Reply) (flags : List Bool) → is_accepted reply ≡ false → flags_after_reply count reply flags ≡ flags
@@ -182,7 +182,7 @@ not-told count (Bits at words) flags h = absurd (true≢false h)
 not-told count _ flags h = refl
 
 -- flags after the answer to their query
-told-none : (d : Description) (past : List Step) (x : Step) (count kind : ℕ) (flags : List Bool) (o : Option Reply) → count ≤ 768 → refused d past x ≡ o → (accepted d past x).reply ≡ Bits (length past) (words_of (code_on d (raw d past) kind)) → ((code : ℕ) → code_on d (raw d past) kind code ≡ false) → flags ≡ replicate count false
+told-none : (d : Description) (past : List Step) (x : Step) (count kind : ℕ) (flags : List Bool) (o : Option Reply) → count ≤ 768 → refused d past x ≡ o → (accepted d past x).reply ≡ Bits (length past) (bitmap_of (code_on d (raw d past) kind)) → ((code : ℕ) → code_on d (raw d past) kind code ≡ false) → flags ≡ replicate count false
     → flags_after_reply count (answer_by o (accepted d past x)).reply flags ≡ replicate count false
 told-none d past x count kind flags None few h is off s = ap (λ (r : Reply). flags_after_reply count r flags) is ∙ told-off count (code_on d (raw d past) kind) few off
 told-none d past x count kind flags (Some reply) few h is off s = not-told count reply flags (refused-not_accepted d past x reply h) ∙ s

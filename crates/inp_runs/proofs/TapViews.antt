@@ -48,7 +48,7 @@ use Rattle.inp_script.specs.declared.sight.Sight.{Sight}
 use Rattle.inp_script.specs.declared.sight.Sight.TheVariants.{Call as CallSight, Took, Made, Again as AgainSight, Record}
 use Rattle.inp_script.specs.Fold.{tap_fold}
 use Rattle.inp_script.specs.Job.{Job, first_job}
-use Rattle.inp_script.specs.Line.{step_of, client_after, event_of_taken, view_after_call, after_tap_call, tap_call_if, tap_talk, unless_lacking}
+use Rattle.inp_script.specs.Line.{step_of, tap_client_after, event_of_taken, view_after_call, after_tap_call, tap_call_if, tap_talk, unless_lacking}
 use Rattle.inp_script.specs.Sight.{call_sight, again_sight, taken_sight, lacks_memory}
 use Rattle.inp_script.proofs.Folds.{tap_fold-append, call-folds, entries-fold, fold-taken, again_sets_nothing, tap_memory}
 use Rattle.inp_script.proofs.LastAgain.{finish-only}
@@ -310,7 +310,7 @@ pub record TapStands (d : Description) (h : List Step) (Q : ℕ → Type 0) (lea
 pub client_after-append : (client : ℕ) (xs ys : List Sight) → client_after_sight client (xs ++ ys) ≡ client_after_sight (client_after_sight client xs) ys
 unfolding client_after_sight
 client_after-append client [] ys = refl
-client_after-append client (CallSight x reply ∷ xs) ys = client_after-append (client_after x reply client) xs ys
+client_after-append client (CallSight x reply ∷ xs) ys = client_after-append (tap_client_after x reply client) xs ys
 client_after-append client (Took taken ∷ xs) ys = client_after-append client xs ys
 client_after-append client (Made event ∷ xs) ys = client_after-append client xs ys
 client_after-append client (AgainSight at ends ∷ xs) ys = client_after-append client xs ys
@@ -321,27 +321,27 @@ unfolding client_after_sight
 client_after-takens client [] = refl
 client_after-takens client (taken ∷ events) = client_after-takens client events
 
-pub client_after-none : (x : Step) (at n client : ℕ) → client_after x (NothingVisible at n) client ≡ client
+pub client_after-none : (x : Step) (at n client : ℕ) → tap_client_after x (NothingVisible at n) client ≡ client
 client_after-none ToOpen at n client = refl
 client_after-none _ at n client = refl
 
-pub client_after-call : (client : ℕ) (x : Step) (reply : Reply) → client_after_sight client (call_sight x reply ++ again_sight reply) ≡ client_after x reply client
+pub client_after-call : (client : ℕ) (x : Step) (reply : Reply) → client_after_sight client (call_sight x reply ++ again_sight reply) ≡ tap_client_after x reply client
 unfolding client_after_sight
 client_after-call client x (NothingVisible at n) = sym (client_after-none x at n client)
 client_after-call client x _ = refl
 
-pub client_after-taking : (client : ℕ) (x : Step) (reply : Reply) (events : List Taken) → client_after_sight client ((call_sight x reply ++ again_sight reply) ++ map taken_sight events) ≡ client_after x reply client
+pub client_after-taking : (client : ℕ) (x : Step) (reply : Reply) (events : List Taken) → client_after_sight client ((call_sight x reply ++ again_sight reply) ++ map taken_sight events) ≡ tap_client_after x reply client
 client_after-taking client x reply events =
     client_after-append client (call_sight x reply ++ again_sight reply) (map taken_sight events)
     ∙ ap (λ (c : ℕ). client_after_sight c (map taken_sight events)) (client_after-call client x reply)
-    ∙ client_after-takens (client_after x reply client) events
+    ∙ client_after-takens (tap_client_after x reply client) events
 
 -- a step that is no Open keeps it
-pub client_after-kept : (x : Step) (reply : Reply) (client : ℕ) → is_open_step x ≡ false → client_after x reply client ≡ client
+pub client_after-kept : (x : Step) (reply : Reply) (client : ℕ) → is_open_step x ≡ false → tap_client_after x reply client ≡ client
 client_after-kept ToOpen reply client h = absurd (true≢false h)
 client_after-kept _ reply client h = refl
 
-client_after-refused : (x : Step) (reply : Reply) (client : ℕ) → is_accepted reply ≡ false → client_after x reply client ≡ client
+client_after-refused : (x : Step) (reply : Reply) (client : ℕ) → is_accepted reply ≡ false → tap_client_after x reply client ≡ client
 client_after-refused ToOpen (Opened at opened ring) client h = absurd (true≢false h)
 client_after-refused ToOpen _ client h = refl
 client_after-refused _ reply client h = refl
@@ -536,7 +536,7 @@ module _ (d : Description) (h : List Step) (Q : ℕ → Type 0) (history : IsHis
 
   -- what a tap's client is asked for after its call
   tap-asked : (least : ℕ) (j : Job) (call : Call) (calls : List Call) → AreToCome d h Q least (call ∷ calls) → TapStands d h Q least j → IsTapStep j.reading.client call.step → IsSizedFor d.slots (view_after_call j.reading.view call.step call.answer)
-      → (let client : ℕ = client_after call.step call.answer.reply j.reading.client in (client ≡ NO_CLIENT) ⊎ (Q client × IsAsked d (past_at h (next_place call.answer.reply)) client (view_after_call j.reading.view call.step call.answer)))
+      → (let client : ℕ = tap_client_after call.step call.answer.reply j.reading.client in (client ≡ NO_CLIENT) ⊎ (Q client × IsAsked d (past_at h (next_place call.answer.reply)) client (view_after_call j.reading.view call.step call.answer)))
   tap-asked least j call calls c s step sized = by (is_accepted call.answer.reply) refl
     where
       x : Step
@@ -573,21 +573,21 @@ module _ (d : Description) (h : List Step) (Q : ℕ → Type 0) (history : IsHis
           let b : (others : List Step) × AreQuiet client others × (past ≡ others ++ past_at h least) = quiet-before d h Q client least call calls c q in
           inr (q, subst (λ (p : List Step). IsAsked d p client v) (sym b.2) (asked-quiet d (past_at h least) b.0 client v b.1 a))
 
-      opens-one : is_accepted given.reply ≡ true → x ≡ ToOpen → Stands (client_after x given.reply client) (x ∷ past) (view_after_call v x given)
+      opens-one : is_accepted given.reply ≡ true → x ≡ ToOpen → Stands (tap_client_after x given.reply client) (x ∷ past) (view_after_call v x given)
       opens-one is opening =
           let exact : (given ≡ answer d past x) × (refused d past x ≡ None) = accepted-exact d past x given placed.exact is in
           let reply : given.reply ≡ Opened (length past) (opens past) (ring d) =
           ap (λ (g : Answer). g.reply) exact.0 ∙ ap (λ (g : Answer). g.reply) (accepted-answer d past x exact.1) ∙ ap (λ (y : Step). (accepted d past y).reply) opening in
           let q : Q (opens past) = c.opened.0 (length past) (opens past) (ring d) reply in
-          let new : client_after x given.reply client ≡ opens past = ap (λ (y : Step). client_after y given.reply client) opening ∙ ap (λ (r : Reply). client_after ToOpen r client) reply in
+          let new : tap_client_after x given.reply client ≡ opens past = ap (λ (y : Step). tap_client_after y given.reply client) opening ∙ ap (λ (r : Reply). tap_client_after ToOpen r client) reply in
           subst (λ (n : ℕ). Stands n (x ∷ past) (view_after_call v x given)) (sym new)
           (inr (q, subst (λ (y : Step). IsAsked d (y ∷ past) (opens past) (view_after_call v x given)) (sym opening) (opened-asked d past (view_after_call v x given) sized)))
 
-      own-one : is_accepted given.reply ≡ true → client_of x ≡ Some client → Stands (client_after x given.reply client) (x ∷ past) (view_after_call v x given)
+      own-one : is_accepted given.reply ≡ true → client_of x ≡ Some client → Stands (tap_client_after x given.reply client) (x ∷ past) (view_after_call v x given)
       own-one is named =
           let exact : (given ≡ answer d past x) × (refused d past x ≡ None) = accepted-exact d past x given placed.exact is in
           let a : Q client × IsAsked d past client v = named-asked least j call calls c s exact.1 named in
-          let same : client_after x given.reply client ≡ client = client_after-kept x given.reply client (named-no_open x named) in
+          let same : tap_client_after x given.reply client ≡ client = client_after-kept x given.reply client (named-no_open x named) in
           subst (λ (n : ℕ). Stands n (x ∷ past) (view_after_call v x given)) (sym same)
           (inr (a.0, subst (λ (g : Answer). IsAsked d (x ∷ past) client (view_after_call v x g)) (sym exact.0) (used_or_idle (is_use x) refl a.1 exact.1 (ap (λ (g : Answer). is_accepted g.reply) (sym exact.0) ∙ is))))
         where
@@ -604,19 +604,19 @@ module _ (d : Description) (h : List Step) (Q : ℕ → Type 0) (history : IsHis
               let own_use : is_use_of client x ≡ false = ap (λ (b : Bool). b && is_same (client_of x) client) idle in
               subst (IsAsked d (x ∷ past) client) (sym (idle-made d past v x (refused d past x) idle good)) (asked-idle d past client x v own_use a)
 
-      by_step : is_accepted given.reply ≡ true → IsTapStep client x → Stands (client_after x given.reply client) (x ∷ past) (view_after_call v x given)
+      by_step : is_accepted given.reply ≡ true → IsTapStep client x → Stands (tap_client_after x given.reply client) (x ∷ past) (view_after_call v x given)
       by_step is (inl opening) = opens-one is opening
       by_step is (inr named) = own-one is named
 
-      by : (b : Bool) → is_accepted given.reply ≡ b → Stands (client_after x given.reply client) (past_at h (next_place given.reply)) (view_after_call v x given)
+      by : (b : Bool) → is_accepted given.reply ≡ b → Stands (tap_client_after x given.reply client) (past_at h (next_place given.reply)) (view_after_call v x given)
       by true is =
-          subst (λ (p : List Step). Stands (client_after x given.reply client) p (view_after_call v x given)) (sym (entered ∙ cond-true (is_accepted given.reply) (x ∷ past) past is)) (by_step is step)
+          subst (λ (p : List Step). Stands (tap_client_after x given.reply client) p (view_after_call v x given)) (sym (entered ∙ cond-true (is_accepted given.reply) (x ∷ past) past is)) (by_step is step)
       by false is =
           let none : given.events ≡ [] = refused-events d past x given placed.exact is in
           let view : view_after_call v x given ≡ v =
           ap (λ (ts : List Taken). view_after_events (view_after_answer v x given.reply given.cells) (map event_of_taken ts)) none
           ∙ no-events (view_after_answer v x given.reply given.cells) ∙ refused-view v x given.reply given.cells is in
-          subst (λ (p : List Step). Stands (client_after x given.reply client) p (view_after_call v x given)) (sym (entered ∙ cond-false (is_accepted given.reply) (x ∷ past) past is))
+          subst (λ (p : List Step). Stands (tap_client_after x given.reply client) p (view_after_call v x given)) (sym (entered ∙ cond-false (is_accepted given.reply) (x ∷ past) past is))
           (subst (λ (n : ℕ). Stands n past (view_after_call v x given)) (sym (client_after-refused x given.reply client is))
           (subst (Stands client past) (sym view) (kept s.asked)))
 

@@ -58,8 +58,8 @@ lines_talk role d streams wait rounds (line ∷ lines) j =
     and_then (line_talk role d streams wait rounds line.command j) (on_job (lines_talk role d streams wait rounds lines))
 
 -- a call that was refused for want of memory
-abbrev pub lacks_memory : model.Call → Bool
-lacks_memory call = script.lacks_memory call.answer.reply
+abbrev pub call_lacks_memory : model.Call → Bool
+call_lacks_memory call = script.lacks_memory call.answer.reply
 
 -- The sight tells of these calls, but for some that were answered Again.
 pub record TellsAllBut (calls : List model.Call) (sight : List Sight) : Type 0 where
@@ -77,7 +77,7 @@ AreTold (Some waiting) calls sight = TellsAllBut calls sight
 pub record IsJob (r : RecordView) (d : Description) (wait : Option Waiting) (history : List Step) (role : Role) (job : JobView) : Type 0 where
   pub calls : List model.Call
   pub legal : IsLegalRun d history calls
-  pub memory : list_any lacks_memory calls ≡ false
+  pub memory : list_any call_lacks_memory calls ≡ false
   -- they are those that its sight tells of
   pub told : AreTold wait calls job.sight
   pub rounds : ℕ
@@ -97,7 +97,7 @@ pub record IsJob (r : RecordView) (d : Description) (wait : Option Waiting) (his
 pub record IsJoyJob (r : RecordView) (d : Description) (wait : Option Waiting) (history : List Step) (joy : JoyJobView) : Type 0 where
   pub calls : List model.Call
   pub legal : IsLegalRun d history calls
-  pub memory : list_any lacks_memory calls ≡ false
+  pub memory : list_any call_lacks_memory calls ≡ false
   -- they are those that its sight tells of
   pub told : AreTold wait calls joy.sight
   pub rounds : ℕ

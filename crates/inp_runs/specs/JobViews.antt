@@ -21,11 +21,11 @@ use Rattle.inp_reader.specs.declared.reader.TheConstants.{NO_CLIENT}
 use Rattle.inp_script.specs.declared.sight.Sight.{Sight}
 use Rattle.inp_script.specs.declared.sight.Sight.TheVariants.{Call, Took, Made, Again, Record}
 use Rattle.inp_script.specs.Fold.{Folding, settled, asking, tap_fold, client_fold}
-use Rattle.inp_script.specs.Line.{client_after}
+use Rattle.inp_script.specs.Line.{tap_client_after}
 
 -- a sight goes on from this client
 abbrev pub client_after_entry : ℕ → Sight → ℕ
-client_after_entry client (Call x reply) = client_after x reply client
+client_after_entry client (Call x reply) = tap_client_after x reply client
 client_after_entry client (Took taken) = client
 client_after_entry client (Made event) = client
 client_after_entry client (Again at ends) = client

@@ -4,7 +4,7 @@ use Rattle.inp_model.specs.declared.taken.Taken.{Taken}
 use Rattle.inp_model.specs.declared.step.Step.{Step}
 use Rattle.inp_model.specs.Description.{Description}
 use Rattle.inp_recon.specs.Synchronised.{is_dropped}
-use Rattle.inp_losses.specs.Losses.{HasCause}
+use Rattle.inp_losses.specs.Losses.{IsCausedAt}
 use Rattle.inp_script.specs.declared.sight.Sight.{Sight}
 use Rattle.inp_script.specs.declared.sight.Sight.TheVariants.{Took}
 use Rattle.inp_runs.specs.JobViews.{reads_as}
@@ -12,7 +12,7 @@ use Rattle.inp_runs.specs.JobViews.{reads_as}
 -- The loss at the end of a sight came to the client that the job reads as then: the step at its place met a full ring of
 -- this client, or changed its clock while events were queued.
 abbrev pub HasLossCause : Description → List Step → List Sight → Taken → Type 0
-HasLossCause d history sight taken = HasCause d (reverse history) (reads_as sight) taken.place
+HasLossCause d history sight taken = IsCausedAt d (reverse history) (reads_as sight) taken.place
 
 -- each loss that a job took has its cause
 abbrev pub AreLossesCaused : Description → List Step → List Sight → Type 0

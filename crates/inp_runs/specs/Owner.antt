@@ -29,7 +29,7 @@ HasFed d (Feedback count ∷ kept) (room ∷ rooms) o =
     × (o ≡ after_feedback (fed d kept room) (taken_by_feedback d kept room) before)
 
 -- A call was refused, since as many are kept as the limit says, and the owner stopped. Only steps were kept behind it.
-pub record IsRefused (d : Description) (kept : List UEntry) (rooms done : List ℕ) (before last : Owning) : Type 0 where
+pub record IsRefusedAtLimit (d : Description) (kept : List UEntry) (rooms done : List ℕ) (before last : Owning) : Type 0 where
   pub room : ℕ
   -- the lines behind it were not done
   pub left : List ℕ
@@ -43,7 +43,7 @@ pub record IsRefused (d : Description) (kept : List UEntry) (rooms done : List �
 
 -- all calls were made, or one was refused
 abbrev pub EndsFed : Description → List UEntry → List ℕ → List ℕ → Owning → Owning → Type 0
-EndsFed d kept rooms done before last = ((reverse done ≡ rooms) × (last ≡ before)) ⊎ IsRefused d kept rooms done before last
+EndsFed d kept rooms done before last = ((reverse done ≡ rooms) × (last ≡ before)) ⊎ IsRefusedAtLimit d kept rooms done before last
 
 -- An owner did its lines, with room for so many events each, on a device with this history: what the device kept is the
 -- history's steps and, among them, the owner's calls and no other ones.

@@ -24,7 +24,8 @@ use Rattle.inp_reader.specs.declared.phase.Phase.TheVariants.{Plain, Needed, Han
 use Rattle.inp_reader.specs.declared.next.Next.{Next}
 use Rattle.inp_reader.specs.declared.next.Next.TheVariants.{Success, Dropped, Sync, Synced}
 use Rattle.inp_reader.specs.declared.started.Started.{Started}
-use Rattle.inp_reader.specs.Reading.{Reading, ask_each, only_if, bit_queries, axis_queries, slot_queries, plain_axes, queries, start_talk, after_open, after_queries, start_stop_of, stop_of, hand_out_event, hand_out, is_dropped, after_read, read_or_hand_out, read_talk, as_plain, hand_synthesised, after_full_sync, after_failed_sync, go_on, go_on_after, sync_talk, talk_in, next_talk}
+use Rattle.inp_recon.specs.Synchronised.{is_dropped}
+use Rattle.inp_reader.specs.Reading.{Reading, ask_each, only_if, bit_queries, axis_queries, slot_queries, plain_axes, queries, start_talk, after_open, after_queries, start_stop_of, stop_of, hand_out_event, hand_out, after_read, read_or_hand_out, read_talk, as_plain, hand_synthesised, after_full_sync, after_failed_sync, go_on, go_on_after, sync_talk, talk_in, next_talk}
 use Rattle.inp_reader.specs.Talk.{Talk, finish, and_then, LeadsTo, EndsWith}
 use Rattle.inp_script.specs.declared.sight.Sight.{Sight}
 use Rattle.inp_script.specs.declared.sight.Sight.TheVariants.{Call as Called, Took, Made}

@@ -11,13 +11,13 @@ use Rattle.inp_actors.specs.Command.{is_command_of, stream_of, first_of}
 use Rattle.inp_reader.specs.declared.reader.TheConstants.{NO_CLIENT}
 use Rattle.inp_script.specs.Job.{Job}
 use Rattle.inp_script.specs.Joystick.{joystick_talk}
-use Rattle.inp_script.specs.Line.{step_of, stream_at, source_talk, call_talk, call_if, stream_talk}
+use Rattle.inp_script.specs.Line.{step_of, stream_numbered, source_talk, call_talk, call_if, stream_talk}
 
 -- the stream of a number that is there
-pub stream_at-slice_get : (streams : List (List Stamped)) (index : ℕ) (stream : List Stamped) → slice_get streams index ≡ Some stream → stream_at streams index ≡ stream
-stream_at-slice_get [] index stream h = absurd cc
-stream_at-slice_get (s ∷ streams) zero stream h = cc
-stream_at-slice_get (s ∷ streams) (suc index) stream h = stream_at-slice_get streams index stream h
+pub stream_numbered-slice_get : (streams : List (List Stamped)) (index : ℕ) (stream : List Stamped) → slice_get streams index ≡ Some stream → stream_numbered streams index ≡ stream
+stream_numbered-slice_get [] index stream h = absurd cc
+stream_numbered-slice_get (s ∷ streams) zero stream h = cc
+stream_numbered-slice_get (s ∷ streams) (suc index) stream h = stream_numbered-slice_get streams index stream h
 
 -- what a source does at a command, by the command
 
@@ -26,10 +26,10 @@ source_talk-single streams (Stream file index) j h = absurd (cc h)
 source_talk-single streams (Stream16 file index) j h = absurd (cc h)
 source_talk-single streams _ j h = refl
 
-stream_is : (streams : List (List Stamped)) (at index : ℕ) (stream : List Stamped) (j : Job) → Some at ≡ Some index → slice_get streams index ≡ Some stream → stream_talk (stream_at streams at) j ≡ stream_talk stream j
+stream_is : (streams : List (List Stamped)) (at index : ℕ) (stream : List Stamped) (j : Job) → Some at ≡ Some index → slice_get streams index ≡ Some stream → stream_talk (stream_numbered streams at) j ≡ stream_talk stream j
 stream_is streams at index stream j e is =
     let same : at ≡ index = cc e in
-    ap (λ (s : List Stamped). stream_talk s j) (ap (stream_at streams) same ∙ stream_at-slice_get streams index stream is)
+    ap (λ (s : List Stamped). stream_talk s j) (ap (stream_numbered streams) same ∙ stream_numbered-slice_get streams index stream is)
 
 pub source_talk-stream : (streams : List (List Stamped)) (command : Command) (index : ℕ) (stream : List Stamped) (j : Job) → first_of (stream_of command) ≡ Some index → slice_get streams index ≡ Some stream → source_talk streams command j ≡ stream_talk stream j
 source_talk-stream streams (Stream file at) index stream j e is = stream_is streams at index stream j e is

@@ -8,7 +8,7 @@ use Rattle.inp_reader.specs.Talk.{Talk, finish, ask, and_then, LeadsTo}
 use Rattle.inp_model.proofs.Leaves.{AreCalls-append, calls-left}
 use Rattle.inp_reader.proofs.Talks.{LeadsTo-append, LeadsTo-and_then}
 use Rattle.inp_script.specs.Doing.{Holds, Begins}
-use Rattle.inp_script.specs.Noting.{IsMade}
+use Rattle.inp_script.specs.Noting.{IsStepMade}
 
 -- no call
 pub holds-nothing : {A : Type 0} (told : EvdevView) (talk : Talk A) (result : A) → talk ≡ finish result → Holds told told talk result
@@ -43,7 +43,7 @@ unfolding LeadsTo AreCalls
 begins-none told talk = record { calls = []; rest = talk; leads = refl; are_calls = refl }
 
 -- the first one
-pub begins-one : {A : Type 0} (before after : EvdevView) (x : Step) (rest : Answer → Talk A) → IsMade before after x → Begins before after (ask x rest)
+pub begins-one : {A : Type 0} (before after : EvdevView) (x : Step) (rest : Answer → Talk A) → IsStepMade before after x → Begins before after (ask x rest)
 unfolding LeadsTo AreCalls
 begins-one before after x rest made = record {
   calls = record { step = x; answer = made.answer } ∷ [];

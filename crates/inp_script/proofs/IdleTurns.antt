@@ -26,11 +26,11 @@ use Rattle.inp_script.specs.declared.sight.Sight.TheVariants.{Took, Made, Again 
 use Rattle.inp_script.specs.declared.stop.Stop.{Stop}
 use Rattle.inp_script.specs.declared.stop.Stop.TheVariants.{Idle, Full as FullHistory}
 use Rattle.inp_script.specs.declared.waiting.Waiting.{Waiting}
-use Rattle.inp_script.specs.Client.{Going, Turn, goes_on, ends_with, start_job, start_ends, after_start, handed, one_less, is_done, patience, after_again, turn_after, after_next, mode_of, with_sight, with_stop, next_round, on_turn, rounds, hand_talk, forced, client_talk}
+use Rattle.inp_script.specs.Client.{Going, Turn, goes_on, ends_with, start_job, start_ends, job_after_start, handed, one_less, is_done, patience, after_again, turn_after, after_next, mode_of, with_sight, with_stop, next_round, on_turn, rounds, hand_talk, forced, client_talk}
 use Rattle.inp_script.specs.Doing.{DoesLine, command_talk, unless_stopped, line_talk}
 use Rattle.inp_script.specs.Job.{Job, ActorView}
 use Rattle.inp_script.specs.Legal.{CountsTurns}
-use Rattle.inp_script.specs.Line.{step_of, after_call, unless_lacking, call_talk, call_if, stream_talk, stream_at, source_talk, after_tap_call, tap_call_if}
+use Rattle.inp_script.specs.Line.{step_of, after_call, unless_lacking, call_talk, call_if, stream_talk, stream_numbered, source_talk, after_tap_call, tap_call_if}
 use Rattle.inp_script.specs.Sight.{noted, stop_after, stop_after_start, lacks_memory, start_lacks_memory}
 use Rattle.inp_actors.specs.Record.{RecordView}
 use Rattle.inp_script.proofs.JoyStops.{IsNotIdle, reply-not_idle, started-not_idle, joystick-not_idle}
@@ -145,8 +145,8 @@ stream-idles (stamped ∷ stream) j k (call ∷ calls) none h =
     by_flag false taken mid stopped more e = called-idles mid k (Inject stamped.event stamped.now) (call ∷ calls) calls call.answer.reply stopped e
 
 source-idles : (streams : List (List Stamped)) (command : Command) (j k : Job) (calls : List Call) → j.stop ≡ None → EndsWith (source_talk streams command j) calls (Some k) → Idles calls k.stop
-source-idles streams (Stream file index) j k calls none h = stream-idles (stream_at streams index) j k calls none h
-source-idles streams (Stream16 file index) j k calls none h = stream-idles (stream_at streams index) j k calls none h
+source-idles streams (Stream file index) j k calls none h = stream-idles (stream_numbered streams index) j k calls none h
+source-idles streams (Stream16 file index) j k calls none h = stream-idles (stream_numbered streams index) j k calls none h
 source-idles streams command j k calls none h = call_if-idles j k (step_of NO_CLIENT command) calls none h
 
 tap_call-idles : (j k : Job) (o : Option Step) (calls : List Call) → j.stop ≡ None → EndsWith (tap_call_if j o) calls (Some k) → Idles calls k.stop
@@ -167,7 +167,7 @@ start-idles d j k calls h =
     let next : (Started × Reading) × List Sight → Talk (Option Job) = λ o. finish (start_ends o) in
     let p = and_then-parts (noted (start_talk d j.reading) j.sight) next calls (Some k) h in
     let f = finish-only (start_ends p.mid) (Some k) p.second p.second_ends in
-    let same : after_start p.mid.0.0 p.mid.0.1 p.mid.1 ≡ k = memory_there (start_lacks_memory p.mid.0.0) (after_start p.mid.0.0 p.mid.0.1 p.mid.1) k f.1 in
+    let same : job_after_start p.mid.0.0 p.mid.0.1 p.mid.1 ≡ k = memory_there (start_lacks_memory p.mid.0.0) (job_after_start p.mid.0.0 p.mid.0.1 p.mid.1) k f.1 in
     subst (λ (s : Option Stop). Idles calls s) (ap (λ (y : Job). y.stop) same) (after_started calls p.mid.0.0)
 
 -- Where a turn ends its line as idle, so many answers Again came before and in it; where it goes on they are counted.

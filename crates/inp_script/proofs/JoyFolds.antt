@@ -23,7 +23,7 @@ use Rattle.inp_joy.specs.declared.joy_read.JoyRead.{JoyRead}
 use Rattle.inp_joy.specs.declared.joy_read.JoyRead.TheVariants.{Record as HandedOut, Frame, Again, NoDevice, Closed, Full, More}
 use Rattle.inp_joy.specs.declared.joy_record.JoyRecord.{JoyRecord}
 use Rattle.inp_joy.specs.JoyRecord.{bytes_of}
-use Rattle.inp_joy.specs.Joying.{Joying, JoyAnswer, Turn, gives, goes_on, hand_out_record, next_in_startup, stop_with, stop_of, event_of, record_of, record_or_on, event_or_on, stop_or_event, after_next, stop_or_startup, turn_talk, turns, with_reading, without_startup, after_start, joy_started, joy_start}
+use Rattle.inp_joy.specs.Joying.{Joying, JoyAnswer, Turn, gives, goes_on, hand_out_record, next_in_startup, stop_with, joy_read_of, event_handed_out, joy_record_of, record_or_on, event_or_on, stop_or_event, joying_after_next, stop_or_startup, turn_talk, turns, with_reading, without_startup, joying_after_start, joy_started, joy_start}
 use Rattle.inp_joy.specs.Picture.{PictureView, blank_picture, picture_after}
 use Rattle.inp_joy.proofs.Nexts.{lost-needed}
 use Rattle.inp_joy.proofs.Records.{FitsBytes, record-back, startup-fits, FitsIf, event-fits}
@@ -43,7 +43,7 @@ use Rattle.inp_script.specs.declared.sight.Sight.TheVariants.{Call as Called, Ag
 use Rattle.inp_script.specs.declared.stop.Stop.TheVariants.{Full as FullHistory}
 use Rattle.inp_script.specs.Client.{with_sight, with_stop}
 use Rattle.inp_script.specs.Job.{Job, joying_of}
-use Rattle.inp_script.specs.Joystick.{Reach, handed_out, line_ends, start_joystick, record_sight, after_joy_answer, after_read, after_turns, read_on, on_reach, read_records, joystick_talk}
+use Rattle.inp_script.specs.Joystick.{Reach, handed_out, line_ends, start_joystick, record_sight, after_joy_answer, after_joy_read, after_turns, read_on, on_reach, read_records, joystick_talk}
 use Rattle.inp_script.specs.JoyFold.{Showing, shown, asking, blank_shown, asked_on, after_first_call, after_joy_call, after_joy_entry, joy_fold}
 use Rattle.inp_script.specs.Line.{after_call, call_talk}
 use Rattle.inp_script.specs.Sight.{call_sight, again_sight, taken_sight, sight_of_call, noted}
@@ -110,7 +110,7 @@ discard-shows d h client p view (call ∷ calls) result placed ends =
 -- A start
 
 -- a start that was refused leaves the picture
-refused-picture : (d : Description) (j : Joying) (r : Reading) (reply : Reply) → (after_start d (with_reading j r) (start_stop_of reply)).picture ≡ j.picture
+refused-picture : (d : Description) (j : Joying) (r : Reading) (reply : Reply) → (joying_after_start d (with_reading j r) (start_stop_of reply)).picture ≡ j.picture
 refused-picture d j r (StepRefused at why) = by_flag (is_needed r.phase)
   where
     by_flag : (b : Bool) → (if b then without_startup d (with_reading j r) else with_reading j r).picture ≡ j.picture
@@ -174,12 +174,12 @@ abbrev IsStopped : Option JoyRead → Type 0
 IsStopped None = ⊥
 IsStopped (Some read) = Unit {0}
 
-refused-stops : (at : ℕ) (why : Refusal) → IsStopped (stop_of (reader_stop (StepRefused at why)))
+refused-stops : (at : ℕ) (why : Refusal) → IsStopped (joy_read_of (reader_stop (StepRefused at why)))
 refused-stops at RefusedNoDevice = tt
 refused-stops at LogFull = tt
 refused-stops at _ = tt
 
-reply-stops : (reply : Reply) → IsStopped (stop_of (reader_stop reply))
+reply-stops : (reply : Reply) → IsStopped (joy_read_of (reader_stop reply))
 reply-stops (NothingVisible at ends) = tt
 reply-stops (StepRefused at why) = refused-stops at why
 reply-stops _ = tt
@@ -188,20 +188,20 @@ stopped-picture : (p : PictureView) (stop : Option JoyRead) → IsStopped stop �
 stopped-picture p None h = absurd h
 stopped-picture p (Some read) h = refl
 
-synthesised-picture : (p : PictureView) (r : Reading) (left : List _) → blank_picture ≡ synced_picture p (stop_of (hand_synthesised r left).0)
+synthesised-picture : (p : PictureView) (r : Reading) (left : List _) → blank_picture ≡ synced_picture p (joy_read_of (hand_synthesised r left).0)
 synthesised-picture p r [] = refl
 synthesised-picture p r (event ∷ left) = refl
 
-after_sync-shows : (d : Description) (p : PictureView) (r : Reading) (asked : Result View Reply) (calls : List Call) (o : Next × Reading) → EndsWith (go_on_after Synchronising r asked) calls o → (calls ≡ []) × (asked_picture p asked ≡ synced_picture p (stop_of o.0))
+after_sync-shows : (d : Description) (p : PictureView) (r : Reading) (asked : Result View Reply) (calls : List Call) (o : Next × Reading) → EndsWith (go_on_after Synchronising r asked) calls o → (calls ≡ []) × (asked_picture p asked ≡ synced_picture p (joy_read_of o.0))
 after_sync-shows d p r (Ok view) calls o ends =
     let s : Reading = after_full_sync r view in
     let f = finish-only (handing s) o calls ends in
-    (f.0, synthesised-picture p s s.left ∙ ap (λ (q : Next × Reading). synced_picture p (stop_of q.0)) f.1)
+    (f.0, synthesised-picture p s s.left ∙ ap (λ (q : Next × Reading). synced_picture p (joy_read_of q.0)) f.1)
 after_sync-shows d p r (Err reply) calls o ends =
     let f = finish-only (reader_stop reply, after_failed_sync r) o calls ends in
-    (f.0, stopped-picture p (stop_of (reader_stop reply)) (reply-stops reply) ∙ ap (λ (q : Next × Reading). synced_picture p (stop_of q.0)) f.1)
+    (f.0, stopped-picture p (joy_read_of (reader_stop reply)) (reply-stops reply) ∙ ap (λ (q : Next × Reading). synced_picture p (joy_read_of q.0)) f.1)
 
-needed-shows : (d : Description) (h : List Step) (p : PictureView) (phase : Phase) (r : Reading) (calls : List Call) (o : Next × Reading) → is_needed phase ≡ true → ArePlaced d h calls → EndsWith (talk_in d Synchronising phase r) calls o → joy_fold d (shown p) (noted_sight calls) ≡ shown (synced_picture p (stop_of o.0))
+needed-shows : (d : Description) (h : List Step) (p : PictureView) (phase : Phase) (r : Reading) (calls : List Call) (o : Next × Reading) → is_needed phase ≡ true → ArePlaced d h calls → EndsWith (talk_in d Synchronising phase r) calls o → joy_fold d (shown p) (noted_sight calls) ≡ shown (synced_picture p (joy_read_of o.0))
 unfolding sync_talk
 needed-shows d h p Plain r calls o needed placed ends = absurd (true≢false (sym needed))
 needed-shows d h p Handing r calls o needed placed ends = absurd (true≢false (sym needed))
@@ -241,8 +241,8 @@ stop_or_startup-shows d sight j (Some read) h = bare d j.picture sight j.picture
 
 synchronises-shows : (d : Description) (h : List Step) (j : Joying) (calls : List Call) (t : Turn) → is_needed j.reading.phase ≡ true → ArePlaced d h calls → Synchronises d j calls t → Shows d j.picture (noted_sight calls) t
 synchronises-shows d h j calls t needed placed s =
-    turn-same d j.picture (noted_sight calls) (stop_or_startup (with_reading j s.reading) (stop_of s.next)) t s.comes_to
-    (stop_or_startup-shows d (noted_sight calls) (with_reading j s.reading) (stop_of s.next)
+    turn-same d j.picture (noted_sight calls) (stop_or_startup (with_reading j s.reading) (joy_read_of s.next)) t s.comes_to
+    (stop_or_startup-shows d (noted_sight calls) (with_reading j s.reading) (joy_read_of s.next)
     (needed-shows d h j.picture j.reading.phase j.reading calls (s.next, s.reading) needed placed s.talk_ends))
 
 -- a record that was handed out moves the picture
@@ -261,9 +261,9 @@ unfolding joy_fold
 event-shows d j None = refl
 event-shows d j (Some taken) = by_flag (is_report taken.event)
   where
-    by_flag : (b : Bool) → Shows d j.picture [] (if b then gives (stop_with (Frame taken.place) j) else record_or_on j (record_of d j.picture taken))
+    by_flag : (b : Bool) → Shows d j.picture [] (if b then gives (stop_with (Frame taken.place) j) else record_or_on j (joy_record_of d j.picture taken))
     by_flag true = refl
-    by_flag false = made-shows d j (record_of d j.picture taken) (event-fits d j.picture taken)
+    by_flag false = made-shows d j (joy_record_of d j.picture taken) (event-fits d j.picture taken)
 
 after_next-shows : (d : Description) (j : Joying) (stop : Option JoyRead) (event : Option Taken) → Shows d j.picture [] (stop_or_event d j stop event)
 unfolding joy_fold
@@ -315,7 +315,7 @@ turn-shows d h j calls t placed (of_loss first second next r plain whole ends lo
     ∙ synchronises-shows d h (with_reading j r) second t (lost-needed d j.reading r first next plain ends lost) (placed-right d h first second both) s
 turn-shows d h j calls t placed (of_next next r plain ends kept is) =
     next-tells_nothing d j.picture j.reading.phase j.reading calls (next, r) (record_sight (out_of t)) plain ends
-    ∙ turn-same d j.picture [] (after_next d (with_reading j r) next) t is (after_next-shows d (with_reading j r) (stop_of next) (event_of next))
+    ∙ turn-same d j.picture [] (joying_after_next d (with_reading j r) next) t is (after_next-shows d (with_reading j r) (joy_read_of next) (event_handed_out next))
 
 -- a turn that goes on
 on-shows : (d : Description) (h : List Step) (j k : Joying) (calls : List Call) → ArePlaced d h calls → EndsWith (turn_talk d j) calls (goes_on k) → joy_fold d (shown j.picture) (noted_sight calls) ≡ shown k.picture
@@ -369,7 +369,7 @@ again-shown : (d : Description) (j : Job) (at ends : ℕ) → IsShown d j → Is
 unfolding joy_fold
 again-shown d j at ends fold = shows-on d j (AgainSight at ends ∷ []) fold
 
-answer-shown : (d : Description) (go_on : Job → Talk (Option Reach)) (read : JoyRead) (j : Job) (reach : Reach) (calls : List Call) → ((k : Job) → EndsWith (go_on k) calls (Some reach) → IsShown d k → IsShown d (job_of_reach reach)) → EndsWith (after_read go_on read j) calls (Some reach) → IsShown d j → IsShown d (job_of_reach reach)
+answer-shown : (d : Description) (go_on : Job → Talk (Option Reach)) (read : JoyRead) (j : Job) (reach : Reach) (calls : List Call) → ((k : Job) → EndsWith (go_on k) calls (Some reach) → IsShown d k → IsShown d (job_of_reach reach)) → EndsWith (after_joy_read go_on read j) calls (Some reach) → IsShown d j → IsShown d (job_of_reach reach)
 answer-shown d go_on HandedOut j reach calls more ends fold = reach-shown d (handed_out j) reach calls ends fold
 answer-shown d go_on (Frame place) j reach calls more ends fold = more j ends fold
 answer-shown d go_on More j reach calls more ends fold = more j ends fold

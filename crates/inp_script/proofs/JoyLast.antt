@@ -8,7 +8,7 @@ use Rattle.inp_model.specs.Run.{Call}
 use Rattle.inp_joy.specs.declared.joy_read.JoyRead.{JoyRead}
 use Rattle.inp_joy.specs.declared.joy_read.JoyRead.TheVariants.{Frame, Again, NoDevice, Closed, Full}
 use Rattle.inp_joy.specs.declared.joy_record.JoyRecord.{JoyRecord}
-use Rattle.inp_joy.specs.Joying.{Joying, JoyAnswer, Turn, gives, goes_on, stop_with, stop_of, event_of, record_of, record_or_on, event_or_on, stop_or_event, after_next, stop_or_startup, turns, with_reading}
+use Rattle.inp_joy.specs.Joying.{Joying, JoyAnswer, Turn, gives, goes_on, stop_with, joy_read_of, event_handed_out, joy_record_of, record_or_on, event_or_on, stop_or_event, joying_after_next, stop_or_startup, turns, with_reading}
 use Rattle.inp_joy.proofs.TurnCases.{Synchronises, TurnCase, of_startup, of_sync, of_loss, of_next, turn-case, turns-all}
 use Rattle.inp_reader.specs.declared.mode.Mode.TheVariants.{Normal, Sync as Synchronising}
 use Rattle.inp_reader.specs.declared.next.Next.{Next}
@@ -38,7 +38,7 @@ turn-behind first second (gives answer) h = last-behind first second answer.read
 turn-behind first second (goes_on j) h = tt
 
 -- an answer of the reader that is one of the read
-stopped-last : (calls : List Call) (next : Next) (read : JoyRead) → ((at ends : ℕ) → next ≡ ReaderAgain at ends → EndsIn calls (NothingVisible at ends)) → stop_of next ≡ Some read → LastIsAgain calls read
+stopped-last : (calls : List Call) (next : Next) (read : JoyRead) → ((at ends : ℕ) → next ≡ ReaderAgain at ends → EndsIn calls (NothingVisible at ends)) → joy_read_of next ≡ Some read → LastIsAgain calls read
 stopped-last calls (ReaderAgain at ends) read last h = let e : Again at ends ≡ read = cc in subst (λ (x : JoyRead). LastIsAgain calls x) e (last at ends refl)
 stopped-last calls Revoked read last h = let e : NoDevice ≡ read = cc in subst (λ (x : JoyRead). LastIsAgain calls x) e tt
 stopped-last calls NotOpen read last h = let e : Closed ≡ read = cc in subst (λ (x : JoyRead). LastIsAgain calls x) e tt
@@ -48,14 +48,14 @@ stopped-last calls (Dropped taken) read last h = absurd cc
 stopped-last calls (Sync event) read last h = absurd cc
 stopped-last calls Synced read last h = absurd cc
 
-sync-last : (calls : List Call) (j : Joying) (next : Next) (stop : Option JoyRead) → stop_of next ≡ stop → ((at ends : ℕ) → next ≡ ReaderAgain at ends → EndsIn calls (NothingVisible at ends)) → TurnLastIsAgain calls (stop_or_startup j stop)
+sync-last : (calls : List Call) (j : Joying) (next : Next) (stop : Option JoyRead) → joy_read_of next ≡ stop → ((at ends : ℕ) → next ≡ ReaderAgain at ends → EndsIn calls (NothingVisible at ends)) → TurnLastIsAgain calls (stop_or_startup j stop)
 sync-last calls j next None is last = tt
 sync-last calls j next (Some read) is last = stopped-last calls next read last is
 
 synchronises-last : (d : Description) (j : Joying) (calls : List Call) (t : Turn) → Synchronises d j calls t → TurnLastIsAgain calls t
 synchronises-last d j calls t s =
-    turn-same calls (stop_or_startup (with_reading j s.reading) (stop_of s.next)) t s.comes_to
-    (sync-last calls (with_reading j s.reading) s.next (stop_of s.next) refl
+    turn-same calls (stop_or_startup (with_reading j s.reading) (joy_read_of s.next)) t s.comes_to
+    (sync-last calls (with_reading j s.reading) s.next (joy_read_of s.next) refl
     (λ at ends e. next-last d Synchronising j.reading s.reading calls at ends (subst (λ (n : Next). EndsWith (next_talk d Synchronising j.reading) calls (n, s.reading)) e s.talk_ends)))
 
 made-last : (calls : List Call) (j : Joying) (o : Option JoyRecord) → TurnLastIsAgain calls (record_or_on j o)
@@ -66,12 +66,12 @@ event-last : (d : Description) (calls : List Call) (j : Joying) (event : Option 
 event-last d calls j None = tt
 event-last d calls j (Some taken) = by_flag (is_report taken.event)
   where
-    by_flag : (b : Bool) → TurnLastIsAgain calls (if b then gives (stop_with (Frame taken.place) j) else record_or_on j (record_of d j.picture taken))
+    by_flag : (b : Bool) → TurnLastIsAgain calls (if b then gives (stop_with (Frame taken.place) j) else record_or_on j (joy_record_of d j.picture taken))
     by_flag true = tt
-    by_flag false = made-last calls j (record_of d j.picture taken)
+    by_flag false = made-last calls j (joy_record_of d j.picture taken)
 
-after_next-last : (d : Description) (calls : List Call) (j : Joying) (next : Next) (stop : Option JoyRead) → stop_of next ≡ stop → ((at ends : ℕ) → next ≡ ReaderAgain at ends → EndsIn calls (NothingVisible at ends)) → TurnLastIsAgain calls (stop_or_event d j stop (event_of next))
-after_next-last d calls j next None is last = event-last d calls j (event_of next)
+after_next-last : (d : Description) (calls : List Call) (j : Joying) (next : Next) (stop : Option JoyRead) → joy_read_of next ≡ stop → ((at ends : ℕ) → next ≡ ReaderAgain at ends → EndsIn calls (NothingVisible at ends)) → TurnLastIsAgain calls (stop_or_event d j stop (event_handed_out next))
+after_next-last d calls j next None is last = event-last d calls j (event_handed_out next)
 after_next-last d calls j next (Some read) is last = stopped-last calls next read last is
 
 turn-last : (d : Description) (j : Joying) (calls : List Call) (t : Turn) → TurnCase d j calls t → TurnLastIsAgain calls t
@@ -79,8 +79,8 @@ turn-last d j calls t (of_startup r at none is) = turn-same calls _ t is tt
 turn-last d j calls t (of_sync needed s) = synchronises-last d j calls t s
 turn-last d j calls t (of_loss first second next r plain whole h lost s) = subst (λ (cs : List Call). TurnLastIsAgain cs t) (sym whole) (turn-behind first second t (synchronises-last d (with_reading j r) second t s))
 turn-last d j calls t (of_next next r plain h kept is) =
-    turn-same calls (after_next d (with_reading j r) next) t is
-    (after_next-last d calls (with_reading j r) next (stop_of next) refl
+    turn-same calls (joying_after_next d (with_reading j r) next) t is
+    (after_next-last d calls (with_reading j r) next (joy_read_of next) refl
     (λ at ends e. next-last d Normal j.reading r calls at ends (subst (λ (n : Next). EndsWith (next_talk d Normal j.reading) calls (n, r)) e h)))
 
 pub turns-last : (d : Description) (n count : ℕ) (j : Joying) (calls : List Call) (answer : JoyAnswer) → EndsWith (turns d n count j) calls (Some answer) → LastIsAgain calls answer.read

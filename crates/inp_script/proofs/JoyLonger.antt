@@ -8,12 +8,12 @@ use Rattle.inp_joy.specs.declared.joy_read.JoyRead.{JoyRead}
 use Rattle.inp_joy.specs.declared.joy_read.JoyRead.TheVariants.{Record as HandedOut, Frame, Again, NoDevice, Closed, Full, More}
 use Rattle.inp_joy.specs.Joying.{Joying, JoyAnswer, turns}
 use Rattle.inp_joy.proofs.MoreTurns.{turns-longer}
-use Rattle.inp_reader.specs.Says.{made_of}
+use Rattle.inp_reader.specs.Says.{calls_kept}
 use Rattle.inp_reader.specs.Talk.{Talk, finish, and_then, EndsWith}
 use Rattle.inp_reader.proofs.Talks.{LeadsTo-append, LeadsTo-and_then}
 use Rattle.inp_script.specs.declared.sight.Sight.{Sight}
 use Rattle.inp_script.specs.Job.{Job, joying_of}
-use Rattle.inp_script.specs.Joystick.{Reach, handed_out, line_ends, after_joy_answer, after_read, after_turns, read_on, on_reach, read_records, joystick_talk}
+use Rattle.inp_script.specs.Joystick.{Reach, handed_out, line_ends, after_joy_answer, after_joy_read, after_turns, read_on, on_reach, read_records, joystick_talk}
 use Rattle.inp_script.specs.Sight.{made_sight, noted}
 use Rattle.inp_script.proofs.LastAgain.{finish-only, and_then-parts}
 use Rattle.inp_script.proofs.Noted.{noted-ends}
@@ -28,14 +28,14 @@ read-longer : (d : Description) (n m : ℕ) (j : Joying) (sight : List Sight) (c
 read-longer d n m j sight calls o answer is le h =
     let short : EndsWith (turns d n 0 j) calls o.0 × (o.1 ≡ sight ++ noted_sight calls) = noted-back (turns d n 0 j) sight calls o h in
     let long : EndsWith (turns d m 0 j) calls (Some answer) = turns-longer d n m 0 j calls answer le (subst (λ (a : Option JoyAnswer). EndsWith (turns d n 0 j) calls a) (sym is) short.0) in
-    let entries : List Sight = sight ++ map made_sight (made_of calls) in
+    let entries : List Sight = sight ++ map made_sight (calls_kept calls) in
     let ends : EndsWith (noted (turns d m 0 j) sight) calls (Some answer, entries) = noted-ends (turns d m 0 j) sight calls (Some answer) long in
     let back : EndsWith (turns d m 0 j) calls (Some answer) × (entries ≡ sight ++ noted_sight calls) = noted-back (turns d m 0 j) sight calls (Some answer, entries) ends in
     let same : entries ≡ o.1 = back.1 ∙ sym short.1 in
     subst (λ (a : Option JoyAnswer). EndsWith (noted (turns d m 0 j) sight) calls (a, o.1)) is (subst (λ (es : List Sight). EndsWith (noted (turns d m 0 j) sight) calls (Some answer, es)) same ends)
 
 -- reads behind a read
-answer-longer : (short long : Job → Talk (Option Reach)) (read : JoyRead) (j : Job) (reach : Reach) (calls : List Call) → ((k : Job) → EndsWith (short k) calls (Some reach) → EndsWith (long k) calls (Some reach)) → EndsWith (after_read short read j) calls (Some reach) → EndsWith (after_read long read j) calls (Some reach)
+answer-longer : (short long : Job → Talk (Option Reach)) (read : JoyRead) (j : Job) (reach : Reach) (calls : List Call) → ((k : Job) → EndsWith (short k) calls (Some reach) → EndsWith (long k) calls (Some reach)) → EndsWith (after_joy_read short read j) calls (Some reach) → EndsWith (after_joy_read long read j) calls (Some reach)
 answer-longer short long HandedOut j reach calls more h = h
 answer-longer short long (Frame place) j reach calls more h = more j h
 answer-longer short long More j reach calls more h = more j h

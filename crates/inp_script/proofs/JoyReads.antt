@@ -8,11 +8,11 @@ use Rattle.inp_joy.specs.declared.joy_read.JoyRead.{JoyRead}
 use Rattle.inp_joy.specs.declared.joy_read.JoyRead.TheVariants.{Record as HandedOut, Frame, Again, NoDevice, Closed, Full, More}
 use Rattle.inp_joy.specs.declared.joy_record.JoyRecord.{JoyRecord}
 use Rattle.inp_joy.specs.Joying.{Joying, JoyAnswer, turns}
-use Rattle.inp_joy.specs.Reads.{IsRead, IsReadLess, bytes_after}
+use Rattle.inp_joy.specs.Reads.{IsJoyRead, IsReadLess, bytes_after}
 use Rattle.inp_joy.proofs.MoreTurns.{turns-longer}
 use Rattle.inp_joy.proofs.Records.{HandsOutAsSaid, turns-said}
 use Rattle.inp_reader.specs.declared.call_made.CallMade.{CallMade}
-use Rattle.inp_reader.specs.Says.{made_of}
+use Rattle.inp_reader.specs.Says.{calls_kept}
 use Rattle.inp_reader.specs.Talk.{Talk, finish, and_then, LeadsTo, EndsWith}
 use Rattle.inp_reader.proofs.Talks.{LeadsTo-append, LeadsTo-and_then}
 use Rattle.inp_script.specs.declared.joystick.AfterRead.{AfterRead}
@@ -25,7 +25,7 @@ use Rattle.inp_script.specs.declared.stop.Stop.TheVariants.{Full as FullHistory}
 use Rattle.inp_script.specs.Client.{with_sight, with_stop}
 use Rattle.inp_script.specs.Doing.{Holds, Begins}
 use Rattle.inp_script.specs.Job.{Job}
-use Rattle.inp_script.specs.Joystick.{Reach, handed_out, line_ends, record_sight, after_read, after_turns, read_on, on_reach, read_records}
+use Rattle.inp_script.specs.Joystick.{Reach, handed_out, line_ends, record_sight, after_joy_read, after_turns, read_on, on_reach, read_records}
 use Rattle.inp_script.specs.Noting.{joy_job}
 use Rattle.inp_script.specs.Reaching.{Leads, after_bytes, then_reads, HasRead, BeginsRead, LeavesLess, ReadsOn, BeginsReading, ReadsRecords}
 use Rattle.inp_script.specs.Sight.{made_sight, noted}
@@ -68,15 +68,15 @@ begins-first before after talk next s = record { calls = s.calls; rest = and_the
 
 -- how a line goes on by an answer, and by the bytes that were written
 answer-bytes : (go_on : Job → Talk (Option Reach)) (read : JoyRead) (out : Option JoyRecord) (k : Joying) (sight : List Sight) (stop : Option Stop) (bytes before : List ℕ) → HandsOutAsSaid read out → bytes ≡ bytes_after out before
-    → after_read go_on read (joy_job k (record { sight = sight ++ record_sight out; stop = stop })) ≡ after_bytes go_on read bytes (joy_job k (record { sight = sight; stop = stop }))
+    → after_joy_read go_on read (joy_job k (record { sight = sight ++ record_sight out; stop = stop })) ≡ after_bytes go_on read bytes (joy_job k (record { sight = sight; stop = stop }))
 answer-bytes go_on HandedOut None k sight stop bytes before said is = absurd said
 answer-bytes go_on HandedOut (Some r) k sight stop bytes before said is = ap (λ (bs : List ℕ). finish (Some (handed_out (joy_job k (record { sight = sight ++ Record bs ∷ []; stop = stop }))))) (sym is)
-answer-bytes go_on (Frame place) None k sight stop bytes before said is = ap (λ (es : List Sight). after_read go_on (Frame place) (joy_job k (record { sight = es; stop = stop }))) (append-nil sight)
-answer-bytes go_on (Again at ends) None k sight stop bytes before said is = ap (λ (es : List Sight). after_read go_on (Again at ends) (joy_job k (record { sight = es; stop = stop }))) (append-nil sight)
-answer-bytes go_on NoDevice None k sight stop bytes before said is = ap (λ (es : List Sight). after_read go_on NoDevice (joy_job k (record { sight = es; stop = stop }))) (append-nil sight)
-answer-bytes go_on Closed None k sight stop bytes before said is = ap (λ (es : List Sight). after_read go_on Closed (joy_job k (record { sight = es; stop = stop }))) (append-nil sight)
-answer-bytes go_on (Full at) None k sight stop bytes before said is = ap (λ (es : List Sight). after_read go_on (Full at) (joy_job k (record { sight = es; stop = stop }))) (append-nil sight)
-answer-bytes go_on More None k sight stop bytes before said is = ap (λ (es : List Sight). after_read go_on More (joy_job k (record { sight = es; stop = stop }))) (append-nil sight)
+answer-bytes go_on (Frame place) None k sight stop bytes before said is = ap (λ (es : List Sight). after_joy_read go_on (Frame place) (joy_job k (record { sight = es; stop = stop }))) (append-nil sight)
+answer-bytes go_on (Again at ends) None k sight stop bytes before said is = ap (λ (es : List Sight). after_joy_read go_on (Again at ends) (joy_job k (record { sight = es; stop = stop }))) (append-nil sight)
+answer-bytes go_on NoDevice None k sight stop bytes before said is = ap (λ (es : List Sight). after_joy_read go_on NoDevice (joy_job k (record { sight = es; stop = stop }))) (append-nil sight)
+answer-bytes go_on Closed None k sight stop bytes before said is = ap (λ (es : List Sight). after_joy_read go_on Closed (joy_job k (record { sight = es; stop = stop }))) (append-nil sight)
+answer-bytes go_on (Full at) None k sight stop bytes before said is = ap (λ (es : List Sight). after_joy_read go_on (Full at) (joy_job k (record { sight = es; stop = stop }))) (append-nil sight)
+answer-bytes go_on More None k sight stop bytes before said is = ap (λ (es : List Sight). after_joy_read go_on More (joy_job k (record { sight = es; stop = stop }))) (append-nil sight)
 answer-bytes go_on (Frame place) (Some r) k sight stop bytes before said is = absurd said
 answer-bytes go_on (Again at ends) (Some r) k sight stop bytes before said is = absurd said
 answer-bytes go_on NoDevice (Some r) k sight stop bytes before said is = absurd said
@@ -85,19 +85,19 @@ answer-bytes go_on (Full at) (Some r) k sight stop bytes before said is = absurd
 answer-bytes go_on More (Some r) k sight stop bytes before said is = absurd said
 
 -- a read with so many turns or more, as its line notes it
-read-holds : (before after : EvdevView) (d : Description) (old new : Joying) (notes : Notes) (made : List CallMade) (read : JoyRead) (out bytes : List ℕ) (most : ℕ) → (is : IsRead before after d old new made read out bytes) → is.count ≤ most
+read-holds : (before after : EvdevView) (d : Description) (old new : Joying) (notes : Notes) (made : List CallMade) (read : JoyRead) (out bytes : List ℕ) (most : ℕ) → (is : IsJoyRead before after d old new made read out bytes) → is.count ≤ most
     → Holds before after (noted (turns d most 0 old) notes.sight) (Some (record { read = read; record_out = is.record_out; joying = new }), notes.sight ++ map made_sight made)
 read-holds before after d old new notes made read out bytes most is enough =
     let answer : JoyAnswer = record { read = read; record_out = is.record_out; joying = new } in
     let ends : EndsWith (turns d most 0 old) is.says.calls (Some answer) = turns-longer d is.count most 0 old is.says.calls answer enough is.says.talk_ends in
-    let both : EndsWith (noted (turns d most 0 old) notes.sight) is.says.calls (Some answer, notes.sight ++ map made_sight (made_of is.says.calls)) = noted-ends (turns d most 0 old) notes.sight is.says.calls (Some answer) ends in
+    let both : EndsWith (noted (turns d most 0 old) notes.sight) is.says.calls (Some answer, notes.sight ++ map made_sight (calls_kept is.says.calls)) = noted-ends (turns d most 0 old) notes.sight is.says.calls (Some answer) ends in
     record {
       calls = is.says.calls;
       talk_ends = subst (λ (ms : List CallMade). EndsWith (noted (turns d most 0 old) notes.sight) is.says.calls (Some answer, notes.sight ++ map made_sight ms)) (sym is.says.kept) both;
       are_calls = is.says.are_calls;
     }
 
-pub read-noted : (before after : EvdevView) (d : Description) (old new : Joying) (notes mid final : Notes) (made : List CallMade) (read : JoyRead) (out bytes : List ℕ) (left_by : AfterRead) → IsRead before after d old new made read out bytes → mid ≡ record notes { sight = notes.sight ++ map made_sight made }
+pub read-noted : (before after : EvdevView) (d : Description) (old new : Joying) (notes mid final : Notes) (made : List CallMade) (read : JoyRead) (out bytes : List ℕ) (left_by : AfterRead) → IsJoyRead before after d old new made read out bytes → mid ≡ record notes { sight = notes.sight ++ map made_sight made }
     → ((go_on : Job → Talk (Option Reach)) (k : Joying) → after_bytes go_on read bytes (joy_job k mid) ≡ then_reads go_on left_by (joy_job k final)) → HasRead before after d (joy_job old notes) left_by (joy_job new final)
 unfolding read_on
 read-noted before after d old new notes mid final made read out bytes left_by is seen goes = record {
@@ -125,7 +125,7 @@ pub read-device : (before after : EvdevView) (d : Description) (old new : Job) (
 read-device before after d old new left_by h = let l = h.leads h.turns 0 (omega arith) in description-kept before after l.calls l.are_calls
 
 -- one of which nothing was noted
-pub read-begun : (before after : EvdevView) (d : Description) (old new : Joying) (notes : Notes) (made : List CallMade) (read : JoyRead) (out bytes : List ℕ) → IsRead before after d old new made read out bytes → BeginsRead before after d (joy_job old notes)
+pub read-begun : (before after : EvdevView) (d : Description) (old new : Joying) (notes : Notes) (made : List CallMade) (read : JoyRead) (out bytes : List ℕ) → IsJoyRead before after d old new made read out bytes → BeginsRead before after d (joy_job old notes)
 unfolding read_on
 read-begun before after d old new notes made read out bytes is = (
   is.count,

@@ -21,7 +21,7 @@ use Rattle.inp_script.specs.declared.stop.Stop.{Stop}
 use Rattle.inp_script.specs.declared.stop.Stop.TheVariants.{Idle, Full as FullHistory}
 use Rattle.inp_script.specs.Client.{with_sight, with_stop}
 use Rattle.inp_script.specs.Job.{Job, joying_of}
-use Rattle.inp_script.specs.Joystick.{Reach, handed_out, line_ends, start_joystick, after_joy_answer, after_read, after_turns, read_on, on_reach, read_records, joystick_talk}
+use Rattle.inp_script.specs.Joystick.{Reach, handed_out, line_ends, start_joystick, after_joy_answer, after_joy_read, after_turns, read_on, on_reach, read_records, joystick_talk}
 use Rattle.inp_script.specs.Line.{step_of, after_call, call_if}
 use Rattle.inp_script.specs.Sight.{noted, stop_after, stop_after_start}
 use Rattle.inp_script.proofs.JoyTold.{job_of_reach, starts}
@@ -63,7 +63,7 @@ reach-not_idle left reach calls n h =
 full-not_idle : (at : ℕ) → IsNotIdle (Some (FullHistory at))
 full-not_idle at turns place h = cc
 
-answer-not_idle : (go_on : Job → Talk (Option Reach)) (read : JoyRead) (j : Job) (reach : Reach) (calls : List Call) → ((k : Job) → IsNotIdle k.stop → EndsWith (go_on k) calls (Some reach) → IsNotIdle (job_of_reach reach).stop) → IsNotIdle j.stop → EndsWith (after_read go_on read j) calls (Some reach)
+answer-not_idle : (go_on : Job → Talk (Option Reach)) (read : JoyRead) (j : Job) (reach : Reach) (calls : List Call) → ((k : Job) → IsNotIdle k.stop → EndsWith (go_on k) calls (Some reach) → IsNotIdle (job_of_reach reach).stop) → IsNotIdle j.stop → EndsWith (after_joy_read go_on read j) calls (Some reach)
     → IsNotIdle (job_of_reach reach).stop
 answer-not_idle go_on HandedOut j reach calls more n h = reach-not_idle (handed_out j) reach calls n h
 answer-not_idle go_on (Frame place) j reach calls more n h = more j n h

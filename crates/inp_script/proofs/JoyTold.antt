@@ -17,7 +17,7 @@ use Rattle.inp_script.specs.declared.sight.Sight.TheVariants.{Again as NothingVi
 use Rattle.inp_script.specs.declared.stop.Stop.TheVariants.{Full as FullHistory}
 use Rattle.inp_script.specs.Client.{with_sight, with_stop}
 use Rattle.inp_script.specs.Job.{Job, joying_of, with_joying}
-use Rattle.inp_script.specs.Joystick.{Reach, handed_out, line_ends, after_joy_start, start_joystick, record_sight, after_joy_answer, after_read, after_turns, read_on, on_reach, read_records, joystick_talk}
+use Rattle.inp_script.specs.Joystick.{Reach, handed_out, line_ends, after_joy_start, start_joystick, record_sight, after_joy_answer, after_joy_read, after_turns, read_on, on_reach, read_records, joystick_talk}
 use Rattle.inp_script.specs.Line.{step_of}
 use Rattle.inp_script.specs.Sight.{noted, start_lacks_memory, stop_after_start}
 use Rattle.inp_script.proofs.JoyLast.{LastIsAgain, turns-last}
@@ -73,13 +73,13 @@ reach-told first second old left reach t h =
 
 -- the calls of a read, and those of the reads behind it
 answer-told : (go_on : Job → Talk (Option Reach)) (j : Job) (read : JoyRead) (out : Option JoyRecord) (sight : List Sight) (first second : List Call) (old : List Sight) (reach : Reach) → j.sight ≡ sight ++ record_sight out → sight ≡ old ++ noted_sight first → HandsOutAsSaid read out → LastIsAgain first read
-    → ((k : Job) → EndsWith (go_on k) second (Some reach) → Tells second k.sight (job_of_reach reach).sight) → EndsWith (after_read go_on read j) second (Some reach) → Tells (first ++ second) old (job_of_reach reach).sight
+    → ((k : Job) → EndsWith (go_on k) second (Some reach) → Tells second k.sight (job_of_reach reach).sight) → EndsWith (after_joy_read go_on read j) second (Some reach) → Tells (first ++ second) old (job_of_reach reach).sight
 answer-told go_on j read out sight first second old reach is seen said last more h = by_read read out is said last h
   where
     told : (o : Option JoyRecord) → j.sight ≡ sight ++ record_sight o → Tells first old j.sight
     told o e = subst (λ (es : List Sight). Tells first old es) (sym e) (read-told first old sight o seen)
 
-    by_read : (r : JoyRead) (o : Option JoyRecord) → j.sight ≡ sight ++ record_sight o → HandsOutAsSaid r o → LastIsAgain first r → EndsWith (after_read go_on r j) second (Some reach) → Tells (first ++ second) old (job_of_reach reach).sight
+    by_read : (r : JoyRead) (o : Option JoyRecord) → j.sight ≡ sight ++ record_sight o → HandsOutAsSaid r o → LastIsAgain first r → EndsWith (after_joy_read go_on r j) second (Some reach) → Tells (first ++ second) old (job_of_reach reach).sight
     by_read HandedOut o e said last h = reach-told first second old (handed_out j) reach (told o e) h
     by_read (Frame place) o e said last h = tells-then first second old j.sight (job_of_reach reach).sight (told o e) (more j h)
     by_read More o e said last h = tells-then first second old j.sight (job_of_reach reach).sight (told o e) (more j h)

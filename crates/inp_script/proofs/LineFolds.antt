@@ -32,12 +32,12 @@ use Rattle.inp_script.specs.declared.sight.Sight.TheVariants.{Call as Called, To
 use Rattle.inp_script.specs.declared.stop.Stop.{Stop}
 use Rattle.inp_script.specs.declared.stop.Stop.TheVariants.{Idle}
 use Rattle.inp_script.specs.declared.waiting.Waiting.{Waiting}
-use Rattle.inp_script.specs.Client.{Going, Turn, goes_on, ends_with, start_job, start_ends, after_start, handed, one_less, is_done, patience, after_again, turn_after, after_next, mode_of, with_sight, with_stop, next_round, on_turn, rounds, hand_talk, forced, client_talk}
+use Rattle.inp_script.specs.Client.{Going, Turn, goes_on, ends_with, start_job, start_ends, job_after_start, handed, one_less, is_done, patience, after_again, turn_after, after_next, mode_of, with_sight, with_stop, next_round, on_turn, rounds, hand_talk, forced, client_talk}
 use Rattle.inp_script.specs.Doing.{command_talk, unless_stopped, line_talk, DoesLine}
 use Rattle.inp_script.specs.JoyFold.{joy_fold}
 use Rattle.inp_script.specs.Fold.{Folding, settled, after_first_call, client_fold, tap_fold, IsFolded, StaysFolded}
 use Rattle.inp_script.specs.Job.{Job, ActorView, first_job}
-use Rattle.inp_script.specs.Line.{step_of, after_call, call_talk, call_if, stream_talk, stream_at, source_talk, end_talk}
+use Rattle.inp_script.specs.Line.{step_of, after_call, call_talk, call_if, stream_talk, stream_numbered, source_talk, end_talk}
 use Rattle.inp_script.specs.Sight.{noted, call_sight, again_sight, taken_sight, sight_of_call, start_lacks_memory}
 use Rattle.inp_script.proofs.ClientFolds.{client_fold-append, start-folds, next-folds, entries_of_next, placed-left, placed-right}
 use Rattle.inp_script.proofs.Folds.{ArePlaced, tap-folds}
@@ -80,8 +80,8 @@ stream-view (stamped ∷ stream) j k (call ∷ calls) h =
     by_flag false mid more e = let f = finish-only (Some mid) (Some k) calls e in let same : mid ≡ k = (let w = f.1 in cc) in ap (λ (y : Job). y.reading) (sym same)
 
 source-view : (streams : List (List Stamped)) (command : Command) (j k : Job) (calls : List Call) → EndsWith (source_talk streams command j) calls (Some k) → k.reading ≡ j.reading
-source-view streams (Stream file index) j k calls h = stream-view (stream_at streams index) j k calls h
-source-view streams (Stream16 file index) j k calls h = stream-view (stream_at streams index) j k calls h
+source-view streams (Stream file index) j k calls h = stream-view (stream_numbered streams index) j k calls h
+source-view streams (Stream16 file index) j k calls h = stream-view (stream_numbered streams index) j k calls h
 source-view streams command j k calls h = source_call-view j k (step_of NO_CLIENT command) calls h
 
 -- Clients
@@ -99,7 +99,7 @@ start_job-folds d h v j k calls placed ends fold =
     let p = and_then-parts (noted (start_talk d j.reading) j.sight) next calls (Some k) ends in
     let f = finish-only (start_ends p.mid) (Some k) p.second p.second_ends in
     let b = noted-back (start_talk d j.reading) j.sight p.first p.mid p.first_ends in
-    let same : after_start p.mid.0.0 p.mid.0.1 p.mid.1 ≡ k = memory_there (start_lacks_memory p.mid.0.0) (after_start p.mid.0.0 p.mid.0.1 p.mid.1) k f.1 in
+    let same : job_after_start p.mid.0.0 p.mid.0.1 p.mid.1 ≡ k = memory_there (start_lacks_memory p.mid.0.0) (job_after_start p.mid.0.0 p.mid.0.1 p.mid.1) k f.1 in
     let first : ArePlaced d h p.first = placed-left d h p.first p.second (subst (λ (cs : List Call). ArePlaced d h cs) p.whole placed) in
     ap (λ (y : Job). client_fold d h (settled v) y.sight) (sym same)
     ∙ ap (λ (es : List Sight). client_fold d h (settled v) es) b.1

@@ -23,10 +23,10 @@ use Rattle.inp_script.specs.declared.sight.Sight.TheVariants.{Took, Made, Again 
 use Rattle.inp_script.specs.declared.stop.Stop.{Stop}
 use Rattle.inp_script.specs.declared.stop.Stop.TheVariants.{Idle}
 use Rattle.inp_script.specs.declared.waiting.Waiting.{Waiting}
-use Rattle.inp_script.specs.Client.{Going, Turn, goes_on, ends_with, start_job, start_ends, after_start, handed, one_less, is_done, patience, after_again, turn_after, after_next, mode_of, with_sight, with_stop, next_round, on_turn, rounds, hand_talk, forced, client_talk}
+use Rattle.inp_script.specs.Client.{Going, Turn, goes_on, ends_with, start_job, start_ends, job_after_start, handed, one_less, is_done, patience, after_again, turn_after, after_next, mode_of, with_sight, with_stop, next_round, on_turn, rounds, hand_talk, forced, client_talk}
 use Rattle.inp_script.specs.Doing.{command_talk, unless_stopped, line_talk}
 use Rattle.inp_script.specs.Job.{Job}
-use Rattle.inp_script.specs.Line.{step_of, after_call, unless_lacking, stream_talk, stream_at, source_talk, end_talk, after_tap_call, tap_call_if}
+use Rattle.inp_script.specs.Line.{step_of, after_call, unless_lacking, stream_talk, stream_numbered, source_talk, end_talk, after_tap_call, tap_call_if}
 use Rattle.inp_script.specs.Sight.{noted, lacks_memory, start_lacks_memory}
 use Rattle.inp_script.proofs.LastAgain.{EndsIn, finish-only, and_then-parts, next-last}
 use Rattle.inp_script.proofs.Told.{Tells, tells-then, tells-event, tells-call, tells-noted, tells-again, noted-back, noted_sight, same-told, call-told, call_if-told, calls_alone}
@@ -48,8 +48,8 @@ stream-told (stamped ∷ stream) j k (call ∷ calls) h =
     by_flag false mid more e = same-told mid k calls e
 
 source-told : (streams : List (List Stamped)) (command : Command) (j k : Job) (calls : List Call) → EndsWith (source_talk streams command j) calls (Some k) → Tells calls j.sight k.sight
-source-told streams (Stream file index) j k calls h = stream-told (stream_at streams index) j k calls h
-source-told streams (Stream16 file index) j k calls h = stream-told (stream_at streams index) j k calls h
+source-told streams (Stream file index) j k calls h = stream-told (stream_numbered streams index) j k calls h
+source-told streams (Stream16 file index) j k calls h = stream-told (stream_numbered streams index) j k calls h
 source-told streams command j k calls h = call_if-told j k (step_of NO_CLIENT command) calls h
 
 pub end-told : (stop : Option Stop) (j k : Job) (calls : List Call) → EndsWith (end_talk stop j) calls (Some k) → Tells calls j.sight k.sight
@@ -74,7 +74,7 @@ start-told d j k calls h =
     let p = and_then-parts (noted (start_talk d j.reading) j.sight) next calls (Some k) h in
     let f = finish-only (start_ends p.mid) (Some k) p.second p.second_ends in
     let b = noted-back (start_talk d j.reading) j.sight p.first p.mid p.first_ends in
-    let same : after_start p.mid.0.0 p.mid.0.1 p.mid.1 ≡ k = memory_there (start_lacks_memory p.mid.0.0) (after_start p.mid.0.0 p.mid.0.1 p.mid.1) k f.1 in
+    let same : job_after_start p.mid.0.0 p.mid.0.1 p.mid.1 ≡ k = memory_there (start_lacks_memory p.mid.0.0) (job_after_start p.mid.0.0 p.mid.0.1 p.mid.1) k f.1 in
     let seen : k.sight ≡ j.sight ++ noted_sight p.first = ap (λ (y : Job). y.sight) (sym same) ∙ b.1 in
     subst (λ (cs : List Call). Tells cs j.sight k.sight) (sym p.whole) (calls_alone p.first p.second j.sight k.sight f.0 (tells-noted p.first j.sight k.sight seen))
 

@@ -21,8 +21,8 @@ use Rattle.inp_script.specs.declared.stop.Stop.{Stop}
 use Rattle.inp_script.specs.declared.waiting.Waiting.{Waiting}
 use Rattle.inp_script.specs.Doing.{Holds, Begins, DoesCommand, DoesLine, BeginsLine, IsCommandFor, HasStream, command_talk, unless_stopped, line_talk}
 use Rattle.inp_script.specs.Job.{Job, Stick, ActorView}
-use Rattle.inp_script.specs.Line.{stream_at, end_talk, call_talk}
-use Rattle.inp_script.specs.Noting.{job_with, IsMade, IsNoted}
+use Rattle.inp_script.specs.Line.{stream_numbered, end_talk, call_talk}
+use Rattle.inp_script.specs.Noting.{job_with, IsStepMade, IsNoted}
 use Rattle.inp_script.proofs.Holding.{holds-nothing, holds-same, begins-same}
 use Rattle.inp_script.proofs.Streams.{holds-noted, begins-call_if}
 
@@ -51,16 +51,16 @@ below-line n (first ∷ lines) zero line h is =
     subst (λ (l : Line). AllBelow n (stream_of l.command)) same (below-left n (stream_of first.command) (streams_of lines) h)
 below-line n (first ∷ lines) (suc number) line h is = below-line n lines number line (below-right n (stream_of first.command) (streams_of lines) h) is
 
-slice_get-stream_at : (streams : List (List Stamped)) (index : ℕ) → index < length streams → slice_get streams index ≡ Some (stream_at streams index)
+slice_get-stream_at : (streams : List (List Stamped)) (index : ℕ) → index < length streams → slice_get streams index ≡ Some (stream_numbered streams index)
 slice_get-stream_at [] index h = absurd (omega arith)
 slice_get-stream_at (stream ∷ streams) zero h = refl
 slice_get-stream_at (stream ∷ streams) (suc index) h = slice_get-stream_at streams index (omega (arith, h))
 
-stream_there : (r : RecordView) (at : ℕ) → IsRecord r → at < length r.streams → (index : ℕ) → Some at ≡ Some index → (index < length r.streams) × AreInTime (stream_at r.streams index)
+stream_there : (r : RecordView) (at : ℕ) → IsRecord r → at < length r.streams → (index : ℕ) → Some at ≡ Some index → (index < length r.streams) × AreInTime (stream_numbered r.streams index)
 stream_there r at is below index e =
     let same : at ≡ index = cc e in
     let within : index < length r.streams = omega (arith, same, below) in
-    (within, is.in_time index (stream_at r.streams index) (slice_get-stream_at r.streams index within))
+    (within, is.in_time index (stream_numbered r.streams index) (slice_get-stream_at r.streams index within))
 
 has_stream : (r : RecordView) (command : Command) → IsRecord r → AllBelow (length r.streams) (stream_of command) → HasStream r.streams command
 has_stream r (Stream file at) is below = stream_there r at is below.0
@@ -131,6 +131,6 @@ ends-nothing told j h = holds-nothing told (end_talk j.stop j) (Some j) (end_sto
 pub ends-noted : (before after : EvdevView) (r : Reading) (stick : Stick) (reply : Reply) (old new : Notes) → is_some old.stop ≡ false → IsNoted before after End reply old new → Holds before after (end_talk old.stop (job_with r stick old)) (Some (job_with r stick new))
 ends-noted before after r stick reply old new h n = holds-same before after (call_talk (job_with r stick old) End) (end_talk old.stop (job_with r stick old)) (Some (job_with r stick new)) (sym (end_going old.stop (job_with r stick old) h)) (holds-noted before after End reply old new r stick n)
 
-pub ends-begun : (before after : EvdevView) (r : Reading) (stick : Stick) (old : Notes) → is_some old.stop ≡ false → IsMade before after End → Begins before after (end_talk old.stop (job_with r stick old))
+pub ends-begun : (before after : EvdevView) (r : Reading) (stick : Stick) (old : Notes) → is_some old.stop ≡ false → IsStepMade before after End → Begins before after (end_talk old.stop (job_with r stick old))
 ends-begun before after r stick old h made =
     begins-same before after (call_talk (job_with r stick old) End) (end_talk old.stop (job_with r stick old)) (sym (end_going old.stop (job_with r stick old) h)) (begins-call_if before after End (Some End) (job_with r stick old) refl made)

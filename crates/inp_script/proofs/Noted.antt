@@ -12,13 +12,13 @@ use Rattle.inp_reader.specs.declared.mode.Mode.{Mode}
 use Rattle.inp_reader.specs.declared.next.Next.{Next}
 use Rattle.inp_reader.specs.declared.started.Started.{Started}
 use Rattle.inp_reader.specs.Reading.{Reading, start_talk, next_talk}
-use Rattle.inp_reader.specs.Says.{Says, kept_of, made_of}
+use Rattle.inp_reader.specs.Says.{Says, kept_call, calls_kept}
 use Rattle.inp_reader.specs.Talk.{Talk, finish, ask, LeadsTo, EndsWith}
 use Rattle.inp_script.specs.declared.notes.Notes.{Notes}
 use Rattle.inp_script.specs.declared.sight.Sight.{Sight}
 use Rattle.inp_script.specs.declared.sight.Sight.TheVariants.{Call as Called}
 use Rattle.inp_script.specs.declared.waiting.Waiting.{Waiting}
-use Rattle.inp_script.specs.Client.{Going, Turn, start_job, start_ends, after_start, unless_start_lacks, next_round, after_next, mode_of}
+use Rattle.inp_script.specs.Client.{Going, Turn, start_job, start_ends, job_after_start, unless_start_lacks, next_round, after_next, mode_of}
 use Rattle.inp_script.specs.Doing.{Holds, Begins}
 use Rattle.inp_script.specs.Job.{Job, no_stick}
 use Rattle.inp_script.specs.Joystick.{after_joy_start, start_joystick}
@@ -27,21 +27,21 @@ use Rattle.inp_script.specs.Sight.{call_sight, made_sight, noted, stop_after_sta
 use Rattle.inp_script.proofs.Holding.{holds-nothing, holds-then, begins-then}
 
 -- the entries of a call that is kept, and of one that is not
-map-kept : (x : Step) (reply : Reply) → map made_sight (kept_of x reply) ≡ call_sight x reply
+map-kept : (x : Step) (reply : Reply) → map made_sight (kept_call x reply) ≡ call_sight x reply
 map-kept x reply = by_flag (is_again reply)
   where
     by_flag : (b : Bool) → map made_sight (if b then [] else record { step = x; reply = reply } ∷ []) ≡ (if b then [] else Called x reply ∷ [])
     by_flag true = refl
     by_flag false = refl
 
-sight-more : (sight : List Sight) (x : Step) (reply : Reply) (calls : List Call) → (sight ++ call_sight x reply) ++ map made_sight (made_of calls) ≡ sight ++ map made_sight (kept_of x reply ++ made_of calls)
+sight-more : (sight : List Sight) (x : Step) (reply : Reply) (calls : List Call) → (sight ++ call_sight x reply) ++ map made_sight (calls_kept calls) ≡ sight ++ map made_sight (kept_call x reply ++ calls_kept calls)
 sight-more sight x reply calls =
-    append_assoc sight (call_sight x reply) (map made_sight (made_of calls))
-    ∙ ap (λ (entries : List Sight). sight ++ (entries ++ map made_sight (made_of calls))) (sym (map-kept x reply))
-    ∙ ap (λ (entries : List Sight). sight ++ entries) (sym (map-append made_sight (kept_of x reply) (made_of calls)))
+    append_assoc sight (call_sight x reply) (map made_sight (calls_kept calls))
+    ∙ ap (λ (entries : List Sight). sight ++ (entries ++ map made_sight (calls_kept calls))) (sym (map-kept x reply))
+    ∙ ap (λ (entries : List Sight). sight ++ entries) (sym (map-append made_sight (kept_call x reply) (calls_kept calls)))
 
 -- a talk that is noted ends with what its calls add
-pub noted-ends : {A : Type 0} (talk : Talk A) (sight : List Sight) (calls : List Call) (a : A) → EndsWith talk calls a → EndsWith (noted talk sight) calls (a, sight ++ map made_sight (made_of calls))
+pub noted-ends : {A : Type 0} (talk : Talk A) (sight : List Sight) (calls : List Call) (a : A) → EndsWith talk calls a → EndsWith (noted talk sight) calls (a, sight ++ map made_sight (calls_kept calls))
 unfolding LeadsTo
 noted-ends {A = A} (finish b) sight [] a h = let same : b ≡ a = cc in ap (λ (x : A). finish (x, sight)) same ∙ ap (λ (entries : List Sight). finish (a, entries)) (sym (append-nil sight))
 noted-ends (finish b) sight (call ∷ calls) a h = elim h [ ]
@@ -49,9 +49,9 @@ noted-ends (ask x rest) sight [] a h = absurd cc
 noted-ends {A = A} (ask x rest) sight (call ∷ calls) a h =
     let reply : Reply = call.answer.reply in
     let talk : Talk (A × List Sight) = noted (rest call.answer) (sight ++ call_sight x reply) in
-    let more : EndsWith talk calls (a, (sight ++ call_sight x reply) ++ map made_sight (made_of calls)) = noted-ends (rest call.answer) (sight ++ call_sight x reply) calls a h.1 in
-    let same : (sight ++ call_sight x reply) ++ map made_sight (made_of calls) ≡ sight ++ map made_sight (kept_of call.step reply ++ made_of calls) =
-    sight-more sight x reply calls ∙ ap (λ (s : Step). sight ++ map made_sight (kept_of s reply ++ made_of calls)) (sym h.0) in
+    let more : EndsWith talk calls (a, (sight ++ call_sight x reply) ++ map made_sight (calls_kept calls)) = noted-ends (rest call.answer) (sight ++ call_sight x reply) calls a h.1 in
+    let same : (sight ++ call_sight x reply) ++ map made_sight (calls_kept calls) ≡ sight ++ map made_sight (kept_call call.step reply ++ calls_kept calls) =
+    sight-more sight x reply calls ∙ ap (λ (s : Step). sight ++ map made_sight (kept_call s reply ++ calls_kept calls)) (sym h.0) in
     (h.0, subst (λ (entries : List Sight). EndsWith talk calls (a, entries)) same more)
 
 -- a reader's calls, noted
@@ -78,7 +78,7 @@ start-noted before after d r s old new made kept started says same n =
     holds-then before after after (noted (start_talk d r) old.sight) (λ (p : (Started × Reading) × List Sight). finish (start_ends p)) o (Some (job_of s new))
     (holds-reader before after made (start_talk d r) old.sight (started, s) says)
     (holds-nothing after (finish (start_ends o)) (Some (job_of s new))
-    (ap (λ (j : Option Job). finish j) (memory_was_there started (after_start started s entries) n.memory)
+    (ap (λ (j : Option Job). finish j) (memory_was_there started (job_after_start started s entries) n.memory)
     ∙ ap (λ (notes : Notes). finish (Some (job_of s notes))) (sym (start-notes started made kept old new same n))))
 
 -- one of which nothing was noted

@@ -17,7 +17,7 @@ use Rattle.inp_script.specs.declared.notes.Notes.{Notes}
 use Rattle.inp_script.specs.Doing.{Holds, Begins}
 use Rattle.inp_script.specs.Job.{Job, Stick}
 use Rattle.inp_script.specs.Line.{after_call, call_talk, call_if, stream_talk}
-use Rattle.inp_script.specs.Noting.{job_of, job_with, IsMade, IsNoted, notes_after, AreMade, AreNoted}
+use Rattle.inp_script.specs.Noting.{job_of, job_with, IsStepMade, IsNoted, notes_after, AreMade, AreNoted}
 use Rattle.inp_script.proofs.Holding.{holds-one, begins-one, begins-same}
 
 -- a call that was noted leaves the job that the definition says
@@ -30,7 +30,7 @@ holds-noted before after x reply old new r stick n =
     (ap (λ (j : Job). finish (Some j)) (noted-job before after x reply old new r stick n))
 
 -- such a call, whether it was noted or not
-pub begins-call_if : (before after : EvdevView) (x : Step) (o : Option Step) (j : Job) → Some x ≡ o → IsMade before after x → Begins before after (call_if j o)
+pub begins-call_if : (before after : EvdevView) (x : Step) (o : Option Step) (j : Job) → Some x ≡ o → IsStepMade before after x → Begins before after (call_if j o)
 begins-call_if before after x o j is made =
     begins-same before after (call_talk j x) (call_if j o) (ap (λ (s : Option Step). call_if j s) is) (begins-one before after x (λ (answer : Answer). finish (Some (after_call j x answer))) made)
 

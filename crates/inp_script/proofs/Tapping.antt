@@ -18,7 +18,7 @@ use Rattle.inp_reader.proofs.Answering.{view-answered}
 use Rattle.inp_script.specs.declared.notes.Notes.{Notes}
 use Rattle.inp_script.specs.Doing.{Holds, Begins}
 use Rattle.inp_script.specs.Job.{Job, no_stick}
-use Rattle.inp_script.specs.Line.{event_of_taken, view_after_call, client_after, after_tap_call, tap_call, unless_lacking}
+use Rattle.inp_script.specs.Line.{event_of_taken, view_after_call, tap_client_after, after_tap_call, tap_call, unless_lacking}
 use Rattle.inp_script.specs.Noting.{job_of, count_taken}
 use Rattle.inp_script.specs.Sight.{lacks_memory, sight_of_call, stop_after}
 use Rattle.inp_script.specs.Tap.{IsTapCall}
@@ -68,13 +68,13 @@ memory_was_there reply j h = ap (λ (b : Bool). if b then None else Some j) h
 
 -- a call of a tap that was noted
 pub tap-noted : (before after : EvdevView) (x : Step) (reply : Reply) (old new : Notes) (r s : Reading) (view : View) (out events : List Taken) → IsTapCall before after x reply r.view view out → lacks_memory reply ≡ false → events ≡ take (count_taken reply) out
-    → s ≡ record r { client = client_after x reply r.client; view = view } → new ≡ record { sight = old.sight ++ sight_of_call x reply events; stop = stop_after reply } → Holds before after (tap_call (job_of r old) x) (Some (job_of s new))
+    → s ≡ record r { client = tap_client_after x reply r.client; view = view } → new ≡ record { sight = old.sight ++ sight_of_call x reply events; stop = stop_after reply } → Holds before after (tap_call (job_of r old) x) (Some (job_of s new))
 tap-noted before after x reply old new r s view out events m memory read same noted =
     let a : Answer = m.answer in
     let there : lacks_memory a.reply ≡ false = ap lacks_memory (sym m.replied) ∙ memory in
     let kept : after_tap_call (job_of r old) x a ≡ job_of s new =
-    ap (λ (rep : Reply). record { reading = record r { client = client_after x rep r.client; view = view_after_call r.view x a }; sight = old.sight ++ sight_of_call x rep a.events; stop = stop_after rep; stick = no_stick }) (sym m.replied)
-    ∙ ap (λ (v : View). record { reading = record r { client = client_after x reply r.client; view = v }; sight = old.sight ++ sight_of_call x reply a.events; stop = stop_after reply; stick = no_stick }) (sym m.view)
+    ap (λ (rep : Reply). record { reading = record r { client = tap_client_after x rep r.client; view = view_after_call r.view x a }; sight = old.sight ++ sight_of_call x rep a.events; stop = stop_after rep; stick = no_stick }) (sym m.replied)
+    ∙ ap (λ (v : View). record { reading = record r { client = tap_client_after x reply r.client; view = v }; sight = old.sight ++ sight_of_call x reply a.events; stop = stop_after reply; stick = no_stick }) (sym m.view)
     ∙ ap (λ (t : Reading). record { reading = t; sight = old.sight ++ sight_of_call x reply a.events; stop = stop_after reply; stick = no_stick }) (sym same)
     ∙ ap (λ (es : List Taken). record { reading = s; sight = old.sight ++ sight_of_call x reply es; stop = stop_after reply; stick = no_stick }) (sym (read ∙ m.events))
     ∙ ap (λ (n : Notes). job_of s n) (sym noted) in

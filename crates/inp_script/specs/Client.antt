@@ -24,15 +24,15 @@ use Rattle.inp_script.specs.Sight.{noted, stop_after_start, start_lacks_memory}
 -- Starting
 
 -- a job after a start of its reader
-abbrev pub after_start : Started → Reading → List Sight → Job
-after_start started reading sight = record { reading = reading; sight = sight; stop = stop_after_start started; stick = no_stick }
+abbrev pub job_after_start : Started → Reading → List Sight → Job
+job_after_start started reading sight = record { reading = reading; sight = sight; stop = stop_after_start started; stick = no_stick }
 
 -- it is given up where memory ran out
 abbrev pub unless_start_lacks : Started → Job → Option Job
 unless_start_lacks started j = if start_lacks_memory started then None else Some j
 
 abbrev pub start_ends : (Started × Reading) × List Sight → Option Job
-start_ends o = unless_start_lacks o.0.0 (after_start o.0.0 o.0.1 o.1)
+start_ends o = unless_start_lacks o.0.0 (job_after_start o.0.0 o.0.1 o.1)
 
 unfoldable pub start_job : Description → Job → Talk (Option Job)
 start_job d j = and_then (noted (start_talk d j.reading) j.sight) (λ o. finish (start_ends o))

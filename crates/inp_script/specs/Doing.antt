@@ -21,7 +21,7 @@ use Rattle.inp_script.specs.declared.waiting.Waiting.{Waiting}
 use Rattle.inp_script.specs.Client.{client_talk, hand_talk}
 use Rattle.inp_script.specs.Job.{Job, ActorView}
 use Rattle.inp_script.specs.Joystick.{joystick_talk}
-use Rattle.inp_script.specs.Line.{stream_at, source_talk, tap_talk}
+use Rattle.inp_script.specs.Line.{stream_numbered, source_talk, tap_talk}
 
 -- What an actor of a role does at a command. An owner makes no call of an evdev.
 abbrev pub command_talk : Role → Description → List (List Stamped) → Option Waiting → ℕ → Command → Job → Talk (Option Job)
@@ -87,7 +87,7 @@ pub record BeginsLine (before after : EvdevView) (a : ActorView) (r : RecordView
 abbrev pub HasStream : List (List Stamped) → Command → Type 0
 HasStream streams command =
     (index : ℕ) → first_of (stream_of command) ≡ Some index
-    → (index < length streams) × AreInTime (stream_at streams index)
+    → (index < length streams) × AreInTime (stream_numbered streams index)
 
 -- actors of the role have the command, and each of its numbers is one that a line may have
 pub record IsCommandFor (role : Role) (streams : List (List Stamped)) (command : Command) : Type 0 where

@@ -13,7 +13,7 @@ use Rattle.inp_script.specs.declared.run.Played.{Played}
 use Rattle.inp_script.specs.declared.sight.Sight.{Sight}
 use Rattle.inp_script.specs.declared.stop.Stop.{Stop}
 use Rattle.inp_script.specs.Job.{ActorView, JobView, JoyJobView, OwnerView, job_end, joy_end, owner_end, last_stop}
-use Rattle.inp_script.specs.RoleState.{reading_of}
+use Rattle.inp_script.specs.RoleState.{role_reading}
 
 -- a joystick's job, an owner's, or another one
 abbrev pub ended_as : Role → ActorView → Ended
@@ -63,7 +63,7 @@ played_of devices = record {
 abbrev pub ended_with : Description → RoleState → ℕ → List Sight → Stop → Ended
 ended_with d (Joy joy) actor sight stop = JoyEnded (record { actor = actor; sight = sight; picture = joy.joying.picture; stop = stop })
 ended_with d (Owner owner) actor sight stop = OwnerEnded (record { actor = actor; fed = owner.fed; stop = last_stop owner.stop })
-ended_with d state actor sight stop = JobEnded (record { actor = actor; sight = sight; view = (reading_of d state).view; stop = stop })
+ended_with d state actor sight stop = JobEnded (record { actor = actor; sight = sight; view = (role_reading d state).view; stop = stop })
 
 -- the view of a job has the device's slots
 abbrev pub HasCells : Description → Ended → Type 0

@@ -31,7 +31,7 @@ use Rattle.inp_feedback.specs.Feeding.{Feeding}
 use Rattle.inp_script.specs.Owner.{Owning, FeedsLine, first_owning}
 
 -- a device, and the jobs of a source and of another actor
-pub record Stage : Type 0 where
+pub record TwoJobs : Type 0 where
   pub past : List Step
   pub source : Job
   pub other : Job
@@ -46,7 +46,7 @@ job_or before None = before
 job_or before (Some j) = j
 
 -- a command is done in at most so many rounds
-abbrev pub after_act : Description → Role → Option Waiting → ℕ → Stage → Act → Stage
+abbrev pub after_act : Description → Role → Option Waiting → ℕ → TwoJobs → Act → TwoJobs
 after_act d role wait n s (by_source command) =
     let p = played d s.past [] (line_talk Source d [] wait n command s.source) in
     record s { past = p.past; source = job_or s.source p.result }
@@ -54,16 +54,16 @@ after_act d role wait n s (by_other command) =
     let p = played d s.past [] (line_talk role d [] wait n command s.other) in
     record s { past = p.past; other = job_or s.other p.result }
 
-abbrev pub after_acts : Description → Role → Option Waiting → ℕ → Stage → List Act → Stage
+abbrev pub after_acts : Description → Role → Option Waiting → ℕ → TwoJobs → List Act → TwoJobs
 after_acts d role wait n s [] = s
 after_acts d role wait n s (act ∷ acts) = after_acts d role wait n (after_act d role wait n s act) acts
 
-abbrev pub first_stage : Role → Description → Stage
-first_stage role d = record { past = []; source = first_job Source d; other = first_job role d }
+abbrev pub first_jobs : Role → Description → TwoJobs
+first_jobs role d = record { past = []; source = first_job Source d; other = first_job role d }
 
 -- after these acts, on one thread
-abbrev pub after_all : Description → Role → List Act → Stage
-after_all d role acts = after_acts d role None 16 (first_stage role d) acts
+abbrev pub after_all : Description → Role → List Act → TwoJobs
+after_all d role acts = after_acts d role None 16 (first_jobs role d) acts
 
 abbrev pub press : ℕ → ℕ → Act
 press now value = by_source (Event now EV_KEY KEY_A (pos value))
@@ -99,10 +99,10 @@ FollowsToTheEnd =
     × (s.source.sight ≡ stroke_sight 2 1000 1 ++ stroke_sight 4 2000 0) × (s.other.stop ≡ None)
 
 -- an actor that opened and then lost all events but the last report
-abbrev pub losing_as : Role → Stage
+abbrev pub losing_as : Role → TwoJobs
 losing_as role = let s = after_all slider role (by_other Open ∷ []) in record s { past = reverse (slides 33 true) ++ s.past }
 
-abbrev pub losing : Stage
+abbrev pub losing : TwoJobs
 losing = losing_as Client
 
 -- what an actor sees that opens the slider
@@ -145,7 +145,7 @@ GoesOnAfterRefusals =
 -- A client waits for a source that is not done, as often as it may. It sees the last answer alone.
 abbrev pub StopsWhereNothingComes : Type 0
 StopsWhereNothingComes =
-    let s = after_acts one_key Client (Some (record { idle = 5; sources = 1 })) 16 (first_stage Client one_key) (by_other Open ∷ by_other Follow ∷ by_other Follow ∷ []) in
+    let s = after_acts one_key Client (Some (record { idle = 5; sources = 1 })) 16 (first_jobs Client one_key) (by_other Open ∷ by_other Follow ∷ by_other Follow ∷ []) in
     (s.other.sight ≡ Call ToOpen (Opened 0 0 128) ∷ Call (GetKeys 0) (Bits 1 (replicate 12 0)) ∷ Again 2 0 ∷ [])
     × (s.other.stop ≡ Some (Idle 5 2))
 

@@ -46,18 +46,18 @@ abbrev pub after_joy_answer : Job → JoyAnswer → List Sight → Job
 after_joy_answer j answer sight = record (with_joying j answer.joying) { sight = sight ++ record_sight answer.record_out }
 
 -- a read that ended a frame, or that was long, goes on; any other answer but a record ends the line
-abbrev pub after_read : (Job → Talk (Option Reach)) → JoyRead → Job → Talk (Option Reach)
-after_read go_on HandedOut j = finish (Some (handed_out j))
-after_read go_on (Frame place) j = go_on j
-after_read go_on More j = go_on j
-after_read go_on (Again at ends) j = finish (Some (line_ends (with_sight j (NothingVisible at ends))))
-after_read go_on NoDevice j = finish (Some (line_ends j))
-after_read go_on Closed j = finish (Some (line_ends j))
-after_read go_on (FullHistory at) j = finish (Some (line_ends (with_stop j (Full at))))
+abbrev pub after_joy_read : (Job → Talk (Option Reach)) → JoyRead → Job → Talk (Option Reach)
+after_joy_read go_on HandedOut j = finish (Some (handed_out j))
+after_joy_read go_on (Frame place) j = go_on j
+after_joy_read go_on More j = go_on j
+after_joy_read go_on (Again at ends) j = finish (Some (line_ends (with_sight j (NothingVisible at ends))))
+after_joy_read go_on NoDevice j = finish (Some (line_ends j))
+after_joy_read go_on Closed j = finish (Some (line_ends j))
+after_joy_read go_on (FullHistory at) j = finish (Some (line_ends (with_stop j (Full at))))
 
 abbrev pub after_turns : (Job → Talk (Option Reach)) → Job → Option JoyAnswer → List Sight → Talk (Option Reach)
 after_turns go_on j None sight = finish None
-after_turns go_on j (Some answer) sight = after_read go_on answer.read (after_joy_answer j answer sight)
+after_turns go_on j (Some answer) sight = after_joy_read go_on answer.read (after_joy_answer j answer sight)
 
 -- reads until a record was handed out or the line ends, at most so often, each read of at most so many turns
 unfoldable pub read_on : Description → ℕ → ℕ → Job → Talk (Option Reach)

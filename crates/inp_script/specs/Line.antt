@@ -77,15 +77,15 @@ stream_talk (stamped ∷ stream) j =
     if is_accepted answer.reply then stream_talk stream (after_call j x answer) else finish (Some (after_call j x answer)))
 
 -- the stream of this number; there is one for each that a record names
-abbrev pub stream_at : List (List Stamped) → ℕ → List Stamped
-stream_at [] index = []
-stream_at (stream ∷ streams) zero = stream
-stream_at (stream ∷ streams) (suc index) = stream_at streams index
+abbrev pub stream_numbered : List (List Stamped) → ℕ → List Stamped
+stream_numbered [] index = []
+stream_numbered (stream ∷ streams) zero = stream
+stream_numbered (stream ∷ streams) (suc index) = stream_numbered streams index
 
 -- what a source does at a command; it has no client
 abbrev pub source_talk : List (List Stamped) → Command → Job → Talk (Option Job)
-source_talk streams (Stream file index) j = stream_talk (stream_at streams index) j
-source_talk streams (Stream16 file index) j = stream_talk (stream_at streams index) j
+source_talk streams (Stream file index) j = stream_talk (stream_numbered streams index) j
+source_talk streams (Stream16 file index) j = stream_talk (stream_numbered streams index) j
 source_talk streams command j = call_if j (step_of NO_CLIENT command)
 
 -- a source that did not stop is done
@@ -96,9 +96,9 @@ end_talk (Some stop) j = finish (Some j)
 -- Taps
 
 -- a tap's client is the one that it opened last
-abbrev pub client_after : Step → Reply → ℕ → ℕ
-client_after ToOpen (Opened at opened ring) client = opened
-client_after _ _ client = client
+abbrev pub tap_client_after : Step → Reply → ℕ → ℕ
+tap_client_after ToOpen (Opened at opened ring) client = opened
+tap_client_after _ _ client = client
 
 abbrev pub event_of_taken : Taken → Event
 event_of_taken taken = taken.event
@@ -109,7 +109,7 @@ view_after_call view x answer =
     view_after_events (view_after_answer view x answer.reply answer.cells) (map event_of_taken answer.events)
 
 abbrev pub reading_after_call : Reading → Step → Answer → Reading
-reading_after_call r x answer = record r { client = client_after x answer.reply r.client; view = view_after_call r.view x answer }
+reading_after_call r x answer = record r { client = tap_client_after x answer.reply r.client; view = view_after_call r.view x answer }
 
 -- a job after a call of a tap
 abbrev pub after_tap_call : Job → Step → Answer → Job

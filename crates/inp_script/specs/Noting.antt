@@ -35,7 +35,7 @@ count_taken (Taking at count) = count
 count_taken _ = 0
 
 -- A step was made, and answered.
-pub record IsMade (before after : EvdevView) (x : Step) : Type 0 where
+pub record IsStepMade (before after : EvdevView) (x : Step) : Type 0 where
   pub answer : Answer
   pub is_call : IsCall before after (record { step = x; answer = answer })
 

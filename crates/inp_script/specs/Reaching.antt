@@ -14,7 +14,7 @@ use Rattle.inp_script.specs.declared.sight.Sight.TheVariants.{Record}
 use Rattle.inp_script.specs.Client.{with_sight}
 use Rattle.inp_script.specs.Doing.{Begins, Holds}
 use Rattle.inp_script.specs.Job.{Job}
-use Rattle.inp_script.specs.Joystick.{Reach, handed_out, line_ends, after_read, read_on, read_records, joystick_talk}
+use Rattle.inp_script.specs.Joystick.{Reach, handed_out, line_ends, after_joy_read, read_on, read_records, joystick_talk}
 
 -- The calls that were made on an evdev are the first ones of a talk, and the other talk is what is left of it.
 pub record Leads {A : Type 0} (before after : EvdevView) (talk left : Talk A) : Type 0 where
@@ -27,7 +27,7 @@ pub record Leads {A : Type 0} (before after : EvdevView) (talk left : Talk A) : 
 -- after a read, with the entry of the bytes that it handed out
 abbrev pub after_bytes : (Job → Talk (Option Reach)) → JoyRead → List ℕ → Job → Talk (Option Reach)
 after_bytes go_on HandedOut bytes j = finish (Some (handed_out (with_sight j (Record bytes))))
-after_bytes go_on read bytes j = after_read go_on read j
+after_bytes go_on read bytes j = after_joy_read go_on read j
 
 -- the line goes on as a read left it
 abbrev pub then_reads : (Job → Talk (Option Reach)) → AfterRead → Job → Talk (Option Reach)

@@ -23,12 +23,12 @@ role_of (Joy joy) = JoyRole
 role_of (Owner owner) = OwnerRole
 
 -- the client that it reads as, on a device of this description; an owner reads as none
-abbrev pub reading_of : Description → RoleState → Reading
-reading_of d (Source view) = record { client = NO_CLIENT; queue = []; view = view; phase = Plain; left = [] }
-reading_of d (Tap tap) = tap_reading tap
-reading_of d (Client reader view) = reader.reading
-reading_of d (Joy joy) = joy.joying.reading
-reading_of d (Owner owner) = first_reading d
+abbrev pub role_reading : Description → RoleState → Reading
+role_reading d (Source view) = record { client = NO_CLIENT; queue = []; view = view; phase = Plain; left = [] }
+role_reading d (Tap tap) = tap_reading tap
+role_reading d (Client reader view) = reader.reading
+role_reading d (Joy joy) = joy.joying.reading
+role_reading d (Owner owner) = first_reading d
 
 -- what it keeps of a joystick
 abbrev pub stick_of : RoleState → Stick
@@ -45,7 +45,7 @@ owning_of _ = first_owning
 
 -- its job, with what is noted of it
 abbrev pub job_in : Description → RoleState → Notes → Job
-job_in d state notes = job_with (reading_of d state) (stick_of state) notes
+job_in d state notes = job_with (role_reading d state) (stick_of state) notes
 
 -- views and buffers have as many cells as the device, and a reader or a joystick is one for it, whose own view has as many by
 -- itself

@@ -4,7 +4,7 @@ ghost use Rattle.inp_model.specs.declared.stamped.TheConstants.{MOMENT_MAX};
 ghost use Rattle.inp_model.specs.Step.{moment_of};
 ghost use Rattle.inp_model.specs.Reply.{HasRoom};
 ghost use Rattle.inp_model.specs.Injecting.{AreInTime, inject_of};
-ghost use Rattle.inp_script.specs.Noting.{IsMade, IsNoted, IsStartNoted, AreMade, AreNoted, notes_after, entered_calls};
+ghost use Rattle.inp_script.specs.Noting.{IsStepMade, IsNoted, IsStartNoted, AreMade, AreNoted, notes_after, entered_calls};
 ghost use Rattle.inp_script.specs.Sight.{taken_sight, made_sight, sight_of_call, stop_after};
 
 use crate::stops::{start_lacks_memory, stop_after, stop_after_start};
@@ -102,7 +102,7 @@ impl Notes {
         requires room { HasRoom (E.told dev.old).description step [] [] }
         ensures noted { IfOk result
             (λ reply. IsNoted (E.told dev.old) (E.told dev.new) step reply self.old self.new) }
-        ensures made { IsMade (E.told dev.old) (E.told dev.new) step }
+        ensures made { IsStepMade (E.told dev.old) (E.told dev.new) step }
     {
         let mut nothing: [Taken; 0] = [];
         let reply = dev.call(step, &mut nothing, &mut []);

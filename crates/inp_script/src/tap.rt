@@ -8,7 +8,7 @@ ghost use Rattle.inp_model.specs.Reply.{HasRoom};
 ghost use Rattle.inp_recon.specs.View.{view_after_events};
 ghost use Rattle.inp_script.specs.Doing.{Begins, Holds};
 ghost use Rattle.inp_script.specs.Job.{first_reading};
-ghost use Rattle.inp_script.specs.Line.{client_after, event_of_taken, tap_call, tap_talk};
+ghost use Rattle.inp_script.specs.Line.{tap_client_after, event_of_taken, tap_call, tap_talk};
 ghost use Rattle.inp_script.specs.Noting.{job_of, count_taken};
 ghost use Rattle.inp_script.specs.Tap.{tap_reading, IsSizedTap, IsTapCall};
 
@@ -80,7 +80,7 @@ impl Tap {
         ensures sized { IsSizedTap (E.told dev.old).description self.new }
     {
         let reply = make(dev, step, &mut self.view, &mut self.buffer, &mut self.cells);
-        self.client = client_after(step, reply, self.client);
+        self.client = tap_client_after(step, reply, self.client);
         if lacks_memory(reply) {
             return Err(NoMemory);
         }
@@ -144,8 +144,8 @@ fn take_events(view: &mut View, events: &[Taken])
 }
 
 // The client after a call: the one that it opened, if it did.
-fn client_after(step: Step, reply: Reply, client: u32) -> u32
-    ensures { result ≡ client_after step reply client }
+fn tap_client_after(step: Step, reply: Reply, client: u32) -> u32
+    ensures { result ≡ tap_client_after step reply client }
 {
     match (step, reply) {
         (Step::Open, Reply::Opened { client: opened, .. }) => opened,

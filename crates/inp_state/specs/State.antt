@@ -25,7 +25,7 @@ pub record Values : Type 0 where
   pub period : ℤ
 
 -- on a device with this description these are the values after the items r, newest first
-pub record StandsFor (d : Description) (r : List RawItem) (s : Values) : Type 0 where
+pub record StateStandsFor (d : Description) (r : List RawItem) (s : Values) : Type 0 where
   pub keys : (code : ℕ) → slice_index_or s.keys code false ≡ key_down d r code
   pub switches : (code : ℕ) → slice_index_or s.switches code false ≡ switch_on d r code
   pub leds : (code : ℕ) → slice_index_or s.leds code false ≡ led_on d r code

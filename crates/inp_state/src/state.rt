@@ -7,7 +7,7 @@ ghost use Rattle.inp_model.specs.Event.{is_multi_touch};
 ghost use Rattle.inp_model.specs.State.{key_down, switch_on, led_on, sound_on, axis_info, axis_value, repeat_setting};
 ghost use Rattle.inp_model.specs.Passed.{passes_as};
 ghost use Rattle.inp_caps.specs.Disposition.{flags_of, flags_after};
-ghost use Rattle.inp_state.specs.State.{StandsFor, flags_by};
+ghost use Rattle.inp_state.specs.State.{StateStandsFor, flags_by};
 
 use crate::changes::{move_axis, passed_if, set_bit, set_key, set_setting};
 use bitflags::Flags;
@@ -62,7 +62,7 @@ impl Model for State {
 impl State {
     /// The state before any event: nothing is down or on, and each axis has its described value.
     pub fn new(caps: &Caps) -> State
-        ensures fresh { StandsFor caps.now [] result }
+        ensures fresh { StateStandsFor caps.now [] result }
     {
         State {
             keys: Bits::new(),
@@ -83,11 +83,11 @@ impl State {
     /// not passed is its own. Multi-touch events are not for this call, so `SLOT` is never set.
     pub fn apply(&mut self, caps: &Caps, event: Event) -> (Disposition, i32)
         requires no_slot { is_multi_touch event ≡ false }
-        ensures stands { (r : List RawItem) → StandsFor caps.now r self.old
-            → StandsFor caps.now (Occurred event ∷ r) self.new }
-        ensures disposition { (r : List RawItem) → StandsFor caps.now r self.old
+        ensures stands { (r : List RawItem) → StateStandsFor caps.now r self.old
+            → StateStandsFor caps.now (Occurred event ∷ r) self.new }
+        ensures disposition { (r : List RawItem) → StateStandsFor caps.now r self.old
             → flags_of result.0 ≡ flags_after caps.now r event }
-        ensures value { (r : List RawItem) → StandsFor caps.now r self.old
+        ensures value { (r : List RawItem) → StateStandsFor caps.now r self.old
             → result.1 ≡ unwrap_or (passes_as caps.now r event) event.value }
     {
         let passed = self.change(caps, event);
@@ -100,9 +100,9 @@ impl State {
     // Takes a raw event, and gives the value under which it is passed, if it is.
     fn change(&mut self, caps: &Caps, event: Event) -> Option<i32>
         requires no_slot { is_multi_touch event ≡ false }
-        ensures stands { (r : List RawItem) → StandsFor caps.now r self.old
-            → StandsFor caps.now (Occurred event ∷ r) self.new }
-        ensures passes { (r : List RawItem) → StandsFor caps.now r self.old
+        ensures stands { (r : List RawItem) → StateStandsFor caps.now r self.old
+            → StateStandsFor caps.now (Occurred event ∷ r) self.new }
+        ensures passes { (r : List RawItem) → StateStandsFor caps.now r self.old
             → result ≡ passes_as caps.now r event }
     {
         if event.kind == EV_SYN {
@@ -137,8 +137,8 @@ impl State {
     /// slots; the caller sees to that.
     pub fn describe(&mut self, code: u16, info: AxisInfo)
         requires within { code ≤ ABS_MAX }
-        ensures stands { (d : Description) (r : List RawItem) → StandsFor d r self.old
-            → StandsFor d (Described code info ∷ r) self.new }
+        ensures stands { (d : Description) (r : List RawItem) → StateStandsFor d r self.old
+            → StateStandsFor d (Described code info ∷ r) self.new }
     {
         self.axes[usize::from(code)] = info.value;
         self.infos[usize::from(code)] = info;
@@ -147,7 +147,7 @@ impl State {
     /// Which keys are down, by their codes.
     pub fn keys(&self) -> &Bits<12>
         ensures value { result.now ≡ self.now.keys }
-        ensures keys { (d : Description) (r : List RawItem) → StandsFor d r self.now → (code : ℕ)
+        ensures keys { (d : Description) (r : List RawItem) → StateStandsFor d r self.now → (code : ℕ)
             → slice_index_or result.now code false ≡ key_down d r code }
     {
         &self.keys
@@ -156,7 +156,7 @@ impl State {
     /// Which switches are on, by their codes.
     pub fn switches(&self) -> &Bits<1>
         ensures value { result.now ≡ self.now.switches }
-        ensures switches { (d : Description) (r : List RawItem) → StandsFor d r self.now
+        ensures switches { (d : Description) (r : List RawItem) → StateStandsFor d r self.now
             → (code : ℕ) → slice_index_or result.now code false ≡ switch_on d r code }
     {
         &self.switches
@@ -165,7 +165,7 @@ impl State {
     /// Which LEDs are on, by their codes.
     pub fn leds(&self) -> &Bits<1>
         ensures value { result.now ≡ self.now.leds }
-        ensures leds { (d : Description) (r : List RawItem) → StandsFor d r self.now → (code : ℕ)
+        ensures leds { (d : Description) (r : List RawItem) → StateStandsFor d r self.now → (code : ℕ)
             → slice_index_or result.now code false ≡ led_on d r code }
     {
         &self.leds
@@ -174,7 +174,7 @@ impl State {
     /// Which sounds are on, by their codes.
     pub fn sounds(&self) -> &Bits<1>
         ensures value { result.now ≡ self.now.sounds }
-        ensures sounds { (d : Description) (r : List RawItem) → StandsFor d r self.now → (code : ℕ)
+        ensures sounds { (d : Description) (r : List RawItem) → StateStandsFor d r self.now → (code : ℕ)
             → slice_index_or result.now code false ≡ sound_on d r code }
     {
         &self.sounds
@@ -184,7 +184,7 @@ impl State {
     pub fn axis(&self, code: u16) -> i32
         requires within { code ≤ ABS_MAX }
         ensures value { result ≡ slice_index_or self.now.axes code (pos 0) }
-        ensures axis { (d : Description) (r : List RawItem) → StandsFor d r self.now
+        ensures axis { (d : Description) (r : List RawItem) → StateStandsFor d r self.now
             → result ≡ axis_value d r code }
     {
         self.axes[usize::from(code)]
@@ -196,7 +196,7 @@ impl State {
         ensures value { result ≡ record (slice_index_or self.now.infos code no_info) {
           value = slice_index_or self.now.axes code (pos 0);
         } }
-        ensures info { (d : Description) (r : List RawItem) → StandsFor d r self.now
+        ensures info { (d : Description) (r : List RawItem) → StateStandsFor d r self.now
             → result ≡ record (axis_info d r code) { value = axis_value d r code } }
     {
         AxisInfo {
@@ -208,7 +208,7 @@ impl State {
     /// The time before a key's first repeat, in milliseconds.
     pub fn delay(&self) -> i32
         ensures value { result ≡ self.now.delay }
-        ensures delay { (d : Description) (r : List RawItem) → StandsFor d r self.now
+        ensures delay { (d : Description) (r : List RawItem) → StateStandsFor d r self.now
             → result ≡ repeat_setting d r REP_DELAY }
     {
         self.delay
@@ -217,7 +217,7 @@ impl State {
     /// The time between repeats, in milliseconds.
     pub fn period(&self) -> i32
         ensures value { result ≡ self.now.period }
-        ensures period { (d : Description) (r : List RawItem) → StandsFor d r self.now
+        ensures period { (d : Description) (r : List RawItem) → StateStandsFor d r self.now
             → result ≡ repeat_setting d r REP_PERIOD }
     {
         self.period

@@ -12,7 +12,7 @@ use Rattle.inp_model.specs.declared.event.Event.{Event}
 use Rattle.inp_model.specs.declared.stamped.TheConstants.{MOMENT_MAX}
 use Rattle.inp_stream.specs.declared.fields.TheConstants.{SECOND}
 use Rattle.inp_stream.specs.declared.stream_refused.StreamRefused.TheVariants.{Short, BadTime}
-use Rattle.inp_stream.specs.Stream.{record_len, seconds_of, microseconds_of, moment_of, event_of, HasOneSpelling}
+use Rattle.inp_stream.specs.Stream.{record_len, seconds_of, microseconds_of, moment_in, event_in, HasOneSpelling}
 
 -- a byte of a number, by the number without its lowest byte
 byte_at-shift : (i x : ℕ) → byte_at (suc i) x ≡ byte_at i (x / 256)
@@ -43,7 +43,7 @@ are_bytes_behind : (xs : List ℕ) (k : ℕ) → ((i : ℕ) → slice_index xs i
 are_bytes_behind xs k f i = let e : slice_index (drop k xs) i ≡ slice_index xs (k + i) = get_or-drop k xs i 0 in omega (arith, f (k + i))
 
 -- the time of a record
-time_of : (t : ℕ) (bytes : List ℕ) (time : ℕ) → moment_of t bytes ≡ time → microseconds_of t bytes < SECOND
+time_of : (t : ℕ) (bytes : List ℕ) (time : ℕ) → moment_in t bytes ≡ time → microseconds_of t bytes < SECOND
     → (time / SECOND ≡ seconds_of t bytes) × (time % SECOND ≡ microseconds_of t bytes)
 time_of t bytes time e h = (omega arith, omega arith)
 
@@ -83,12 +83,12 @@ pieces_are a b c d g a' b' c' d' g' p q r s t = cc
 pub one_spelling : (t : ℕ) → HasOneSpelling t
 one_spelling t bytes event time f e =
     let xs = drop (2 * t) bytes in
-    let h = not_refused (nat_lt (length bytes) (record_len t)) (nat_le SECOND (microseconds_of t bytes) || nat_lt MOMENT_MAX (moment_of t bytes)) (event_of xs, moment_of t bytes) (event, time) e in
-    let micros = neither (nat_le SECOND (microseconds_of t bytes)) (nat_lt MOMENT_MAX (moment_of t bytes)) h.1 in
+    let h = not_refused (nat_lt (length bytes) (record_len t)) (nat_le SECOND (microseconds_of t bytes) || nat_lt MOMENT_MAX (moment_in t bytes)) (event_in xs, moment_in t bytes) (event, time) e in
+    let micros = neither (nat_le SECOND (microseconds_of t bytes)) (nat_lt MOMENT_MAX (moment_in t bytes)) h.1 in
     let size : 2 * t + 8 ≤ length bytes = grind (arith, nat_tests, h.0) in
     let below : microseconds_of t bytes < SECOND = grind (arith, nat_tests, micros.0) in
     let at = time_of t bytes time (ap (λ (p : Event × ℕ). p.1) h.2) below in
-    let is : event_of xs ≡ event = ap (λ (p : Event × ℕ). p.0) h.2 in
+    let is : event_in xs ≡ event = ap (λ (p : Event × ℕ). p.0) h.2 in
     let are = are_bytes_behind bytes (2 * t) f in
     let left : length xs ≡ length bytes - 2 * t = length-drop (2 * t) bytes in
     let part : (k n : ℕ) → k + n ≤ length xs → little_bytes n (little_number n (drop k xs)) ≡ take n (drop k xs) = λ k n q.

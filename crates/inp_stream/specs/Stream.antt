@@ -28,12 +28,12 @@ seconds_of time_len bytes = little_number time_len bytes
 abbrev pub microseconds_of : ℕ → List ℕ → ℕ
 microseconds_of time_len bytes = little_number time_len (drop time_len bytes)
 
-abbrev pub moment_of : ℕ → List ℕ → ℕ
-moment_of time_len bytes = seconds_of time_len bytes * SECOND + microseconds_of time_len bytes
+abbrev pub moment_in : ℕ → List ℕ → ℕ
+moment_in time_len bytes = seconds_of time_len bytes * SECOND + microseconds_of time_len bytes
 
 -- the event that bytes behind the time are
-abbrev pub event_of : List ℕ → Event
-event_of bytes = record {
+abbrev pub event_in : List ℕ → Event
+event_in bytes = record {
   kind = little_number 2 bytes;
   code = little_number 2 (drop 2 bytes);
   value = cast_signed w32 (little_number 4 (drop 4 bytes));
@@ -43,8 +43,8 @@ event_of bytes = record {
 abbrev pub decoded : ℕ → List ℕ → Result (Event × ℕ) StreamRefused
 decoded time_len bytes =
     if nat_lt (length bytes) (record_len time_len) then Err Short
-    else if nat_le SECOND (microseconds_of time_len bytes) || nat_lt MOMENT_MAX (moment_of time_len bytes) then Err BadTime
-    else Ok (event_of (drop (2 * time_len) bytes), moment_of time_len bytes)
+    else if nat_le SECOND (microseconds_of time_len bytes) || nat_lt MOMENT_MAX (moment_in time_len bytes) then Err BadTime
+    else Ok (event_in (drop (2 * time_len) bytes), moment_in time_len bytes)
 
 -- its numbers fit their types
 pub record IsEvent (event : Event) : Type 0 where

@@ -3,7 +3,7 @@ ghost use Rattle.std.specs.Prelude.{◌≡◌};
 ghost use Rattle.inp_stream.specs.Stream.{record_bytes, decoded};
 
 use crate::StreamRefused;
-use crate::fields::{SECOND, event_of};
+use crate::fields::{SECOND, event_in};
 use byteorder::{ByteOrder, LittleEndian};
 use inp_model::{Event, MOMENT_MAX};
 
@@ -50,5 +50,5 @@ pub fn decode(bytes: &[u8]) -> Result<(Event, u64), StreamRefused>
     if time > MOMENT_MAX {
         return Err(StreamRefused::BadTime);
     }
-    Ok((event_of(&bytes[16..]), time))
+    Ok((event_in(&bytes[16..]), time))
 }

@@ -4,7 +4,7 @@ ghost use Rattle.inp_stream.specs.declared.fields.TheConstants.{SECOND};
 ghost use Rattle.inp_stream.specs.Stream.{record_bytes, microseconds_of, decoded};
 
 use crate::StreamRefused;
-use crate::fields::{SECOND, event_of};
+use crate::fields::{SECOND, event_in};
 use byteorder::{ByteOrder, LittleEndian};
 use inp_model::Event;
 
@@ -57,5 +57,5 @@ pub fn decode16(bytes: &[u8]) -> Result<(Event, u64), StreamRefused>
         return Err(StreamRefused::BadTime);
     }
     let time = u64::from(seconds) * SECOND + u64::from(micros);
-    Ok((event_of(&bytes[8..]), time))
+    Ok((event_in(&bytes[8..]), time))
 }

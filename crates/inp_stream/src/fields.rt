@@ -1,6 +1,6 @@
 //! What records of both lengths have in common.
 ghost use Rattle.std.specs.Prelude.{◌≡◌, ◌≤◌, length};
-ghost use Rattle.inp_stream.specs.Stream.{event_of};
+ghost use Rattle.inp_stream.specs.Stream.{event_in};
 
 use byteorder::{ByteOrder, LittleEndian};
 use inp_model::Event;
@@ -11,9 +11,9 @@ pub(crate) const SECOND: u64 = 1_000_000;
 const _: () = prove!(SECOND == 1000 * 1000);
 
 /// The event that stands behind the time of a record.
-pub(crate) fn event_of(bytes: &[u8]) -> Event
+pub(crate) fn event_in(bytes: &[u8]) -> Event
     requires { 8 ≤ length bytes.now }
-    ensures { result ≡ event_of bytes.now }
+    ensures { result ≡ event_in bytes.now }
 {
     Event {
         kind: LittleEndian::read_u16(bytes),

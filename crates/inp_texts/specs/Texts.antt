@@ -1,6 +1,6 @@
 -- How types, codes, the bits of a mask, clocks and roles are written (docs/FORMATS.md, "The text of a record" and "The words
 -- of a report").
-use Rattle.std.specs.Prelude.{ℕ, ◌-◌, false, List, ◌++◌, length, replicate, codes, decimal, unwrap_or}
+use Rattle.std.specs.Prelude.{ℕ, ◌-◌, false, List, [], ◌∷◌, ◌++◌, flat_map, length, replicate, codes, decimal, unwrap_or}
 use Rattle.std.specs.Fmt.{digits}
 use Rattle.inp_model.specs.declared.clock.Clock.{Clock}
 use Rattle.inp_model.specs.declared.clock.Clock.TheVariants.{Realtime, Monotonic, Boottime}
@@ -32,3 +32,7 @@ role_text Client = codes "client"
 role_text Tap = codes "tap"
 role_text Joy = codes "joy"
 role_text Owner = codes "owner"
+
+-- lines, each with its line feed
+abbrev pub text_of_lines : List (List ℕ) → List ℕ
+text_of_lines lines = flat_map (λ line. line ++ 10 ∷ []) lines

@@ -13,7 +13,7 @@ use Rattle.inp_actors.specs.declared.role.Role.TheVariants.{Source, Client, Tap,
 use Rattle.inp_actors.specs.Command.{is_owner}
 use Rattle.inp_actors.specs.Record.{RecordView, IsRecord}
 use Rattle.inp_feedback.specs.declared.u_entry.UEntry.{UEntry}
-use Rattle.inp_feedback.specs.UEntry.{step_of}
+use Rattle.inp_feedback.specs.UEntry.{step_made}
 use Rattle.inp_script.specs.declared.waiting.Waiting.{Waiting}
 use Rattle.inp_script.specs.Doing.{HasActor}
 use Rattle.inp_script.specs.Ended.{HasCells, ended_of, device_run}
@@ -36,7 +36,7 @@ use Rattle.inp_threads.proofs.StepPlaces.{no-others, steps-of-all, steps-once}
 
 -- An actor of the record did all its lines on a beginning of the entries, and its view, if one comes of it, has the device's
 -- slots.
-pub record HasDone (r : RecordView) (d : Description) (wait : Option Waiting) (entries : List UEntry) (view : PassView Description UEntry) (a : ActorView) : Type 0 where
+pub record HasDoneAllLines (r : RecordView) (d : Description) (wait : Option Waiting) (entries : List UEntry) (view : PassView Description UEntry) (a : ActorView) : Type 0 where
   pub worked : HasDoneLines a.role r d wait a view
   pub has_actor : HasActor r a
   pub seen : IsPrefix view.seen entries
@@ -55,7 +55,7 @@ which Tap r d wait a view is h = calls (ap is_owner is) h
 which Joy r d wait a view is h = calls (ap is_owner is) h
 which Owner r d wait a view is h = owns is h
 
-module _ (r : RecordView) (d : Description) (wait : Option Waiting) (entries : List UEntry) (view : PassView Description UEntry) (a : ActorView) (h : HasDone r d wait entries view a) where
+module _ (r : RecordView) (d : Description) (wait : Option Waiting) (entries : List UEntry) (view : PassView Description UEntry) (a : ActorView) (h : HasDoneAllLines r d wait entries view a) where
   does : Does r d wait a view
   does = which a.role r d wait a view refl h.worked
 
@@ -66,30 +66,30 @@ module _ (r : RecordView) (d : Description) (wait : Option Waiting) (entries : L
       let same : has.text ≡ text = same_Some has.text text (sym has.is_text ∙ is_text) in
       sym has.role ∙ ap (λ (t : ActorText). t.role) same
 
-  followed : (text : ActorText) → slice_get r.actors a.actor ≡ Some text → (a.role ≡ Owner → HasAllCalls (reverse entries) view.own) → HasFollowed r d wait (steps_of step_of entries) text.role a
+  followed : (text : ActorText) → slice_get r.actors a.actor ≡ Some text → (a.role ≡ Owner → HasAllCalls (reverse entries) view.own) → HasFollowed r d wait (steps_of step_made entries) text.role a
   followed text is_text all = by does
     where
       role : a.role ≡ text.role
       role = role_of text is_text
 
-      by : Does r d wait a view → HasFollowed r d wait (steps_of step_of entries) text.role a
+      by : Does r d wait a view → HasFollowed r d wait (steps_of step_made entries) text.role a
       by (calls caller w) = caller-followed r d wait a view entries text role h.seen h.cells (ap is_owner (sym role) ∙ caller) w
       by (owns owner w) = owner-followed r d wait a view entries text role h.seen h.cells (sym role ∙ owner) w (all owner)
 
-  counts : IsRecord r → (place : ℕ) → calls_at place a ≡ times place (step_places step_of entries view.own)
+  counts : IsRecord r → (place : ℕ) → calls_at place a ≡ times place (step_places step_made entries view.own)
   counts is_record place = by does
     where
-      by : Does r d wait a view → calls_at place a ≡ times place (step_places step_of entries view.own)
+      by : Does r d wait a view → calls_at place a ≡ times place (step_places step_made entries view.own)
       by (calls caller w) = caller-counts r d wait a view entries h.has_actor.text (sym h.has_actor.role) h.seen h.cells h.owns (ap is_owner h.has_actor.role ∙ caller) w is_record h.has_actor.is_text place
       by (owns owner w) = owner-counts r d wait a view entries h.has_actor.text (sym h.has_actor.role) h.seen h.cells h.owns w place
 
   -- whoever owns a place without a step is an owner
-  owner-there : (place : ℕ) → is_step_at step_of entries place ≡ false → 1 ≤ times place view.own → a.role ≡ Owner
+  owner-there : (place : ℕ) → is_step_at step_made entries place ≡ false → 1 ≤ times place view.own → a.role ≡ Owner
   owner-there place away some = by does
     where
       by : Does r d wait a view → a.role ≡ Owner
       by (calls caller w) =
-          absurd (omega (arith, some, no-others step_of entries view.own place (other_places-begins step_of view.seen entries view.own h.seen h.owns ∙ w.others) away))
+          absurd (omega (arith, some, no-others step_made entries view.own place (other_places-begins step_made view.seen entries view.own h.seen h.owns ∙ w.others) away))
       by (owns owner w) = owner
 
 -- All actors of a device
@@ -98,7 +98,7 @@ module _ {W : Type 0} (view : W → PassView Description UEntry) (actor : W → 
   -- Each of them did its lines, and each place of the entries is own to one of them, once.
   pub record AreAllDone (idle : Option ℕ) (r : RecordView) (i : ℕ) (d : Description) (entries : List UEntry) (ws : List W) : Type 0 where
     pub numbers : map (λ (a : ActorView). a.actor) (map actor ws) ≡ actors_of r.actors i
-    pub each : (k : ℕ) (w : W) → slice_get ws k ≡ Some w → HasDone r d (wait_of idle r i) entries (view w) (actor w)
+    pub each : (k : ℕ) (w : W) → slice_get ws k ≡ Some w → HasDoneAllLines r d (wait_of idle r i) entries (view w) (actor w)
     pub once : (place : ℕ) → place < length entries → times place (flat_map (λ (w : W). (view w).own) ws) ≡ 1
 
   module _ (idle : Option ℕ) (r : RecordView) (i : ℕ) (d : Description) (entries : List UEntry) (ws : List W) (is_record : IsRecord r) (h : AreAllDone idle r i d entries ws) where
@@ -128,32 +128,32 @@ module _ {W : Type 0} (view : W → PassView Description UEntry) (actor : W → 
     owns-all : (k : ℕ) (w : W) → slice_get ws k ≡ Some w → (actor w).role ≡ Owner → HasAllCalls (reverse entries) (view w).own
     owns-all k w at owner = all-calls (reverse entries) (view w).own (λ place within away.
         (let below : place < length entries = omega (arith, within, length-reverse entries) in
-        let there : is_step_at step_of entries place ≡ false = ap (λ (es : List UEntry). is_step_at step_of es place) (sym (reverse-reverse entries)) ∙ away in
+        let there : is_step_at step_made entries place ≡ false = ap (λ (es : List UEntry). is_step_at step_made es place) (sym (reverse-reverse entries)) ∙ away in
         let one : HasIn (λ (w : W). (view w).own) place ws = one-has (λ (w : W). (view w).own) place ws (omega (arith, h.once place below)) in
         let its : (actor one.item).role ≡ Owner = owner-there r d (wait_of idle r i) entries (view one.item) (actor one.item) (h.each one.index one.item one.is) place there one.some in
         let same : one.item ≡ w = one-owner k one.index w one.item at one.is owner its in
         omega (arith, one.some, ap (λ (u : W). times place (view u).own) same)))
 
-    done_at : (k : ℕ) (a : ActorView) (text : ActorText) → slice_get (map actor ws) k ≡ Some a → slice_get r.actors a.actor ≡ Some text → HasFollowed r d (wait_of idle r i) (steps_of step_of entries) text.role a
+    done_at : (k : ℕ) (a : ActorView) (text : ActorText) → slice_get (map actor ws) k ≡ Some a → slice_get r.actors a.actor ≡ Some text → HasFollowed r d (wait_of idle r i) (steps_of step_made entries) text.role a
     done_at k a text at is_text =
         let image : IsImage actor (slice_get ws k) a = option_map-some actor (slice_get ws k) a (sym (slice_get-map actor ws k) ∙ at) in
         let w : W = image.from in
         let here : slice_get r.actors (actor w).actor ≡ Some text = ap (λ (b : ActorView). slice_get r.actors b.actor) image.same ∙ is_text in
-        subst (λ (b : ActorView). HasFollowed r d (wait_of idle r i) (steps_of step_of entries) text.role b) image.same
+        subst (λ (b : ActorView). HasFollowed r d (wait_of idle r i) (steps_of step_made entries) text.role b) image.same
         (followed r d (wait_of idle r i) entries (view w) (actor w) (h.each k w image.is) text here (owns-all k w image.is))
 
-    pub device-done : IsDeviceDone idle r i d (steps_of step_of entries) (map actor ws)
+    pub device-done : IsDeviceDone idle r i d (steps_of step_made entries) (map actor ws)
     device-done = record {
       numbers = h.numbers;
       each = done_at;
       once = λ place below.
-          sum-places (λ (w : W). step_places step_of entries (view w).own) actor place ws (λ k w at. counts r d (wait_of idle r i) entries (view w) (actor w) (h.each k w at) is_record place)
-          ∙ ap (times place) (sym (steps-of-all step_of entries (λ (w : W). (view w).own) ws))
-          ∙ steps-once step_of entries (flat_map (λ (w : W). (view w).own) ws) h.once place below;
+          sum-places (λ (w : W). step_places step_made entries (view w).own) actor place ws (λ k w at. counts r d (wait_of idle r i) entries (view w) (actor w) (h.each k w at) is_record place)
+          ∙ ap (times place) (sym (steps-of-all step_made entries (λ (w : W). (view w).own) ws))
+          ∙ steps-once step_made entries (flat_map (λ (w : W). (view w).own) ws) h.once place below;
     }
 
   -- and so all that is promised of the device holds
   pub done-promised : (idle : Option ℕ) (r : RecordView) (i : ℕ) (device : DeviceText) (entries : List UEntry) (ws : List W) → IsRecord r → IsDescription device.caps → AreAllDone idle r i device.caps entries ws
-      → IsRunAsPromised idle r i device (device_run (steps_of step_of entries) (map ended_of (map actor ws)))
+      → IsRunAsPromised idle r i device (device_run (steps_of step_made entries) (map ended_of (map actor ws)))
   done-promised idle r i device entries ws is_record described h =
-      device-promised idle r i device (steps_of step_of entries) (map actor ws) is_record described (device-done idle r i device.caps entries ws is_record h)
+      device-promised idle r i device (steps_of step_made entries) (map actor ws) is_record described (device-done idle r i device.caps entries ws is_record h)

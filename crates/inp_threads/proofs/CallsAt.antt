@@ -13,7 +13,7 @@ use Rattle.inp_port.specs.Entries.{steps_of, is_step_at, step_places}
 use Rattle.inp_port.proofs.Places.{slice_get-seam, step_places-append, step_places-begins}
 use Rattle.inp_feedback.specs.declared.u_entry.UEntry.{UEntry}
 use Rattle.inp_feedback.specs.declared.u_entry.UEntry.TheVariants.{Made, Feedback}
-use Rattle.inp_feedback.specs.UEntry.{step_of, steps_in}
+use Rattle.inp_feedback.specs.UEntry.{step_made, steps_in}
 use Rattle.inp_feedback.proofs.Lists.{reverse-cons}
 use Rattle.inp_uinput.proofs.Serving.{steps-reverse}
 use Rattle.inp_script.specs.Owner.{Owning, first_owning}
@@ -69,27 +69,27 @@ begins-cons kept e = (e ∷ [], sym (reverse-cons kept e))
 within-reverse : (kept : List UEntry) (own : List ℕ) → All (λ place. place < length kept) own → All (λ place. place < length (reverse kept)) own
 within-reverse kept own all = All-weaker (λ place. place < length kept) (λ place. place < length (reverse kept)) (λ place l. omega (arith, l, length-reverse kept)) own all
 
-same-steps : (kept : List UEntry) (e : UEntry) (own : List ℕ) → All (λ place. place < length kept) own → step_places step_of (reverse (e ∷ kept)) own ≡ step_places step_of (reverse kept) own
-same-steps kept e own all = step_places-begins step_of (reverse kept) (reverse (e ∷ kept)) own (begins-cons kept e) (within-reverse kept own all)
+same-steps : (kept : List UEntry) (e : UEntry) (own : List ℕ) → All (λ place. place < length kept) own → step_places step_made (reverse (e ∷ kept)) own ≡ step_places step_made (reverse kept) own
+same-steps kept e own all = step_places-begins step_made (reverse kept) (reverse (e ∷ kept)) own (begins-cons kept e) (within-reverse kept own all)
 
-call-no_step : (kept : List UEntry) (count : ℕ) → is_step_at step_of (reverse (Feedback count ∷ kept)) (length kept) ≡ false
+call-no_step : (kept : List UEntry) (count : ℕ) → is_step_at step_made (reverse (Feedback count ∷ kept)) (length kept) ≡ false
 call-no_step kept count =
-    (λ i. is_step_at step_of (reverse-cons kept (Feedback count) i) (sym (length-reverse kept) i))
-    ∙ ap (λ (o : Option UEntry). is_some (option_and_then step_of o)) (slice_get-seam (reverse kept) [] (Feedback count))
+    (λ i. is_step_at step_made (reverse-cons kept (Feedback count) i) (sym (length-reverse kept) i))
+    ∙ ap (λ (o : Option UEntry). is_some (option_and_then step_made o)) (slice_get-seam (reverse kept) [] (Feedback count))
 
 -- no step stands at one of them
-pub calls-no_steps : (d : Description) (kept : List UEntry) (own rooms : List ℕ) (o : Owning) → HasCallsAt d kept own rooms o → step_places step_of (reverse kept) own ≡ []
+pub calls-no_steps : (d : Description) (kept : List UEntry) (own rooms : List ℕ) (o : Owning) → HasCallsAt d kept own rooms o → step_places step_made (reverse kept) own ≡ []
 unfolding HasCallsAt
-calls-no_steps d [] own rooms o h = ap (step_places step_of []) h.0
+calls-no_steps d [] own rooms o h = ap (step_places step_made []) h.0
 calls-no_steps d (Made x ∷ kept) own rooms o h = same-steps kept (Made x) own (calls-within d kept own rooms o h) ∙ calls-no_steps d kept own rooms o h
 calls-no_steps d (Feedback count ∷ kept) own rooms o (inl h) = same-steps kept (Feedback count) own (calls-within d kept own rooms o h) ∙ calls-no_steps d kept own rooms o h
 calls-no_steps d (Feedback count ∷ kept) own rooms o (inr (earlier, done, before, h, next)) =
     let now : List UEntry = reverse (Feedback count ∷ kept) in
-    let first : step_places step_of now earlier ≡ [] = same-steps kept (Feedback count) earlier (calls-within d kept earlier done before h) ∙ calls-no_steps d kept earlier done before h in
-    let last : step_places step_of now (length kept ∷ []) ≡ [] = no_step now (length kept) (call-no_step kept count) in
-    ap (step_places step_of now) next.place ∙ step_places-append step_of now earlier (length kept ∷ []) ∙ (λ i. first i ++ last i)
+    let first : step_places step_made now earlier ≡ [] = same-steps kept (Feedback count) earlier (calls-within d kept earlier done before h) ∙ calls-no_steps d kept earlier done before h in
+    let last : step_places step_made now (length kept ∷ []) ≡ [] = no_step now (length kept) (call-no_step kept count) in
+    ap (step_places step_made now) next.place ∙ step_places-append step_made now earlier (length kept ∷ []) ∙ (λ i. first i ++ last i)
   where
-    no_step : (entries : List UEntry) (place : ℕ) → is_step_at step_of entries place ≡ false → step_places step_of entries (place ∷ []) ≡ []
+    no_step : (entries : List UEntry) (place : ℕ) → is_step_at step_made entries place ≡ false → step_places step_made entries (place ∷ []) ≡ []
     no_step entries place away = rw away refl
 
 -- Where all feedback calls are the owner's
@@ -138,7 +138,7 @@ ends-longer d more kept rooms done before last steps (inr refused) =
 
 -- An owner that did its lines owned all feedback calls of the device, of which its pass saw a beginning.
 pub lines-owned : (d : Description) (rooms : List ℕ) (view : PassView Description UEntry) (entries : List UEntry) (last : Owning) → HasFedLines d rooms view last → IsPrefix view.seen entries → HasAllCalls (reverse entries) view.own
-    → HasOwned d (steps_of step_of entries) rooms last
+    → HasOwned d (steps_of step_made entries) rooms last
 lines-owned d rooms view entries last h begins all =
     let kept : List UEntry = reverse view.seen in
     let more : List UEntry = reverse begins.0 in
@@ -155,17 +155,17 @@ lines-owned d rooms view entries last h begins all =
     }
 
 -- each place that has no step is owned
-same-place : (kept : List UEntry) (e : UEntry) (place : ℕ) → place < length kept → is_step_at step_of (reverse (e ∷ kept)) place ≡ is_step_at step_of (reverse kept) place
+same-place : (kept : List UEntry) (e : UEntry) (place : ℕ) → place < length kept → is_step_at step_made (reverse (e ∷ kept)) place ≡ is_step_at step_made (reverse kept) place
 same-place kept e place l =
-    ap (λ (es : List UEntry). is_step_at step_of es place) (reverse-cons kept e)
-    ∙ ap (λ (o : Option UEntry). is_some (option_and_then step_of o)) (front (reverse kept) (e ∷ []) place (omega (arith, l, length-reverse kept)))
+    ap (λ (es : List UEntry). is_step_at step_made es place) (reverse-cons kept e)
+    ∙ ap (λ (o : Option UEntry). is_some (option_and_then step_made o)) (front (reverse kept) (e ∷ []) place (omega (arith, l, length-reverse kept)))
   where
     front : (xs ys : List UEntry) (n : ℕ) → n < length xs → slice_get (xs ++ ys) n ≡ slice_get xs n
     front [] ys n l = absurd (omega (arith, l))
     front (x ∷ xs) ys zero l = refl
     front (x ∷ xs) ys (suc n) l = front xs ys n (omega (arith, l))
 
-pub all-calls : (kept : List UEntry) (own : List ℕ) → ((place : ℕ) → place < length kept → is_step_at step_of (reverse kept) place ≡ false → 1 ≤ count_by (nat_eq place) own) → HasAllCalls kept own
+pub all-calls : (kept : List UEntry) (own : List ℕ) → ((place : ℕ) → place < length kept → is_step_at step_made (reverse kept) place ≡ false → 1 ≤ count_by (nat_eq place) own) → HasAllCalls kept own
 unfolding HasAllCalls
 all-calls [] own each = tt
 all-calls (Made x ∷ kept) own each = all-calls kept own (λ place l away. each place (omega (arith, l)) (same-place kept (Made x) place l ∙ away))

@@ -5,7 +5,7 @@ use Rattle.std.specs.List.{count_by}
 use Rattle.std.proofs.lemmas.Option.{get_or_from_slice_get, slice_get_within}
 use mathlib.Core.List.{IsPrefix}
 use Rattle.inp_feedback.specs.declared.u_entry.UEntry.{UEntry}
-use Rattle.inp_feedback.specs.UEntry.{step_of}
+use Rattle.inp_feedback.specs.UEntry.{step_made}
 use Rattle.inp_model.specs.Description.{Description, IsDescription}
 use Rattle.inp_uinput.specs.UdevView.{UdevView}
 use Rattle.inp_actors.specs.declared.device_text.DeviceText.{DeviceText}
@@ -26,8 +26,8 @@ use Rattle.inp_port.specs.Entries.{steps_of}
 use Rattle.inp_port.specs.Port.{description_of}
 use Rattle.inp_threads.specs.declared.worker.Worker.{Worker}
 use Rattle.inp_threads.specs.Worker.{view_in, actor_number, HasPass, HasDoneLines, IsWorked}
-use Rattle.inp_threads.specs.Joined.{AreJoined, AreDone, IsSized, AreSized, ends_of, own_of}
-use Rattle.inp_threads.proofs.Assembling.{AreAllDone, HasDone, done-promised}
+use Rattle.inp_threads.specs.Joined.{AreJoined, AreWorkersDone, IsSizedWorker, AreSized, ends_of_workers, own_of}
+use Rattle.inp_threads.proofs.Assembling.{AreAllDone, HasDoneAllLines, done-promised}
 
 -- a fact on all stands where one is found
 at_found : {A : Type 0} (P : A → Type 0) (xs : List A) (k : ℕ) (x : A) → All P xs → slice_get xs k ≡ Some x → P x
@@ -37,7 +37,7 @@ actor_numbers : (ws : List Worker) → map (λ (a : ActorView). a.actor) (map (�
 actor_numbers [] = refl
 actor_numbers (w ∷ ws) = ap (λ (ns : List ℕ). w.actor.actor ∷ ns) (actor_numbers ws)
 
-actor_ends : (ws : List Worker) → map ended_of (map (λ (w : Worker). w.actor) ws) ≡ ends_of ws
+actor_ends : (ws : List Worker) → map ended_of (map (λ (w : Worker). w.actor) ws) ≡ ends_of_workers ws
 actor_ends [] = refl
 actor_ends (w ∷ ws) = ap (λ (ends : List Ended). ended_of w.actor ∷ ends) (actor_ends ws)
 
@@ -50,7 +50,7 @@ pub record IsLeftOf (idle i : ℕ) (r : RecordView) (d : Description) (port : Po
   pub description : description_of port ≡ d
   pub numbers : map actor_number workers ≡ actors_of r.actors i
   pub worked : All (IsWorked port r (wait_of (Some idle) r i)) workers
-  pub done : AreDone workers
+  pub done : AreWorkersDone workers
   pub sized : AreSized workers
   pub are_joined : AreJoined workers left joined
   pub none : left.own ≡ []
@@ -58,7 +58,7 @@ pub record IsLeftOf (idle i : ℕ) (r : RecordView) (d : Description) (port : Po
   pub owned : IsEachAddedOnce [] entries joined.own
 
 module _ (idle i : ℕ) (r : RecordView) (device : DeviceText) (port : PortOf UdevView UEntry) (left joined : PassView Description UEntry) (workers : List Worker) (entries : List UEntry) (is : IsLeftOf idle i r device.caps port left joined workers entries) where
-  has_done : (k : ℕ) (w : Worker) → slice_get workers k ≡ Some w → HasDone r device.caps (wait_of (Some idle) r i) entries (view_in w.pass) w.actor
+  has_done : (k : ℕ) (w : Worker) → slice_get workers k ≡ Some w → HasDoneAllLines r device.caps (wait_of (Some idle) r i) entries (view_in w.pass) w.actor
   has_done k w at =
       let wait : Option Waiting = wait_of (Some idle) r i in
       let here : IsWorked port r wait w = at_found (IsWorked port r wait) workers k w is.worked at in
@@ -69,7 +69,7 @@ module _ (idle i : ℕ) (r : RecordView) (device : DeviceText) (port : PortOf Ud
         has_actor = here.actor;
         seen = subst (IsPrefix (view_in w.pass).seen) is.seen (at_found (λ (u : Worker). IsPrefix (view_in u.pass).seen joined.seen) workers k w all.seen at);
         owns = owned_by w.pass here.pass;
-        cells = subst (λ (d : Description). HasCells d (ended_of w.actor)) (here.description ∙ is.description) (at_found IsSized workers k w is.sized at);
+        cells = subst (λ (d : Description). HasCells d (ended_of w.actor)) (here.description ∙ is.description) (at_found IsSizedWorker workers k w is.sized at);
       }
 
   all_done : AreAllDone (λ (w : Worker). view_in w.pass) (λ (w : Worker). w.actor) (Some idle) r i device.caps entries workers
@@ -83,7 +83,7 @@ module _ (idle i : ℕ) (r : RecordView) (device : DeviceText) (port : PortOf Ud
         once = λ place below. ap (count_by (nat_eq place)) (sym own) ∙ owned.once place (omega arith) below;
       }
 
-  pub left-promised : IsRecord r → IsDescription device.caps → (ends : List Ended) → ends ≡ ends_of workers → IsRunAsPromised (Some idle) r i device (device_run (steps_of step_of entries) ends)
+  pub left-promised : IsRecord r → IsDescription device.caps → (ends : List Ended) → ends ≡ ends_of_workers workers → IsRunAsPromised (Some idle) r i device (device_run (steps_of step_made entries) ends)
   left-promised is_record described ends ended =
-      subst (λ (es : List Ended). IsRunAsPromised (Some idle) r i device (device_run (steps_of step_of entries) es)) (actor_ends workers ∙ sym ended)
+      subst (λ (es : List Ended). IsRunAsPromised (Some idle) r i device (device_run (steps_of step_made entries) es)) (actor_ends workers ∙ sym ended)
       (done-promised (λ (w : Worker). view_in w.pass) (λ (w : Worker). w.actor) (Some idle) r i device entries workers is_record described all_done)

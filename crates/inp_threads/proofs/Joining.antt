@@ -10,13 +10,13 @@ use Rattle.inp_turn.specs.declared.pass_view.PassView.{PassView}
 use Rattle.inp_turn.proofs.Prefixes.{prefix-trans}
 use Rattle.inp_threads.specs.declared.worker.Worker.{Worker}
 use Rattle.inp_threads.specs.Worker.{view_in}
-use Rattle.inp_threads.specs.Joined.{AreJoined, AreDone, ends_of, own_of}
+use Rattle.inp_threads.specs.Joined.{AreJoined, AreWorkersDone, ends_of_workers, own_of}
 
 own_of-append : (ws vs : List Worker) → own_of (ws ++ vs) ≡ own_of ws ++ own_of vs
 own_of-append [] vs = refl
 own_of-append (w ∷ ws) vs = ap (λ (places : List ℕ). (view_in w.pass).own ++ places) (own_of-append ws vs) ∙ sym (append_assoc (view_in w.pass).own (own_of ws) (own_of vs))
 
-pub ends_of-append : (ws vs : List Worker) → ends_of (ws ++ vs) ≡ ends_of ws ++ ends_of vs
+pub ends_of-append : (ws vs : List Worker) → ends_of_workers (ws ++ vs) ≡ ends_of_workers ws ++ ends_of_workers vs
 ends_of-append [] vs = refl
 ends_of-append (w ∷ ws) vs = ap (λ (ends : List Ended). ended_of w.actor ∷ ends) (ends_of-append ws vs)
 
@@ -32,6 +32,6 @@ joined-more ws vs a b c h k = record {
 }
 
 -- those so far are done, and the next one
-pub done-more : (ws : List Worker) (w : Worker) (so_far : Bool) → (so_far ≡ true → AreDone ws) → (so_far && w.is_done) ≡ true → AreDone (ws ++ w ∷ [])
+pub done-more : (ws : List Worker) (w : Worker) (so_far : Bool) → (so_far ≡ true → AreWorkersDone ws) → (so_far && w.is_done) ≡ true → AreWorkersDone (ws ++ w ∷ [])
 done-more ws w true h both = All-push (λ (u : Worker). u.is_done ≡ true) ws w (h refl) both
 done-more ws w false h both = absurd cc

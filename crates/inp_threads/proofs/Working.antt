@@ -14,7 +14,7 @@ use Rattle.inp_actors.specs.declared.role.Role.TheVariants.{Source, Client, Tap,
 use Rattle.inp_actors.specs.Command.{is_owner}
 use Rattle.inp_actors.specs.Record.{RecordView}
 use Rattle.inp_feedback.specs.declared.u_entry.UEntry.{UEntry}
-use Rattle.inp_feedback.specs.UEntry.{step_of}
+use Rattle.inp_feedback.specs.UEntry.{step_made}
 use Rattle.inp_reader.specs.Talk.{EndsWith}
 use Rattle.inp_script.specs.declared.waiting.Waiting.{Waiting}
 use Rattle.inp_script.specs.Doing.{HasActor}
@@ -41,14 +41,14 @@ module _ {K : Ghosts UdevView Description UEntry} where
   -- places of steps alone.
   pub record IsCallersPass (port port' : PortOf UdevView UEntry) (p' : Pass UdevView Description UEntry K) : Type 0 where
     pub back : HasPass port (Some p')
-    pub others : other_places step_of (view_of p').seen (view_of p').own ≡ []
+    pub others : other_places step_made (view_of p').seen (view_of p').own ≡ []
 
   pub pass-back : (port port' : PortOf UdevView UEntry) (p p' : Pass UdevView Description UEntry K) (n n' : ℕ)
-      → IsFresh port p → IsLeft (told_by step_of port p n) (told_by step_of port' p' n') → IsReadyAt port' p' → IsCallersPass port port' p'
+      → IsFresh port p → IsLeft (told_by step_made port p n) (told_by step_made port' p' n') → IsReadyAt port' p' → IsCallersPass port port' p'
   pass-back port port' p p' n n' fresh left ready =
-      let others : List ℕ = other_places step_of (view_of p').seen (view_of p').own in
-      let none : other_places step_of (view_of p).seen (view_of p).own ≡ [] = ap (other_places step_of (view_of p).seen) fresh.own in
-      let tie : (view_of p').share ∷ length (name_of port'.shared) ∷ name_of port'.shared ++ others ≡ (view_of p).share ∷ length (name_of port.shared) ∷ name_of port.shared ++ other_places step_of (view_of p).seen (view_of p).own =
+      let others : List ℕ = other_places step_made (view_of p').seen (view_of p').own in
+      let none : other_places step_made (view_of p).seen (view_of p).own ≡ [] = ap (other_places step_made (view_of p).seen) fresh.own in
+      let tie : (view_of p').share ∷ length (name_of port'.shared) ∷ name_of port'.shared ++ others ≡ (view_of p).share ∷ length (name_of port.shared) ∷ name_of port.shared ++ other_places step_made (view_of p).seen (view_of p).own =
       ap numbers_in left.leaves.tie in
       let rest : name_of port'.shared ++ others ≡ name_of port.shared = ap (drop 2) tie ∙ ap (λ (l : List ℕ). name_of port.shared ++ l) none ∙ append-nil (name_of port.shared) in
       let name = as-long (name_of port'.shared) (name_of port.shared) others (ap (number_at 1) tie) rest in
@@ -67,7 +67,7 @@ module _ {K : Ghosts UdevView Description UEntry} where
 -- What the actor did
 
 pub has-worked : (r : RecordView) (d : Description) (wait : Option Waiting) (a : ActorView) (new : Job) (b e : EvdevView) (v : PassView Description UEntry)
-    → b.seen ≡ [] → b.own ≡ [] → e.description ≡ d → e.seen ≡ steps_of step_of v.seen → e.own ≡ step_places step_of v.seen v.own → other_places step_of v.seen v.own ≡ []
+    → b.seen ≡ [] → b.own ≡ [] → e.description ≡ d → e.seen ≡ steps_of step_made v.seen → e.own ≡ step_places step_made v.seen v.own → other_places step_made v.seen v.own ≡ []
     → a.description ≡ d → a.job ≡ first_job a.role a.description → DoesAll b e r wait a new → HasWorked r d wait (record a { job = new }) v
 has-worked r d wait a new b e v no_seen no_own same_d seen own others described first does =
     let h = does.holds in

@@ -31,17 +31,17 @@ pub record AreJoined (workers : List Worker) (before after : PassView Descriptio
   pub seen : SawAll workers after.seen
 
 -- what comes of the workers' actors
-abbrev pub ends_of : List Worker → List Ended
-ends_of workers = map (λ (w : Worker). ended_of w.actor) workers
+abbrev pub ends_of_workers : List Worker → List Ended
+ends_of_workers workers = map (λ (w : Worker). ended_of w.actor) workers
 
 -- each worker is done
-abbrev pub AreDone : List Worker → Type 0
-AreDone workers = All (λ (w : Worker). w.is_done ≡ true) workers
+abbrev pub AreWorkersDone : List Worker → Type 0
+AreWorkersDone workers = All (λ (w : Worker). w.is_done ≡ true) workers
 
 -- the view that comes of a worker's actor, if one does, has the slots of its device
-abbrev pub IsSized : Worker → Type 0
-IsSized w = HasCells w.actor.description (ended_of w.actor)
+abbrev pub IsSizedWorker : Worker → Type 0
+IsSizedWorker w = HasCells w.actor.description (ended_of w.actor)
 
 -- and so has that of each
 abbrev pub AreSized : List Worker → Type 0
-AreSized workers = All IsSized workers
+AreSized workers = All IsSizedWorker workers

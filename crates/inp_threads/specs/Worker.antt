@@ -10,7 +10,7 @@ use Rattle.inp_actors.specs.declared.role.Role.{Role}
 use Rattle.inp_actors.specs.declared.role.Role.TheVariants.{Owner}
 use Rattle.inp_actors.specs.Record.{RecordView}
 use Rattle.inp_feedback.specs.declared.u_entry.UEntry.{UEntry}
-use Rattle.inp_feedback.specs.UEntry.{step_of}
+use Rattle.inp_feedback.specs.UEntry.{step_made}
 use Rattle.inp_reader.specs.Talk.{EndsWith}
 use Rattle.inp_script.specs.declared.waiting.Waiting.{Waiting}
 use Rattle.inp_script.specs.Doing.{HasActor, IsWaiting}
@@ -73,19 +73,19 @@ pub record IsAtStart (port : PortOf UdevView UEntry) (r : RecordView) (a : Actor
   pub owning : a.owning ≡ first_owning
 
 -- A worker's actor is one of the record, before its first line, and its pass has seen nothing.
-pub record IsReady (port : PortOf UdevView UEntry) (r : RecordView) (w : Worker) : Type 0 where
+pub record IsReadyWorker (port : PortOf UdevView UEntry) (r : RecordView) (w : Worker) : Type 0 where
   pub pass : HasFreshPass port w.pass
   pub number : w.actor.actor ≡ w.number
   pub start : IsAtStart port r w.actor
 
 -- The same, and its lines wait so.
 pub record IsReadyToWait (port : PortOf UdevView UEntry) (r : RecordView) (waiting : Waiting) (w : Worker) : Type 0 where
-  pub ready : IsReady port r w
+  pub ready : IsReadyWorker port r w
   pub waits : IsWaiting r w.actor waiting
 
 -- The same, and its actor is one of the device of this number.
 pub record IsReadyOn (port : PortOf UdevView UEntry) (r : RecordView) (device : ℕ) (w : Worker) : Type 0 where
-  pub ready : IsReady port r w
+  pub ready : IsReadyWorker port r w
   pub text : ActorText
   pub is_text : slice_get r.actors w.actor.actor ≡ Some text
   pub on_device : text.device ≡ device
@@ -108,11 +108,11 @@ AreDealt port r device left workers = AreDealtUpTo port r device (length r.actor
 -- its lines and the answers to these calls make, and its pass owns the places of its steps and no others.
 pub record HasWorked (r : RecordView) (d : Description) (wait : Option Waiting) (a : ActorView) (view : PassView Description UEntry) : Type 0 where
   pub calls : List Call
-  pub legal : IsLegalRun d (steps_of step_of view.seen) calls
+  pub legal : IsLegalRun d (steps_of step_made view.seen) calls
   pub rounds : ℕ
   pub follows : EndsWith (lines_talk a.role d r.streams wait rounds (lines_by a.actor r.lines) (first_job a.role d)) calls (Some a.job)
-  pub own : step_places step_of view.seen view.own ≡ places_of calls
-  pub others : other_places step_of view.seen view.own ≡ []
+  pub own : step_places step_made view.seen view.own ≡ places_of calls
+  pub others : other_places step_made view.seen view.own ≡ []
 
 -- An owner did all its lines by feedback calls, and no other ones.
 pub record HasOwnedLines (r : RecordView) (d : Description) (a : ActorView) (view : PassView Description UEntry) : Type 0 where

@@ -2,7 +2,7 @@
 ghost use Rattle.std.specs.Prelude.{◌≡◌, ◌≤◌, ◌<◌, ◌++◌, ◌∷◌, ◌&&◌, [], vec_len, vec_capacity, All, true};
 ghost use Rattle.inp_turn.specs.Pass.{view_of};
 ghost use Rattle.inp_port.specs.Port.{IsReadyAt};
-ghost use Rattle.inp_threads.specs.Joined.{IsBack, AreJoined, AreDone, IsSized, AreSized, ends_of};
+ghost use Rattle.inp_threads.specs.Joined.{IsBack, AreJoined, AreWorkersDone, IsSizedWorker, AreSized, ends_of_workers};
 
 use crate::worker::Worker;
 use inp_script::Ended;
@@ -32,9 +32,9 @@ pub(crate) fn gather(
     requires room { vec_len workers ≤ vec_capacity ends }
     ensures ready { IsReadyAt port.now result.pass }
     ensures joined { AreJoined workers.items (view_of pass) (view_of result.pass) }
-    ensures ends { result.ends.items ≡ ends_of workers.items }
+    ensures ends { result.ends.items ≡ ends_of_workers workers.items }
     ensures sized { AreSized workers.items }
-    ensures done { result.is_done ≡ true → AreDone workers.items }
+    ensures done { result.is_done ≡ true → AreWorkersDone workers.items }
 {
     let mut gathered = Gathered {
         pass,
@@ -54,9 +54,9 @@ fn add(port: &UPort, gathered: Gathered, worker: Worker) -> Gathered
     requires room { vec_len gathered.ends < vec_capacity gathered.ends }
     ensures ready { IsReadyAt port.now result.pass }
     ensures joined { AreJoined (worker ∷ []) (view_of gathered.pass) (view_of result.pass) }
-    ensures ends { result.ends.items ≡ gathered.ends.items ++ ends_of (worker ∷ []) }
+    ensures ends { result.ends.items ≡ gathered.ends.items ++ ends_of_workers (worker ∷ []) }
     ensures capacity { vec_capacity result.ends ≡ vec_capacity gathered.ends }
-    ensures sized { IsSized worker }
+    ensures sized { IsSizedWorker worker }
     ensures done { result.is_done ≡ (gathered.is_done && worker.is_done) }
 {
     let Gathered {

@@ -4,7 +4,7 @@ ghost use Rattle.inp_actors.specs.declared.role.Role.TheVariants.{Owner};
 ghost use Rattle.inp_actors.specs.Command.{is_owner};
 ghost use Rattle.inp_script.specs.declared.waiting.Waiting.{Waiting};
 ghost use Rattle.inp_script.specs.Doing.{IsWaiting};
-ghost use Rattle.inp_threads.specs.Worker.{IsAtStart, IsFresh, IsReady, IsWorked, actor_number};
+ghost use Rattle.inp_threads.specs.Worker.{IsAtStart, IsFresh, IsReadyWorker, IsWorked, actor_number};
 
 use crate::owner_client::OwnerClient;
 use inp_actors::{Record, Role};
@@ -38,7 +38,7 @@ impl Worker {
         waiting: Waiting,
         gate: &G,
     )
-        requires ready { IsReady port.now rec.now self.old }
+        requires ready { IsReadyWorker port.now rec.now self.old }
         requires waiting { IsWaiting rec.now self.old.actor waiting }
         ensures worked { IsWorked port.now rec.now (Some waiting) self.new }
         ensures number { actor_number self.new ≡ actor_number self.old }

@@ -6,7 +6,7 @@ use Rattle.inp_edge.specs.File.{File, IsMissing, HasFile, HasLongerFile, bytes_o
 use Rattle.inp_edge.specs.Sink.{Appends}
 use Rattle.inp_edge.specs.declared.input.TheConstants.{INPUT_LIMIT}
 use Rattle.inp_args.specs.declared.request.Request.TheVariants.{Migrate, Make}
-use Rattle.inp_args.specs.Request.{requested}
+use Rattle.inp_args.specs.Request.{Arguments, requested}
 use Rattle.inp_make.specs.Generated.{generated}
 use Rattle.inp_model.specs.declared.stamped.Stamped.{Stamped}
 use Rattle.inp_actors.specs.declared.line.Line.{Line}
@@ -25,7 +25,7 @@ use Rattle.inp_tool.specs.Edge.{Reads, Writes}
 use Rattle.inp_tool.specs.Streams.{StreamFile, file_of, stream_files, events_in, HoldEvents}
 use Rattle.inp_tool.specs.Outcome.{played_status}
 use Rattle.inp_tool.specs.Reading.{IsRead, IsUnread, IsTooLong, AreRead, IsParsed, IsAtStream, IsNext, HasBadText, HasBadStream, HasRecord}
-use Rattle.inp_tool.specs.Promise.{Words, AskFor, NameFile, CameOf, whole_report, HasCause, IsWrittenWhole, IsWritten, Promise}
+use Rattle.inp_tool.specs.Promise.{AskFor, NameFile, CameOf, whole_report, HasCause, IsWrittenWhole, IsWritten, Promise}
 use Rattle.inp_tool.specs.Complete.{IsFaultless, IsThere, AreThere, IsReadable, played_by, IsTold, made_summary, IsToldWhole, IsRewritten, IsComplete}
 use Rattle.inp_tool.proofs.MadeBounds.{asked-not_full}
 use Rattle.inp_tool.proofs.MadeAlone.{made-no_joys, made-no_owners}
@@ -208,7 +208,7 @@ IsReached (WasPlayed played text) = Unit {0}
 IsReached (Migrated text) = Unit {0}
 
 -- a record that is there was not refused
-reached : (words : Words) (r : Reads) (found : Outcome) (file : List ℕ) (recorded : RecordView) → NameFile words file → IsReadable r file recorded
+reached : (words : Arguments) (r : Reads) (found : Outcome) (file : List ℕ) (recorded : RecordView) → NameFile words file → IsReadable r file recorded
     → is_some r.after.left ≡ is_some r.before.left → IsFaultless r.before.faults r.after.faults → HasCause words r found → IsReached found
 reached words r Usage file recorded named readable stays faultless h = refused_names_none words file h.refused named
 reached words r Unread file recorded named readable stays faultless h =
@@ -228,7 +228,7 @@ reached words r (WasPlayed played text) file recorded named readable stays fault
 reached words r (Migrated text) file recorded named readable stays faultless h = tt
 
 -- a record that is there was played, or memory ran out
-by_outcome : (words : Words) (r : Reads) (w : Writes) (end : End) (found : Outcome) (file : List ℕ) (history : Bool) (idle : Option ℕ) (recorded : RecordView) → AskFor words file history idle → IsReadable r file recorded
+by_outcome : (words : Arguments) (r : Reads) (w : Writes) (end : End) (found : Outcome) (file : List ℕ) (history : Bool) (idle : Option ℕ) (recorded : RecordView) → AskFor words file history idle → IsReadable r file recorded
     → is_some r.after.left ≡ is_some r.before.left → IsFaultless r.before.faults r.after.faults → IsReached found → HasCause words r found → IsWrittenWhole w found end
     → (end.status ≡ 5) ⊎ IsTold w idle recorded (whole_report recorded history) end
 by_outcome words r w end Usage file history idle recorded asked readable stays faultless there h whole = absurd there
@@ -250,7 +250,7 @@ by_outcome words r w end (WasPlayed played text) file history idle recorded aske
 by_outcome words r w end (Migrated text) file history idle recorded asked readable stays faultless there h whole = let never : ⊥ = cc (h.asked, asked) in absurd never
 
 -- a record that is there was upgraded, or memory ran out
-by_outcome_migrated : (words : Words) (r : Reads) (w : Writes) (end : End) (found : Outcome) (file : List ℕ) (recorded : RecordView) → requested words ≡ Some (Migrate file) → IsReadable r file recorded
+by_outcome_migrated : (words : Arguments) (r : Reads) (w : Writes) (end : End) (found : Outcome) (file : List ℕ) (recorded : RecordView) → requested words ≡ Some (Migrate file) → IsReadable r file recorded
     → is_some r.after.left ≡ is_some r.before.left → IsFaultless r.before.faults r.after.faults → IsReached found → HasCause words r found → IsWrittenWhole w found end
     → (end.status ≡ 5) ⊎ IsRewritten w recorded end
 by_outcome_migrated words r w end Usage file recorded asked readable stays faultless there h whole = absurd there
@@ -269,7 +269,7 @@ by_outcome_migrated words r w end (Migrated text) file recorded asked readable s
     inr (record { status = whole.ended.status; runs = whole.ended.runs; joys = whole.ended.joys; owners = whole.ended.owners; written = subst Q says whole.written })
 
 -- a record that was to be made was played, or memory ran out
-by_outcome_made : (words : Words) (r : Reads) (w : Writes) (end : End) (found : Outcome) (number count : ℕ) → requested words ≡ Some (Make number count) → HasCause words r found → IsWrittenWhole w found end
+by_outcome_made : (words : Arguments) (r : Reads) (w : Writes) (end : End) (found : Outcome) (number count : ℕ) → requested words ≡ Some (Make number count) → HasCause words r found → IsWrittenWhole w found end
     → (end.status ≡ 5) ⊎ IsTold w None (generated number count) (made_summary number count) end
 by_outcome_made words r w end Usage number count asked h whole = let never : ⊥ = cc (h.refused, asked) in absurd never
 by_outcome_made words r w end Unread number count asked h whole = absurd (made_names_none words number count h.file asked h.named)
@@ -285,7 +285,7 @@ by_outcome_made words r w end (WasPlayed played text) number count asked (inr h)
     let here : C number count = subst (λ (y : ℕ). C number y) c (subst (λ (x : ℕ). C x h.count) n (h.came, h.says)) in
     inr (is_told w None (generated number count) (made_summary number count) played text.items end here.0 here.1 (same_played end played whole.ended.runs whole.ended.joys whole.ended.owners) whole.ended.status whole.written)
 
-when_read : (words : Words) (r : Reads) (w : Writes) (end : End) (p : Promise words r w end) → is_some r.after.left ≡ is_some r.before.left → (file : List ℕ) (history : Bool) (idle : Option ℕ) (recorded : RecordView)
+when_read : (words : Arguments) (r : Reads) (w : Writes) (end : End) (p : Promise words r w end) → is_some r.after.left ≡ is_some r.before.left → (file : List ℕ) (history : Bool) (idle : Option ℕ) (recorded : RecordView)
     → AskFor words file history idle → IsReadable r file recorded → IsFaultless r.before.faults r.after.faults → IsFaultless w.before.faults w.after.faults
     → (end.status ≡ 5) ⊎ IsTold w idle recorded (whole_report recorded history) end
 when_read words r w end p stays file history idle recorded asked readable no_read no_write = by_writing p.written
@@ -296,7 +296,7 @@ when_read words r w end p stays file history idle recorded asked readable no_rea
         (reached words r p.found file recorded (plays_file words file history idle asked) readable stays no_read p.cause) p.cause whole
     by_writing (inr part) = absurd (no_rise w.before.faults w.after.faults no_write part.fault)
 
-when_migrated : (words : Words) (r : Reads) (w : Writes) (end : End) (p : Promise words r w end) → is_some r.after.left ≡ is_some r.before.left → (file : List ℕ) (recorded : RecordView)
+when_migrated : (words : Arguments) (r : Reads) (w : Writes) (end : End) (p : Promise words r w end) → is_some r.after.left ≡ is_some r.before.left → (file : List ℕ) (recorded : RecordView)
     → requested words ≡ Some (Migrate file) → IsReadable r file recorded → IsFaultless r.before.faults r.after.faults → IsFaultless w.before.faults w.after.faults
     → (end.status ≡ 5) ⊎ IsRewritten w recorded end
 when_migrated words r w end p stays file recorded asked readable no_read no_write = by_writing p.written
@@ -307,7 +307,7 @@ when_migrated words r w end p stays file recorded asked readable no_read no_writ
         (reached words r p.found file recorded (migrates_file words file asked) readable stays no_read p.cause) p.cause whole
     by_writing (inr part) = absurd (no_rise w.before.faults w.after.faults no_write part.fault)
 
-when_made : (words : Words) (r : Reads) (w : Writes) (end : End) (p : Promise words r w end) → (number count : ℕ) → requested words ≡ Some (Make number count) → IsFaultless w.before.faults w.after.faults
+when_made : (words : Arguments) (r : Reads) (w : Writes) (end : End) (p : Promise words r w end) → (number count : ℕ) → requested words ≡ Some (Make number count) → IsFaultless w.before.faults w.after.faults
     → (end.status ≡ 5) ⊎ IsToldWhole w number count end
 when_made words r w end p number count asked no_write = of_told (by_writing p.written)
   where
@@ -324,5 +324,5 @@ when_made words r w end p number count asked no_write = of_told (by_writing p.wr
     by_writing (inl whole) = by_outcome_made words r w end p.found number count asked p.cause whole
     by_writing (inr part) = absurd (no_rise w.before.faults w.after.faults no_write part.fault)
 
-pub complete : (words : Words) (r : Reads) (w : Writes) (end : End) → Promise words r w end → is_some r.after.left ≡ is_some r.before.left → IsComplete words r w end
+pub complete : (words : Arguments) (r : Reads) (w : Writes) (end : End) → Promise words r w end → is_some r.after.left ≡ is_some r.before.left → IsComplete words r w end
 complete words r w end p stays = record { read = when_read words r w end p stays; migrated = when_migrated words r w end p stays; made = when_made words r w end p }

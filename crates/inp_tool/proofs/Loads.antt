@@ -15,7 +15,7 @@ use Rattle.inp_tool.specs.declared.no_record.NoRecord.TheVariants.{Unread, TooLo
 use Rattle.inp_tool.specs.Edge.{InputView, Reads}
 use Rattle.inp_tool.specs.Streams.{StreamFile, file_of, stream_files, events_in, HoldEvents}
 use Rattle.inp_tool.specs.Reading.{AreLoaded, IsAtStream}
-use Rattle.inp_tool.specs.Loading.{TakesFiles, IsPassedOver, IsTaken, IsDone, CannotDo, IsLoadedTo, AreDone, CannotFinish}
+use Rattle.inp_tool.specs.Loading.{TakesFiles, IsPassedOver, IsTaken, IsDone, CannotDo, IsLoadedTo, AreStreamsLoaded, CannotFinish}
 use Rattle.inp_tool.proofs.Spans.{span, AreToldAlike, are_read_on, are_read_push, are_read_length, is_read_from, is_last_push, is_unread_from, is_too_long_from, ran_out_from, is_read_last_from}
 use Rattle.inp_tool.proofs.StreamFiles.{one_stream, events_of-file, as_many_files, line_found, files_more, stream_number}
 
@@ -174,7 +174,7 @@ none_read files v parsed = record {
 }
 
 -- all lines were read
-pub all_read : (r : Reads) (parsed now : RecordView) (line : ℕ) → IsRecord parsed → length parsed.lines ≤ line → IsLoadedTo r parsed line now → AreDone r parsed now
+pub all_read : (r : Reads) (parsed now : RecordView) (line : ℕ) → IsRecord parsed → length parsed.lines ≤ line → IsLoadedTo r parsed line now → AreStreamsLoaded r parsed now
 all_read r parsed now line is past h =
     let files : files_to parsed line ≡ stream_files parsed.lines = ap stream_files (take_all line parsed.lines past) in
     let k : length (files_to parsed line) ≡ length h.streams = are_read_length r (files_to parsed line) h.contents h.loaded.read ∙ same_length (files_to parsed line) h.contents h.streams h.loaded.stamps in

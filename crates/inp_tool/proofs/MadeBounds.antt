@@ -5,16 +5,16 @@ use Rattle.std.specs.List.{enumerate_from, range_with_len}
 use Rattle.std.proofs.lemmas.Bool.{ne_eqb}
 use Rattle.std.proofs.lemmas.Bool.Decides.{nat_tests}
 use Rattle.inp_args.specs.declared.request.Request.TheVariants.{Make}
-use Rattle.inp_args.specs.Command.{is_taken, is_given, text_of}
+use Rattle.inp_args.specs.Command.{is_taken, is_given, found_text}
 use Rattle.inp_args.specs.Number.{number_of}
-use Rattle.inp_args.specs.Request.{count_of, made_of, request_of, migration_of, requested, request_with, idle_of}
+use Rattle.inp_args.specs.Request.{count_of, make_request, request_of, migration_of, requested, request_with, idle_number}
 use Rattle.inp_model.specs.declared.event.Event.{Event}
 use Rattle.inp_model.specs.declared.step.Step.{Step}
 use Rattle.inp_model.specs.Description.{ring}
 use Rattle.inp_actors.specs.declared.command.Command.TheVariants as command
 use Rattle.inp_actors.specs.declared.line.Line.{Line}
 use Rattle.inp_actors.specs.Record.{RecordView}
-use Rattle.inp_make.specs.Generated.{pad, fast, mid, slow, line, moment_of, injected, finger_events, touches, frame_events, follows, frame_lines, opens, lines, generated}
+use Rattle.inp_make.specs.Generated.{pad, fast, mid, slow, line, frame_moment, injected, finger_events, touches, frame_events, follows, frame_lines, opens, lines, generated}
 use Rattle.inp_reader.specs.Reading.{queries, axes_among}
 use Rattle.inp_actors.specs.declared.role.Role.{Role}
 use Rattle.inp_actors.specs.declared.role.Role.TheVariants.{Source, Client, Tap, Joy, Owner}
@@ -32,7 +32,7 @@ use Rattle.inp_play.proofs.Follows.{HasQueries}
 use Rattle.inp_play.proofs.Growth.{IsBound, IsShort, Adds, event-bound, open-bound, follow-bound, adds-none, adds-line, adds-more, adds-append}
 use Rattle.inp_runs.proofs.Listing.{IsImage, option_map-some}
 use Rattle.inp_play.proofs.OwnQueues.{quiet-keys, quiet-slots}
-use Rattle.inp_tool.specs.Outcome.{is_full, has_full_job, has_full_run, has_full_joy, has_full_owner, has_full}
+use Rattle.inp_tool.specs.Outcome.{is_stopped_full, has_full_job, has_full_run, has_full_joy, has_full_owner, has_full}
 use Rattle.inp_tool.proofs.MadeAlone.{made-no_joys, made-no_owners}
 
 -- The device
@@ -66,7 +66,7 @@ adds-events : (r : RecordView) (frame : ℕ) (es : List Event) → Adds r pad (l
 adds-events r frame [] = adds-none r pad
 adds-events r frame (e ∷ es) =
     adds-more r pad (1 + length es) (suc (length es)) (map (injected frame) (e ∷ es)) (omega arith)
-    (adds-line r pad (length es) 1 (injected frame e) (map (injected frame) es) (event-bound pad (moment_of frame) e.kind e.code e.value) (adds-events r frame es))
+    (adds-line r pad (length es) 1 (injected frame e) (map (injected frame) es) (event-bound pad (frame_moment frame) e.kind e.code e.value) (adds-events r frame es))
 
 adds-follows : (r : RecordView) (frame : ℕ) → Adds r pad 22 (follows frame)
 adds-follows r frame = adds-line r pad 11 11 (line fast command.Follow) _ following (by_flag (nat_eq (frame % 10) 9))
@@ -142,15 +142,15 @@ first_short number count = record { pasts = pasts; actors = actors }
 
 -- an actor's job stopped since the history was full; an owner's end is no job's
 abbrev is_full_end : Ended → Bool
-is_full_end (JobEnded job) = is_full job.stop
-is_full_end (JoyEnded joy) = is_full joy.stop
+is_full_end (JobEnded job) = is_stopped_full job.stop
+is_full_end (JoyEnded joy) = is_stopped_full joy.stop
 is_full_end (OwnerEnded owner) = false
 
 no_full_end : (a : ActorView) → a.job.stop ≡ None → is_full_end (ended_of a) ≡ false
 no_full_end a none = by_role a.role
   where
-    goes_on : is_full (last_stop a.job.stop) ≡ false
-    goes_on = ap (λ (s : Option Stop). is_full (last_stop s)) none
+    goes_on : is_stopped_full (last_stop a.job.stop) ≡ false
+    goes_on = ap (λ (s : Option Stop). is_stopped_full (last_stop s)) none
 
     by_role : (role : Role) → is_full_end (ended_as role a) ≡ false
     by_role Source = goes_on
@@ -201,7 +201,7 @@ made-not_full number count played least most is joys owners =
 
 -- The count that is asked for
 
-made_count : (number count : ℕ) (a b : Option ℕ) → made_of a b ≡ Some (Make number count) → b ≡ Some count
+made_count : (number count : ℕ) (a b : Option ℕ) → make_request a b ≡ Some (Make number count) → b ≡ Some count
 made_count number count (Some x) (Some y) h = cc
 made_count number count (Some x) None h = absurd cc
 made_count number count None b h = absurd cc
@@ -252,12 +252,12 @@ has_count words number count h = by_flag (is_taken words) h
     by_idle : (idle : Option ℕ) → option_and_then (request_with words) idle ≡ Some (Make number count) → (1 ≤ count) × (count ≤ 10000)
     by_idle None e = absurd cc
     by_idle (Some n) e =
-        by_migrate number count (text_of (codes "FILE") words) (text_of (codes "make") words) (text_of (codes "count") words) (text_of (codes "idle") words)
-        (is_given (text_of (codes "history") words)) (is_given (text_of (codes "threads") words)) (is_given (text_of (codes "migrate") words))
-        (if is_given (text_of (codes "threads") words) then Some n else None) e
+        by_migrate number count (found_text (codes "FILE") words) (found_text (codes "make") words) (found_text (codes "count") words) (found_text (codes "idle") words)
+        (is_given (found_text (codes "history") words)) (is_given (found_text (codes "threads") words)) (is_given (found_text (codes "migrate") words))
+        (if is_given (found_text (codes "threads") words) then Some n else None) e
 
     idle : Option ℕ
-    idle = idle_of (text_of (codes "idle") words)
+    idle = idle_number (found_text (codes "idle") words)
 
     by_flag : (b : Bool) → (if b then option_and_then (request_with words) idle else None) ≡ Some (Make number count) → (1 ≤ count) × (count ≤ 10000)
     by_flag true e = by_idle idle e

@@ -11,7 +11,7 @@ use Rattle.inp_tool.specs.declared.no_record.NoRecord.{NoRecord}
 use Rattle.inp_tool.specs.declared.no_record.NoRecord.TheVariants.{Unread, TooLong, Refused, NoMemory}
 use Rattle.inp_tool.specs.Edge.{InputView, Reads}
 use Rattle.inp_tool.specs.Streams.{StreamFile, file_of, stream_files}
-use Rattle.inp_tool.specs.Reading.{IsLast, IsReadLast, IsUnread, IsTooLong, RanOut, CannotRead, AreRead, IsParsed, IsAtStream, IsNextStream, HasRecord, HasNoRecord, last_of}
+use Rattle.inp_tool.specs.Reading.{IsLast, IsReadLast, IsUnread, IsTooLong, RanOut, CannotRead, AreRead, IsParsed, IsAtStream, IsNextStream, HasRecord, HasNoRecord, last_contents}
 use Rattle.inp_tool.specs.Loading.{TakesFiles, IsDone, CannotDo, IsStream, IsNoStream, IsLastOf, HasParts, HasNoParts, HasNoLines, HasNoStreams}
 use Rattle.inp_tool.proofs.Spans.{span, AreToldAlike, is_read_on, are_read_from, is_unread_from, is_too_long_from, ran_out_from, is_read_last_from}
 
@@ -28,7 +28,7 @@ at_stream_from files before middle after parsed line stream h = record {
 pub ran_out_behind : (r : Reads) (name bytes : List ℕ) → IsReadLast r name bytes → RanOut r
 ran_out_behind r name bytes h = record { no_fault = h.no_fault; within = omega (arith, h.last.counted, h.read.within) }
 
-last_within : (r : Reads) (first : List ℕ) (streams : List StreamFile) (contents : List (List ℕ)) → length first ≤ INPUT_LIMIT → AreRead r streams contents → length (last_of first contents) ≤ INPUT_LIMIT
+last_within : (r : Reads) (first : List ℕ) (streams : List StreamFile) (contents : List (List ℕ)) → length first ≤ INPUT_LIMIT → AreRead r streams contents → length (last_contents first contents) ≤ INPUT_LIMIT
 last_within r first [] [] h are = h
 last_within r first (stream ∷ streams) (next ∷ contents) h are = last_within r next streams contents are.0.within are.1
 last_within r first [] (next ∷ contents) h are = absurd are
@@ -71,7 +71,7 @@ module _ (files : Option (List File)) (before middle after : InputView) (told : 
   is_parsed : (parsed : RecordView) → meaning text ≡ Ok parsed → IsParsed (span files before after) file text parsed
   is_parsed parsed means = record { read = is_read_on files before middle after told file text first.read; means = means }
 
-  last_read : (contents : List (List ℕ)) → IsLastOf (span files middle after) contents → IsLast (span files before after) (last_of text contents)
+  last_read : (contents : List (List ℕ)) → IsLastOf (span files middle after) contents → IsLast (span files before after) (last_contents text contents)
   last_read [] same =
       let P : InputView → Type 0 = λ v. IsLast (span files before v) text in
       subst P (sym same) first.last

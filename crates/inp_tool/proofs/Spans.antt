@@ -4,7 +4,7 @@ use Rattle.std.specs.Prelude.{is_some, IsTrue}
 use Rattle.inp_edge.specs.File.{File}
 use Rattle.inp_tool.specs.Edge.{InputView, Reads}
 use Rattle.inp_tool.specs.Streams.{StreamFile}
-use Rattle.inp_tool.specs.Reading.{IsRead, IsLast, IsReadLast, IsUnread, IsTooLong, RanOut, AreRead, last_of}
+use Rattle.inp_tool.specs.Reading.{IsRead, IsLast, IsReadLast, IsUnread, IsTooLong, RanOut, AreRead, last_contents}
 use Rattle.inp_tool.specs.Loading.{IsLastOf}
 
 -- an input over some calls
@@ -51,7 +51,7 @@ are_read_length r (n ∷ streams) (b ∷ contents) h = ap suc (are_read_length r
 are_read_length r [] (b ∷ contents) h = absurd h
 are_read_length r (n ∷ streams) [] h = absurd h
 
-pub last_of_push : (first : List ℕ) (contents : List (List ℕ)) (bytes : List ℕ) → last_of first (contents ++ bytes ∷ []) ≡ bytes
+pub last_of_push : (first : List ℕ) (contents : List (List ℕ)) (bytes : List ℕ) → last_contents first (contents ++ bytes ∷ []) ≡ bytes
 last_of_push first [] bytes = refl
 last_of_push first (next ∷ contents) bytes = last_of_push next contents bytes
 

@@ -5,7 +5,7 @@ use Rattle.inp_edge.specs.File.{File, bytes_of}
 use Rattle.inp_edge.specs.Sink.{Appends}
 use Rattle.inp_edge.specs.declared.input.TheConstants.{INPUT_LIMIT}
 use Rattle.inp_args.specs.declared.request.Request.TheVariants.{Migrate, Make}
-use Rattle.inp_args.specs.Request.{requested}
+use Rattle.inp_args.specs.Request.{Arguments, requested}
 use Rattle.inp_make.specs.Generated.{generated}
 use Rattle.inp_model.specs.declared.stamped.Stamped.{Stamped}
 use Rattle.inp_actors.specs.Record.{RecordView}
@@ -18,7 +18,7 @@ use Rattle.inp_tool.specs.declared.end.End.{End}
 use Rattle.inp_tool.specs.Edge.{Reads, Writes}
 use Rattle.inp_tool.specs.Streams.{StreamFile, stream_files, HoldEvents}
 use Rattle.inp_tool.specs.Outcome.{played_status}
-use Rattle.inp_tool.specs.Promise.{Words, AskFor, CameOf, whole_report}
+use Rattle.inp_tool.specs.Promise.{AskFor, CameOf, whole_report}
 
 -- a count that can rise and did not
 abbrev pub IsFaultless : ℕ → ℕ → Type 0
@@ -85,7 +85,7 @@ pub record IsRewritten (w : Writes) (recorded : RecordView) (end : End) : Type 0
 
 -- A record that is there, or a record to be made, and no fault: its report, its text in version 2 or its summary, or want
 -- of memory.
-pub record IsComplete (words : Words) (r : Reads) (w : Writes) (end : End) : Type 0 where
+pub record IsComplete (words : Arguments) (r : Reads) (w : Writes) (end : End) : Type 0 where
   pub read : (file : List ℕ) (history : Bool) (idle : Option ℕ) (recorded : RecordView) → AskFor words file history idle → IsReadable r file recorded
       → IsFaultless r.before.faults r.after.faults → IsFaultless w.before.faults w.after.faults
       → (end.status ≡ 5) ⊎ IsTold w idle recorded (whole_report recorded history) end

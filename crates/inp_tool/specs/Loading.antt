@@ -13,7 +13,7 @@ use Rattle.inp_tool.specs.declared.no_record.NoRecord.{NoRecord}
 use Rattle.inp_tool.specs.declared.no_record.NoRecord.TheVariants.{Unread, TooLong, Refused as IsRefused, NoMemory}
 use Rattle.inp_tool.specs.Edge.{Reads, KeepsInputFaults}
 use Rattle.inp_tool.specs.Streams.{StreamFile, file_of, stream_files}
-use Rattle.inp_tool.specs.Reading.{IsUnread, IsTooLong, RanOut, IsReadLast, IsLast, AreLoaded, IsAtStream, IsBadStream, last_of}
+use Rattle.inp_tool.specs.Reading.{IsUnread, IsTooLong, RanOut, IsReadLast, IsLast, AreLoaded, IsAtStream, IsBadStream, last_contents}
 
 -- an action line names these files: one, or none where it takes no stream
 abbrev pub TakesFiles : RecordView → ℕ → List StreamFile → Type 0
@@ -58,7 +58,7 @@ CannotDo r text old line NoMemory = RanOut r
 -- the file that was read last is the last of these; none was where there are none
 abbrev pub IsLastOf : Reads → List (List ℕ) → Type 0
 IsLastOf r [] = r.after ≡ r.before
-IsLastOf r (bytes ∷ contents) = IsLast r (last_of bytes contents)
+IsLastOf r (bytes ∷ contents) = IsLast r (last_contents bytes contents)
 
 -- The streams of the first lines of a record were read, and stand in it; all else is as before.
 pub record IsLoadedTo (r : Reads) (parsed : RecordView) (line : ℕ) (now : RecordView) : Type 0 where
@@ -70,7 +70,7 @@ pub record IsLoadedTo (r : Reads) (parsed : RecordView) (line : ℕ) (now : Reco
   pub no_fault : KeepsInputFaults r
 
 -- All streams were read, and stand in the record.
-pub record AreDone (r : Reads) (parsed now : RecordView) : Type 0 where
+pub record AreStreamsLoaded (r : Reads) (parsed now : RecordView) : Type 0 where
   pub contents : List (List ℕ)
   pub streams : List (List Stamped)
   pub loaded : AreLoaded r (stream_files parsed.lines) contents streams
@@ -98,7 +98,7 @@ IsRefusal means NoMemory = Unit {0}
 pub record HasParts (r : Reads) (text : List ℕ) (recorded : RecordView) : Type 0 where
   pub parsed : RecordView
   pub means : meaning text ≡ Ok parsed
-  pub done : AreDone r parsed recorded
+  pub done : AreStreamsLoaded r parsed recorded
 
 -- the text is a record, and its streams were not read
 pub record HasNoStreams (r : Reads) (text : List ℕ) (why : NoRecord) : Type 0 where

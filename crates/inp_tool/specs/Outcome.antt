@@ -28,23 +28,23 @@ refused_text refused =
     codes "inputplay: line " ++ (decimal refused.line ++ (codes ": " ++ (cause_text refused.cause ++ LINE_FEED)))
 
 -- a job stopped since the history was full
-abbrev pub is_full : Stop → Bool
-is_full (Full at) = true
-is_full _ = false
+abbrev pub is_stopped_full : Stop → Bool
+is_stopped_full (Full at) = true
+is_stopped_full _ = false
 
 abbrev pub has_full_job : List JobView → Bool
-has_full_job jobs = list_any (λ (job : JobView). is_full job.stop) jobs
+has_full_job jobs = list_any (λ (job : JobView). is_stopped_full job.stop) jobs
 
 abbrev pub has_full_run : List Run → Bool
 has_full_run runs = list_any (λ (run : Run). has_full_job run.jobs) runs
 
 -- a joystick's job did
 abbrev pub has_full_joy : List JoyJobView → Bool
-has_full_joy joys = list_any (λ (joy : JoyJobView). is_full joy.stop) joys
+has_full_joy joys = list_any (λ (joy : JoyJobView). is_stopped_full joy.stop) joys
 
 -- an owner stopped since its calls were as many as may be kept
 abbrev pub has_full_owner : List OwnerView → Bool
-has_full_owner owners = list_any (λ (owner : OwnerView). is_full owner.stop) owners
+has_full_owner owners = list_any (λ (owner : OwnerView). is_stopped_full owner.stop) owners
 
 abbrev pub has_full : Played → Bool
 has_full played = has_full_run played.runs || has_full_joy played.joys || has_full_owner played.owners

@@ -7,6 +7,7 @@ use Rattle.inp_edge.specs.declared.input.TheConstants.{INPUT_LIMIT}
 use Rattle.inp_args.specs.declared.request.Request.{Request}
 use Rattle.inp_args.specs.declared.request.Request.TheVariants.{Play, Migrate, Make}
 use Rattle.inp_args.specs.Request.{requested, record_file}
+pub use Rattle.inp_args.specs.Request.{Arguments}
 use Rattle.inp_make.specs.Generated.{generated}
 use Rattle.inp_actors.specs.Record.{RecordView}
 use Rattle.inp_canon.specs.Text.{record_text}
@@ -28,40 +29,36 @@ use Rattle.inp_tool.specs.Edge.{Reads, Writes, KeepsInputFaults, KeepsSinkFaults
 use Rattle.inp_tool.specs.Outcome.{refused_text, text_of, status_of, refused_of, played_in}
 use Rattle.inp_tool.specs.Reading.{HasUnread, HasTooLong, HasBadText, HasBadStream, HasRecord, HasNoRecord, RanOut}
 
--- words, and what is in them
-abbrev pub Words : Type 0
-Words = List (List ℕ)
-
 -- The words ask for the record in this file, with the history or without. With a number each job is to have a thread, and
 -- waits through so many answers Again in a row.
-abbrev pub AskFor : Words → List ℕ → Bool → Option ℕ → Type 0
+abbrev pub AskFor : Arguments → List ℕ → Bool → Option ℕ → Type 0
 AskFor words file history idle = requested words ≡ Some (Play file history idle)
 
 -- The words ask for what becomes of the record in this file: its report, or its text in the newest version.
-pub record NameFile (words : Words) (file : List ℕ) : Type 0 where
+pub record NameFile (words : Arguments) (file : List ℕ) : Type 0 where
   pub request : Request
   pub asked : requested words ≡ Some request
   pub of_file : record_file request ≡ Some file
 
 -- The words are not accepted, and the input is as it was.
-pub record IsUsage (words : Words) (r : Reads) : Type 0 where
+pub record IsUsage (words : Arguments) (r : Reads) : Type 0 where
   pub refused : requested words ≡ None
   pub untouched : r.after ≡ r.before
 
 -- FILE was not read, or the file of one of its stream lines
-pub record IsUnread (words : Words) (r : Reads) : Type 0 where
+pub record IsUnread (words : Arguments) (r : Reads) : Type 0 where
   pub file : List ℕ
   pub named : NameFile words file
   pub unread : HasUnread r file
 
 -- FILE is too long, or the file of one of its stream lines
-pub record IsTooLong (words : Words) (r : Reads) : Type 0 where
+pub record IsTooLong (words : Arguments) (r : Reads) : Type 0 where
   pub file : List ℕ
   pub named : NameFile words file
   pub too_long : HasTooLong r file
 
 -- FILE was read, and is no record: by its text, or by a stream where the text is right and the streams before it are
-pub record IsNoRecord (words : Words) (r : Reads) (refused : Refused) (text : List ℕ) : Type 0 where
+pub record IsNoRecord (words : Arguments) (r : Reads) (refused : Refused) (text : List ℕ) : Type 0 where
   pub file : List ℕ
   pub named : NameFile words file
   pub why : HasBadText r file refused ⊎ HasBadStream r file refused
@@ -86,7 +83,7 @@ whole_report recorded history played =
     report recorded played.runs history ++ (joy_report recorded played.joys ++ owner_report recorded played.owners)
 
 -- the record in FILE was read with its streams and played, and the text is its report
-pub record IsPlayed (words : Words) (r : Reads) (played : Played) (text : List ℕ) : Type 0 where
+pub record IsPlayed (words : Arguments) (r : Reads) (played : Played) (text : List ℕ) : Type 0 where
   pub file : List ℕ
   pub history : Bool
   pub idle : Option ℕ
@@ -98,7 +95,7 @@ pub record IsPlayed (words : Words) (r : Reads) (played : Played) (text : List �
 
 -- The record in FILE was read with its streams. The text is its canonical text in version 2, by which it means the same
 -- record but for its version; a record's text names the files of its streams, and has none of their events.
-pub record IsMigrated (words : Words) (r : Reads) (text : List ℕ) : Type 0 where
+pub record IsMigrated (words : Arguments) (r : Reads) (text : List ℕ) : Type 0 where
   pub file : List ℕ
   pub asked : requested words ≡ Some (Migrate file)
   pub recorded : RecordView
@@ -108,7 +105,7 @@ pub record IsMigrated (words : Words) (r : Reads) (text : List ℕ) : Type 0 whe
 
 -- The record was made from two numbers and played, the text is its summary, and the input is as it was. It has no
 -- joystick and no owner.
-pub record IsMade (words : Words) (r : Reads) (played : Played) (text : List ℕ) : Type 0 where
+pub record IsMade (words : Arguments) (r : Reads) (played : Played) (text : List ℕ) : Type 0 where
   pub number : ℕ
   pub count : ℕ
   pub asked : requested words ≡ Some (Make number count)
@@ -119,7 +116,7 @@ pub record IsMade (words : Words) (r : Reads) (played : Played) (text : List ℕ
   pub owners : played.owners ≡ []
 
 -- Each outcome has its cause. Memory may run out anywhere, but never in place of a fault.
-abbrev pub HasCause : Words → Reads → Outcome → Type 0
+abbrev pub HasCause : Arguments → Reads → Outcome → Type 0
 HasCause words r Usage = IsUsage words r
 HasCause words r Unread = IsUnread words r
 HasCause words r TooLong = IsTooLong words r
@@ -130,7 +127,7 @@ HasCause words r (Migrated text) = IsMigrated words r text.items
 
 -- the outcome where FILE gave no record for this reason
 abbrev pub IsOutcomeOf : NoRecord → Outcome → Type 0
-IsOutcomeOf why found = (words : Words) (r : Reads) (file : List ℕ) → NameFile words file → HasNoRecord r file why → HasCause words r found
+IsOutcomeOf why found = (words : Arguments) (r : Reads) (file : List ℕ) → NameFile words file → HasNoRecord r file why → HasCause words r found
 
 -- the status of an outcome whose text was written, with what goes with it
 pub record IsEnd (found : Outcome) (end : End) : Type 0 where
@@ -160,14 +157,14 @@ abbrev pub IsWritten : Writes → Outcome → End → Type 0
 IsWritten w found end = IsWrittenWhole w found end ⊎ IsWrittenInPart w found end
 
 -- something was found that has its cause, and it was told
-pub record Promise (words : Words) (r : Reads) (w : Writes) (end : End) : Type 0 where
+pub record Promise (words : Arguments) (r : Reads) (w : Writes) (end : End) : Type 0 where
   pub found : Outcome
   pub cause : HasCause words r found
   pub written : IsWritten w found end
 
 -- No fault is hidden. A call of the input that was at fault ends in status 3, a call of the sink in status 4. With 4 the
 -- text may be that of any outcome.
-pub record HidesNoFault (words : Words) (r : Reads) (w : Writes) (end : End) : Type 0 where
+pub record HidesNoFault (words : Arguments) (r : Reads) (w : Writes) (end : End) : Type 0 where
   pub input : end.status ≢ 3 → end.status ≢ 4 → KeepsInputFaults r
   pub sink : end.status ≢ 4 → KeepsSinkFaults w
   -- so does a FILE that is not there, unless memory ran out

@@ -139,9 +139,9 @@ HasNoRecord r file (IsRefused refused) = HasBadText r file refused ⊎ HasBadStr
 HasNoRecord r file NoMemory = RanOut r
 
 -- the last of some contents
-abbrev pub last_of : List ℕ → List (List ℕ) → List ℕ
-last_of bytes [] = bytes
-last_of bytes (next ∷ contents) = last_of next contents
+abbrev pub last_contents : List ℕ → List (List ℕ) → List ℕ
+last_contents bytes [] = bytes
+last_contents bytes (next ∷ contents) = last_contents next contents
 
 -- FILE and the files of its stream lines were read, each to its end, and no call was at fault. The text of FILE is a
 -- record, the contents of the other files are its streams, and this is the record with its streams.
@@ -153,5 +153,5 @@ pub record HasRecord (r : Reads) (file : List ℕ) (recorded : RecordView) : Typ
   pub streams : List (List Stamped)
   pub loaded : AreLoaded r (stream_files parsed.lines) contents streams
   pub whole : recorded ≡ record parsed { streams = streams }
-  pub last : IsLast r (last_of text contents)
+  pub last : IsLast r (last_contents text contents)
   pub no_fault : KeepsInputFaults r

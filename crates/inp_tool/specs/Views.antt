@@ -68,29 +68,29 @@ abbrev pub steps : List Step
 steps = first_steps ++ motion 33 4000 ++ last_steps
 
 -- the past before the step at this place
-abbrev pub past_at : ℕ → List Step
-past_at at = reverse (take at steps)
+abbrev pub steps_before : ℕ → List Step
+steps_before at = reverse (take at steps)
 
 -- what the read at this place took, up to item j
-abbrev pub taken_at : ℕ → ℕ → ℕ → List Entry
-taken_at at client j = take (suc j) (taken_by keyboard (past_at at) client (Read client 64))
+abbrev pub taken_up_to : ℕ → ℕ → ℕ → List Entry
+taken_up_to at client j = take (suc j) (taken_by keyboard (steps_before at) client (Read client 64))
 
 -- the frame of that item
 abbrev pub frame_at : ℕ → ℕ → ℕ → Frame
-frame_at at client j = or_none (last_frame (taken_at at client j))
+frame_at at client j = or_none (last_frame (taken_up_to at client j))
 
 -- the client's view then, that item included
-abbrev pub view_at : ℕ → ℕ → ℕ → View
-view_at at client j =
-    view_after_events (client_view keyboard (past_at at) client) (map event_of (taken_at at client j))
+abbrev pub view_then : ℕ → ℕ → ℕ → View
+view_then at client j =
+    view_after_events (client_view keyboard (steps_before at) client) (map event_of (taken_up_to at client j))
 
 -- whether the promise speaks there: the client is synchronised, the frame was passed behind its last query, and nothing was
 -- kept from it
 abbrev pub speaks : ℕ → ℕ → ℕ → Bool
 speaks at client j =
-    is_synchronised keyboard (past_at at) client (taken_at at client j)
-    && nat_lt (sync_place (past_at at) client) (place (frame_at at client j))
-    && is_undisturbed keyboard (past_at at) client (frame_at at client j)
+    is_synchronised keyboard (steps_before at) client (taken_up_to at client j)
+    && nat_lt (sync_place (steps_before at) client) (place (frame_at at client j))
+    && is_undisturbed keyboard (steps_before at) client (frame_at at client j)
 
 -- which of the keys A and B are down
 abbrev pub down : (ℕ → Bool) → List ℕ
@@ -100,16 +100,16 @@ down is_down = filter is_down (KEY_A ∷ KEY_B ∷ [])
 -- view, and on the device at the end of the report's frame?
 abbrev pub Shows : ℕ → ℕ → ℕ → Bool → List ℕ → List ℕ → Type 0
 Shows at client j speaking in_view on_device =
-    (ends_in_report event_of (taken_at at client j) ≡ true)
+    (ends_in_report event_of (taken_up_to at client j) ≡ true)
     × (speaks at client j ≡ speaking)
-    × (down (has_key (view_at at client j)) ≡ in_view)
+    × (down (has_key (view_then at client j)) ≡ in_view)
     × (down (key_down keyboard (frame_at at client j).cut.until) ≡ on_device)
 
 -- what the read at this place took of losses: the places of the steps by which they came
 abbrev pub losses : ℕ → ℕ → List ℕ
 losses at client =
     map (λ (e : Entry). e.taken.place)
-    (filter (λ (e : Entry). is_dropped (event_of e)) (taken_by keyboard (past_at at) client (Read client 64)))
+    (filter (λ (e : Entry). is_dropped (event_of e)) (taken_by keyboard (steps_before at) client (Read client 64)))
 
 -- The promise speaks of a press after the client opened and asked for keys, and of the release that an inhibition makes,
 -- since the desktop synchronised before it.

@@ -2,7 +2,7 @@
 ghost use Rattle.std.specs.Prelude.{◌≡◌, ◌≤◌, [], IfOk, IfSome, None};
 ghost use Rattle.inp_make.specs.Generated.{generated};
 ghost use Rattle.inp_report.specs.Summary.{summary};
-ghost use Rattle.inp_tool.specs.Outcome.{has_full, has_full_run, has_full_job, has_full_joy, has_full_owner, is_full};
+ghost use Rattle.inp_tool.specs.Outcome.{has_full, has_full_run, has_full_job, has_full_joy, has_full_owner, is_stopped_full};
 ghost use Rattle.inp_script.specs.Runs.{AreRunsOf, AreJoysOf, AreOwnersOf};
 ghost use Rattle.inp_tool.specs.Promise.{CameOf, whole_report};
 
@@ -119,7 +119,7 @@ fn has_full_job(jobs: &Jobs) -> bool
     ensures { result ≡ has_full_job jobs.now }
 {
     for job in jobs.as_slice() {
-        if is_full(job.stop()) {
+        if is_stopped_full(job.stop()) {
             return true;
         }
     }
@@ -131,7 +131,7 @@ fn has_full_joy(joys: &JoyRuns) -> bool
     ensures { result ≡ has_full_joy joys.now }
 {
     for joy in joys.as_slice() {
-        if is_full(joy.stop()) {
+        if is_stopped_full(joy.stop()) {
             return true;
         }
     }
@@ -143,7 +143,7 @@ fn has_full_owner(owners: &OwnerRuns) -> bool
     ensures { result ≡ has_full_owner owners.now }
 {
     for owner in owners.as_slice() {
-        if is_full(owner.stop()) {
+        if is_stopped_full(owner.stop()) {
             return true;
         }
     }
@@ -151,8 +151,8 @@ fn has_full_owner(owners: &OwnerRuns) -> bool
 }
 
 /// Whether a job stopped since a list was full.
-fn is_full(stop: &Stop) -> bool
-    ensures { result ≡ is_full stop.now }
+fn is_stopped_full(stop: &Stop) -> bool
+    ensures { result ≡ is_stopped_full stop.now }
 {
     match stop {
         Stop::Full { .. } => true,

@@ -7,7 +7,7 @@ ghost use Rattle.inp_record.specs.Stream.{stream_at};
 ghost use Rattle.inp_record.specs.LineNumber.{action_numbers};
 ghost use Rattle.inp_tool.specs.Edge.{reads_of};
 ghost use Rattle.inp_tool.specs.Reading.{IsReadLast, CannotRead, HasRecord, HasNoRecord};
-ghost use Rattle.inp_tool.specs.Loading.{IsDone, CannotDo, AreDone, CannotFinish, IsRefusal, HasParts, HasNoParts, IsStream, IsNoStream};
+ghost use Rattle.inp_tool.specs.Loading.{IsDone, CannotDo, AreStreamsLoaded, CannotFinish, IsRefusal, HasParts, HasNoParts, IsStream, IsNoStream};
 
 use crate::no_record::NoRecord;
 use inp_edge::{Input, ReadFault, read_all};
@@ -93,7 +93,7 @@ fn read_streams<I: Input>(
     requires means { meaning text.now ≡ Ok recorded.old }
     ensures read { let r = reads_of I.files I.given I.left I.faults input.old input.new in
         MatchResult result
-        (λ _. AreDone r recorded.old recorded.new) (CannotFinish r text.now recorded.old) }
+        (λ _. AreStreamsLoaded r recorded.old recorded.new) (CannotFinish r text.now recorded.old) }
     ensures files_stay { I.files input.new ≡ I.files input.old }
     ensures stays_told { is_some (I.left input.new) ≡ is_some (I.left input.old) }
     ensures never_falls { I.faults input.old ≤ I.faults input.new }

@@ -1,9 +1,9 @@
 //! The program's one call.
 ghost use Rattle.std.specs.Prelude.{◌≡◌, ◌≤◌, map, is_some, string_bytes, IfSome, Some};
-ghost use Rattle.inp_args.specs.Request.{requested};
+ghost use Rattle.inp_args.specs.Request.{Arguments, requested};
 ghost use Rattle.inp_tool.specs.Edge.{Reads, reads_of, writes_of};
 ghost use Rattle.inp_tool.specs.Outcome.{played_status};
-ghost use Rattle.inp_tool.specs.Promise.{Words, AskFor, HasCause, IsWritten, Promise, HidesNoFault, IsEnd};
+ghost use Rattle.inp_tool.specs.Promise.{AskFor, HasCause, IsWritten, Promise, HidesNoFault, IsEnd};
 ghost use Rattle.inp_tool.specs.Complete.{IsComplete};
 
 use crate::End;
@@ -110,7 +110,7 @@ fn play_file<R: Threads + Wait + Sync, I: Input, G: Gate>(
     gate: &G,
 ) -> Outcome
     requires bound { IfSome idle (λ most. 1 ≤ most) }
-    ensures cause { (words : Words) → AskFor words file.now history idle
+    ensures cause { (words : Arguments) → AskFor words file.now history idle
         → HasCause words (reads_of I.files I.given I.left I.faults input.old input.new) result }
     ensures files_stay { I.files input.new ≡ I.files input.old }
     ensures stays_told { is_some (I.left input.new) ≡ is_some (I.left input.old) }
@@ -127,7 +127,7 @@ fn play_file<R: Threads + Wait + Sync, I: Input, G: Gate>(
 
 /// What a file that is to be migrated leads to. Nothing is played.
 fn migrate_file<I: Input>(alloc: Global, input: &mut I, file: &str) -> Outcome
-    ensures cause { (words : Words) → requested words ≡ Some (Request.Migrate file.now)
+    ensures cause { (words : Arguments) → requested words ≡ Some (Request.Migrate file.now)
         → HasCause words (reads_of I.files I.given I.left I.faults input.old input.new) result }
     ensures files_stay { I.files input.new ≡ I.files input.old }
     ensures stays_told { is_some (I.left input.new) ≡ is_some (I.left input.old) }
@@ -145,7 +145,7 @@ fn migrate_file<I: Input>(alloc: Global, input: &mut I, file: &str) -> Outcome
 /// What two numbers lead to.
 fn play_made(alloc: Global, number: u32, count: u32) -> Outcome
     requires few { count ≤ 10000 }
-    ensures cause { (words : Words) (r : Reads) → requested words ≡ Some (Request.Make number count)
+    ensures cause { (words : Arguments) (r : Reads) → requested words ≡ Some (Request.Make number count)
         → r.after ≡ r.before → HasCause words r result }
 {
     match make_and_play(alloc, number, count) {

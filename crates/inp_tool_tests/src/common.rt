@@ -30,7 +30,7 @@ pub fn sink_of(alloc: Global, room: usize, fails: &[u64]) -> Result<MemSink, Fai
 }
 
 /// The words of a command line.
-pub fn words_of(alloc: Global, texts: &[&str]) -> Result<Vec<String>, AllocError> {
+pub fn arguments(alloc: Global, texts: &[&str]) -> Result<Vec<String>, AllocError> {
     let mut words = Vec::new(alloc);
     for text in texts {
         words.push(String::from_str(alloc, text)?)?;

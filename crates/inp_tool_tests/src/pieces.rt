@@ -1,7 +1,7 @@
 //! The one call over inputs and sinks that give and take pieces, fail at a call, or have no room.
 ghost use Rattle.std.specs.Prelude.{◌≤◌};
 
-use crate::common::{fails_of, files_of, words_of};
+use crate::common::{arguments, fails_of, files_of};
 use crate::texts::{COMMENT, ONE_KEY, ONE_KEY_REPORT};
 use crate::tool::{AMPLE, FAILED, call};
 use inp_edge::{MemInput, MemSink, OpenGate};
@@ -23,7 +23,7 @@ fn run<R: Threads + Wait + Sync>(
 ) -> Result<(End, MemSink), Fail>
     requires some { 1 ≤ piece }
 {
-    let words = words_of(alloc, &["f"])?;
+    let words = arguments(alloc, &["f"])?;
     let files = files_of(alloc, &[("f", text)])?;
     let mut input = MemInput::in_pieces(files, fails_of(alloc, &[fail])?, piece);
     let mut sink = MemSink::in_pieces(alloc, room, fails_of(alloc, &[])?, piece)?;

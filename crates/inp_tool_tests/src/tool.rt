@@ -1,7 +1,7 @@
 //! The program's one call over inputs and sinks in memory: whole runs, and each status. Longer records are played through
 //! the program itself (tests/run).
 
-use crate::common::{input_of, sink_of, words_of};
+use crate::common::{arguments, input_of, sink_of};
 use crate::texts::{
     MADE, ONE_KEY, ONE_KEY_REPORT, STREAM, STREAM_AND_BAD_LINE, STREAM_MIGRATED, STREAM_TWICE,
     STREAMS_REPORT,
@@ -51,7 +51,7 @@ pub fn run<R: Threads + Wait + Sync, G: Gate>(
     fails: &[u64],
     gate: &G,
 ) -> Result<(End, MemSink), Fail> {
-    let words = words_of(alloc, texts)?;
+    let words = arguments(alloc, texts)?;
     let mut input = input_of(alloc, files, fails)?;
     let mut sink = sink_of(alloc, AMPLE, NONE)?;
     let end = call(rt, alloc, &words, &mut input, &mut sink, gate);

@@ -18,7 +18,7 @@ use Rattle.inp_feedback.specs.declared.u_entry.UEntry.{UEntry}
 use Rattle.inp_feedback.specs.declared.u_entry.UEntry.TheVariants.{Feedback}
 use Rattle.inp_feedback.specs.declared.fed.Fed.{Fed}
 use Rattle.inp_feedback.specs.declared.fed.Fed.TheVariants.{Took, Full}
-use Rattle.inp_feedback.specs.UEntry.{step_of, steps_in}
+use Rattle.inp_feedback.specs.UEntry.{step_made, steps_in}
 use Rattle.inp_feedback.specs.Feedback.{is_full_of_feedback, taken_by_feedback, fed, kept_after_feedback}
 use Rattle.inp_uinput.specs.FeedbackTurn.{history_length, entries_after_call, call_places, IsFeedbackTurn, IsToldFeedback}
 use Rattle.inp_feedback.proofs.Lists.{reverse-cons}
@@ -30,23 +30,23 @@ module _ (found : List UEntry) (count : ℕ) where
   abbrev longer : List UEntry
   longer = found ++ Feedback count ∷ []
 
-  steps-call : steps_of step_of longer ≡ steps_of step_of found
-  steps-call = filter_map-append step_of found (Feedback count ∷ []) ∙ append-nil (steps_of step_of found)
+  steps-call : steps_of step_made longer ≡ steps_of step_made found
+  steps-call = filter_map-append step_made found (Feedback count ∷ []) ∙ append-nil (steps_of step_made found)
 
-  is_no_step : is_step_at step_of longer (length found) ≡ false
-  is_no_step = ap (λ (o : Option UEntry). is_some (option_and_then step_of o)) (slice_get-seam found [] (Feedback count))
+  is_no_step : is_step_at step_made longer (length found) ≡ false
+  is_no_step = ap (λ (o : Option UEntry). is_some (option_and_then step_made o)) (slice_get-seam found [] (Feedback count))
 
   last_place : length longer - 1 ≡ length found
   last_place = omega (arith, length-append found (Feedback count ∷ []))
 
-  step_places-call : step_places step_of longer ((length longer - 1) ∷ []) ≡ []
+  step_places-call : step_places step_made longer ((length longer - 1) ∷ []) ≡ []
   step_places-call =
-      ap (λ n. step_places step_of longer (n ∷ [])) last_place
-      ∙ ap (λ b. map (steps_before step_of longer) (cond b (length found ∷ []) [])) is_no_step
+      ap (λ n. step_places step_made longer (n ∷ [])) last_place
+      ∙ ap (λ b. map (steps_before step_made longer) (cond b (length found ∷ []) [])) is_no_step
 
-  other_places-call : other_places step_of longer ((length longer - 1) ∷ []) ≡ (length longer - 1) ∷ []
+  other_places-call : other_places step_made longer ((length longer - 1) ∷ []) ≡ (length longer - 1) ∷ []
   other_places-call =
-      ap (λ n. other_places step_of longer (n ∷ [])) last_place
+      ap (λ n. other_places step_made longer (n ∷ [])) last_place
       ∙ ap (λ b. cond (not b) (length found ∷ []) []) is_no_step
       ∙ ap (λ n. n ∷ []) (sym last_place)
 
@@ -56,7 +56,7 @@ begins-after : (answer : Fed) (found : List UEntry) → IsPrefix found (entries_
 begins-after (Took at count) found = (Feedback count ∷ [], refl)
 begins-after (Full at) found = prefix-refl found
 
-steps-after : (answer : Fed) (found : List UEntry) → steps_of step_of (entries_after_call answer found) ≡ steps_of step_of found
+steps-after : (answer : Fed) (found : List UEntry) → steps_of step_made (entries_after_call answer found) ≡ steps_of step_made found
 steps-after (Took at count) found = steps-call found count
 steps-after (Full at) found = refl
 
@@ -64,12 +64,12 @@ added-after : (answer : Fed) (found : List UEntry) → added_places found (entri
 added-after (Took at count) found = added-one found (Feedback count) ∙ ap (λ n. n ∷ []) (sym (last_place found count))
 added-after (Full at) found = added-none found
 
-step_places-after : (answer : Fed) (found : List UEntry) → step_places step_of (entries_after_call answer found) (call_places answer (entries_after_call answer found)) ≡ []
+step_places-after : (answer : Fed) (found : List UEntry) → step_places step_made (entries_after_call answer found) (call_places answer (entries_after_call answer found)) ≡ []
 step_places-after (Took at count) found = step_places-call found count
 step_places-after (Full at) found = refl
 
 other_places-after : (answer : Fed) (found : List UEntry)
-    → other_places step_of (entries_after_call answer found) (call_places answer (entries_after_call answer found)) ≡ call_places answer (entries_after_call answer found)
+    → other_places step_made (entries_after_call answer found) (call_places answer (entries_after_call answer found)) ≡ call_places answer (entries_after_call answer found)
 other_places-after (Took at count) found = other_places-call found count
 other_places-after (Full at) found = refl
 
@@ -101,7 +101,7 @@ turn_at d v w kept answer out new_out begins answered out_written view =
       seen = seen;
       own = ap (λ (p : PassView Description UEntry). p.own) view ∙ ap (λ (l : List ℕ). v.own ++ l) (added-after answer found)
           ∙ ap (λ (es : List UEntry). v.own ++ call_places answer es) (sym seen);
-      steps = ap (steps_of step_of) seen ∙ steps-after answer found;
+      steps = ap (steps_of step_made) seen ∙ steps-after answer found;
       turns = ap (λ (p : PassView Description UEntry). p.turns) view;
       share = ap (λ (p : PassView Description UEntry). p.share) view;
       base = ap (λ (p : PassView Description UEntry). p.base) view;
@@ -129,31 +129,31 @@ length-of true n count = refl
 length-of false n count = refl
 
 pub feedback-told : (d : Description) (name : List ℕ) (v w : PassView Description UEntry) (answer : Fed) (out new_out : List Event) → OwnsSeen v → IsFeedbackTurn d v answer out new_out w
-    → (agains : ℕ) → IsToldFeedback answer w.seen (told_of step_of d name v agains) (told_of step_of d name w agains)
+    → (agains : ℕ) → IsToldFeedback answer w.seen (told_of step_made d name v agains) (told_of step_made d name w agains)
 feedback-told d name v w answer out new_out owns t agains =
     let whole : IsPrefix v.seen w.seen = feedback-seen d v w answer out new_out t in
-    let begun = steps-begins step_of v.seen w.seen whole in
+    let begun = steps-begins step_made v.seen w.seen whole in
     let calls : List ℕ = call_places answer w.seen in
     let kept : List UEntry = reverse t.found in
     let place : history_length answer ≡ length (steps_in kept) =
     ap history_length t.answered ∙ length-of (is_full_of_feedback d kept) (length (steps_in kept)) (length (taken_by_feedback d kept (length out))) in
-    let no_steps : step_places step_of w.seen calls ≡ [] =
-    ap (λ (es : List UEntry). step_places step_of es (call_places answer es)) t.seen ∙ step_places-after answer t.found in
-    let all_calls : other_places step_of w.seen calls ≡ calls =
-    ap (λ (es : List UEntry). other_places step_of es (call_places answer es)) t.seen ∙ other_places-after answer t.found ∙ ap (call_places answer) (sym t.seen) in
-    let others : other_places step_of w.seen w.own ≡ other_places step_of v.seen v.own ++ calls =
-    ap (other_places step_of w.seen) t.own
-    ∙ filter-append (λ n. not (is_step_at step_of w.seen n)) v.own calls
-    ∙ (λ i. other_places-begins step_of v.seen w.seen v.own whole owns i ++ all_calls i) in
+    let no_steps : step_places step_made w.seen calls ≡ [] =
+    ap (λ (es : List UEntry). step_places step_made es (call_places answer es)) t.seen ∙ step_places-after answer t.found in
+    let all_calls : other_places step_made w.seen calls ≡ calls =
+    ap (λ (es : List UEntry). other_places step_made es (call_places answer es)) t.seen ∙ other_places-after answer t.found ∙ ap (call_places answer) (sym t.seen) in
+    let others : other_places step_made w.seen w.own ≡ other_places step_made v.seen v.own ++ calls =
+    ap (other_places step_made w.seen) t.own
+    ∙ filter-append (λ n. not (is_step_at step_made w.seen n)) v.own calls
+    ∙ (λ i. other_places-begins step_made v.seen w.seen v.own whole owns i ++ all_calls i) in
     record {
       description = refl;
       seen = (begun.0, sym begun.1);
       at = place ∙ ap length (steps-reverse t.found) ∙ length-reverse (steps_in t.found) ∙ ap length (sym t.steps);
-      own = ap (step_places step_of w.seen) t.own ∙ step_places-append step_of w.seen v.own calls
-          ∙ (λ i. step_places-begins step_of v.seen w.seen v.own whole owns i ++ no_steps i)
-          ∙ append-nil (step_places step_of v.seen v.own);
+      own = ap (step_places step_made w.seen) t.own ∙ step_places-append step_made w.seen v.own calls
+          ∙ (λ i. step_places-begins step_made v.seen w.seen v.own whole owns i ++ no_steps i)
+          ∙ append-nil (step_places step_made v.seen v.own);
       agains = refl;
       turns = omega (arith, t.turns);
       tie = (λ i. Some (t.share i ∷ length name ∷ name ++ others i))
-          ∙ ap (λ (l : List ℕ). Some (v.share ∷ length name ∷ l)) (sym (append_assoc name (other_places step_of v.seen v.own) calls));
+          ∙ ap (λ (l : List ℕ). Some (v.share ∷ length name ∷ l)) (sym (append_assoc name (other_places step_made v.seen v.own) calls));
     }

@@ -12,7 +12,7 @@ use Rattle.inp_model.specs.Step.{inhibition_of}
 use Rattle.inp_model.specs.Past.{is_inhibited}
 use Rattle.inp_model.specs.Cut.{raw_after}
 use Rattle.inp_model.specs.Raw.{raw, raw_and_timer, raw_of_step}
-use Rattle.inp_state.specs.State.{Values, StandsFor}
+use Rattle.inp_state.specs.State.{Values, StateStandsFor}
 use Rattle.inp_feedback.specs.declared.u_entry.UEntry.{UEntry}
 use Rattle.inp_feedback.specs.declared.u_entry.UEntry.TheVariants.{Made, Feedback}
 use Rattle.inp_uinput.specs.declared.outputs.Outputs.{Outputs}
@@ -62,7 +62,7 @@ noted_nothing d kept x v old new now given state waiting inhibited o =
     let none : AreNoOutputs (raw_of_step d past x) = nothing_brought d past x (comes past x v None is given) in
     let items : outputs_of (raw d (x ∷ past)) ≡ outputs_of (raw d past) = ap outputs_of (raw-step d past x) ∙ outputs-none (raw d past) (raw_of_step d past x) none in
     record {
-      state = subst (λ (s : Values). StandsFor d (outputs_of (raw d (x ∷ past))) s) (sym state) (subst (λ (r : List RawItem). StandsFor d r old.state) (sym items) o.state);
+      state = subst (λ (s : Values). StateStandsFor d (outputs_of (raw d (x ∷ past))) s) (sym state) (subst (λ (r : List RawItem). StateStandsFor d r old.state) (sym items) o.state);
       waiting = waiting ∙ o.waiting ∙ ap (λ es. buffer es FEEDBACK_MAX) (sym (queue-nothing d kept x (sent-none d (raw d past) (raw_of_step d past x) none)));
       inhibited = inhibited ∙ is;
     }
@@ -74,8 +74,8 @@ waiting_by false e xs old few is = is ∙ ap (λ es. buffer es FEEDBACK_MAX) (sy
 
 -- a step that brings an event
 pub noted_event : (d : Description) (kept : List UEntry) (x : Step) (e : Event) (v : Bool) (old new : Outputs) → v ≡ unwrap_or (inhibition_of x) old.inhibited → (if v then None else event_brought x) ≡ Some e
-    → ((r : List RawItem) → StandsFor d (outputs_of r) old.state → StandsFor d (outputs_of (Occurred e ∷ r)) new.state)
-    → ((r : List RawItem) → StandsFor d (outputs_of r) old.state → new.waiting ≡ (if goes_to_device d r e then buffer (keep_last old.waiting.capacity (old.waiting.items ++ e ∷ [])) old.waiting.capacity else old.waiting))
+    → ((r : List RawItem) → StateStandsFor d (outputs_of r) old.state → StateStandsFor d (outputs_of (Occurred e ∷ r)) new.state)
+    → ((r : List RawItem) → StateStandsFor d (outputs_of r) old.state → new.waiting ≡ (if goes_to_device d r e then buffer (keep_last old.waiting.capacity (old.waiting.items ++ e ∷ [])) old.waiting.capacity else old.waiting))
     → new.inhibited ≡ v → AreOutputs d kept old → AreOutputs d (Made x ∷ kept) new
 noted_event d kept x e v old new now given stands waits inhibited o =
     let past : List Step = steps_in kept in
@@ -84,7 +84,7 @@ noted_event d kept x e v old new now given stands waits inhibited o =
     let items : raw d (x ∷ past) ≡ Occurred e ∷ raw d past = raw-step d past x ∙ ap (raw_after (raw d past)) one in
     let sends : sent_at_step d past x ≡ (if goes_to_device d (raw d past) e then e ∷ [] else []) = ap (sent_for_all d (raw d past)) one ∙ sent-one d (raw d past) e in
     record {
-      state = subst (λ (r : List RawItem). StandsFor d (outputs_of r) new.state) (sym items) (stands (raw d past) o.state);
+      state = subst (λ (r : List RawItem). StateStandsFor d (outputs_of r) new.state) (sym items) (stands (raw d past) o.state);
       waiting = waits (raw d past) o.state ∙ waiting_by (goes_to_device d (raw d past) e) e (feedback_queue d kept) old.waiting (queue_within d kept) o.waiting
           ∙ ap (λ es. buffer es FEEDBACK_MAX) (sym (queue-made d kept x _ sends));
       inhibited = inhibited ∙ is;
@@ -100,6 +100,6 @@ fed_outputs d kept count old o = record {
   inhibited = o.inhibited;
 }
 
-pub first_outputs : (d : Description) (o : Outputs) → StandsFor d [] o.state → o.waiting ≡ buffer [] FEEDBACK_MAX → o.inhibited ≡ false → AreOutputs d [] o
+pub first_outputs : (d : Description) (o : Outputs) → StateStandsFor d [] o.state → o.waiting ≡ buffer [] FEEDBACK_MAX → o.inhibited ≡ false → AreOutputs d [] o
 unfolding feedback_queue raw raw_and_timer is_inhibited
 first_outputs d o state waiting inhibited = record { state = state; waiting = waiting; inhibited = inhibited }

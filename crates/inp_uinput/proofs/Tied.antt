@@ -15,7 +15,7 @@ use Rattle.inp_model.proofs.Leaves.{tie-kept}
 use Rattle.inp_feedback.specs.declared.u_entry.UEntry.{UEntry}
 use Rattle.inp_feedback.specs.declared.u_entry.UEntry.TheVariants.{Made}
 use Rattle.inp_feedback.specs.UEntry.{kept_after_step, kept_after_events}
-use Rattle.inp_feedback.specs.Kept.{calls_in, numbers_of, call_numbers}
+use Rattle.inp_feedback.specs.Kept.{calls_in, feedback_numbers, call_numbers}
 use Rattle.inp_feedback.proofs.Numbers.{numbers-apart}
 use Rattle.inp_uinput.specs.UdevView.{UdevView, device_of, owned_view}
 
@@ -30,10 +30,10 @@ calls-events [] kept = refl
 calls-events (stamped ∷ events) kept = calls-events events (Made (inject_of stamped) ∷ kept)
 
 pub numbers-step : (reply : Reply) (x : Step) (kept new : List UEntry) → new ≡ kept_after_step reply x kept → call_numbers new ≡ call_numbers kept
-numbers-step reply x kept new h = ap call_numbers h ∙ ap numbers_of (calls-step (is_accepted reply) x kept)
+numbers-step reply x kept new h = ap call_numbers h ∙ ap feedback_numbers (calls-step (is_accepted reply) x kept)
 
 pub numbers-events : (events : List Stamped) (kept new : List UEntry) → new ≡ kept_after_events events kept → call_numbers new ≡ call_numbers kept
-numbers-events events kept new h = ap call_numbers h ∙ ap numbers_of (calls-events events kept)
+numbers-events events kept new h = ap call_numbers h ∙ ap feedback_numbers (calls-events events kept)
 
 -- What is told with the tie
 

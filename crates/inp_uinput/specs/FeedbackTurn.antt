@@ -17,7 +17,7 @@ use Rattle.inp_feedback.specs.declared.u_entry.UEntry.{UEntry}
 use Rattle.inp_feedback.specs.declared.u_entry.UEntry.TheVariants.{Feedback}
 use Rattle.inp_feedback.specs.declared.fed.Fed.{Fed}
 use Rattle.inp_feedback.specs.declared.fed.Fed.TheVariants.{Took, Full}
-use Rattle.inp_feedback.specs.UEntry.{step_of}
+use Rattle.inp_feedback.specs.UEntry.{step_made}
 use Rattle.inp_feedback.specs.Feedback.{taken_by_feedback, fed}
 use Rattle.inp_uinput.specs.UdevView.{UdevView}
 
@@ -48,7 +48,7 @@ pub record IsFeedbackTurn (d : Description) (before : PassView Description UEntr
   pub seen : after.seen ≡ entries_after_call answer found
   pub own : after.own ≡ before.own ++ call_places answer after.seen
   -- no step was made
-  pub steps : steps_of step_of after.seen ≡ steps_of step_of found
+  pub steps : steps_of step_made after.seen ≡ steps_of step_made found
   pub turns : after.turns ≡ before.turns + 1
   pub share : after.share ≡ before.share
   pub base : after.base ≡ before.base
@@ -67,4 +67,4 @@ pub record IsToldFeedback (answer : Fed) (entries : List UEntry) (before after :
 -- the same of the caller of a port with a pass, whatever the count of answers Again is
 abbrev pub IsFeedbackBy : {K : Ghosts UdevView Description UEntry} → PortOf UdevView UEntry → Pass UdevView Description UEntry K → Pass UdevView Description UEntry K → Fed → Type 0
 IsFeedbackBy port before after answer =
-    (agains : ℕ) → IsToldFeedback answer (view_of after).seen (told_by step_of port before agains) (told_by step_of port after agains)
+    (agains : ℕ) → IsToldFeedback answer (view_of after).seen (told_by step_made port before agains) (told_by step_made port after agains)

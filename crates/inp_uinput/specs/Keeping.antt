@@ -7,7 +7,7 @@ use Rattle.inp_model.specs.RawItem.{RawItem, Occurred, Described}
 use Rattle.inp_model.specs.Passed.{is_output}
 use Rattle.inp_model.specs.Raw.{raw}
 use Rattle.inp_model.specs.Past.{is_inhibited}
-use Rattle.inp_state.specs.State.{StandsFor}
+use Rattle.inp_state.specs.State.{StateStandsFor}
 use Rattle.inp_feedback.specs.declared.u_entry.UEntry.{UEntry}
 use Rattle.inp_feedback.specs.declared.feedback_call.FeedbackCall.{FeedbackCall}
 use Rattle.inp_uinput.specs.declared.outputs.Outputs.{Outputs}
@@ -28,7 +28,7 @@ outputs_of r = filter is_output_item r
 -- What is kept of the outputs stands for a kept list. Whether an output is passed depends on the outputs before it alone,
 -- so the state is that after these.
 pub record AreOutputs (d : Description) (kept : List UEntry) (o : Outputs) : Type 0 where
-  pub state : StandsFor d (outputs_of (raw d (steps_in kept))) o.state
+  pub state : StateStandsFor d (outputs_of (raw d (steps_in kept))) o.state
   pub waiting : o.waiting ≡ buffer (feedback_queue d kept) FEEDBACK_MAX
   pub inhibited : o.inhibited ≡ is_inhibited (steps_in kept)
 

@@ -9,8 +9,8 @@ use Rattle.inp_uinput.specs.declared.create_refused.CreateRefused.{CreateRefused
 use Rattle.inp_uinput.specs.declared.create_refused.CreateRefused.TheVariants.{NotSetUp, NoMemory}
 
 -- the name that was accepted last, if one was
-abbrev pub name_of : Maker → Option (List ℕ)
-name_of maker = maker.name
+abbrev pub maker_name : Maker → Option (List ℕ)
+maker_name maker = maker.name
 
 -- what was asked for so far
 abbrev pub builder_of : Maker → Description

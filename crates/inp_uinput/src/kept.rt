@@ -21,9 +21,9 @@ impl Kept for Udev {
 
 /// Its feedback calls are no steps.
 impl Served for Udev {
-    ghost use Rattle.inp_feedback.specs.UEntry.{step_of};
+    ghost use Rattle.inp_feedback.specs.UEntry.{step_made};
 
-    ghost made = { step_of };
+    ghost made = { step_made };
 
     fn caps(&self) -> &Caps {
         self.caps()

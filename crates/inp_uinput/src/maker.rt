@@ -15,7 +15,7 @@ use std::fmt;
 /// Makes a device by requests, as a program does that opened `/dev/uinput`: it says what the device has, sets it up under a
 /// name, and creates it.
 ///
-/// A contract sees the name that was accepted last (`name_of` in `specs/Maker.antt`), and what the device has so far
+/// A contract sees the name that was accepted last (`maker_name` in `specs/Maker.antt`), and what the device has so far
 /// (`builder_of`). Until it is created nothing can be injected, since there is no [`Udev`].
 #[derive(Drop)]
 pub struct Maker {
@@ -24,11 +24,11 @@ pub struct Maker {
 }
 
 impl Maker {
-    ghost use Rattle.inp_uinput.specs.Maker.{name_of, builder_of, with_name, maker_of, LendsBuilder};
+    ghost use Rattle.inp_uinput.specs.Maker.{maker_name, builder_of, with_name, maker_of, LendsBuilder};
 
     /// A maker of a device with `EV_SYN` alone that was not set up.
     pub fn new() -> Maker
-        ensures name { name_of result ≡ None }
+        ensures name { maker_name result ≡ None }
         ensures builder { builder_of result ≡ syn_alone }
     {
         Maker {
@@ -68,7 +68,7 @@ impl Maker {
     pub fn create(self, alloc: Global) -> Result<Udev, CreateRefused>
         ensures made { IfOk result (λ udev. udev
             ≡ record { description = built (builder_of self); kept = []; agains = 0 }) }
-        ensures not_set_up { (result ≡ Err (CreateRefused.NotSetUp self)) ↔ IsNone (name_of self) }
+        ensures not_set_up { (result ≡ Err (CreateRefused.NotSetUp self)) ↔ IsNone (maker_name self) }
         ensures back { IfErr result (λ refused. maker_of refused ≡ self) }
     {
         if self.name.is_none() {

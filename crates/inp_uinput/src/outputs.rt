@@ -5,7 +5,7 @@ ghost use Rattle.inp_model.specs.RawItem.{RawItem, Occurred};
 ghost use Rattle.inp_model.specs.Passed.{goes_to_device, is_output as is_output_event};
 ghost use Rattle.inp_model.specs.Step.{inhibition_of};
 ghost use Rattle.inp_caps.specs.Disposition.{flags_of};
-ghost use Rattle.inp_state.specs.State.{StandsFor};
+ghost use Rattle.inp_state.specs.State.{StateStandsFor};
 ghost use Rattle.inp_feedback.specs.UEntry.{kept_after_events};
 ghost use Rattle.inp_feedback.specs.Sent.{event_brought};
 ghost use Rattle.inp_feedback.specs.declared.u_entry.UEntry.{UEntry};
@@ -86,9 +86,9 @@ impl Outputs {
     // Takes a raw event: it waits for the owner where it goes to the device.
     #[inline(always)]
     fn send(&mut self, caps: &Caps, event: Event)
-        ensures stands { (r : List RawItem) → StandsFor caps.now (outputs_of r) self.old.state
-            → StandsFor caps.now (outputs_of (Occurred event ∷ r)) self.new.state }
-        ensures waiting { (r : List RawItem) → StandsFor caps.now (outputs_of r) self.old.state
+        ensures stands { (r : List RawItem) → StateStandsFor caps.now (outputs_of r) self.old.state
+            → StateStandsFor caps.now (outputs_of (Occurred event ∷ r)) self.new.state }
+        ensures waiting { (r : List RawItem) → StateStandsFor caps.now (outputs_of r) self.old.state
             → self.new.waiting ≡ (if goes_to_device caps.now r event
             then buffer (keep_last self.old.waiting.capacity (self.old.waiting.items ++ event ∷ []))
             self.old.waiting.capacity else self.old.waiting) }

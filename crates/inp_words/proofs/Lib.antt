@@ -1,4 +1,3 @@
-pub mod Booleans
 pub mod Computing
 pub mod FirstWords
 pub mod NameWords

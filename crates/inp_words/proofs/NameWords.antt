@@ -5,17 +5,17 @@ use Rattle.std.specs.List.{list_all}
 use Rattle.std.specs.Str.{IsAscii, IsUtf8}
 use Rattle.std.proofs.lemmas.Str.{IsUtf8-from_ascii}
 use Rattle.std.proofs.lemmas.Bool.Decides.{nat_tests}
+use Rattle.std.proofs.lemmas.Bool.{and_parts}
 use Rattle.inp_codes.specs.KindNames.{kind_of}
 use Rattle.inp_codes.specs.CodeNames.{code_of}
-use Rattle.inp_codes.specs.Table.{is_word, is_word_byte}
+use Rattle.inp_codes.specs.Table.{is_name_word, is_word_byte}
 use Rattle.inp_codes.proofs.LawLemmas.{kind_name-iff_kind_of, is_word-kind_name, name_of-iff_code_of, is_word-name_of}
-use Rattle.inp_words.proofs.Booleans.{both}
 
 -- a word whose bytes pass a test that only ASCII passes
 pub bytes_are_ascii : (test : ℕ → Bool) → ((b : ℕ) → test b ≡ true → b < 128) → (word : List ℕ) → list_all test word ≡ true → IsAscii word
 bytes_are_ascii test is [] h i = omega arith
-bytes_are_ascii test is (b ∷ word) h zero = is b (both _ _ h).0
-bytes_are_ascii test is (b ∷ word) h (suc i) = bytes_are_ascii test is word (both _ _ h).1 i
+bytes_are_ascii test is (b ∷ word) h zero = is b (and_parts _ _ h).0
+bytes_are_ascii test is (b ∷ word) h (suc i) = bytes_are_ascii test is word (and_parts _ _ h).1 i
 
 first_is_ascii : (b : ℕ) → is_ascii_uppercase b ≡ true → b < 128
 first_is_ascii b h = grind (arith, nat_tests)
@@ -23,12 +23,12 @@ first_is_ascii b h = grind (arith, nat_tests)
 byte_is_ascii : (b : ℕ) → is_word_byte b ≡ true → b < 128
 byte_is_ascii b h = grind (arith, nat_tests)
 
-IsAscii-from_word : (word : List ℕ) → is_word word ≡ true → IsAscii word
+IsAscii-from_word : (word : List ℕ) → is_name_word word ≡ true → IsAscii word
 IsAscii-from_word [] h i = omega arith
-IsAscii-from_word (b ∷ word) h zero = first_is_ascii b (both _ _ h).0
-IsAscii-from_word (b ∷ word) h (suc i) = bytes_are_ascii is_word_byte byte_is_ascii word (both _ _ h).1 i
+IsAscii-from_word (b ∷ word) h zero = first_is_ascii b (and_parts _ _ h).0
+IsAscii-from_word (b ∷ word) h (suc i) = bytes_are_ascii is_word_byte byte_is_ascii word (and_parts _ _ h).1 i
 
-IsUtf8-from_word : (word : List ℕ) → is_word word ≡ true → IsUtf8 word
+IsUtf8-from_word : (word : List ℕ) → is_name_word word ≡ true → IsUtf8 word
 IsUtf8-from_word word h = IsUtf8-from_ascii word (IsAscii-from_word word h)
 
 pub kind_of_no_text : (word : List ℕ) → ¬ (IsUtf8 word) → kind_of word ≡ None

@@ -1,32 +1,32 @@
 use Rattle.std.proofs.Common.{ℕ, sym, subst, ap, ◌∙◌}
 use Rattle.inp_model.specs.Raw.{raw}
 use Rattle.inp_model.specs.Reply.{code_on}
-use Rattle.inp_state.specs.State.{StandsFor}
+use Rattle.inp_state.specs.State.{StateStandsFor}
 use Rattle.inp_device.proofs.BitKinds.{sound}
 use Rattle.inp_device.proofs.WordLists.{words-same}
 use Rattle.inp_device.proofs.queries.bits.Goals as goal
 
 pub returns-then-kind-eq-EV_KEY : goal.returns-then-kind-eq-EV_KEY
 returns-then-kind-eq-EV_KEY c = record {
-  bits = λ d past h. words-same _ (code_on d (raw d past) c.args.kind) _ c.words_of.ensures
-      (λ code. c.keys.ensures.keys d (raw d past) (subst (StandsFor d (raw d past)) (sym c.state-state.ensures.state) h.raw_events.state) code ∙ ap (λ (k : ℕ). code_on d (raw d past) k code) (sym c.if-kind-eq-EV_KEY.true));
+  bits = λ d past h. words-same _ (code_on d (raw d past) c.args.kind) _ c.bitmap_of.ensures
+      (λ code. c.keys.ensures.keys d (raw d past) (subst (StateStandsFor d (raw d past)) (sym c.state-state.ensures.state) h.raw_events.state) code ∙ ap (λ (k : ℕ). code_on d (raw d past) k code) (sym c.if-kind-eq-EV_KEY.true));
 }
 
 pub returns-then-kind-eq-EV_SW : goal.returns-then-kind-eq-EV_SW
 returns-then-kind-eq-EV_SW c = record {
-  bits = λ d past h. words-same _ (code_on d (raw d past) c.args.kind) _ c.words_of-then-kind-eq-EV_SW.ensures
-      (λ code. c.switches.ensures.switches d (raw d past) (subst (StandsFor d (raw d past)) (sym c.state-state.ensures.state) h.raw_events.state) code ∙ ap (λ (k : ℕ). code_on d (raw d past) k code) (sym c.if-kind-eq-EV_SW.true));
+  bits = λ d past h. words-same _ (code_on d (raw d past) c.args.kind) _ c.bitmap_of-then-kind-eq-EV_SW.ensures
+      (λ code. c.switches.ensures.switches d (raw d past) (subst (StateStandsFor d (raw d past)) (sym c.state-state.ensures.state) h.raw_events.state) code ∙ ap (λ (k : ℕ). code_on d (raw d past) k code) (sym c.if-kind-eq-EV_SW.true));
 }
 
 pub returns-then-kind-eq-EV_LED : goal.returns-then-kind-eq-EV_LED
 returns-then-kind-eq-EV_LED c = record {
-  bits = λ d past h. words-same _ (code_on d (raw d past) c.args.kind) _ c.words_of-then-kind-eq-EV_LED.ensures
-      (λ code. c.leds.ensures.leds d (raw d past) (subst (StandsFor d (raw d past)) (sym c.state-state.ensures.state) h.raw_events.state) code ∙ ap (λ (k : ℕ). code_on d (raw d past) k code) (sym c.if-kind-eq-EV_LED.true));
+  bits = λ d past h. words-same _ (code_on d (raw d past) c.args.kind) _ c.bitmap_of-then-kind-eq-EV_LED.ensures
+      (λ code. c.leds.ensures.leds d (raw d past) (subst (StateStandsFor d (raw d past)) (sym c.state-state.ensures.state) h.raw_events.state) code ∙ ap (λ (k : ℕ). code_on d (raw d past) k code) (sym c.if-kind-eq-EV_LED.true));
 }
 
 pub returns : goal.returns
 returns c = record {
-  bits = λ d past h. words-same _ (code_on d (raw d past) c.args.kind) _ c.words_of-2.ensures
-      (λ code. c.sounds.ensures.sounds d (raw d past) (subst (StandsFor d (raw d past)) (sym c.state-state.ensures.state) h.raw_events.state) code
+  bits = λ d past h. words-same _ (code_on d (raw d past) c.args.kind) _ c.bitmap_of-2.ensures
+      (λ code. c.sounds.ensures.sounds d (raw d past) (subst (StateStandsFor d (raw d past)) (sym c.state-state.ensures.state) h.raw_events.state) code
       ∙ ap (λ (k : ℕ). code_on d (raw d past) k code) (sym (sound c.args.kind c.requires.kind c.if-kind-eq-EV_KEY.false c.if-kind-eq-EV_SW.false c.if-kind-eq-EV_LED.false)));
 }

@@ -4,7 +4,7 @@ use Rattle.circular_buffer.specs.Buffer.{Buffer, keep_last}
 use Rattle.inp_model.specs.declared.taken.Taken.{Taken}
 use Rattle.inp_model.specs.Reply.{written}
 use Rattle.inp_ring.specs.declared.cell.Cell.{Cell}
-use Rattle.inp_ring.specs.Store.{taken_of}
+use Rattle.inp_ring.specs.Store.{cell_taken}
 use Rattle.inp_ring.specs.Ring.{cell_at, queue_in, AreFit}
 use Rattle.inp_ring.proofs.Releases.{first_held, second_held, second_stays, first_fit, second_fit, both_out, take_parts, left_is_rest, read_parts}
 use Rattle.inp_ring.proofs.removal.read_front.Goals as goal
@@ -37,7 +37,7 @@ returns-clause-read c =
     let q = c.args.numbers.now.items in
     let s = c.args.store.now in
     let count = c.args.count in
-    let f = taken_of c.args.offset in
+    let f = cell_taken c.args.offset in
     let in_front = c.min-in_front.result in
     let xs = map f (queue_in s (take in_front front)) in
     let ys = map f (queue_in s (take (count - in_front) back)) in

@@ -6,7 +6,7 @@ use lib.ListN.{length-map}
 use Rattle.inp_model.specs.declared.step.Step.{Step}
 use Rattle.inp_model.specs.Description.{IsDescription}
 use Rattle.inp_feedback.specs.declared.u_entry.UEntry.{UEntry}
-use Rattle.inp_feedback.specs.UEntry.{step_of}
+use Rattle.inp_feedback.specs.UEntry.{step_made}
 use Rattle.inp_port.specs.Entries.{steps_of}
 use Rattle.inp_uinput.specs.UdevView.{UdevView}
 use Rattle.inp_uinput.proofs.Serving.{steps-reverse}
@@ -42,8 +42,8 @@ returns g c = record {
       let own : IsEachAddedOnce [] joined.seen joined.own =
       subst (λ (first : List UEntry). IsEachAddedOnce first joined.seen joined.own) none
       (subst (λ (entries : List UEntry). IsEachAddedOnce (reverse (first_of c.in-Ok.port).kept) entries joined.own) c.close.ensures.entries c.close.ensures.own) in
-      let history : c.into_history-history.result ≡ steps_of step_of joined.seen =
-      c.into_history-history.ensures.history ∙ sym (steps-reverse c.close.result.kept) ∙ ap (steps_of step_of) c.close.ensures.entries in
+      let history : c.into_history-history.result ≡ steps_of step_made joined.seen =
+      c.into_history-history.ensures.history ∙ sym (steps-reverse c.close.result.kept) ∙ ap (steps_of step_made) c.close.ensures.entries in
       let left : IsLeftOf c.args.idle c.args.number c.args.rec.now device.caps c.in-Ok.port (view_of c.deal.new.pass) joined c.run_all.new.workers.items joined.seen = record {
         description = described;
         numbers = c.run_all.ensures.numbers ∙ dealt.numbers;

@@ -5,7 +5,7 @@ use Rattle.std.proofs.lemmas.List.Elements.{All-push}
 use Rattle.inp_script.specs.declared.ended.Ended.{Ended}
 use Rattle.inp_turn.specs.Pass.{view_of}
 use Rattle.inp_threads.specs.declared.worker.Worker.{Worker}
-use Rattle.inp_threads.specs.Joined.{IsBack, IsSized, ends_of}
+use Rattle.inp_threads.specs.Joined.{IsBack, IsSizedWorker, ends_of_workers}
 use Rattle.inp_threads.proofs.Joining.{done-more, joined-more, ends_of-append}
 use Rattle.inp_threads.proofs.gathered.gather.Goals as goal
 
@@ -23,8 +23,8 @@ loop-worker-preserved c =
     let added = c.add-gathered.ensures in (
       added.ready,
       joined-more so_far (w ∷ []) (view_of c.args.pass) (view_of c.loop-worker.gathered.pass) (view_of c.add-gathered.result.pass) is.1 added.joined,
-      added.ends ∙ ap (λ (ends : List Ended). ends ++ ends_of (w ∷ [])) is.2 ∙ sym (ends_of-append so_far (w ∷ [])),
+      added.ends ∙ ap (λ (ends : List Ended). ends ++ ends_of_workers (w ∷ [])) is.2 ∙ sym (ends_of-append so_far (w ∷ [])),
       added.capacity ∙ is.3,
-      All-push IsSized so_far w is.4 added.sized,
+      All-push IsSizedWorker so_far w is.4 added.sized,
       λ both. done-more so_far w c.loop-worker.gathered.is_done is.5 (sym added.done ∙ both),
     )

@@ -1,7 +1,7 @@
 use Rattle.std.proofs.Common.{◌≡◌, vec_capacity, true}
 use Rattle.inp_turn.specs.Pass.{view_of}
 use Rattle.inp_port.specs.Port.{IsReadyAt}
-use Rattle.inp_threads.specs.Joined.{AreJoined, AreDone, AreSized, ends_of}
+use Rattle.inp_threads.specs.Joined.{AreJoined, AreWorkersDone, AreSized, ends_of_workers}
 use Rattle.inp_threads.proofs.gathered.gather.Given as goal
 
 -- the passes of the workers so far were joined, and their actors finished
@@ -9,7 +9,7 @@ abbrev pub invariant-loop-worker : goal.invariant-loop-worker
 invariant-loop-worker l =
     IsReadyAt l.port l.gathered.pass
     × AreJoined l.yielded (view_of l.fn.pass) (view_of l.gathered.pass)
-    × (l.gathered.ends.items ≡ ends_of l.yielded)
+    × (l.gathered.ends.items ≡ ends_of_workers l.yielded)
     × (vec_capacity l.gathered.ends ≡ vec_capacity l.fn.ends)
     × AreSized l.yielded
-    × (l.gathered.is_done ≡ true → AreDone l.yielded)
+    × (l.gathered.is_done ≡ true → AreWorkersDone l.yielded)

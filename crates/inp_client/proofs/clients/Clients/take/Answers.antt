@@ -3,7 +3,7 @@ use Rattle.std.proofs.Common.{map}
 use Rattle.std.proofs.lemmas.List.{take-map}
 use Rattle.inp_model.specs.Description.{offset}
 use Rattle.inp_model.specs.Reply.{written}
-use Rattle.inp_ring.specs.Store.{taken_of}
+use Rattle.inp_ring.specs.Store.{cell_taken}
 use Rattle.inp_ring.specs.Ring.{cell_at}
 use Rattle.inp_client.specs.Client.{after_take}
 use Rattle.inp_client.specs.Clients.{ClientsView, map_client, events_of}
@@ -38,4 +38,4 @@ returns-clause-count c = rw (ap (λ (v : ClientsView). events_of c.args.number v
 pub returns-clause-taken : goal.returns-clause-taken
 returns-clause-taken c =
     rw (ap (λ (v : ClientsView). events_of c.args.number (clients_on c.args.caps.now v.list)) (sym c.self.view_is) ∙ call_read c.self.inside c.self.invariant c.args.number c.key_of-key.result (rw c.deref.ensures.value at c.key_of-key.ensures.location) c.index_mut.result.now c.index_mut.ensures.value c.args.caps.now)
-    (c.take.ensures.taken ∙ ap (λ r. written r c.args.out.now) (sym (take-map (taken_of (offset c.args.caps.now c.index_mut.result.now.clock)) c.take.result (map (cell_at c.self.inside.store) c.index_mut.result.now.ring.events))))
+    (c.take.ensures.taken ∙ ap (λ r. written r c.args.out.now) (sym (take-map (cell_taken (offset c.args.caps.now c.index_mut.result.now.clock)) c.take.result (map (cell_at c.self.inside.store) c.index_mut.result.now.ring.events))))

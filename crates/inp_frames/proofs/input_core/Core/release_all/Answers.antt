@@ -5,7 +5,7 @@ use Rattle.inp_model.specs.declared.event.Event.{Event}
 use Rattle.inp_model.specs.RawItem.{Occurred}
 use Rattle.inp_model.specs.Cut.{raw_after}
 use Rattle.inp_model.specs.Raw.{has_contact}
-use Rattle.inp_bits.specs.Bits.{is_set, true_indices}
+use Rattle.inp_bits.specs.Bits.{is_on_at, true_indices}
 use Rattle.inp_frames.specs.Core.{StandsAfter}
 use Rattle.inp_frames.specs.contracts.input_core.Core.{the_view}
 use Rattle.inp_frames.specs.Handling.{Handles, lift_events, release_events}
@@ -17,9 +17,9 @@ pub returns-clause-handled : goal.returns-clause-handled
 returns-clause-handled g c = λ r h.
     let at : StandsAfter c.args.caps.now r (the_view c.self.inside) = subst (StandsAfter c.args.caps.now r) (sym c.self.view_is) h in
     let few : c.args.caps.now.slots ≤ 256 = omega (arith, c.slots.ensures.slots, c.slots.ensures.range) in
-    let there : (slot : ℕ) → slot < c.args.caps.now.slots → is_set c.contacts_of-contacts.result slot ≡ has_contact c.args.caps.now r slot =
+    let there : (slot : ℕ) → slot < c.args.caps.now.slots → is_on_at c.contacts_of-contacts.result slot ≡ has_contact c.args.caps.now r slot =
     λ slot l. c.contacts_of-contacts.ensures.there slot (omega (arith, l, c.slots.ensures.slots)) ∙ ap (λ (id : ℤ). not (int_lt id (pos 0))) (at.slots.values slot ABS_MT_TRACKING_ID l refl) in
-    let past : (slot : ℕ) → c.args.caps.now.slots ≤ slot → is_set c.contacts_of-contacts.result slot ≡ false =
+    let past : (slot : ℕ) → c.args.caps.now.slots ≤ slot → is_on_at c.contacts_of-contacts.result slot ≡ false =
     λ slot l. c.contacts_of-contacts.ensures.past slot (omega (arith, l, c.slots.ensures.slots)) in
     let lifted : List Event = flat_map lift_events (true_indices c.contacts_of-contacts.result) in
     let released : List Event = flat_map release_events (true_indices c.keys.result.now) in

@@ -7,8 +7,8 @@ use Rattle.inp_reader.specs.Says.{Says}
 use Rattle.inp_reader.proofs.TalkResults.{Gives-says, Gives-start, HasKeptView}
 use Rattle.inp_joy.specs.declared.joy_state.JoyState.{JoyState}
 use Rattle.inp_joy.specs.Codes.{startup_len}
-use Rattle.inp_joy.specs.Joying.{joy_start, with_reading, after_start}
-use Rattle.inp_joy.specs.Kept.{joying_of, IsJoyState}
+use Rattle.inp_joy.specs.Joying.{joy_start, with_reading, joying_after_start}
+use Rattle.inp_joy.specs.Kept.{kept_joying, IsJoyState}
 use Rattle.inp_joy.proofs.Nexts.{start-left}
 use Rattle.inp_joy.proofs.Turning.{says-started}
 use Rattle.inp_joy.proofs.TurnEnds.{start-pictured}
@@ -34,12 +34,12 @@ returns-clause-says g c =
     let a = g.E.Evdev.told c.args.dev.now in
     let b = g.E.Evdev.told c.start-started.new.dev in
     let d = c.args.self.now.reader.description in
-    let j = joying_of c.args.self.now in
+    let j = kept_joying c.args.self.now in
     let k = with_reading j c.start-started.new.self.reading in
-    let l = joying_of c.after_start.new.self in
+    let l = kept_joying c.after_start.new.self in
     let made = ap (λ (s : JoyState). s.made) c.after_start.ensures.rest ∙ c.add_all.ensures ∙ ap (λ (ms : List CallMade). ms ++ c.made.result.now) c.clear.ensures ∙ c.made.ensures.made in
     subst (λ (ms : List CallMade). Says a b [] ms (joy_start d j) (c.start-started.result, l)) (sym made)
-    (says-started a b [] _ d j k l c.start-started.result c.start-started.new.self.reading c.start-started.ensures.says refl (subst (λ (e : Description). l ≡ after_start e k c.start-started.result) c.start-started.ensures.reader c.after_start.ensures.joying))
+    (says-started a b [] _ d j k l c.start-started.result c.start-started.new.self.reading c.start-started.ensures.says refl (subst (λ (e : Description). l ≡ joying_after_start e k c.start-started.result) c.start-started.ensures.reader c.after_start.ensures.joying))
 
 pub returns-clause-state : goal.returns-clause-state
 returns-clause-state g c =
@@ -57,8 +57,8 @@ returns-clause-state g c =
 pub returns-clause-pictured : goal.returns-clause-pictured
 returns-clause-pictured g c =
     let d = c.args.self.now.reader.description in
-    let j = joying_of c.args.self.now in
+    let j = kept_joying c.args.self.now in
     let r = c.start-started.new.self.reading in
-    let l = joying_of c.after_start.new.self in
+    let l = kept_joying c.after_start.new.self in
     start-pictured d j l r c.start-started.result (start-left d c.args.self.now.reader.reading c.start-started.ensures.says.calls (c.start-started.result, r) c.start-started.ensures.says.talk_ends)
-    (subst (λ (e : Description). l ≡ after_start e (with_reading j r) c.start-started.result) c.start-started.ensures.reader c.after_start.ensures.joying) c.requires.pictured
+    (subst (λ (e : Description). l ≡ joying_after_start e (with_reading j r) c.start-started.result) c.start-started.ensures.reader c.after_start.ensures.joying) c.requires.pictured

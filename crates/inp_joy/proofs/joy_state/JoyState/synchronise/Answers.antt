@@ -3,7 +3,7 @@ use Rattle.inp_reader.specs.declared.call_made.CallMade.{CallMade}
 use Rattle.inp_reader.specs.Says.{Says}
 use Rattle.inp_joy.specs.declared.joy_state.JoyState.{JoyState}
 use Rattle.inp_joy.specs.Joying.{sync_turn, goes_on}
-use Rattle.inp_joy.specs.Kept.{joying_of, ReaderCalls}
+use Rattle.inp_joy.specs.Kept.{kept_joying, ReaderCalls}
 use Rattle.inp_joy.proofs.ReaderCalls.{calls-weaker}
 use Rattle.inp_joy.proofs.LessToDo.{stop-less}
 use Rattle.inp_joy.proofs.Outcomes.{sync-shows}
@@ -12,15 +12,15 @@ use Rattle.inp_joy.proofs.joy_state.JoyState.synchronise.Goals as goal
 
 pub returns-in-Some-clause-says : goal.returns-in-Some-clause-says
 returns-in-Some-clause-says g c =
-    says-sync_stopped _ _ _ _ c.args.self.now.reader.description (joying_of c.args.self.now) (joying_of c.next-next.new.self) c.next-next.result c.next-next.new.self.reader.reading c.in-Some.read c.next-next.ensures.says (ap (λ (s : JoyState). joying_of s) c.next-next.ensures.rest) c.in-Some.ensures
+    says-sync_stopped _ _ _ _ c.args.self.now.reader.description (kept_joying c.args.self.now) (kept_joying c.next-next.new.self) c.next-next.result c.next-next.new.self.reader.reading c.in-Some.read c.next-next.ensures.says (ap (λ (s : JoyState). kept_joying s) c.next-next.ensures.rest) c.in-Some.ensures
 
 pub returns-clause-says : goal.returns-clause-says
 returns-clause-says g c =
     let a = g.E.Evdev.told c.args.dev.now in
     let b = g.E.Evdev.told c.next-next.new.dev in
     let d = c.args.self.now.reader.description in
-    subst (λ (ms : List CallMade). Says a b c.args.self.now.made ms (sync_turn d (joying_of c.args.self.now)) (goes_on (joying_of c.begin_startup.new.self))) (sym (ap (λ (s : JoyState). s.made) c.begin_startup.ensures.rest))
-    (says-sync_whole a b _ _ d (joying_of c.args.self.now) (joying_of c.begin_startup.new.self) c.next-next.result c.next-next.new.self.reader.reading c.next-next.ensures.says (sym c.in_default.ensures) c.begin_startup.ensures.joying)
+    subst (λ (ms : List CallMade). Says a b c.args.self.now.made ms (sync_turn d (kept_joying c.args.self.now)) (goes_on (kept_joying c.begin_startup.new.self))) (sym (ap (λ (s : JoyState). s.made) c.begin_startup.ensures.rest))
+    (says-sync_whole a b _ _ d (kept_joying c.args.self.now) (kept_joying c.begin_startup.new.self) c.next-next.result c.next-next.new.self.reader.reading c.next-next.ensures.says (sym c.in_default.ensures) c.begin_startup.ensures.joying)
 
 pub returns-in-Some-clause-calls : goal.returns-in-Some-clause-calls
 returns-in-Some-clause-calls g c =

@@ -4,8 +4,8 @@ use Rattle.inp_reader.specs.declared.call_made.CallMade.{CallMade}
 use Rattle.inp_reader.specs.Effort.{effort}
 use Rattle.inp_reader.specs.Says.{Says}
 use Rattle.inp_joy.specs.declared.joy_state.JoyState.{JoyState}
-use Rattle.inp_joy.specs.Joying.{after_next, event_turn, sync_turn}
-use Rattle.inp_joy.specs.Kept.{joying_of, turn_of, IsTurnEndLess, ReaderCalls, TurnEndShows}
+use Rattle.inp_joy.specs.Joying.{joying_after_next, event_turn, sync_turn}
+use Rattle.inp_joy.specs.Kept.{kept_joying, turn_of_end, IsTurnEndLess, ReaderCalls, TurnEndShows}
 use Rattle.inp_joy.proofs.ReaderCalls.{calls-then, calls-weaker}
 use Rattle.inp_joy.proofs.LessToDo.{lost-less, next-less, less-then}
 use Rattle.inp_joy.proofs.Nexts.{lost-needed}
@@ -22,9 +22,9 @@ returns-then-is_lost-clause-says g c =
     let a = g.E.Evdev.told c.args.dev.now in
     let m = g.E.Evdev.told c.next-next.new.dev in
     let b = g.E.Evdev.told c.synchronise.new.dev in
-    let k = joying_of c.next-next.new.self in
-    let turn = turn_of c.synchronise.result (joying_of c.synchronise.new.self) in
-    says-event_lost a m b _ _ _ c.args.self.now.reader.description (joying_of c.args.self.now) k c.next-next.result c.next-next.new.self.reader.reading turn c.next-next.ensures.says (sym c.if-is_lost.ensures) (ap (λ (s : JoyState). joying_of s) c.next-next.ensures.rest)
+    let k = kept_joying c.next-next.new.self in
+    let turn = turn_of_end c.synchronise.result (kept_joying c.synchronise.new.self) in
+    says-event_lost a m b _ _ _ c.args.self.now.reader.description (kept_joying c.args.self.now) k c.next-next.result c.next-next.new.self.reader.reading turn c.next-next.ensures.says (sym c.if-is_lost.ensures) (ap (λ (s : JoyState). kept_joying s) c.next-next.ensures.rest)
     (subst (λ (d : Description). Says m b c.next-next.new.self.made c.synchronise.new.self.made (sync_turn d k) turn) c.next-next.ensures.state.description c.synchronise.ensures.says)
 
 pub returns-then-is_lost-clause-calls : goal.returns-then-is_lost-clause-calls
@@ -39,10 +39,10 @@ returns-else-is_lost-clause-says g c =
     let a = g.E.Evdev.told c.args.dev.now in
     let b = g.E.Evdev.told c.next-next.new.dev in
     let d = c.args.self.now.reader.description in
-    let turn = turn_of c.after_next.result (joying_of c.after_next.new.self) in
-    let is = subst (λ (e : Description). turn ≡ after_next e (joying_of c.next-next.new.self) c.next-next.result) c.next-next.ensures.state.description c.after_next.ensures.turn in
-    subst (λ (ms : List CallMade). Says a b c.args.self.now.made ms (event_turn d (joying_of c.args.self.now)) turn) (sym (ap (λ (s : JoyState). s.made) c.after_next.ensures.rest))
-    (says-event a b _ _ d (joying_of c.args.self.now) (joying_of c.next-next.new.self) c.next-next.result c.next-next.new.self.reader.reading turn c.next-next.ensures.says (sym c.if-is_lost.ensures) (ap (λ (s : JoyState). joying_of s) c.next-next.ensures.rest) is)
+    let turn = turn_of_end c.after_next.result (kept_joying c.after_next.new.self) in
+    let is = subst (λ (e : Description). turn ≡ joying_after_next e (kept_joying c.next-next.new.self) c.next-next.result) c.next-next.ensures.state.description c.after_next.ensures.turn in
+    subst (λ (ms : List CallMade). Says a b c.args.self.now.made ms (event_turn d (kept_joying c.args.self.now)) turn) (sym (ap (λ (s : JoyState). s.made) c.after_next.ensures.rest))
+    (says-event a b _ _ d (kept_joying c.args.self.now) (kept_joying c.next-next.new.self) c.next-next.result c.next-next.new.self.reader.reading turn c.next-next.ensures.says (sym c.if-is_lost.ensures) (ap (λ (s : JoyState). kept_joying s) c.next-next.ensures.rest) is)
 
 pub returns-else-is_lost-clause-calls : goal.returns-else-is_lost-clause-calls
 returns-else-is_lost-clause-calls g c =
@@ -50,7 +50,7 @@ returns-else-is_lost-clause-calls g c =
     let b = g.E.Evdev.told c.next-next.new.dev in
     let mid = c.next-next.new.self in
     subst (λ (s : JoyState). ReaderCalls a b c.args.self.now.made s.made c.args.self.now.reader.description c.args.self.now.reader.reading s.reader.reading (TurnEndShows b s.reader c.after_next.result)) (sym c.after_next.ensures.rest)
-    (calls-weaker a b _ _ _ _ _ _ _ (λ shown. next-shows b mid.reader mid.reader.description (joying_of mid) (joying_of c.after_next.new.self) c.next-next.result c.after_next.result c.after_next.ensures.turn shown) c.next-next.ensures.calls)
+    (calls-weaker a b _ _ _ _ _ _ _ (λ shown. next-shows b mid.reader mid.reader.description (kept_joying mid) (kept_joying c.after_next.new.self) c.next-next.result c.after_next.result c.after_next.ensures.turn shown) c.next-next.ensures.calls)
 
 pub returns-then-is_lost-clause-less : goal.returns-then-is_lost-clause-less
 returns-then-is_lost-clause-less g c =
@@ -63,4 +63,4 @@ returns-else-is_lost-clause-less g c =
     let b = g.E.Evdev.told c.next-next.new.dev in
     let mid = c.next-next.new.self in
     subst (λ (s : JoyState). IsTurnEndLess c.after_next.result (effort b s.reader.reading) (effort a c.args.self.now.reader.reading)) (sym c.after_next.ensures.rest)
-    (next-less mid.reader.description (joying_of mid) (joying_of c.after_next.new.self) c.next-next.result c.after_next.result _ _ c.after_next.ensures.turn (c.next-next.ensures.less refl))
+    (next-less mid.reader.description (kept_joying mid) (kept_joying c.after_next.new.self) c.next-next.result c.after_next.result _ _ c.after_next.ensures.turn (c.next-next.ensures.less refl))

@@ -3,7 +3,7 @@ use Rattle.inp_model.specs.Description.{Description}
 use Rattle.inp_reader.specs.declared.call_made.CallMade.{CallMade}
 use Rattle.inp_reader.specs.Says.{Says}
 use Rattle.inp_joy.specs.Joying.{turn_talk}
-use Rattle.inp_joy.specs.Kept.{joying_of, IsJoyState, turn_of, is_end, ReaderCalls, TurnEndPictures}
+use Rattle.inp_joy.specs.Kept.{kept_joying, IsJoyState, turn_of_end, is_end, ReaderCalls, TurnEndPictures}
 use Rattle.inp_joy.specs.Reads.{IsPictured}
 use Rattle.inp_joy.proofs.ReaderCalls.{calls-none, calls-then, calls-weaker}
 use Rattle.inp_joy.proofs.LessToDo.{less-then}
@@ -16,7 +16,7 @@ loop-outcome-init g c =
     let d = c.args.self.now.reader.description in
     let r = c.args.self.now.reader.reading in
     record {
-      passed = passed-none a d (joying_of c.args.self.now) c.args.self.now.made c.requires.anew;
+      passed = passed-none a d (kept_joying c.args.self.now) c.args.self.now.made c.requires.anew;
       calls = subst (λ (ms : List CallMade). ReaderCalls a a ms c.args.self.now.made d r r (Unit {0})) c.requires.anew (calls-none a c.args.self.now.made d r (Unit {0}) tt);
       agains = refl;
       less = omega arith;
@@ -31,19 +31,19 @@ returns-then-is_end-clause-says g c =
     let m = g.E.Evdev.told c.loop-outcome.dev in
     let b = g.E.Evdev.told c.turn-outcome.new.dev in
     let d = c.args.self.now.reader.description in
-    let here = joying_of c.loop-outcome.self in
-    let next = joying_of c.turn-outcome.new.self in
+    let here = kept_joying c.loop-outcome.self in
+    let next = kept_joying c.turn-outcome.new.self in
     let same = c.loop-outcome.invariant.state.description in
-    let says = subst (λ (e : Description). Says m b c.loop-outcome.self.made c.turn-outcome.new.self.made (turn_talk e here) (turn_of c.turn-outcome.result next)) same c.turn-outcome.ensures.says in
+    let says = subst (λ (e : Description). Says m b c.loop-outcome.self.made c.turn-outcome.new.self.made (turn_talk e here) (turn_of_end c.turn-outcome.result next)) same c.turn-outcome.ensures.says in
     let end = subst (λ (e : Description). is_end e c.turn-outcome.result next (length c.turn-outcome.new.self.made) ≡ true) (c.turn-outcome.ensures.state.description ∙ same) (sym c.is_end.ensures ∙ c.if-is_end.true) in
-    passed-last _ m b d (joying_of c.args.self.now) here next c.loop-outcome.self.made c.turn-outcome.new.self.made c.turn-outcome.result c.loop-outcome.invariant.passed says end
+    passed-last _ m b d (kept_joying c.args.self.now) here next c.loop-outcome.self.made c.turn-outcome.new.self.made c.turn-outcome.result c.loop-outcome.invariant.passed says end
 
 pub returns-then-is_end-clause-calls : goal.returns-then-is_end-clause-calls
 returns-then-is_end-clause-calls g c =
     let m = g.E.Evdev.told c.loop-outcome.dev in
     let b = g.E.Evdev.told c.turn-outcome.new.dev in
     let d = c.args.self.now.reader.description in
-    let next = joying_of c.turn-outcome.new.self in
+    let next = kept_joying c.turn-outcome.new.self in
     calls-then _ m b _ _ _ d _ _ _ _ _ c.loop-outcome.invariant.calls
     (subst (λ (e : Description). ReaderCalls m b c.loop-outcome.self.made c.turn-outcome.new.self.made e c.loop-outcome.self.reader.reading c.turn-outcome.new.self.reader.reading (TurnEndPictures b e next c.turn-outcome.result)) c.loop-outcome.invariant.state.description c.turn-outcome.ensures.calls)
 
@@ -55,14 +55,14 @@ loop-outcome-preserved g c =
     let m = g.E.Evdev.told c.loop-outcome.dev in
     let b = g.E.Evdev.told c.turn-outcome.new.dev in
     let d = c.args.self.now.reader.description in
-    let here = joying_of c.loop-outcome.self in
-    let next = joying_of c.turn-outcome.new.self in
+    let here = kept_joying c.loop-outcome.self in
+    let next = kept_joying c.turn-outcome.new.self in
     let new = c.turn-outcome.new.self in
     let same = c.loop-outcome.invariant.state.description in
-    let says = subst (λ (e : Description). Says m b c.loop-outcome.self.made new.made (turn_talk e here) (turn_of c.turn-outcome.result next)) same c.turn-outcome.ensures.says in
+    let says = subst (λ (e : Description). Says m b c.loop-outcome.self.made new.made (turn_talk e here) (turn_of_end c.turn-outcome.result next)) same c.turn-outcome.ensures.says in
     let on = subst (λ (e : Description). is_end e c.turn-outcome.result next (length new.made) ≡ false) (c.turn-outcome.ensures.state.description ∙ same) (sym c.is_end.ensures ∙ c.if-is_end.false) in
     record {
-      passed = passed-more _ m b d (joying_of c.args.self.now) here next c.loop-outcome.self.made new.made c.turn-outcome.result c.loop-outcome.invariant.passed says on;
+      passed = passed-more _ m b d (kept_joying c.args.self.now) here next c.loop-outcome.self.made new.made c.turn-outcome.result c.loop-outcome.invariant.passed says on;
       calls =
           calls-weaker _ b _ _ d _ _ _ _ (λ shown. tt)
           (calls-then _ m b _ _ _ d _ _ _ (TurnEndPictures b d next c.turn-outcome.result) (Unit {0}) c.loop-outcome.invariant.calls

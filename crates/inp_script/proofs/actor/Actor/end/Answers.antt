@@ -4,7 +4,7 @@ use Rattle.inp_model.proofs.Leaves.{left-none, left-one}
 use Rattle.inp_script.specs.Doing.{Begins, Holds}
 use Rattle.inp_script.specs.Job.{Job, ActorView}
 use Rattle.inp_script.specs.Line.{end_talk}
-use Rattle.inp_script.specs.RoleState.{reading_of, stick_of, job_in}
+use Rattle.inp_script.specs.RoleState.{role_reading, stick_of, job_in}
 use Rattle.inp_script.proofs.Holding.{begins-none}
 use Rattle.inp_script.proofs.Lines.{ends-nothing, ends-noted, ends-begun}
 use Rattle.inp_script.proofs.LinesDone.{end-done}
@@ -25,17 +25,17 @@ returns g c =
     let new : Job = job_in c.self.inside.caps c.self.inside.state c.call.new.self in
     let ends : Holds a b (end_talk c.args.self.now.job.stop c.args.self.now.job) (Some new) =
     subst (λ (x : ActorView). Holds a b (end_talk x.job.stop x.job) (Some new)) c.self.view_is
-    (ends-noted a b (reading_of c.self.inside.caps c.self.inside.state) (stick_of c.self.inside.state) c.in_ok-call.field-0 c.self.inside.notes c.call.new.self (sym c.is_some.ensures ∙ c.if-is_some.false) c.in_ok-call.ensures.noted) in
+    (ends-noted a b (role_reading c.self.inside.caps c.self.inside.state) (stick_of c.self.inside.state) c.in_ok-call.field-0 c.self.inside.notes c.call.new.self (sym c.is_some.ensures ∙ c.if-is_some.false) c.in_ok-call.ensures.noted) in
     let begun : Begins a b (end_talk c.args.self.now.job.stop c.args.self.now.job) =
     subst (λ (x : ActorView). Begins a b (end_talk x.job.stop x.job)) c.self.view_is
-    (ends-begun a b (reading_of c.self.inside.caps c.self.inside.state) (stick_of c.self.inside.state) c.self.inside.notes (sym c.is_some.ensures ∙ c.if-is_some.false) c.in_ok-call.ensures.made) in
+    (ends-begun a b (role_reading c.self.inside.caps c.self.inside.state) (stick_of c.self.inside.state) c.self.inside.notes (sym c.is_some.ensures ∙ c.if-is_some.false) c.in_ok-call.ensures.made) in
     let all = end-done a b c.args.self.now new c.requires.device c.requires.source ends in
     record { done = all.done; begun = begun; places = all.places; legal = all.legal; view = all.view; actor = search rules; left = left-one _ _ _ c.in_ok-call.ensures.made.is_call }
 
 pub returns-in_err-call-clause-begun : goal.returns-in_err-call-clause-begun
 returns-in_err-call-clause-begun g c =
     subst (λ (x : ActorView). Begins (g.E.Evdev.told c.args.dev.now) (g.E.Evdev.told c.call.new.dev) (end_talk x.job.stop x.job)) c.self.view_is
-    (ends-begun _ _ (reading_of c.self.inside.caps c.self.inside.state) (stick_of c.self.inside.state) c.self.inside.notes (sym c.is_some.ensures ∙ c.if-is_some.false) c.in_err-call.ensures.made)
+    (ends-begun _ _ (role_reading c.self.inside.caps c.self.inside.state) (stick_of c.self.inside.state) c.self.inside.notes (sym c.is_some.ensures ∙ c.if-is_some.false) c.in_err-call.ensures.made)
 
 pub returns-in_err-call-clause-left : goal.returns-in_err-call-clause-left
 returns-in_err-call-clause-left g c = left-one _ _ _ c.in_err-call.ensures.made.is_call

@@ -1,6 +1,6 @@
 use Rattle.std.proofs.Common.{arith}
 use Rattle.inp_device.proofs.WordLists.{word-values, no_words, more_words, words-values}
-use Rattle.inp_device.proofs.words.words_of.Goals as goal
+use Rattle.inp_device.proofs.bitmap.bitmap_of.Goals as goal
 
 pub loop-index-init : goal.loop-index-init
 loop-index-init g c = record { words = no_words c.args.bits.now; long = λ h. absurd (omega arith) }

@@ -1,6 +1,6 @@
 use Rattle.std.proofs.Common.{◌≡◌, ◌<◌, ◌*◌, length}
 use Rattle.inp_device.proofs.WordLists.{AreWordsBelow}
-use Rattle.inp_device.proofs.words.words_of.Given as goal
+use Rattle.inp_device.proofs.bitmap.bitmap_of.Given as goal
 
 -- the words below the index are those of the list
 abbrev pub invariant-loop-index : goal.invariant-loop-index
