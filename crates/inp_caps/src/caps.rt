@@ -11,7 +11,7 @@ use inp_model::{
 };
 use std::marker::Model;
 
-/// The hint of events per packet where none is given (this project's choice).
+/// The hint of events per frame where none is given (this project's choice).
 const HINT_DEFAULT: u32 = 16;
 
 /// The log limit where none is given (this project's choice).

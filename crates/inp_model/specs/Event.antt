@@ -38,7 +38,7 @@ is_slot_value e = nat_eq e.kind EV_ABS && is_slot_code e.code
 abbrev pub slot_event : ℤ → Event
 slot_event slot = record { kind = EV_ABS; code = ABS_MT_SLOT; value = slot }
 
--- a report that the core adds itself, as behind a packet that is full (docs/RULES.md, "Frames")
+-- a report that the core adds itself, as behind a batch that is full (docs/RULES.md, "Frames")
 abbrev pub core_report : Event
 core_report = record { kind = EV_SYN; code = SYN_REPORT; value = pos 1 }
 

@@ -96,7 +96,7 @@ abbrev pub IgnoresOthers : Type 0
 IgnoresOthers =
     Gives (Open ∷ Inject other_key 0 ∷ Inject syn_dropped 0 ∷ Inject report 0 ∷ []) (Read 0 16) (alone (Again 4 0))
 
--- sixteen events fill a packet, which gets a report of its own
+-- sixteen events fill a batch, which gets a report of its own
 abbrev pub repeats : ℕ → List Step
 repeats zero = []
 repeats (suc n) = Inject (key (pos 2)) 0 ∷ repeats n
@@ -105,8 +105,8 @@ abbrev pub copies : ℕ → Taken → List Taken
 copies zero t = []
 copies (suc n) t = t ∷ copies n t
 
-abbrev pub CutsAFullPacket : Type 0
-CutsAFullPacket =
+abbrev pub CutsAFullBatch : Type 0
+CutsAFullBatch =
     Gives (Open ∷ repeats 16 ++ Inject report 0 ∷ []) (Read 0 100) (took 18 17 (copies 16 (at 16 0 (key (pos 2))) ++ at 16 0 core_report ∷ []))
 
 -- The ring of 128 places holds 127 events. The report of the 64th frame is the 128th: all is lost but that report.

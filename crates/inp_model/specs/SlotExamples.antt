@@ -103,13 +103,13 @@ PassesWithoutSlots =
     GivesOn pointer (Open ∷ inject (slot (pos 1)) ∷ inject (x (pos 5)) ∷ inject (x (pos 5)) ∷ inject report ∷ []) (Read 0 16)
     (took 5 3 (at 4 0 (x (pos 5)) ∷ at 4 0 (x (pos 5)) ∷ at 4 0 report ∷ []))
 
--- a packet of two events is full, and the naming of a slot counts
+-- a batch of two events is full, and the naming of a slot counts
 abbrev pub CountsTheName : Type 0
 CountsTheName =
     GivesOn (record touchpad { hint = 2 }) (Open ∷ inject (slot (pos 1)) ∷ inject (x (pos 5)) ∷ []) (Read 0 16)
     (took 3 3 (at 2 0 (slot (pos 1)) ∷ at 2 0 (x (pos 5)) ∷ at 2 0 core_report ∷ []))
 
--- a report behind a full packet is alone, and no frame
+-- a report behind a full batch is alone, and no frame
 abbrev pub CutsAtTheHint : Type 0
 CutsAtTheHint =
     GivesOn (record desk { hint = 2 }) (Open ∷ inject (key (pos 1)) ∷ inject key_b ∷ inject report ∷ []) (Read 0 16)

@@ -15,7 +15,7 @@
 //! events is calls one by one, up to the first that the limit refuses (`injected_events_are_calls`).
 //!
 //! What the definitions compute on short histories: `examples`, `query_examples`, `slot_examples`, `client_examples`,
-//! `repeat_examples` and `axis_examples` have full rings, cut packets, open batches, slots, queries, masks, grabs,
+//! `repeat_examples` and `axis_examples` have full rings, full batches, open batches, slots, queries, masks, grabs,
 //! clocks, revocation, autorepeat, inhibition and axes described anew among them. `filter_examples` has what clients
 //! read behind each kind of filter, behind two in a row and under a grab, and `injecting_examples` where many events
 //! are entered that one call injects.

@@ -10,12 +10,12 @@ pub const SLOTS_MAX: u32 = 256;
 
 const _: () = prove!(SLOTS_MAX == 4 * 64);
 
-/// The least hint of events per packet (this project's choice).
+/// The least hint of events per frame (this project's choice).
 pub const HINT_MIN: u32 = 2;
 
 const _: () = prove!(HINT_MIN == 2);
 
-/// The greatest hint of events per packet (this project's choice).
+/// The greatest hint of events per frame (this project's choice).
 pub const HINT_MAX: u32 = 512;
 
 const _: () = prove!(HINT_MAX == 512);

@@ -1,7 +1,7 @@
 //! What the definitions compute on short histories.
 ghost use Rattle.inp_model.specs.QueryExamples.{TellsTheKeys, RemovesQueuedKeys, LeavesAxisEvents, AnswersOtherAxes, EndsAtItsLimit};
 ghost use Rattle.inp_model.specs.SlotExamples.{NamesTheSlot, TellsAllSlots, TellsOneValue, GoesOnInTheSlot, RemovesQueuedTouches, TellsTheNamedSlot, StagesSlotsThatThereAre, PassesNoNameAlone, PassesWithoutSlots, CountsTheName, CutsAtTheHint, RefusesSlotQueries};
-ghost use Rattle.inp_model.specs.Examples.{RingOf128, ReadsAFrame, PassesAChangeOnce, ReadsNothing, NeedsAClient, ReadsNone, ReadsInParts, HidesAnOpenBatch, OffersAWholeFrame, PassesARepeat, KeepsTheKeyUp, IgnoresOthers, CutsAFullPacket, LosesAFullRing, LosesInAFrame, KeepsAllButOne, IsLegalAmongOthers, DescribesAKeyboard, PassesAnLedOnce, PassesASwitchOnce, PassesEachSound, PassesMotion, PassesAMove, PassesASetting};
+ghost use Rattle.inp_model.specs.Examples.{RingOf128, ReadsAFrame, PassesAChangeOnce, ReadsNothing, NeedsAClient, ReadsNone, ReadsInParts, HidesAnOpenBatch, OffersAWholeFrame, PassesARepeat, KeepsTheKeyUp, IgnoresOthers, CutsAFullBatch, LosesAFullRing, LosesInAFrame, KeepsAllButOne, IsLegalAmongOthers, DescribesAKeyboard, PassesAnLedOnce, PassesASwitchOnce, PassesEachSound, PassesMotion, PassesAMove, PassesASetting};
 ghost use Rattle.inp_model.specs.ClientExamples.{LosesASmallRing, LosesBeforeTheReport, DiscardsAll, ForgetsAClosedClient, OpensSixtyFour, MasksAKey, MasksTypes, ChangesTheClock, KeepsTime, GrabsOnce, GrabsFrames, WritesToAll, RevokesForGood, RefusesInOrder};
 ghost use Rattle.inp_model.specs.AxisExamples.{DescribesAnAxis, MovesByTheNewFuzz, LeavesTheBatch, DescribesWhileInhibited, TakesAnyValue, RefusesDescriptions};
 ghost use Rattle.inp_model.specs.FilterExamples.{EatsAChord, EatsABounce, EatsAutorepeats, PassesByAGrab, LeavesAReport, GivesWhatIsLeft};
@@ -23,7 +23,7 @@ pub fn examples()
     ensures repeat { PassesARepeat }
     ensures key_up { KeepsTheKeyUp }
     ensures ignored { IgnoresOthers }
-    ensures packet { CutsAFullPacket }
+    ensures batch { CutsAFullBatch }
     ensures full { LosesAFullRing }
     ensures in_frame { LosesInAFrame }
     ensures in_time { KeepsAllButOne }
@@ -46,7 +46,7 @@ pub fn query_examples()
     ensures limit { EndsAtItsLimit }
 {}
 
-/// The same of devices with slots, and of full packets.
+/// The same of devices with slots, and of full batches.
 pub fn slot_examples()
     ensures named { NamesTheSlot }
     ensures all { TellsAllSlots }

@@ -28,14 +28,14 @@
 #![tactic(auto)]
 
 mod cause;
-mod command_reader;
+mod command_parser;
 mod context;
 mod item;
-mod item_reader;
+mod item_parser;
 mod keyword;
 mod line_fault;
 mod line_numbers;
-mod line_reader;
+mod line_parser;
 mod loader;
 mod parser;
 mod place;

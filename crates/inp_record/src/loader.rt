@@ -40,12 +40,12 @@ fn stamps_of(alloc: Global, form: RecordForm, bytes: &[u8]) -> Result<Stamps, Lo
 }
 
 /// The number of the stream that a line takes.
-fn stream_at(record: &Record, line: u32) -> usize
-    requires stream { IsSome (stream_at record.now line) }
-    ensures index { stream_at record.now line ≡ Some result }
-    ensures within { result < length record.now.streams }
+fn stream_at(parsed: &Record, line: u32) -> usize
+    requires stream { IsSome (stream_at parsed.now line) }
+    ensures index { stream_at parsed.now line ≡ Some result }
+    ensures within { result < length parsed.now.streams }
 {
-    match record.lines().get(line as usize).command.stream_index() {
+    match parsed.lines().get(line as usize).command.stream_index() {
         Some(index) => index as usize,
         None => unreachable!(),
     }
@@ -58,15 +58,15 @@ fn stream_at(record: &Record, line: u32) -> usize
 ///
 /// `BadStream` where the bytes are not whole records, of 24 bytes for `stream` and of 16 for `stream16`, or one has a time
 /// that is none (see `inp_stream`). `NoMemory` says that memory ran out. After both the record is unchanged.
-pub fn load(record: &mut Record, line: u32, bytes: &[u8]) -> Result<(), LoadFault>
-    requires stream { IsSome (stream_at record.old line) }
-    ensures loaded { IsLoaded result record.old line bytes.now record.new }
+pub fn load(parsed: &mut Record, line: u32, bytes: &[u8]) -> Result<(), LoadFault>
+    requires stream { IsSome (stream_at parsed.old line) }
+    ensures loaded { IsLoaded result parsed.old line bytes.now parsed.new }
 {
-    let index = stream_at(record, line);
-    let form = form_of(&record.lines().get(line as usize).command);
-    match stamps_of(record.allocator(), form, bytes) {
+    let index = stream_at(parsed, line);
+    let form = form_of(&parsed.lines().get(line as usize).command);
+    match stamps_of(parsed.allocator(), form, bytes) {
         Ok(stamps) => {
-            record.set_stream(index, stamps);
+            parsed.set_stream(index, stamps);
             Ok(())
         }
         Err(fault) => Err(fault),

@@ -1,4 +1,4 @@
-//! The reader of records.
+//! The parser of records.
 ghost use Rattle.std.specs.Prelude.{◌≡◌, ◌<◌, ◌≤◌, ◌^◌, [], Ok, length, MatchResult};
 ghost use Rattle.inp_words.specs.Line.{lines_of};
 ghost use Rattle.inp_record.specs.Fault.{IsParsing};
@@ -7,7 +7,7 @@ ghost use Rattle.inp_record.specs.Past.{Past, context_of};
 ghost use Rattle.inp_record.specs.Meaning.{meaning, as_record, record_in, AreLinesRead};
 
 use crate::context::Context;
-use crate::line_reader::read_line;
+use crate::line_parser::read_line;
 use crate::place::Place;
 use crate::{Cause, ParseFault, Refused};
 use inp_actors::Record;

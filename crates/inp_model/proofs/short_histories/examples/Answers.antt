@@ -48,9 +48,9 @@ pub returns-clause-ignored : goal.returns-clause-ignored
 unfolding computing
 returns-clause-ignored c = refl
 
-pub returns-clause-packet : goal.returns-clause-packet
+pub returns-clause-batch : goal.returns-clause-batch
 unfolding computing
-returns-clause-packet c = refl
+returns-clause-batch c = refl
 
 pub returns-clause-full : goal.returns-clause-full
 unfolding computing

@@ -1,4 +1,4 @@
-//! The reader of words.
+//! The parser of words.
 ghost use Rattle.std.specs.Prelude.{◌≡◌, None, Some, Err, map, string_bytes, IfOk};
 ghost use Rattle.std.specs.Option.{option_copied};
 ghost use Rattle.inp_args.specs.Command.{is_given};

@@ -7,7 +7,7 @@ ghost use Rattle.inp_record.specs.Words.{texts, moment_word, stamped_words, mask
 
 use crate::Cause;
 use crate::item::Item;
-use crate::item_reader::{count_word, info_in_words, kind_and_code, word};
+use crate::item_parser::{count_word, info_in_words, kind_and_code, word};
 use crate::line_fault::LineFault;
 use crate::verb::{Verb, clock_word, verb_of};
 use inp_actors::{ActorText, Command, FileName, READ_MAX, Role};

@@ -2,7 +2,7 @@ use Rattle.std.proofs.Common.{◌≡◌, true, subst, sym, List, ℕ, rules, ari
 use Rattle.inp_words.specs.Line.{AreText, is_text, words_of}
 use Rattle.inp_record.specs.Words.{texts}
 use Rattle.inp_record.proofs.Texts.{words_are_text}
-use Rattle.inp_record.proofs.line_reader.read_line.Goals as goal
+use Rattle.inp_record.proofs.line_parser.read_line.Goals as goal
 
 pub read_words-requires-clause-text : goal.read_words-requires-clause-text
 read_words-requires-clause-text c =

@@ -8,10 +8,10 @@ ghost use Rattle.inp_record.specs.Past.{Past, context_of, IsWithinCounts};
 ghost use Rattle.inp_record.specs.Meaning.{item_of_words, behind_words, behind_line, IsBehind};
 
 use crate::Cause;
-use crate::command_reader::action_item;
+use crate::command_parser::action_item;
 use crate::context::Context;
 use crate::item::Item;
-use crate::item_reader::{is_header, plain_item, word};
+use crate::item_parser::{is_header, plain_item, word};
 use crate::keyword::{Keyword, keyword_of};
 use crate::line_fault::LineFault;
 use crate::place::{Place, is_out_of_place};
