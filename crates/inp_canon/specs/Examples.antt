@@ -4,9 +4,9 @@ use Rattle.inp_model.specs.declared.event.TheConstants.{EV_SYN, EV_KEY, EV_REL, 
 use Rattle.inp_model.specs.declared.multi_touch.TheConstants.{ABS_MT_POSITION_X}
 use Rattle.inp_model.specs.declared.clock.Clock.TheVariants.{Realtime, Monotonic, Boottime}
 use Rattle.inp_model.specs.declared.axis_info.AxisInfo.{AxisInfo}
-use Rattle.inp_model.specs.Description.{Description, one_key, no_info}
+use Rattle.inp_model.specs.Description.{Description, one_key, no_info, syn_alone}
 use Rattle.inp_model.specs.declared.filter.Filter.TheVariants.{Eat, Norepeat, Chord, Bounce}
-use Rattle.inp_caps.specs.Builder.{syn_alone, with_kind, with_code, with_axis, with_filter, built}
+use Rattle.inp_caps.specs.Builder.{with_kind, with_code, with_axis, with_filter, built}
 use Rattle.inp_actors.specs.declared.command.Command as command
 use Rattle.inp_actors.specs.declared.command.Command.TheVariants as commands
 use Rattle.inp_actors.specs.declared.role.Role.{Role}

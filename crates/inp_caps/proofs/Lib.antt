@@ -2,4 +2,3 @@ pub mod Filters
 pub mod Moves
 pub mod Rings
 pub mod Supported
-pub mod SynAlone

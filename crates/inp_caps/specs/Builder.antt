@@ -9,26 +9,6 @@ use Rattle.inp_caps.specs.declared.caps_refused.CapsRefused.{CapsRefused}
 use Rattle.inp_caps.specs.declared.caps_refused.CapsRefused.TheVariants.{BadCode, BadFilter}
 use Rattle.inp_model.specs.Description.{Description, no_info, is_filter}
 
--- EV_SYN alone, the default hint and the default log limit
-abbrev pub syn_alone : Description
-syn_alone = record {
-  kinds = true ∷ replicate 63 false;
-  keys = replicate 768 false;
-  relatives = replicate 64 false;
-  axes = replicate 64 false;
-  miscs = replicate 64 false;
-  switches = replicate 64 false;
-  leds = replicate 64 false;
-  sounds = replicate 64 false;
-  infos = replicate 64 no_info;
-  filters = [];
-  slots = 0;
-  hint = 16;
-  log_limit = 1048576;
-  realtime = 0;
-  boottime = 0;
-}
-
 -- the codes that a builder can add by their number; the axes need their data
 abbrev pub is_code : ℕ → ℕ → Bool
 is_code kind code =

@@ -1,7 +1,7 @@
 //! The description of a device.
 ghost use Rattle.std.specs.Prelude.{◌≡◌, ◌<◌, ◌≤◌, true, false, length, slice_get, slice_index_or, ◌∷◌, replicate, IfSome};
-ghost use Rattle.inp_model.specs.Description.{has_kind, has_code, supports, info, ring, offset, is_kind, is_bad_axis, is_filter, IsDescription};
-ghost use Rattle.inp_caps.specs.Builder.{syn_alone, with_kind, with_code, with_axis, with_default_axis, with_slot_axes, with_filter, is_code};
+ghost use Rattle.inp_model.specs.Description.{has_kind, has_code, supports, info, ring, offset, is_kind, is_bad_axis, is_filter, IsDescription, syn_alone};
+ghost use Rattle.inp_caps.specs.Builder.{with_kind, with_code, with_axis, with_default_axis, with_slot_axes, with_filter, is_code};
 
 use inp_bits::Bits;
 use inp_model::{

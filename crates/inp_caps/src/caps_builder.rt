@@ -1,9 +1,9 @@
 //! The builder of descriptions.
 ghost use Rattle.std.specs.Prelude.{◌≡◌, ◌≤◌, ◌&&◌, ◌||◌, nat_le, nat_lt, if◌then◌else◌, Ok, Err, OnOk, OnErr};
-ghost use Rattle.inp_model.specs.Description.{is_kind, is_bad_axis, IsDescription};
+ghost use Rattle.inp_model.specs.Description.{is_kind, is_bad_axis, IsDescription, syn_alone};
 ghost use Rattle.inp_caps.specs.declared.caps_refused.CapsRefused.{CapsRefused};
 ghost use Rattle.inp_model.specs.declared.filter.Filter.TheVariants.{Eat, Norepeat, Chord, Bounce};
-ghost use Rattle.inp_caps.specs.Builder.{syn_alone, is_code, with_kind, with_code, with_axis, with_filter, filter_answer, built};
+ghost use Rattle.inp_caps.specs.Builder.{is_code, with_kind, with_code, with_axis, with_filter, filter_answer, built};
 
 use crate::ranges::{is_bad_axis, is_code, is_filter, is_kind};
 use crate::{Caps, CapsRefused};

@@ -93,12 +93,6 @@ filter-filter {X} p q (x ∷ xs) = by_test (p x) (filter-filter p q xs)
     by_test true rest = ap (λ (ys : List X). if q x then x ∷ ys else ys) rest
     by_test false rest = rest
 
--- a copy is read past the end too, where the default is its value
-pub get_or-replicate_same : {X : Type 0} (n i : ℕ) (x : X) → get_or (replicate n x) i x ≡ x
-get_or-replicate_same zero i x = refl
-get_or-replicate_same (suc n) zero x = refl
-get_or-replicate_same (suc n) (suc i) x = get_or-replicate_same n i x
-
 -- Is a number among those of a range that pass a test?
 
 -- the first number of a range, and the rest

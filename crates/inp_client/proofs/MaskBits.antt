@@ -11,7 +11,8 @@ use Rattle.inp_model.specs.declared.event.TheConstants.{EV_SYN, EV_KEY, EV_REL, 
 use Rattle.inp_model.specs.declared.event.Event.{Event}
 use Rattle.inp_model.specs.Past.{has_mask, mask_words}
 use Rattle.inp_model.specs.Description.{Description, AreCodes, IsDescription, is_kind, has_kind, has_code, supports}
-use Rattle.inp_client.proofs.Lists.{get_or-replicate_same, get_or-map_range, map_range_same}
+use Rattle.inp_model.proofs.Descriptions.{get_or-replicate_same}
+use Rattle.inp_client.proofs.Lists.{get_or-map_range, map_range_same}
 use Rattle.inp_client.specs.Masks.{MaskView, masks_with, full_masks, mask_bit_of, admits_of, with_word, mask_after, masks_after}
 
 -- Full masks admit every event.

@@ -11,7 +11,7 @@ use Rattle.std.specs.Simd.Lanes.{mask_l}
 use Rattle.inp_bits.specs.Bits.{word_bits}
 use Rattle.inp_bits.specs.Words.{number_of-word_bits}
 use Rattle.inp_bits.proofs.WordParts.{is_set-word}
-use Rattle.inp_model.proofs.Descriptions.{get_or-replicate}
+use Rattle.inp_model.proofs.Descriptions.{get_or-replicate_same}
 use Rattle.inp_model.specs.Reply.{number_of_bits, bitmap_word, bitmap_of}
 
 pub map-same : {X : Type 0} → (x : X) (n : ℕ) (f g : ℕ → X) → ((k : ℕ) → k < n → f k ≡ g k) → map f (range_with_len 0 n) ≡ map g (range_with_len 0 n)
@@ -54,7 +54,7 @@ pub record AreWordsBelow (index : ℕ) (bits : List Bool) (words : List ℕ) : T
   pub others : (k : ℕ) → index ≤ k → get_or words k 0 ≡ 0
 
 pub no_words : (bits : List Bool) → AreWordsBelow 0 bits (replicate 12 0)
-no_words bits = record { count = refl; below = λ k l. absurd (omega arith); others = λ k l. get_or-replicate 12 k 0 }
+no_words bits = record { count = refl; below = λ k l. absurd (omega arith); others = λ k l. get_or-replicate_same 12 k 0 }
 
 pub more_words : (index : ℕ) (bits : List Bool) (words : List ℕ) (word : ℕ) → index < 12 → word ≡ bitmap_word (value_at bits) (64 * index) → AreWordsBelow index bits words → AreWordsBelow (index + 1) bits (set words index word)
 more_words index bits words word h is are = record {

@@ -5,8 +5,8 @@ use Rattle.inp_model.specs.declared.event.TheConstants.{EV_KEY, EV_SYN, EV_ABS, 
 use Rattle.inp_model.specs.declared.multi_touch.TheConstants.{ABS_MT_SLOT, ABS_MT_POSITION_X, ABS_MT_POSITION_Y, ABS_MT_TRACKING_ID}
 use Rattle.inp_model.specs.declared.event.Event.{Event}
 use Rattle.inp_model.specs.declared.axis_info.AxisInfo.{AxisInfo}
-use Rattle.inp_model.specs.Description.{Description, no_info}
-use Rattle.inp_caps.specs.Builder.{syn_alone, with_kind, with_code, with_axis, built}
+use Rattle.inp_model.specs.Description.{Description, no_info, syn_alone}
+use Rattle.inp_caps.specs.Builder.{with_kind, with_code, with_axis, built}
 use Rattle.inp_actors.specs.declared.role.Role.{Role}
 use Rattle.inp_actors.specs.declared.role.Role.TheVariants.{Source, Client}
 use Rattle.inp_actors.specs.declared.command.Command.{Command}

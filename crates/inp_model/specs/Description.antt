@@ -175,11 +175,11 @@ pub record IsDescription (d : Description) : Type 0 where
   pub realtime : d.realtime ≤ MOMENT_MAX
   pub boottime : d.boottime ≤ MOMENT_MAX
 
--- a keyboard with the key A alone
-abbrev pub one_key : Description
-one_key = record {
-  kinds = true ∷ true ∷ replicate 62 false;
-  keys = replicate 30 false ++ true ∷ replicate 737 false;
+-- EV_SYN alone, the default hint and the default log limit
+abbrev pub syn_alone : Description
+syn_alone = record {
+  kinds = true ∷ replicate 63 false;
+  keys = replicate 768 false;
   relatives = replicate 64 false;
   axes = replicate 64 false;
   miscs = replicate 64 false;
@@ -193,4 +193,11 @@ one_key = record {
   log_limit = 1048576;
   realtime = 0;
   boottime = 0;
+}
+
+-- a keyboard with the key A alone
+abbrev pub one_key : Description
+one_key = record syn_alone {
+  kinds = true ∷ true ∷ replicate 62 false;
+  keys = replicate 30 false ++ true ∷ replicate 737 false;
 }

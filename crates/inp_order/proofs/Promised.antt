@@ -7,8 +7,7 @@ use Rattle.std.proofs.lemmas.List.{length-map, length-reverse, map-id}
 use Rattle.std.proofs.lemmas.List.FromFn.{length-enumerate_from}
 use Rattle.std.proofs.lemmas.Option.{get_or_from_slice_get, same_Some, slice_get_within, slice_get-map}
 use Rattle.inp_model.specs.declared.step.Step.{Step}
-use Rattle.inp_model.specs.Description.{Description}
-use Rattle.inp_caps.specs.Builder.{syn_alone}
+use Rattle.inp_model.specs.Description.{Description, syn_alone}
 use Rattle.inp_actors.specs.declared.actor_text.ActorText.{ActorText}
 use Rattle.inp_actors.specs.declared.device_text.DeviceText.{DeviceText}
 use Rattle.inp_actors.specs.declared.role.Role.{Role}

@@ -1,7 +1,7 @@
 -- Keys, switches and LEDs are classes of flags.
 use Rattle.std.proofs.Common.{◌≡◌, ◌<◌, ℕ, ℤ, pos, Bool, true, false, ◌&&◌, if◌then◌else◌, cond, nat_eq, List, get_or, refl, sym, ap, ◌∙◌, arith, Option, Some, None}
 use Rattle.std.specs.Ordering.{int_eq}
-use Rattle.inp_model.proofs.Descriptions.{get_or-replicate}
+use Rattle.inp_model.proofs.Descriptions.{get_or-replicate_same}
 use Rattle.inp_model.specs.declared.event.TheConstants.{EV_KEY, EV_SW, EV_LED}
 use Rattle.inp_model.specs.declared.event.Event.{Event}
 use Rattle.inp_model.specs.declared.step.Step.{Step}
@@ -61,7 +61,7 @@ keys-class eats d client = record {
   not_syn = refl;
   viewed = refl;
   long = λ v h. h.keys;
-  first = λ code. get_or-replicate 768 code false;
+  first = λ code. get_or-replicate_same 768 code false;
   event = λ v e. refl;
   answer = λ code within. key_answer eats d client code within;
   asked = key_asked eats d client;
@@ -109,7 +109,7 @@ switches-class eats d client = record {
   not_syn = refl;
   viewed = refl;
   long = λ v h. h.switches;
-  first = λ code. get_or-replicate 64 code false;
+  first = λ code. get_or-replicate_same 64 code false;
   event = λ v e. by (nat_eq e.kind EV_SW) v e;
   answer = λ code within. switch_answer eats d client code within;
   asked = switch_asked eats d client;
@@ -148,7 +148,7 @@ leds-class eats d client = record {
   not_syn = refl;
   viewed = refl;
   long = λ v h. h.leds;
-  first = λ code. get_or-replicate 64 code false;
+  first = λ code. get_or-replicate_same 64 code false;
   event = λ v e. by (nat_eq e.kind EV_LED) v e;
   answer = λ code within. led_answer eats d client code within;
   asked = led_asked eats d client;

@@ -6,9 +6,9 @@ use Rattle.std.proofs.lemmas.Bool.Decides.{nat_tests}
 use Rattle.std.proofs.lemmas.List.{ext_get_or, length-set, length-replicate, get_or-set_same, get_or-set_other}
 use Rattle.inp_model.specs.declared.event.TheConstants.{EV_SYN, EV_KEY, EV_REL, EV_ABS, EV_MSC, EV_SW, EV_LED, EV_SND, EV_MAX, KEY_MAX, ABS_MAX}
 use Rattle.inp_model.specs.declared.axis_info.AxisInfo.{AxisInfo}
-use Rattle.inp_model.specs.Description.{Description, no_info, has_kind, supports, info, is_kind}
-use Rattle.inp_model.proofs.Descriptions.{get_or-replicate}
-use Rattle.inp_caps.specs.Builder.{syn_alone, with_kind, with_code, with_axis}
+use Rattle.inp_model.specs.Description.{Description, no_info, has_kind, supports, info, is_kind, syn_alone}
+use Rattle.inp_model.proofs.Descriptions.{get_or-replicate_same}
+use Rattle.inp_caps.specs.Builder.{with_kind, with_code, with_axis}
 use Rattle.inp_canon.specs.Device.{coded_kinds}
 use Rattle.inp_record.specs.declared.item.Item.{Item}
 use Rattle.inp_record.specs.declared.item.Item.TheVariants.{Device, Slots, Kind, Code, Axis}
@@ -106,7 +106,7 @@ kinds_first kinds n (suc k) syn h = absurd (omega arith)
 
 kinds_fresh : (n k : ℕ) → 1 ≤ k → get_or (true ∷ replicate n false) k false ≡ false
 kinds_fresh n zero h = absurd (omega arith)
-kinds_fresh n (suc k) h = get_or-replicate n k false
+kinds_fresh n (suc k) h = get_or-replicate_same n k false
 
 kind_reached : (kind : ℕ) → is_kind kind ≡ true → kind < 1 + EV_MAX
 kind_reached kind e = grind (arith, nat_tests)
@@ -130,7 +130,7 @@ codes_again kinds kind count n codes a enough =
     all_again (λ code. get_or kinds kind false && get_or codes code false) (λ k. true) 0 n (replicate count false) codes false (a.length_is ∙ sym size)
     (λ k h. absurd (omega arith))
     (λ k within late e. (omega (arith, size), sym (and_parts (get_or kinds kind false) (get_or codes k false) e).1))
-    (λ k late e. get_or-replicate count k false ∙ sym (untyped (get_or kinds kind false) (get_or codes k false) (a.typed k) e))
+    (λ k late e. get_or-replicate_same count k false ∙ sym (untyped (get_or kinds kind false) (get_or codes k false) (a.typed k) e))
 
 axes_again : (kinds axes : List Bool) (infos : List AxisInfo) (n : ℕ) → AreKnownAxes kinds axes infos → 64 ≤ n
     → put_all (λ code. get_or kinds EV_ABS false && get_or axes code false) (λ k. true) 0 n (replicate 64 false) ≡ axes
@@ -139,7 +139,7 @@ axes_again kinds axes infos n a enough =
     all_again (λ code. get_or kinds EV_ABS false && get_or axes code false) (λ k. true) 0 n (replicate 64 false) axes false (a.length_is ∙ sym size)
     (λ k h. absurd (omega arith))
     (λ k within late e. (omega (arith, size), sym (and_parts (get_or kinds EV_ABS false) (get_or axes k false) e).1))
-    (λ k late e. get_or-replicate 64 k false ∙ sym (untyped (get_or kinds EV_ABS false) (get_or axes k false) (a.typed k) e))
+    (λ k late e. get_or-replicate_same 64 k false ∙ sym (untyped (get_or kinds EV_ABS false) (get_or axes k false) (a.typed k) e))
 
 infos_again : (kinds axes : List Bool) (infos : List AxisInfo) (n : ℕ) → AreKnownAxes kinds axes infos → 64 ≤ n
     → put_all (λ code. get_or kinds EV_ABS false && get_or axes code false) (λ code. get_or infos code no_info) 0 n (replicate 64 no_info) ≡ infos
@@ -148,7 +148,7 @@ infos_again kinds axes infos n a enough =
     all_again (λ code. get_or kinds EV_ABS false && get_or axes code false) (λ code. get_or infos code no_info) 0 n (replicate 64 no_info) infos no_info (a.infos_length ∙ sym size)
     (λ k h. absurd (omega arith))
     (λ k within late e. (omega (arith, size), refl))
-    (λ k late e. get_or-replicate 64 k no_info ∙ sym (a.plain k (untyped (get_or kinds EV_ABS false) (get_or axes k false) (a.typed k) e)))
+    (λ k late e. get_or-replicate_same 64 k no_info ∙ sym (a.plain k (untyped (get_or kinds EV_ABS false) (get_or axes k false) (a.typed k) e)))
 
 -- what each section of items describes
 

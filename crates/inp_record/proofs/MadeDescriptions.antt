@@ -10,10 +10,10 @@ use Rattle.inp_model.specs.declared.limits.TheConstants.{SLOTS_MAX, HINT_MIN, HI
 use Rattle.inp_model.specs.declared.stamped.TheConstants.{MOMENT_MAX}
 use Rattle.inp_model.specs.declared.axis_info.AxisInfo.{AxisInfo}
 use Rattle.inp_model.specs.declared.filter.Filter as filter
-use Rattle.inp_model.specs.Description.{Description, no_info, is_kind, is_bad_axis, AreFilters, is_filter}
-use Rattle.inp_model.proofs.Descriptions.{get_or-replicate, is_bad_axis-no_info}
+use Rattle.inp_model.specs.Description.{Description, no_info, is_kind, is_bad_axis, AreFilters, is_filter, syn_alone}
+use Rattle.inp_model.proofs.Descriptions.{get_or-replicate_same, is_bad_axis-no_info}
 use Rattle.inp_caps.specs.declared.caps_refused.CapsRefused.TheVariants.{BadCode, BadAxis, BadFilter}
-use Rattle.inp_caps.specs.Builder.{syn_alone, is_code, with_kind, with_code, with_axis, with_filter, filter_answer, with_default_axis, with_slot_axes, built}
+use Rattle.inp_caps.specs.Builder.{is_code, with_kind, with_code, with_axis, with_filter, filter_answer, with_default_axis, with_slot_axes, built}
 use Rattle.inp_caps.proofs.Filters.{AreFilters-more}
 use Rattle.inp_actors.specs.declared.device_text.DeviceText.{DeviceText}
 use Rattle.inp_record.specs.declared.item.Item.{Item}
@@ -208,7 +208,7 @@ gathered_axis d code i g within good said typed = record { kinds = g.kinds; list
 
 none_of : (kinds : List Bool) (kind count : ℕ) → AreKnownCodes kinds kind count (replicate count false)
 none_of kinds kind count =
-    let off : (code : ℕ) → get_or (replicate count false) code false ≡ true → ⊥ = λ code e. let none : get_or (replicate count false) code false ≡ false = get_or-replicate count code false in cc (none, e) in
+    let off : (code : ℕ) → get_or (replicate count false) code false ≡ true → ⊥ = λ code e. let none : get_or (replicate count false) code false ≡ false = get_or-replicate_same count code false in cc (none, e) in
     record { length_is = length-replicate count false; known = λ code e. absurd (off code e); typed = λ code e. absurd (off code e) }
 
 lists_none : (kinds : List Bool) → AreKnownLists kinds (replicate 768 false) (replicate 64 false) (replicate 64 false) (replicate 64 false) (replicate 64 false) (replicate 64 false)
@@ -219,7 +219,7 @@ said_none = record { value = grind (arith, ints); minimum = grind (arith, ints);
 
 axes_none : (kinds : List Bool) → AreKnownAxes kinds (replicate 64 false) (replicate 64 no_info)
 axes_none kinds =
-    let none : (code : ℕ) → get_or (replicate 64 no_info) code no_info ≡ no_info = λ code. get_or-replicate 64 code no_info in
+    let none : (code : ℕ) → get_or (replicate 64 no_info) code no_info ≡ no_info = λ code. get_or-replicate_same 64 code no_info in
     record {
       length_is = length-replicate 64 false;
       infos_length = length-replicate 64 no_info;
@@ -231,7 +231,7 @@ axes_none kinds =
 
 known_alone : (n kind : ℕ) → get_or (true ∷ replicate n false) kind false ≡ true → is_kind kind ≡ true
 known_alone n zero e = refl
-known_alone n (suc kind) e = let none : get_or (replicate n false) kind false ≡ false = get_or-replicate n kind false in absurd (cc (none, e))
+known_alone n (suc kind) e = let none : get_or (replicate n false) kind false ≡ false = get_or-replicate_same n kind false in absurd (cc (none, e))
 
 gathered_alone : IsGathered syn_alone
 gathered_alone = record {

@@ -1,7 +1,8 @@
 -- The lines of a record, with another version in their header, are accepted again.
 use Rattle.std.proofs.Common.{◌≡◌, ℕ, ◌+◌, true, false, if◌then◌else◌, nat_eq, List, [], ◌∷◌, ◌++◌, length, Some, None, Ok, refl, sym, ap, ◌∙◌, subst, arith}
+use Rattle.inp_model.specs.Description.{syn_alone}
 use Rattle.inp_model.specs.declared.event.TheConstants.{EV_ABS}
-use Rattle.inp_caps.specs.Builder.{syn_alone, with_kind, with_code, with_axis, with_filter}
+use Rattle.inp_caps.specs.Builder.{with_kind, with_code, with_axis, with_filter}
 use Rattle.inp_actors.specs.Command.{is_source, is_owner, is_reading}
 use Rattle.inp_actors.specs.Record.{RecordView}
 use Rattle.inp_canon.specs.Text.{record_text}

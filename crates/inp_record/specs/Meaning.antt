@@ -4,10 +4,10 @@ use Rattle.std.specs.List.{list_any}
 use Rattle.inp_model.specs.declared.event.TheConstants.{ABS_MAX}
 use Rattle.inp_model.specs.declared.limits.TheConstants.{SLOTS_MAX, HINT_MIN, HINT_MAX, LOG_MAX}
 use Rattle.inp_model.specs.declared.stamped.TheConstants.{MOMENT_MAX}
-use Rattle.inp_model.specs.Description.{Description, is_kind, is_bad_axis}
+use Rattle.inp_model.specs.Description.{Description, is_kind, is_bad_axis, syn_alone}
 use Rattle.inp_caps.specs.declared.caps_refused.CapsRefused.{CapsRefused}
 use Rattle.inp_caps.specs.declared.caps_refused.CapsRefused.TheVariants.{BadCode, BadAxis, BadSlots, BadHint, BadLog, BadOffset}
-use Rattle.inp_caps.specs.Builder.{is_code, filter_answer, syn_alone}
+use Rattle.inp_caps.specs.Builder.{is_code, filter_answer}
 use Rattle.inp_actors.specs.declared.role.Role.{Role}
 use Rattle.inp_actors.specs.Command.{is_source, is_owner}
 use Rattle.inp_actors.specs.Record.{RecordView}

@@ -5,8 +5,8 @@
 use Rattle.std.specs.Prelude.{ℕ, ◌+◌, ◌≤◌, Bool, true, false, if◌then◌else◌, is_some, unwrap_or, List, [], ◌∷◌, ◌++◌, length, Option, Some, None}
 use Rattle.inp_model.specs.declared.event.TheConstants.{EV_ABS}
 use Rattle.inp_model.specs.declared.stamped.TheConstants.{MOMENT_MAX}
-use Rattle.inp_model.specs.Description.{Description}
-use Rattle.inp_caps.specs.Builder.{syn_alone, with_kind, with_code, with_axis, with_filter, built}
+use Rattle.inp_model.specs.Description.{Description, syn_alone}
+use Rattle.inp_caps.specs.Builder.{with_kind, with_code, with_axis, with_filter, built}
 use Rattle.inp_actors.specs.declared.device_text.DeviceText.{DeviceText}
 use Rattle.inp_actors.specs.declared.actor_text.ActorText.{ActorText}
 use Rattle.inp_actors.specs.declared.line.Line as line

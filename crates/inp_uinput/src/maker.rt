@@ -1,8 +1,9 @@
 //! The maker of a device, which takes requests.
 ghost use Rattle.std.specs.Prelude.{◌≡◌, ◌↔◌, [], IsOk, OnOk, OnErr, IfOk, IfErr, IsNone, Some, None, Err};
 ghost use Rattle.std.specs.Borrow.{sem};
+ghost use Rattle.inp_model.specs.Description.{syn_alone};
 ghost use Rattle.inp_actors.specs.Name.{IsName};
-ghost use Rattle.inp_caps.specs.Builder.{syn_alone, built};
+ghost use Rattle.inp_caps.specs.Builder.{built};
 ghost use Rattle.inp_uinput.specs.declared.create_refused.CreateRefused.{CreateRefused};
 
 use crate::{BadName, CreateRefused, Udev};

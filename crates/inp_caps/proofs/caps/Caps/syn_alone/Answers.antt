@@ -1,5 +1,5 @@
 use Rattle.std.proofs.Common.{refl, arith}
-use Rattle.inp_caps.proofs.SynAlone.{IsDescription-syn_alone}
+use Rattle.inp_model.proofs.Descriptions.{IsDescription-syn_alone}
 use Rattle.inp_caps.proofs.caps.Caps.syn_alone.Goals as goal
 
 pub invariant_of-result : goal.invariant_of-result
