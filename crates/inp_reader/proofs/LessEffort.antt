@@ -1,10 +1,9 @@
 -- An answer of a reader leaves it less to do: each call that is accepted takes a place of the history, and each other answer
 -- but Again takes an event that was read or made before.
-use Rattle.std.proofs.Common.{◌≡◌, ℕ, suc, ◌+◌, ◌*◌, ◌<◌, ◌≤◌, Bool, true, false, if◌then◌else◌, List, [], ◌∷◌, ◌++◌, length, take, None, refl, sym, ap, subst, ◌∙◌, arith, inl, inr, length-append, length-take, nat_eq, min}
+use Rattle.std.proofs.Common.{◌≡◌, ℕ, suc, ◌+◌, ◌*◌, ◌<◌, ◌≤◌, Bool, true, false, if◌then◌else◌, List, [], ◌∷◌, ◌++◌, length, None, refl, sym, ap, subst, ◌∙◌, arith, length-append}
 use Rattle.std.specs.Prelude.{Result, Ok, Err}
 use Rattle.std.proofs.lemmas.Bool.{true≢false}
 use Rattle.std.proofs.lemmas.Bool.Decides.{nat_tests}
-use Rattle.std.proofs.lemmas.List.{length-map}
 use Rattle.std.proofs.Math.Nat.{mul-le-mul_right}
 use Rattle.inp_model.specs.declared.event.Event.{Event}
 use Rattle.inp_model.specs.declared.taken.Taken.{Taken}
@@ -18,8 +17,7 @@ use Rattle.inp_model.specs.Description.{Description}
 use Rattle.inp_model.specs.Evdev.{EvdevView, IsCall}
 use Rattle.inp_model.specs.Leaves.{AreCalls}
 use Rattle.inp_model.specs.Past.{past_at}
-use Rattle.inp_model.specs.Queue.{Entry, event_of, queue, visible, taken_by}
-use Rattle.inp_model.specs.Reply.{Answer, IsAnswer, accepted, refused, is_accepted, is_full, taken_of}
+use Rattle.inp_model.specs.Reply.{Answer, IsAnswer, refused, is_accepted, is_full}
 use Rattle.inp_model.specs.Run.{Call, place_of, next_place}
 use Rattle.inp_model.proofs.Allowed.{allowed}
 use Rattle.inp_model.proofs.Leaves.{description-kept, seen-kept}
@@ -41,8 +39,8 @@ use Rattle.inp_reader.specs.Says.{Says}
 use Rattle.inp_reader.specs.Synthesis.{synth}
 use Rattle.inp_reader.specs.Talk.{Talk, finish, and_then, LeadsTo, EndsWith}
 use Rattle.inp_reader.proofs.Calls.{IsSplit, split-and_then, finished}
-use Rattle.inp_reader.proofs.ClientViews.{accepted-answer}
 use Rattle.inp_reader.proofs.Counts.{length-synth_sized}
+use Rattle.inp_reader.proofs.ReadCounts.{few-taken}
 
 -- No accepted step is past the limit
 
@@ -89,26 +87,6 @@ AreCalls-split a b [] more h = (a, refl, h)
 AreCalls-split a b (call ∷ calls) more h =
     let s : (between : EvdevView) × AreCalls h.0 between calls × AreCalls between b more = AreCalls-split h.0 b calls more h.2 in
     (s.0, (h.0, h.1, s.1), s.2)
-
--- How many events a read takes
-
-length-few : {X : Type 0} (b : Bool) (n m : ℕ) (xs : List X) → length (if b then take (min n m) xs else []) ≤ n
-length-few true n m xs = omega (arith, length-take (min n m) xs)
-length-few false n m xs = omega arith
-
-few-accepted : (d : Description) (past : List Step) (client count : ℕ) → length (accepted d past (Read client count)).events ≤ count
-few-accepted d past client count =
-    let q : List Entry = queue d past client in
-    omega (arith, length-map (taken_by d past client (Read client count)) taken_of, length-few (nat_eq client client) count (visible event_of q) q)
-
-few-taken : (d : Description) (past : List Step) (client count : ℕ) (given : Answer) → IsAnswer d past (Read client count) given → is_accepted given.reply ≡ true → length given.events ≤ count
-few-taken d past client count given h is = by h
-  where
-    by : IsAnswer d past (Read client count) given → length given.events ≤ count
-    by (inl e) =
-        let same : given ≡ accepted d past (Read client count) = e ∙ accepted-answer d past (Read client count) (accepted-unrefused d past (Read client count) given h is) in
-        omega (arith, ap (λ (a : Answer). length a.events) same, few-accepted d past client count)
-    by (inr l) = absurd (true≢false (sym is ∙ ap (λ (a : Answer). is_accepted a.reply) l.2))
 
 -- Answers that leave less to do
 

@@ -27,6 +27,7 @@ pub mod TalksKeepSpare
 pub mod RefusedStarts
 pub mod StandsByCalls
 pub mod ClientViews
+pub mod ReadCounts
 pub mod LessEffort
 pub mod UseAlone
 pub mod ShowsDevice

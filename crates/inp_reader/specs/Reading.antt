@@ -1,7 +1,7 @@
 -- What a reader keeps, and what `start` and `next` ask and answer (docs/READER.md, "The reader").
-use Rattle.std.specs.Prelude.{ℕ, ◌+◌, ◌-◌, Bool, ◌&&◌, if◌then◌else◌, nat_eq, nat_lt, List, [], ◌∷◌, ◌++◌, map, filter, Result, Ok, Err}
+use Rattle.std.specs.Prelude.{ℕ, ◌+◌, ◌-◌, Bool, if◌then◌else◌, nat_lt, List, [], ◌∷◌, ◌++◌, map, filter, Result, Ok, Err}
 use Rattle.std.specs.List.{range_with_len}
-use Rattle.inp_model.specs.declared.event.TheConstants.{EV_SYN, EV_KEY, EV_ABS, EV_SW, EV_LED, ABS_MAX, SYN_DROPPED}
+use Rattle.inp_model.specs.declared.event.TheConstants.{EV_KEY, EV_ABS, EV_SW, EV_LED, ABS_MAX}
 use Rattle.inp_model.specs.declared.multi_touch.TheConstants.{ABS_MT_SLOT, ABS_MT_TOOL_Y}
 use Rattle.inp_model.specs.declared.event.Event.{Event}
 use Rattle.inp_model.specs.declared.taken.Taken.{Taken}
@@ -126,7 +126,7 @@ hand_out_event r taken rest =
     if is_dropped taken.event then (Dropped taken, record r { queue = rest; view = view; phase = Needed })
     else (Success taken, record r { queue = rest; view = view })
 
--- hands out the first event of a queue; a read that was accepted has taken one
+-- hands out the first event of a queue; a read that was accepted has taken one at least, so an empty queue never comes
 abbrev pub hand_out : Reading → List Taken → Next × Reading
 hand_out r [] = (Closed, record r { queue = [] })
 hand_out r (taken ∷ rest) = hand_out_event r taken rest

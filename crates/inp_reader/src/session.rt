@@ -37,13 +37,14 @@ pub(crate) struct Session {
 impl Session {
     // Hands out the first event of the queue, and sets the view by it.
     fn hand_out(&mut self) -> Next
+        requires some { 0 < length self.old.queue }
         ensures handed { (result, reading_of self.new)
             ≡ hand_out (reading_of self.old) self.old.queue }
         ensures asker { self.new.asker ≡ self.old.asker }
         ensures cells { length self.new.view.cells ≡ length self.old.view.cells }
     {
         match self.queue.take_first() {
-            None => Next::Closed,
+            None => unreachable!(),
             Some(event) => {
                 self.view.take_event(event.event);
                 if is_dropped(event.event) {

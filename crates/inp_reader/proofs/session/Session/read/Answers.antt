@@ -1,8 +1,14 @@
 use Rattle.std.proofs.Common.{sym, ap, ◌∙◌}
 use Rattle.inp_reader.specs.declared.asker.Asker.{Asker}
 use Rattle.inp_reader.specs.Session.{reading_of}
+use Rattle.inp_reader.proofs.ReadCounts.{some-queued}
 use Rattle.inp_reader.proofs.SaysSessions.{says-took, says-read_nothing}
 use Rattle.inp_reader.proofs.session.Session.read.Goals as goal
+
+pub hand_out-requires : goal.hand_out-requires
+hand_out-requires g c =
+    let accepted = sym c.is_accepted.ensures.accepted ∙ c.if-is_accepted.true in
+    record { some = some-queued _ _ _ c.read_queue-reply.result c.read_queue-reply.new.self.queue c.read_queue-reply.ensures.reads accepted }
 
 pub returns-then-is_accepted-clause-says : goal.returns-then-is_accepted-clause-says
 returns-then-is_accepted-clause-says g c =
