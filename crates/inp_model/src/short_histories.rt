@@ -23,7 +23,7 @@ pub fn examples()
     ensures repeat { PassesARepeat }
     ensures key_up { KeepsTheKeyUp }
     ensures ignored { IgnoresOthers }
-    ensures batch { CutsAFullBatch }
+    ensures full_batch { CutsAFullBatch }
     ensures full { LosesAFullRing }
     ensures in_frame { LosesInAFrame }
     ensures in_time { KeepsAllButOne }

@@ -48,9 +48,9 @@ pub returns-clause-ignored : goal.returns-clause-ignored
 unfolding computing
 returns-clause-ignored c = refl
 
-pub returns-clause-batch : goal.returns-clause-batch
+pub returns-clause-full_batch : goal.returns-clause-full_batch
 unfolding computing
-returns-clause-batch c = refl
+returns-clause-full_batch c = refl
 
 pub returns-clause-full : goal.returns-clause-full
 unfolding computing
