@@ -69,8 +69,8 @@ get_or-bits_of (word ∷ words) (suc q) k h =
     get_or-append_right (word_bits word) (flat_map word_bits words) 64 (64 * suc q + k) false (length-word_bits word) (omega arith) ∙ ap (λ (i : ℕ). get_or (flat_map word_bits words) i false) there ∙ get_or-bits_of words q k h
 
 -- value i
-pub is_set-bits_of : (words : List ℕ) (i : ℕ) → is_on_at (bits_of words) i ≡ (bit_at (get_or words (i / 64) 0) (i % 64) == 1)
-is_set-bits_of words i =
+pub is_on_at-bits_of : (words : List ℕ) (i : ℕ) → is_on_at (bits_of words) i ≡ (bit_at (get_or words (i / 64) 0) (i % 64) == 1)
+is_on_at-bits_of words i =
     let whole : i ≡ 64 * (i / 64) + i % 64 = omega arith in
     ap (is_on_at (bits_of words)) whole ∙ get_or-bits_of words (i / 64) (i % 64) (omega arith)
 

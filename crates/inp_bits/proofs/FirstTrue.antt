@@ -8,13 +8,13 @@ use Rattle.std.proofs.lemmas.Bool.{cases_lt}
 use Rattle.inp_bits.specs.Bits.{is_on_at, true_indices}
 use Rattle.inp_bits.specs.Ones.{IsFalseBelow, IsFirstTrue}
 use Rattle.inp_bits.specs.Words.{bits_of}
-use Rattle.inp_bits.proofs.BitsOf.{length-bits_of, get_or-bits_of, is_set-bits_of}
+use Rattle.inp_bits.proofs.BitsOf.{length-bits_of, get_or-bits_of, is_on_at-bits_of}
 use Rattle.inp_bits.proofs.Indices.{filter_first, filter_none}
 
 -- where a word is 0, each of its values is false
 false_in_zero : (words : List ℕ) (i : ℕ) → get_or words (i / 64) 0 ≡ 0 → is_on_at (bits_of words) i ≡ false
 false_in_zero words i h =
-    is_set-bits_of words i ∙ ap (λ (w : ℕ). bit_at w (i % 64) == 1) h ∙ ap (λ (d : ℕ). d == 1) (bit_at-zero (i % 64))
+    is_on_at-bits_of words i ∙ ap (λ (w : ℕ). bit_at w (i % 64) == 1) h ∙ ap (λ (d : ℕ). d == 1) (bit_at-zero (i % 64))
 
 -- where the words from `first_word` on are 0, no value from there on is true
 pub none_true : (words : List ℕ) (first_word : ℕ) → ((q : ℕ) → first_word ≤ q → q < length words → get_or words q 0 ≡ 0) → (i : ℕ) → 64 * first_word ≤ i → is_on_at (bits_of words) i ≡ false

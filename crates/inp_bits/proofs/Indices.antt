@@ -68,16 +68,16 @@ IsStrictlyIncreasing-range_with_len a n k l =
 -- ---- one value
 
 -- a list that is all false is true nowhere, also past its end
-pub is_set-replicate_false : (n i : ℕ) → is_on_at (replicate n false) i ≡ false
-is_set-replicate_false zero i = refl
-is_set-replicate_false (suc n) zero = refl
-is_set-replicate_false (suc n) (suc i) = is_set-replicate_false n i
+pub is_on_at-replicate_false : (n i : ℕ) → is_on_at (replicate n false) i ≡ false
+is_on_at-replicate_false zero i = refl
+is_on_at-replicate_false (suc n) zero = refl
+is_on_at-replicate_false (suc n) (suc i) = is_on_at-replicate_false n i
 
 -- within the list `is_on_at` is what `slice_get` gives
-pub slice_get-is_set : (bits : List Bool) (i : ℕ) → i < length bits → slice_get bits i ≡ Some (is_on_at bits i)
-slice_get-is_set [] i l = absurd (omega arith)
-slice_get-is_set (bit ∷ bits) zero l = refl
-slice_get-is_set (bit ∷ bits) (suc i) l = slice_get-is_set bits i (omega arith)
+pub slice_get-is_on_at : (bits : List Bool) (i : ℕ) → i < length bits → slice_get bits i ≡ Some (is_on_at bits i)
+slice_get-is_on_at [] i l = absurd (omega arith)
+slice_get-is_on_at (bit ∷ bits) zero l = refl
+slice_get-is_on_at (bit ∷ bits) (suc i) l = slice_get-is_on_at bits i (omega arith)
 
 -- ---- `true_indices`
 
@@ -115,9 +115,9 @@ unfolding true_indices
 Contains-true_indices bits i l h = Contains-filter_range (is_on_at bits) 0 (length bits) i (omega arith) (omega arith) h
 
 -- at each of them the list is true
-pub is_set-from_contains : (bits : List Bool) (i : ℕ) → Contains (true_indices bits) i → is_on_at bits i ≡ true
+pub is_on_at-from_contains : (bits : List Bool) (i : ℕ) → Contains (true_indices bits) i → is_on_at bits i ≡ true
 unfolding true_indices
-is_set-from_contains bits i h =
+is_on_at-from_contains bits i h =
     All-contains (λ k. is_on_at bits k ≡ true) (true_indices bits) i (filter_passes (is_on_at bits) (range_with_len 0 (length bits))) h
 
 -- ---- `differing_indices`
@@ -165,7 +165,7 @@ differ_false false = refl
 pub differing_indices-replicate_false : (xs : List Bool) (n : ℕ) → differing_indices xs (replicate n false) ≡ true_indices xs
 unfolding differing_indices true_indices
 differing_indices-replicate_false xs n =
-    filter_same (λ i. differ (is_on_at xs i) (is_on_at (replicate n false) i)) (is_on_at xs) 0 (length xs) (λ k l m. ap (differ (is_on_at xs k)) (is_set-replicate_false n k) ∙ differ_false (is_on_at xs k))
+    filter_same (λ i. differ (is_on_at xs i) (is_on_at (replicate n false) i)) (is_on_at xs) 0 (length xs) (λ k l m. ap (differ (is_on_at xs k)) (is_on_at-replicate_false n k) ∙ differ_false (is_on_at xs k))
 
 same_unless : (x y : Bool) → ((x ≡ y → ⊥) → ⊥) → x ≡ y
 same_unless true true h = refl

@@ -6,7 +6,7 @@ use Rattle.inp_codes.specs.KindNames.{kind_entries, kind_name, kind_of, KindName
 use Rattle.inp_codes.specs.Table.{is_name_word}
 use Rattle.inp_codes.proofs.CodeNamesLemmas.{is_same_code-true}
 use Rattle.inp_codes.proofs.Computing.{event_codes}
-use Rattle.inp_codes.proofs.TableLemmas.{names_found, numbers_found, name_in-iff_entry, name_in-iff_number, is_word-name_in}
+use Rattle.inp_codes.proofs.TableLemmas.{names_found, numbers_found, name_in-iff_entry, name_in-iff_number, is_name_word-name_in}
 
 -- the table of types finds the name and the number of each of its entries, and each name is a word
 kind_names_found : names_found nat_eq kind_entries kind_entries ≡ true
@@ -42,9 +42,9 @@ pub kind_name-iff_kind_of : KindsAreOneToOne
 unfolding kind_name kind_of
 kind_name-iff_kind_of = name_in-iff_number nat_eq eqb-true kind_entries kind_names_found kind_numbers_found
 
-pub is_word-kind_name : KindNamesAreWords
+pub is_name_word-kind_name : KindNamesAreWords
 unfolding kind_name
-is_word-kind_name = is_word-name_in nat_eq eqb-true kind_entries kind_words
+is_name_word-kind_name = is_name_word-name_in nat_eq eqb-true kind_entries kind_words
 
 pub name_of-iff_entry : CodeNamesAreEntries
 unfolding name_of
@@ -54,6 +54,6 @@ pub name_of-iff_code_of : CodesAreOneToOne
 unfolding name_of code_of
 name_of-iff_code_of kind code = name_in-iff_number is_same_code is_same_code-true code_entries code_names_found code_numbers_found (kind, code)
 
-pub is_word-name_of : CodeNamesAreWords
+pub is_name_word-name_of : CodeNamesAreWords
 unfolding name_of
-is_word-name_of kind code = is_word-name_in is_same_code is_same_code-true code_entries code_words (kind, code)
+is_name_word-name_of kind code = is_name_word-name_in is_same_code is_same_code-true code_entries code_words (kind, code)

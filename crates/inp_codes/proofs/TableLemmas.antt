@@ -104,6 +104,6 @@ module _ {N : Type 0} (same : N → N → Bool) (same_is : (a b : N) → same a 
   )
 
   -- where each entry's name is a word, so is each name that is found
-  pub is_word-name_in : (es : List (NamedNumber N)) → list_all (λ e. is_name_word e.1) es ≡ true → (number : N) (name : List ℕ) → name_in same es number ≡ Some name → is_name_word name ≡ true
-  is_word-name_in es words number name h =
+  pub is_name_word-name_in : (es : List (NamedNumber N)) → list_all (λ e. is_name_word e.1) es ≡ true → (number : N) (name : List ℕ) → name_in same es number ≡ Some name → is_name_word name ≡ true
+  is_name_word-name_in es words number name h =
       passes (λ e. is_name_word e.1) es (number, name) words (Contains-name_in es number name h)

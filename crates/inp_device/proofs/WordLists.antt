@@ -10,7 +10,7 @@ use Rattle.std.proofs.lemmas.List.FromFn.{length-map-range_with_len, get_or-map-
 use Rattle.std.specs.Simd.Lanes.{mask_l}
 use Rattle.inp_bits.specs.Bits.{word_bits}
 use Rattle.inp_bits.specs.Words.{number_of-word_bits}
-use Rattle.inp_bits.proofs.WordParts.{is_set-word}
+use Rattle.inp_bits.proofs.WordParts.{is_on_at-word}
 use Rattle.inp_model.proofs.Descriptions.{get_or-replicate_same}
 use Rattle.inp_model.specs.Reply.{number_of_bits, bitmap_word, bitmap_of}
 
@@ -20,9 +20,9 @@ map-same x n f g same =
     (λ i l. let h : i < n = omega (arith, length-map-range_with_len f 0 n) in
     get_or-map-range_with_len f 0 n i i x h (omega arith) ∙ same i h ∙ sym (get_or-map-range_with_len g 0 n i i x h (omega arith)))
 
-number_of-mask : (bits : List Bool) → mask_l bits ≡ number_of_bits bits
-number_of-mask [] = refl
-number_of-mask (bit ∷ bits) = ap (λ n. (if bit then 1 else 0) + 2 * n) (number_of-mask bits)
+number_of_bits-mask : (bits : List Bool) → mask_l bits ≡ number_of_bits bits
+number_of_bits-mask [] = refl
+number_of_bits-mask (bit ∷ bits) = ap (λ n. (if bit then 1 else 0) + 2 * n) (number_of_bits-mask bits)
 
 -- the value of the list at a code, false past its end
 abbrev pub value_at : List Bool → ℕ → Bool
@@ -31,12 +31,12 @@ value_at bits code = get_or bits code false
 word_bits-values : (bits : List Bool) (q word : ℕ) → word_bits word ≡ slice_range bits (64 * q) (64 * q + 64) → word_bits word ≡ map (λ k. value_at bits (64 * q + k)) (range_with_len 0 64)
 unfolding word_bits
 word_bits-values bits q word e =
-    map-same false 64 (λ k. bit_at word k == 1) (λ k. value_at bits (64 * q + k)) (λ k h. sym (is_set-word bits q k (64 * q + k) word refl h e))
+    map-same false 64 (λ k. bit_at word k == 1) (λ k. value_at bits (64 * q + k)) (λ k h. sym (is_on_at-word bits q k (64 * q + k) word refl h e))
 
 -- a word of the list
 pub word-values : (bits : List Bool) (q word : ℕ) → word < 2 ^ 64 → word_bits word ≡ slice_range bits (64 * q) (64 * q + 64) → word ≡ bitmap_word (value_at bits) (64 * q)
 word-values bits q word fits e =
-    sym (number_of-word_bits word fits) ∙ number_of-mask (word_bits word) ∙ ap number_of_bits (word_bits-values bits q word e)
+    sym (number_of-word_bits word fits) ∙ number_of_bits-mask (word_bits word) ∙ ap number_of_bits (word_bits-values bits q word e)
 
 zero_word : number_of_bits (map (λ (k : ℕ). false) (range_with_len 0 64)) ≡ 0
 zero_word = refl

@@ -11,7 +11,7 @@ use Rattle.inp_model.proofs.Leaves.{AreCalls-append}
 use Rattle.inp_reader.specs.declared.call_made.CallMade.{CallMade}
 use Rattle.inp_reader.specs.Says.{Says, calls_kept}
 use Rattle.inp_reader.specs.Talk.{Talk, finish, LeadsTo, EndsWith}
-use Rattle.inp_reader.proofs.Talks.{LeadsTo-append, LeadsTo-and_then, made_of-append}
+use Rattle.inp_reader.proofs.Talks.{LeadsTo-append, LeadsTo-and_then, calls_kept-append}
 use Rattle.inp_joy.specs.declared.turn_end.TurnEnd.{TurnEnd}
 use Rattle.inp_joy.specs.declared.turn_end.TurnEnd.TheVariants.{Hands, Stops, GoesOn}
 use Rattle.inp_joy.specs.Joying.{Joying, JoyAnswer, Turn, goes_on, is_startup_over, is_long, turn_talk, with_count, after_turn, turns}
@@ -81,7 +81,7 @@ passed-more before between after d start here next made new outcome s h on =
           (ap (λ (k : ℕ). after_turn d (turns d n) k (turn_of_end outcome next)) (with_count-kept d here next h.calls made new ends h.kept) ∙ goes d (turns d n) (length new) outcome next on)
           (one_turn d here (turn_of_end outcome next) n (length made) h.calls h.talk_ends));
       are_calls = AreCalls-append before between after s.calls h.calls s.are_calls h.are_calls;
-      kept = h.kept ∙ ap (λ (ms : List CallMade). ms ++ calls_kept h.calls) s.kept ∙ sym (made_of-append s.calls h.calls);
+      kept = h.kept ∙ ap (λ (ms : List CallMade). ms ++ calls_kept h.calls) s.kept ∙ sym (calls_kept-append s.calls h.calls);
     }
 
 -- the number of accepted calls after the last turn, where that matters
@@ -102,7 +102,7 @@ passed-last before between after d start here next made new outcome s h end = re
         (ended d (turns d 0) (count_after h.calls (length made)) outcome next (end-with_count d here next h.calls made new outcome h.talk_ends h.kept end))
         (one_turn d here (turn_of_end outcome next) 0 (length made) h.calls h.talk_ends));
     are_calls = AreCalls-append before between after s.calls h.calls s.are_calls h.are_calls;
-    kept = h.kept ∙ ap (λ (ms : List CallMade). ms ++ calls_kept h.calls) s.kept ∙ sym (made_of-append s.calls h.calls);
+    kept = h.kept ∙ ap (λ (ms : List CallMade). ms ++ calls_kept h.calls) s.kept ∙ sym (calls_kept-append s.calls h.calls);
   };
 }
 

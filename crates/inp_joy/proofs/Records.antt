@@ -42,13 +42,13 @@ record-back r h =
 
 -- Each record that a client makes
 
-cut-fits : (value : ℤ) → FitsSigned w16 (within_16_bits value)
-cut-fits (pos n) = by_flag (nat_lt 32767 n) refl
+within_16_bits-fits : (value : ℤ) → FitsSigned w16 (within_16_bits value)
+within_16_bits-fits (pos n) = by_flag (nat_lt 32767 n) refl
   where
     by_flag : (b : Bool) → nat_lt 32767 n ≡ b → FitsSigned w16 (if b then pos 32767 else pos n)
     by_flag true is = record { sfits = omega arith }
     by_flag false is = let most : n < 32768 = grind (arith, nat_tests, is) in record { sfits = omega (arith, most) }
-cut-fits (negsuc n) = by_flag (nat_lt 32766 n) refl
+within_16_bits-fits (negsuc n) = by_flag (nat_lt 32766 n) refl
   where
     by_flag : (b : Bool) → nat_lt 32766 n ≡ b → FitsSigned w16 (if b then negsuc 32766 else negsuc n)
     by_flag true is = record { sfits = omega arith }
@@ -74,7 +74,7 @@ buttons-fit n (down ∷ downs) (suc k) r is = buttons-fit (n + 1) downs k r is
 
 axes-fit : (n : ℕ) (value : ℕ → ℤ) (codes : List ℕ) → AllFit (map_numbered startup_axis n (map (λ code. within_16_bits (value code)) codes))
 axes-fit n value [] k r is = absurd cc
-axes-fit n value (code ∷ codes) zero r is = let same : startup_axis n (within_16_bits (value code)) ≡ r = cc in subst (λ (s : JoyRecord). FitsBytes s) same (record { time = omega arith; value = cut-fits (value code) })
+axes-fit n value (code ∷ codes) zero r is = let same : startup_axis n (within_16_bits (value code)) ≡ r = cc in subst (λ (s : JoyRecord). FitsBytes s) same (record { time = omega arith; value = within_16_bits-fits (value code) })
 axes-fit n value (code ∷ codes) (suc k) r is = axes-fit (n + 1) value codes k r is
 
 pub startup-fits : (d : Description) (v : View) → AllFit (startup d v)
@@ -104,7 +104,7 @@ axis-fits p (Some number) taken = by_flag (int_eq (within_16_bits taken.event.va
   where
     by_flag : (b : Bool) → FitsIf (if b then None else Some (axis_record number taken))
     by_flag true = tt
-    by_flag false = record { time = milliseconds-below taken.time; value = cut-fits taken.event.value }
+    by_flag false = record { time = milliseconds-below taken.time; value = within_16_bits-fits taken.event.value }
 
 pub event-fits : (d : Description) (p : PictureView) (taken : Taken) → FitsIf (joy_record_of d p taken)
 event-fits d p taken = by_flags (nat_eq taken.event.kind EV_KEY) (nat_eq taken.event.kind EV_ABS)

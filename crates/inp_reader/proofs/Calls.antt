@@ -15,7 +15,7 @@ use Rattle.inp_reader.specs.Leaving.{accepted_places}
 use Rattle.inp_model.specs.Leaves.{AreCalls}
 use Rattle.inp_reader.specs.Says.{kept_call, calls_kept}
 use Rattle.inp_reader.specs.Talk.{Talk, finish, ask, and_then, LeadsTo, EndsWith}
-use Rattle.inp_reader.proofs.LeftByCalls.{places_of-append}
+use Rattle.inp_reader.proofs.LeftByCalls.{accepted_places-append}
 
 -- The calls of a talk, and of the one that its result says.
 
@@ -94,7 +94,7 @@ places-known (call ∷ calls) =
     let one : List CallMade = kept_call call.step call.answer.reply in
     let first : All P (accepted_places one) = kept_places call.step call.answer.reply P (λ is. inl (is, refl)) in
     let rest : All P (accepted_places (calls_kept calls)) = All-weaker (λ place. IsPlaceOf place calls) P (λ place k. inr k) (accepted_places (calls_kept calls)) (places-known calls) in
-    subst (λ (ps : List ℕ). All P ps) (sym (places_of-append one (calls_kept calls))) (All-append P (accepted_places one) (accepted_places (calls_kept calls)) first rest)
+    subst (λ (ps : List ℕ). All P ps) (sym (accepted_places-append one (calls_kept calls))) (All-append P (accepted_places one) (accepted_places (calls_kept calls)) first rest)
 
 pub place-known : (calls : List Call) (place : ℕ) → Contains (accepted_places (calls_kept calls)) place → IsPlaceOf place calls
 place-known calls place h = All-contains (λ p. IsPlaceOf p calls) (accepted_places (calls_kept calls)) place (places-known calls) h

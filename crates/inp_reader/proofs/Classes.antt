@@ -54,8 +54,8 @@ part-changes d new old event count P with_part differ tells sets each l m =
     }
 
 -- one group behind another
-pub Leads-behind : (u v w : View) (es later : List Event) → LeadsTheView u v es → LeadsTheView v w later → LeadsTheView u w (es ++ later)
-Leads-behind u v w es later h m = record { to = leads-behind u v es later h.to ∙ m.to; changes = EachChanges-behind u v es later h.to h.changes m.changes }
+pub LeadsTheView-behind : (u v w : View) (es later : List Event) → LeadsTheView u v es → LeadsTheView v w later → LeadsTheView u w (es ++ later)
+LeadsTheView-behind u v w es later h m = record { to = leads-behind u v es later h.to ∙ m.to; changes = EachChanges-behind u v es later h.to h.changes m.changes }
 
 -- ---- keys
 
@@ -184,4 +184,4 @@ leads-classes slots old new slot cells h =
     let ks = bit_changes EV_KEY 768 old.keys new.keys in
     let ls = bit_changes EV_LED 64 old.leds new.leds in
     let ss = bit_changes EV_SW 64 old.switches new.switches in
-    Leads-behind v0 v3 w (ks ++ ls ++ ss) (axis_changes old.axes new.axes) (Leads-behind v0 v2 v3 (ks ++ ls) ss (Leads-behind v0 v1 v2 ks ls keys leds) switches) axes
+    LeadsTheView-behind v0 v3 w (ks ++ ls ++ ss) (axis_changes old.axes new.axes) (LeadsTheView-behind v0 v2 v3 (ks ++ ls) ss (LeadsTheView-behind v0 v1 v2 ks ls keys leds) switches) axes

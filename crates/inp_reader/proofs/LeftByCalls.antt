@@ -12,15 +12,15 @@ use Rattle.inp_reader.specs.declared.call_made.CallMade.{CallMade}
 use Rattle.inp_reader.specs.Leaving.{accepted_places, LeavesMade}
 use Rattle.inp_reader.specs.Talk.{Talk}
 use Rattle.inp_reader.specs.Says.{kept_call, calls_kept, Says}
-use Rattle.inp_reader.proofs.Talks.{made_of-append}
+use Rattle.inp_reader.proofs.Talks.{calls_kept-append}
 
 -- Own places
 
-pub places_of-append : (made more : List CallMade) → accepted_places (made ++ more) ≡ accepted_places made ++ accepted_places more
-places_of-append [] more = refl
-places_of-append (call ∷ made) more =
+pub accepted_places-append : (made more : List CallMade) → accepted_places (made ++ more) ≡ accepted_places made ++ accepted_places more
+accepted_places-append [] more = refl
+accepted_places-append (call ∷ made) more =
     let one : List ℕ = if is_accepted call.reply then place_of call.reply ∷ [] else [] in
-    ap (λ (ps : List ℕ). one ++ ps) (places_of-append made more) ∙ sym (append_assoc one (accepted_places made) (accepted_places more))
+    ap (λ (ps : List ℕ). one ++ ps) (accepted_places-append made more) ∙ sym (append_assoc one (accepted_places made) (accepted_places more))
 
 place-kept : (x : Step) (reply : Reply) → own_after reply [] ≡ accepted_places (kept_call x reply)
 place-kept x (Again at n) = refl
@@ -34,7 +34,7 @@ places-kept (call ∷ calls) =
     let one : List CallMade = kept_call call.step call.answer.reply in
     ap (λ (ps : List ℕ). own_after call.answer.reply [] ++ ps) (places-kept calls)
     ∙ ap (λ (ps : List ℕ). ps ++ accepted_places (calls_kept calls)) (place-kept call.step call.answer.reply)
-    ∙ sym (places_of-append one (calls_kept calls))
+    ∙ sym (accepted_places-append one (calls_kept calls))
 
 -- All that calls leave
 
@@ -72,5 +72,5 @@ leaves_made-none told = made-left told told [] [] refl refl
 pub leaves_made-then : (before between after : EvdevView) (made more : List CallMade) → LeavesMade before between made → LeavesMade between after more → LeavesMade before after (made ++ more)
 leaves_made-then before between after made more h k =
     made-left before after (h.calls ++ k.calls) (made ++ more)
-    (ap (λ (ms : List CallMade). ms ++ more) h.kept ∙ ap (λ (ms : List CallMade). calls_kept h.calls ++ ms) k.kept ∙ sym (made_of-append h.calls k.calls))
+    (ap (λ (ms : List CallMade). ms ++ more) h.kept ∙ ap (λ (ms : List CallMade). calls_kept h.calls ++ ms) k.kept ∙ sym (calls_kept-append h.calls k.calls))
     (AreCalls-append before between after h.calls k.calls h.are_calls k.are_calls)

@@ -17,11 +17,11 @@ use Rattle.inp_model.specs.Leaves.{AreCalls}
 use Rattle.inp_reader.specs.Says.{kept_call, calls_kept, Says}
 use Rattle.inp_reader.proofs.Answering.{view-answered}
 use Rattle.inp_model.proofs.Leaves.{AreCalls-append}
-use Rattle.inp_reader.proofs.Talks.{LeadsTo-append, LeadsTo-and_then, EndsWith-ask_each, EndsWith-stop, made_of-append, told as told_view, stopped_at}
+use Rattle.inp_reader.proofs.Talks.{LeadsTo-append, LeadsTo-and_then, EndsWith-ask_each, EndsWith-stop, calls_kept-append, told as told_view, stopped_at}
 
 kept_after : (old mid new : List CallMade) (calls more : List Call) → mid ≡ old ++ calls_kept calls → new ≡ mid ++ calls_kept more → new ≡ old ++ calls_kept (calls ++ more)
 kept_after old mid new calls more h k =
-    k ∙ ap (λ ms. ms ++ calls_kept more) h ∙ append_assoc old (calls_kept calls) (calls_kept more) ∙ ap (λ ms. old ++ ms) (sym (made_of-append calls more))
+    k ∙ ap (λ ms. ms ++ calls_kept more) h ∙ append_assoc old (calls_kept calls) (calls_kept more) ∙ ap (λ ms. old ++ ms) (sym (calls_kept-append calls more))
 
 -- no call
 pub says-nothing : {A : Type 0} (told : EvdevView) (made : List CallMade) (talk : Talk A) (result : A) → talk ≡ finish result → Says told told made made talk result

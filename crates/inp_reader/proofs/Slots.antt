@@ -15,7 +15,7 @@ use Rattle.inp_reader.specs.Synthesis.{where_below, to_slot, in_slots, differs_a
 use Rattle.inp_reader.proofs.Synthesising.{where_below-skip, where_below-next, in_slots-more, last_slot, last_slot-more, map-filter_from, any-from}
 use Rattle.inp_reader.proofs.Puts.{Each, Each-where_below, mixed, mixed-all, puts, puts-below, EachPutChanges-below}
 use Rattle.inp_reader.proofs.Parts.{SetsPart, leads-puts, EachChanges-puts}
-use Rattle.inp_reader.proofs.Classes.{LeadsTheView, Leads-behind, ints_differ, tells_ints}
+use Rattle.inp_reader.proofs.Classes.{LeadsTheView, LeadsTheView-behind, ints_differ, tells_ints}
 
 -- a view with this current slot and these values
 abbrev pub with_slots : View → ℤ → List ℤ → View
@@ -27,16 +27,16 @@ after-slot_event : (v : View) (z : ℤ) → view_after_event v (slot_event z) �
 unfolding view_after_event
 after-slot_event v z = refl
 
-Leads-to_slot_by : (v : View) (cells : List ℤ) (from to : ℤ) (same : Bool) → int_eq from to ≡ same → LeadsTheView (with_slots v from cells) (with_slots v to cells) (cond same [] (slot_event to ∷ []))
+LeadsTheView-to_slot_by : (v : View) (cells : List ℤ) (from to : ℤ) (same : Bool) → int_eq from to ≡ same → LeadsTheView (with_slots v from cells) (with_slots v to cells) (cond same [] (slot_event to ∷ []))
 unfolding view_after_events
-Leads-to_slot_by v cells from to true h = record { to = ap (λ (z : ℤ). with_slots v z cells) ((Decides-int_eq from to).0 h); changes = tt }
-Leads-to_slot_by v cells from to false h = record {
+LeadsTheView-to_slot_by v cells from to true h = record { to = ap (λ (z : ℤ). with_slots v z cells) ((Decides-int_eq from to).0 h); changes = tt }
+LeadsTheView-to_slot_by v cells from to false h = record {
   to = after-slot_event (with_slots v from cells) to;
   changes = (λ plain same. not_from_Decides (int_eq from to) (Decides-int_eq from to) h (sym (ap (λ (w : View). w.slot) (sym (after-slot_event (with_slots v from cells) to) ∙ same))), tt);
 }
 
-pub Leads-to_slot : (v : View) (cells : List ℤ) (from to : ℤ) → LeadsTheView (with_slots v from cells) (with_slots v to cells) (to_slot from to)
-Leads-to_slot v cells from to = Leads-to_slot_by v cells from to (int_eq from to) refl
+pub LeadsTheView-to_slot : (v : View) (cells : List ℤ) (from to : ℤ) → LeadsTheView (with_slots v from cells) (with_slots v to cells) (to_slot from to)
+LeadsTheView-to_slot v cells from to = LeadsTheView-to_slot_by v cells from to (int_eq from to) refl
 
 -- ---- an event on a value of a slot
 
@@ -91,8 +91,8 @@ walk-more : (v : View) (f : ℕ → List Event) (test : ℕ → Bool) (cells : �
 walk-more v f test cells n start true t before acts skips =
     let slots : List ℕ = where_below n test in
     let last : ℤ = last_slot slots start in
-    let step : LeadsTheView (with_slots v last (cells n)) (with_slots v (pos n) (cells (n + 1))) (to_slot last (pos n) ++ f n) = Leads-behind _ (with_slots v (pos n) (cells n)) _ (to_slot last (pos n)) (f n) (Leads-to_slot v (cells n) last (pos n)) (acts t) in
-    let both : LeadsTheView (with_slots v start (cells 0)) (with_slots v (pos n) (cells (n + 1))) (in_slots f slots start ++ (to_slot last (pos n) ++ f n)) = Leads-behind _ (with_slots v last (cells n)) _ (in_slots f slots start) (to_slot last (pos n) ++ f n) before step in
+    let step : LeadsTheView (with_slots v last (cells n)) (with_slots v (pos n) (cells (n + 1))) (to_slot last (pos n) ++ f n) = LeadsTheView-behind _ (with_slots v (pos n) (cells n)) _ (to_slot last (pos n)) (f n) (LeadsTheView-to_slot v (cells n) last (pos n)) (acts t) in
+    let both : LeadsTheView (with_slots v start (cells 0)) (with_slots v (pos n) (cells (n + 1))) (in_slots f slots start ++ (to_slot last (pos n) ++ f n)) = LeadsTheView-behind _ (with_slots v last (cells n)) _ (in_slots f slots start) (to_slot last (pos n) ++ f n) before step in
     let there : LeadsTheView (with_slots v start (cells 0)) (with_slots v (last_slot (slots ++ n ∷ []) start) (cells (n + 1))) (in_slots f (slots ++ n ∷ []) start) =
     subst (λ es. LeadsTheView (with_slots v start (cells 0)) (with_slots v (last_slot (slots ++ n ∷ []) start) (cells (n + 1))) es) (sym (in_slots-more f slots n start)) (
     subst (λ (z : ℤ). LeadsTheView (with_slots v start (cells 0)) (with_slots v z (cells (n + 1))) (in_slots f slots start ++ (to_slot last (pos n) ++ f n))) (sym (last_slot-more slots n start)) both
@@ -104,12 +104,12 @@ walk-more v f test cells n start false t before acts skips =
     subst (λ (xs : List ℤ). LeadsTheView (with_slots v start (cells 0)) (with_slots v (last_slot slots start) xs) (in_slots f slots start)) (skips t) before in
     subst (λ (ss : List ℕ). LeadsTheView (with_slots v start (cells 0)) (with_slots v (last_slot ss start) (cells (n + 1))) (in_slots f ss start)) (sym (where_below-skip test n t)) there
 
-pub Leads-walk : (v : View) (f : ℕ → List Event) (test : ℕ → Bool) (cells : ℕ → List ℤ) (n : ℕ) (start : ℤ) → ((k : ℕ) → k < n → test k ≡ true → LeadsTheView (with_slots v (pos k) (cells k)) (with_slots v (pos k) (cells (k + 1))) (f k))
+pub LeadsTheView-walk : (v : View) (f : ℕ → List Event) (test : ℕ → Bool) (cells : ℕ → List ℤ) (n : ℕ) (start : ℤ) → ((k : ℕ) → k < n → test k ≡ true → LeadsTheView (with_slots v (pos k) (cells k)) (with_slots v (pos k) (cells (k + 1))) (f k))
     → ((k : ℕ) → k < n → test k ≡ false → cells k ≡ cells (k + 1)) → LeadsTheView (with_slots v start (cells 0)) (with_slots v (last_slot (where_below n test) start) (cells n)) (in_slots f (where_below n test) start)
 unfolding view_after_events
-Leads-walk v f test cells zero start acts skips = record { to = refl; changes = tt }
-Leads-walk v f test cells (suc n) start acts skips =
-    let before = Leads-walk v f test cells n start (λ k h. acts k (omega (arith, h))) (λ k h. skips k (omega (arith, h))) in
+LeadsTheView-walk v f test cells zero start acts skips = record { to = refl; changes = tt }
+LeadsTheView-walk v f test cells (suc n) start acts skips =
+    let before = LeadsTheView-walk v f test cells n start (λ k h. acts k (omega (arith, h))) (λ k h. skips k (omega (arith, h))) in
     subst (λ m. LeadsTheView (with_slots v start (cells 0)) (with_slots v (last_slot (where_below m test) start) (cells m)) (in_slots f (where_below m test) start)) (add-one n) (walk-more v f test cells n start (test n) refl before (acts n (omega arith)) (skips n (omega arith)))
 
 -- ---- the values that differ
@@ -126,9 +126,9 @@ sets-cells slots v slot count new h few = record {
 }
 
 -- the values of a slot that differ are set
-Leads-slot : (slots : ℕ) (v : View) (slot count : ℕ) (new old : List ℤ) → slot < slots → count ≤ 14 → length old ≡ 14 * slots → length new ≡ 14 * slots
+LeadsTheView-slot : (slots : ℕ) (v : View) (slot count : ℕ) (new old : List ℤ) → slot < slots → count ≤ 14 → length old ≡ 14 * slots → length new ≡ 14 * slots
     → LeadsTheView (with_slots v (pos slot) (mixed (14 * slot + 0) new old)) (with_slots v (pos slot) (mixed (14 * slot + count) new old)) (map (λ k. axis_event new (14 * slot + k) (48 + k)) (where_below count (λ k. differs_at old new (14 * slot + k))))
-Leads-slot slots v slot count new old h few l m =
+LeadsTheView-slot slots v slot count new old h few l m =
     let test : ℕ → Bool = λ k. differs_at old new (14 * slot + k) in
     let ks : List ℕ = where_below count test in
     let each : Each (λ k. k < count) ks = Each-where_below (λ k. k < count) count test (λ k j t. j) in
@@ -173,26 +173,26 @@ is_changed-places : (old new : View) (slot : ℕ) → is_changed old new slot �
 is_changed-places old new slot = any-from (cells_differ old.cells new.cells slot) (λ k. differs_at old.cells new.cells (14 * slot + k)) 48 0 14 (differ-place old.cells new.cells slot)
 
 -- all slots
-Leads-cells_by : (slots n : ℕ) (v old new : View) (start : ℤ) → n ≤ slots → length old.cells ≡ 14 * slots → length new.cells ≡ 14 * slots
+LeadsTheView-cells_by : (slots n : ℕ) (v old new : View) (start : ℤ) → n ≤ slots → length old.cells ≡ 14 * slots → length new.cells ≡ 14 * slots
     → LeadsTheView (with_slots v start old.cells) (with_slots v (last_slot (where_below n (is_changed old new)) start) (mixed (14 * n) new.cells old.cells)) (in_slots (changes_in old new) (where_below n (is_changed old new)) start)
-Leads-cells_by slots n v old new start few l m =
+LeadsTheView-cells_by slots n v old new start few l m =
     let from : (k : ℕ) → mixed (14 * k + 0) new.cells old.cells ≡ mixed (14 * k) new.cells old.cells = λ k. let e : 14 * k + 0 ≡ 14 * k = omega arith in ap (λ (i : ℕ). mixed i new.cells old.cells) e in
     let to : (k : ℕ) → mixed (14 * k + 14) new.cells old.cells ≡ mixed (14 * (k + 1)) new.cells old.cells = λ k. let e : 14 * k + 14 ≡ 14 * (k + 1) = omega arith in ap (λ (i : ℕ). mixed i new.cells old.cells) e in
-    Leads-walk v (changes_in old new) (is_changed old new) (λ k. mixed (14 * k) new.cells old.cells) n start (
+    LeadsTheView-walk v (changes_in old new) (is_changed old new) (λ k. mixed (14 * k) new.cells old.cells) n start (
     λ k h t. subst (λ (xs : List ℤ). LeadsTheView (with_slots v (pos k) xs) (with_slots v (pos k) (mixed (14 * (k + 1)) new.cells old.cells)) (changes_in old new k)) (from k) (
     subst (λ (xs : List ℤ). LeadsTheView (with_slots v (pos k) (mixed (14 * k + 0) new.cells old.cells)) (with_slots v (pos k) xs) (changes_in old new k)) (to k) (
-    subst (λ (es : List Event). LeadsTheView (with_slots v (pos k) (mixed (14 * k + 0) new.cells old.cells)) (with_slots v (pos k) (mixed (14 * k + 14) new.cells old.cells)) es) (sym (changes_in-places old new k)) (Leads-slot slots v k 14 new.cells old.cells (omega (arith, h, few)) (omega arith) l m)
+    subst (λ (es : List Event). LeadsTheView (with_slots v (pos k) (mixed (14 * k + 0) new.cells old.cells)) (with_slots v (pos k) (mixed (14 * k + 14) new.cells old.cells)) es) (sym (changes_in-places old new k)) (LeadsTheView-slot slots v k 14 new.cells old.cells (omega (arith, h, few)) (omega arith) l m)
     )
     )
     ) (λ k h t. sym (from k) ∙ unchanged slots k 14 new.cells old.cells (omega (arith, h, few)) (omega arith) l m (sym (is_changed-places old new k) ∙ t) ∙ to k)
 
-pub Leads-cells : (slots : ℕ) (v old new : View) → length old.cells ≡ 14 * slots → length new.cells ≡ 14 * slots
+pub LeadsTheView-cells : (slots : ℕ) (v old new : View) → length old.cells ≡ 14 * slots → length new.cells ≡ 14 * slots
     → LeadsTheView (with_slots v old.slot old.cells) (with_slots v (last_slot (where_below slots (is_changed old new)) old.slot) new.cells) (cell_changes old new)
-Leads-cells slots v old new l m =
+LeadsTheView-cells slots v old new l m =
     let last : ℤ = last_slot (where_below slots (is_changed old new)) old.slot in
     subst (λ (n : ℕ). LeadsTheView (with_slots v old.slot old.cells) (with_slots v last new.cells) (in_slots (changes_in old new) (where_below n (is_changed old new)) old.slot)) (sym (slots-of slots old.cells l)) (
     subst (λ (xs : List ℤ). LeadsTheView (with_slots v old.slot old.cells) (with_slots v last xs) (in_slots (changes_in old new) (where_below slots (is_changed old new)) old.slot)) (mixed-all (14 * slots) new.cells old.cells (omega (arith, m)) (omega (arith, l))) (
-    Leads-cells_by slots slots v old new old.slot (omega arith) l m
+    LeadsTheView-cells_by slots slots v old new old.slot (omega arith) l m
     )
     )
 
@@ -234,10 +234,10 @@ had-contact true b c h = absurd (true≢false (sym h))
 had-contact false b c h = refl
 
 -- the end of a contact, where there is one
-Leads-lift : (slots : ℕ) (v : View) (cells : List ℤ) (slot : ℕ) → slot < slots → length cells ≡ 14 * slots → int_lt (get_or cells (14 * slot + 9) (pos 0)) (pos 0) ≡ false
+LeadsTheView-lift : (slots : ℕ) (v : View) (cells : List ℤ) (slot : ℕ) → slot < slots → length cells ≡ 14 * slots → int_lt (get_or cells (14 * slot + 9) (pos 0)) (pos 0) ≡ false
     → LeadsTheView (with_slots v (pos slot) cells) (with_slots v (pos slot) (set cells (14 * slot + 9) (negsuc 0))) (lift ∷ [])
 unfolding view_after_events
-Leads-lift slots v cells slot h l contact =
+LeadsTheView-lift slots v cells slot h l contact =
     let after : view_after_event (with_slots v (pos slot) cells) lift ≡ with_slots v (pos slot) (set cells (14 * slot + 9) (negsuc 0)) = after-cell_event slots v cells slot 9 (negsuc 0) (record { there = h; within = omega arith }) l in
     record {
       to = after;
@@ -249,19 +249,19 @@ Leads-lift slots v cells slot h l contact =
       );
     }
 
-Leads-lifts_by : (slots n : ℕ) (v old new : View) (start : ℤ) → n ≤ slots → length old.cells ≡ 14 * slots
+LeadsTheView-lifts_by : (slots n : ℕ) (v old new : View) (start : ℤ) → n ≤ slots → length old.cells ≡ 14 * slots
     → LeadsTheView (with_slots v start old.cells) (with_slots v (last_slot (where_below n (is_replaced old new)) start) (ended (where_below n (is_replaced old new)) old.cells)) (in_slots (λ slot. lift ∷ []) (where_below n (is_replaced old new)) start)
-Leads-lifts_by slots n v old new start few l =
+LeadsTheView-lifts_by slots n v old new start few l =
     let test : ℕ → Bool = is_replaced old new in
-    Leads-walk v (λ slot. lift ∷ []) test (λ k. ended (where_below k test) old.cells) n start (
+    LeadsTheView-walk v (λ slot. lift ∷ []) test (λ k. ended (where_below k test) old.cells) n start (
     λ k h t.
     let cells : List ℤ = ended (where_below k test) old.cells in
     let contact : int_lt (get_or cells (14 * k + 9) (pos 0)) (pos 0) ≡ false = ap (λ (z : ℤ). int_lt z (pos 0)) (ended-later k test old.cells k (omega arith)) ∙ had-contact (int_lt (tracking_id old k) (pos 0)) _ _ t in
-    subst (λ (xs : List ℤ). LeadsTheView (with_slots v (pos k) cells) (with_slots v (pos k) xs) (lift ∷ [])) (sym (ended-next k test old.cells t)) (Leads-lift slots v cells k (omega (arith, h, few)) (length-ended (where_below k test) old.cells ∙ l) contact)
+    subst (λ (xs : List ℤ). LeadsTheView (with_slots v (pos k) cells) (with_slots v (pos k) xs) (lift ∷ [])) (sym (ended-next k test old.cells t)) (LeadsTheView-lift slots v cells k (omega (arith, h, few)) (length-ended (where_below k test) old.cells ∙ l) contact)
     ) (λ k h t. ap (λ (ss : List ℕ). ended ss old.cells) (sym (where_below-skip test k t)))
 
-pub Leads-lifts : (slots : ℕ) (v old new : View) → length old.cells ≡ 14 * slots
+pub LeadsTheView-lifts : (slots : ℕ) (v old new : View) → length old.cells ≡ 14 * slots
     → LeadsTheView (with_slots v old.slot old.cells) (with_slots v (last_slot (where_below slots (is_replaced old new)) old.slot) (ended (where_below slots (is_replaced old new)) old.cells)) (lifts old new)
-Leads-lifts slots v old new l =
+LeadsTheView-lifts slots v old new l =
     let last : ℤ = last_slot (where_below slots (is_replaced old new)) old.slot in
-    subst (λ (n : ℕ). LeadsTheView (with_slots v old.slot old.cells) (with_slots v last (ended (where_below slots (is_replaced old new)) old.cells)) (in_slots (λ slot. lift ∷ []) (where_below n (is_replaced old new)) old.slot)) (sym (slots-of slots old.cells l)) (Leads-lifts_by slots slots v old new old.slot (omega arith) l)
+    subst (λ (n : ℕ). LeadsTheView (with_slots v old.slot old.cells) (with_slots v last (ended (where_below slots (is_replaced old new)) old.cells)) (in_slots (λ slot. lift ∷ []) (where_below n (is_replaced old new)) old.slot)) (sym (slots-of slots old.cells l)) (LeadsTheView-lifts_by slots slots v old new old.slot (omega arith) l)

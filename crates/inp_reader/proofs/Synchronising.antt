@@ -17,7 +17,7 @@ use Rattle.inp_reader.specs.Synthesis.{synth}
 use Rattle.inp_reader.specs.Laws.{AreOfOneDevice}
 use Rattle.inp_reader.specs.Reading.{Reading, stop_of, hand_synthesised, handing, after_full_sync, after_failed_sync, go_on_after, sync_talk, talk_in}
 use Rattle.inp_reader.specs.KeptViews.{IsKeptView, synthesised_in, LeadsOn}
-use Rattle.inp_reader.proofs.EventsLead.{Leads-synth}
+use Rattle.inp_reader.proofs.EventsLead.{LeadsTheView-synth}
 use Rattle.inp_reader.proofs.TalkResults.{Gives, Gives-finish, Gives-then, Gives-sync, IsKeptResult}
 
 -- two views that a reader of such devices keeps are of one device
@@ -55,7 +55,7 @@ leads-failed r reply = record {
 gives-after : (d : Description) (before : EvdevView) (r : Reading) (asked : Result View Reply) → IsKeptView d r.view → IsKeptResult d asked → Gives d (ResultLeadsOn r.view) before (go_on_after Synchronising r asked)
 gives-after d before r (Ok view) h k =
     let synced : Reading = after_full_sync r view in
-    Gives-finish d (ResultLeadsOn r.view) before (handing synced) (leads-handed r.view synced (synth r.view view) refl (Leads-synth d.slots r.view view (AreOfOneDevice-kept d r.view view h k)).to)
+    Gives-finish d (ResultLeadsOn r.view) before (handing synced) (leads-handed r.view synced (synth r.view view) refl (LeadsTheView-synth d.slots r.view view (AreOfOneDevice-kept d r.view view h k)).to)
 gives-after d before r (Err reply) h k = Gives-finish d (ResultLeadsOn r.view) before (stop_of reply, after_failed_sync r) (leads-failed r reply)
 
 gives-needed : (d : Description) (before : EvdevView) (r : Reading) (phase : Phase) → phase ≡ Needed → IsKeptView d r.view → Gives d (ResultLeadsOn r.view) before (talk_in d Synchronising phase r)

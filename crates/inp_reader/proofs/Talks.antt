@@ -70,6 +70,6 @@ EndsWith-stop (x ∷ xs) ys view stop (call ∷ calls) h =
 
 -- Calls
 
-pub made_of-append : (calls more : List Call) → calls_kept (calls ++ more) ≡ calls_kept calls ++ calls_kept more
-made_of-append [] more = refl
-made_of-append (call ∷ calls) more = ap (λ ms. kept_call call.step call.answer.reply ++ ms) (made_of-append calls more) ∙ sym (append_assoc (kept_call call.step call.answer.reply) (calls_kept calls) (calls_kept more))
+pub calls_kept-append : (calls more : List Call) → calls_kept (calls ++ more) ≡ calls_kept calls ++ calls_kept more
+calls_kept-append [] more = refl
+calls_kept-append (call ∷ calls) more = ap (λ ms. kept_call call.step call.answer.reply ++ ms) (calls_kept-append calls more) ∙ sym (append_assoc (kept_call call.step call.answer.reply) (calls_kept calls) (calls_kept more))

@@ -12,7 +12,7 @@ use Rattle.inp_reader.specs.declared.call_made.CallMade.{CallMade}
 use Rattle.inp_reader.specs.Leaving.{LeavesMade, accepted_places}
 use Rattle.inp_reader.specs.Standing.{IsAlone, is_use_of}
 use Rattle.inp_reader.proofs.Calls.{IsPlaceOf, place-known, place-least}
-use Rattle.inp_reader.proofs.LeftByCalls.{places_of-append}
+use Rattle.inp_reader.proofs.LeftByCalls.{accepted_places-append}
 
 -- the place of an accepted call is one of the history
 pub place-within : (d : Description) (history : List Step) (least place : ℕ) (calls : List Call) → IsLegalFrom d history least calls → IsPlaceOf place calls → place < length history
@@ -38,7 +38,7 @@ made-between before after made place h k =
 
 -- of two, either the one or the other
 either-made : (made more : List CallMade) (place : ℕ) → Contains (accepted_places (made ++ more)) place → Contains (accepted_places made) place ⊎ Contains (accepted_places more) place
-either-made made more place h = Contains-append_cases (accepted_places made) (accepted_places more) place (subst (λ (ps : List ℕ). Contains ps place) (places_of-append made more) h)
+either-made made more place h = Contains-append_cases (accepted_places made) (accepted_places more) place (subst (λ (ps : List ℕ). Contains ps place) (accepted_places-append made more) h)
 
 pub alone-first : (before between after : EvdevView) (client : ℕ) (made more : List CallMade) → LeavesMade between after more → IsAlone before after client (made ++ more) → IsAlone before between client made
 alone-first before between after client made more k alone = record { only_own = own }

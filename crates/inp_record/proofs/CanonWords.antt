@@ -10,7 +10,7 @@ use Rattle.std.proofs.lemmas.Bool.{and_parts}
 use Rattle.inp_codes.specs.Table.{is_name_word, is_word_byte}
 use Rattle.inp_codes.specs.KindNames.{kind_name, kind_of}
 use Rattle.inp_codes.specs.CodeNames.{name_of, code_of}
-use Rattle.inp_codes.proofs.LawLemmas.{kind_name-iff_kind_of, is_word-kind_name, name_of-iff_code_of, is_word-name_of}
+use Rattle.inp_codes.proofs.LawLemmas.{kind_name-iff_kind_of, is_name_word-kind_name, name_of-iff_code_of, is_name_word-name_of}
 use Rattle.inp_texts.specs.Texts.{kind_text, code_text, bits_text, clock_text}
 use Rattle.inp_canon.specs.Device.{fuzz_words, info_words as info_text}
 use Rattle.inp_actors.specs.Name.{is_name, is_name_byte}
@@ -178,14 +178,14 @@ number_no_kind n small = by_found (kind_of (decimal n)) refl
   where
     by_found : (found : Option ℕ) → kind_of (decimal n) ≡ found → found ≡ None
     by_found None h = refl
-    by_found (Some kind) h = absurd (decimal_no_name (decimal n) (decimal_is_IsNumeral n small).0 (is_word-kind_name kind (decimal n) ((kind_name-iff_kind_of kind (decimal n)).1 h)))
+    by_found (Some kind) h = absurd (decimal_no_name (decimal n) (decimal_is_IsNumeral n small).0 (is_name_word-kind_name kind (decimal n) ((kind_name-iff_kind_of kind (decimal n)).1 h)))
 
 number_no_code : (n : ℕ) → n < 2 ^ 64 → code_of (decimal n) ≡ None
 number_no_code n small = by_found (code_of (decimal n)) refl
   where
     by_found : (found : Option (ℕ × ℕ)) → code_of (decimal n) ≡ found → found ≡ None
     by_found None h = refl
-    by_found (Some named) h = absurd (decimal_no_name (decimal n) (decimal_is_IsNumeral n small).0 (is_word-name_of named.0 named.1 (decimal n) ((name_of-iff_code_of named.0 named.1 (decimal n)).1 h)))
+    by_found (Some named) h = absurd (decimal_no_name (decimal n) (decimal_is_IsNumeral n small).0 (is_name_word-name_of named.0 named.1 (decimal n) ((name_of-iff_code_of named.0 named.1 (decimal n)).1 h)))
 
 pub kind_read : (kind : ℕ) → kind ≤ 65535 → kind_word (kind_text kind) ≡ Some kind
 unfolding kind_word kind_text
@@ -200,7 +200,7 @@ unfolding kind_text
 kind_plain kind h = by_name (kind_name kind) refl
   where
     by_name : (name : Option (List ℕ)) → kind_name kind ≡ name → is_plain (unwrap_or name (decimal kind)) ≡ true
-    by_name (Some name) e = name_plain name (is_word-kind_name kind name e)
+    by_name (Some name) e = name_plain name (is_name_word-kind_name kind name e)
     by_name None e = decimal_plain kind (omega arith)
 
 pub code_read : (kind code : ℕ) → code ≤ 65535 → code_word kind (code_text kind code) ≡ Some code
@@ -219,7 +219,7 @@ unfolding code_text
 code_plain kind code h = by_name (name_of kind code) refl
   where
     by_name : (name : Option (List ℕ)) → name_of kind code ≡ name → is_plain (unwrap_or name (decimal code)) ≡ true
-    by_name (Some name) e = name_plain name (is_word-name_of kind code name e)
+    by_name (Some name) e = name_plain name (is_name_word-name_of kind code name e)
     by_name None e = decimal_plain code (omega arith)
 
 -- clocks and names

@@ -51,16 +51,16 @@ below-line n (first ∷ lines) zero line h is =
     subst (λ (l : Line). AllBelow n (stream_of l.command)) same (below-left n (stream_of first.command) (streams_of lines) h)
 below-line n (first ∷ lines) (suc number) line h is = below-line n lines number line (below-right n (stream_of first.command) (streams_of lines) h) is
 
-slice_get-stream_at : (streams : List (List Stamped)) (index : ℕ) → index < length streams → slice_get streams index ≡ Some (stream_numbered streams index)
-slice_get-stream_at [] index h = absurd (omega arith)
-slice_get-stream_at (stream ∷ streams) zero h = refl
-slice_get-stream_at (stream ∷ streams) (suc index) h = slice_get-stream_at streams index (omega (arith, h))
+slice_get-stream_numbered : (streams : List (List Stamped)) (index : ℕ) → index < length streams → slice_get streams index ≡ Some (stream_numbered streams index)
+slice_get-stream_numbered [] index h = absurd (omega arith)
+slice_get-stream_numbered (stream ∷ streams) zero h = refl
+slice_get-stream_numbered (stream ∷ streams) (suc index) h = slice_get-stream_numbered streams index (omega (arith, h))
 
 stream_there : (r : RecordView) (at : ℕ) → IsRecord r → at < length r.streams → (index : ℕ) → Some at ≡ Some index → (index < length r.streams) × AreInTime (stream_numbered r.streams index)
 stream_there r at is below index e =
     let same : at ≡ index = cc e in
     let within : index < length r.streams = omega (arith, same, below) in
-    (within, is.in_time index (stream_numbered r.streams index) (slice_get-stream_at r.streams index within))
+    (within, is.in_time index (stream_numbered r.streams index) (slice_get-stream_numbered r.streams index within))
 
 has_stream : (r : RecordView) (command : Command) → IsRecord r → AllBelow (length r.streams) (stream_of command) → HasStream r.streams command
 has_stream r (Stream file at) is below = stream_there r at is below.0

@@ -12,14 +12,14 @@ use Rattle.inp_model.specs.Defuzz.{defuzz}
 use Rattle.inp_model.specs.State.{axis_info}
 use Rattle.inp_model.specs.Passed.{passes_as, differ}
 use Rattle.inp_state.specs.State.{Values, StateStandsFor}
-use Rattle.inp_state.proofs.Steps.{event, at_kind, StandsFor-stateless, StandsFor-key, StandsFor-switch, StandsFor-led, StandsFor-sound, StandsFor-axis, StandsFor-delay, StandsFor-period, StandsFor-described}
+use Rattle.inp_state.proofs.Steps.{event, at_kind, StateStandsFor-stateless, StateStandsFor-key, StateStandsFor-switch, StateStandsFor-led, StateStandsFor-sound, StateStandsFor-axis, StateStandsFor-delay, StateStandsFor-period, StateStandsFor-described}
 use Rattle.inp_state.proofs.Passes.{passes-key, passes-switch, passes-led, passes-axis, passes-setting}
 
 pub key-stands : (d : Description) (r : List RawItem) (s : Values) (e : Event) (new : List Bool) → e.kind ≡ EV_KEY → supports d e.kind e.code ≡ true → e.code < length s.keys → new ≡ (if is_repeat e then s.keys else set s.keys e.code (is_set e)) → StateStandsFor d r s → StateStandsFor d (Occurred e ∷ r) (record s { keys = new })
 key-stands d r s e new p u l n h =
     subst (λ (keys : List Bool). StateStandsFor d (Occurred e ∷ r) (record s { keys = keys })) (sym n)
     (at_kind (λ x. supports d x.kind x.code ≡ true → x.code < length s.keys → StateStandsFor d (Occurred x ∷ r) (record s { keys = if is_repeat x then s.keys else set s.keys x.code (is_set x) })) e EV_KEY p
-    (λ v m. StandsFor-key d r s e.code e.value v m h) u l)
+    (λ v m. StateStandsFor-key d r s e.code e.value v m h) u l)
 
 pub key-passes : (d : Description) (r : List RawItem) (s : Values) (e : Event) (given : Option ℤ) → e.kind ≡ EV_KEY → supports d e.kind e.code ≡ true → given ≡ (if is_repeat e then Some e.value else if differ (get_or s.keys e.code false) (is_set e) then Some e.value else None) → StateStandsFor d r s → given ≡ passes_as d r e
 key-passes d r s e given p u g h =
@@ -30,7 +30,7 @@ pub switch-stands : (d : Description) (r : List RawItem) (s : Values) (e : Event
 switch-stands d r s e new p u l n h =
     subst (λ (bits : List Bool). StateStandsFor d (Occurred e ∷ r) (record s { switches = bits })) (sym n)
     (at_kind (λ x. supports d x.kind x.code ≡ true → x.code < length s.switches → StateStandsFor d (Occurred x ∷ r) (record s { switches = set s.switches x.code (is_set x) })) e EV_SW p
-    (λ v m. StandsFor-switch d r s e.code e.value v m h) u l)
+    (λ v m. StateStandsFor-switch d r s e.code e.value v m h) u l)
 
 pub switch-passes : (d : Description) (r : List RawItem) (s : Values) (e : Event) (given : Option ℤ) → e.kind ≡ EV_SW → supports d e.kind e.code ≡ true → given ≡ (if differ (get_or s.switches e.code false) (is_set e) then Some e.value else None) → StateStandsFor d r s → given ≡ passes_as d r e
 switch-passes d r s e given p u g h =
@@ -41,7 +41,7 @@ pub led-stands : (d : Description) (r : List RawItem) (s : Values) (e : Event) (
 led-stands d r s e new p u l n h =
     subst (λ (bits : List Bool). StateStandsFor d (Occurred e ∷ r) (record s { leds = bits })) (sym n)
     (at_kind (λ x. supports d x.kind x.code ≡ true → x.code < length s.leds → StateStandsFor d (Occurred x ∷ r) (record s { leds = set s.leds x.code (is_set x) })) e EV_LED p
-    (λ v m. StandsFor-led d r s e.code e.value v m h) u l)
+    (λ v m. StateStandsFor-led d r s e.code e.value v m h) u l)
 
 pub led-passes : (d : Description) (r : List RawItem) (s : Values) (e : Event) (given : Option ℤ) → e.kind ≡ EV_LED → supports d e.kind e.code ≡ true → given ≡ (if differ (get_or s.leds e.code false) (is_set e) then Some e.value else None) → StateStandsFor d r s → given ≡ passes_as d r e
 led-passes d r s e given p u g h =
@@ -52,14 +52,14 @@ pub sound-stands : (d : Description) (r : List RawItem) (s : Values) (e : Event)
 sound-stands d r s e new p u l n h =
     subst (λ (bits : List Bool). StateStandsFor d (Occurred e ∷ r) (record s { sounds = bits })) (sym n)
     (at_kind (λ x. supports d x.kind x.code ≡ true → x.code < length s.sounds → StateStandsFor d (Occurred x ∷ r) (record s { sounds = set s.sounds x.code (is_set x) })) e EV_SND p
-    (λ v m. StandsFor-sound d r s e.code e.value v m h) u l)
+    (λ v m. StateStandsFor-sound d r s e.code e.value v m h) u l)
 
 pub axis-stands : (d : Description) (r : List RawItem) (s : Values) (e : Event) (new : List ℤ) (fuzz : ℤ) → e.kind ≡ EV_ABS → supports d e.kind e.code ≡ true → is_multi_touch e ≡ false → e.code ≤ ABS_MAX → e.code < length s.axes → fuzz ≡ (axis_info d r e.code).fuzz → new ≡ set s.axes e.code (defuzz e.value (get_or s.axes e.code (pos 0)) fuzz) → StateStandsFor d r s → StateStandsFor d (Occurred e ∷ r) (record s { axes = new })
 axis-stands d r s e new fuzz p u m w l f n h =
     let moved = n ∙ ap (λ (z : ℤ). set s.axes e.code (defuzz e.value (get_or s.axes e.code (pos 0)) z)) f in
     subst (λ (axes : List ℤ). StateStandsFor d (Occurred e ∷ r) (record s { axes = axes })) (sym moved)
     (at_kind (λ x. supports d x.kind x.code ≡ true → is_multi_touch x ≡ false → StateStandsFor d (Occurred x ∷ r) (record s { axes = set s.axes x.code (defuzz x.value (get_or s.axes x.code (pos 0)) (axis_info d r x.code).fuzz) })) e EV_ABS p
-    (λ v t. StandsFor-axis d r s e.code e.value v t w l h) u m)
+    (λ v t. StateStandsFor-axis d r s e.code e.value v t w l h) u m)
 
 pub axis-passes : (d : Description) (r : List RawItem) (s : Values) (e : Event) (given : Option ℤ) (fuzz : ℤ) → e.kind ≡ EV_ABS → supports d e.kind e.code ≡ true → is_multi_touch e ≡ false → e.code ≤ ABS_MAX → fuzz ≡ (axis_info d r e.code).fuzz → given ≡ (if int_eq (get_or s.axes e.code (pos 0)) (defuzz e.value (get_or s.axes e.code (pos 0)) fuzz) then None else Some (defuzz e.value (get_or s.axes e.code (pos 0)) fuzz)) → StateStandsFor d r s → given ≡ passes_as d r e
 axis-passes d r s e given fuzz p u m w f g h =
@@ -75,13 +75,13 @@ pub delay-stands : (d : Description) (r : List RawItem) (s : Values) (e : Event)
 delay-stands d r s e new p q u n h =
     subst (λ (delay : ℤ). StateStandsFor d (Occurred e ∷ r) (record s { delay = delay })) (sym n)
     (at_both (λ x. supports d x.kind x.code ≡ true → StateStandsFor d (Occurred x ∷ r) (record s { delay = if is_negative x then s.delay else x.value })) e EV_REP REP_DELAY p q
-    (λ v. StandsFor-delay d r s e.value v h) u)
+    (λ v. StateStandsFor-delay d r s e.value v h) u)
 
 pub period-stands : (d : Description) (r : List RawItem) (s : Values) (e : Event) (new : ℤ) → e.kind ≡ EV_REP → e.code ≡ REP_PERIOD → supports d e.kind e.code ≡ true → new ≡ (if is_negative e then s.period else e.value) → StateStandsFor d r s → StateStandsFor d (Occurred e ∷ r) (record s { period = new })
 period-stands d r s e new p q u n h =
     subst (λ (period : ℤ). StateStandsFor d (Occurred e ∷ r) (record s { period = period })) (sym n)
     (at_both (λ x. supports d x.kind x.code ≡ true → StateStandsFor d (Occurred x ∷ r) (record s { period = if is_negative x then s.period else x.value })) e EV_REP REP_PERIOD p q
-    (λ v. StandsFor-period d r s e.value v h) u)
+    (λ v. StateStandsFor-period d r s e.value v h) u)
 
 pub delay-passes : (d : Description) (r : List RawItem) (s : Values) (e : Event) (given : Option ℤ) → e.kind ≡ EV_REP → e.code ≡ REP_DELAY → supports d e.kind e.code ≡ true → given ≡ (if int_eq s.delay (if is_negative e then s.delay else e.value) then None else Some e.value) → StateStandsFor d r s → given ≡ passes_as d r e
 delay-passes d r s e given p q u g h =
@@ -95,10 +95,10 @@ period-passes d r s e given p q u g h =
 
 -- an event of a type without state
 pub syn-stands : (d : Description) (r : List RawItem) (s : Values) (e : Event) → e.kind ≡ EV_SYN → StateStandsFor d r s → StateStandsFor d (Occurred e ∷ r) s
-syn-stands d r s e p h = at_kind (λ x. StateStandsFor d (Occurred x ∷ r) s) e EV_SYN p (StandsFor-stateless d r s (event EV_SYN e.code e.value) refl refl refl refl refl refl h)
+syn-stands d r s e p h = at_kind (λ x. StateStandsFor d (Occurred x ∷ r) s) e EV_SYN p (StateStandsFor-stateless d r s (event EV_SYN e.code e.value) refl refl refl refl refl refl h)
 
 pub motion-stands : (d : Description) (r : List RawItem) (s : Values) (e : Event) → e.kind ≡ EV_REL → StateStandsFor d r s → StateStandsFor d (Occurred e ∷ r) s
-motion-stands d r s e p h = at_kind (λ x. StateStandsFor d (Occurred x ∷ r) s) e EV_REL p (StandsFor-stateless d r s (event EV_REL e.code e.value) refl refl refl refl refl refl h)
+motion-stands d r s e p h = at_kind (λ x. StateStandsFor d (Occurred x ∷ r) s) e EV_REL p (StateStandsFor-stateless d r s (event EV_REL e.code e.value) refl refl refl refl refl refl h)
 
 second : (a b : Bool) → (a && b) ≡ true → b ≡ true
 second true b h = h
@@ -115,4 +115,4 @@ pub described-stands : (d : Description) (r : List RawItem) (s : Values) (code :
 described-stands d r s code i axes infos within there a b h =
     subst (λ (xs : List ℤ). StateStandsFor d (Described code i ∷ r) (record s { axes = xs; infos = infos })) (sym a)
     (subst (λ (xs : List AxisInfo). StateStandsFor d (Described code i ∷ r) (record s { axes = set s.axes code i.value; infos = xs })) (sym b)
-    (StandsFor-described d r s code i within there h))
+    (StateStandsFor-described d r s code i within there h))

@@ -172,8 +172,8 @@ setting_after d r setting code value h s = setting_by d r setting code value (is
 -- ---- the whole state
 
 -- at an event that is on no code of any part
-pub StandsFor-still : (d : Description) (r : List RawItem) (s : Values) (e : Event) → ((code : ℕ) → is_on d EV_KEY code e ≡ false) → ((code : ℕ) → is_on d EV_SW code e ≡ false) → ((code : ℕ) → is_on d EV_LED code e ≡ false) → ((code : ℕ) → is_on d EV_SND code e ≡ false) → ((code : ℕ) → is_on d EV_ABS code e ≡ false) → ((code : ℕ) → is_on d EV_REP code e ≡ false) → StateStandsFor d r s → StateStandsFor d (Occurred e ∷ r) s
-StandsFor-still d r s e key sw led snd abs rep h = record {
+pub StateStandsFor-still : (d : Description) (r : List RawItem) (s : Values) (e : Event) → ((code : ℕ) → is_on d EV_KEY code e ≡ false) → ((code : ℕ) → is_on d EV_SW code e ≡ false) → ((code : ℕ) → is_on d EV_LED code e ≡ false) → ((code : ℕ) → is_on d EV_SND code e ≡ false) → ((code : ℕ) → is_on d EV_ABS code e ≡ false) → ((code : ℕ) → is_on d EV_REP code e ≡ false) → StateStandsFor d r s → StateStandsFor d (Occurred e ∷ r) s
+StateStandsFor-still d r s e key sw led snd abs rep h = record {
   keys = λ k. h.keys k ∙ sym (key_down-stays d r e k (key k));
   switches = λ k. h.switches k ∙ sym (turned_on-stays d r e EV_SW k (sw k));
   leds = λ k. h.leds k ∙ sym (turned_on-stays d r e EV_LED k (led k));
@@ -185,17 +185,17 @@ StandsFor-still d r s e key sw led snd abs rep h = record {
 }
 
 -- at an event that is not supported
-pub StandsFor-unsupported : (d : Description) (r : List RawItem) (s : Values) (e : Event) → supports d e.kind e.code ≡ false → StateStandsFor d r s → StateStandsFor d (Occurred e ∷ r) s
-StandsFor-unsupported d r s e u h =
-    StandsFor-still d r s e (λ k. off_all d EV_KEY k e u) (λ k. off_all d EV_SW k e u) (λ k. off_all d EV_LED k e u) (λ k. off_all d EV_SND k e u) (λ k. off_all d EV_ABS k e u) (λ k. off_all d EV_REP k e u) h
+pub StateStandsFor-unsupported : (d : Description) (r : List RawItem) (s : Values) (e : Event) → supports d e.kind e.code ≡ false → StateStandsFor d r s → StateStandsFor d (Occurred e ∷ r) s
+StateStandsFor-unsupported d r s e u h =
+    StateStandsFor-still d r s e (λ k. off_all d EV_KEY k e u) (λ k. off_all d EV_SW k e u) (λ k. off_all d EV_LED k e u) (λ k. off_all d EV_SND k e u) (λ k. off_all d EV_ABS k e u) (λ k. off_all d EV_REP k e u) h
 
 -- at an event of a type without state
-pub StandsFor-stateless : (d : Description) (r : List RawItem) (s : Values) (e : Event) → nat_eq e.kind EV_KEY ≡ false → nat_eq e.kind EV_SW ≡ false → nat_eq e.kind EV_LED ≡ false → nat_eq e.kind EV_SND ≡ false → nat_eq e.kind EV_ABS ≡ false → nat_eq e.kind EV_REP ≡ false → StateStandsFor d r s → StateStandsFor d (Occurred e ∷ r) s
-StandsFor-stateless d r s e key sw led snd abs rep h =
-    StandsFor-still d r s e (λ k. off_kind d EV_KEY k e key) (λ k. off_kind d EV_SW k e sw) (λ k. off_kind d EV_LED k e led) (λ k. off_kind d EV_SND k e snd) (λ k. off_kind d EV_ABS k e abs) (λ k. off_kind d EV_REP k e rep) h
+pub StateStandsFor-stateless : (d : Description) (r : List RawItem) (s : Values) (e : Event) → nat_eq e.kind EV_KEY ≡ false → nat_eq e.kind EV_SW ≡ false → nat_eq e.kind EV_LED ≡ false → nat_eq e.kind EV_SND ≡ false → nat_eq e.kind EV_ABS ≡ false → nat_eq e.kind EV_REP ≡ false → StateStandsFor d r s → StateStandsFor d (Occurred e ∷ r) s
+StateStandsFor-stateless d r s e key sw led snd abs rep h =
+    StateStandsFor-still d r s e (λ k. off_kind d EV_KEY k e key) (λ k. off_kind d EV_SW k e sw) (λ k. off_kind d EV_LED k e led) (λ k. off_kind d EV_SND k e snd) (λ k. off_kind d EV_ABS k e abs) (λ k. off_kind d EV_REP k e rep) h
 
-pub StandsFor-key : (d : Description) (r : List RawItem) (s : Values) (code : ℕ) (value : ℤ) → supports d EV_KEY code ≡ true → code < length s.keys → StateStandsFor d r s → StateStandsFor d (Occurred (event EV_KEY code value) ∷ r) (record s { keys = if is_repeat (event EV_KEY code value) then s.keys else set s.keys code (is_set (event EV_KEY code value)) })
-StandsFor-key d r s code value u l h =
+pub StateStandsFor-key : (d : Description) (r : List RawItem) (s : Values) (code : ℕ) (value : ℤ) → supports d EV_KEY code ≡ true → code < length s.keys → StateStandsFor d r s → StateStandsFor d (Occurred (event EV_KEY code value) ∷ r) (record s { keys = if is_repeat (event EV_KEY code value) then s.keys else set s.keys code (is_set (event EV_KEY code value)) })
+StateStandsFor-key d r s code value u l h =
     let e : Event = event EV_KEY code value in
     record {
       keys = keys_after d r s.keys code value h.keys u l;
@@ -208,8 +208,8 @@ StandsFor-key d r s code value u l h =
       period = h.period ∙ sym (repeat_setting-stays d r e REP_PERIOD (off_kind d EV_REP REP_PERIOD e refl));
     }
 
-pub StandsFor-switch : (d : Description) (r : List RawItem) (s : Values) (code : ℕ) (value : ℤ) → supports d EV_SW code ≡ true → code < length s.switches → StateStandsFor d r s → StateStandsFor d (Occurred (event EV_SW code value) ∷ r) (record s { switches = set s.switches code (is_set (event EV_SW code value)) })
-StandsFor-switch d r s code value u l h =
+pub StateStandsFor-switch : (d : Description) (r : List RawItem) (s : Values) (code : ℕ) (value : ℤ) → supports d EV_SW code ≡ true → code < length s.switches → StateStandsFor d r s → StateStandsFor d (Occurred (event EV_SW code value) ∷ r) (record s { switches = set s.switches code (is_set (event EV_SW code value)) })
+StateStandsFor-switch d r s code value u l h =
     let e : Event = event EV_SW code value in
     record {
       keys = λ k. h.keys k ∙ sym (key_down-stays d r e k (off_kind d EV_KEY k e refl));
@@ -222,8 +222,8 @@ StandsFor-switch d r s code value u l h =
       period = h.period ∙ sym (repeat_setting-stays d r e REP_PERIOD (off_kind d EV_REP REP_PERIOD e refl));
     }
 
-pub StandsFor-led : (d : Description) (r : List RawItem) (s : Values) (code : ℕ) (value : ℤ) → supports d EV_LED code ≡ true → code < length s.leds → StateStandsFor d r s → StateStandsFor d (Occurred (event EV_LED code value) ∷ r) (record s { leds = set s.leds code (is_set (event EV_LED code value)) })
-StandsFor-led d r s code value u l h =
+pub StateStandsFor-led : (d : Description) (r : List RawItem) (s : Values) (code : ℕ) (value : ℤ) → supports d EV_LED code ≡ true → code < length s.leds → StateStandsFor d r s → StateStandsFor d (Occurred (event EV_LED code value) ∷ r) (record s { leds = set s.leds code (is_set (event EV_LED code value)) })
+StateStandsFor-led d r s code value u l h =
     let e : Event = event EV_LED code value in
     record {
       keys = λ k. h.keys k ∙ sym (key_down-stays d r e k (off_kind d EV_KEY k e refl));
@@ -236,8 +236,8 @@ StandsFor-led d r s code value u l h =
       period = h.period ∙ sym (repeat_setting-stays d r e REP_PERIOD (off_kind d EV_REP REP_PERIOD e refl));
     }
 
-pub StandsFor-sound : (d : Description) (r : List RawItem) (s : Values) (code : ℕ) (value : ℤ) → supports d EV_SND code ≡ true → code < length s.sounds → StateStandsFor d r s → StateStandsFor d (Occurred (event EV_SND code value) ∷ r) (record s { sounds = set s.sounds code (is_set (event EV_SND code value)) })
-StandsFor-sound d r s code value u l h =
+pub StateStandsFor-sound : (d : Description) (r : List RawItem) (s : Values) (code : ℕ) (value : ℤ) → supports d EV_SND code ≡ true → code < length s.sounds → StateStandsFor d r s → StateStandsFor d (Occurred (event EV_SND code value) ∷ r) (record s { sounds = set s.sounds code (is_set (event EV_SND code value)) })
+StateStandsFor-sound d r s code value u l h =
     let e : Event = event EV_SND code value in
     record {
       keys = λ k. h.keys k ∙ sym (key_down-stays d r e k (off_kind d EV_KEY k e refl));
@@ -250,8 +250,8 @@ StandsFor-sound d r s code value u l h =
       period = h.period ∙ sym (repeat_setting-stays d r e REP_PERIOD (off_kind d EV_REP REP_PERIOD e refl));
     }
 
-pub StandsFor-axis : (d : Description) (r : List RawItem) (s : Values) (code : ℕ) (value : ℤ) → supports d EV_ABS code ≡ true → is_multi_touch (event EV_ABS code value) ≡ false → code ≤ ABS_MAX → code < length s.axes → StateStandsFor d r s → StateStandsFor d (Occurred (event EV_ABS code value) ∷ r) (record s { axes = set s.axes code (defuzz value (get_or s.axes code (pos 0)) (axis_info d r code).fuzz) })
-StandsFor-axis d r s code value u m w l h =
+pub StateStandsFor-axis : (d : Description) (r : List RawItem) (s : Values) (code : ℕ) (value : ℤ) → supports d EV_ABS code ≡ true → is_multi_touch (event EV_ABS code value) ≡ false → code ≤ ABS_MAX → code < length s.axes → StateStandsFor d r s → StateStandsFor d (Occurred (event EV_ABS code value) ∷ r) (record s { axes = set s.axes code (defuzz value (get_or s.axes code (pos 0)) (axis_info d r code).fuzz) })
+StateStandsFor-axis d r s code value u m w l h =
     let e : Event = event EV_ABS code value in
     record {
       keys = λ k. h.keys k ∙ sym (key_down-stays d r e k (off_kind d EV_KEY k e refl));
@@ -264,8 +264,8 @@ StandsFor-axis d r s code value u m w l h =
       period = h.period ∙ sym (repeat_setting-stays d r e REP_PERIOD (off_kind d EV_REP REP_PERIOD e refl));
     }
 
-pub StandsFor-delay : (d : Description) (r : List RawItem) (s : Values) (value : ℤ) → supports d EV_REP REP_DELAY ≡ true → StateStandsFor d r s → StateStandsFor d (Occurred (event EV_REP REP_DELAY value) ∷ r) (record s { delay = if is_negative (event EV_REP REP_DELAY value) then s.delay else value })
-StandsFor-delay d r s value u h =
+pub StateStandsFor-delay : (d : Description) (r : List RawItem) (s : Values) (value : ℤ) → supports d EV_REP REP_DELAY ≡ true → StateStandsFor d r s → StateStandsFor d (Occurred (event EV_REP REP_DELAY value) ∷ r) (record s { delay = if is_negative (event EV_REP REP_DELAY value) then s.delay else value })
+StateStandsFor-delay d r s value u h =
     let e : Event = event EV_REP REP_DELAY value in
     record {
       keys = λ k. h.keys k ∙ sym (key_down-stays d r e k (off_kind d EV_KEY k e refl));
@@ -278,8 +278,8 @@ StandsFor-delay d r s value u h =
       period = h.period ∙ sym (repeat_setting-stays d r e REP_PERIOD (off_code d EV_REP REP_PERIOD e (λ x. absurd (omega arith))));
     }
 
-pub StandsFor-period : (d : Description) (r : List RawItem) (s : Values) (value : ℤ) → supports d EV_REP REP_PERIOD ≡ true → StateStandsFor d r s → StateStandsFor d (Occurred (event EV_REP REP_PERIOD value) ∷ r) (record s { period = if is_negative (event EV_REP REP_PERIOD value) then s.period else value })
-StandsFor-period d r s value u h =
+pub StateStandsFor-period : (d : Description) (r : List RawItem) (s : Values) (value : ℤ) → supports d EV_REP REP_PERIOD ≡ true → StateStandsFor d r s → StateStandsFor d (Occurred (event EV_REP REP_PERIOD value) ∷ r) (record s { period = if is_negative (event EV_REP REP_PERIOD value) then s.period else value })
+StateStandsFor-period d r s value u h =
     let e : Event = event EV_REP REP_PERIOD value in
     record {
       keys = λ k. h.keys k ∙ sym (key_down-stays d r e k (off_kind d EV_KEY k e refl));
@@ -306,8 +306,8 @@ unfolding axis_value
 axis_value-multi_touch d r e code h = no_second (is_on d EV_ABS code e) (not (is_multi_touch e)) (defuzz e.value (axis_value d r code) (axis_info d r code).fuzz) (axis_value d r code) (not_so (is_multi_touch e) h)
 
 -- it changes nothing here; for whoever keeps slots beside a state
-pub StandsFor-multi_touch : (d : Description) (r : List RawItem) (s : Values) (e : Event) → is_multi_touch e ≡ true → StateStandsFor d r s → StateStandsFor d (Occurred e ∷ r) s
-StandsFor-multi_touch d r s e m h =
+pub StateStandsFor-multi_touch : (d : Description) (r : List RawItem) (s : Values) (e : Event) → is_multi_touch e ≡ true → StateStandsFor d r s → StateStandsFor d (Occurred e ∷ r) s
+StateStandsFor-multi_touch d r s e m h =
     let axis : e.kind ≡ EV_ABS = same_kind e.kind EV_ABS (first (nat_eq e.kind EV_ABS) (is_multi_touch_code e.code) m) in
     let other : (kind code : ℕ) → nat_eq EV_ABS kind ≡ false → is_on d kind code e ≡ false = λ kind code n. off_kind d kind code e (ap (λ (k : ℕ). nat_eq k kind) axis ∙ n) in
     record {
@@ -341,9 +341,9 @@ unfolding axis_info
 axis_info-described d r code i k = refl
 
 -- its value and its description are those that it was given
-pub StandsFor-described : (d : Description) (r : List RawItem) (s : Values) (code : ℕ) (i : AxisInfo) → code < length s.axes → code < length s.infos → StateStandsFor d r s → StateStandsFor d (Described code i ∷ r) (record s { axes = set s.axes code i.value; infos = set s.infos code i })
+pub StateStandsFor-described : (d : Description) (r : List RawItem) (s : Values) (code : ℕ) (i : AxisInfo) → code < length s.axes → code < length s.infos → StateStandsFor d r s → StateStandsFor d (Described code i ∷ r) (record s { axes = set s.axes code i.value; infos = set s.infos code i })
 unfolding key_down turned_on repeat_setting
-StandsFor-described d r s code i within there h = record {
+StateStandsFor-described d r s code i within there h = record {
   keys = h.keys;
   switches = h.switches;
   leds = h.leds;

@@ -16,9 +16,9 @@ own_of-append : (ws vs : List Worker) → own_of (ws ++ vs) ≡ own_of ws ++ own
 own_of-append [] vs = refl
 own_of-append (w ∷ ws) vs = ap (λ (places : List ℕ). (view_in w.pass).own ++ places) (own_of-append ws vs) ∙ sym (append_assoc (view_in w.pass).own (own_of ws) (own_of vs))
 
-pub ends_of-append : (ws vs : List Worker) → ends_of_workers (ws ++ vs) ≡ ends_of_workers ws ++ ends_of_workers vs
-ends_of-append [] vs = refl
-ends_of-append (w ∷ ws) vs = ap (λ (ends : List Ended). ended_of w.actor ∷ ends) (ends_of-append ws vs)
+pub ends_of_workers-append : (ws vs : List Worker) → ends_of_workers (ws ++ vs) ≡ ends_of_workers ws ++ ends_of_workers vs
+ends_of_workers-append [] vs = refl
+ends_of_workers-append (w ∷ ws) vs = ap (λ (ends : List Ended). ended_of w.actor ∷ ends) (ends_of_workers-append ws vs)
 
 -- the passes of some were joined, and then those of others
 pub joined-more : (ws vs : List Worker) (a b c : PassView Description UEntry) → AreJoined ws a b → AreJoined vs b c → AreJoined (ws ++ vs) a c

@@ -9,7 +9,7 @@ use Rattle.std.proofs.lemmas.Bool.{and_parts}
 use Rattle.inp_codes.specs.KindNames.{kind_of}
 use Rattle.inp_codes.specs.CodeNames.{code_of}
 use Rattle.inp_codes.specs.Table.{is_name_word, is_word_byte}
-use Rattle.inp_codes.proofs.LawLemmas.{kind_name-iff_kind_of, is_word-kind_name, name_of-iff_code_of, is_word-name_of}
+use Rattle.inp_codes.proofs.LawLemmas.{kind_name-iff_kind_of, is_name_word-kind_name, name_of-iff_code_of, is_name_word-name_of}
 
 -- a word whose bytes pass a test that only ASCII passes
 pub bytes_are_ascii : (test : ℕ → Bool) → ((b : ℕ) → test b ≡ true → b < 128) → (word : List ℕ) → list_all test word ≡ true → IsAscii word
@@ -36,11 +36,11 @@ kind_of_no_text word no_text = by_found (kind_of word) refl
   where
     by_found : (found : Option ℕ) → kind_of word ≡ found → found ≡ None
     by_found None h = refl
-    by_found (Some kind) h = absurd (no_text (IsUtf8-from_word word (is_word-kind_name kind word ((kind_name-iff_kind_of kind word).1 h))))
+    by_found (Some kind) h = absurd (no_text (IsUtf8-from_word word (is_name_word-kind_name kind word ((kind_name-iff_kind_of kind word).1 h))))
 
 pub code_of_no_text : (word : List ℕ) → ¬ (IsUtf8 word) → code_of word ≡ None
 code_of_no_text word no_text = by_found (code_of word) refl
   where
     by_found : (found : Option (ℕ × ℕ)) → code_of word ≡ found → found ≡ None
     by_found None h = refl
-    by_found (Some named) h = absurd (no_text (IsUtf8-from_word word (is_word-name_of named.0 named.1 word ((name_of-iff_code_of named.0 named.1 word).1 h))))
+    by_found (Some named) h = absurd (no_text (IsUtf8-from_word word (is_name_word-name_of named.0 named.1 word ((name_of-iff_code_of named.0 named.1 word).1 h))))

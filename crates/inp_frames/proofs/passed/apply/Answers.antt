@@ -5,7 +5,7 @@ use Rattle.inp_model.specs.declared.event.Event.{Event}
 use Rattle.inp_model.specs.RawItem.{Occurred}
 use Rattle.inp_model.specs.Passed.{passes_as}
 use Rattle.inp_caps.specs.Disposition.{flags_after}
-use Rattle.inp_state.proofs.Steps.{StandsFor-multi_touch}
+use Rattle.inp_state.proofs.Steps.{StateStandsFor-multi_touch}
 use Rattle.inp_slots.specs.Slots.{SlotsStandFor, touch}
 use Rattle.inp_slots.proofs.Others.{SlotsStandFor-other}
 use Rattle.inp_frames.proofs.Passing.{touches}
@@ -19,7 +19,7 @@ touched c =
 
 pub returns-then-is_multi_touch-clause-state : goal.returns-then-is_multi_touch-clause-state
 returns-then-is_multi_touch-clause-state c =
-    λ r h. StandsFor-multi_touch c.args.caps.now r c.args.state.now c.args.event (sym c.is_multi_touch.ensures.multi_touch ∙ c.if-is_multi_touch.true) h
+    λ r h. StateStandsFor-multi_touch c.args.caps.now r c.args.state.now c.args.event (sym c.is_multi_touch.ensures.multi_touch ∙ c.if-is_multi_touch.true) h
 
 pub returns-then-is_multi_touch-clause-slots : goal.returns-then-is_multi_touch-clause-slots
 returns-then-is_multi_touch-clause-slots c =

@@ -1,11 +1,11 @@
 -- The laws of the synthesised events.
-use Rattle.inp_reader.proofs.EventsLead.{Leads-synth}
+use Rattle.inp_reader.proofs.EventsLead.{LeadsTheView-synth}
 use Rattle.inp_reader.proofs.Counts.{length-synth}
 use Rattle.inp_reader.proofs.laws.synthesis.Goals as goal
 
 pub returns : goal.returns
 returns c = record {
-  new_view = λ slots old new h. (Leads-synth slots old new h).to;
-  no_idle_event = λ slots old new h. (Leads-synth slots old new h).changes;
+  new_view = λ slots old new h. (LeadsTheView-synth slots old new h).to;
+  no_idle_event = λ slots old new h. (LeadsTheView-synth slots old new h).changes;
   few = length-synth;
 }

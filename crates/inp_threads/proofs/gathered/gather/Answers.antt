@@ -6,7 +6,7 @@ use Rattle.inp_script.specs.declared.ended.Ended.{Ended}
 use Rattle.inp_turn.specs.Pass.{view_of}
 use Rattle.inp_threads.specs.declared.worker.Worker.{Worker}
 use Rattle.inp_threads.specs.Joined.{IsBack, IsSizedWorker, ends_of_workers}
-use Rattle.inp_threads.proofs.Joining.{done-more, joined-more, ends_of-append}
+use Rattle.inp_threads.proofs.Joining.{done-more, joined-more, ends_of_workers-append}
 use Rattle.inp_threads.proofs.gathered.gather.Goals as goal
 
 pub add-gathered-requires-clause-back : goal.add-gathered-requires-clause-back
@@ -23,7 +23,7 @@ loop-worker-preserved c =
     let added = c.add-gathered.ensures in (
       added.ready,
       joined-more so_far (w ∷ []) (view_of c.args.pass) (view_of c.loop-worker.gathered.pass) (view_of c.add-gathered.result.pass) is.1 added.joined,
-      added.ends ∙ ap (λ (ends : List Ended). ends ++ ends_of_workers (w ∷ [])) is.2 ∙ sym (ends_of-append so_far (w ∷ [])),
+      added.ends ∙ ap (λ (ends : List Ended). ends ++ ends_of_workers (w ∷ [])) is.2 ∙ sym (ends_of_workers-append so_far (w ∷ [])),
       added.capacity ∙ is.3,
       All-push IsSizedWorker so_far w is.4 added.sized,
       λ both. done-more so_far w c.loop-worker.gathered.is_done is.5 (sym added.done ∙ both),

@@ -6,7 +6,7 @@ use Rattle.inp_model.specs.Description.{supports, no_info}
 use Rattle.inp_caps.proofs.Supported.{key-within, axis-within, switch-within, led-within, sound-within}
 use Rattle.inp_state.specs.State.{StateStandsFor}
 use Rattle.inp_state.specs.contracts.state.State.{the_view}
-use Rattle.inp_state.proofs.Steps.{StandsFor-unsupported, StandsFor-stateless}
+use Rattle.inp_state.proofs.Steps.{StateStandsFor-unsupported, StateStandsFor-stateless}
 use Rattle.inp_state.proofs.Arms.{key-stands, key-passes, switch-stands, switch-passes, led-stands, led-passes, sound-stands, axis-stands, axis-passes, delay-stands, delay-passes, period-stands, period-passes, syn-stands, motion-stands, setting-within}
 use Rattle.inp_state.proofs.state.State.change.Goals as goal
 
@@ -16,7 +16,7 @@ returns-then-event-eq-EV_SYN-clause-stands c = λ r h. syn-stands c.args.caps.no
 pub returns-then-not-supports-clause-stands : goal.returns-then-not-supports-clause-stands
 returns-then-not-supports-clause-stands c =
     let u : supports c.args.caps.now c.args.event.kind c.args.event.code ≡ false = sym c.supports.ensures.supported ∙ c.if-not-supports.true in
-    λ r h. StandsFor-unsupported c.args.caps.now r c.args.self.now c.args.event u h
+    λ r h. StateStandsFor-unsupported c.args.caps.now r c.args.self.now c.args.event u h
 
 pub returns-in-1-clause-stands : goal.returns-in-1-clause-stands
 returns-in-1-clause-stands c =
@@ -111,4 +111,4 @@ returns-in-20-2-clause-passes c =
 
 pub returns-in_default-clause-stands : goal.returns-in_default-clause-stands
 returns-in_default-clause-stands c =
-    λ r h. StandsFor-stateless c.args.caps.now r c.args.self.now c.args.event (grind (arith, nat_tests)) (grind (arith, nat_tests)) (grind (arith, nat_tests)) (grind (arith, nat_tests)) (grind (arith, nat_tests)) (grind (arith, nat_tests)) h
+    λ r h. StateStandsFor-stateless c.args.caps.now r c.args.self.now c.args.event (grind (arith, nat_tests)) (grind (arith, nat_tests)) (grind (arith, nat_tests)) (grind (arith, nat_tests)) (grind (arith, nat_tests)) (grind (arith, nat_tests)) h
