@@ -28,23 +28,23 @@ abbrev pub new_joying : Description → Joying
 new_joying d = record { reading = new_reading d; handed = startup_len d; picture = blank_picture }
 
 -- a new client starts after these steps
-abbrev pub after_joy_start : Description → List Step → JoyStand
-after_joy_start d steps =
-    let p = played d (reverse steps) [] (joy_start d (new_joying d)) in
+abbrev pub started_joy : Description → List Step → JoyStand
+started_joy d steps =
+    let p = played d (reverse steps) (joy_start d (new_joying d)) in
     record { past = p.past; joying = p.result.1; answers = []; made = calls_kept p.calls }
 
 -- so many reads, of at most four turns each
 abbrev pub after_reads : Description → List Step → Joying → ℕ → List (JoyRead × List ℕ) → List CallMade → JoyStand
 after_reads d past j zero answers made = record { past = past; joying = j; answers = answers; made = made }
 after_reads d past j (suc n) answers made =
-    let p = played d past [] (turns d 4 0 j) in
+    let p = played d past (turns d 4 0 j) in
     let answer = unwrap_or p.result (stop_with More j) in
     after_reads d p.past answer.joying n (answers ++ (answer.read, bytes_after answer.record_out []) ∷ []) (made ++ calls_kept p.calls)
 
 -- a new client starts, these steps come, and it reads so often
 abbrev pub after_joy : Description → List Step → ℕ → JoyStand
 after_joy d steps reads =
-    let s = after_joy_start d [] in after_reads d (reverse steps ++ s.past) s.joying reads [] []
+    let s = started_joy d [] in after_reads d (reverse steps ++ s.past) s.joying reads [] []
 
 -- a stick with a trigger and the axis X, from 0 to 100 and 5 at first
 abbrev pub stick : Description

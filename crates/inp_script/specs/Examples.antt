@@ -48,10 +48,10 @@ job_or before (Some j) = j
 -- a command is done in at most so many rounds
 abbrev pub after_act : Description → Role → Option Waiting → ℕ → TwoJobs → Act → TwoJobs
 after_act d role wait n s (by_source command) =
-    let p = played d s.past [] (line_talk Source d [] wait n command s.source) in
+    let p = played d s.past (line_talk Source d [] wait n command s.source) in
     record s { past = p.past; source = job_or s.source p.result }
 after_act d role wait n s (by_other command) =
-    let p = played d s.past [] (line_talk role d [] wait n command s.other) in
+    let p = played d s.past (line_talk role d [] wait n command s.other) in
     record s { past = p.past; other = job_or s.other p.result }
 
 abbrev pub after_acts : Description → Role → Option Waiting → ℕ → TwoJobs → List Act → TwoJobs
