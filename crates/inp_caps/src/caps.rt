@@ -7,7 +7,7 @@ use inp_bits::Bits;
 use inp_model::{
     ABS_MAX, ABS_MT_SLOT, ABS_MT_TRACKING_ID, AxisInfo, Clock, EV_ABS, EV_KEY, EV_LED, EV_MSC,
     EV_REL, EV_REP, EV_SND, EV_SW, EV_SYN, FILTERS_MAX, Filter, HINT_MAX, HINT_MIN, LOG_MAX,
-    MOMENT_MAX, REP_MAX, SLOTS_MAX, SYN_DROPPED,
+    MOMENT_MAX, NO_INFO, REP_MAX, SLOTS_MAX, SYN_DROPPED,
 };
 use std::marker::Model;
 
@@ -19,16 +19,6 @@ const LOG_DEFAULT: u32 = 1_048_576;
 
 /// The greatest tracking id that a device with slots describes, where it describes none (this project's choice).
 const TRACKING_ID_MAX: i32 = 65_535;
-
-/// An axis of which nothing was said.
-const NO_INFO: AxisInfo = AxisInfo {
-    value: 0,
-    minimum: 0,
-    maximum: 0,
-    fuzz: 0,
-    flat: 0,
-    resolution: 0,
-};
 
 /// No filter: each place for one holds the same, and none is in use.
 const NO_FILTERS: [Filter; FILTERS_MAX as usize] = [Filter::Norepeat; FILTERS_MAX as usize];

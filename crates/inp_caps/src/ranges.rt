@@ -5,9 +5,9 @@ ghost use Rattle.inp_model.specs.Description.{is_kind, is_bad_axis, is_multi_tou
 ghost use Rattle.inp_caps.specs.Builder.{is_code};
 
 use inp_model::{
-    ABS_MAX, ABS_MT_SLOT, ABS_MT_TOOL_Y, ABS_MT_TRACKING_ID, AxisInfo, BOUNCE_MAX, EV_ABS, EV_KEY,
-    EV_LED, EV_MSC, EV_REL, EV_REP, EV_SND, EV_SW, EV_SYN, FUZZ_MAX, Filter, KEY_MAX, LED_MAX,
-    MSC_MAX, REL_MAX, REP_MAX, SND_MAX, SW_MAX, SYN_DROPPED,
+    ABS_MAX, ABS_MT_SLOT, ABS_MT_TRACKING_ID, AxisInfo, BOUNCE_MAX, EV_ABS, EV_KEY, EV_LED, EV_MSC,
+    EV_REL, EV_REP, EV_SND, EV_SW, EV_SYN, FUZZ_MAX, Filter, KEY_MAX, LED_MAX, MSC_MAX, REL_MAX,
+    REP_MAX, SND_MAX, SW_MAX, SYN_DROPPED, is_multi_touch_code,
 };
 
 // Whether a device can have the type.
@@ -49,7 +49,7 @@ fn has_bad_fuzz(info: AxisInfo) -> bool
 fn has_bad_value(code: u16, info: AxisInfo) -> bool
     ensures { result ≡ (is_multi_touch_code code && not (int_eq info.value (pos 0))) }
 {
-    code >= ABS_MT_SLOT && code <= ABS_MT_TOOL_Y && info.value != 0
+    is_multi_touch_code(code) && info.value != 0
 }
 
 // Neither the number of a slot nor a tracking id is smoothed.

@@ -5,11 +5,8 @@ ghost use Rattle.inp_model.specs.Description.{Description, is_slot_code};
 ghost use Rattle.inp_model.specs.Reply.{column, rows, written};
 ghost use Rattle.inp_slots.specs.Slots.{SlotsStandFor};
 
-use inp_model::{ABS_MT_TOOL_Y, ABS_MT_TOUCH_MAJOR, SLOTS_MAX};
+use inp_model::{ABS_MT_TOUCH_MAJOR, SLOT_VALUES, SLOTS_MAX};
 use inp_slots::Slots;
-
-/// How many values a slot has.
-pub const VALUES: u32 = (ABS_MT_TOOL_Y - ABS_MT_TOUCH_MAJOR + 1) as u32;
 
 /// Writes the value of each slot on one axis to the front of a buffer.
 pub fn write_column(slots: &Slots, count: u32, code: u16, cells: &mut [i32])
@@ -28,12 +25,12 @@ pub fn write_column(slots: &Slots, count: u32, code: u16, cells: &mut [i32])
 pub fn write_rows(slots: &Slots, count: u32, cells: &mut [i32])
     requires count { count ≡ length slots.now.slots }
     requires range { count ≤ SLOTS_MAX }
-    requires room { 14 * count ≤ length cells.old }
+    requires room { SLOT_VALUES * count ≤ length cells.old }
     ensures written { (d : Description) (r : List RawItem) → SlotsStandFor d r slots.now
         → cells.new ≡ written (rows d r) cells.old }
 {
-    for index in 0..VALUES * count {
-        let code = ABS_MT_TOUCH_MAJOR + (index % VALUES) as u16;
-        cells[index as usize] = slots.value(index / VALUES, code);
+    for index in 0..SLOT_VALUES * count {
+        let code = ABS_MT_TOUCH_MAJOR + (index % SLOT_VALUES) as u16;
+        cells[index as usize] = slots.value(index / SLOT_VALUES, code);
     }
 }

@@ -10,16 +10,8 @@ ghost use Rattle.inp_device.specs.Present.{HasBits};
 use crate::words::words_of;
 use inp_caps::Caps;
 use inp_frames::Core;
-use inp_model::{ABS_MAX, ABS_MT_SLOT, ABS_MT_TOOL_Y, AxisInfo, EV_ABS, EV_KEY, EV_LED, EV_SW};
-
-/// An axis of which nothing was said.
-const NO_INFO: AxisInfo = AxisInfo {
-    value: 0,
-    minimum: 0,
-    maximum: 0,
-    fuzz: 0,
-    flat: 0,
-    resolution: 0,
+use inp_model::{
+    ABS_MAX, ABS_MT_SLOT, AxisInfo, EV_ABS, EV_KEY, EV_LED, EV_SW, NO_INFO, is_multi_touch_code,
 };
 
 /// The codes of a type of keys, switches, LEDs or sounds that are on: bit i for the code i, 64 a word.
@@ -63,7 +55,7 @@ fn present_value(core: &Core, code: u16) -> i32
 {
     if code == ABS_MT_SLOT {
         core.slots().announced()
-    } else if code > ABS_MT_SLOT && code <= ABS_MT_TOOL_Y {
+    } else if is_multi_touch_code(code) {
         0
     } else {
         core.state().axis(code)

@@ -4,10 +4,10 @@ ghost use Rattle.inp_model.specs.declared.limits.TheConstants.{LOG_MAX};
 ghost use Rattle.inp_model.specs.declared.step.Step.TheVariants.{GetAxis, GetSlots, SyncSlots};
 ghost use Rattle.inp_device.specs.Present.{IsReadyFor, IsMade, AsksBits};
 
-use crate::cells::{VALUES, write_column, write_rows};
+use crate::cells::{write_column, write_rows};
 use crate::present::Present;
 use crate::queries;
-use inp_model::{Reply, Step};
+use inp_model::{Reply, SLOT_VALUES, Step};
 
 impl Present {
     /// A client asks which codes of a type are on. Its queued events of the type are removed.
@@ -44,7 +44,7 @@ impl Present {
         code: u16,
         cells: &mut [i32],
     ) -> Reply
-        requires room { 14 * self.old.caps.slots ≤ length cells.old }
+        requires room { SLOT_VALUES * self.old.caps.slots ≤ length cells.old }
         requires ready { IsReadyFor history.now (GetSlots client code) self.old }
         ensures made { IsMade history.now (GetSlots client code) self.old result [] [] cells.old
             cells.new self.new }
@@ -56,7 +56,7 @@ impl Present {
 
     /// A client asks for all values of all slots. Its queued multi-touch events are removed.
     pub fn sync_slots(&mut self, history: &[Step], client: u32, cells: &mut [i32]) -> Reply
-        requires room { 14 * self.old.caps.slots ≤ length cells.old }
+        requires room { SLOT_VALUES * self.old.caps.slots ≤ length cells.old }
         requires ready { IsReadyFor history.now (SyncSlots client) self.old }
         ensures made { IsMade history.now (SyncSlots client) self.old result [] [] cells.old
             cells.new self.new }
@@ -64,7 +64,7 @@ impl Present {
         let count = self.caps.slots();
         write_rows(self.core.slots(), count, cells);
         self.handler.clients.flush_slots(client);
-        self.tell_cells(history, VALUES * count)
+        self.tell_cells(history, SLOT_VALUES * count)
     }
 
     // The reply to a query that tells so many values of slots. It tells the slot that the clients know from the last

@@ -2,7 +2,7 @@
 ghost use Rattle.std.specs.Prelude.{◌≡◌, ◌≤◌, ℕ, false, List, length, reverse};
 ghost use Rattle.inp_model.specs.declared.step.Step.{Step};
 ghost use Rattle.inp_model.specs.declared.limits.TheConstants.{LOG_MAX};
-ghost use Rattle.inp_model.specs.Description.{Description, is_slot_code, is_fixed_axis, is_bad_fuzz};
+ghost use Rattle.inp_model.specs.Description.{Description, is_fixed_axis, is_bad_fuzz};
 ghost use Rattle.inp_model.specs.Step.{client_of, is_same};
 ghost use Rattle.inp_model.specs.Past.{has_mask, mask_words};
 ghost use Rattle.inp_model.specs.Reply.{refused, is_bad_client, is_no_device, is_bad_kind, is_bad_code, is_bad_info, finds_nothing, is_busy, is_not_grabber, is_one_too_many, is_full};
@@ -12,8 +12,8 @@ use crate::present::Present;
 use crate::replies::refuse;
 use inp_caps::Caps;
 use inp_model::{
-    ABS_MAX, ABS_MT_SLOT, ABS_MT_TOOL_Y, ABS_MT_TOUCH_MAJOR, AxisInfo, CLIENTS_MAX, EV_ABS, EV_KEY,
-    EV_LED, EV_SND, EV_SW, FUZZ_MAX, Refusal, Reply, Step,
+    ABS_MAX, AxisInfo, CLIENTS_MAX, EV_ABS, EV_KEY, EV_LED, EV_SND, EV_SW, FUZZ_MAX, Refusal,
+    Reply, Step, is_multi_touch_code, is_slot_code,
 };
 
 impl Present {
@@ -190,17 +190,7 @@ fn is_bad_fuzz(info: AxisInfo) -> bool
 fn is_fixed_axis(caps: &Caps, code: u16) -> bool
     ensures exact { result ≡ is_fixed_axis caps.now code }
 {
-    if code > ABS_MAX || code >= ABS_MT_SLOT && code <= ABS_MT_TOOL_Y {
-        return true;
-    }
-    !caps.supports(EV_ABS, code)
-}
-
-// Whether values of the axis belong to slots.
-fn is_slot_code(code: u16) -> bool
-    ensures exact { result ≡ is_slot_code code }
-{
-    code >= ABS_MT_TOUCH_MAJOR && code <= ABS_MT_TOOL_Y
+    code > ABS_MAX || is_multi_touch_code(code) || !caps.supports(EV_ABS, code)
 }
 
 // Whether there is a mask of the type's codes, or of the types.

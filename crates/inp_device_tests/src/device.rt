@@ -6,7 +6,9 @@ ghost use Rattle.inp_model.specs.Injecting.{AreInTime};
 use inp_caps::{Caps, CapsBuilder, CapsRefused};
 use inp_core_tests::common::{A, A_DOWN, REPORT, key};
 use inp_device::Device;
-use inp_model::{EV_KEY, Event, Injected, MOMENT_MAX, Refusal, Reply, Stamped, Step, Taken};
+use inp_model::{
+    EV_KEY, Event, Injected, MOMENT_MAX, Refusal, Reply, SLOT_VALUES, Stamped, Step, Taken,
+};
 use std::process::Abort;
 use std::test::Fail;
 
@@ -117,7 +119,7 @@ pub fn make(
         Step::Read { count, .. } => assert!(rt; count as usize <= out.len()),
         Step::GetSlots { .. } | Step::SyncSlots { .. } => {
             let count = device.caps().slots();
-            assert!(rt; cells.len() >= 14 * count as usize);
+            assert!(rt; cells.len() >= (SLOT_VALUES * count) as usize);
         }
         Step::Open
         | Step::Close { .. }

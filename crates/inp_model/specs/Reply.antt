@@ -3,7 +3,7 @@ use Rattle.std.specs.Prelude.{ℕ, ℤ, pos, ◌+◌, ◌*◌, ◌≡◌, ◌≤
 use Rattle.std.specs.List.{range_with_len}
 use Rattle.inp_model.specs.declared.event.TheConstants.{EV_KEY, EV_ABS, EV_SW, EV_LED, EV_SND, ABS_MAX}
 use Rattle.inp_model.specs.declared.limits.TheConstants.{CLIENTS_MAX}
-use Rattle.inp_model.specs.declared.multi_touch.TheConstants.{ABS_MT_SLOT, ABS_MT_TOUCH_MAJOR}
+use Rattle.inp_model.specs.declared.multi_touch.TheConstants.{ABS_MT_SLOT, ABS_MT_TOUCH_MAJOR, SLOT_VALUES}
 use Rattle.inp_model.specs.declared.axis_info.AxisInfo.{AxisInfo}
 use Rattle.inp_model.specs.declared.taken.Taken.{Taken}
 use Rattle.inp_model.specs.declared.step.Step.{Step}
@@ -164,9 +164,9 @@ axis_answer d r code =
 abbrev pub column : Description → List RawItem → ℕ → List ℤ
 column d r code = map (λ slot. cell d r (pos slot) code) (range_with_len 0 d.slots)
 
--- the fourteen values of a slot, by ascending codes
+-- the values of a slot, by ascending codes
 abbrev pub row : Description → List RawItem → ℕ → List ℤ
-row d r slot = map (λ code. cell d r (pos slot) code) (range_with_len ABS_MT_TOUCH_MAJOR 14)
+row d r slot = map (λ code. cell d r (pos slot) code) (range_with_len ABS_MT_TOUCH_MAJOR SLOT_VALUES)
 
 -- all values of all slots, slot by slot
 abbrev pub rows : Description → List RawItem → List ℤ
@@ -207,7 +207,7 @@ accepted_with eats d past (GetSounds client) = bits_answer d past EV_SND
 accepted_with eats d past (GetAxis client code) = alone (Axis (length past) (axis_answer d (raw d past) code))
 accepted_with eats d past (SetAxis client code axis) = done_answer past
 accepted_with eats d past (GetSlots client code) = cells_answer d past d.slots (column d (raw d past) code)
-accepted_with eats d past (SyncSlots client) = cells_answer d past (14 * d.slots) (rows d (raw d past))
+accepted_with eats d past (SyncSlots client) = cells_answer d past (SLOT_VALUES * d.slots) (rows d (raw d past))
 accepted_with eats d past (Write client e now) = done_answer past
 accepted_with eats d past (Grab client) = done_answer past
 accepted_with eats d past (Ungrab client) = done_answer past
@@ -263,8 +263,8 @@ IsAnswer d past x given = (given ≡ answer d past x) ⊎ LacksMemory d past x g
 -- the caller's buffers are as long as what it asks for
 abbrev pub HasRoom : Description → Step → List Taken → List ℤ → Type 0
 HasRoom d (Read client count) out cells = count ≤ length out
-HasRoom d (GetSlots client code) out cells = 14 * d.slots ≤ length cells
-HasRoom d (SyncSlots client) out cells = 14 * d.slots ≤ length cells
+HasRoom d (GetSlots client code) out cells = SLOT_VALUES * d.slots ≤ length cells
+HasRoom d (SyncSlots client) out cells = SLOT_VALUES * d.slots ≤ length cells
 HasRoom d _ out cells = Unit {0}
 
 -- What a step of a device leaves: the exact reply, what is written to the caller's buffers, and the past after it.

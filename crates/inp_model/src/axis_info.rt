@@ -16,3 +16,13 @@ pub struct AxisInfo {
     /// Units per millimetre, or per radian for a rotation.
     pub resolution: i32,
 }
+
+/// An axis of which nothing was said: all its numbers are 0 (this project's choice).
+pub const NO_INFO: AxisInfo = AxisInfo {
+    value: 0,
+    minimum: 0,
+    maximum: 0,
+    fuzz: 0,
+    flat: 0,
+    resolution: 0,
+};

@@ -2,7 +2,7 @@
 ghost use Rattle.std.specs.Prelude.{◌≡◌};
 ghost use Rattle.inp_model.specs.Event.{is_report, is_repeat, is_set, is_multi_touch, slot_event};
 
-use crate::multi_touch::{ABS_MT_SLOT, ABS_MT_TOOL_Y};
+use crate::multi_touch::{ABS_MT_SLOT, is_multi_touch_code};
 
 /// The type of the events that separate frames (the kernel's input event codes).
 pub const EV_SYN: u16 = 0;
@@ -159,7 +159,7 @@ impl Event {
     pub fn is_multi_touch(self) -> bool
         ensures multi_touch { result ≡ is_multi_touch self }
     {
-        self.kind == EV_ABS && self.code >= ABS_MT_SLOT && self.code <= ABS_MT_TOOL_Y
+        self.kind == EV_ABS && is_multi_touch_code(self.code)
     }
 
     /// The event that says which slot the multi-touch values behind it belong to (multi-touch protocol B).

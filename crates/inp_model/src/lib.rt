@@ -42,7 +42,7 @@ mod step;
 mod taken;
 mod timer;
 
-pub use axis_info::AxisInfo;
+pub use axis_info::{AxisInfo, NO_INFO};
 pub use clock::Clock;
 pub use evdev::Evdev;
 pub use event::{
@@ -61,7 +61,7 @@ pub use multi_touch::{
     ABS_MT_BLOB_ID, ABS_MT_DISTANCE, ABS_MT_ORIENTATION, ABS_MT_POSITION_X, ABS_MT_POSITION_Y,
     ABS_MT_PRESSURE, ABS_MT_SLOT, ABS_MT_TOOL_TYPE, ABS_MT_TOOL_X, ABS_MT_TOOL_Y,
     ABS_MT_TOUCH_MAJOR, ABS_MT_TOUCH_MINOR, ABS_MT_TRACKING_ID, ABS_MT_WIDTH_MAJOR,
-    ABS_MT_WIDTH_MINOR,
+    ABS_MT_WIDTH_MINOR, SLOT_VALUES, is_multi_touch_code, is_slot_code,
 };
 pub use no_memory::NoMemory;
 pub use reply::{Refusal, Reply};

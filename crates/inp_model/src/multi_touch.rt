@@ -2,6 +2,8 @@
 //!
 //! A device with slots follows several contacts at once. `ABS_MT_SLOT` names a slot, and the values behind it belong to
 //! the contact in that slot.
+ghost use Rattle.std.specs.Prelude.{◌≡◌};
+ghost use Rattle.inp_model.specs.Description.{is_multi_touch_code, is_slot_code};
 
 /// The axis that names the slot of the values behind it (the kernel's multi-touch protocol).
 pub const ABS_MT_SLOT: u16 = 0x2f;
@@ -61,3 +63,24 @@ pub const ABS_MT_TOOL_X: u16 = 0x3c;
 pub const ABS_MT_TOOL_Y: u16 = 0x3d;
 
 const _: () = prove!(ABS_MT_TOOL_Y == 61);
+
+/// How many values a slot has: one for each axis from `ABS_MT_TOUCH_MAJOR` to `ABS_MT_TOOL_Y`.
+pub const SLOT_VALUES: u32 = (ABS_MT_TOOL_Y - ABS_MT_TOUCH_MAJOR + 1) as u32;
+
+const _: () = prove!(SLOT_VALUES == 14);
+
+/// Whether an axis names a slot, or its values belong to slots: one from `ABS_MT_SLOT` to `ABS_MT_TOOL_Y` (the kernel's
+/// multi-touch protocol).
+pub fn is_multi_touch_code(code: u16) -> bool
+    ensures multi_touch { result ≡ is_multi_touch_code code }
+{
+    code >= ABS_MT_SLOT && code <= ABS_MT_TOOL_Y
+}
+
+/// Whether the values of an axis belong to slots: one from `ABS_MT_TOUCH_MAJOR` to `ABS_MT_TOOL_Y` (the kernel's
+/// multi-touch protocol).
+pub fn is_slot_code(code: u16) -> bool
+    ensures slot { result ≡ is_slot_code code }
+{
+    code >= ABS_MT_TOUCH_MAJOR && code <= ABS_MT_TOOL_Y
+}

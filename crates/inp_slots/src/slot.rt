@@ -1,5 +1,6 @@
 //! The values of one slot.
 ghost use Rattle.std.specs.Prelude.{◌≡◌, true, length};
+ghost use Rattle.inp_model.specs.declared.multi_touch.TheConstants.{SLOT_VALUES};
 ghost use Rattle.inp_model.specs.Description.{is_slot_code};
 ghost use Rattle.inp_slots.specs.Contact.{no_contact};
 ghost use Rattle.inp_slots.specs.Changes.{on_axis, with_value, taken, change};
@@ -94,7 +95,7 @@ impl Slot {
     pub(crate) fn value(&self, code: u16) -> i32
         requires { is_slot_code code ≡ true }
         ensures value { result ≡ on_axis self.now code }
-        ensures len { length self.now ≡ 14 }
+        ensures len { length self.now ≡ SLOT_VALUES }
     {
         at_axis!(self, code)
     }
@@ -112,7 +113,7 @@ impl Slot {
         requires { is_slot_code code ≡ true }
         ensures slot { self.new ≡ with_value self.old code (taken self.old code value fuzz) }
         ensures change { result ≡ change self.old code value fuzz }
-        ensures len { length self.old ≡ 14 }
+        ensures len { length self.old ≡ SLOT_VALUES }
     {
         let before = self.value(code);
         let after = defuzz(value, before, fuzz);

@@ -1,6 +1,7 @@
 //! The slots.
 ghost use Rattle.std.specs.Prelude.{◌≡◌, ◌≤◌, ◌<◌, ℕ, pos, true, if◌then◌else◌, List, [], ◌∷◌, length, unwrap_or, IfOk};
 ghost use Rattle.inp_model.specs.declared.event.TheConstants.{EV_ABS};
+ghost use Rattle.inp_model.specs.declared.multi_touch.TheConstants.{SLOT_VALUES};
 ghost use Rattle.inp_model.specs.declared.event.Event.{Event};
 ghost use Rattle.inp_model.specs.RawItem.{RawItem, Occurred};
 ghost use Rattle.inp_model.specs.Description.{Description, is_multi_touch_code, is_slot_code};
@@ -118,7 +119,7 @@ impl Slots {
         ensures slots { self.new ≡ moved self.old code value fuzz }
         ensures change { result ≡ change (staged_slot self.old) code value fuzz }
         ensures staged { has_slot self.old self.old.staged ≡ true }
-        ensures len { length (staged_slot self.old) ≡ 14 }
+        ensures len { length (staged_slot self.old) ≡ SLOT_VALUES }
     {
         let slot = &mut self.slots[self.staged];
         slot.move_value(code, value, fuzz)
