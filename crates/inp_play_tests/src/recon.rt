@@ -16,7 +16,10 @@ enum Part {
     Led(u32),
     Axis(usize),
     Slot,
-    Cell(usize),
+    // the tracking id in a slot
+    Contact(u32),
+    // the horizontal position in a slot
+    X(u32),
 }
 
 // What a view says of a part, 1 for what is down or on; -100 where there is no such part.
@@ -27,7 +30,12 @@ fn value_of(view: &View, part: Part) -> i32 {
         Part::Led(code) if code < 64 => i32::from(view.leds.get(code)),
         Part::Axis(code) if code < 64 => view.axes[code],
         Part::Slot => view.slot,
-        Part::Cell(index) if index < view.cells.len() => *view.cells.get(index),
+        Part::Contact(slot) if slot < view.cells.slot_count() => {
+            view.cells.value(slot, ABS_MT_TRACKING_ID)
+        }
+        Part::X(slot) if slot < view.cells.slot_count() => {
+            view.cells.value(slot, ABS_MT_POSITION_X)
+        }
         _ => -100,
     }
 }
@@ -55,20 +63,20 @@ static ROWS: [(u16, u16, i32, Part, i32); 22] = [
     (EV_REL, 0, 5, Part::Axis(0), 70),
     (EV_ABS, 64, 5, Part::Axis(63), 0),
     (EV_ABS, ABS_MT_SLOT, 1, Part::Slot, 1),
-    (EV_ABS, ABS_MT_TRACKING_ID, 11, Part::Cell(23), 11),
+    (EV_ABS, ABS_MT_TRACKING_ID, 11, Part::Contact(1), 11),
     (EV_ABS, ABS_MT_POSITION_X, 9, Part::Axis(53), 0),
     (EV_ABS, ABS_MT_SLOT, 2, Part::Slot, 2),
-    (EV_ABS, ABS_MT_POSITION_X, 8, Part::Cell(19), 9),
+    (EV_ABS, ABS_MT_POSITION_X, 8, Part::X(1), 9),
     (EV_ABS, ABS_MT_SLOT, -1, Part::Slot, -1),
-    (EV_ABS, ABS_MT_POSITION_X, 8, Part::Cell(5), 0),
+    (EV_ABS, ABS_MT_POSITION_X, 8, Part::X(0), 0),
     (EV_SYN, SYN_DROPPED, 0, Part::Slot, -1),
 ];
 
 #[test]
 fn takes_events(rt: HostRuntime) -> Result<(), Fail> {
     let mut view = View::new(rt.alloc(), &touchpad()?)?;
-    assert_eq!(rt; view.cells.len(), 28);
-    assert_eq!(rt; value_of(&view, Part::Cell(9)), -1, "in {view:?}");
+    assert_eq!(rt; view.cells.slot_count(), 2);
+    assert_eq!(rt; value_of(&view, Part::Contact(0)), -1, "in {view:?}");
     for (kind, code, value, part, seen) in ROWS {
         view.take_event(Event { kind, code, value });
         assert_eq!(rt;
@@ -95,7 +103,7 @@ fn copies_a_view(rt: HostRuntime) -> Result<(), Fail> {
             value: 1,
         });
     }
-    if view.cells.len() == other.cells.len() {
+    if view.cells.slot_count() == other.cells.slot_count() {
         other.copy_from(&view);
     }
     // A part, and what it is in the copy.
@@ -103,7 +111,7 @@ fn copies_a_view(rt: HostRuntime) -> Result<(), Fail> {
         (Part::Key(1), 0),
         (Part::Led(1), 1),
         (Part::Slot, 1),
-        (Part::Cell(19), 1),
+        (Part::X(1), 1),
     ];
     for (part, seen) in rows {
         assert_eq!(rt; value_of(&other, part), seen, "{part:?}");

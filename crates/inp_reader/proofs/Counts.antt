@@ -8,11 +8,11 @@ use Rattle.inp_recon.specs.declared.view.View.{View}
 use Rattle.inp_recon.specs.View.{IsSizedFor, view_after_events}
 use Rattle.inp_recon.specs.Cells.{slot_count}
 use Rattle.inp_recon.proofs.Sizes.{IsSizedFor-after_events}
-use Rattle.inp_reader.specs.Synthesis.{where_below, with_report, to_slot, in_slots, bit_event, bit_changes, bits_differ_at, value_at, differs_at, axis_event, axis_changes, class_changes, is_replaced, lift, lifts, changes_in, index_in_slot, is_changed, cell_changes, slot_changes, synth}
+use Rattle.inp_reader.specs.Synthesis.{where_below, with_report, to_slot, in_slots, bit_event, bit_changes, bits_differ_at, value_at, differs_at, axis_event, axis_changes, class_changes, is_replaced, lift, lifts, changes_in, is_changed, cell_changes, slot_changes, synth}
 use Rattle.inp_reader.specs.Laws.{AreOfOneDevice}
 use Rattle.inp_reader.proofs.Synthesising.{where_below-more, where_below-skip}
 use Rattle.inp_reader.proofs.Classes.{tells_ints}
-use Rattle.inp_reader.proofs.Slots.{slots-of}
+use Rattle.inp_reader.proofs.Slots.{slots-of, changes_in-places}
 
 -- ---- how many numbers pass a test
 
@@ -98,12 +98,13 @@ length-walk slots most f test cells current l h =
 length-lifts : (slots : ℕ) (old new : View) → length old.cells ≡ 14 * slots → length (lifts old new) ≤ 2 * slots
 length-lifts slots old new l = length-walk slots 1 (λ slot. lift ∷ []) (is_replaced old new) old.cells old.slot l (λ k. omega arith)
 
-length-changes_in : (old new : List ℤ) (slot count : ℕ) → length (map (λ k. axis_event new (index_in_slot slot k) (48 + k)) (where_below count (λ k. differs_at old new (index_in_slot slot k)))) ≤ count
-length-changes_in old new slot count =
-    omega (arith, length-map (where_below count (λ k. differs_at old new (index_in_slot slot k))) (λ k. axis_event new (index_in_slot slot k) (48 + k)), length-where_below count (λ k. differs_at old new (index_in_slot slot k)))
+length-changes_in : (old new : View) (slot : ℕ) → length (changes_in old new slot) ≤ 14
+length-changes_in old new slot =
+    let test : ℕ → Bool = λ k. differs_at old.cells new.cells (14 * slot + k) in
+    omega (arith, ap length (changes_in-places old new slot), length-map (where_below 14 test) (λ k. axis_event new.cells (14 * slot + k) (48 + k)), length-where_below 14 test)
 
 length-cell_changes : (slots : ℕ) (old new : View) → length old.cells ≡ 14 * slots → length (cell_changes old new) ≤ 15 * slots
-length-cell_changes slots old new l = length-walk slots 14 (changes_in old new) (is_changed old new) old.cells old.slot l (λ k. length-changes_in old.cells new.cells k 14)
+length-cell_changes slots old new l = length-walk slots 14 (changes_in old new) (is_changed old new) old.cells old.slot l (λ k. length-changes_in old new k)
 
 length-slot_changes : (slots : ℕ) (old new : View) → length old.cells ≡ 14 * slots → length (slot_changes old new) ≤ 15 * slots + 1
 length-slot_changes slots old new l =

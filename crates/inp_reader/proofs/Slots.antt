@@ -9,10 +9,10 @@ use Rattle.inp_model.specs.declared.event.Event.{Event}
 use Rattle.inp_model.specs.Description.{is_multi_touch_code, is_slot_code}
 use Rattle.inp_model.specs.Event.{slot_event}
 use Rattle.inp_recon.specs.declared.view.View.{View}
-use Rattle.inp_recon.specs.Cells.{slot_count, with_cell, cell_index, has_slot}
+use Rattle.inp_recon.specs.Cells.{slot_count, with_cell, cell_index, cell_of, has_slot}
 use Rattle.inp_recon.specs.View.{view_after_event, view_after_events, axes_after_event, slot_after_event, cells_after_event}
-use Rattle.inp_reader.specs.Synthesis.{where_below, to_slot, in_slots, differs_at, axis_event, tracking_id, is_replaced, lift, lifts, changes_in, is_changed, cell_changes}
-use Rattle.inp_reader.proofs.Synthesising.{where_below-skip, where_below-next, in_slots-more, last_slot, last_slot-more}
+use Rattle.inp_reader.specs.Synthesis.{where_below, to_slot, in_slots, differs_at, axis_event, cell_event, cells_differ, tracking_id, is_replaced, lift, lifts, changes_in, is_changed, cell_changes}
+use Rattle.inp_reader.proofs.Synthesising.{where_below-skip, where_below-next, in_slots-more, last_slot, last_slot-more, map-filter_from, any-from}
 use Rattle.inp_reader.proofs.Puts.{Each, Each-where_below, mixed, mixed-all, puts, puts-below, EachPutChanges-below}
 use Rattle.inp_reader.proofs.Parts.{SetsPart, leads-puts, EachChanges-puts}
 use Rattle.inp_reader.proofs.Classes.{Leads, Leads-behind, ints_differ, tells_ints}
@@ -157,6 +157,21 @@ unchanged slots slot count new old h few l m none =
     ap (λ (ks : List ℕ). puts (pos 0) new (λ k. 14 * slot + k) ks (mixed (14 * slot + 0) new old)) (sym (filter-none test (range_with_len 0 count) none))
     ∙ puts-below (pos 0) new old (λ k. 14 * slot + k) ints_differ tells_ints count (λ k. omega arith) (λ k j. omega (arith, h, few, m, j)) (l ∙ sym m)
 
+-- what differs in a slot, by the places of its values
+cell_of-place : (cells : List ℤ) (slot k : ℕ) → cell_of cells slot (48 + k) ≡ get_or cells (14 * slot + k) (pos 0)
+cell_of-place cells slot k = ap (λ (i : ℕ). get_or cells i (pos 0)) (cell_place slot k)
+
+differ-place : (old new : List ℤ) (slot k : ℕ) → cells_differ old new slot (48 + k) ≡ differs_at old new (14 * slot + k)
+differ-place old new slot k = ap (λ (z : ℤ). not (int_eq z (cell_of new slot (48 + k)))) (cell_of-place old slot k) ∙ ap (λ (z : ℤ). not (int_eq (get_or old (14 * slot + k) (pos 0)) z)) (cell_of-place new slot k)
+
+pub changes_in-places : (old new : View) (slot : ℕ) → changes_in old new slot ≡ map (λ k. axis_event new.cells (14 * slot + k) (48 + k)) (where_below 14 (λ k. differs_at old.cells new.cells (14 * slot + k)))
+changes_in-places old new slot =
+    map-filter_from (cell_event new.cells slot) (λ k. axis_event new.cells (14 * slot + k) (48 + k)) (cells_differ old.cells new.cells slot) (λ k. differs_at old.cells new.cells (14 * slot + k)) 48 0 14
+    (λ k. ap (λ (z : ℤ). record { kind = EV_ABS; code = 48 + k; value = z }) (cell_of-place new.cells slot k)) (differ-place old.cells new.cells slot)
+
+is_changed-places : (old new : View) (slot : ℕ) → is_changed old new slot ≡ list_any (λ k. differs_at old.cells new.cells (14 * slot + k)) (range_with_len 0 14)
+is_changed-places old new slot = any-from (cells_differ old.cells new.cells slot) (λ k. differs_at old.cells new.cells (14 * slot + k)) 48 0 14 (differ-place old.cells new.cells slot)
+
 -- all slots
 Leads-cells_by : (slots n : ℕ) (v old new : View) (start : ℤ) → n ≤ slots → length old.cells ≡ 14 * slots → length new.cells ≡ 14 * slots
     → Leads (with_slots v start old.cells) (with_slots v (last_slot (where_below n (is_changed old new)) start) (mixed (14 * n) new.cells old.cells)) (in_slots (changes_in old new) (where_below n (is_changed old new)) start)
@@ -165,9 +180,11 @@ Leads-cells_by slots n v old new start few l m =
     let to : (k : ℕ) → mixed (14 * k + 14) new.cells old.cells ≡ mixed (14 * (k + 1)) new.cells old.cells = λ k. let e : 14 * k + 14 ≡ 14 * (k + 1) = omega arith in ap (λ (i : ℕ). mixed i new.cells old.cells) e in
     Leads-walk v (changes_in old new) (is_changed old new) (λ k. mixed (14 * k) new.cells old.cells) n start (
     λ k h t. subst (λ (xs : List ℤ). Leads (with_slots v (pos k) xs) (with_slots v (pos k) (mixed (14 * (k + 1)) new.cells old.cells)) (changes_in old new k)) (from k) (
-    subst (λ (xs : List ℤ). Leads (with_slots v (pos k) (mixed (14 * k + 0) new.cells old.cells)) (with_slots v (pos k) xs) (changes_in old new k)) (to k) (Leads-slot slots v k 14 new.cells old.cells (omega (arith, h, few)) (omega arith) l m)
+    subst (λ (xs : List ℤ). Leads (with_slots v (pos k) (mixed (14 * k + 0) new.cells old.cells)) (with_slots v (pos k) xs) (changes_in old new k)) (to k) (
+    subst (λ (es : List Event). Leads (with_slots v (pos k) (mixed (14 * k + 0) new.cells old.cells)) (with_slots v (pos k) (mixed (14 * k + 14) new.cells old.cells)) es) (sym (changes_in-places old new k)) (Leads-slot slots v k 14 new.cells old.cells (omega (arith, h, few)) (omega arith) l m)
     )
-    ) (λ k h t. sym (from k) ∙ unchanged slots k 14 new.cells old.cells (omega (arith, h, few)) (omega arith) l m t ∙ to k)
+    )
+    ) (λ k h t. sym (from k) ∙ unchanged slots k 14 new.cells old.cells (omega (arith, h, few)) (omega arith) l m (sym (is_changed-places old new k) ∙ t) ∙ to k)
 
 pub Leads-cells : (slots : ℕ) (v old new : View) → length old.cells ≡ 14 * slots → length new.cells ≡ 14 * slots
     → Leads (with_slots v old.slot old.cells) (with_slots v (last_slot (where_below slots (is_changed old new)) old.slot) new.cells) (cell_changes old new)

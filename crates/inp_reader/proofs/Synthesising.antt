@@ -1,5 +1,5 @@
 -- The synthesised events, index by index.
-use Rattle.std.proofs.Common.{◌≡◌, ℕ, suc, ◌+◌, ◌-◌, ◌<◌, ◌≤◌, ℤ, pos, Bool, true, false, cond, if◌then◌else◌, List, [], ◌∷◌, ◌++◌, length, map, take, drop, refl, sym, ap, ◌∙◌, arith, append-nil, append_assoc, zero-add, ◌||◌, Some, get_or, length-drop, length-append}
+use Rattle.std.proofs.Common.{◌≡◌, ℕ, zero, suc, ◌+◌, ◌-◌, ◌<◌, ◌≤◌, ℤ, pos, Bool, true, false, cond, if◌then◌else◌, List, [], ◌∷◌, ◌++◌, length, map, take, drop, refl, sym, ap, ◌∙◌, arith, append-nil, append_assoc, zero-add, ◌||◌, Some, get_or, length-drop, length-append}
 use Rattle.std.specs.List.{slice_get}
 use Rattle.std.specs.List.{range_with_len, filter, list_any}
 use Rattle.std.proofs.lemmas.List.{map-append, take_more, get_or-drop, take-append-le}
@@ -28,16 +28,39 @@ map-one : (f : ℕ → Event) (n : ℕ) (wanted : Bool) → (if wanted then f n 
 map-one f n true = refl
 map-one f n false = refl
 
-pub events-more : (f : ℕ → Event) (test : ℕ → Bool) (n : ℕ) (wanted : Bool) (event : Event) (before list new : List Event) → new ≡ list ++ (if wanted then event ∷ [] else []) → list ≡ before ++ map f (where_below n test) → wanted ≡ test n → event ≡ f n
-    → new ≡ before ++ map f (where_below (n + 1) test)
-events-more f test n wanted event before list new pushed is w e =
+-- the event of one number more, if it passes the test
+events-one : (f : ℕ → Event) (test : ℕ → Bool) (n : ℕ) (some more : List ℕ) (wanted : Bool) (event : Event) (before list new : List Event) → more ≡ some ++ cond (test n) (n ∷ []) [] → new ≡ list ++ (if wanted then event ∷ [] else []) → list ≡ before ++ map f some → wanted ≡ test n → event ≡ f n
+    → new ≡ before ++ map f more
+events-one f test n some more wanted event before list new one pushed is w e =
     pushed
     ∙ ap (λ (b : Bool). list ++ (if b then event ∷ [] else [])) w
     ∙ ap (λ (x : Event). list ++ (if test n then x ∷ [] else [])) e
     ∙ ap (λ (xs : List Event). list ++ xs) (map-one f n (test n))
     ∙ ap (λ (xs : List Event). xs ++ map f (cond (test n) (n ∷ []) [])) is
-    ∙ append_assoc before (map f (where_below n test)) (map f (cond (test n) (n ∷ []) []))
-    ∙ ap (λ (xs : List Event). before ++ xs) (sym (map-append f (where_below n test) (cond (test n) (n ∷ []) [])) ∙ ap (λ (is : List ℕ). map f is) (sym (where_below-more n test)))
+    ∙ append_assoc before (map f some) (map f (cond (test n) (n ∷ []) []))
+    ∙ ap (λ (xs : List Event). before ++ xs) (sym (map-append f some (cond (test n) (n ∷ []) [])) ∙ ap (λ (is : List ℕ). map f is) (sym one))
+
+pub events-more : (f : ℕ → Event) (test : ℕ → Bool) (n : ℕ) (wanted : Bool) (event : Event) (before list new : List Event) → new ≡ list ++ (if wanted then event ∷ [] else []) → list ≡ before ++ map f (where_below n test) → wanted ≡ test n → event ≡ f n
+    → new ≡ before ++ map f (where_below (n + 1) test)
+events-more f test n wanted event before list new = events-one f test n (where_below n test) (where_below (n + 1) test) wanted event before list new (where_below-more n test)
+
+-- the numbers from the first to before a code that pass a test
+abbrev pub passing : ℕ → (ℕ → Bool) → ℕ → List ℕ
+passing first test code = filter test (range_with_len first (code - first))
+
+passing-more : (first code : ℕ) (test : ℕ → Bool) → first ≤ code → passing first test (code + 1) ≡ passing first test code ++ cond (test code) (code ∷ []) []
+passing-more first code test h =
+    let n : ℕ = code - first in
+    let e : code + 1 - first ≡ n + 1 = omega (arith, h) in
+    let f : first + n ≡ code = omega (arith, h) in
+    ap (λ (k : ℕ). filter test (range_with_len first k)) e
+    ∙ ap (λ (xs : List ℕ). filter test xs) (range-append first n 1)
+    ∙ filter-append test (range_with_len first n) (range_with_len (first + n) 1)
+    ∙ ap (λ (i : ℕ). filter test (range_with_len first n) ++ cond (test i) (i ∷ []) []) f
+
+pub events-next : (f : ℕ → Event) (test : ℕ → Bool) (first code : ℕ) (wanted : Bool) (event : Event) (before list new : List Event) → first ≤ code → new ≡ list ++ (if wanted then event ∷ [] else []) → list ≡ before ++ map f (passing first test code) → wanted ≡ test code → event ≡ f code
+    → new ≡ before ++ map f (passing first test (code + 1))
+events-next f test first code wanted event before list new h = events-one f test code (passing first test code) (passing first test (code + 1)) wanted event before list new (passing-more first code test h)
 
 -- Slots
 
@@ -91,28 +114,58 @@ IsWalked-next f test n start before list mid new current this h is w to events =
 
 -- Any index
 
-pub any-none_more : (test : ℕ → Bool) (n : ℕ) → list_any test (range_with_len 0 n) ≡ false → test n ≡ false → list_any test (range_with_len 0 (n + 1)) ≡ false
-any-none_more test n h k =
-    ap (λ (xs : List ℕ). list_any test xs) (range-append 0 n 1)
-    ∙ list_any-append test (range_with_len 0 n) (range_with_len (0 + n) 1)
-    ∙ ap (λ (b : Bool). b || (test (0 + n) || false)) h
-    ∙ ap (λ (i : ℕ). test i || false) (zero-add n)
+pub any-none_more : (test : ℕ → Bool) (first code : ℕ) → first ≤ code → list_any test (range_with_len first (code - first)) ≡ false → test code ≡ false → list_any test (range_with_len first (code + 1 - first)) ≡ false
+any-none_more test first code from h k =
+    let n : ℕ = code - first in
+    let e : code + 1 - first ≡ n + 1 = omega (arith, from) in
+    let f : first + n ≡ code = omega (arith, from) in
+    ap (λ (m : ℕ). list_any test (range_with_len first m)) e
+    ∙ ap (λ (xs : List ℕ). list_any test xs) (range-append first n 1)
+    ∙ list_any-append test (range_with_len first n) (range_with_len (first + n) 1)
+    ∙ ap (λ (b : Bool). b || (test (first + n) || false)) h
+    ∙ ap (λ (i : ℕ). test i || false) f
     ∙ ap (λ (b : Bool). b || false) k
 
 or_true : (b rest : Bool) → (b || (true || rest)) ≡ true
 or_true true rest = refl
 or_true false rest = refl
 
-pub any-there : (test : ℕ → Bool) (n k : ℕ) → k < n → test k ≡ true → list_any test (range_with_len 0 n) ≡ true
-any-there test n k h t =
+pub any-there : (test : ℕ → Bool) (first n code : ℕ) → first ≤ code → code < first + n → test code ≡ true → list_any test (range_with_len first n) ≡ true
+any-there test first n code from h t =
+    let k : ℕ = code - first in
     let m : ℕ = n - (k + 1) in
-    let e : n ≡ k + suc m = omega (arith, h) in
-    ap (λ (j : ℕ). list_any test (range_with_len 0 j)) e
-    ∙ ap (λ (xs : List ℕ). list_any test xs) (range-append 0 k (suc m))
-    ∙ list_any-append test (range_with_len 0 k) (range_with_len (0 + k) (suc m))
-    ∙ ap (λ (i : ℕ). list_any test (range_with_len 0 k) || list_any test (range_with_len i (suc m))) (zero-add k)
-    ∙ ap (λ (b : Bool). list_any test (range_with_len 0 k) || (b || list_any test (range_with_len (k + 1) m))) t
-    ∙ or_true (list_any test (range_with_len 0 k)) (list_any test (range_with_len (k + 1) m))
+    let e : n ≡ k + suc m = omega (arith, from, h) in
+    let f : first + k ≡ code = omega (arith, from) in
+    ap (λ (j : ℕ). list_any test (range_with_len first j)) e
+    ∙ ap (λ (xs : List ℕ). list_any test xs) (range-append first k (suc m))
+    ∙ list_any-append test (range_with_len first k) (range_with_len (first + k) (suc m))
+    ∙ ap (λ (i : ℕ). list_any test (range_with_len first k) || list_any test (range_with_len i (suc m))) f
+    ∙ ap (λ (b : Bool). list_any test (range_with_len first k) || (b || list_any test (range_with_len (code + 1) m))) t
+    ∙ or_true (list_any test (range_with_len first k)) (list_any test (range_with_len (code + 1) m))
+
+-- The same numbers, counted from another one on
+
+-- the event of the first number, if it passes the test, before those of the others
+event-before : (f g : ℕ → Event) (i j : ℕ) (is js : List ℕ) (b : Bool) → f i ≡ g j → map f is ≡ map g js → map f (cond b (i ∷ is) is) ≡ map g (cond b (j ∷ js) js)
+event-before f g i j is js true one others = ap (λ (e : Event). e ∷ map f is) one ∙ ap (λ (es : List Event). g j ∷ es) others
+event-before f g i j is js false one others = others
+
+pub map-filter_from : (f g : ℕ → Event) (p q : ℕ → Bool) (first start n : ℕ) → ((k : ℕ) → f (first + k) ≡ g k) → ((k : ℕ) → p (first + k) ≡ q k) → map f (filter p (range_with_len (first + start) n)) ≡ map g (filter q (range_with_len start n))
+map-filter_from f g p q first start zero same_event same_test = refl
+map-filter_from f g p q first start (suc n) same_event same_test =
+    let is : List ℕ = filter p (range_with_len (first + start + 1) n) in
+    let js : List ℕ = filter q (range_with_len (start + 1) n) in
+    let e : first + start + 1 ≡ first + (start + 1) = omega arith in
+    let others : map f is ≡ map g js = ap (λ (i : ℕ). map f (filter p (range_with_len i n))) e ∙ map-filter_from f g p q first (start + 1) n same_event same_test in
+    ap (λ (b : Bool). map f (cond b ((first + start) ∷ is) is)) (same_test start) ∙ event-before f g (first + start) start is js (q start) (same_event start) others
+
+pub any-from : (p q : ℕ → Bool) (first start n : ℕ) → ((k : ℕ) → p (first + k) ≡ q k) → list_any p (range_with_len (first + start) n) ≡ list_any q (range_with_len start n)
+any-from p q first start zero same = refl
+any-from p q first start (suc n) same =
+    let e : first + start + 1 ≡ first + (start + 1) = omega arith in
+    ap (λ (b : Bool). b || list_any p (range_with_len (first + start + 1) n)) (same start)
+    ∙ ap (λ (i : ℕ). q start || list_any p (range_with_len i n)) e
+    ∙ ap (λ (b : Bool). q start || b) (any-from p q first (start + 1) n same)
 
 -- Events taken over
 

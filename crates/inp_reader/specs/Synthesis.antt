@@ -1,14 +1,14 @@
 -- The events that lead from one view to another (docs/READER.md, "What a reader makes of a loss").
-use Rattle.std.specs.Prelude.{ℕ, ◌+◌, ◌*◌, ℤ, pos, negsuc, int_lt, Bool, true, false, ◌&&◌, not, if◌then◌else◌, List, [], ◌∷◌, ◌++◌, map, filter, slice_index_or}
+use Rattle.std.specs.Prelude.{ℕ, ℤ, pos, negsuc, int_lt, Bool, true, false, ◌&&◌, not, if◌then◌else◌, List, [], ◌∷◌, ◌++◌, map, filter, slice_index_or}
 use Rattle.std.specs.List.{range_with_len, list_any}
 use Rattle.std.specs.Ordering.{int_eq}
 use Rattle.inp_bits.specs.Bits.{is_set, differ}
 use Rattle.inp_model.specs.declared.event.TheConstants.{EV_SYN, EV_KEY, EV_ABS, EV_SW, EV_LED, SYN_REPORT}
-use Rattle.inp_model.specs.declared.multi_touch.TheConstants.{ABS_MT_TOUCH_MAJOR, ABS_MT_TRACKING_ID}
+use Rattle.inp_model.specs.declared.multi_touch.TheConstants.{ABS_MT_TOUCH_MAJOR, ABS_MT_TRACKING_ID, SLOT_VALUES}
 use Rattle.inp_model.specs.declared.event.Event.{Event}
 use Rattle.inp_model.specs.Event.{slot_event}
 use Rattle.inp_recon.specs.declared.view.View.{View}
-use Rattle.inp_recon.specs.Cells.{slot_count}
+use Rattle.inp_recon.specs.Cells.{slot_count, cell_of}
 use Rattle.inp_recon.specs.View.{view_after_events}
 
 -- the numbers below a bound that pass a test, ascending
@@ -72,12 +72,20 @@ class_changes old new =
 
 -- Slots
 
--- where the value of a slot with this place among its fourteen stands
-abbrev pub index_in_slot : ℕ → ℕ → ℕ
-index_in_slot slot k = 14 * slot + k
+-- the axes whose values belong to slots, ascending
+abbrev pub slot_codes : List ℕ
+slot_codes = range_with_len ABS_MT_TOUCH_MAJOR SLOT_VALUES
+
+-- the value of a slot on an axis
+abbrev pub cell_event : List ℤ → ℕ → ℕ → Event
+cell_event cells slot code = record { kind = EV_ABS; code = code; value = cell_of cells slot code }
+
+-- a slot has different values on an axis
+abbrev pub cells_differ : List ℤ → List ℤ → ℕ → ℕ → Bool
+cells_differ old new slot code = not (int_eq (cell_of old slot code) (cell_of new slot code))
 
 abbrev pub tracking_id : View → ℕ → ℤ
-tracking_id view slot = value_at view.cells (index_in_slot slot 9)
+tracking_id view slot = cell_of view.cells slot ABS_MT_TRACKING_ID
 
 -- a slot has a contact in both views, and not the same one
 abbrev pub is_replaced : View → View → ℕ → Bool
@@ -95,13 +103,11 @@ lifts old new = in_slots (λ slot. lift ∷ []) (where_below (slot_count old.cel
 
 -- the values of a slot that differ, by ascending codes
 abbrev pub changes_in : View → View → ℕ → List Event
-changes_in old new slot =
-    map (λ k. axis_event new.cells (index_in_slot slot k) (ABS_MT_TOUCH_MAJOR + k))
-    (where_below 14 (λ k. differs_at old.cells new.cells (index_in_slot slot k)))
+changes_in old new slot = map (cell_event new.cells slot) (filter (cells_differ old.cells new.cells slot) slot_codes)
 
 -- a value of the slot differs
 abbrev pub is_changed : View → View → ℕ → Bool
-is_changed old new slot = list_any (λ k. differs_at old.cells new.cells (index_in_slot slot k)) (range_with_len 0 14)
+is_changed old new slot = list_any (cells_differ old.cells new.cells slot) slot_codes
 
 -- the values that differ, slot by slot
 abbrev pub cell_changes : View → View → List Event

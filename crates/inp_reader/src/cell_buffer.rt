@@ -6,14 +6,11 @@ ghost use Rattle.inp_model.specs.Step.{moment_of};
 ghost use Rattle.inp_model.specs.Reply.{HasRoom};
 ghost use Rattle.inp_reader.specs.Asking.{Calls};
 
-use inp_model::{Evdev, NoMemory, Reply, Step, Taken};
+use inp_model::{Evdev, NoMemory, Reply, SLOT_VALUES, Step, Taken};
 use std::alloc::Global;
 use std::marker::Model;
 
-/// How many values a slot has.
-const SLOT_VALUES: usize = 14;
-
-/// The buffer to which a query of all slots is answered, fourteen values a slot. A contract sees the list of its values.
+/// The buffer to which a query of all slots is answered, `SLOT_VALUES` a slot. A contract sees the list of its values.
 #[derive(Drop)]
 pub(crate) struct CellBuffer {
     cells: Vec<i32>,
@@ -31,9 +28,9 @@ impl CellBuffer {
     // A buffer for so many slots. It is refused for memory alone.
     pub(crate) fn new(alloc: Global, slots: u32) -> Result<CellBuffer, NoMemory>
         requires { slots ≤ SLOTS_MAX }
-        ensures { IfOk result (λ buffer. length buffer ≡ 14 * slots) }
+        ensures { IfOk result (λ buffer. length buffer ≡ SLOT_VALUES * slots) }
     {
-        let cells = vec![in alloc; 0i32; SLOT_VALUES * slots as usize]?;
+        let cells = vec![in alloc; 0i32; (SLOT_VALUES * slots) as usize]?;
         Ok(CellBuffer { cells })
     }
 

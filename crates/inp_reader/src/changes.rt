@@ -1,19 +1,16 @@
 //! What two views differ in, at one place.
-ghost use Rattle.std.specs.Prelude.{◌≡◌, ◌≤◌, ◌<◌, ◌+◌, ◌*◌, pos, not, length};
+ghost use Rattle.std.specs.Prelude.{◌≡◌, ◌<◌, ◌*◌, pos, true, not, length};
 ghost use Rattle.std.specs.Ordering.{int_eq};
+ghost use Rattle.inp_model.specs.Description.{is_slot_code};
 ghost use Rattle.inp_model.specs.Event.{is_negative, slot_event};
 ghost use Rattle.inp_recon.specs.Cells.{slot_count};
-ghost use Rattle.inp_reader.specs.Synthesis.{bit_event, axis_event, index_in_slot, is_replaced, is_changed, lift};
+ghost use Rattle.inp_reader.specs.Synthesis.{bit_event, axis_event, cell_event, is_replaced, is_changed, lift};
 
 use inp_bits::Bits;
-use inp_model::{ABS_MT_SLOT, ABS_MT_TOUCH_MAJOR, ABS_MT_TRACKING_ID, EV_ABS, Event};
+use inp_model::{
+    ABS_MT_SLOT, ABS_MT_TOOL_Y, ABS_MT_TOUCH_MAJOR, ABS_MT_TRACKING_ID, EV_ABS, Event,
+};
 use inp_recon::View;
-
-/// How many values a slot has.
-const SLOT_VALUES: u16 = 14;
-
-/// The place of the tracking id among a slot's values.
-const TRACKING_ID: u16 = ABS_MT_TRACKING_ID - ABS_MT_TOUCH_MAJOR;
 
 // Whether the values of two events differ.
 pub(crate) fn values_differ(one: Event, other: Event) -> bool
@@ -43,18 +40,16 @@ pub(crate) fn axis_event(values: &[i32; 64], code: u16) -> Event
     }
 }
 
-// A value of a slot.
-pub(crate) fn cell_event(view: &View, slot: u32, k: u16) -> Event
-    requires place { k < 14 }
-    requires within { 14 * slot + 14 ≤ length view.now.cells }
-    requires few { length view.now.cells ≤ 14 * 256 }
-    ensures { result ≡ axis_event view.now.cells (index_in_slot slot k) (48 + k) }
+// The value of a slot on an axis.
+pub(crate) fn cell_event(view: &View, slot: u32, code: u16) -> Event
+    requires slot { slot < slot_count view.now.cells }
+    requires code { is_slot_code code ≡ true }
+    ensures { result ≡ cell_event view.now.cells slot code }
 {
-    let index = 14 * slot as usize + usize::from(k);
     Event {
         kind: EV_ABS,
-        code: ABS_MT_TOUCH_MAJOR + k,
-        value: *view.cells.get(index),
+        code,
+        value: view.cells.value(slot, code),
     }
 }
 
@@ -69,24 +64,14 @@ pub(crate) fn lift() -> Event
     }
 }
 
-// How many slots there are.
-pub(crate) fn slots_of(view: &View) -> u32
-    requires { length view.now.cells ≤ 14 * 256 }
-    ensures slots { result ≡ slot_count view.now.cells }
-    ensures whole { length view.now.cells ≡ 14 * result }
-{
-    (view.cells.len() / 14) as u32
-}
-
 // Whether a slot has a contact in both views, and not the same one.
 pub(crate) fn is_replaced(old: &View, new: &View, slot: u32) -> bool
-    requires within { 14 * slot + 14 ≤ length old.now.cells }
+    requires slot { slot < slot_count old.now.cells }
     requires cells { length old.now.cells ≡ length new.now.cells }
-    requires few { length old.now.cells ≤ 14 * 256 }
     ensures { result ≡ is_replaced old.now new.now slot }
 {
-    let before = cell_event(old, slot, TRACKING_ID);
-    let after = cell_event(new, slot, TRACKING_ID);
+    let before = cell_event(old, slot, ABS_MT_TRACKING_ID);
+    let after = cell_event(new, slot, ABS_MT_TRACKING_ID);
     !is_negative(before) && !is_negative(after) && values_differ(before, after)
 }
 
@@ -99,13 +84,12 @@ fn is_negative(event: Event) -> bool
 
 // Whether a value of a slot differs.
 pub(crate) fn is_changed(old: &View, new: &View, slot: u32) -> bool
-    requires within { 14 * slot + 14 ≤ length old.now.cells }
+    requires slot { slot < slot_count old.now.cells }
     requires cells { length old.now.cells ≡ length new.now.cells }
-    requires few { length old.now.cells ≤ 14 * 256 }
     ensures { result ≡ is_changed old.now new.now slot }
 {
-    for k in 0..SLOT_VALUES {
-        if values_differ(cell_event(old, slot, k), cell_event(new, slot, k)) {
+    for code in ABS_MT_TOUCH_MAJOR..ABS_MT_TOOL_Y + 1 {
+        if values_differ(cell_event(old, slot, code), cell_event(new, slot, code)) {
             return true;
         }
     }

@@ -1,16 +1,19 @@
 //! The making of the synthesised events.
 ghost use Rattle.std.specs.Prelude.{◌≡◌, ◌≤◌, ◌<◌, ◌+◌, ◌*◌, ◌-◌, pos, [], ◌∷◌, ◌++◌, length, take, drop, slice_get, slice_index_or, if◌then◌else◌, List, Some, IfOk};
 ghost use Rattle.inp_model.specs.declared.event.Event.{Event};
+ghost use Rattle.inp_model.specs.declared.multi_touch.TheConstants.{SLOT_VALUES};
 ghost use Rattle.inp_recon.specs.Cells.{slot_count};
 ghost use Rattle.inp_recon.specs.View.{view_after_events};
 ghost use Rattle.inp_reader.specs.Synthesis.{synth, with_report, unless_same, bit_changes, axis_changes, class_changes, changes_in, cell_changes, lifts};
 
 use crate::changes::{
     axis_event, bit_event, cell_event, event_of_current, event_of_slot, is_changed, is_replaced,
-    lift, slots_of, values_differ,
+    lift, values_differ,
 };
 use inp_bits::Bits;
-use inp_model::{EV_KEY, EV_LED, EV_SW, EV_SYN, Event, NoMemory, SYN_REPORT};
+use inp_model::{
+    ABS_MT_TOOL_Y, ABS_MT_TOUCH_MAJOR, EV_KEY, EV_LED, EV_SW, EV_SYN, Event, NoMemory, SYN_REPORT,
+};
 use inp_recon::View;
 use std::alloc::Global;
 use std::marker::Model;
@@ -20,9 +23,6 @@ use std::marker::Model;
 const EVENTS_MAX: usize = 6144;
 
 const _: () = prove!(EVENTS_MAX == 1024 + 20 * 256);
-
-/// How many values a slot has.
-const SLOT_VALUES: u16 = 14;
 
 /// Events, in the order in which they are added, with room for all synthesised events. A contract sees the list.
 #[derive(Drop)]
@@ -159,13 +159,12 @@ impl EventList {
     // Adds the end of each contact that another one followed in its slot.
     fn push_lifts(&mut self, old: &View, new: &View)
         requires cells { length old.now.cells ≡ length new.now.cells }
-        requires slots { length old.now.cells ≤ 14 * 256 }
         requires few { length self.old + 512 ≤ 6144 }
         ensures pushed { self.new ≡ self.old ++ lifts old.now new.now }
         ensures few { length self.new ≤ length self.old + 512 }
     {
         let mut current = event_of_current(old);
-        for slot in 0..slots_of(old) {
+        for slot in 0..old.cells.slot_count() {
             if !is_replaced(old, new, slot) {
                 continue;
             }
@@ -178,16 +177,15 @@ impl EventList {
 
     // Adds the changes of one slot.
     fn push_slot(&mut self, old: &View, new: &View, slot: u32)
-        requires within { 14 * slot + 14 ≤ length old.now.cells }
+        requires slot { slot < slot_count old.now.cells }
         requires cells { length old.now.cells ≡ length new.now.cells }
-        requires slots { length old.now.cells ≤ 14 * 256 }
-        requires few { length self.old + 14 ≤ 6144 }
+        requires few { length self.old + SLOT_VALUES ≤ 6144 }
         ensures pushed { self.new ≡ self.old ++ changes_in old.now new.now slot }
-        ensures few { length self.new ≤ length self.old + 14 }
+        ensures few { length self.new ≤ length self.old + SLOT_VALUES }
     {
-        for k in 0..SLOT_VALUES {
-            let event = cell_event(new, slot, k);
-            let wanted = values_differ(cell_event(old, slot, k), event);
+        for code in ABS_MT_TOUCH_MAJOR..ABS_MT_TOOL_Y + 1 {
+            let event = cell_event(new, slot, code);
+            let wanted = values_differ(cell_event(old, slot, code), event);
             self.push_if(wanted, event);
         }
     }
@@ -195,13 +193,12 @@ impl EventList {
     // Adds the changes of all slots.
     fn push_cells(&mut self, old: &View, new: &View)
         requires cells { length old.now.cells ≡ length new.now.cells }
-        requires slots { length old.now.cells ≤ 14 * 256 }
         requires few { length self.old + 3840 ≤ 6144 }
         ensures pushed { self.new ≡ self.old ++ cell_changes old.now new.now }
         ensures few { length self.new ≤ length self.old + 3840 }
     {
         let mut current = event_of_current(old);
-        for slot in 0..slots_of(old) {
+        for slot in 0..old.cells.slot_count() {
             if !is_changed(old, new, slot) {
                 continue;
             }
@@ -228,7 +225,6 @@ impl EventList {
     // Makes the events that lead from the old view to the new one. The old view is used up.
     pub(crate) fn fill(&mut self, old: &mut View, new: &View)
         requires cells { length old.old.cells ≡ length new.now.cells }
-        requires few { length old.old.cells ≤ 14 * 256 }
         ensures synth { self.new ≡ synth old.old new.now }
         ensures cells { length old.new.cells ≡ length old.old.cells }
     {

@@ -1,5 +1,6 @@
 //! The reader.
 ghost use Rattle.std.specs.Prelude.{◌≡◌, ◌≤◌, ◌*◌, true, false, [], length, None, IfOk, IfSome};
+ghost use Rattle.inp_model.specs.declared.multi_touch.TheConstants.{SLOT_VALUES};
 ghost use Rattle.inp_recon.specs.View.{first_view};
 ghost use Rattle.inp_reader.specs.declared.phase.Phase.TheVariants.{Plain};
 ghost use Rattle.inp_reader.specs.Says.{Says};
@@ -190,10 +191,10 @@ impl Reader {
         self.session.force_sync();
     }
 
-    /// What the device is, as far as the reader has handed it out. It has fourteen values a slot.
+    /// What the device is, as far as the reader has handed it out. It has as many slots as the device.
     pub fn view(&self) -> &View
         ensures view { result.now ≡ self.now.reading.view }
-        ensures sized { length result.now.cells ≡ 14 * self.now.description.slots }
+        ensures sized { length result.now.cells ≡ SLOT_VALUES * self.now.description.slots }
     {
         &self.session.view
     }

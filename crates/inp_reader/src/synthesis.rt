@@ -59,7 +59,6 @@ impl Synthesis {
     // Makes the events that lead from the old view to the new one, which has as many cells. The old view is used up.
     pub(crate) fn fill(&mut self, old: &mut View, new: &View)
         requires cells { length old.old.cells ≡ length new.now.cells }
-        requires few { length old.old.cells ≤ 14 * 256 }
         ensures synth { self.new ≡ synth old.old new.now }
         ensures cells { length old.new.cells ≡ length old.old.cells }
     {

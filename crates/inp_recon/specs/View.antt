@@ -3,7 +3,7 @@ use Rattle.std.specs.Prelude.{ℕ, ◌*◌, ◌/◌, ◌%◌, ◌≡◌, ◌≤�
 use Rattle.std.specs.Int.{bit_at}
 use Rattle.std.specs.List.{range_with_len}
 use Rattle.inp_model.specs.declared.event.TheConstants.{EV_KEY, EV_ABS, EV_SW, EV_LED, ABS_MAX}
-use Rattle.inp_model.specs.declared.multi_touch.TheConstants.{ABS_MT_SLOT}
+use Rattle.inp_model.specs.declared.multi_touch.TheConstants.{ABS_MT_SLOT, SLOT_VALUES}
 use Rattle.inp_model.specs.declared.event.Event.{Event}
 use Rattle.inp_model.specs.declared.step.Step.{Step}
 use Rattle.inp_model.specs.declared.step.Step.TheVariants.{GetKeys, GetSwitches, GetLeds, GetAxis, SyncSlots}
@@ -171,4 +171,4 @@ pub record IsSizedFor (slots : ℕ) (v : View) : Type 0 where
   pub switches : length v.switches ≡ code_count
   pub leds : length v.leds ≡ code_count
   pub axes : length v.axes ≡ code_count
-  pub cells : length v.cells ≡ 14 * slots
+  pub cells : length v.cells ≡ SLOT_VALUES * slots

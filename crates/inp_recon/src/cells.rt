@@ -1,37 +1,33 @@
 //! The values of all slots.
-ghost use Rattle.std.specs.Prelude.{◌≡◌, ◌<◌, ◌≤◌, ◌*◌, true, length, take, slice_get, Some, IfOk};
+ghost use Rattle.std.specs.Prelude.{◌≡◌, ◌<◌, ◌≤◌, ◌*◌, pos, true, length, take, IfOk};
 ghost use Rattle.inp_model.specs.Description.{is_slot_code};
-ghost use Rattle.inp_recon.specs.Cells.{first_cells, slot_count, with_cell};
+ghost use Rattle.inp_recon.specs.Cells.{first_cells, slot_count, cell_index, cell_of, with_cell};
 
-use inp_model::{ABS_MT_TOUCH_MAJOR, NoMemory, SLOTS_MAX};
+use inp_model::{ABS_MT_TOUCH_MAJOR, NoMemory, SLOT_VALUES, SLOTS_MAX};
 use std::alloc::Global;
 use std::marker::Model;
 
-/// How many values a slot has: one for each axis from `ABS_MT_TOUCH_MAJOR` to `ABS_MT_TOOL_Y`.
-const SLOT_VALUES: usize = 14;
-
 /// A slot without a contact: the tracking id is -1, and the other values are 0 (this project's choice).
-const NO_CONTACT: [i32; SLOT_VALUES] = [0, 0, 0, 0, 0, 0, 0, 0, 0, -1, 0, 0, 0, 0];
+const NO_CONTACT: [i32; SLOT_VALUES as usize] = [0, 0, 0, 0, 0, 0, 0, 0, 0, -1, 0, 0, 0, 0];
 
-/// The values of all slots, slot by slot, fourteen a slot by ascending codes from `ABS_MT_TOUCH_MAJOR` to
-/// `ABS_MT_TOOL_Y`.
+/// The values of all slots: of each slot, one for each axis from `ABS_MT_TOUCH_MAJOR` to `ABS_MT_TOOL_Y`.
 ///
-/// The value of slot `s` on the axis `code` stands at `14 * s + code - ABS_MT_TOUCH_MAJOR`. It is a part of a
-/// [`View`](crate::View), which makes it and alone changes it. A contract sees it as the list of the values.
+/// It is a part of a [`View`](crate::View), which makes it and alone changes it. A contract sees it as the list of the
+/// values, slot by slot, `SLOT_VALUES` a slot by ascending codes.
 #[derive(Debug, Drop)]
 pub struct Cells {
     cells: Vec<i32>,
 }
 
 impl Model for Cells {
-    ghost use Rattle.std.specs.Prelude.{List, ℤ, ◌≡◌, ◌*◌, length};
-    ghost use Rattle.inp_recon.specs.Cells.{slot_count};
+    ghost use Rattle.std.specs.Prelude.{List, ℤ};
+    ghost use Rattle.inp_recon.specs.Cells.{AreWholeSlots};
 
     ghost Value = { List ℤ };
 
     ghost view = { λ c. c.cells.items };
 
-    ghost invariant = { λ c. length c.cells.items ≡ 14 * slot_count c.cells.items };
+    ghost invariant = { λ c. AreWholeSlots c.cells.items };
 }
 
 impl Cells {
@@ -47,20 +43,23 @@ impl Cells {
         Ok(Cells { cells })
     }
 
-    /// How many values there are, 14 a slot.
-    pub fn len(&self) -> usize
-        ensures length { result ≡ length self.now }
-        ensures whole { length self.now ≡ 14 * slot_count self.now }
+    /// How many slots there are.
+    pub fn slot_count(&self) -> u32
+        ensures count { result ≡ slot_count self.now }
+        ensures whole { length self.now ≡ SLOT_VALUES * slot_count self.now }
+        ensures few { result ≤ SLOTS_MAX }
     {
-        self.cells.len()
+        (self.cells.len() / SLOT_VALUES as usize) as u32
     }
 
-    /// The value at an index below the length.
-    pub fn get(&self, index: usize) -> &i32
-        requires within { index < length self.now }
-        ensures value { slice_get self.now index ≡ Some result.now }
+    /// The value of a slot on the axis with this code. There must be such a slot, and the values of the axis must belong
+    /// to slots.
+    pub fn value(&self, slot: u32, code: u16) -> i32
+        requires slot { slot < slot_count self.now }
+        requires code { is_slot_code code ≡ true }
+        ensures value { result ≡ cell_of self.now slot code }
     {
-        &self.cells[index]
+        self.cells[cell_index(slot, code)]
     }
 
     // Sets the value of a slot on the axis with this code, if there is a slot of this number.
@@ -72,10 +71,9 @@ impl Cells {
         if slot < 0 {
             return;
         }
-        let slot = slot as usize;
-        if slot < self.cells.len() / SLOT_VALUES {
-            let axis = usize::from(code - ABS_MT_TOUCH_MAJOR);
-            self.cells[SLOT_VALUES * slot + axis] = value;
+        let slot = slot as u32;
+        if slot < self.slot_count() {
+            self.cells[cell_index(slot, code)] = value;
         }
     }
 
@@ -95,4 +93,13 @@ impl Cells {
     {
         &self.cells
     }
+}
+
+// Where the value of a slot on the axis with this code stands.
+fn cell_index(slot: u32, code: u16) -> usize
+    requires few { slot < SLOTS_MAX }
+    requires code { is_slot_code code ≡ true }
+    ensures { result ≡ cell_index (pos slot) code }
+{
+    (SLOT_VALUES * slot + u32::from(code - ABS_MT_TOUCH_MAJOR)) as usize
 }

@@ -7,14 +7,14 @@ use crate::flags::{set_flag, set_flags};
 use inp_bits::Bits;
 use inp_caps::Caps;
 use inp_model::{
-    ABS_MT_SLOT, ABS_MT_TOOL_Y, EV_ABS, EV_KEY, EV_LED, EV_SW, Event, NoMemory, Reply, Step,
+    ABS_MT_SLOT, EV_ABS, EV_KEY, EV_LED, EV_SW, Event, NoMemory, Reply, Step, is_multi_touch_code,
 };
 use std::alloc::Global;
 
 /// What a client has seen of a device: keys, switches, LEDs, axes and the values of its slots.
 ///
-/// It is what libevdev keeps beside a device's file. It takes 14 values of 32 bits a slot from the allocator, and
-/// stores about 400 bytes besides.
+/// It is what libevdev keeps beside a device's file. It takes 56 bytes a slot from the allocator, and stores about 400
+/// bytes besides.
 #[derive(Debug, Drop)]
 pub struct View {
     /// Which keys are down, by their codes.
@@ -148,7 +148,7 @@ fn answer_axis(axes: &mut [i32; 64], code: u16, reply: Reply)
     ensures { axes.new ≡ axes_after_reply code reply axes.old }
 {
     if let Reply::Axis { info, .. } = reply {
-        if code < ABS_MT_SLOT || ABS_MT_TOOL_Y < code {
+        if !is_multi_touch_code(code) {
             axes[usize::from(code)] = info.value;
         }
     }

@@ -14,7 +14,7 @@ use Rattle.inp_script.specs.Job.{JobView}
 use Rattle.inp_texts.specs.Texts.{role_text}
 use Rattle.inp_report.specs.Words.{LINE_FEED}
 use Rattle.inp_report.specs.Sights.{is_counted_call, is_took, is_made, is_again}
-use Rattle.inp_report.specs.Views.{cell_of}
+use Rattle.inp_recon.specs.Cells.{cell_of}
 use Rattle.inp_report.specs.Report.{device_line}
 
 -- the slot whose position is told: the last one of a generated device

@@ -3,10 +3,10 @@ use Rattle.std.specs.Prelude.{ℕ, ℤ, pos, Bool, ◌&&◌, not, if◌then◌el
 use Rattle.std.specs.List.{range_with_len}
 use Rattle.std.specs.Fmt.{signed_decimal}
 use Rattle.inp_model.specs.declared.event.TheConstants.{EV_KEY, EV_ABS, EV_SW, EV_LED}
-use Rattle.inp_model.specs.declared.multi_touch.TheConstants.{ABS_MT_TOUCH_MAJOR}
+use Rattle.inp_model.specs.declared.multi_touch.TheConstants.{ABS_MT_TOUCH_MAJOR, SLOT_VALUES}
 use Rattle.inp_model.specs.Description.{Description, has_kind, supports, is_multi_touch_code}
 use Rattle.inp_recon.specs.declared.view.View.{View}
-use Rattle.inp_recon.specs.Cells.{cell_index}
+use Rattle.inp_recon.specs.Cells.{cell_of}
 use Rattle.inp_report.specs.Words.{LINE_FEED, flags_text, value_text}
 
 -- where the type is supported, a line of the codes that are on
@@ -26,17 +26,13 @@ axes_text d axes = flat_map (axis_entry d axes) (range_with_len 0 64)
 unfoldable pub axes_line : Description → List ℤ → List ℕ
 axes_line d axes = if has_kind d EV_ABS then codes "axes" ++ (axes_text d axes ++ LINE_FEED) else []
 
--- the value of a slot on an axis
-abbrev pub cell_of : List ℤ → ℕ → ℕ → ℤ
-cell_of cells slot code = slice_index_or cells (cell_index (pos slot) code) (pos 0)
-
 -- a supported axis of a slot, behind a space
 abbrev pub slot_entry : Description → List ℤ → ℕ → ℕ → List ℕ
 slot_entry d cells slot code = if supports d EV_ABS code then codes " " ++ value_text code (cell_of cells slot code) else []
 
 -- the supported axes of a slot, ascending
 unfoldable pub slot_text : Description → List ℤ → ℕ → List ℕ
-slot_text d cells slot = flat_map (slot_entry d cells slot) (range_with_len ABS_MT_TOUCH_MAJOR 14)
+slot_text d cells slot = flat_map (slot_entry d cells slot) (range_with_len ABS_MT_TOUCH_MAJOR SLOT_VALUES)
 
 -- slot I, and the values of these
 unfoldable pub slot_line : Description → List ℤ → ℕ → List ℕ

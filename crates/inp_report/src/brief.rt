@@ -2,12 +2,11 @@
 ghost use Rattle.std.specs.Prelude.{◌≡◌, ◌<◌, ◌++◌, true, length, string_bytes, IfOk, OnOk, flat_map};
 ghost use Rattle.std.specs.List.{zip};
 ghost use Rattle.inp_model.specs.Description.{is_slot_code};
-ghost use Rattle.inp_report.specs.Views.{cell_of};
+ghost use Rattle.inp_recon.specs.Cells.{cell_of};
 ghost use Rattle.inp_report.specs.Summary.{told_slot, make_line, calls_line, counts_text, position_text, counts_line, brief_line, job_brief, run_brief, summary};
 ghost use Rattle.inp_script.specs.Runs.{AreRunsOf, IsRunOf};
 
 use crate::sights::{again_count, counted_calls, made_count, took_count};
-use crate::views::cell_at;
 use crate::whole::push_device;
 use inp_actors::{ActorText, Actors, DeviceText, Name, Record, Role};
 use inp_model::{ABS_MT_POSITION_X, ABS_MT_POSITION_Y, NoMemory};
@@ -177,9 +176,9 @@ fn told_value(cells: &Cells, code: u16) -> i32
     requires code { is_slot_code code ≡ true }
     ensures value { result ≡ cell_of cells.now told_slot code }
 {
-    if cells.len() < 14 * TOLD_SLOT as usize + 14 {
-        0
+    if TOLD_SLOT < cells.slot_count() {
+        cells.value(TOLD_SLOT, code)
     } else {
-        cell_at(cells, TOLD_SLOT, code)
+        0
     }
 }

@@ -1,17 +1,19 @@
 //! What a view says of a device.
 ghost use Rattle.std.specs.Prelude.{◌≡◌, ◌*◌, ◌+◌, ◌<◌, ◌≤◌, ◌++◌, true, codes, length, string_bytes, OnOk, flat_map};
 ghost use Rattle.std.specs.List.{range_with_len};
-ghost use Rattle.inp_model.specs.Description.{is_multi_touch_code, is_slot_code};
+ghost use Rattle.inp_model.specs.declared.multi_touch.TheConstants.{SLOT_VALUES};
+ghost use Rattle.inp_model.specs.Description.{is_slot_code};
+ghost use Rattle.inp_recon.specs.Cells.{slot_count};
 ghost use Rattle.inp_recon.specs.View.{IsSizedFor};
 ghost use Rattle.inp_report.specs.Words.{value_text};
-ghost use Rattle.inp_report.specs.Views.{flags_line, axis_entry, axes_text, axes_line, cell_of, slot_entry, slot_text, slot_line, current_line, slots_text, view_text};
+ghost use Rattle.inp_report.specs.Views.{flags_line, axis_entry, axes_text, axes_line, slot_entry, slot_text, slot_line, current_line, slots_text, view_text};
 
 use crate::bits::push_flags;
 use crate::words::{push_numbered, push_value};
 use inp_bits::Bits;
 use inp_caps::Caps;
 use inp_model::{
-    ABS_MT_SLOT, ABS_MT_TOOL_Y, ABS_MT_TOUCH_MAJOR, EV_ABS, EV_KEY, EV_LED, EV_SW, NoMemory,
+    ABS_MT_TOOL_Y, ABS_MT_TOUCH_MAJOR, EV_ABS, EV_KEY, EV_LED, EV_SW, NoMemory, is_multi_touch_code,
 };
 use inp_recon::{Cells, View};
 use inp_texts::push_signed;
@@ -92,13 +94,6 @@ fn push_axis_entry(
     }
 }
 
-// Whether the axis names a slot or belongs to slots.
-fn is_multi_touch_code(code: u16) -> bool
-    ensures multi_touch { result ≡ is_multi_touch_code code }
-{
-    ABS_MT_SLOT <= code && code <= ABS_MT_TOOL_Y
-}
-
 fn push_spaced_value(text: &mut String, code: u16, value: i32) -> Result<(), NoMemory>
     ensures pushed { OnOk result
         (string_bytes text.new ≡ string_bytes text.old ++ codes " " ++ value_text code value) }
@@ -109,7 +104,7 @@ fn push_spaced_value(text: &mut String, code: u16, value: i32) -> Result<(), NoM
 
 #[tactic(auto, unfolding(crate::specs::Views::slots_text))]
 fn push_slots(text: &mut String, caps: &Caps, view: &View) -> Result<(), NoMemory>
-    requires cells { length view.now.cells ≡ 14 * caps.now.slots }
+    requires cells { length view.now.cells ≡ SLOT_VALUES * caps.now.slots }
     ensures pushed { OnOk result
         (string_bytes text.new ≡ string_bytes text.old ++ slots_text caps.now view.now) }
 {
@@ -132,7 +127,7 @@ fn push_current(text: &mut String, slot: i32) -> Result<(), NoMemory>
 }
 
 fn push_slot_lines(text: &mut String, caps: &Caps, cells: &Cells) -> Result<(), NoMemory>
-    requires cells { length cells.now ≡ 14 * caps.now.slots }
+    requires cells { length cells.now ≡ SLOT_VALUES * caps.now.slots }
     ensures pushed { OnOk result
         (string_bytes text.new
         ≡ string_bytes text.old
@@ -147,7 +142,7 @@ fn push_slot_lines(text: &mut String, caps: &Caps, cells: &Cells) -> Result<(), 
 
 #[tactic(auto, unfolding(crate::specs::Views::slot_line))]
 fn push_slot_line(text: &mut String, caps: &Caps, cells: &Cells, slot: u32) -> Result<(), NoMemory>
-    requires cells { 14 * slot + 14 ≤ length cells.now }
+    requires slot { slot < slot_count cells.now }
     ensures pushed { OnOk result
         (string_bytes text.new ≡ string_bytes text.old ++ slot_line caps.now cells.now slot) }
 {
@@ -163,7 +158,7 @@ fn push_slot_entries(
     cells: &Cells,
     slot: u32,
 ) -> Result<(), NoMemory>
-    requires cells { 14 * slot + 14 ≤ length cells.now }
+    requires slot { slot < slot_count cells.now }
     ensures pushed { OnOk result
         (string_bytes text.new ≡ string_bytes text.old ++ slot_text caps.now cells.now slot) }
 {
@@ -180,24 +175,15 @@ fn push_slot_entry(
     slot: u32,
     code: u16,
 ) -> Result<(), NoMemory>
-    requires cells { 14 * slot + 14 ≤ length cells.now }
+    requires slot { slot < slot_count cells.now }
     requires code { is_slot_code code ≡ true }
     ensures pushed { OnOk result
         (string_bytes text.new
         ≡ string_bytes text.old ++ slot_entry caps.now cells.now slot code) }
 {
     if caps.supports(EV_ABS, code) {
-        push_spaced_value(text, code, cell_at(cells, slot, code))
+        push_spaced_value(text, code, cells.value(slot, code))
     } else {
         Ok(())
     }
-}
-
-// The value of a slot on an axis.
-pub(crate) fn cell_at(cells: &Cells, slot: u32, code: u16) -> i32
-    requires cells { 14 * slot + 14 ≤ length cells.now }
-    requires code { is_slot_code code ≡ true }
-    ensures value { result ≡ cell_of cells.now slot code }
-{
-    *cells.get(14 * slot as usize + usize::from(code - ABS_MT_TOUCH_MAJOR))
 }

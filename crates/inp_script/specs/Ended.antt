@@ -1,5 +1,6 @@
 -- What comes of an actor when its lines are done.
 use Rattle.std.specs.Prelude.{◌≡◌, ℕ, ◌*◌, List, [], ◌∷◌, length, map, flat_map}
+use Rattle.inp_model.specs.declared.multi_touch.TheConstants.{SLOT_VALUES}
 use Rattle.inp_model.specs.declared.step.Step.{Step}
 use Rattle.inp_model.specs.Description.{Description}
 use Rattle.inp_actors.specs.declared.role.Role.{Role}
@@ -67,6 +68,6 @@ ended_with d state actor sight stop = JobEnded (record { actor = actor; sight = 
 
 -- the view of a job has the device's slots
 abbrev pub HasCells : Description → Ended → Type 0
-HasCells d (JobEnded job) = length job.view.cells ≡ 14 * d.slots
+HasCells d (JobEnded job) = length job.view.cells ≡ SLOT_VALUES * d.slots
 HasCells d (JoyEnded joy) = Unit {0}
 HasCells d (OwnerEnded owner) = Unit {0}

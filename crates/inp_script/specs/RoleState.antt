@@ -1,5 +1,6 @@
 -- What an actor keeps by its role.
 use Rattle.std.specs.Prelude.{◌≡◌, ◌*◌, [], length}
+use Rattle.inp_model.specs.declared.multi_touch.TheConstants.{SLOT_VALUES}
 use Rattle.inp_model.specs.Description.{Description}
 use Rattle.inp_actors.specs.declared.role.Role.{Role}
 use Rattle.inp_actors.specs.declared.role.Role.TheVariants.{Source as SourceRole, Client as ClientRole, Tap as TapRole, Joy as JoyRole, Owner as OwnerRole}
@@ -50,8 +51,8 @@ job_in d state notes = job_with (reading_of d state) (stick_of state) notes
 -- views and buffers have as many cells as the device, and a reader or a joystick is one for it, whose own view has as many by
 -- itself
 abbrev pub IsSized : Description → RoleState → Type 0
-IsSized d (Source view) = length view.cells ≡ 14 * d.slots
+IsSized d (Source view) = length view.cells ≡ SLOT_VALUES * d.slots
 IsSized d (Tap tap) = IsSizedTap d tap
-IsSized d (Client reader view) = (reader.description ≡ d) × (length view.cells ≡ 14 * d.slots)
+IsSized d (Client reader view) = (reader.description ≡ d) × (length view.cells ≡ SLOT_VALUES * d.slots)
 IsSized d (Joy joy) = joy.description ≡ d
 IsSized d (Owner owner) = Unit {0}

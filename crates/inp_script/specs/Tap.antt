@@ -1,5 +1,6 @@
 -- How a tap's parts are kept, and what one of its calls leaves.
 use Rattle.std.specs.Prelude.{◌≡◌, ◌*◌, ◌≤◌, List, [], length, take, vec_len}
+use Rattle.inp_model.specs.declared.multi_touch.TheConstants.{SLOT_VALUES}
 use Rattle.inp_model.specs.declared.taken.Taken.{Taken}
 use Rattle.inp_model.specs.declared.step.Step.{Step}
 use Rattle.inp_model.specs.declared.reply.Reply.{Reply}
@@ -19,9 +20,9 @@ tap_reading t = record { client = t.client; queue = []; view = t.view; phase = P
 
 -- the view and the buffers have room for whatever is read or asked for
 pub record IsSizedTap (d : Description) (t : Tap) : Type 0 where
-  pub view : length t.view.cells ≡ 14 * d.slots
+  pub view : length t.view.cells ≡ SLOT_VALUES * d.slots
   pub buffer : vec_len t.buffer ≡ READ_MAX
-  pub cells : vec_len t.cells ≡ 14 * d.slots
+  pub cells : vec_len t.cells ≡ SLOT_VALUES * d.slots
 
 -- A call was made, and a view was set by its answer and by the events that it read, which stand at the front of the
 -- buffer.

@@ -17,7 +17,7 @@ use crate::steps::step_of;
 use crate::stops::lacks_memory;
 use inp_actors::{Command, READ_MAX};
 use inp_caps::Caps;
-use inp_model::{EV_SYN, Evdev, Event, NoMemory, Reply, SYN_REPORT, Step, Taken};
+use inp_model::{EV_SYN, Evdev, Event, NoMemory, Reply, SLOT_VALUES, SYN_REPORT, Step, Taken};
 use inp_reader::NO_CLIENT;
 use inp_recon::View;
 use std::alloc::Global;
@@ -32,9 +32,6 @@ const NOTHING: Taken = Taken {
     time: 0,
     place: 0,
 };
-
-/// How many values a slot has.
-const SLOT_VALUES: usize = 14;
 
 /// A client whose calls are made one by one, with the buffers that they write to.
 #[derive(Drop)]
@@ -55,7 +52,7 @@ impl Tap {
             client: NO_CLIENT,
             view: View::new(alloc, caps)?,
             buffer: vec![in alloc; NOTHING; READ_MAX as usize]?,
-            cells: vec![in alloc; 0i32; SLOT_VALUES * caps.slots() as usize]?,
+            cells: vec![in alloc; 0i32; (SLOT_VALUES * caps.slots()) as usize]?,
         })
     }
 
@@ -121,8 +118,8 @@ fn make<E: Evdev>(
 ) -> Reply
     requires moment { moment_of step ≤ MOMENT_MAX }
     requires room { HasRoom (E.told dev.old).description step out.old cells.old }
-    requires view { length view.old.cells ≡ 14 * (E.told dev.old).description.slots }
-    requires cells { length cells.old ≡ 14 * (E.told dev.old).description.slots }
+    requires view { length view.old.cells ≡ SLOT_VALUES * (E.told dev.old).description.slots }
+    requires cells { length cells.old ≡ SLOT_VALUES * (E.told dev.old).description.slots }
     ensures made { IsTapCall (E.told dev.old) (E.told dev.new)
         step result view.old view.new out.new }
     ensures view { length view.new.cells ≡ length view.old.cells }

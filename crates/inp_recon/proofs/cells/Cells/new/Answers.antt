@@ -13,4 +13,4 @@ loop-preserved c =
 pub invariant_of-result : goal.invariant_of-result
 invariant_of-result c =
     let all : length c.loop.cells.items ≡ 14 * c.loop.counter = ap length c.loop.invariant ∙ length-first_cells c.loop.counter in
-    omega arith
+    record { whole = omega arith; few = omega (arith, c.requires) }
