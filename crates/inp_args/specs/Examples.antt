@@ -1,5 +1,5 @@
 -- What words ask for, worked out by hand.
-use Rattle.std.specs.Prelude.{◌≡◌, ℕ, true, false, List, [], ◌∷◌, Some, None, codes}
+use Rattle.std.specs.Prelude.{◌≡◌, ℕ, true, false, [], ◌∷◌, Some, None, codes}
 use Rattle.inp_args.specs.declared.request.Request.TheVariants.{Play, Migrate, Make}
 use Rattle.inp_args.specs.Request.{Arguments, requested}
 

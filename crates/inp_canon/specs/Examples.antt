@@ -1,5 +1,5 @@
 -- The texts of a few records, worked out by hand.
-use Rattle.std.specs.Prelude.{◌≡◌, ℕ, pos, negsuc, true, false, List, [], ◌∷◌, ◌++◌, codes, flat_map}
+use Rattle.std.specs.Prelude.{◌≡◌, ℕ, pos, negsuc, true, false, List, [], ◌∷◌, codes}
 use Rattle.inp_model.specs.declared.event.TheConstants.{EV_SYN, EV_KEY, EV_REL, EV_ABS, EV_LED, EV_REP, SYN_REPORT, KEY_A}
 use Rattle.inp_model.specs.declared.multi_touch.TheConstants.{ABS_MT_POSITION_X}
 use Rattle.inp_model.specs.declared.clock.Clock.TheVariants.{Realtime, Monotonic, Boottime}

@@ -1,5 +1,5 @@
 -- What each call of a builder adds to the description that it gathers.
-use Rattle.std.specs.Prelude.{ℕ, ◌-◌, ℤ, pos, Bool, true, false, ◌&&◌, not, if◌then◌else◌, nat_eq, nat_le, [], ◌∷◌, ◌++◌, length, replicate, Result, Ok, Err, slice_set, slice_index_or}
+use Rattle.std.specs.Prelude.{ℕ, ◌-◌, ℤ, pos, Bool, true, false, ◌&&◌, not, if◌then◌else◌, nat_eq, nat_le, [], ◌∷◌, ◌++◌, length, Result, Ok, Err, slice_set, slice_index_or}
 use Rattle.inp_model.specs.declared.event.TheConstants.{EV_KEY, EV_REL, EV_ABS, EV_MSC, EV_SW, EV_LED, EV_SND, EV_REP, KEY_MAX, REL_MAX, MSC_MAX, SW_MAX, LED_MAX, SND_MAX, REP_MAX}
 use Rattle.inp_model.specs.declared.multi_touch.TheConstants.{ABS_MT_SLOT, ABS_MT_TRACKING_ID}
 use Rattle.inp_model.specs.declared.axis_info.AxisInfo.{AxisInfo}

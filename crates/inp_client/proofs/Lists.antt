@@ -1,5 +1,5 @@
 -- Lists: a map, a filter, a search and a removal by what holds of each element.
-use Rattle.std.proofs.Common.{◌≡◌, ◌≢◌, ◌+◌, ◌-◌, ◌<◌, ◌≤◌, ℕ, zero, suc, Bool, true, false, not, ◌&&◌, ◌||◌, if◌then◌else◌, nat_eq, nat_le, nat_lt, List, [], ◌∷◌, length, get_or, replicate, map, All, AllPairs, Some, refl, sym, ap, subst, ◌∙◌, inl, inr, zero-add, arith}
+use Rattle.std.proofs.Common.{◌≡◌, ◌≢◌, ◌+◌, ◌-◌, ◌<◌, ◌≤◌, ℕ, zero, suc, Bool, true, false, not, ◌&&◌, ◌||◌, if◌then◌else◌, nat_eq, nat_le, nat_lt, List, [], ◌∷◌, length, get_or, map, All, AllPairs, Some, refl, sym, ap, subst, ◌∙◌, inl, inr, zero-add, arith}
 use Rattle.std.specs.List.{filter, find, list_any, range_with_len, remove, insert, AllWithin}
 use Rattle.std.proofs.lemmas.Bool.{cases_lt, cases_order, eq-eqb, ne_eqb, lt-ltb, le-ltb, le-leb, lt-leb}
 use Rattle.std.proofs.lemmas.List.FromFn.{get_or-map-range_with_len}

@@ -8,7 +8,7 @@ use Rattle.inp_actors.specs.declared.actor_text.ActorText.{ActorText}
 use Rattle.inp_actors.specs.declared.line.Line.{Line}
 use Rattle.inp_actors.specs.Command.{feedback_room}
 use Rattle.inp_actors.specs.Record.{RecordView}
-use Rattle.inp_reader.specs.Talk.{Talk, talk_with}
+use Rattle.inp_reader.specs.Talk.{talk_with}
 use Rattle.inp_feedback.specs.declared.feedback_call.FeedbackCall.{FeedbackCall}
 use Rattle.inp_feedback.specs.declared.fed.Fed.{Fed}
 use Rattle.inp_feedback.specs.declared.fed.Fed.TheVariants.{Took, Full}

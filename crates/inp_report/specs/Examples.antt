@@ -31,7 +31,6 @@ use Rattle.inp_script.specs.declared.stop.Stop.TheVariants.{Finished, Idle, Full
 use Rattle.inp_script.specs.declared.run.Run.{Run}
 use Rattle.inp_script.specs.Job.{JobView, JoyJobView, OwnerView}
 use Rattle.inp_texts.specs.Texts.{text_of_lines}
-use Rattle.inp_report.specs.Words.{LINE_FEED}
 use Rattle.inp_report.specs.Sights.{sight_line}
 use Rattle.inp_report.specs.Views.{view_text}
 use Rattle.inp_report.specs.Report.{stop_line, reading_text, report}
