@@ -436,7 +436,7 @@ names-client d wait n command j last is =
 abbrev OfJoyStart : ℕ → Started × Joying → Type 0
 OfJoyStart now o = now ≡ o.1.reading.client
 
-joy_start-client : (d : Description) (k : Joying) (started : Started) (now : ℕ) → now ≡ k.reading.client → now ≡ (joy.after_start d k started).reading.client
+joy_start-client : (d : Description) (k : Joying) (started : Started) (now : ℕ) → now ≡ k.reading.client → now ≡ (joy.joying_after_start d k started).reading.client
 joy_start-client d k (StartedOn client ring) now e = e
 joy_start-client d k (Refused at why) now e = by (is_needed k.reading.phase)
   where

@@ -324,7 +324,7 @@ leaves-records d n (suc count) j entries h =
 abbrev IsJoyStarted : Description → Started × Joying → List Sight → List Sight → Type 0
 IsJoyStarted d o kept entries = IsSizedFor d.slots o.1.reading.view × (kept ≡ entries)
 
-joy_started-sized : (d : Description) (k : Joying) (started : Started) → IsSizedFor d.slots k.reading.view → IsSizedFor d.slots (joy.after_start d k started).reading.view
+joy_started-sized : (d : Description) (k : Joying) (started : Started) → IsSizedFor d.slots k.reading.view → IsSizedFor d.slots (joy.joying_after_start d k started).reading.view
 joy_started-sized d k (Opened client ring) sized = sized
 joy_started-sized d k (Refused at why) sized = by_flag (is_needed k.reading.phase)
   where
