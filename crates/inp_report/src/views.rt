@@ -1,5 +1,5 @@
 //! What a view says of a device.
-ghost use Rattle.std.specs.Prelude.{◌≡◌, ◌*◌, ◌+◌, ◌<◌, ◌≤◌, ◌++◌, true, codes, length, string_bytes, OnOk, flat_map};
+ghost use Rattle.std.specs.Prelude.{◌≡◌, ◌*◌, ◌<◌, ◌≤◌, ◌++◌, true, codes, length, string_bytes, OnOk, flat_map};
 ghost use Rattle.std.specs.List.{range_with_len};
 ghost use Rattle.inp_model.specs.declared.multi_touch.TheConstants.{SLOT_VALUES};
 ghost use Rattle.inp_model.specs.Description.{is_slot_code};
