@@ -22,6 +22,8 @@ QUOTED = r'"([^"]+)"'
 CITED = re.compile(rf"(?:docs/)?([A-Z]+)\.md`?,\s+({QUOTED}(?:(?:,| and|, and)\s+{QUOTED})*)")
 CITED_HERE = re.compile(r"\(\"([A-Z][^\"]+)\"(?: below)?\)")
 QUOTED_CODE = re.compile(r"From\s`([^`]+)`,[^:]*:\n\n```rust\n(.*?)^```$", re.M | re.S)
+# `name`, or several, in a file of proofs or definitions.
+LEMMAS = re.compile(r"((?:`[\w-]+`,?\s+)+)(?:in|of)\s+`(proofs|specs)/(\w+)\.antt`")
 MARK = re.compile(r"^\s*(?:--|//[/!]?) ?", re.M)
 
 
@@ -47,6 +49,13 @@ def named(text):
         for first, name in NAME.findall(row):
             if first not in PAGE_NAMES:
                 yield number, first, name
+
+
+def lemmas(text):
+    """The names that a page says are in a file of proofs or definitions, each with the folder and the file."""
+    for names, kind, stem in LEMMAS.findall(text):
+        for name in re.findall(r"`([\w-]+)`", names):
+            yield name, kind, stem
 
 
 def sections(page):
@@ -85,6 +94,21 @@ class Names(unittest.TestCase):
                 count += 1
                 self.assertIn(name, names.get(first, ()), f"{page.relative_to(TOP)}:{number}: `{first}.{name}`")
         self.assertGreater(count, 400)
+
+    def test_each_lemma_that_a_page_places_in_a_file_is_there(self):
+        count = 0
+        for page in PAGES:
+            for name, kind, stem in lemmas(page.read_text()):
+                count += 1
+                files = [path.read_text() for path in TOP.glob(f"crates/*/{kind}/{stem}.antt")]
+                there = any(re.search(rf"(?<![\w-]){re.escape(name)}(?![\w-])", text) for text in files)
+                self.assertTrue(there, f"{page.relative_to(TOP)}: `{name}` in {kind}/{stem}.antt")
+        self.assertGreater(count, 8)
+
+    def test_what_it_finds_of_lemmas(self):
+        page = "`a_b`, `c-d` in `proofs/Calls.antt`, a row in `e`\nof `specs/Read.antt`, `f` and `g`"
+        found = [("a_b", "proofs", "Calls"), ("c-d", "proofs", "Calls"), ("e", "specs", "Read")]
+        self.assertEqual(found, list(lemmas(page)))
 
     def test_what_it_finds_in_a_page(self):
         page = "see `Past.is_open` (`proofs/Calls.antt`)\nand `RULES.md`, `a.b`, `Device::step`, `Past.x y`"
