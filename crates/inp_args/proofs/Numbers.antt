@@ -5,7 +5,7 @@ use Rattle.std.specs.Str.{all_ascii_digits}
 use Rattle.std.specs.Str.Parse.{IsNumeral, ParsesUnsigned, digits_value, without_leading_plus}
 use Rattle.std.proofs.lemmas.Str.Parse.{IsNumeralModel, numerals_by_value, tells_all_ascii_digits}
 use Rattle.std.proofs.lemmas.Bool.Decides.{nat_tests}
-use Rattle.inp_args.specs.Number.{is_numeral, number_of}
+use Rattle.inp_args.specs.Number.{is_decimal, number_of}
 
 digits : IsNumeralModel (λ ds. all_ascii_digits ds ≡ true) (digits_value 10)
 digits = numerals_by_value _ tells_all_ascii_digits
@@ -16,7 +16,7 @@ both false b h = cc
 
 -- a test of one's own for a numeral that fits
 abbrev fits : List ℕ → Bool
-fits ds = is_numeral ds && nat_lt (digits_value 10 ds) (2 ^ 32)
+fits ds = is_decimal ds && nat_lt (digits_value 10 ds) (2 ^ 32)
 
 fits_is : (ds : List ℕ) → IsNumeral 10 ds × (digits_value 10 ds < 2 ^ 32) → fits ds ≡ true
 fits_is ds h =
@@ -27,7 +27,7 @@ fits_is ds h =
 
 is_fitting : (ds : List ℕ) → fits ds ≡ true → IsNumeral 10 ds × (digits_value 10 ds < 2 ^ 32)
 is_fitting ds h =
-    let outer = both (is_numeral ds) (nat_lt (digits_value 10 ds) (2 ^ 32)) h in
+    let outer = both (is_decimal ds) (nat_lt (digits_value 10 ds) (2 ^ 32)) h in
     let inner = both (nat_lt 0 (length ds)) (all_ascii_digits ds) outer.0 in
     let test : nat_lt 0 (length ds) ≡ true = inner.0 in
     let below : nat_lt (digits_value 10 ds) (2 ^ 32) ≡ true = outer.1 in

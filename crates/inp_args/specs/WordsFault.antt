@@ -4,6 +4,6 @@ use Rattle.inp_args.specs.declared.words_fault.WordsFault.{WordsFault}
 use Rattle.inp_args.specs.declared.words_fault.WordsFault.TheVariants.{Usage, NoMemory}
 
 -- what it prints
-abbrev pub message_of : WordsFault → List ℕ
-message_of Usage = codes "the words are not accepted"
-message_of NoMemory = codes "out of memory"
+abbrev pub words_fault_text : WordsFault → List ℕ
+words_fault_text Usage = codes "the words are not accepted"
+words_fault_text NoMemory = codes "out of memory"

@@ -26,9 +26,9 @@ impl From<AllocError> for WordsFault {
 
 impl fmt::Display for WordsFault {
     ghost use Rattle.std.specs.Prelude.{Some};
-    ghost use Rattle.inp_args.specs.WordsFault.{message_of};
+    ghost use Rattle.inp_args.specs.WordsFault.{words_fault_text};
 
-    ghost output = { λ fault. Some (message_of fault) };
+    ghost output = { λ fault. Some (words_fault_text fault) };
 
     fn fmt<W: fmt::Write>(&self, f: &mut fmt::Formatter<W>) -> fmt::Result {
         match self {

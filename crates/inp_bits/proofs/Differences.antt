@@ -6,7 +6,7 @@ use Rattle.std.specs.List.{filter, range_with_len}
 use Rattle.std.proofs.lemmas.Nat.{xor_lt}
 use Rattle.std.proofs.lemmas.Nat.Bits.{bit_at-lt, bit_at_xor}
 use Rattle.std.proofs.lemmas.Bool.{cases_lt}
-use Rattle.inp_bits.specs.Bits.{is_on_at, differ, true_indices, differing_indices}
+use Rattle.inp_bits.specs.Bits.{is_on_at, bits_differ, true_indices, differing_indices}
 use Rattle.inp_bits.specs.Words.{bits_of}
 use Rattle.inp_bits.proofs.BitsOf.{length-bits_of, is_on_at-bits_of}
 use Rattle.inp_bits.proofs.Indices.{filter_same}
@@ -26,7 +26,7 @@ xor_fits n xs ys words h m fx fy k =
     ]
 
 -- the sum of two binary digits is odd where they differ
-digits_differ : (x y : ℕ) → x < 2 → y < 2 → ((x + y) % 2 == 1) ≡ differ (x == 1) (y == 1)
+digits_differ : (x y : ℕ) → x < 2 → y < 2 → ((x + y) % 2 == 1) ≡ bits_differ (x == 1) (y == 1)
 digits_differ zero zero h l = refl
 digits_differ zero (suc zero) h l = refl
 digits_differ zero (suc (suc y)) h l = absurd (omega arith)
@@ -36,17 +36,17 @@ digits_differ (suc zero) (suc (suc y)) h l = absurd (omega arith)
 digits_differ (suc (suc x)) y h l = absurd (omega arith)
 
 -- a value of theirs is true where those of xs and ys differ
-is_on_at-xor : (n : ℕ) (xs ys words : List ℕ) → IsXorBelow n xs ys words → (i : ℕ) → i < 64 * n → is_on_at (bits_of words) i ≡ differ (is_on_at (bits_of xs) i) (is_on_at (bits_of ys) i)
+is_on_at-xor : (n : ℕ) (xs ys words : List ℕ) → IsXorBelow n xs ys words → (i : ℕ) → i < 64 * n → is_on_at (bits_of words) i ≡ bits_differ (is_on_at (bits_of xs) i) (is_on_at (bits_of ys) i)
 is_on_at-xor n xs ys words m i l =
     let word = m.done (i / 64) (omega arith) in
     let digit = bit_at_xor (get_or xs (i / 64) 0) (get_or ys (i / 64) 0) (i % 64) in
     let small_x = bit_at-lt (get_or xs (i / 64) 0) (i % 64) in
     let small_y = bit_at-lt (get_or ys (i / 64) 0) (i % 64) in
-    is_on_at-bits_of words i ∙ ap (λ (w : ℕ). bit_at w (i % 64) == 1) word ∙ ap (λ (d : ℕ). d == 1) digit ∙ digits_differ _ _ small_x small_y ∙ ap (λ (b : Bool). differ b (bit_at (get_or ys (i / 64) 0) (i % 64) == 1)) (sym (is_on_at-bits_of xs i)) ∙ ap (differ (is_on_at (bits_of xs) i)) (sym (is_on_at-bits_of ys i))
+    is_on_at-bits_of words i ∙ ap (λ (w : ℕ). bit_at w (i % 64) == 1) word ∙ ap (λ (d : ℕ). d == 1) digit ∙ digits_differ _ _ small_x small_y ∙ ap (λ (b : Bool). bits_differ b (bit_at (get_or ys (i / 64) 0) (i % 64) == 1)) (sym (is_on_at-bits_of xs i)) ∙ ap (bits_differ (is_on_at (bits_of xs) i)) (sym (is_on_at-bits_of ys i))
 
 -- so its true values stand at the places where the lists differ
 pub true_indices-xor : (n : ℕ) (xs ys words : List ℕ) → length xs ≡ n → IsXorBelow n xs ys words → true_indices (bits_of words) ≡ differing_indices (bits_of xs) (bits_of ys)
 unfolding true_indices differing_indices
 true_indices-xor n xs ys words h m =
     let long : length (bits_of words) ≡ length (bits_of xs) = length-bits_of words ∙ ap (λ (k : ℕ). 64 * k) m.long ∙ sym (length-bits_of xs) in
-    ap (λ (k : ℕ). filter (is_on_at (bits_of words)) (range_with_len 0 k)) long ∙ filter_same (is_on_at (bits_of words)) (λ i. differ (is_on_at (bits_of xs) i) (is_on_at (bits_of ys) i)) 0 (length (bits_of xs)) (λ k l within. is_on_at-xor n xs ys words m k (omega (arith, length-bits_of xs)))
+    ap (λ (k : ℕ). filter (is_on_at (bits_of words)) (range_with_len 0 k)) long ∙ filter_same (is_on_at (bits_of words)) (λ i. bits_differ (is_on_at (bits_of xs) i) (is_on_at (bits_of ys) i)) 0 (length (bits_of xs)) (λ k l within. is_on_at-xor n xs ys words m k (omega (arith, length-bits_of xs)))

@@ -9,7 +9,7 @@ use Rattle.std.proofs.lemmas.List.Elements.{All-nil, All-cons, All-contains, All
 use Rattle.std.proofs.lemmas.List.FromFn.{length-range_with_len, get_or-range_with_len, fill_by_all}
 use Rattle.std.proofs.lemmas.List.Sums.{length-filter, count_by-le-length, sum_by-cons}
 use Rattle.std.proofs.lemmas.List.Kept.{IsStrictlyIncreasing-filter}
-use Rattle.inp_bits.specs.Bits.{is_on_at, differ, true_indices, differing_indices}
+use Rattle.inp_bits.specs.Bits.{is_on_at, bits_differ, true_indices, differing_indices}
 
 -- ---- the numbers of a range that pass a test
 
@@ -125,15 +125,15 @@ is_on_at-from_contains bits i h =
 -- the indices ascend
 pub differing_indices-ascend : (xs ys : List Bool) → IsStrictlyIncreasing (differing_indices xs ys)
 unfolding differing_indices
-differing_indices-ascend xs ys = IsStrictlyIncreasing-filter (λ i. differ (is_on_at xs i) (is_on_at ys i)) (range_with_len 0 (length xs)) (IsStrictlyIncreasing-range_with_len 0 (length xs))
+differing_indices-ascend xs ys = IsStrictlyIncreasing-filter (λ i. bits_differ (is_on_at xs i) (is_on_at ys i)) (range_with_len 0 (length xs)) (IsStrictlyIncreasing-range_with_len 0 (length xs))
 
-differ_true : (x y : Bool) → (x ≡ y → ⊥) → differ x y ≡ true
+differ_true : (x y : Bool) → (x ≡ y → ⊥) → bits_differ x y ≡ true
 differ_true true true h = absurd (h refl)
 differ_true true false h = refl
 differ_true false true h = refl
 differ_true false false h = absurd (h refl)
 
-differ_same : (x : Bool) → differ x x ≡ false
+differ_same : (x : Bool) → bits_differ x x ≡ false
 differ_same true = refl
 differ_same false = refl
 
@@ -141,23 +141,23 @@ differ_same false = refl
 pub Contains-differing_indices : (xs ys : List Bool) (i : ℕ) → i < length xs → (is_on_at xs i ≡ is_on_at ys i → ⊥) → Contains (differing_indices xs ys) i
 unfolding differing_indices
 Contains-differing_indices xs ys i l h =
-    Contains-filter_range (λ k. differ (is_on_at xs k) (is_on_at ys k)) 0 (length xs) i (omega arith) (omega arith) (differ_true (is_on_at xs i) (is_on_at ys i) h)
+    Contains-filter_range (λ k. bits_differ (is_on_at xs k) (is_on_at ys k)) 0 (length xs) i (omega arith) (omega arith) (differ_true (is_on_at xs i) (is_on_at ys i) h)
 
 -- at each of them the lists differ
 pub differ-from_contains : (xs ys : List Bool) (i : ℕ) → Contains (differing_indices xs ys) i → is_on_at xs i ≡ is_on_at ys i → ⊥
 unfolding differing_indices
 differ-from_contains xs ys i h same =
-    let apart : differ (is_on_at xs i) (is_on_at ys i) ≡ true = All-contains (λ k. differ (is_on_at xs k) (is_on_at ys k) ≡ true) (differing_indices xs ys) i (filter_passes (λ k. differ (is_on_at xs k) (is_on_at ys k)) (range_with_len 0 (length xs))) h in
-    let alike : differ (is_on_at xs i) (is_on_at ys i) ≡ false = ap (λ b. differ b (is_on_at ys i)) same ∙ differ_same (is_on_at ys i) in
+    let apart : bits_differ (is_on_at xs i) (is_on_at ys i) ≡ true = All-contains (λ k. bits_differ (is_on_at xs k) (is_on_at ys k) ≡ true) (differing_indices xs ys) i (filter_passes (λ k. bits_differ (is_on_at xs k) (is_on_at ys k)) (range_with_len 0 (length xs))) h in
+    let alike : bits_differ (is_on_at xs i) (is_on_at ys i) ≡ false = ap (λ b. bits_differ b (is_on_at ys i)) same ∙ differ_same (is_on_at ys i) in
     cc
 
 -- a list does not differ from itself
 pub differing_indices-same : (xs : List Bool) → differing_indices xs xs ≡ []
 unfolding differing_indices
 differing_indices-same xs =
-    filter_none (λ i. differ (is_on_at xs i) (is_on_at xs i)) 0 (length xs) (λ k l m. differ_same (is_on_at xs k))
+    filter_none (λ i. bits_differ (is_on_at xs i) (is_on_at xs i)) 0 (length xs) (λ k l m. differ_same (is_on_at xs k))
 
-differ_false : (x : Bool) → differ x false ≡ x
+differ_false : (x : Bool) → bits_differ x false ≡ x
 differ_false true = refl
 differ_false false = refl
 
@@ -165,7 +165,7 @@ differ_false false = refl
 pub differing_indices-replicate_false : (xs : List Bool) (n : ℕ) → differing_indices xs (replicate n false) ≡ true_indices xs
 unfolding differing_indices true_indices
 differing_indices-replicate_false xs n =
-    filter_same (λ i. differ (is_on_at xs i) (is_on_at (replicate n false) i)) (is_on_at xs) 0 (length xs) (λ k l m. ap (differ (is_on_at xs k)) (is_on_at-replicate_false n k) ∙ differ_false (is_on_at xs k))
+    filter_same (λ i. bits_differ (is_on_at xs i) (is_on_at (replicate n false) i)) (is_on_at xs) 0 (length xs) (λ k l m. ap (bits_differ (is_on_at xs k)) (is_on_at-replicate_false n k) ∙ differ_false (is_on_at xs k))
 
 same_unless : (x y : Bool) → ((x ≡ y → ⊥) → ⊥) → x ≡ y
 same_unless true true h = refl

@@ -16,10 +16,10 @@ unfoldable pub true_indices : List Bool → List ℕ
 true_indices bits = filter (is_on_at bits) (range_with_len 0 (length bits))
 
 -- two values differ
-abbrev pub differ : Bool → Bool → Bool
-differ true y = not y
-differ false y = y
+abbrev pub bits_differ : Bool → Bool → Bool
+bits_differ true y = not y
+bits_differ false y = y
 
 -- the indices at which two lists of one length differ, ascending
 unfoldable pub differing_indices : List Bool → List Bool → List ℕ
-differing_indices xs ys = filter (λ i. differ (is_on_at xs i) (is_on_at ys i)) (range_with_len 0 (length xs))
+differing_indices xs ys = filter (λ i. bits_differ (is_on_at xs i) (is_on_at ys i)) (range_with_len 0 (length xs))

@@ -14,7 +14,7 @@ use Rattle.inp_model.specs.Step.{Query, is_part_of}
 use Rattle.inp_model.specs.Queue.{stays, flush_behind, is_same_clock, clock_changed}
 use Rattle.inp_ring.specs.declared.cell.Cell.{Cell}
 use Rattle.inp_ring.specs.declared.cell.Held.{Held}
-use Rattle.inp_ring.specs.Store.{StoreView, entry, holders, holders_of, event_of, cell_taken, HasCell, IsIdle, IsIdleSlot}
+use Rattle.inp_ring.specs.Store.{StoreView, held_under, holders, holders_of, event_of_cell, cell_taken, HasCell, IsIdle, IsIdleSlot}
 use Rattle.inp_ring.specs.Ring.{cell_at, AreFit, AreHeld, IsRing}
 use Rattle.inp_ring.proofs.Moves.{moved_none}
 use Rattle.inp_client.specs.declared.clients.Clients.TheInside.{Inside}
@@ -23,7 +23,7 @@ use Rattle.inp_client.specs.Clients.{ClientsView, has_client, client_named, even
 use Rattle.inp_client.specs.Read.{client_on, clients_on}
 use Rattle.inp_client.specs.Member.{Member, ring_of, client_in, cells_in, times_in, wanted, AreStored, IsMemberChanged}
 use Rattle.inp_client.specs.Locations.{client_at, clients_in}
-use Rattle.inp_client.specs.Kept.{view_of, AreKept}
+use Rattle.inp_client.specs.Kept.{kept_view, AreKept}
 use Rattle.inp_client.proofs.Locating.{client_at_found, located_after_write, members_after_write, members_long, member_in_location, member_number, members_apart}
 use Rattle.inp_client.proofs.Sharing.{member_held, member_timed, member_ring, spare_some, others_stay, stored_after_write, cells_after_write, client_named-cells_in}
 use Rattle.inp_client.proofs.OnClock.{client_named-on}
@@ -33,17 +33,17 @@ pub has_client-cells_in : (s : StoreView) (ms : List Member) (number : ℕ) → 
 has_client-cells_in s [] number = refl
 has_client-cells_in s (m ∷ ms) number = ap (λ (b : Bool). nat_eq m.number number || b) (has_client-cells_in s ms number)
 
-pub call_open : (k : Inside) (number : ℕ) (now : ClientsView) → view_of k ≡ now → has_client number now.list ≡ true → has_client number (clients_in k.locations.items k.slab) ≡ true
+pub call_open : (k : Inside) (number : ℕ) (now : ClientsView) → kept_view k ≡ now → has_client number now.list ≡ true → has_client number (clients_in k.locations.items k.slab) ≡ true
 call_open k number now e h = sym (has_client-cells_in k.store (clients_in k.locations.items k.slab) number) ∙ ap (λ (v : ClientsView). has_client number v.list) e ∙ h
 
-pub call_closed : (k : Inside) (number : ℕ) (now : ClientsView) → view_of k ≡ now → has_client number now.list ≡ false → has_client number (clients_in k.locations.items k.slab) ≡ false
+pub call_closed : (k : Inside) (number : ℕ) (now : ClientsView) → kept_view k ≡ now → has_client number now.list ≡ false → has_client number (clients_in k.locations.items k.slab) ≡ false
 call_closed k number now e h = sym (has_client-cells_in k.store (clients_in k.locations.items k.slab) number) ∙ ap (λ (v : ClientsView). has_client number v.list) e ∙ h
 
 -- where no cell is idle, each is in some ring
 pub kept_known : (s : StoreView) (ms : List Member) → AreStored s ms (λ n. 0) → ((n : ℕ) → IsIdle s n → ⊥) → (n : ℕ) → HasCell s n → 1 ≤ times_in n ms
 kept_known s ms st none n there = elim (cases_lt 0 (holders s n)) [
   | inl some ↦ omega (arith, some, st.held n)
-  | inr nobody ↦ absurd (none n (idle (entry s n) there (omega (arith, nobody))))
+  | inr nobody ↦ absurd (none n (idle (held_under s n) there (omega (arith, nobody))))
 ]
   where
     idle : (o : Option Held) → IsSome o → holders_of o ≡ 0 → IsIdleSlot o
@@ -55,14 +55,14 @@ kept_known s ms st none n there = elim (cases_lt 0 (holders s n)) [
 pub timed_take : (count : ℕ) (c : ClientView Cell) → AreFit c.ring.events → AreFit (after_take count c).ring.events
 timed_take count c fit = All-drop (λ (x : Cell). x.now ≤ MOMENT_MAX) count c.ring.events fit
 
-pub timed_flush : (query : Query) (c : ClientView Cell) → AreFit c.ring.events → AreFit (after_flush event_of query c).ring.events
+pub timed_flush : (query : Query) (c : ClientView Cell) → AreFit c.ring.events → AreFit (after_flush event_of_cell query c).ring.events
 timed_flush query c fit = behind [] c.ring.events fit
   where
-    behind : (before q : List Cell) → AreFit q → AreFit (flush_behind event_of (is_part_of query) before q)
+    behind : (before q : List Cell) → AreFit q → AreFit (flush_behind event_of_cell (is_part_of query) before q)
     behind before [] all = all
     behind before (x ∷ q) all =
-        All-append (λ (x : Cell). x.now ≤ MOMENT_MAX) (if stays event_of (is_part_of query) before x then x ∷ [] else []) (flush_behind event_of (is_part_of query) (x ∷ before) q)
-        (one (stays event_of (is_part_of query) before x) (All-head (λ (x : Cell). x.now ≤ MOMENT_MAX) x q all))
+        All-append (λ (x : Cell). x.now ≤ MOMENT_MAX) (if stays event_of_cell (is_part_of query) before x then x ∷ [] else []) (flush_behind event_of_cell (is_part_of query) (x ∷ before) q)
+        (one (stays event_of_cell (is_part_of query) before x) (All-head (λ (x : Cell). x.now ≤ MOMENT_MAX) x q all))
         (behind (x ∷ before) q (All-tail (λ (x : Cell). x.now ≤ MOMENT_MAX) x q all))
       where
         one : (b : Bool) → x.now ≤ MOMENT_MAX → AreFit (if b then x ∷ [] else [])
@@ -114,22 +114,22 @@ module _ (k : Inside) (kept : AreKept k) (number key : ℕ) (location : Contains
   call_sound : IsRing (ring_of old)
   call_sound = let P : Member → Type 0 = λ m. IsRing (ring_of m) in subst P here (member_ring kept.stored (new_client 0 0) location.0 in_members)
 
-  named : client_named number (view_of k).list ≡ Some (client_in k.store old)
+  named : client_named number (kept_view k).list ≡ Some (client_in k.store old)
   named =
       ap (λ (n : ℕ). client_named n (cells_in k.store members)) (sym numbered)
       ∙ client_named-cells_in k.store members location.0 (new_client 0 0) in_members apart
       ∙ ap (λ (m : Member). Some (client_in k.store m)) here
 
-  pub call_events : events_of number (view_of k).list ≡ map (cell_at k.store) old.ring.events
+  pub call_events : events_of number (kept_view k).list ≡ map (cell_at k.store) old.ring.events
   call_events = ap (λ o. option_map_or (λ (c : ClientView Cell). c.ring.events) o []) named
 
-  pub call_revoked : has_revoked_client number (view_of k).list ≡ old.revoked
+  pub call_revoked : has_revoked_client number (kept_view k).list ≡ old.revoked
   call_revoked = ap (λ o. option_map_or (λ (c : ClientView Cell). c.revoked) o false) named
 
   -- what it reads
-  pub call_read : (d : Description) → events_of number (clients_on d (view_of k).list) ≡ map (cell_taken (offset d old.clock)) (map (cell_at k.store) old.ring.events)
+  pub call_read : (d : Description) → events_of number (clients_on d (kept_view k).list) ≡ map (cell_taken (offset d old.clock)) (map (cell_at k.store) old.ring.events)
   call_read d =
-      ap (λ o. option_map_or (λ (c : ClientView Taken). c.ring.events) o []) (client_named-on d number (view_of k).list ∙ ap (option_map (client_on d)) named)
+      ap (λ o. option_map_or (λ (c : ClientView Taken). c.ring.events) o []) (client_named-on d number (kept_view k).list ∙ ap (option_map (client_on d)) named)
 
   module _ (new : Member) (after : StoreView) (change : ClientView Cell → ClientView Cell) (w : IsMemberChanged k.store after old new change) (timed : AreFit (change (client_in k.store old)).ring.events) where
     abbrev next : Inside
@@ -159,7 +159,7 @@ module _ (k : Inside) (kept : AreKept k) (number key : ℕ) (location : Contains
       counted = kept.counted ∙ sym (ap wanted members_next ∙ omega (arith, moved.places, sum_by-set (λ (m : Member). m.ring.places + 1) members location.0 new (new_client 0 0) in_members));
     }
 
-    pub list_after_call : (view_of next).list ≡ map_client number change (view_of k).list
+    pub list_after_call : (kept_view next).list ≡ map_client number change (kept_view k).list
     list_after_call =
         ap (cells_in after) members_next
         ∙ cells_after_write k.store after members location.0 (new_client 0 0) new change in_members moved.number moved.changed

@@ -6,7 +6,7 @@ use Rattle.std.proofs.lemmas.List.{get_or_past, length-append}
 use Rattle.std.proofs.lemmas.List.Sums.{sum_by-cons}
 use Rattle.std.proofs.lemmas.List.Elements.{All-head, All-tail}
 use Rattle.inp_ring.specs.declared.cell.Held.{Held}
-use Rattle.inp_ring.specs.Store.{StoreView, entry, cell_count, HasCell}
+use Rattle.inp_ring.specs.Store.{StoreView, held_under, cell_count, HasCell}
 use Rattle.inp_ring.specs.Ring.{times, AreDifferent, IsRing}
 use Rattle.inp_ring.proofs.Times.{once, once_same, once_other, times-append}
 use Rattle.inp_client.specs.Clients.{distinct}
@@ -110,7 +110,7 @@ cells_many s q different h =
     within : (n : ℕ) → HasCell s n → n < length s.slots
     within n there = elim (cases_lt n (length s.slots)) [
       | inl lt ↦ lt
-      | inr past ↦ let none : entry s n ≡ None = get_or_past s.slots n None past in absurd (apart (entry s n) there none)
+      | inr past ↦ let none : held_under s n ≡ None = get_or_past s.slots n None past in absurd (apart (held_under s n) there none)
     ]
 
 -- each number once

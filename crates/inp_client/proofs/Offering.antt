@@ -11,8 +11,8 @@ use Rattle.inp_model.specs.Event.{is_report}
 use Rattle.inp_model.specs.Queue.{is_empty, ends_in_report, put}
 use Rattle.inp_ring.specs.declared.cell.Cell.{Cell}
 use Rattle.inp_ring.specs.declared.cell.Held.{Held}
-use Rattle.inp_ring.specs.Store.{StoreView, entry, cell_in, held_cell, holders, holders_of, held_by, event_of, dropped_at, HasCell, IsIdle, IsIdleSlot}
-use Rattle.inp_ring.specs.Ring.{times, cell_at, some_cell, AreFit, AreHeld, IsRing, IsMoved, IsEntered}
+use Rattle.inp_ring.specs.Store.{StoreView, held_under, cell_in, held_cell, holders, holders_of, held_by, event_of_cell, dropped_cell, HasCell, IsIdle, IsIdleSlot}
+use Rattle.inp_ring.specs.Ring.{times, cell_at, some_cell, AreFit, AreHeld, IsRing, IsMoved, IsPutAtEnd}
 use Rattle.inp_ring.proofs.Times.{once, times_push, once_same, once_other}
 use Rattle.inp_client.specs.declared.location.Location.{Location}
 use Rattle.inp_client.specs.Masks.{admits_of}
@@ -55,14 +55,14 @@ timed_after_event cell holder c now fit = either (is_offered_to holder c && admi
     Timed : Cell → Type 0
     Timed x = x.now ≤ MOMENT_MAX
 
-    putting : (a b : Bool) → AreFit (if a then c.ring.events else if b then c.ring.events ++ cell ∷ [] else dropped_at cell ∷ cell ∷ [])
+    putting : (a b : Bool) → AreFit (if a then c.ring.events else if b then c.ring.events ++ cell ∷ [] else dropped_cell cell ∷ cell ∷ [])
     putting true b = fit
     putting false true = All-push (λ (x : Cell). x.now ≤ MOMENT_MAX) c.ring.events cell fit now
     putting false false =
-        All-cons (λ (x : Cell). x.now ≤ MOMENT_MAX) (dropped_at cell) (cell ∷ []) now (All-cons (λ (x : Cell). x.now ≤ MOMENT_MAX) cell [] now (All-nil (λ (x : Cell). x.now ≤ MOMENT_MAX)))
+        All-cons (λ (x : Cell). x.now ≤ MOMENT_MAX) (dropped_cell cell) (cell ∷ []) now (All-cons (λ (x : Cell). x.now ≤ MOMENT_MAX) cell [] now (All-nil (λ (x : Cell). x.now ≤ MOMENT_MAX)))
 
-    either : (b : Bool) → AreFit (if b then with_events (put event_of dropped_at c.ring.places c.ring.events cell) c else c).ring.events
-    either true = putting (is_report (event_of cell) && (is_empty c.ring.events || ends_in_report event_of c.ring.events)) (nat_lt (suc (length c.ring.events)) c.ring.places)
+    either : (b : Bool) → AreFit (if b then with_events (put event_of_cell dropped_cell c.ring.places c.ring.events cell) c else c).ring.events
+    either true = putting (is_report (event_of_cell cell) && (is_empty c.ring.events || ends_in_report event_of_cell c.ring.events)) (nat_lt (suc (length c.ring.events)) c.ring.places)
     either false = fit
 
 module _ {cell : Cell} {holder : Option ℕ} {number : ℕ} {locations : List Location} {before slab : Slab Member} {first store : StoreView} {i taken : ℕ} (to : IsEnteredTo i cell holder number locations before slab first store taken) (in_i : i < length locations) where
@@ -73,7 +73,7 @@ module _ {cell : Cell} {holder : Option ℕ} {number : ℕ} {locations : List Lo
   known : (n : ℕ) → HasCell store n → n ≢ number → 1 ≤ times_in n (clients_in locations slab)
   known n there differs = elim (cases_lt 0 (holders store n)) [
     | inl some ↦ omega (arith, some, to.stored.held n)
-    | inr none ↦ absurd (differs (to.idle n (idle (entry store n) there (omega (arith, none)))))
+    | inr none ↦ absurd (differs (to.idle n (idle (held_under store n) there (omega (arith, none)))))
   ]
     where
       idle : (o : Option Held) → IsSome o → holders_of o ≡ 0 → IsIdleSlot o
@@ -101,7 +101,7 @@ module _ {cell : Cell} {holder : Option ℕ} {number : ℕ} {locations : List Lo
     enter_held = let P : Member → Type 0 = λ m. AreHeld store m.ring.events in subst P old_is (member_held to.stored (new_client 0 0) i long_i not_owed)
 
     -- it was put into its ring, or not
-    module _ (new : Member) (after : StoreView) (is_in : Bool) (entered : IsEntered store after old.ring.events new.ring.events number is_in) (numbered : new.number ≡ old.number) (places : new.ring.places ≡ old.ring.places)
+    module _ (new : Member) (after : StoreView) (is_in : Bool) (entered : IsPutAtEnd store after old.ring.events new.ring.events number is_in) (numbered : new.number ≡ old.number) (places : new.ring.places ≡ old.ring.places)
         (sound : IsRing (ring_of old) → IsRing (ring_of new)) (offered : client_in after new ≡ after_event (cell_at store number) holder (client_in store old)) (now : cell.now ≤ MOMENT_MAX) where
       abbrev gained : ℕ
       gained = if is_in then 1 else 0
@@ -210,7 +210,7 @@ module _ {cell : Cell} {holder : Option ℕ} {number : ℕ} {locations : List Lo
 
 -- Nothing was put yet.
 pub entered_none : (cell : Cell) (holder : Option ℕ) (number : ℕ) (locations : List Location) (slab : Slab Member) (store : StoreView) → AreLocated locations slab → AreStored store (clients_in locations slab) (λ n. 0)
-    → ((n : ℕ) → IsIdle store n → n ≡ number) → entry store number ≡ held_by 0 cell → IsEnteredTo 0 cell holder number locations slab slab store store 0
+    → ((n : ℕ) → IsIdle store n → n ≡ number) → held_under store number ≡ held_by 0 cell → IsEnteredTo 0 cell holder number locations slab slab store store 0
 entered_none cell holder number locations slab store located stored idle same = record {
   located = located;
   stored = stored_owed (owing number 0) stored (λ n. sym (owing_none number n));

@@ -8,7 +8,7 @@ use Rattle.inp_model.specs.declared.event.Event.{Event}
 use Rattle.inp_model.specs.Queue.{put, put_all}
 use Rattle.inp_ring.specs.declared.cell.Cell.{Cell}
 use Rattle.inp_ring.specs.declared.cell.Held.{Held}
-use Rattle.inp_ring.specs.Store.{StoreView, entry, cell_in, held_cell, holders, holders_of, cell_count, held_by, held_more, event_of, dropped_at, IsIdle, IsIdleSlot, IsPut}
+use Rattle.inp_ring.specs.Store.{StoreView, held_under, cell_in, held_cell, holders, holders_of, cell_count, held_by, held_more, event_of_cell, dropped_cell, IsIdle, IsIdleSlot, IsPut}
 use Rattle.inp_ring.proofs.Moves.{idle_none}
 use Rattle.inp_client.specs.declared.location.Location.{Location}
 use Rattle.inp_client.specs.Masks.{admits_of}
@@ -23,7 +23,7 @@ use Rattle.inp_client.proofs.Locating.{members_long}
 use Rattle.inp_client.proofs.Offering.{owing_same, owing_other}
 
 -- A new cell is in no ring.
-module _ {locations : List Location} {slab : Slab Member} {s after : StoreView} (shared : AreShared locations slab s) (number : ℕ) (cell : Cell) (new : entry s number ≡ None) (put : IsPut s after number (held_by 0 cell)) where
+module _ {locations : List Location} {slab : Slab Member} {s after : StoreView} (shared : AreShared locations slab s) (number : ℕ) (cell : Cell) (new : held_under s number ≡ None) (put : IsPut s after number (held_by 0 cell)) where
   in_none : times_in number (clients_in locations slab) ≡ 0
   in_none = omega (arith, shared.stored.held number, ap holders_of new)
 
@@ -75,7 +75,7 @@ module _ {count : ℕ} {cell : Cell} {holder : Option ℕ} {number : ℕ} {locat
       located = to.located;
       stored = stored_stays to.stored after free_stay (λ n. 0) held room;
       none_idle = λ n idle. elim (cases_eq n number) [
-        | inl e ↦ gone (entry after number) put.changed (subst (λ (k : ℕ). IsIdle after k) e idle)
+        | inl e ↦ gone (held_under after number) put.changed (subst (λ (k : ℕ). IsIdle after k) e idle)
         | inr d ↦ d (to.idle n (subst IsIdleSlot (put.others n d) idle))
       ];
     }
@@ -94,8 +94,8 @@ module _ {count : ℕ} {cell : Cell} {holder : Option ℕ} {number : ℕ} {locat
     cells_free = cells_stay to.stored after free_stay
 
   -- Some took it: it has so many holders.
-  module _ (after : StoreView) (put : IsPut store after number (held_more taken (entry store number))) (some : 0 < taken) where
-    now_there : entry after number ≡ held_by taken cell
+  module _ (after : StoreView) (put : IsPut store after number (held_more taken (held_under store number))) (some : 0 < taken) where
+    now_there : held_under after number ≡ held_by taken cell
     now_there = put.changed ∙ ap (held_more taken) to.same ∙ plus
       where
         plus : held_more taken (held_by 0 cell) ≡ held_by taken cell
@@ -131,8 +131,8 @@ pub after_offer-cons : (e : Event) (frame : List Event) (now place : ℕ) (holde
 after_offer-cons e frame now place holder c = step (is_offered_to holder c) (admits_of c.masks e) refl
   where
     step : (a b : Bool) → is_offered_to holder c ≡ a →
-        (if a then with_events (put_all event_of dropped_at c.ring.places c.ring.events (map (cell_of_event now place) (if b then e ∷ filter (admits_of c.masks) frame else filter (admits_of c.masks) frame))) c else c)
-        ≡ after_offer frame now place holder (if a && b then with_events (put event_of dropped_at c.ring.places c.ring.events (cell_of_event now place e)) c else c)
+        (if a then with_events (put_all event_of_cell dropped_cell c.ring.places c.ring.events (map (cell_of_event now place) (if b then e ∷ filter (admits_of c.masks) frame else filter (admits_of c.masks) frame))) c else c)
+        ≡ after_offer frame now place holder (if a && b then with_events (put event_of_cell dropped_cell c.ring.places c.ring.events (cell_of_event now place e)) c else c)
     step true true h = sym (cond-true (is_offered_to holder c) _ _ h)
     step true false h = sym (cond-true (is_offered_to holder c) _ _ h)
     step false b h = sym (cond-false (is_offered_to holder c) _ _ h)

@@ -13,7 +13,7 @@ use Rattle.inp_model.specs.Step.{Query, is_part_of}
 use Rattle.inp_model.specs.Queue as model
 use Rattle.inp_model.specs.Queue.{is_empty, ends_in_report, put, put_all, visible, follows_kept, stays, flush_behind, flush, is_same_clock, clock_changed}
 use Rattle.inp_ring.specs.declared.cell.Cell.{Cell}
-use Rattle.inp_ring.specs.Store.{event_of, dropped_at, cell_taken}
+use Rattle.inp_ring.specs.Store.{event_of_cell, dropped_cell, cell_taken}
 use Rattle.inp_client.specs.Masks.{admits_of}
 use Rattle.inp_client.specs.Client.{ClientView, with_events, is_offered_to, cell_of_event, admitted_cells, after_offer, after_take, after_flush, after_clock}
 use Rattle.inp_client.specs.Clients.{has_number, has_client, client_named, has_revoked_client, events_of, map_client, with_client, without_client}
@@ -87,14 +87,14 @@ same_clock Boottime Boottime e = refl
 
 -- the calls
 module _ (d : Description) where
-  pub visible-client_on : (c : ClientView Cell) → visible taken_event (client_on d c).ring.events ≡ visible event_of c.ring.events
-  visible-client_on c = visible-on (cell_taken (offset d c.clock)) event_of taken_event (λ x. refl) c.ring.events
+  pub visible-client_on : (c : ClientView Cell) → visible taken_event (client_on d c).ring.events ≡ visible event_of_cell c.ring.events
+  visible-client_on c = visible-on (cell_taken (offset d c.clock)) event_of_cell taken_event (λ x. refl) c.ring.events
 
   pub on_take : (count : ℕ) (c : ClientView Cell) → client_on d (after_take count c) ≡ after_take count (client_on d c)
   on_take count c = ap (λ q. with_events q (client_on d c)) (sym (drop-map (cell_taken (offset d c.clock)) count c.ring.events))
 
-  pub on_flush : (query : Query) (c : ClientView Cell) → client_on d (after_flush event_of query c) ≡ after_flush taken_event query (client_on d c)
-  on_flush query c = ap (λ q. with_events q (client_on d c)) (sym (flush_behind-on (cell_taken (offset d c.clock)) event_of taken_event (λ x. refl) (is_part_of query) [] c.ring.events))
+  pub on_flush : (query : Query) (c : ClientView Cell) → client_on d (after_flush event_of_cell query c) ≡ after_flush taken_event query (client_on d c)
+  on_flush query c = ap (λ q. with_events q (client_on d c)) (sym (flush_behind-on (cell_taken (offset d c.clock)) event_of_cell taken_event (λ x. refl) (is_part_of query) [] c.ring.events))
 
   pub on_clock : (clock : Clock) (now place : ℕ) (c : ClientView Cell) → client_on d (after_clock clock now place c) ≡ read_after_clock d clock now place (client_on d c)
   on_clock clock now place c =
@@ -113,12 +113,12 @@ module _ (d : Description) where
       items [] = refl
       items (e ∷ es) = ap (λ r. taken_at (now + offset d c.clock) place e ∷ r) (items es)
 
-      queue : put_all taken_event model.dropped_at c.ring.places (client_on d c).ring.events (admitted_events d frame now place (client_on d c)) ≡ map (cell_taken (offset d c.clock)) (put_all event_of dropped_at c.ring.places c.ring.events (admitted_cells frame now place c))
+      queue : put_all taken_event model.dropped_at c.ring.places (client_on d c).ring.events (admitted_events d frame now place (client_on d c)) ≡ map (cell_taken (offset d c.clock)) (put_all event_of_cell dropped_cell c.ring.places c.ring.events (admitted_cells frame now place c))
       queue =
           ap (put_all taken_event model.dropped_at c.ring.places (client_on d c).ring.events) (items (filter (admits_of c.masks) frame))
-          ∙ put_all-on (cell_taken (offset d c.clock)) event_of taken_event (λ x. refl) dropped_at model.dropped_at (λ x. refl) c.ring.places c.ring.events (admitted_cells frame now place c)
+          ∙ put_all-on (cell_taken (offset d c.clock)) event_of_cell taken_event (λ x. refl) dropped_cell model.dropped_at (λ x. refl) c.ring.places c.ring.events (admitted_cells frame now place c)
 
-      either : (b : Bool) → client_on d (if b then with_events (put_all event_of dropped_at c.ring.places c.ring.events (admitted_cells frame now place c)) c else c)
+      either : (b : Bool) → client_on d (if b then with_events (put_all event_of_cell dropped_cell c.ring.places c.ring.events (admitted_cells frame now place c)) c else c)
           ≡ (if b then with_events (put_all taken_event model.dropped_at c.ring.places (client_on d c).ring.events (admitted_events d frame now place (client_on d c))) (client_on d c) else client_on d c)
       either true = ap (λ q. with_events q (client_on d c)) (sym queue)
       either false = refl
@@ -158,10 +158,10 @@ module _ (d : Description) where
       one None = refl
       one (Some c) = refl
 
-  pub visible-on_clock : (number : ℕ) (clients : List (ClientView Cell)) → visible taken_event (events_of number (clients_on d clients)) ≡ visible event_of (events_of number clients)
+  pub visible-on_clock : (number : ℕ) (clients : List (ClientView Cell)) → visible taken_event (events_of number (clients_on d clients)) ≡ visible event_of_cell (events_of number clients)
   visible-on_clock number clients = ap (λ o. visible taken_event (option_map_or (λ (c : ClientView Taken). c.ring.events) o [])) (client_named-on number clients) ∙ one (client_named number clients)
     where
-      one : (o : Option (ClientView Cell)) → visible taken_event (option_map_or (λ c. c.ring.events) (option_map (client_on d) o) []) ≡ visible event_of (option_map_or (λ c. c.ring.events) o [])
+      one : (o : Option (ClientView Cell)) → visible taken_event (option_map_or (λ c. c.ring.events) (option_map (client_on d) o) []) ≡ visible event_of_cell (option_map_or (λ c. c.ring.events) o [])
       one None = refl
       one (Some c) = visible-client_on c
 

@@ -12,7 +12,7 @@ use Rattle.inp_client.specs.Client.{new_client, with_events}
 use Rattle.inp_client.specs.Clients.{without_client, with_client}
 use Rattle.inp_client.specs.Member.{Member, ring_of, client_in, cells_in, wanted, AreStored, IsMemberChanged}
 use Rattle.inp_client.specs.Locations.{client_at, clients_in, IsPlaceFor}
-use Rattle.inp_client.specs.Kept.{view_of, AreKept}
+use Rattle.inp_client.specs.Kept.{kept_view, AreKept}
 use Rattle.inp_client.proofs.Counting.{wanted_few}
 use Rattle.inp_client.proofs.Locating.{client_at_found, members_long, member_in_location, member_number, members_apart, members_after_removal, members_after_insert, place_of_member}
 use Rattle.inp_client.proofs.Sharing.{member_held, others_stay, stored_after_removal, cells_after_removal, stored_after_insert, cells_after_insert, cells_same}
@@ -64,7 +64,7 @@ module _ (k : Inside) (kept : AreKept k) (i : ℕ) (in_i : i < length k.location
     counted_close =
         omega (arith, ap wanted members_left, kept.counted, ap (λ (m : Member). m.ring.places) here, sum_by-remove (λ (m : Member). m.ring.places + 1) members i (new_client 0 0) in_members)
 
-    pub list_close : cells_in after (clients_in (remove k.locations.items i) slab) ≡ without_client (get_or k.locations.items i d).number (view_of k).list
+    pub list_close : cells_in after (clients_in (remove k.locations.items i) slab) ≡ without_client (get_or k.locations.items i d).number (kept_view k).list
     list_close =
         ap (cells_in after) members_left
         ∙ cells_after_removal k.store after members i (new_client 0 0) in_members (others_stay kept.stored (new_client 0 0) i in_members after new.ring.events moved.moved (λ n some. absurd (omega (arith, some)))) apart
@@ -92,7 +92,7 @@ module _ (k : Inside) (kept : AreKept k) (key : ℕ) (new : Member) (slab : Slab
   pub counted_open : k.cells + new.ring.places + 1 ≡ wanted (clients_in locations slab)
   counted_open = omega (arith, ap wanted members_more, kept.counted, sum_by-insert (λ (m : Member). m.ring.places + 1) (clients_in k.locations.items k.slab) i new)
 
-  pub list_open : cells_in after (clients_in locations slab) ≡ with_client (client_in after new) (view_of k).list
+  pub list_open : cells_in after (clients_in locations slab) ≡ with_client (client_in after new) (kept_view k).list
   list_open =
       let at = place_of_member kept.located key new slab i vacant inserted place in
       ap (cells_in after) members_more

@@ -12,7 +12,7 @@ use Rattle.inp_model.specs.Event.{is_report}
 use Rattle.inp_model.specs.Queue.{is_empty, ends_in_report, put, put_all}
 use Rattle.inp_ring.specs.declared.cell.Cell.{Cell}
 use Rattle.inp_ring.specs.declared.cell.Held.{Held}
-use Rattle.inp_ring.specs.Store.{StoreView, entry, held_cell, holders, holders_of, cell_count, held_by, event_of, dropped_at, IsIdleSlot, IsPut}
+use Rattle.inp_ring.specs.Store.{StoreView, held_under, held_cell, holders, holders_of, cell_count, held_by, event_of_cell, dropped_cell, IsIdleSlot, IsPut}
 use Rattle.inp_ring.specs.Ring.{times, cell_at, some_cell, AreFit, AreDifferent, IsRing}
 use Rattle.inp_ring.proofs.Times.{once, times-append, times_push, once_same, once_other, AreDifferent_push}
 use Rattle.inp_ring.proofs.Moves.{idle_none}
@@ -22,7 +22,7 @@ use Rattle.inp_client.specs.Masks.{MaskView, admits_of, full_masks}
 use Rattle.inp_client.specs.Client.{ClientView, new_client, with_events, is_offered_to, cell_of_event, after_offer}
 use Rattle.inp_client.specs.Member.{Member, ring_of, client_in, cells_in, times_in, wanted, AreStored}
 use Rattle.inp_client.specs.Locations.{client_at, clients_in, AreLocated}
-use Rattle.inp_client.specs.Offered.{AreShared, FitsInOneRun, AreAdded, TakesAll, takers_in, with_run, are_reports_apart, member_at}
+use Rattle.inp_client.specs.Offered.{AreShared, FitsInOneRun, AreAdded, TakesFrame, takers_in, with_run, are_reports_apart, member_at}
 use Rattle.inp_client.proofs.MaskBits.{admits_of-full_masks}
 use Rattle.inp_client.proofs.Locating.{client_at_found, located_after_write, members_after_write, members_long, member_in_location}
 
@@ -52,7 +52,7 @@ pub apart_not : (e : Event) (es : List Event) (behind : Bool) → (is_report e &
 apart_not e es behind h = ap (λ (b : Bool). not b && are_reports_apart (is_report e) es) h
 
 abbrev ends : List Cell → Bool
-ends q = is_empty q || ends_in_report event_of q
+ends q = is_empty q || ends_in_report event_of_cell q
 
 ends_push : (q : List Cell) (cell : Cell) → ends (q ++ cell ∷ []) ≡ is_report cell.event
 ends_push [] cell = refl
@@ -60,7 +60,7 @@ ends_push (x ∷ []) cell = refl
 ends_push (x ∷ y ∷ q) cell = ends_push (y ∷ q) cell
 
 put_apart : (places : ℕ) (q : List Cell) (es : List Event) (now place : ℕ) → are_reports_apart (ends q) es ≡ true → length q + length es < places
-    → put_all event_of dropped_at places q (map (cell_of_event now place) es) ≡ q ++ map (cell_of_event now place) es
+    → put_all event_of_cell dropped_cell places q (map (cell_of_event now place) es) ≡ q ++ map (cell_of_event now place) es
 put_apart places q [] now place apart room = sym (append-nil q)
 put_apart places q (e ∷ es) now place apart room =
     let cell = cell_of_event now place e in
@@ -68,10 +68,10 @@ put_apart places q (e ∷ es) now place apart room =
     let first : (is_report e && ends q) ≡ false = apart_first (is_report e && ends q) (are_reports_apart (is_report e) es) apart in
     let others : are_reports_apart (is_report e) es ≡ true = apart_rest (is_report e && ends q) (are_reports_apart (is_report e) es) apart in
     let fits : nat_lt (suc (length q)) places ≡ true = lt-ltb (suc (length q)) places (omega (arith, room)) in
-    let is_put : put event_of dropped_at places q cell ≡ q ++ cell ∷ [] =
-    cond-false (is_report e && ends q) q (if nat_lt (suc (length q)) places then q ++ cell ∷ [] else dropped_at cell ∷ cell ∷ []) first
-    ∙ cond-true (nat_lt (suc (length q)) places) (q ++ cell ∷ []) (dropped_at cell ∷ cell ∷ []) fits in
-    ap (λ (r : List Cell). put_all event_of dropped_at places r rest) is_put
+    let is_put : put event_of_cell dropped_cell places q cell ≡ q ++ cell ∷ [] =
+    cond-false (is_report e && ends q) q (if nat_lt (suc (length q)) places then q ++ cell ∷ [] else dropped_cell cell ∷ cell ∷ []) first
+    ∙ cond-true (nat_lt (suc (length q)) places) (q ++ cell ∷ []) (dropped_cell cell ∷ cell ∷ []) fits in
+    ap (λ (r : List Cell). put_all event_of_cell dropped_cell places r rest) is_put
     ∙ put_apart places (q ++ cell ∷ []) es now place (subst (λ (b : Bool). are_reports_apart b es ≡ true) (sym (ends_push q cell)) others) (omega (arith, room, length_push q cell))
     ∙ append_assoc q (cell ∷ []) rest
 
@@ -86,7 +86,7 @@ taken_whole : (frame : List Event) (now place : ℕ) (holder : Option ℕ) (c : 
     → after_offer frame now place holder c ≡ with_events (c.ring.events ++ map (cell_of_event now place) frame) c
 taken_whole frame now place holder c is_to full apart room =
     cond-true (is_offered_to holder c) _ _ is_to
-    ∙ ap (λ (es : List Event). with_events (put_all event_of dropped_at c.ring.places c.ring.events (map (cell_of_event now place) es)) c) (admits_all c.masks frame full)
+    ∙ ap (λ (es : List Event). with_events (put_all event_of_cell dropped_cell c.ring.places c.ring.events (map (cell_of_event now place) es)) c) (admits_all c.masks frame full)
     ∙ ap (λ (q : List Cell). with_events q c) (put_apart c.ring.places c.ring.events frame now place (apart_any frame (ends c.ring.events) apart) room)
 
 -- Cells that are added one by one
@@ -102,12 +102,12 @@ added_none s count = record {
   room = refl;
 }
 
-pub added_more : {first s : StoreView} {cells : List Cell} {count : ℕ} {numbers : List ℕ} (to : AreAdded first s cells count numbers) (some : 0 < count) (x : ℕ) (cell : Cell) (new : StoreView) → entry s x ≡ None → IsPut s new x (held_by count cell)
+pub added_more : {first s : StoreView} {cells : List Cell} {count : ℕ} {numbers : List ℕ} (to : AreAdded first s cells count numbers) (some : 0 < count) (x : ℕ) (cell : Cell) (new : StoreView) → held_under s x ≡ None → IsPut s new x (held_by count cell)
     → cell_count new + new.spare ≡ cell_count s + s.spare → AreAdded first new (cells ++ cell ∷ []) count (numbers ++ x ∷ [])
 added_more {first} {s} {cells} {count} {numbers} to some x cell new none put room = record {
   long = omega (arith, to.long, length_push numbers x, length_push cells cell);
   fresh = λ n there. elim (cases_eq n x) [
-    | inl e ↦ subst (λ (k : ℕ). entry first k ≡ None) (sym e) (sym (to.others x absent) ∙ none)
+    | inl e ↦ subst (λ (k : ℕ). held_under first k ≡ None) (sym e) (sym (to.others x absent) ∙ none)
     | inr d ↦ to.fresh n (omega (arith, there, times_push n x numbers, once_other n x (λ e. d (sym e))))
   ];
   different = AreDifferent_push x numbers to.different absent;
@@ -231,10 +231,10 @@ module _ {locations : List Location} {slab : Slab Member} (located : AreLocated 
   pub takers_more : (takers : ℕ) → takers ≡ takers_in holder (take i among) → is_offered_to holder client ≡ true → takers + 1 ≡ takers_in holder (take (i + 1) among)
   takers_more takers is is_to = ap (λ (n : ℕ). n + 1) is ∙ sym (count_by_more_yes (is_offered_to holder) among i (new_client 0 0) in_among (ap (is_offered_to holder) next_is ∙ is_to))
 
-  pub takes_more : (count : ℕ) → All (TakesAll holder count) (take i among) → TakesAll holder count client → All (TakesAll holder count) (take (i + 1) among)
+  pub takes_more : (count : ℕ) → All (TakesFrame holder count) (take i among) → TakesFrame holder count client → All (TakesFrame holder count) (take (i + 1) among)
   takes_more count all one =
       let next : take (i + 1) among ≡ take i among ++ client ∷ [] = take_more among i (new_client 0 0) in_among ∙ ap (λ (m : Member). take i among ++ m ∷ []) next_is in
-      subst (λ (l : List Member). All (TakesAll holder count) l) (sym next) (All-push (TakesAll holder count) (take i among) client all one)
+      subst (λ (l : List Member). All (TakesFrame holder count) l) (sym next) (All-push (TakesFrame holder count) (take i among) client all one)
 
 -- What all of it leaves
 
@@ -331,8 +331,8 @@ module _ {locations : List Location} {before : Slab Member} {first store : Store
       | inr out ↦ omega (arith, times-append n m.ring.events numbers, out, added.different n)
     ]
 
-    takes : TakesAll holder (length frame) m
-    takes = All-get_or (TakesAll holder (length frame)) ms j (new_client 0 0) in_j run.all
+    takes : TakesFrame holder (length frame) m
+    takes = All-get_or (TakesFrame holder (length frame)) ms j (new_client 0 0) in_j run.all
 
     stays : map (cell_at store) m.ring.events ≡ map (cell_at first) m.ring.events
     stays = queue_stays first store m.ring.events (λ n there. ap held_cell (added.others n (apart_from j in_j n there)))

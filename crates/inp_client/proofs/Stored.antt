@@ -13,7 +13,7 @@ use Rattle.inp_client.specs.Client.{ClientView}
 use Rattle.inp_client.specs.Clients.{distinct}
 use Rattle.inp_client.specs.Member.{Member, ring_of, client_in, cells_in, times_in, numbers_in}
 use Rattle.inp_client.specs.Locations.{clients_in}
-use Rattle.inp_client.specs.Kept.{view_of, AreKept}
+use Rattle.inp_client.specs.Kept.{kept_view, AreKept}
 use Rattle.inp_client.proofs.Counting.{cells_few, cells_many, cells_exactly, times-numbers_in, length-numbers_in}
 use Rattle.inp_client.proofs.Calling.{kept_known}
 
@@ -30,11 +30,11 @@ module _ (k : Inside) (kept : AreKept k) where
   has_cell n there = held_there k.store n (omega (arith, there, kept.stored.held n))
 
   -- as many cells are kept as there are different numbers
-  pub stored_exactly : cell_count k.store ≡ length (distinct (view_of k).numbers)
+  pub stored_exactly : cell_count k.store ≡ length (distinct (kept_view k).numbers)
   stored_exactly = cells_exactly k.store (numbers_in members) in_some (λ n there. has_cell n (omega (arith, there, times-numbers_in n members)))
 
   -- not fewer than a queue has events
-  pub stored_least : All (λ c. length c.ring.events ≤ cell_count k.store) (view_of k).list
+  pub stored_least : All (λ c. length c.ring.events ≤ cell_count k.store) (kept_view k).list
   stored_least = All-map (λ (c : ClientView Cell). length c.ring.events ≤ cell_count k.store) (client_in k.store) members (λ j d in_j. one j d in_j)
     where
       one : (j : ℕ) (d : Member) → j < length members → length (client_in k.store (get_or members j d)).ring.events ≤ cell_count k.store
@@ -48,7 +48,7 @@ module _ (k : Inside) (kept : AreKept k) where
           )
 
   -- and no more than all queues have
-  pub stored_most : cell_count k.store ≤ sum_by (λ c. length c.ring.events) (view_of k).list
+  pub stored_most : cell_count k.store ≤ sum_by (λ c. length c.ring.events) (kept_view k).list
   stored_most = omega (arith, cells_few k.store (numbers_in members) in_some, length-numbers_in members, lengths members)
     where
       lengths : (ms : List Member) → sum_by (λ c. length c.ring.events) (cells_in k.store ms) ≡ sum_by (λ m. length m.ring.events) ms

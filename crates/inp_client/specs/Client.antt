@@ -8,7 +8,7 @@ use Rattle.inp_model.specs.Step.{Query, is_part_of}
 use Rattle.inp_model.specs.Past.{is_other}
 use Rattle.inp_model.specs.Queue.{put_all, flush, is_same_clock, clock_changed}
 use Rattle.inp_ring.specs.declared.cell.Cell.{Cell}
-use Rattle.inp_ring.specs.Store.{event_of, dropped_at}
+use Rattle.inp_ring.specs.Store.{event_of_cell, dropped_cell}
 use Rattle.inp_client.specs.Masks.{MaskView, full_masks, admits_of, masks_after}
 
 -- A queue in so many places, oldest first. Its events may be cells, what is read of them, or only the numbers of cells.
@@ -83,7 +83,7 @@ admitted_cells frame now place c = map (cell_of_event now place) (filter (admits
 abbrev pub after_offer : List Event → ℕ → ℕ → Option ℕ → ClientView Cell → ClientView Cell
 after_offer frame now place holder c =
     if is_offered_to holder c
-    then with_events (put_all event_of dropped_at c.ring.places c.ring.events (admitted_cells frame now place c)) c
+    then with_events (put_all event_of_cell dropped_cell c.ring.places c.ring.events (admitted_cells frame now place c)) c
     else c
 
 -- A clock was chosen, at a moment and at a place of the history. A change to another clock empties a queue and leaves

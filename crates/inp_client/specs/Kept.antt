@@ -8,8 +8,8 @@ use Rattle.inp_client.specs.Member.{cells_in, numbers_in, wanted, AreStored}
 use Rattle.inp_client.specs.Locations.{clients_in, AreLocated}
 
 -- the clients in their locations, with the cells of the store
-abbrev pub view_of : Inside → ClientsView
-view_of c = record {
+abbrev pub kept_view : Inside → ClientsView
+kept_view c = record {
   list = cells_in c.store (clients_in c.locations.items c.slab);
   numbers = numbers_in (clients_in c.locations.items c.slab);
 }

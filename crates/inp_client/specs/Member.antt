@@ -2,7 +2,7 @@
 use Rattle.std.specs.Prelude.{◌≡◌, ◌≤◌, ◌+◌, ◌&&◌, if◌then◌else◌, ℕ, List, map, flat_map, sum_by, All, Option}
 use Rattle.inp_model.specs.Queue.{put}
 use Rattle.inp_ring.specs.declared.cell.Cell.{Cell}
-use Rattle.inp_ring.specs.Store.{StoreView, holders, cell_count, event_of, dropped_at}
+use Rattle.inp_ring.specs.Store.{StoreView, holders, cell_count, event_of_cell, dropped_cell}
 use Rattle.inp_ring.specs.Ring.{RingView, times, cell_at, AreFit, IsRing, IsMoved}
 use Rattle.inp_client.specs.Masks.{admits_of}
 use Rattle.inp_client.specs.Client.{Queued, ClientView, with_events, is_offered_to, map_events}
@@ -58,5 +58,5 @@ pub record IsMemberChanged (s after : StoreView) (old new : Member) (change : Cl
 abbrev pub after_event : Cell → Option ℕ → ClientView Cell → ClientView Cell
 after_event cell holder c =
     if is_offered_to holder c && admits_of c.masks cell.event
-    then with_events (put event_of dropped_at c.ring.places c.ring.events cell) c
+    then with_events (put event_of_cell dropped_cell c.ring.places c.ring.events cell) c
     else c

@@ -1,10 +1,10 @@
 -- A frame is offered event by event: a cell for each, whose number comes into one ring after the other. A short frame
--- that each of its clients admits whole, with room for it, may go in one run (`FitsInOneRun`): a cell for each event first, and then
--- all their numbers into each ring.
+-- that each of its clients admits whole, with room for it, may go in one run (`FitsInOneRun`): a cell for each event
+-- first, and then all their numbers into each ring.
 use Rattle.std.specs.Prelude.{◌≡◌, ◌≤◌, ◌<◌, ◌+◌, ◌&&◌, ◌++◌, ℕ, Bool, true, not, if◌then◌else◌, nat_eq, nat_lt, List, [], ◌∷◌, length, count_by, get_or, All, Option, None}
 use Rattle.slab.specs.Slab.{Slab}
 use Rattle.inp_ring.specs.declared.cell.Cell.{Cell}
-use Rattle.inp_ring.specs.Store.{StoreView, entry, holders, cell_count, held_by, IsIdle}
+use Rattle.inp_ring.specs.Store.{StoreView, held_under, holders, cell_count, held_by, IsIdle}
 use Rattle.inp_ring.specs.Ring.{times, queue_in, AreDifferent}
 use Rattle.inp_client.specs.declared.location.Location.{Location}
 use Rattle.inp_model.specs.declared.event.Event.{Event}
@@ -26,8 +26,9 @@ are_reports_apart behind [] = true
 are_reports_apart behind (e ∷ frame) = not (is_report e && behind) && are_reports_apart (is_report e) frame
 
 -- a client that is offered a frame of so many events admits them all, and has room for them
-abbrev pub TakesAll : Option ℕ → ℕ → Member → Type 0
-TakesAll holder count m = is_offered_to holder m ≡ true → (m.masks ≡ full_masks) × (length m.ring.events + count < m.ring.places)
+abbrev pub TakesFrame : Option ℕ → ℕ → Member → Type 0
+TakesFrame holder count m =
+    is_offered_to holder m ≡ true → (m.masks ≡ full_masks) × (length m.ring.events + count < m.ring.places)
 
 -- how many clients a frame is offered to
 abbrev pub takers_in : Option ℕ → List Member → ℕ
@@ -40,16 +41,16 @@ pub record FitsInOneRun (locations : List Location) (slab : Slab Member) (store 
   pub apart : are_reports_apart true frame ≡ true
   pub some : 0 < takers
   pub takers_are : takers ≡ takers_in holder (clients_in locations slab)
-  pub all : All (TakesAll holder (length frame)) (clients_in locations slab)
+  pub all : All (TakesFrame holder (length frame)) (clients_in locations slab)
 
 -- cells were added, each with so many holders, under numbers that had none
 pub record AreAdded (old new : StoreView) (cells : List Cell) (count : ℕ) (numbers : List ℕ) : Type 0 where
   pub long : length numbers ≡ length cells
-  pub fresh : (n : ℕ) → 1 ≤ times n numbers → entry old n ≡ None
+  pub fresh : (n : ℕ) → 1 ≤ times n numbers → held_under old n ≡ None
   pub different : AreDifferent numbers
   pub there : queue_in new numbers ≡ cells
   pub held : (n : ℕ) → 1 ≤ times n numbers → holders new n ≡ count
-  pub others : (n : ℕ) → times n numbers ≡ 0 → entry new n ≡ entry old n
+  pub others : (n : ℕ) → times n numbers ≡ 0 → held_under new n ≡ held_under old n
   pub room : cell_count new + new.spare ≡ cell_count old + old.spare
 
 -- a client whose ring has the numbers of a frame's cells, where it was offered the frame
@@ -70,7 +71,7 @@ pub record IsEnteredTo (count : ℕ) (cell : Cell) (holder : Option ℕ) (number
   pub located : AreLocated locations slab
   pub stored : AreStored store (clients_in locations slab) (owing number taken)
   pub idle : (n : ℕ) → IsIdle store n → n ≡ number
-  pub same : entry store number ≡ held_by 0 cell
+  pub same : held_under store number ≡ held_by 0 cell
   pub changed : (j : ℕ) → j < length locations → client_in store (member_at locations slab j)
       ≡ (if nat_lt j count then after_event cell holder (client_in first (member_at locations before j)) else client_in first (member_at locations before j))
   pub absent : (j : ℕ) → count ≤ j → j < length locations → times number (member_at locations slab j).ring.events ≡ 0

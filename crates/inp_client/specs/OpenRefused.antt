@@ -4,6 +4,6 @@ use Rattle.inp_client.specs.declared.open_refused.OpenRefused.{OpenRefused}
 use Rattle.inp_client.specs.declared.open_refused.OpenRefused.TheVariants.{TooMany, NoMemory}
 
 -- what it prints
-abbrev pub message_of : OpenRefused → List ℕ
-message_of TooMany = codes "too many clients are open"
-message_of NoMemory = codes "out of memory"
+abbrev pub open_refused_text : OpenRefused → List ℕ
+open_refused_text TooMany = codes "too many clients are open"
+open_refused_text NoMemory = codes "out of memory"

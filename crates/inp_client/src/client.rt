@@ -8,8 +8,8 @@ ghost use Rattle.inp_model.specs.Past.{has_mask, mask_words, is_other};
 ghost use Rattle.inp_model.specs.Queue.{visible, is_same_clock, put};
 ghost use Rattle.inp_model.specs.Reply.{written};
 ghost use Rattle.inp_model.specs.Step.{Codes, Slots};
-ghost use Rattle.inp_ring.specs.Store.{event_of, dropped_at, cell_taken, cell_in};
-ghost use Rattle.inp_ring.specs.Ring.{times, cell_at, AreFit, AreHeld, AreDifferent, IsEntered, IsRing};
+ghost use Rattle.inp_ring.specs.Store.{event_of_cell, dropped_cell, cell_taken, cell_in};
+ghost use Rattle.inp_ring.specs.Ring.{times, cell_at, AreFit, AreHeld, AreDifferent, IsPutAtEnd, IsRing};
 ghost use Rattle.inp_client.specs.Masks.{admits_of, full_masks};
 ghost use Rattle.inp_client.specs.Client.{new_client, with_events, is_offered_to, after_take, after_flush, after_mask, after_clock, after_revoke};
 ghost use Rattle.inp_client.specs.Offered.{with_run};
@@ -96,7 +96,8 @@ impl Client {
     pub fn set_clock(&mut self, store: &mut Store, clock: Clock, now: u64, place: u32)
         requires room { 0 < store.old.spare }
         requires held { AreHeld store.old self.old.ring.events }
-        ensures set { IsMemberChanged store.old store.new self.old self.new (after_clock clock now place) }
+        ensures set { IsMemberChanged store.old store.new self.old self.new
+            (after_clock clock now place) }
     {
         if is_same_clock(self.clock, clock) {
             return;
@@ -109,7 +110,8 @@ impl Client {
     /// How many events it may read.
     pub fn visible(&self, store: &Store) -> u32
         requires held { AreHeld store.now self.now.ring.events }
-        ensures visible { result ≡ visible event_of (map (cell_at store.now) self.now.ring.events) }
+        ensures visible { result
+            ≡ visible event_of_cell (map (cell_at store.now) self.now.ring.events) }
     {
         self.ring.visible(store)
     }
@@ -120,7 +122,7 @@ impl Client {
         requires moments { AreFit (map (cell_at store.old) self.old.ring.events) }
         requires held { AreHeld store.old self.old.ring.events }
         ensures count { let queue = map (cell_at store.old) self.old.ring.events in
-            result ≡ min count (visible event_of queue) }
+            result ≡ min count (visible event_of_cell queue) }
         ensures taken { let cells = take result (map (cell_at store.old) self.old.ring.events) in
             out.new ≡ written (map (cell_taken (offset caps.now self.old.clock)) cells) out.old }
         ensures rest { IsMemberChanged store.old store.new self.old self.new (after_take result) }
@@ -134,7 +136,7 @@ impl Client {
     pub fn discard(&mut self, store: &mut Store) -> u32
         requires held { AreHeld store.old self.old.ring.events }
         ensures count { let queue = map (cell_at store.old) self.old.ring.events in
-            result ≡ visible event_of queue }
+            result ≡ visible event_of_cell queue }
         ensures rest { IsMemberChanged store.old store.new self.old self.new (after_take result) }
     {
         let removed = self.ring.discard(store);
@@ -147,7 +149,7 @@ impl Client {
         requires not_syn { kind ≢ EV_SYN }
         requires held { AreHeld store.old self.old.ring.events }
         ensures flushed { IsMemberChanged store.old store.new self.old self.new
-            (after_flush event_of (Codes kind)) }
+            (after_flush event_of_cell (Codes kind)) }
     {
         self.ring.flush(store, kind);
         self.ring.sound();
@@ -157,7 +159,7 @@ impl Client {
     pub fn flush_slots(&mut self, store: &mut Store)
         requires held { AreHeld store.old self.old.ring.events }
         ensures flushed { IsMemberChanged store.old store.new self.old self.new
-            (after_flush event_of Slots) }
+            (after_flush event_of_cell Slots) }
     {
         self.ring.flush_slots(store);
         self.ring.sound();
@@ -182,14 +184,14 @@ impl Client {
         event: Event,
         holder: Option<u32>,
     ) -> bool
-        requires event { option_map event_of (cell_in store.old number) ≡ Some event }
+        requires event { option_map event_of_cell (cell_in store.old number) ≡ Some event }
         requires absent { times number self.old.ring.events ≡ 0 }
         requires room { 0 < store.old.spare }
         requires held { AreHeld store.old self.old.ring.events }
         ensures number { self.new.number ≡ self.old.number }
         ensures places { self.new.ring.places ≡ self.old.ring.places }
         ensures sound { IsRing (ring_of self.old) → IsRing (ring_of self.new) }
-        ensures entered { IsEntered store.old store.new
+        ensures entered { IsPutAtEnd store.old store.new
             self.old.ring.events self.new.ring.events number result }
         ensures offered { client_in store.new self.new
             ≡ after_event (cell_at store.old number) holder (client_in store.old self.old) }

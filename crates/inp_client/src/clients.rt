@@ -8,14 +8,14 @@ ghost use Rattle.inp_model.specs.Past.{has_mask, mask_words};
 ghost use Rattle.inp_model.specs.Queue.{visible};
 ghost use Rattle.inp_model.specs.Reply.{written};
 ghost use Rattle.inp_model.specs.Step.{Codes, Slots};
-ghost use Rattle.inp_ring.specs.Store.{event_of, entry, held_by, IsIdle};
+ghost use Rattle.inp_ring.specs.Store.{event_of_cell, held_under, held_by, IsIdle};
 ghost use Rattle.inp_client.specs.Client.{new_client, cell_of_event, after_offer, after_take, after_flush, after_mask, after_clock, after_revoke};
 ghost use Rattle.inp_client.specs.Clients.{distinct, has_client, has_revoked_client, events_of, map_client, with_client, without_client};
 ghost use Rattle.inp_client.specs.Read.{clients_on};
 ghost use Rattle.inp_client.specs.Locations.{clients_in, AreLocated};
 ghost use Rattle.inp_client.specs.Member.{cells_in, wanted, after_event, AreStored};
 ghost use Rattle.inp_ring.specs.Ring.{AreDifferent};
-ghost use Rattle.inp_client.specs.Offered.{AreShared, IsEnteredTo, owing, FitsInOneRun, AreAdded, TakesAll, takers_in, with_run, are_reports_apart};
+ghost use Rattle.inp_client.specs.Offered.{AreShared, IsEnteredTo, owing, FitsInOneRun, AreAdded, TakesFrame, takers_in, with_run, are_reports_apart};
 ghost use Rattle.inp_client.specs.declared.open_refused.OpenRefused.TheVariants.{TooMany};
 
 use crate::client::Client;
@@ -46,11 +46,11 @@ pub struct Clients {
 
 impl Model for Clients {
     ghost use Rattle.inp_client.specs.Clients.{ClientsView};
-    ghost use Rattle.inp_client.specs.Kept.{view_of, AreKept};
+    ghost use Rattle.inp_client.specs.Kept.{kept_view, AreKept};
 
     ghost Value = { ClientsView };
 
-    ghost view = { view_of };
+    ghost view = { kept_view };
 
     ghost invariant = { AreKept };
 }
@@ -77,7 +77,8 @@ impl Clients {
         requires ring { (64 ≤ ring) × (ring ≤ 4096) }
         requires unused { has_client number self.old.list ≡ false }
         ensures too_many { (result ≡ Err TooMany) ↔ (length self.old.list ≡ CLIENTS_MAX) }
-        ensures ok { OnOk result (self.new.list ≡ with_client (new_client number ring) self.old.list) }
+        ensures ok { OnOk result
+            (self.new.list ≡ with_client (new_client number ring) self.old.list) }
         ensures err { OnErr result (self.new ≡ self.old) }
     {
         if self.locations.len() == CLIENTS_MAX as usize {
@@ -175,7 +176,8 @@ impl Clients {
     pub fn set_clock(&mut self, _caps: &Caps, number: u32, clock: Clock, now: u64, place: u32)
         requires open { has_client number self.old.list ≡ true }
         requires moment { now ≤ MOMENT_MAX }
-        ensures set { self.new.list ≡ map_client number (after_clock clock now place) self.old.list }
+        ensures set { self.new.list
+            ≡ map_client number (after_clock clock now place) self.old.list }
     {
         let key = key_of(&self.locations, &self.slab, number);
         self.slab[key].set_clock(&mut self.store, clock, now, place);
@@ -184,7 +186,7 @@ impl Clients {
     /// How many events an open client may read: those up to the last SYN_REPORT.
     pub fn visible(&self, number: u32) -> u32
         requires open { has_client number self.now.list ≡ true }
-        ensures visible { result ≡ visible event_of (events_of number self.now.list) }
+        ensures visible { result ≡ visible event_of_cell (events_of number self.now.list) }
     {
         let key = key_of(&self.locations, &self.slab, number);
         self.slab[key].visible(&self.store)
@@ -196,7 +198,8 @@ impl Clients {
     pub fn take(&mut self, caps: &Caps, number: u32, count: u32, out: &mut [Taken]) -> u32
         requires open { has_client number self.old.list ≡ true }
         requires room { count ≤ length out.old }
-        ensures count { result ≡ min count (visible event_of (events_of number self.old.list)) }
+        ensures count { result
+            ≡ min count (visible event_of_cell (events_of number self.old.list)) }
         ensures taken { let queue = events_of number (clients_on caps.now self.old.list) in
             out.new ≡ written (take result queue) out.old }
         ensures rest { self.new.list ≡ map_client number (after_take result) self.old.list }
@@ -208,7 +211,7 @@ impl Clients {
     /// Removes all visible events of an open client, unread, and says how many they were.
     pub fn discard(&mut self, number: u32) -> u32
         requires open { has_client number self.old.list ≡ true }
-        ensures count { result ≡ visible event_of (events_of number self.old.list) }
+        ensures count { result ≡ visible event_of_cell (events_of number self.old.list) }
         ensures rest { self.new.list ≡ map_client number (after_take result) self.old.list }
     {
         let key = key_of(&self.locations, &self.slab, number);
@@ -221,7 +224,7 @@ impl Clients {
         requires open { has_client number self.old.list ≡ true }
         requires not_syn { kind ≢ EV_SYN }
         ensures flushed { self.new.list
-            ≡ map_client number (after_flush event_of (Codes kind)) self.old.list }
+            ≡ map_client number (after_flush event_of_cell (Codes kind)) self.old.list }
     {
         let key = key_of(&self.locations, &self.slab, number);
         self.slab[key].flush(&mut self.store, kind);
@@ -231,7 +234,7 @@ impl Clients {
     pub fn flush_slots(&mut self, number: u32)
         requires open { has_client number self.old.list ≡ true }
         ensures flushed { self.new.list
-            ≡ map_client number (after_flush event_of Slots) self.old.list }
+            ≡ map_client number (after_flush event_of_cell Slots) self.old.list }
     {
         let key = key_of(&self.locations, &self.slab, number);
         self.slab[key].flush_slots(&mut self.store);
@@ -350,7 +353,7 @@ fn takers_of(
     ensures takers { IfSome result (λ takers.
         takers ≡ takers_in holder (clients_in locations.now slab.now)) }
     ensures all { IfSome result (λ takers.
-        All (TakesAll holder count) (clients_in locations.now slab.now)) }
+        All (TakesFrame holder count) (clients_in locations.now slab.now)) }
 {
     let mut takers = 0;
     for location in locations {
@@ -427,7 +430,8 @@ fn append_each(
     holder: Option<u32>,
 )
     requires located { AreLocated locations.now slab.old }
-    requires room { All (TakesAll holder (length numbers.now)) (clients_in locations.now slab.old) }
+    requires room { All (TakesFrame holder (length numbers.now))
+        (clients_in locations.now slab.old) }
     requires different { All (λ m. AreDifferent (m.ring.events ++ numbers.now))
         (clients_in locations.now slab.old) }
     ensures located { AreLocated locations.now slab.new }
@@ -512,7 +516,7 @@ fn enter_each(
     requires located { AreLocated locations.now slab.old }
     requires stored { AreStored store.old (clients_in locations.now slab.old) (λ n. 0) }
     requires only { (n : ℕ) → IsIdle store.old n → n ≡ number }
-    requires cell { entry store.old number ≡ held_by 0 cell }
+    requires cell { held_under store.old number ≡ held_by 0 cell }
     requires few { length locations.now ≤ CLIENTS_MAX }
     requires moment { cell.now ≤ MOMENT_MAX }
     ensures entered { IsEnteredTo (length locations.now) cell holder number locations.now

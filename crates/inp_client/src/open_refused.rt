@@ -17,9 +17,9 @@ pub enum OpenRefused {
 
 impl fmt::Display for OpenRefused {
     ghost use Rattle.std.specs.Prelude.{Some};
-    ghost use Rattle.inp_client.specs.OpenRefused.{message_of};
+    ghost use Rattle.inp_client.specs.OpenRefused.{open_refused_text};
 
-    ghost output = { λ refused. Some (message_of refused) };
+    ghost output = { λ refused. Some (open_refused_text refused) };
 
     fn fmt<W: fmt::Write>(&self, f: &mut fmt::Formatter<W>) -> fmt::Result {
         match self {

@@ -10,7 +10,7 @@ use Rattle.inp_model.specs.RawItem.{RawItem}
 use Rattle.inp_model.specs.Description.{Description, is_slot_code}
 use Rattle.inp_model.specs.State.{cell}
 use Rattle.inp_model.specs.Reply.{written, column, row, rows}
-use Rattle.inp_slots.specs.Slots.{SlotValues, SlotsStandFor, value_at}
+use Rattle.inp_slots.specs.Slots.{SlotValues, SlotsStandFor, slot_value}
 use Rattle.inp_device.proofs.WordLists.{map-same}
 
 -- the first places have these values, and nothing behind was touched
@@ -35,7 +35,7 @@ fill_more value n buffer h =
 
 -- the values that are kept of the slots, on one axis
 abbrev pub kept_column : SlotValues → ℕ → ℕ → ℤ
-kept_column s code slot = value_at s slot code
+kept_column s code slot = slot_value s slot code
 
 pub column-kept : (d : Description) (r : List RawItem) (s : SlotValues) (count code : ℕ) (buffer : List ℤ) → SlotsStandFor d r s → count ≡ length s.slots → is_slot_code code ≡ true → filled (kept_column s code) count buffer ≡ written (column d r code) buffer
 column-kept d r s count code buffer stands is good =
@@ -52,7 +52,7 @@ abbrev pub code_at : ℕ → ℕ
 code_at k = ABS_MT_TOUCH_MAJOR + k % 14
 
 abbrev pub kept_row : SlotValues → ℕ → ℤ
-kept_row s k = value_at s (slot_at k) (code_at k)
+kept_row s k = slot_value s (slot_at k) (code_at k)
 
 abbrev cell_at : Description → List RawItem → ℕ → ℤ
 cell_at d r k = cell d r (pos (slot_at k)) (code_at k)

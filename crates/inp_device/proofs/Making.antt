@@ -30,7 +30,7 @@ use Rattle.inp_device.specs.FrameFilters.{FilterView}
 use Rattle.inp_device.specs.Handler.{IsFreshHandler}
 use Rattle.inp_bits.proofs.Indices.{All-filter_range}
 use Rattle.inp_ring.specs.declared.cell.Cell.{Cell}
-use Rattle.inp_ring.specs.Store.{event_of}
+use Rattle.inp_ring.specs.Store.{event_of_cell}
 use Rattle.inp_filter.specs.FilterState.{FiltersStandFor}
 use Rattle.inp_client.specs.Client.{ClientView, new_client, after_take, after_flush}
 use Rattle.inp_client.specs.Clients.{has_client, has_revoked_client, events_of, map_client, with_client}
@@ -163,7 +163,7 @@ opens_fit history x old ready = omega (arith, opens-le (reverse history), ready.
 
 -- Reading
 
-visible_of : (history : List Step) (x : Step) (old : Present) (client : ℕ) → IsReadyFor history x old → client_of x ≡ Some client → visible event_of (events_of client old.handler.clients.list) ≡ visible model.event_of (queue old.caps (reverse history) client)
+visible_of : (history : List Step) (x : Step) (old : Present) (client : ℕ) → IsReadyFor history x old → client_of x ≡ Some client → visible event_of_cell (events_of client old.handler.clients.list) ≡ visible model.event_of (queue old.caps (reverse history) client)
 visible_of history x old client ready named = sym (visible-on_clock old.caps client old.handler.clients.list) ∙ ap (visible taken_event) (named_events history x old client ready named) ∙ visible-map (queue old.caps (reverse history) client)
 
 nat_eq_same : (n : ℕ) → nat_eq n n ≡ true
@@ -188,7 +188,7 @@ read_answer past q count taken at ts chosen is placed =
     ∙ ap (λ (n : ℕ). record { reply = Took at n; events = map taken_of (take taken q); cells = [] }) long
     ∙ ap (λ (es : List Taken). record { reply = Took at taken; events = es; cells = [] }) (sym (take-map taken_of taken q) ∙ ap (take taken) (sym is))
 
-pub accepted-read : (history : List Step) (old : Present) (client count taken : ℕ) → IsReadyFor history (Read client count) old → taken ≡ min count (visible event_of (events_of client old.handler.clients.list))
+pub accepted-read : (history : List Step) (old : Present) (client count taken : ℕ) → IsReadyFor history (Read client count) old → taken ≡ min count (visible event_of_cell (events_of client old.handler.clients.list))
     → accepted old.caps (reverse history) (Read client count) ≡ record { reply = Took (length history) taken; events = take taken (events_of client (shown old)); cells = [] }
 accepted-read history old client count taken ready chosen =
     let past : List Step = reverse history in
@@ -198,19 +198,19 @@ accepted-read history old client count taken ready chosen =
     (chosen ∙ ap (min count) (visible_of history (Read client count) old client ready refl))
     (named_events history (Read client count) old client ready refl) (sym (length-reverse history))
 
-pub clients_read : (history : List Step) (old : Present) (client count taken : ℕ) → IsReadyFor history (Read client count) old → taken ≡ min count (visible event_of (events_of client old.handler.clients.list))
+pub clients_read : (history : List Step) (old : Present) (client count taken : ℕ) → IsReadyFor history (Read client count) old → taken ≡ min count (visible event_of_cell (events_of client old.handler.clients.list))
     → map_client client (after_take taken) (shown old) ≡ clients_after old.caps (Read client count ∷ reverse history)
 clients_read history old client count taken ready chosen =
     ap (map_client client (after_take taken)) ready.stands.handler.clients
     ∙ sym (clients_after-read old.caps (reverse history) client count taken (chosen ∙ ap (min count) (visible_of history (Read client count) old client ready refl)))
 
-pub clients_discarded : (history : List Step) (old : Present) (client removed : ℕ) → IsReadyFor history (Discard client) old → removed ≡ visible event_of (events_of client old.handler.clients.list)
+pub clients_discarded : (history : List Step) (old : Present) (client removed : ℕ) → IsReadyFor history (Discard client) old → removed ≡ visible event_of_cell (events_of client old.handler.clients.list)
     → map_client client (after_take removed) (shown old) ≡ clients_after old.caps (Discard client ∷ reverse history)
 clients_discarded history old client removed ready chosen =
     ap (map_client client (after_take removed)) ready.stands.handler.clients
     ∙ sym (clients_after-discard old.caps (reverse history) client removed (chosen ∙ visible_of history (Discard client) old client ready refl))
 
-pub discarded_at : (history : List Step) (old : Present) (client removed : ℕ) → IsReadyFor history (Discard client) old → removed ≡ visible event_of (events_of client old.handler.clients.list)
+pub discarded_at : (history : List Step) (old : Present) (client removed : ℕ) → IsReadyFor history (Discard client) old → removed ≡ visible event_of_cell (events_of client old.handler.clients.list)
     → Discarded (length history) removed ≡ Discarded (length (reverse history)) (visible model.event_of (queue old.caps (reverse history) client))
 discarded_at history old client removed ready chosen =
     ap (λ (n : ℕ). Discarded n removed) (sym (length-reverse history))
@@ -406,7 +406,7 @@ no_device d past p x client is stands named there test other =
     ∙ ap (λ b. is_revoked past client && not b) (sym (not_close x client other))
     ∙ sym (ap (is_no_device past x) named)
 
-pub nothing_found : (d : Description) (past : List Step) (p : Present) (x : Step) (client count seen : ℕ) → PresentStandsFor d past p → x ≡ Read client count → has_client client p.handler.clients.list ≡ true → seen ≡ visible event_of (events_of client p.handler.clients.list)
+pub nothing_found : (d : Description) (past : List Step) (p : Present) (x : Step) (client count seen : ℕ) → PresentStandsFor d past p → x ≡ Read client count → has_client client p.handler.clients.list ≡ true → seen ≡ visible event_of_cell (events_of client p.handler.clients.list)
     → nat_eq seen 0 ≡ finds_nothing d past x
 nothing_found d past p x client count seen stands is there test =
     ap (λ (n : ℕ). nat_eq n 0)

@@ -4,7 +4,7 @@ use Rattle.inp_edge.specs.declared.fault.ReadFault.{ReadFault}
 use Rattle.inp_edge.specs.declared.fault.ReadFault.TheVariants.{Failed, TooLong, NoMemory}
 
 -- what it prints
-abbrev pub message_of : ReadFault → List ℕ
-message_of Failed = codes "the input failed"
-message_of TooLong = codes "the input is too long"
-message_of NoMemory = codes "out of memory"
+abbrev pub read_fault_text : ReadFault → List ℕ
+read_fault_text Failed = codes "the input failed"
+read_fault_text TooLong = codes "the input is too long"
+read_fault_text NoMemory = codes "out of memory"

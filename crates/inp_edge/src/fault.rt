@@ -77,10 +77,10 @@ impl fmt::Display for NoMemory {
 }
 
 impl fmt::Display for ReadFault {
-    ghost use Rattle.inp_edge.specs.ReadFault.{message_of};
+    ghost use Rattle.inp_edge.specs.ReadFault.{read_fault_text};
     ghost use Rattle.std.specs.Prelude.{Some};
 
-    ghost output = { λ fault. Some (message_of fault) };
+    ghost output = { λ fault. Some (read_fault_text fault) };
 
     fn fmt<W: fmt::Write>(&self, f: &mut fmt::Formatter<W>) -> fmt::Result {
         match self {

@@ -14,7 +14,7 @@ use Rattle.inp_model.specs.Raw.{raw, timer, raw_and_timer}
 use Rattle.inp_state.specs.State.{Values, StateStandsFor}
 use Rattle.inp_slots.specs.Slots.{SlotValues, SlotsStandFor}
 use Rattle.inp_frames.specs.declared.passed.Passed.{Passed}
-use Rattle.inp_frames.specs.Batch.{Waiting, events_of, are_frame}
+use Rattle.inp_frames.specs.Batch.{Waiting, passed_events, are_frame}
 use Rattle.inp_frames.specs.Core.{CoreValues, StandsAfter, CoreStandsFor}
 use Rattle.inp_frames.specs.Frames.{TakesAll}
 use Rattle.inp_frames.specs.Handling.{Handles, timer_at_frame, timer_after_cuts}
@@ -132,16 +132,16 @@ pub record Adds (d : Description) (r : List RawItem) (e : Event) (new : Values) 
 pub adds : (d : Description) (r : List RawItem) (e : Event) (old : CoreValues) (state : Values) (slots : SlotValues) (given : Passed) (w : Waiting) → StandsAfter d r old
     → ((q : List RawItem) → StateStandsFor d q old.state → StateStandsFor d (Occurred e ∷ q) state)
     → ((q : List RawItem) → SlotsStandFor d q old.slots → SlotsStandFor d (Occurred e ∷ q) slots)
-    → ((q : List RawItem) → StateStandsFor d q old.state → SlotsStandFor d q old.slots → events_of given ≡ passed d q e)
+    → ((q : List RawItem) → StateStandsFor d q old.state → SlotsStandFor d q old.slots → passed_events given ≡ passed d q e)
     → slots.at_frame ≡ old.slots.at_frame
-    → w.events ≡ old.batch ++ events_of given → w.hint ≡ old.hint
+    → w.events ≡ old.batch ++ passed_events given → w.hint ≡ old.hint
     → Adds d r e state slots w
 adds d r e old state slots given w h moves touches passes same added hint = record {
   state = moves r h.state;
   slots = touches r h.slots;
   at_frame = same ∙ h.at_frame;
   waits = record {
-    events = added ∙ ap (λ x. x ++ events_of given) h.batch ∙ ap (λ x. pending d r ++ x) (passes r h.state h.slots);
+    events = added ∙ ap (λ x. x ++ passed_events given) h.batch ∙ ap (λ x. pending d r ++ x) (passes r h.state h.slots);
     hint = hint ∙ h.made.hint;
   };
 }

@@ -15,7 +15,7 @@ use Rattle.inp_caps.specs.Disposition.{flags, flags_after}
 use Rattle.inp_state.proofs.Steps.{at_kind}
 use Rattle.inp_slots.specs.Slots.{touch}
 use Rattle.inp_frames.specs.declared.passed.Passed.{Passed}
-use Rattle.inp_frames.specs.Batch.{events_of}
+use Rattle.inp_frames.specs.Batch.{passed_events}
 
 is_axis : (e : Event) → is_multi_touch e ≡ true → e.kind ≡ EV_ABS
 is_axis e h = grind (arith, nat_tests)
@@ -86,7 +86,7 @@ slot_by slot told false h = refl
 pub passed-by : (d : Description) (r : List RawItem) (e : Event) (given : Passed) (n : ℕ) (v slot : ℤ) → n ≡ flags_after d r e → v ≡ unwrap_or (passes_as d r e) e.value → slot ≡ announced d (Occurred e ∷ r)
     → given.announcement ≡ (if bit_and n 4 == 4 then Some (slot_event slot) else None)
     → (let new : Event = record e { value = v } in given.event ≡ (if bit_and n 1 == 1 then Some new else None))
-    → events_of given ≡ passed d r e
+    → passed_events given ≡ passed d r e
 passed-by d r e given n v slot flags_are value told before itself =
     let passes : Bool = is_some (passes_as d r e) in
     let new : Event = record e { value = v } in

@@ -10,8 +10,8 @@ pub record Waiting : Type 0 where
   pub hint : ℕ
 
 -- the events that are passed for a raw event, in order
-abbrev pub events_of : Passed → List Event
-events_of p = option_to_list p.announcement ++ option_to_list p.event
+abbrev pub passed_events : Passed → List Event
+passed_events p = option_to_list p.announcement ++ option_to_list p.event
 
 -- the events are a frame: behind a report where it is not alone, and behind another event where there are enough
 abbrev pub are_frame : Bool → Waiting → Bool

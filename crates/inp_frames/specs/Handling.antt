@@ -11,7 +11,7 @@ use Rattle.inp_model.specs.Cut.{cuts, raw_after}
 use Rattle.inp_model.specs.Timer.{repeats_keys, timer_at_key, timer_at_events, timer_at_cuts}
 use Rattle.inp_model.specs.Raw.{key_event, lift_event}
 use Rattle.inp_state.specs.State.{Values}
-use Rattle.inp_slots.specs.Slots.{SlotValues, value_at}
+use Rattle.inp_slots.specs.Slots.{SlotValues, slot_value}
 use Rattle.inp_frames.specs.Frames.{TakesAll}
 use Rattle.inp_frames.specs.Core.{CoreValues, StandsAfter}
 
@@ -43,7 +43,7 @@ may_repeat core = slice_index_or core.state.keys core.timer.key false && not cor
 
 -- a slot has a contact
 abbrev pub has_contact_at : SlotValues → ℕ → Bool
-has_contact_at s slot = not (int_lt (value_at s slot ABS_MT_TRACKING_ID) (pos 0))
+has_contact_at s slot = not (int_lt (slot_value s slot ABS_MT_TRACKING_ID) (pos 0))
 
 -- the raw events that lift the contact of a slot
 abbrev pub lift_events : ℕ → List Event

@@ -4,7 +4,7 @@ ghost use Rattle.inp_model.specs.declared.event.Event.{Event};
 ghost use Rattle.inp_model.specs.declared.limits.TheConstants.{HINT_MAX};
 ghost use Rattle.inp_model.specs.Event.{core_report};
 ghost use Rattle.inp_frames.specs.declared.frames.TheConstants.{FRAME_MAX};
-ghost use Rattle.inp_frames.specs.Batch.{events_of, are_frame};
+ghost use Rattle.inp_frames.specs.Batch.{passed_events, are_frame};
 
 use crate::passed::Passed;
 use crate::raw_events::core_report;
@@ -58,7 +58,7 @@ impl Batch {
     /// Puts what is passed for a raw event behind the others.
     pub fn add(&mut self, passed: Passed)
         requires room { length self.old.events < self.old.hint }
-        ensures added { self.new.events ≡ self.old.events ++ events_of passed }
+        ensures added { self.new.events ≡ self.old.events ++ passed_events passed }
         ensures hint { self.new.hint ≡ self.old.hint }
     {
         self.push(passed.announcement);

@@ -8,7 +8,7 @@ ghost use Rattle.inp_model.specs.Passed.{passes_as, passed};
 ghost use Rattle.inp_caps.specs.Disposition.{flags_of, flags_after};
 ghost use Rattle.inp_state.specs.State.{StateStandsFor};
 ghost use Rattle.inp_slots.specs.Slots.{SlotsStandFor};
-ghost use Rattle.inp_frames.specs.Batch.{events_of};
+ghost use Rattle.inp_frames.specs.Batch.{passed_events};
 
 use bitflags::Flags;
 use inp_caps::{Caps, Disposition};
@@ -34,7 +34,7 @@ pub(crate) fn handle(state: &mut State, slots: &mut Slots, caps: &Caps, event: E
         → SlotsStandFor caps.now (Occurred event ∷ r) slots.new }
     ensures passed { (r : List RawItem) → StateStandsFor caps.now r state.old
         → SlotsStandFor caps.now r slots.old
-        → events_of result ≡ passed caps.now r event }
+        → passed_events result ≡ passed caps.now r event }
     ensures count { length slots.new.slots ≡ length slots.old.slots }
     ensures at_frame { slots.new.at_frame ≡ slots.old.at_frame }
 {

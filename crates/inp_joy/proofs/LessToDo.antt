@@ -12,17 +12,17 @@ use Rattle.inp_joy.specs.declared.joy_read.JoyRead.TheVariants.{Frame, More}
 use Rattle.inp_joy.specs.declared.joy_record.JoyRecord.{JoyRecord}
 use Rattle.inp_joy.specs.declared.turn_end.TurnEnd.{TurnEnd}
 use Rattle.inp_joy.specs.declared.turn_end.TurnEnd.TheVariants.{Hands, Stops, GoesOn}
-use Rattle.inp_joy.specs.Joying.{Joying, Turn, gives, goes_on, hand_out_record, stop_with, joy_read_of, is_lost, joy_record_of, record_or_on, joying_after_next}
+use Rattle.inp_joy.specs.Joying.{Joying, JoyTurn, gives, goes_on, hand_out_record, stop_with, joy_read_of, is_lost, joy_record_of, record_or_on, joying_after_next}
 use Rattle.inp_joy.specs.Kept.{turn_of_end, IsTurnEndLess}
 use Rattle.inp_joy.specs.Reads.{IsReadLess}
 
 -- what is said of a turn's end, of the turn itself
-abbrev IsTurnLess : Turn → ℕ → ℕ → Type 0
+abbrev IsTurnLess : JoyTurn → ℕ → ℕ → Type 0
 IsTurnLess (gives answer) after before = IsReadLess answer.read after before
 IsTurnLess (goes_on j) after before = after < before
 
-outcome-less : (k : Joying) (outcome : TurnEnd) (turn : Turn) (after before : ℕ) → turn_of_end outcome k ≡ turn → IsTurnLess turn after before → IsTurnEndLess outcome after before
-outcome-less k outcome turn after before is h = by_outcome outcome (subst (λ (t : Turn). IsTurnLess t after before) (sym is) h)
+outcome-less : (k : Joying) (outcome : TurnEnd) (turn : JoyTurn) (after before : ℕ) → turn_of_end outcome k ≡ turn → IsTurnLess turn after before → IsTurnEndLess outcome after before
+outcome-less k outcome turn after before is h = by_outcome outcome (subst (λ (t : JoyTurn). IsTurnLess t after before) (sym is) h)
   where
     by_outcome : (o : TurnEnd) → IsTurnLess (turn_of_end o k) after before → IsTurnEndLess o after before
     by_outcome (Hands r) less = tt

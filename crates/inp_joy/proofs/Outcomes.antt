@@ -14,7 +14,7 @@ use Rattle.inp_joy.specs.declared.joy_read.JoyRead.TheVariants.{Frame, Again, No
 use Rattle.inp_joy.specs.declared.joy_record.JoyRecord.{JoyRecord}
 use Rattle.inp_joy.specs.declared.turn_end.TurnEnd.{TurnEnd}
 use Rattle.inp_joy.specs.declared.turn_end.TurnEnd.TheVariants.{Hands, Stops, GoesOn}
-use Rattle.inp_joy.specs.Joying.{Joying, Turn, gives, goes_on, hand_out_record, joy_read_of, joy_record_of, record_or_on, stop_with, joying_after_next}
+use Rattle.inp_joy.specs.Joying.{Joying, JoyTurn, gives, goes_on, hand_out_record, joy_read_of, joy_record_of, record_or_on, stop_with, joying_after_next}
 use Rattle.inp_joy.specs.Kept.{turn_of_end, TurnEndShows, TurnEndPictures}
 use Rattle.inp_joy.specs.Picture.{picture_of_view}
 use Rattle.inp_joy.specs.Reads.{PicturesTheDevice}
@@ -22,7 +22,7 @@ use Rattle.inp_joy.proofs.Devices.{device-pictured}
 use Rattle.inp_joy.proofs.TurnEnds.{IsTurnPictured, frame-pictured}
 
 -- the answer of a turn that gives one
-abbrev read_of : Turn → JoyRead
+abbrev read_of : JoyTurn → JoyRead
 read_of (gives answer) = answer.read
 read_of (goes_on j) = More
 
@@ -58,13 +58,13 @@ next-read_shows told r d j Synced h = tt
 -- a report that the reader handed out ends a frame
 pub next-shows : (told : EvdevView) (r : ReaderView) (d : Description) (j k : Joying) (next : Next) (outcome : TurnEnd) → turn_of_end outcome k ≡ joying_after_next d j next → AnswerShows told r next → TurnEndShows told r outcome
 next-shows told r d j k next (Hands joy_record) is h = tt
-next-shows told r d j k next (Stops read) is h = subst (λ (x : JoyRead). TurnEndShows told r (Stops x)) (sym (ap (λ (t : Turn). read_of t) is)) (next-read_shows told r d j next h)
+next-shows told r d j k next (Stops read) is h = subst (λ (x : JoyRead). TurnEndShows told r (Stops x)) (sym (ap (λ (t : JoyTurn). read_of t) is)) (next-read_shows told r d j next h)
 next-shows told r d j k next GoesOn is h = tt
 
 -- a record that was handed out is no frame
 pub hand_out_record-pictures : (told : EvdevView) (d : Description) (j k : Joying) (joy_record : JoyRecord) (outcome : TurnEnd) → turn_of_end outcome k ≡ gives (hand_out_record j joy_record) → TurnEndPictures told d k outcome
 hand_out_record-pictures told d j k joy_record (Hands other) is = tt
-hand_out_record-pictures told d j k joy_record (Stops read) is = subst (λ (x : JoyRead). TurnEndPictures told d k (Stops x)) (sym (ap (λ (t : Turn). read_of t) is)) tt
+hand_out_record-pictures told d j k joy_record (Stops read) is = subst (λ (x : JoyRead). TurnEndPictures told d k (Stops x)) (sym (ap (λ (t : JoyTurn). read_of t) is)) tt
 hand_out_record-pictures told d j k joy_record GoesOn is = tt
 
 -- where the picture shows the view at the end of a frame, it is the device's there

@@ -14,7 +14,7 @@ use Rattle.inp_reader.specs.Talk.{Talk, finish, LeadsTo, EndsWith}
 use Rattle.inp_reader.proofs.Talks.{LeadsTo-append, LeadsTo-and_then, calls_kept-append}
 use Rattle.inp_joy.specs.declared.turn_end.TurnEnd.{TurnEnd}
 use Rattle.inp_joy.specs.declared.turn_end.TurnEnd.TheVariants.{Hands, Stops, GoesOn}
-use Rattle.inp_joy.specs.Joying.{Joying, JoyAnswer, Turn, goes_on, is_startup_over, is_long, turn_talk, with_count, after_turn, turns}
+use Rattle.inp_joy.specs.Joying.{Joying, JoyAnswer, JoyTurn, goes_on, is_startup_over, is_long, turn_talk, with_count, after_turn, turns}
 use Rattle.inp_joy.specs.Kept.{answer_of_turn, turn_of_end, is_end, IsTurnEndLess, agains_after_turn, HasTurned}
 use Rattle.inp_joy.proofs.Counting.{count_after, with_count-ends, count-kept}
 use Rattle.inp_joy.proofs.TurnEnds.{turn-accepted}
@@ -40,10 +40,10 @@ passed-none told d start made none = record {
 }
 
 -- one turn more, and what follows it
-one_turn : (d : Description) (here : Joying) (turn : Turn) (n count : ℕ) (calls : List Call) → EndsWith (turn_talk d here) calls turn → LeadsTo (turns d (suc n) count here) calls (after_turn d (turns d n) (count_after calls count) turn)
+one_turn : (d : Description) (here : Joying) (turn : JoyTurn) (n count : ℕ) (calls : List Call) → EndsWith (turn_talk d here) calls turn → LeadsTo (turns d (suc n) count here) calls (after_turn d (turns d n) (count_after calls count) turn)
 unfolding turns
 one_turn d here turn n count calls h =
-    let next : ℕ × Turn → Talk (Option JoyAnswer) = λ o. after_turn d (turns d n) o.0 o.1 in
+    let next : ℕ × JoyTurn → Talk (Option JoyAnswer) = λ o. after_turn d (turns d n) o.0 o.1 in
     LeadsTo-and_then (with_count (turn_talk d here) count) (finish (count_after calls count, turn)) next calls (with_count-ends (turn_talk d here) calls turn count h)
 
 -- a turn after which no other one follows
@@ -71,7 +71,7 @@ with_count-kept d here next calls made new h kept =
 -- after a turn that goes on
 pub passed-more : (before between after : EvdevView) (d : Description) (start here next : Joying) (made new : List CallMade) (outcome : TurnEnd) → Passed before between d start here made → Says between after made new (turn_talk d here) (turn_of_end outcome next) → is_end d outcome next (length new) ≡ false → Passed before after d start next new
 passed-more before between after d start here next made new outcome s h on =
-    let ends : EndsWith (turn_talk d here) h.calls (goes_on next) = subst (λ (t : Turn). EndsWith (turn_talk d here) h.calls t) (went-on d outcome next (length new) on) h.talk_ends in
+    let ends : EndsWith (turn_talk d here) h.calls (goes_on next) = subst (λ (t : JoyTurn). EndsWith (turn_talk d here) h.calls t) (went-on d outcome next (length new) on) h.talk_ends in
     record {
       count = s.count + 1;
       calls = s.calls ++ h.calls;

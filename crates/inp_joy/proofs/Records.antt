@@ -19,9 +19,9 @@ use Rattle.inp_reader.specs.Talk.{EndsWith}
 use Rattle.inp_joy.specs.declared.joy_read.JoyRead.{JoyRead}
 use Rattle.inp_joy.specs.declared.joy_read.JoyRead.TheVariants.{Record, Frame, Again, NoDevice, Closed, Full, More}
 use Rattle.inp_joy.specs.declared.joy_record.JoyRecord.{JoyRecord}
-use Rattle.inp_joy.specs.JoyRecord.{bytes_of, record_in, within_16_bits, startup_button, startup_axis, button_record, axis_record}
+use Rattle.inp_joy.specs.JoyRecord.{bytes_of_record, record_in, within_16_bits, startup_button, startup_axis, button_record, axis_record}
 use Rattle.inp_joy.specs.Codes.{buttons, axes, number_among}
-use Rattle.inp_joy.specs.Joying.{Joying, JoyAnswer, Turn, gives, goes_on, hand_out_record, next_in_startup, map_numbered, startup, last_value, record_of_key, record_of_axis, joy_record_of, record_or_on, event_or_on, joy_read_of, event_handed_out, stop_or_event, joying_after_next, stop_or_startup, turns, stop_with, with_reading}
+use Rattle.inp_joy.specs.Joying.{Joying, JoyAnswer, JoyTurn, gives, goes_on, hand_out_record, next_in_startup, map_numbered, startup, last_value, record_of_key, record_of_axis, joy_record_of, record_or_on, event_or_on, joy_read_of, event_handed_out, stop_or_event, joying_after_next, stop_or_startup, turns, stop_with, with_reading}
 use Rattle.inp_joy.specs.Picture.{PictureView, is_down_in, value_in}
 use Rattle.inp_joy.proofs.TurnCases.{Synchronises, TurnCase, of_startup, of_sync, of_loss, of_next, turn-case, turns-all}
 
@@ -35,7 +35,7 @@ unsigned-below (pos n) h = omega (arith, h.sfits)
 unsigned-below (negsuc n) h = omega arith
 
 -- its bytes are read as the record
-pub record-back : (r : JoyRecord) → FitsBytes r → record_in (bytes_of r) ≡ r
+pub record-back : (r : JoyRecord) → FitsBytes r → record_in (bytes_of_record r) ≡ r
 record-back r h =
     let value_back : cast_signed w16 _ ≡ r.value = ap (λ (n : ℕ). cast_signed w16 n) (from_le_bytes-to_le_bytes_2 (cast_unsigned w16 r.value) (unsigned-below r.value h.value)) ∙ to_z-of_z w16 r.value h.value in
     λ i. record { time = from_le_bytes-to_le_bytes_4 r.time h.time i; value = value_back i; kind = r.kind; number = r.number }
@@ -136,12 +136,12 @@ HandsOutAsSaid More (Some r) = ⊥
 abbrev pub IsAnswerAsSaid : JoyAnswer → Type 0
 IsAnswerAsSaid answer = HandsOutAsSaid answer.read answer.record_out
 
-abbrev pub IsTurnAsSaid : Turn → Type 0
+abbrev pub IsTurnAsSaid : JoyTurn → Type 0
 IsTurnAsSaid (gives answer) = IsAnswerAsSaid answer
 IsTurnAsSaid (goes_on j) = Unit {0}
 
-turn-same : (t u : Turn) → t ≡ u → IsTurnAsSaid t → IsTurnAsSaid u
-turn-same t u e h = subst (λ (x : Turn). IsTurnAsSaid x) e h
+turn-same : (t u : JoyTurn) → t ≡ u → IsTurnAsSaid t → IsTurnAsSaid u
+turn-same t u e h = subst (λ (x : JoyTurn). IsTurnAsSaid x) e h
 
 -- the answers of a reader that end a read hand out no record
 stopped-said : (next : Next) (read : JoyRead) → joy_read_of next ≡ Some read → HandsOutAsSaid read None
@@ -158,7 +158,7 @@ sync-said : (j : Joying) (next : Next) (stop : Option JoyRead) → joy_read_of n
 sync-said j next None is = tt
 sync-said j next (Some read) is = stopped-said next read is
 
-sync_turn-said : (d : Description) (j : Joying) (calls : List Call) (t : Turn) → Synchronises d j calls t → IsTurnAsSaid t
+sync_turn-said : (d : Description) (j : Joying) (calls : List Call) (t : JoyTurn) → Synchronises d j calls t → IsTurnAsSaid t
 sync_turn-said d j calls t s = turn-same (stop_or_startup (with_reading j s.reading) (joy_read_of s.next)) t s.comes_to (sync-said (with_reading j s.reading) s.next (joy_read_of s.next) refl)
 
 made-said : (j : Joying) (o : Option JoyRecord) → FitsIf o → IsTurnAsSaid (record_or_on j o)
@@ -177,7 +177,7 @@ next-said : (d : Description) (j : Joying) (next : Next) (stop : Option JoyRead)
 next-said d j next None event is = event-said d j event
 next-said d j next (Some read) event is = stopped-said next read is
 
-turn-said : (d : Description) (j : Joying) (calls : List Call) (t : Turn) → TurnCase d j calls t → IsTurnAsSaid t
+turn-said : (d : Description) (j : Joying) (calls : List Call) (t : JoyTurn) → TurnCase d j calls t → IsTurnAsSaid t
 turn-said d j calls t (of_startup r at none is) = turn-same (gives (hand_out_record (next_in_startup j) r)) t is (startup-fits d j.reading.view j.handed r at)
 turn-said d j calls t (of_sync needed s) = sync_turn-said d j calls t s
 turn-said d j calls t (of_loss first second next r plain whole h lost s) = sync_turn-said d (with_reading j r) second t s

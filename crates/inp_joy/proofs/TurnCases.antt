@@ -12,10 +12,10 @@ use Rattle.inp_reader.specs.Talk.{Talk, finish, ask, LeadsTo, EndsWith}
 use Rattle.inp_reader.proofs.Calls.{IsSplit, split-and_then, finished}
 use Rattle.inp_joy.specs.declared.joy_read.JoyRead.TheVariants.{More}
 use Rattle.inp_joy.specs.declared.joy_record.JoyRecord.{JoyRecord}
-use Rattle.inp_joy.specs.Joying.{Joying, JoyAnswer, Turn, gives, goes_on, hand_out_record, next_in_startup, startup, is_long, is_lost, joy_read_of, joying_after_next, stop_or_startup, joying_after_sync, sync_turn, after_normal, event_turn, record_or_turn, turn_talk, with_count, after_turn, turns, stop_with, with_reading}
+use Rattle.inp_joy.specs.Joying.{Joying, JoyAnswer, JoyTurn, gives, goes_on, hand_out_record, next_in_startup, startup, is_long, is_lost, joy_read_of, joying_after_next, stop_or_startup, joying_after_sync, sync_turn, after_normal, event_turn, record_or_turn, turn_talk, with_count, after_turn, turns, stop_with, with_reading}
 
 -- The calls are those of a synchronisation, and the turn comes to what its answer says.
-pub record Synchronises (d : Description) (j : Joying) (calls : List Call) (t : Turn) : Type 0 where
+pub record Synchronises (d : Description) (j : Joying) (calls : List Call) (t : JoyTurn) : Type 0 where
   pub next : Next
   pub reading : Reading
   pub talk_ends : EndsWith (next_talk d Synchronising j.reading) calls (next, reading)
@@ -25,10 +25,10 @@ pub record Synchronises (d : Description) (j : Joying) (calls : List Call) (t : 
 alone : (calls first later : List Call) → calls ≡ first ++ later → later ≡ [] → calls ≡ first
 alone calls first later whole none = whole ∙ ap (λ (cs : List Call). first ++ cs) none ∙ append-nil first
 
-synchronises : (d : Description) (j : Joying) (calls : List Call) (t : Turn) → EndsWith (sync_turn d j) calls t → Synchronises d j calls t
+synchronises : (d : Description) (j : Joying) (calls : List Call) (t : JoyTurn) → EndsWith (sync_turn d j) calls t → Synchronises d j calls t
 unfolding sync_turn
 synchronises d j calls t h =
-    let next : Next × Reading → Talk Turn = λ o. finish (joying_after_sync j o) in
+    let next : Next × Reading → Talk JoyTurn = λ o. finish (joying_after_sync j o) in
     let s : IsSplit (next_talk d Synchronising j.reading) next calls t = split-and_then (next_talk d Synchronising j.reading) next calls t h in
     let f : (s.later ≡ []) × (joying_after_sync j s.between ≡ t) = finished (joying_after_sync j s.between) t s.later s.later_ends in
     record {
@@ -39,7 +39,7 @@ synchronises d j calls t h =
     }
 
 -- how a turn went
-pub data TurnCase (d : Description) (j : Joying) (calls : List Call) (t : Turn) : Type 0 where
+pub data TurnCase (d : Description) (j : Joying) (calls : List Call) (t : JoyTurn) : Type 0 where
   -- a record of the startup was handed out
   of_startup : (r : JoyRecord) → slice_get (startup d j.reading.view) j.handed ≡ Some r → calls ≡ [] → gives (hand_out_record (next_in_startup j) r) ≡ t → TurnCase d j calls t
   -- a synchronisation was needed
@@ -49,7 +49,7 @@ pub data TurnCase (d : Description) (j : Joying) (calls : List Call) (t : Turn) 
   -- none were lost
   of_next : (next : Next) (r : Reading) → is_needed j.reading.phase ≡ false → EndsWith (next_talk d Normal j.reading) calls (next, r) → is_lost next ≡ false → joying_after_next d (with_reading j r) next ≡ t → TurnCase d j calls t
 
-event_turn-case : (d : Description) (j : Joying) (calls : List Call) (t : Turn) → is_needed j.reading.phase ≡ false → EndsWith (event_turn d j) calls t → TurnCase d j calls t
+event_turn-case : (d : Description) (j : Joying) (calls : List Call) (t : JoyTurn) → is_needed j.reading.phase ≡ false → EndsWith (event_turn d j) calls t → TurnCase d j calls t
 unfolding event_turn
 event_turn-case d j calls t plain h =
     let s : IsSplit (next_talk d Normal j.reading) (after_normal d j) calls t = split-and_then (next_talk d Normal j.reading) (after_normal d j) calls t h in
@@ -62,7 +62,7 @@ event_turn-case d j calls t plain h =
         let f : (later ≡ []) × (joying_after_next d (with_reading j r) next ≡ t) = finished (joying_after_next d (with_reading j r) next) t later k in
         of_next next r plain (subst (λ (cs : List Call). EndsWith (next_talk d Normal j.reading) cs (next, r)) (sym (alone calls first later whole f.0)) e) lost f.1
 
-case-of : (d : Description) (j : Joying) (o : Option JoyRecord) (calls : List Call) (t : Turn) → slice_get (startup d j.reading.view) j.handed ≡ o → EndsWith (record_or_turn d j o) calls t → TurnCase d j calls t
+case-of : (d : Description) (j : Joying) (o : Option JoyRecord) (calls : List Call) (t : JoyTurn) → slice_get (startup d j.reading.view) j.handed ≡ o → EndsWith (record_or_turn d j o) calls t → TurnCase d j calls t
 case-of d j None calls t is h = by_flag (is_needed j.reading.phase) refl h
   where
     by_flag : (b : Bool) → is_needed j.reading.phase ≡ b → EndsWith (if b then sync_turn d j else event_turn d j) calls t → TurnCase d j calls t
@@ -71,7 +71,7 @@ case-of d j None calls t is h = by_flag (is_needed j.reading.phase) refl h
 case-of d j (Some r) calls t is h =
     let f = finished (gives (hand_out_record (next_in_startup j) r)) t calls h in of_startup r is f.0 f.1
 
-pub turn-case : (d : Description) (j : Joying) (calls : List Call) (t : Turn) → EndsWith (turn_talk d j) calls t → TurnCase d j calls t
+pub turn-case : (d : Description) (j : Joying) (calls : List Call) (t : JoyTurn) → EndsWith (turn_talk d j) calls t → TurnCase d j calls t
 turn-case d j calls t h = case-of d j (slice_get (startup d j.reading.view) j.handed) calls t refl h
 
 -- a talk with a count is the talk
@@ -92,7 +92,7 @@ pub turns-all : (d : Description) (P : Joying → List Call → JoyAnswer → Ty
 unfolding turns
 turns-all d P last long more zero count j calls answer h = let f = finished None (Some answer) calls h in absurd cc
 turns-all d P last long more (suc n) count j calls answer h =
-    let next : ℕ × Turn → Talk (Option JoyAnswer) = λ o. after_turn d (turns d n) o.0 o.1 in
+    let next : ℕ × JoyTurn → Talk (Option JoyAnswer) = λ o. after_turn d (turns d n) o.0 o.1 in
     let s : IsSplit (with_count (turn_talk d j) count) next calls (Some answer) = split-and_then (with_count (turn_talk d j) count) next calls (Some answer) h in
     subst (λ (cs : List Call). P j cs answer) (sym s.calls_are)
     (by_turn s.between.1 s.between.0 s.first s.later (λ m k e. turns-all d P last long more n m k s.later answer e) (with_count-back (turn_talk d j) count s.first s.between s.first_ends) s.later_ends)
@@ -103,7 +103,7 @@ turns-all d P last long more (suc n) count j calls answer h =
         let same : a ≡ answer = (let w = f.1 in cc) in
         subst (λ (cs : List Call). P j cs answer) (sym (ap (λ (cs : List Call). first ++ cs) f.0 ∙ append-nil first)) (subst (λ (x : JoyAnswer). P j first x) same p)
 
-    by_turn : (t : Turn) (m : ℕ) (first later : List Call) → ((i : ℕ) (k : Joying) → EndsWith (turns d n i k) later (Some answer) → P k later answer) → EndsWith (turn_talk d j) first t → EndsWith (after_turn d (turns d n) m t) later (Some answer)
+    by_turn : (t : JoyTurn) (m : ℕ) (first later : List Call) → ((i : ℕ) (k : Joying) → EndsWith (turns d n i k) later (Some answer) → P k later answer) → EndsWith (turn_talk d j) first t → EndsWith (after_turn d (turns d n) m t) later (Some answer)
         → P j (first ++ later) answer
     by_turn (gives a) m first later rest h e = nothing_more first later a (last j first a h) e
     by_turn (goes_on k) m first later rest h e = by_flag (is_long d k m) e

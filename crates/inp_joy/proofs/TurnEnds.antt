@@ -25,7 +25,7 @@ use Rattle.inp_joy.specs.declared.joy_record.JoyRecord.{JoyRecord}
 use Rattle.inp_joy.specs.declared.turn_end.TurnEnd.{TurnEnd}
 use Rattle.inp_joy.specs.declared.turn_end.TurnEnd.TheVariants.{Hands, Stops, GoesOn}
 use Rattle.inp_joy.specs.Codes.{startup_len}
-use Rattle.inp_joy.specs.Joying.{Joying, JoyAnswer, Turn, gives, goes_on, hand_out_record, stop_with, with_reading, with_startup, without_startup, next_in_startup, is_startup_over, joying_after_start, startup, joy_read_of, is_lost, joy_record_of, record_or_on, event_handed_out, joying_after_event, stop_or_event, joying_after_next, stop_or_startup, joying_after_sync, sync_turn, after_normal, event_turn, record_or_turn, turn_talk}
+use Rattle.inp_joy.specs.Joying.{Joying, JoyAnswer, JoyTurn, gives, goes_on, hand_out_record, stop_with, with_reading, with_startup, without_startup, next_in_startup, is_startup_over, joying_after_start, startup, joy_read_of, is_lost, joy_record_of, record_or_on, event_handed_out, joying_after_event, stop_or_event, joying_after_next, stop_or_startup, joying_after_sync, sync_turn, after_normal, event_turn, record_or_turn, turn_talk}
 use Rattle.inp_joy.specs.Kept.{turn_of_end}
 use Rattle.inp_joy.specs.Picture.{PictureView, picture_after_if, picture_of_view}
 use Rattle.inp_joy.specs.Reads.{IsPictured}
@@ -59,12 +59,12 @@ abbrev pub FramePictured : Description → JoyRead → Joying → Type 0
 FramePictured d (Frame place) j = j.picture ≡ picture_of_view d j.reading.view
 FramePictured d _ j = Unit {0}
 
-abbrev pub IsTurnPictured : Description → Turn → Type 0
+abbrev pub IsTurnPictured : Description → JoyTurn → Type 0
 IsTurnPictured d (gives answer) = IsPictured d answer.joying × FramePictured d answer.read answer.joying
 IsTurnPictured d (goes_on j) = IsPictured d j
 
-turn-same : (d : Description) (t u : Turn) → t ≡ u → IsTurnPictured d t → IsTurnPictured d u
-turn-same d t u e h = subst (λ (x : Turn). IsTurnPictured d x) e h
+turn-same : (d : Description) (t u : JoyTurn) → t ≡ u → IsTurnPictured d t → IsTurnPictured d u
+turn-same d t u e h = subst (λ (x : JoyTurn). IsTurnPictured d x) e h
 
 -- a picture that shows the view, with no record of a startup left
 pub shown-pictured : (d : Description) (j : Joying) → startup_len d ≤ j.handed → j.picture ≡ picture_of_view d j.reading.view → IsPictured d j
@@ -91,7 +91,7 @@ sync-pictured d j Revoked r h = (needed-pictured d (with_reading j r) h, tt)
 sync-pictured d j NotOpen r h = (needed-pictured d (with_reading j r) h, tt)
 sync-pictured d j (FullHistory at) r h = (needed-pictured d (with_reading j r) h, tt)
 
-sync_turn-pictured : (d : Description) (j : Joying) (calls : List Call) (t : Turn) → is_needed j.reading.phase ≡ true → EndsWith (sync_turn d j) calls t → IsTurnPictured d t
+sync_turn-pictured : (d : Description) (j : Joying) (calls : List Call) (t : JoyTurn) → is_needed j.reading.phase ≡ true → EndsWith (sync_turn d j) calls t → IsTurnPictured d t
 unfolding sync_turn
 sync_turn-pictured d j calls t needed h =
     let s : IsSplit (next_talk d Synchronising j.reading) (λ o. finish (joying_after_sync j o)) calls t = split-and_then (next_talk d Synchronising j.reading) (λ o. finish (joying_after_sync j o)) calls t h in
@@ -125,14 +125,14 @@ next-pictured d j Revoked r sized over shown lost h = (shown-pictured d (with_re
 next-pictured d j NotOpen r sized over shown lost h = (shown-pictured d (with_reading j r) over (shown ∙ ap (λ (v : View). picture_of_view d v) (sym h.0)), tt)
 next-pictured d j (FullHistory at) r sized over shown lost h = (shown-pictured d (with_reading j r) over (shown ∙ ap (λ (v : View). picture_of_view d v) (sym h.0)), tt)
 
-normal-pictured : (d : Description) (j : Joying) (next : Next) (r : Reading) (later : List Call) (t : Turn) → IsSizedFor d.slots j.reading.view → startup_len d ≤ j.handed → j.picture ≡ picture_of_view d j.reading.view → IsTaken j.reading.view next r → EndsWith (after_normal d j (next, r)) later t → IsTurnPictured d t
+normal-pictured : (d : Description) (j : Joying) (next : Next) (r : Reading) (later : List Call) (t : JoyTurn) → IsSizedFor d.slots j.reading.view → startup_len d ≤ j.handed → j.picture ≡ picture_of_view d j.reading.view → IsTaken j.reading.view next r → EndsWith (after_normal d j (next, r)) later t → IsTurnPictured d t
 normal-pictured d j next r later t sized over shown taken h = by_flag (is_lost next) refl h
   where
     by_flag : (b : Bool) → is_lost next ≡ b → EndsWith (if b then sync_turn d (with_reading j r) else finish (joying_after_next d (with_reading j r) next)) later t → IsTurnPictured d t
     by_flag true is k = sync_turn-pictured d (with_reading j r) later t (lost-in j.reading.view next r is taken) k
     by_flag false is k = turn-same d (joying_after_next d (with_reading j r) next) t (finished (joying_after_next d (with_reading j r) next) t later k).1 (next-pictured d j next r sized over shown is taken)
 
-event_turn-pictured : (d : Description) (j : Joying) (calls : List Call) (t : Turn) → IsSizedFor d.slots j.reading.view → startup_len d ≤ j.handed → is_needed j.reading.phase ≡ false → IsPictured d j → EndsWith (event_turn d j) calls t → IsTurnPictured d t
+event_turn-pictured : (d : Description) (j : Joying) (calls : List Call) (t : JoyTurn) → IsSizedFor d.slots j.reading.view → startup_len d ≤ j.handed → is_needed j.reading.phase ≡ false → IsPictured d j → EndsWith (event_turn d j) calls t → IsTurnPictured d t
 unfolding event_turn
 event_turn-pictured d j calls t sized over plain pictured h =
     let s : IsSplit (next_talk d Normal j.reading) (after_normal d j) calls t = split-and_then (next_talk d Normal j.reading) (after_normal d j) calls t h in
@@ -140,7 +140,7 @@ event_turn-pictured d j calls t sized over plain pictured h =
     normal-pictured d j s.between.0 s.between.1 s.later t sized over shown (next-taken d j.reading s.first s.between plain s.first_ends) s.later_ends
 
 -- any turn
-pub turn-pictured : (d : Description) (j : Joying) (calls : List Call) (t : Turn) → IsSizedFor d.slots j.reading.view → IsPictured d j → None ≡ slice_get (startup d j.reading.view) j.handed → EndsWith (record_or_turn d j None) calls t → IsTurnPictured d t
+pub turn-pictured : (d : Description) (j : Joying) (calls : List Call) (t : JoyTurn) → IsSizedFor d.slots j.reading.view → IsPictured d j → None ≡ slice_get (startup d j.reading.view) j.handed → EndsWith (record_or_turn d j None) calls t → IsTurnPictured d t
 turn-pictured d j calls t sized pictured none h = by_flag (is_needed j.reading.phase) refl h
   where
     by_flag : (b : Bool) → is_needed j.reading.phase ≡ b → EndsWith (if b then sync_turn d j else event_turn d j) calls t → IsTurnPictured d t

@@ -8,8 +8,8 @@ use Rattle.inp_joy.specs.declared.joy_record.JoyRecord.{JoyRecord}
 use Rattle.inp_joy.specs.declared.joy_record.TheConstants.{JS_EVENT_BUTTON, JS_EVENT_AXIS, JS_EVENT_INIT}
 
 -- the eight bytes of a record: time, value, type and number, each lowest byte first
-abbrev pub bytes_of : JoyRecord → List ℕ
-bytes_of r = to_le_bytes w32 r.time ++ to_le_bytes w16 (cast_unsigned w16 r.value) ++ r.kind ∷ r.number ∷ []
+abbrev pub bytes_of_record : JoyRecord → List ℕ
+bytes_of_record r = to_le_bytes w32 r.time ++ to_le_bytes w16 (cast_unsigned w16 r.value) ++ r.kind ∷ r.number ∷ []
 
 -- the record that eight bytes are
 abbrev pub record_in : List ℕ → JoyRecord

@@ -93,9 +93,9 @@ pub record JoyAnswer : Type 0 where
   pub joying : Joying
 
 -- a turn gives an answer, or the read goes on
-pub data Turn : Type 0 where
-  gives : JoyAnswer → Turn
-  goes_on : Joying → Turn
+pub data JoyTurn : Type 0 where
+  gives : JoyAnswer → JoyTurn
+  goes_on : Joying → JoyTurn
 
 abbrev pub hand_out_record : Joying → JoyRecord → JoyAnswer
 hand_out_record j r = record { read = Record; record_out = Some r; joying = record j { picture = picture_after j.picture r } }
@@ -142,46 +142,46 @@ joy_record_of d p taken =
     else None
 
 -- the record that is there is handed out
-abbrev pub record_or_on : Joying → Option JoyRecord → Turn
+abbrev pub record_or_on : Joying → Option JoyRecord → JoyTurn
 record_or_on j None = goes_on j
 record_or_on j (Some r) = gives (hand_out_record j r)
 
 -- after an event of the reader: a report ends a frame, and others may give a record
-abbrev pub joying_after_event : Description → Joying → Taken → Turn
+abbrev pub joying_after_event : Description → Joying → Taken → JoyTurn
 joying_after_event d j taken =
     if is_report taken.event then gives (stop_with (Frame taken.place) j)
     else record_or_on j (joy_record_of d j.picture taken)
 
-abbrev pub event_or_on : Description → Joying → Option Taken → Turn
+abbrev pub event_or_on : Description → Joying → Option Taken → JoyTurn
 event_or_on d j None = goes_on j
 event_or_on d j (Some taken) = joying_after_event d j taken
 
 -- after an answer of the reader that lost no events
-abbrev pub stop_or_event : Description → Joying → Option JoyRead → Option Taken → Turn
+abbrev pub stop_or_event : Description → Joying → Option JoyRead → Option Taken → JoyTurn
 stop_or_event d j None event = event_or_on d j event
 stop_or_event d j (Some read) event = gives (stop_with read j)
 
-abbrev pub joying_after_next : Description → Joying → Next → Turn
+abbrev pub joying_after_next : Description → Joying → Next → JoyTurn
 joying_after_next d j next = stop_or_event d j (joy_read_of next) (event_handed_out next)
 
 -- after a synchronisation: a startup begins, unless it was stopped
-abbrev pub stop_or_startup : Joying → Option JoyRead → Turn
+abbrev pub stop_or_startup : Joying → Option JoyRead → JoyTurn
 stop_or_startup j None = goes_on (with_startup j.reading)
 stop_or_startup j (Some read) = gives (stop_with read j)
 
-abbrev pub joying_after_sync : Joying → Next × Reading → Turn
+abbrev pub joying_after_sync : Joying → Next × Reading → JoyTurn
 joying_after_sync j o = stop_or_startup (with_reading j o.1) (joy_read_of o.0)
 
 -- the reader synchronises
-unfoldable pub sync_turn : Description → Joying → Talk Turn
+unfoldable pub sync_turn : Description → Joying → Talk JoyTurn
 sync_turn d j = and_then (next_talk d Synchronising j.reading) (λ o. finish (joying_after_sync j o))
 
-abbrev pub after_normal : Description → Joying → Next × Reading → Talk Turn
+abbrev pub after_normal : Description → Joying → Next × Reading → Talk JoyTurn
 after_normal d j o =
     if is_lost o.0 then sync_turn d (with_reading j o.1) else finish (joying_after_next d (with_reading j o.1) o.0)
 
 -- the reader is asked for its next event, and synchronises where events were lost
-unfoldable pub event_turn : Description → Joying → Talk Turn
+unfoldable pub event_turn : Description → Joying → Talk JoyTurn
 event_turn d j = and_then (next_talk d Normal j.reading) (after_normal d j)
 
 -- one record of the startup more was handed out
@@ -189,11 +189,11 @@ abbrev pub next_in_startup : Joying → Joying
 next_in_startup j = record j { handed = j.handed + 1 }
 
 -- a turn: a record of the startup, where one is left, or a synchronisation, where one is needed, or an event
-abbrev pub record_or_turn : Description → Joying → Option JoyRecord → Talk Turn
+abbrev pub record_or_turn : Description → Joying → Option JoyRecord → Talk JoyTurn
 record_or_turn d j None = if is_needed j.reading.phase then sync_turn d j else event_turn d j
 record_or_turn d j (Some r) = finish (gives (hand_out_record (next_in_startup j) r))
 
-abbrev pub turn_talk : Description → Joying → Talk Turn
+abbrev pub turn_talk : Description → Joying → Talk JoyTurn
 turn_talk d j = record_or_turn d j (slice_get (startup d j.reading.view) j.handed)
 
 -- a talk, with how many of its steps were accepted behind so many before
@@ -205,7 +205,7 @@ with_count (ask x rest) n = ask x (λ answer. with_count (rest answer) (if is_ac
 abbrev pub is_long : Description → Joying → ℕ → Bool
 is_long d j n = is_startup_over d j && nat_le 64 n
 
-abbrev pub after_turn : Description → (ℕ → Joying → Talk (Option JoyAnswer)) → ℕ → Turn → Talk (Option JoyAnswer)
+abbrev pub after_turn : Description → (ℕ → Joying → Talk (Option JoyAnswer)) → ℕ → JoyTurn → Talk (Option JoyAnswer)
 after_turn d go_on n (gives answer) = finish (Some answer)
 after_turn d go_on n (goes_on j) = if is_long d j n then finish (Some (stop_with More j)) else go_on n j
 

@@ -16,7 +16,7 @@ use Rattle.inp_joy.specs.declared.joy_state.JoyState.{JoyState}
 use Rattle.inp_joy.specs.declared.turn_end.TurnEnd.{TurnEnd}
 use Rattle.inp_joy.specs.declared.turn_end.TurnEnd.TheVariants.{Hands, Stops, GoesOn}
 use Rattle.inp_joy.specs.Codes.{buttons, axes, startup_len}
-use Rattle.inp_joy.specs.Joying.{Joying, JoyView, JoyAnswer, Turn, gives, goes_on, stop_with, is_long, turns}
+use Rattle.inp_joy.specs.Joying.{Joying, JoyView, JoyAnswer, JoyTurn, gives, goes_on, stop_with, is_long, turns}
 use Rattle.inp_joy.specs.Picture.{seen_as}
 use Rattle.inp_joy.specs.Reads.{IsPictured, PicturesTheDevice, IsReadLess, agains_after_read}
 
@@ -46,7 +46,7 @@ answer_of_turn (Hands r) j = record { read = Record; record_out = Some r; joying
 answer_of_turn (Stops read) j = stop_with read j
 answer_of_turn GoesOn j = stop_with More j
 
-abbrev pub turn_of_end : TurnEnd → Joying → Turn
+abbrev pub turn_of_end : TurnEnd → Joying → JoyTurn
 turn_of_end (Hands r) j = gives (answer_of_turn (Hands r) j)
 turn_of_end (Stops read) j = gives (answer_of_turn (Stops read) j)
 turn_of_end GoesOn j = goes_on j

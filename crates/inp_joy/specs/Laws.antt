@@ -9,7 +9,7 @@ use Rattle.inp_recon.specs.declared.view.View.{View}
 use Rattle.inp_recon.specs.Faithful.{IsDeviceState}
 use Rattle.inp_recon.specs.View.{IsSizedFor, view_after_event}
 use Rattle.inp_joy.specs.declared.joy_record.JoyRecord.{JoyRecord}
-use Rattle.inp_joy.specs.JoyRecord.{bytes_of, record_in}
+use Rattle.inp_joy.specs.JoyRecord.{bytes_of_record, record_in}
 use Rattle.inp_joy.specs.Codes.{startup_len}
 use Rattle.inp_joy.specs.Joying.{startup, joy_record_of}
 use Rattle.inp_joy.specs.Picture.{blank_picture, picture_after_all, picture_after_if, picture_of_view, picture_of_device}
@@ -40,4 +40,4 @@ ViewHasTheDevicesPicture =
 
 -- the bytes of a record tell it, where its time has 32 bits and its value 16 with a sign
 abbrev pub BytesTellTheRecord : Type 0
-BytesTellTheRecord = (r : JoyRecord) → r.time < 2 ^ 32 → FitsSigned w16 r.value → record_in (bytes_of r) ≡ r
+BytesTellTheRecord = (r : JoyRecord) → r.time < 2 ^ 32 → FitsSigned w16 r.value → record_in (bytes_of_record r) ≡ r

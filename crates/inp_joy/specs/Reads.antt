@@ -16,14 +16,14 @@ use Rattle.inp_reader.specs.Standing.{StandsAt, is_needed}
 use Rattle.inp_joy.specs.declared.joy_read.JoyRead.{JoyRead}
 use Rattle.inp_joy.specs.declared.joy_read.JoyRead.TheVariants.{Frame, Again, More}
 use Rattle.inp_joy.specs.declared.joy_record.JoyRecord.{JoyRecord}
-use Rattle.inp_joy.specs.JoyRecord.{bytes_of}
+use Rattle.inp_joy.specs.JoyRecord.{bytes_of_record}
 use Rattle.inp_joy.specs.Picture.{picture_after_all, picture_of_view, picture_of_device}
 use Rattle.inp_joy.specs.Joying.{Joying, JoyView, startup, turns}
 
 -- the caller's eight bytes: the record that was handed out, or what they were
 abbrev pub bytes_after : Option JoyRecord → List ℕ → List ℕ
 bytes_after None out = out
-bytes_after (Some r) out = bytes_of r
+bytes_after (Some r) out = bytes_of_record r
 
 -- The calls that were made are those of some number of turns, and the answer, what is kept and what is written are their
 -- result.

@@ -1,6 +1,6 @@
 //! The records that a joystick client hands out.
 ghost use Rattle.std.specs.Prelude.{◌≡◌};
-ghost use Rattle.inp_joy.specs.JoyRecord.{bytes_of, record_in, is_of_button, is_of_axis, startup_button, startup_axis, button_record, axis_record, within_16_bits, milliseconds};
+ghost use Rattle.inp_joy.specs.JoyRecord.{bytes_of_record, record_in, is_of_button, is_of_axis, startup_button, startup_axis, button_record, axis_record, within_16_bits, milliseconds};
 ghost use Rattle.inp_reader.specs.Synthesis.{bit_value};
 
 use inp_model::Taken;
@@ -36,7 +36,7 @@ pub struct JoyRecord {
 impl JoyRecord {
     /// The eight bytes of the record: time, value, type and number, each with its lowest byte first.
     pub fn bytes(self) -> [u8; 8]
-        ensures bytes { result ≡ bytes_of self }
+        ensures bytes { result ≡ bytes_of_record self }
     {
         let [t0, t1, t2, t3] = self.time.to_le_bytes();
         let [v0, v1] = self.value.to_le_bytes();

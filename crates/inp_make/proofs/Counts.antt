@@ -7,7 +7,7 @@ use Rattle.std.proofs.lemmas.List.Sums.{sum_by-append}
 use Rattle.inp_model.specs.declared.event.Event.{Event}
 use Rattle.inp_actors.specs.declared.line.Line.{Line}
 use Rattle.inp_actors.specs.declared.command.Command.TheVariants.{Follow}
-use Rattle.inp_make.specs.Generated.{finger, fast, mid, slow, line, finger_events, touches, frame_events, injected, follows, frame_lines, opens, lines}
+use Rattle.inp_make.specs.Generated.{finger, fast, mid, slow, line, finger_events, touches, frame_events, injected, follows, frame_lines, open_lines, lines}
 use Rattle.inp_make.specs.Examples.{line_count}
 use Rattle.inp_make.proofs.Ranges.{flat_map-more}
 
@@ -97,11 +97,11 @@ frames_count-mid number (suc n) =
     omega (arith, frames_count-mid number n, more_frames mid number n, frame_count-client mid number n refl, (follow_counts n).2, next_tenth n)
 
 -- with the lines before and behind the frames
-all_count : (a number count : ℕ) → line_count a (lines number count) ≡ line_count a opens + frames_count a number count + line_count a (line slow Follow ∷ [])
+all_count : (a number count : ℕ) → line_count a (lines number count) ≡ line_count a open_lines + frames_count a number count + line_count a (line slow Follow ∷ [])
 unfolding lines
 all_count a number count =
-    count-append a (opens ++ flat_map (frame_lines number) (range_with_len 0 count)) (line slow Follow ∷ [])
-    ∙ ap (λ n. n + line_count a (line slow Follow ∷ [])) (count-append a opens (flat_map (frame_lines number) (range_with_len 0 count)))
+    count-append a (open_lines ++ flat_map (frame_lines number) (range_with_len 0 count)) (line slow Follow ∷ [])
+    ∙ ap (λ n. n + line_count a (line slow Follow ∷ [])) (count-append a open_lines (flat_map (frame_lines number) (range_with_len 0 count)))
 
 pub count-finger : (number count : ℕ) → 1 ≤ count → line_count finger (lines number count) ≡ 31 * count + 11
 count-finger number zero some = absurd (omega arith)
@@ -153,4 +153,4 @@ length-frames number (suc n) =
 pub length-lines : (number count : ℕ) → length (lines number count) ≤ 44 * count + 4
 unfolding lines
 length-lines number count =
-    omega (arith, length-append (opens ++ frames number count) (line slow Follow ∷ []), length-append opens (frames number count), length-frames number count)
+    omega (arith, length-append (open_lines ++ frames number count) (line slow Follow ∷ []), length-append open_lines (frames number count), length-frames number count)

@@ -12,7 +12,7 @@ use Rattle.inp_actors.specs.declared.command.Command.{Command}
 use Rattle.inp_actors.specs.declared.command.Command.TheVariants.{Open, Follow}
 use Rattle.inp_actors.specs.Command.{is_source, is_client, is_owner, is_reading, is_command_of, is_in_range, stream_of}
 use Rattle.inp_actors.specs.Record.{streams_of, IsRecord}
-use Rattle.inp_make.specs.Generated.{actors, fast, mid, slow, line, frame_events, injected, follows, frame_lines, opens, lines, generated}
+use Rattle.inp_make.specs.Generated.{actors, fast, mid, slow, line, frame_events, injected, follows, frame_lines, open_lines, lines, generated}
 use Rattle.inp_make.proofs.Counts.{length-lines}
 
 -- what a record keeps of a line alone, where the actors are the source and three clients
@@ -68,7 +68,7 @@ client_kept : (number : ℕ) (does : Command) → number < 4 → ((actor : Actor
     → stream_of does ≡ [] → IsKept (line number does)
 client_kept number does few is range stream = record { actor = few; command = is; range = range; stream = stream }
 
-opens_kept : AllByRecursion IsKept opens
+opens_kept : AllByRecursion IsKept open_lines
 opens_kept = (
   client_kept fast Open (omega arith) (λ actor is. of_actor _ actor is_reading is refl) (λ role. refl) refl,
   (
@@ -102,8 +102,8 @@ frame_kept number frame within =
 lines_kept : (number count : ℕ) → count ≤ 10000 → AllByRecursion IsKept (lines number count)
 unfolding lines
 lines_kept number count few =
-    all-append (opens ++ flat_map (frame_lines number) (range_with_len 0 count)) (line slow Follow ∷ [])
-    (all-append opens (flat_map (frame_lines number) (range_with_len 0 count)) opens_kept
+    all-append (open_lines ++ flat_map (frame_lines number) (range_with_len 0 count)) (line slow Follow ∷ [])
+    (all-append open_lines (flat_map (frame_lines number) (range_with_len 0 count)) opens_kept
     (all-range (frame_lines number) 10000 0 count (omega arith) (λ k within. frame_kept number k within)))
     (slow_kept, tt)
 

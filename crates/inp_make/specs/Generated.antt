@@ -68,18 +68,18 @@ x_of number frame i = (number + 7 * frame + 13 * i) % 4096 + 1
 abbrev pub y_of : ℕ → ℕ → ℕ → ℕ
 y_of number frame i = (number + 11 * frame + 17 * i) % 4096 + 1
 
-abbrev pub axis_event : ℕ → ℕ → Event
-axis_event code value = record { kind = EV_ABS; code = code; value = pos value }
+abbrev pub value_event : ℕ → ℕ → Event
+value_event code value = record { kind = EV_ABS; code = code; value = pos value }
 
 -- in frame 0 the contact of a finger begins
 abbrev pub contact : ℕ → ℕ → List Event
-contact frame i = if nat_eq frame 0 then axis_event ABS_MT_TRACKING_ID i ∷ [] else []
+contact frame i = if nat_eq frame 0 then value_event ABS_MT_TRACKING_ID i ∷ [] else []
 
 -- a finger's slot, and where it is
 unfoldable pub finger_events : ℕ → ℕ → ℕ → List Event
 finger_events number frame i =
-    axis_event ABS_MT_SLOT i ∷ contact frame i
-    ++ axis_event ABS_MT_POSITION_X (x_of number frame i) ∷ axis_event ABS_MT_POSITION_Y (y_of number frame i) ∷ []
+    value_event ABS_MT_SLOT i ∷ contact frame i
+    ++ value_event ABS_MT_POSITION_X (x_of number frame i) ∷ value_event ABS_MT_POSITION_Y (y_of number frame i) ∷ []
 
 -- in frame 0 the button goes down
 abbrev pub press : ℕ → List Event
@@ -111,12 +111,13 @@ follows frame = line fast command.Follow ∷ (if nat_eq (frame % 10) 9 then line
 unfoldable pub frame_lines : ℕ → ℕ → List Line
 frame_lines number frame = map (injected frame) (frame_events number frame) ++ follows frame
 
-abbrev pub opens : List Line
-opens = line fast command.Open ∷ line mid command.Open ∷ line slow command.Open ∷ []
+abbrev pub open_lines : List Line
+open_lines = line fast command.Open ∷ line mid command.Open ∷ line slow command.Open ∷ []
 
 -- the clients open, the frames come, and `slow` reads at the end
 unfoldable pub lines : ℕ → ℕ → List Line
-lines number count = opens ++ flat_map (frame_lines number) (range_with_len 0 count) ++ line slow command.Follow ∷ []
+lines number count =
+    open_lines ++ flat_map (frame_lines number) (range_with_len 0 count) ++ line slow command.Follow ∷ []
 
 -- the record of a number and a count of frames
 abbrev pub generated : ℕ → ℕ → RecordView

@@ -1,7 +1,7 @@
 //! The lines of a frame.
 ghost use Rattle.std.specs.Prelude.{◌≡◌, ◌+◌, ◌%◌, [], ◌∷◌, ◌++◌, map, flat_map, OnOk};
 ghost use Rattle.std.specs.List.{range_with_len};
-ghost use Rattle.inp_make.specs.Generated.{x_of, y_of, axis_event, contact, finger_events, press, touches, frame_events, frame_moment, injected, follows, frame_lines, finger, fast, mid, line};
+ghost use Rattle.inp_make.specs.Generated.{x_of, y_of, value_event, contact, finger_events, press, touches, frame_events, frame_moment, injected, follows, frame_lines, finger, fast, mid, line};
 
 use crate::BTN_TOUCH;
 use inp_actors::{Command, Line, Lines};
@@ -75,17 +75,17 @@ fn push_finger(lines: &mut Lines, number: u32, frame: u32, finger: u16) -> Resul
     ensures { OnOk result
         (lines.new ≡ lines.old ++ map (injected frame) (finger_events number frame finger)) }
 {
-    inject(lines, frame, axis_event(ABS_MT_SLOT, finger))?;
+    inject(lines, frame, value_event(ABS_MT_SLOT, finger))?;
     push_contact(lines, frame, finger)?;
     inject(
         lines,
         frame,
-        axis_event(ABS_MT_POSITION_X, x_of(number, frame, finger)),
+        value_event(ABS_MT_POSITION_X, x_of(number, frame, finger)),
     )?;
     inject(
         lines,
         frame,
-        axis_event(ABS_MT_POSITION_Y, y_of(number, frame, finger)),
+        value_event(ABS_MT_POSITION_Y, y_of(number, frame, finger)),
     )
 }
 
@@ -96,7 +96,7 @@ fn push_contact(lines: &mut Lines, frame: u32, finger: u16) -> Result<(), NoMemo
     if frame != 0 {
         return Ok(());
     }
-    inject(lines, frame, axis_event(ABS_MT_TRACKING_ID, finger))
+    inject(lines, frame, value_event(ABS_MT_TRACKING_ID, finger))
 }
 
 // Lets the clients read that read after this frame.
@@ -131,8 +131,8 @@ pub(crate) fn push_line(lines: &mut Lines, actor: u32, command: Command) -> Resu
 }
 
 // An event of an axis.
-fn axis_event(code: u16, value: u16) -> Event
-    ensures { result ≡ axis_event code value }
+fn value_event(code: u16, value: u16) -> Event
+    ensures { result ≡ value_event code value }
 {
     Event {
         kind: EV_ABS,

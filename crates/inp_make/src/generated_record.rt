@@ -2,7 +2,7 @@
 ghost use Rattle.std.specs.Prelude.{◌≡◌, ◌≤◌, ◌++◌, flat_map, IfOk, OnOk};
 ghost use Rattle.std.specs.List.{range_with_len};
 ghost use Rattle.inp_actors.specs.Name.{IsName};
-ghost use Rattle.inp_make.specs.Generated.{actor, actors, devices, frame_lines, generated, lines, opens};
+ghost use Rattle.inp_make.specs.Generated.{actor, actors, devices, frame_lines, generated, lines, open_lines};
 
 use crate::frame::{FAST, MID, SLOW, push_frame, push_line};
 use crate::pad::pad;
@@ -82,7 +82,7 @@ fn lines(alloc: Global, number: u32, count: u32) -> Result<Lines, NoMemory>
 
 // Lets the clients open.
 fn push_opens(lines: &mut Lines) -> Result<(), NoMemory>
-    ensures { OnOk result (lines.new ≡ lines.old ++ opens) }
+    ensures { OnOk result (lines.new ≡ lines.old ++ open_lines) }
 {
     push_line(lines, FAST, Command::Open)?;
     push_line(lines, MID, Command::Open)?;

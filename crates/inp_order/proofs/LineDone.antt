@@ -23,7 +23,7 @@ use Rattle.inp_script.specs.declared.sight.Sight.{Sight}
 use Rattle.inp_script.specs.declared.stop.Stop.{Stop}
 use Rattle.inp_script.specs.Doing.{line_talk, unless_stopped}
 use Rattle.inp_script.specs.Job.{Job, ActorView}
-use Rattle.inp_script.specs.Legal.{entries_of}
+use Rattle.inp_script.specs.Legal.{sight_of_calls}
 use Rattle.inp_script.specs.Owner.{Owning, after_feedback}
 use Rattle.inp_order.specs.Play.{Stage, feedback_calls_after, after_talk, unless_owner_stopped, by_command, after_line_of, after_line}
 use Rattle.inp_order.proofs.Calls.{AreExact, talk_with-ends, talk_with-exact, exact-answered}
@@ -60,7 +60,7 @@ pub record IsLinePlayed (r : RecordView) (rounds : ℕ) (stage now : Stage) (lin
   pub calls : List Call
   pub ends : EndsWith (line_talk actor.role actor.description r.streams None rounds line.command actor.job) calls (Some job)
   pub exact : AreExact actor.description past after calls
-  pub kept : (entries : List Sight) → IsKept actor.description actor.job entries → IsKept actor.description job (entries ++ entries_of calls)
+  pub kept : (entries : List Sight) → IsKept actor.description actor.job entries → IsKept actor.description job (entries ++ sight_of_calls calls)
   pub pasts : now.pasts ≡ slice_set stage.pasts text.device after
   pub actors : now.actors ≡ slice_set stage.actors actor.actor (record actor { job = job; owning = owning })
   pub is_fed : IsFedWhereAsked (feedback_room line.command) stage now text.device actor past owning
@@ -96,7 +96,7 @@ talked r rounds stage now line text a past is_text is_actor is_past no_room h =
       calls = calls_with d past talk;
       ends = subst (λ (o : Option Job). EndsWith talk (calls_with d past talk) o) image.is (talk_with-ends d past talk);
       exact = talk_with-exact d past talk;
-      kept = λ entries k. subst (λ (o : Option Job). IsKeptIfSome d o (entries ++ entries_of (calls_with d past talk))) image.is
+      kept = λ entries k. subst (λ (o : Option Job). IsKeptIfSome d o (entries ++ sight_of_calls (calls_with d past talk))) image.is
           (leaves-ends d (IsKeptIfSome d) entries talk (calls_with d past talk) done.0 (exact-answered d past done.1 (calls_with d past talk) (talk_with-exact d past talk)) (talk_with-ends d past talk) (leaves-line a.role d r.streams rounds line.command a.job entries k));
       pasts = ap (λ (s : Stage). s.pasts) (sym image.same);
       actors = ap (λ (s : Stage). s.actors) (sym image.same);

@@ -8,7 +8,7 @@ use Rattle.inp_model.specs.Description.{Description}
 use Rattle.inp_model.specs.Reply.{Answer, answer, past_after, is_accepted}
 use Rattle.inp_model.specs.Run.{Call, place_of}
 use Rattle.inp_script.specs.declared.sight.Sight.{Sight}
-use Rattle.inp_script.specs.Legal.{entries_of, is_call_entry}
+use Rattle.inp_script.specs.Legal.{sight_of_calls, is_call_entry}
 use Rattle.inp_runs.proofs.Entries.{call_entries, entries, below, entries-append, entries-calls, entries-call}
 use Rattle.inp_order.proofs.Calls.{AreExact, answer-place}
 
@@ -26,13 +26,13 @@ joined : (one more from mid to : ℕ) → one + from ≡ mid → more + mid ≡ 
 joined one more from mid to h k = omega arith
 
 -- what the calls entered
-pub entries-exact : (d : Description) (past after : List Step) (place : ℕ) (calls : List Call) → AreExact d past after calls → entries place (entries_of calls) + below place (length past) ≡ below place (length after)
+pub entries-exact : (d : Description) (past after : List Step) (place : ℕ) (calls : List Call) → AreExact d past after calls → entries place (sight_of_calls calls) + below place (length past) ≡ below place (length after)
 entries-exact d past after place [] e = zero-add (below place (length past)) ∙ ap (λ (p : List Step). below place (length p)) (sym e)
 entries-exact d past after place (call ∷ calls) e =
     let reply : Reply = call.answer.reply in
     let between : List Step = past_after reply call.step past in
-    ap (λ (n : ℕ). n + below place (length past)) (entries-append place (call_entries call.step reply) (entries_of calls))
-    ∙ joined (entries place (call_entries call.step reply)) (entries place (entries_of calls)) (below place (length past)) (below place (length between)) (below place (length after))
+    ap (λ (n : ℕ). n + below place (length past)) (entries-append place (call_entries call.step reply) (sight_of_calls calls))
+    ∙ joined (entries place (call_entries call.step reply)) (entries place (sight_of_calls calls)) (below place (length past)) (below place (length between)) (below place (length after))
     (entries-answered d past place call.step call.answer e.0)
     (entries-exact d between after place calls e.1)
 
@@ -40,10 +40,10 @@ regrouped : (new old gained from to : ℕ) → new ≡ old + gained → gained +
 regrouped new old gained from to h k = omega arith
 
 -- of a sight that gained what these calls tell
-pub entries-gained : (d : Description) (past after : List Step) (place : ℕ) (calls : List Call) (old new : List Sight) → AreExact d past after calls → filter is_call_entry new ≡ filter is_call_entry old ++ entries_of calls
+pub entries-gained : (d : Description) (past after : List Step) (place : ℕ) (calls : List Call) (old new : List Sight) → AreExact d past after calls → filter is_call_entry new ≡ filter is_call_entry old ++ sight_of_calls calls
     → entries place new + below place (length past) ≡ entries place old + below place (length after)
 entries-gained d past after place calls old new e told =
-    let grown : entries place new ≡ entries place old + entries place (entries_of calls) =
-    sym (entries-calls place new) ∙ ap (entries place) told ∙ entries-append place (filter is_call_entry old) (entries_of calls)
-    ∙ ap (λ (n : ℕ). n + entries place (entries_of calls)) (entries-calls place old) in
-    regrouped (entries place new) (entries place old) (entries place (entries_of calls)) (below place (length past)) (below place (length after)) grown (entries-exact d past after place calls e)
+    let grown : entries place new ≡ entries place old + entries place (sight_of_calls calls) =
+    sym (entries-calls place new) ∙ ap (entries place) told ∙ entries-append place (filter is_call_entry old) (sight_of_calls calls)
+    ∙ ap (λ (n : ℕ). n + entries place (sight_of_calls calls)) (entries-calls place old) in
+    regrouped (entries place new) (entries place old) (entries place (sight_of_calls calls)) (below place (length past)) (below place (length after)) grown (entries-exact d past after place calls e)

@@ -23,7 +23,7 @@ use Rattle.inp_recon.proofs.Sizes.{IsSizedFor-first_view}
 use Rattle.inp_reader.specs.Talk.{LeadsTo}
 use Rattle.inp_script.specs.declared.run.DeviceRun.{DeviceRun}
 use Rattle.inp_script.specs.declared.run.Played.{Played}
-use Rattle.inp_script.specs.Ended.{HasCells, ended_as, played_of}
+use Rattle.inp_script.specs.Ended.{HasDeviceSlots, ended_as, played_of}
 use Rattle.inp_script.specs.Job.{ActorView}
 use Rattle.inp_script.specs.Owner.{first_owning}
 use Rattle.inp_script.specs.Runs.{is_on_device}
@@ -155,7 +155,7 @@ below_one : (place n : ℕ) → place < n → below place n ≡ 1
 below_one place n h = grind (arith, nat_tests, h)
 
 -- of an actor whose view has the device's slots
-ended_cells : (d : Description) (role : Role) (a : ActorView) → length a.job.reading.view.cells ≡ 14 * d.slots → HasCells d (ended_as role a)
+ended_cells : (d : Description) (role : Role) (a : ActorView) → length a.job.reading.view.cells ≡ 14 * d.slots → HasDeviceSlots d (ended_as role a)
 ended_cells d Joy a cells = tt
 ended_cells d Source a cells = cells
 ended_cells d Client a cells = cells

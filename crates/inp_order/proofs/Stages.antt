@@ -17,11 +17,11 @@ use Rattle.inp_recon.specs.View.{IsSizedFor}
 use Rattle.inp_reader.specs.Talk.{EndsWith}
 use Rattle.inp_script.specs.Doing.{line_talk}
 use Rattle.inp_script.specs.Job.{Job, ActorView, first_job}
-use Rattle.inp_script.specs.Legal.{entries_of, is_call_entry}
+use Rattle.inp_script.specs.Legal.{sight_of_calls, is_call_entry}
 use Rattle.inp_script.specs.Owner.{Owning}
 use Rattle.inp_script.specs.Runs.{is_on_device}
 use Rattle.inp_model.proofs.Leaves.{HasPlace-longer}
-use Rattle.inp_script.proofs.Told.{entries_of-append}
+use Rattle.inp_script.proofs.Told.{sight_of_calls-append}
 use Rattle.inp_runs.specs.Job.{lines_by, lines_talk, call_lacks_memory}
 use Rattle.inp_order.specs.Play.{Stage, description_at, after_line, after_lines}
 use Rattle.inp_order.proofs.Calls.{AreExact, exact-grows, exact-legal, exact-memory, exact-within, exact-history}
@@ -39,7 +39,7 @@ pub record IsSoFar (r : RecordView) (rounds : ℕ) (lines : List Line) (d : Desc
   pub calls : List Call
   pub legal : IsLegalRun d (reverse past) calls
   pub memory : list_any call_lacks_memory calls ≡ false
-  pub told : entries_of calls ≡ filter is_call_entry a.job.sight
+  pub told : sight_of_calls calls ≡ filter is_call_entry a.job.sight
   pub follows : EndsWith (lines_talk role d r.streams None rounds (lines_by a.actor lines) (first_job role d)) calls (Some a.job)
   pub sized : IsSizedFor d.slots a.job.reading.view
 
@@ -80,21 +80,21 @@ memory-append (call ∷ calls) more h k = by_flag (call_lacks_memory call) (λ e
     by_flag false longer e = longer e
 
 so_far-more : (r : RecordView) (rounds : ℕ) (lines : List Line) (line : Line) (d : Description) (role : Role) (past after : List Step) (a : ActorView) (job : Job) (owning : Owning) (calls : List Call) → IsSoFar r rounds lines d role past a
-    → line.actor ≡ a.actor → EndsWith (line_talk a.role a.description r.streams None rounds line.command a.job) calls (Some job) → AreExact a.description past after calls → IsHistory d past → IsKept a.description job (filter is_call_entry a.job.sight ++ entries_of calls)
+    → line.actor ≡ a.actor → EndsWith (line_talk a.role a.description r.streams None rounds line.command a.job) calls (Some job) → AreExact a.description past after calls → IsHistory d past → IsKept a.description job (filter is_call_entry a.job.sight ++ sight_of_calls calls)
     → IsSoFar r rounds (lines ++ line ∷ []) d role after (record a { job = job; owning = owning })
 so_far-more r rounds lines line d role past after a job owning calls s own ends exact history kept =
     let exact_here : AreExact d past after calls = subst (λ (e : Description). AreExact e past after calls) s.description exact in
     let ends_here : EndsWith (line_talk role d r.streams None rounds line.command a.job) calls (Some job) =
     subst (λ (x : Role). EndsWith (line_talk x d r.streams None rounds line.command a.job) calls (Some job)) s.role_is
     (subst (λ (e : Description). EndsWith (line_talk a.role e r.streams None rounds line.command a.job) calls (Some job)) s.description ends) in
-    let kept_here : IsKept d job (filter is_call_entry a.job.sight ++ entries_of calls) = subst (λ (e : Description). IsKept e job (filter is_call_entry a.job.sight ++ entries_of calls)) s.description kept in
+    let kept_here : IsKept d job (filter is_call_entry a.job.sight ++ sight_of_calls calls) = subst (λ (e : Description). IsKept e job (filter is_call_entry a.job.sight ++ sight_of_calls calls)) s.description kept in
     record {
       role_is = s.role_is;
       description = s.description;
       calls = s.calls ++ calls;
       legal = exact-legal d past after s.calls calls exact_here history s.legal;
       memory = memory-append s.calls calls s.memory (exact-memory d past after calls exact_here);
-      told = entries_of-append s.calls calls ∙ ap (λ es. es ++ entries_of calls) s.told ∙ sym kept_here.1;
+      told = sight_of_calls-append s.calls calls ∙ ap (λ es. es ++ sight_of_calls calls) s.told ∙ sym kept_here.1;
       follows = subst (λ (ls : List Line). EndsWith (lines_talk role d r.streams None rounds ls (first_job role d)) (s.calls ++ calls) (Some job)) (sym (lines_by-more a.actor lines line (eq_true line.actor a.actor own)))
           (lines_talk-more role d r.streams rounds (lines_by a.actor lines) line (first_job role d) a.job job s.calls calls s.follows ends_here);
       sized = kept_here.0;
@@ -136,7 +136,7 @@ past-behind r rounds stage now line u i past h = slice_get-set stage.pasts u.tex
 pub its_actor : (r : RecordView) (rounds : ℕ) (lines : List Line) (stage now : Stage) (line : Line) → IsStage r rounds lines stage → (u : IsLinePlayed r rounds stage now line) → IsSoFar r rounds lines (description_at r u.text.device) u.text.role u.past u.actor
 its_actor r rounds lines stage now line s u = s.actors line.actor u.actor u.text u.past u.is_actor u.is_text u.is_past
 
-its_kept : (r : RecordView) (rounds : ℕ) (lines : List Line) (stage now : Stage) (line : Line) → IsStage r rounds lines stage → (u : IsLinePlayed r rounds stage now line) → IsKept u.actor.description u.job (filter is_call_entry u.actor.job.sight ++ entries_of u.calls)
+its_kept : (r : RecordView) (rounds : ℕ) (lines : List Line) (stage now : Stage) (line : Line) → IsStage r rounds lines stage → (u : IsLinePlayed r rounds stage now line) → IsKept u.actor.description u.job (filter is_call_entry u.actor.job.sight ++ sight_of_calls u.calls)
 its_kept r rounds lines stage now line s u =
     let far = its_actor r rounds lines stage now line s u in
     u.kept (filter is_call_entry u.actor.job.sight) (subst (λ (e : Description). IsSizedFor e.slots u.actor.job.reading.view) (sym far.description) far.sized, refl)

@@ -8,7 +8,7 @@ use mathlib.Core.List.{IsPrefix}
 use Rattle.inp_model.specs.declared.step.Step.{Step}
 use Rattle.inp_turn.specs.PassView.{added_places}
 use Rattle.inp_turn.proofs.Prefixes.{prefix-trans}
-use Rattle.inp_port.specs.Entries.{steps_of, is_step_at, step_places, other_places, GrownBy}
+use Rattle.inp_port.specs.Entries.{steps_among, is_step_at, step_places, other_places, GrownBy}
 use Rattle.inp_port.proofs.Places.{steps-push, step_places-append, step_places-begins, step_places-end, other_places-begins, other_places-end}
 
 module _ {E : Type 0} (made : E → Option Step) where
@@ -25,16 +25,16 @@ module _ {E : Type 0} (made : E → Option Step) where
   pub as_many : (more : List E) (steps : List Step) → AreSteps more steps → length more ≡ length steps
   as_many more steps h = sym (length-map more made) ∙ ap length h ∙ length-map steps (λ (x : Step). Some x)
 
-  those-steps : (more : List E) (steps : List Step) → AreSteps more steps → steps_of made more ≡ steps
+  those-steps : (more : List E) (steps : List Step) → AreSteps more steps → steps_among made more ≡ steps
   those-steps [] [] h = refl
   those-steps [] (x ∷ steps) h = absurd (cc h)
   those-steps (e ∷ more) [] h = absurd (cc h)
   those-steps (e ∷ more) (x ∷ steps) h =
-      ap (λ (o : Option Step). cons_option o (steps_of made more)) (first_step e more x steps h)
+      ap (λ (o : Option Step). cons_option o (steps_among made more)) (first_step e more x steps h)
       ∙ ap (λ (ss : List Step). x ∷ ss) (those-steps more steps (later_steps e more x steps h))
 
-  pub steps-added : (es more : List E) (steps : List Step) → AreSteps more steps → steps_of made (es ++ more) ≡ steps_of made es ++ steps
-  steps-added es more steps h = filter_map-append made es more ∙ ap (λ (ss : List Step). steps_of made es ++ ss) (those-steps more steps h)
+  pub steps-added : (es more : List E) (steps : List Step) → AreSteps more steps → steps_among made (es ++ more) ≡ steps_among made es ++ steps
+  steps-added es more steps h = filter_map-append made es more ∙ ap (λ (ss : List Step). steps_among made es ++ ss) (those-steps more steps h)
 
   pub grown_by-begins : (es : List E) (steps : List Step) (now : List E) → GrownBy made es steps now → IsPrefix es now
   grown_by-begins es steps now g = (g.0, sym g.1)
@@ -47,7 +47,7 @@ module _ {E : Type 0} (made : E → Option Step) where
   longer : (es : List E) (e : E) (more : List E) → (es ++ e ∷ []) ++ more ≡ es ++ e ∷ more
   longer es e more = append_assoc es (e ∷ []) more
 
-  step_places-first : (es : List E) (e : E) (more : List E) (x : Step) → made e ≡ Some x → step_places made (es ++ e ∷ more) (length es ∷ []) ≡ length (steps_of made es) ∷ []
+  step_places-first : (es : List E) (e : E) (more : List E) (x : Step) → made e ≡ Some x → step_places made (es ++ e ∷ more) (length es ∷ []) ≡ length (steps_among made es) ∷ []
   step_places-first es e more x is =
       step_places-begins made (es ++ e ∷ []) (es ++ e ∷ more) (length es ∷ []) (more, longer es e more) (here es e) ∙ step_places-end made es e x is
 
@@ -60,14 +60,14 @@ module _ {E : Type 0} (made : E → Option Step) where
   next : (es : List E) (e : E) → length (es ++ e ∷ []) ≡ length es + 1
   next es e = length-append es (e ∷ [])
 
-  pub step_places-added : (es more : List E) (steps : List Step) → AreSteps more steps → step_places made (es ++ more) (range_with_len (length es) (length more)) ≡ range_with_len (length (steps_of made es)) (length more)
+  pub step_places-added : (es more : List E) (steps : List Step) → AreSteps more steps → step_places made (es ++ more) (range_with_len (length es) (length more)) ≡ range_with_len (length (steps_among made es)) (length more)
   step_places-added es [] steps h = refl
   step_places-added es (e ∷ more) [] h = absurd (cc h)
   step_places-added es (e ∷ more) (x ∷ steps) h =
       let is : made e ≡ Some x = first_step e more x steps h in
       let rest : List ℕ = range_with_len (length es + 1) (length more) in
-      let n : ℕ = length (steps_of made es) in
-      let count : length (steps_of made (es ++ e ∷ [])) ≡ n + 1 = ap length (steps-push made es e x is) ∙ length-append (steps_of made es) (x ∷ []) in
+      let n : ℕ = length (steps_among made es) in
+      let count : length (steps_among made (es ++ e ∷ [])) ≡ n + 1 = ap length (steps-push made es e x is) ∙ length-append (steps_among made es) (x ∷ []) in
       let later : step_places made (es ++ e ∷ more) rest ≡ range_with_len (n + 1) (length more) =
       (λ i. step_places made (sym (longer es e more) i) (range_with_len (sym (next es e) i) (length more)))
       ∙ step_places-added (es ++ e ∷ []) more steps (later_steps e more x steps h)

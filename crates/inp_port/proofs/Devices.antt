@@ -15,7 +15,7 @@ use Rattle.inp_model.specs.Injecting.{inject_of, entered_count, history_with}
 use Rattle.inp_model.specs.Reply.{is_accepted, past_after, IsDeviceStep}
 use Rattle.inp_turn.specs.declared.pass_view.PassView.{PassView}
 use Rattle.inp_turn.specs.PassView.{OwnsSeen}
-use Rattle.inp_port.specs.Entries.{steps_of, past_of, is_step_at, steps_before, step_places, other_places, Grown}
+use Rattle.inp_port.specs.Entries.{steps_among, past_of, is_step_at, steps_before, step_places, other_places, Grown}
 use Rattle.inp_port.specs.Served.{IsServed, IsServedAll}
 use Rattle.inp_port.specs.Turn.{told_of}
 use Rattle.inp_port.proofs.Turns.{turned}
@@ -24,7 +24,7 @@ use Rattle.inp_port.proofs.Turns.{turned}
 abbrev pub itself : Step → Option Step
 itself x = Some x
 
-pub steps-all : (es : List Step) → steps_of itself es ≡ es
+pub steps-all : (es : List Step) → steps_among itself es ≡ es
 steps-all [] = refl
 steps-all (x ∷ es) = ap (λ (ss : List Step). x ∷ ss) (steps-all es)
 

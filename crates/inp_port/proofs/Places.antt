@@ -9,7 +9,7 @@ use Rattle.std.proofs.Math.Seq.{take-append_seam}
 use mathlib.Core.List.{IsPrefix}
 use Rattle.inp_model.specs.declared.step.Step.{Step}
 use Rattle.inp_turn.specs.PassView.{added_places}
-use Rattle.inp_port.specs.Entries.{steps_of, is_step_at, steps_before, step_places, other_places}
+use Rattle.inp_port.specs.Entries.{steps_among, is_step_at, steps_before, step_places, other_places}
 
 module _ {X : Type 0} where
   slice_get-front : (xs ys : List X) (n : ℕ) → n < length xs → slice_get (xs ++ ys) n ≡ slice_get xs n
@@ -48,7 +48,7 @@ module _ {E : Type 0} (made : E → Option Step) where
   is_step_at-front xs ys place l = ap (λ o. is_some (option_and_then made o)) (slice_get-front xs ys place l)
 
   steps_before-front : (xs ys : List E) (place : ℕ) → place < length xs → steps_before made (xs ++ ys) place ≡ steps_before made xs place
-  steps_before-front xs ys place l = ap (λ es. length (steps_of made es)) (take-append-le place xs ys (omega arith))
+  steps_before-front xs ys place l = ap (λ es. length (steps_among made es)) (take-append-le place xs ys (omega arith))
 
   step_places-front : (xs ys : List E) (own : List ℕ) → All (λ place. place < length xs) own → step_places made (xs ++ ys) own ≡ step_places made xs own
   step_places-front xs ys own all =
@@ -66,20 +66,20 @@ module _ {E : Type 0} (made : E → Option Step) where
   pub other_places-begins : (xs ys : List E) (own : List ℕ) → IsPrefix xs ys → All (λ place. place < length xs) own → other_places made ys own ≡ other_places made xs own
   other_places-begins xs ys own pre all = ap (λ es. other_places made es own) (sym pre.1) ∙ other_places-front xs pre.0 own all
 
-  pub steps-begins : (xs ys : List E) → IsPrefix xs ys → IsPrefix (steps_of made xs) (steps_of made ys)
-  steps-begins xs ys pre = (steps_of made pre.0, sym (filter_map-append made xs pre.0) ∙ ap (steps_of made) pre.1)
+  pub steps-begins : (xs ys : List E) → IsPrefix xs ys → IsPrefix (steps_among made xs) (steps_among made ys)
+  steps-begins xs ys pre = (steps_among made pre.0, sym (filter_map-append made xs pre.0) ∙ ap (steps_among made) pre.1)
 
   -- one step more
-  pub steps-push : (es : List E) (e : E) (x : Step) → made e ≡ Some x → steps_of made (es ++ e ∷ []) ≡ steps_of made es ++ x ∷ []
-  steps-push es e x is = filter_map-append made es (e ∷ []) ∙ ap (λ (o : Option Step). steps_of made es ++ cons_option o []) is
+  pub steps-push : (es : List E) (e : E) (x : Step) → made e ≡ Some x → steps_among made (es ++ e ∷ []) ≡ steps_among made es ++ x ∷ []
+  steps-push es e x is = filter_map-append made es (e ∷ []) ∙ ap (λ (o : Option Step). steps_among made es ++ cons_option o []) is
 
   is_step_at-end : (es : List E) (e : E) (x : Step) → made e ≡ Some x → is_step_at made (es ++ e ∷ []) (length es) ≡ true
   is_step_at-end es e x is = ap (λ (o : Option E). is_some (option_and_then made o)) (slice_get-seam es [] e) ∙ ap (λ (o : Option Step). is_some o) is
 
-  pub step_places-end : (es : List E) (e : E) (x : Step) → made e ≡ Some x → step_places made (es ++ e ∷ []) (length es ∷ []) ≡ length (steps_of made es) ∷ []
+  pub step_places-end : (es : List E) (e : E) (x : Step) → made e ≡ Some x → step_places made (es ++ e ∷ []) (length es ∷ []) ≡ length (steps_among made es) ∷ []
   step_places-end es e x is =
       ap (λ b. map (steps_before made (es ++ e ∷ [])) (cond b (length es ∷ []) [])) (is_step_at-end es e x is)
-      ∙ ap (λ (l : List E). length (steps_of made l) ∷ []) (take-append_seam es (e ∷ []))
+      ∙ ap (λ (l : List E). length (steps_among made l) ∷ []) (take-append_seam es (e ∷ []))
 
   pub other_places-end : (es : List E) (e : E) (x : Step) → made e ≡ Some x → other_places made (es ++ e ∷ []) (length es ∷ []) ≡ []
   other_places-end es e x is = ap (λ b. cond (not b) (length es ∷ []) []) (is_step_at-end es e x is)
@@ -90,7 +90,7 @@ module _ {E : Type 0} (made : E → Option Step) where
       ∙ map-append (steps_before made es) (filter (is_step_at made es) own) (filter (is_step_at made es) more)
 
   pub step_places-push : (es : List E) (e : E) (x : Step) (own : List ℕ) → made e ≡ Some x
-      → step_places made (es ++ e ∷ []) (own ++ length es ∷ []) ≡ step_places made (es ++ e ∷ []) own ++ length (steps_of made es) ∷ []
+      → step_places made (es ++ e ∷ []) (own ++ length es ∷ []) ≡ step_places made (es ++ e ∷ []) own ++ length (steps_among made es) ∷ []
   step_places-push es e x own is =
       step_places-append (es ++ e ∷ []) own (length es ∷ []) ∙ ap (λ l. step_places made (es ++ e ∷ []) own ++ l) (step_places-end es e x is)
 

@@ -14,7 +14,7 @@ use Rattle.inp_model.proofs.Telling.{given_place, called_by}
 use Rattle.inp_turn.specs.declared.pass_view.PassView.{PassView}
 use Rattle.inp_turn.specs.PassView.{added_places, OwnsSeen}
 use Rattle.inp_turn.proofs.Prefixes.{prefix-refl, prefix-trans, prefix-length}
-use Rattle.inp_port.specs.Entries.{steps_of, past_of, step_places, other_places, Grown}
+use Rattle.inp_port.specs.Entries.{steps_among, past_of, step_places, other_places, Grown}
 use Rattle.inp_port.specs.Turn.{IsServedTurn, told_of}
 use Rattle.inp_port.proofs.Places.{added-one, added-none, steps-begins, steps-push, step_places-begins, other_places-begins, step_places-push, other_places-push}
 
@@ -30,19 +30,19 @@ module _ {E : Type 0} (made : E → Option Step) where
   grown-begins found x false now g = subst (IsPrefix found) (sym g) (prefix-refl found)
 
   -- the steps that are seen after the call
-  seen-now : (found : List E) (x : Step) (b : Bool) (now : List E) → Grown made found x b now → steps_of made now ≡ reverse (if b then x ∷ past_of made found else past_of made found)
+  seen-now : (found : List E) (x : Step) (b : Bool) (now : List E) → Grown made found x b now → steps_among made now ≡ reverse (if b then x ∷ past_of made found else past_of made found)
   seen-now found x true now g =
-      ap (steps_of made) g.2 ∙ steps-push made found g.0 x g.1 ∙ ap (λ (ss : List Step). ss ++ x ∷ []) (sym (reverse-reverse (steps_of made found))) ∙ sym (turned (past_of made found) x)
-  seen-now found x false now g = ap (steps_of made) g ∙ sym (reverse-reverse (steps_of made found))
+      ap (steps_among made) g.2 ∙ steps-push made found g.0 x g.1 ∙ ap (λ (ss : List Step). ss ++ x ∷ []) (sym (reverse-reverse (steps_among made found))) ∙ sym (turned (past_of made found) x)
+  seen-now found x false now g = ap (steps_among made) g ∙ sym (reverse-reverse (steps_among made found))
 
   -- the places that are own after it
-  own-now : (found : List E) (own : List ℕ) (x : Step) (b : Bool) (now : List E) (place : ℕ) → Grown made found x b now → place ≡ length (steps_of made found)
+  own-now : (found : List E) (own : List ℕ) (x : Step) (b : Bool) (now : List E) (place : ℕ) → Grown made found x b now → place ≡ length (steps_among made found)
       → step_places made now (own ++ added_places found now) ≡ (if b then step_places made now own ++ place ∷ [] else step_places made now own)
   own-now found own x true now place g is =
       ap (λ (es : List E). step_places made es (own ++ added_places found es)) g.2
       ∙ ap (λ (l : List ℕ). step_places made (found ++ g.0 ∷ []) (own ++ l)) (added-one found g.0)
       ∙ step_places-push made found g.0 x own g.1
-      ∙ ap (λ (es : List E). step_places made es own ++ length (steps_of made found) ∷ []) (sym g.2)
+      ∙ ap (λ (es : List E). step_places made es own ++ length (steps_among made found) ∷ []) (sym g.2)
       ∙ ap (λ (n : ℕ). step_places made now own ++ n ∷ []) (sym is)
   own-now found own x false now place g is =
       ap (λ (es : List E). step_places made now (own ++ added_places found es)) g ∙ ap (λ (l : List ℕ). step_places made now (own ++ l)) (added-none found) ∙ ap (step_places made now) (append-nil own)
@@ -64,7 +64,7 @@ module _ {E : Type 0} (made : E → Option Step) where
   called_at d name v w found x given b agains enters exact history owns begins grown own turns share =
       let call : Call = record { step = x; answer = given } in
       let at : place_of given.reply ≡ length (past_of made found) = given_place d (past_of made found) x given exact in
-      let there : place_of given.reply ≡ length (steps_of made found) = at ∙ length-reverse (steps_of made found) in
+      let there : place_of given.reply ≡ length (steps_among made found) = at ∙ length-reverse (steps_among made found) in
       let c = called_by d (past_of made found) agains x given b enters at exact history in
       let now = sym (seen-now found x b w.seen grown) in
       let whole : IsPrefix v.seen w.seen = prefix-trans v.seen found w.seen begins (grown-begins found x b w.seen grown) in
@@ -73,7 +73,7 @@ module _ {E : Type 0} (made : E → Option Step) where
         description = refl;
         tie = λ i. Some (share i ∷ length name ∷ name ++ (ap (other_places made w.seen) own ∙ others-now found v.own x b w.seen grown ∙ other_places-begins made v.seen w.seen v.own whole owns) i);
         seen = (steps.0, sym steps.1);
-        fresh = omega (arith, there, prefix-length (steps_of made v.seen) (steps_of made found) (steps-begins made v.seen found begins));
+        fresh = omega (arith, there, prefix-length (steps_among made v.seen) (steps_among made found) (steps-begins made v.seen found begins));
         long = subst (λ (ss : List Step). length ss ≡ next_place given.reply) now c.long;
         placed = subst (λ (ss : List Step). HasPlace d ss call) now c.placed;
         own = ap (step_places made w.seen) own ∙ own-now found v.own x b w.seen (place_of given.reply) grown there

@@ -14,7 +14,7 @@ use Rattle.inp_model.specs.Injecting.{inject_of, IsInjectAll}
 use Rattle.inp_turn.specs.declared.pass_view.PassView.{PassView}
 use Rattle.inp_turn.specs.PassView.{added_places, OwnsSeen, view_after_take, view_after_give}
 use Rattle.inp_turn.proofs.Prefixes.{prefix-trans}
-use Rattle.inp_port.specs.Entries.{steps_of, is_step_at, step_places, other_places, GrownBy}
+use Rattle.inp_port.specs.Entries.{steps_among, is_step_at, step_places, other_places, GrownBy}
 use Rattle.inp_port.specs.Served.{IsServedAll}
 use Rattle.inp_port.specs.Turn.{IsServedAllTurn, told_of}
 use Rattle.inp_port.proofs.Places.{steps-begins, step_places-append, step_places-begins, other_places-begins}
@@ -77,14 +77,14 @@ module _ {E : Type 0} (made : E → Option Step) where
       ∙ (λ i. other_places-begins made v.seen w.seen v.own whole owns i ++ others_there i)
       ∙ append-nil (other_places made v.seen v.own) in
       record {
-        found = steps_of made t.found;
+        found = steps_among made t.found;
         description = refl;
         tie = λ i. Some (t.share i ∷ length name ∷ name ++ others i);
         begins = (begun.0, sym begun.1);
         from = s.from;
         count = s.count;
         within = s.within;
-        seen = ap (steps_of made) s.grown.1 ∙ steps-added made t.found more steps s.grown.2;
+        seen = ap (steps_among made) s.grown.1 ∙ steps-added made t.found more steps s.grown.2;
         own = ap (step_places made w.seen) t.own ∙ step_places-append made w.seen v.own places
             ∙ (λ i. step_places-begins made v.seen w.seen v.own whole owns i ++ steps_there i);
         agains = refl;

@@ -6,12 +6,12 @@ use Rattle.inp_model.specs.declared.step.Step.{Step}
 
 module _ {E : Type 0} (made : E → Option Step) where
   -- the steps among entries, in order
-  abbrev pub steps_of : List E → List Step
-  steps_of entries = filter_map made entries
+  abbrev pub steps_among : List E → List Step
+  steps_among entries = filter_map made entries
 
   -- the same, newest first
   abbrev pub past_of : List E → List Step
-  past_of entries = reverse (steps_of entries)
+  past_of entries = reverse (steps_among entries)
 
   -- whether a step stands at a place among entries
   abbrev pub is_step_at : List E → ℕ → Bool
@@ -19,7 +19,7 @@ module _ {E : Type 0} (made : E → Option Step) where
 
   -- how many steps stand before a place among entries
   abbrev pub steps_before : List E → ℕ → ℕ
-  steps_before entries place = length (steps_of (take place entries))
+  steps_before entries place = length (steps_among (take place entries))
 
   -- the places among the steps, of those places among entries where a step stands
   abbrev pub step_places : List E → List ℕ → List ℕ

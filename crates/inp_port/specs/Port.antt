@@ -12,7 +12,7 @@ use Rattle.inp_turn.specs.declared.kept.Kept.{Ghosts}
 use Rattle.inp_turn.specs.declared.pass.Pass.{Pass}
 use Rattle.inp_turn.specs.declared.shared.Shared.{Shared}
 use Rattle.inp_turn.specs.Pass.{view_of, has_turn}
-use Rattle.inp_turn.specs.Shared.{IsPassOf, start_of, name_of}
+use Rattle.inp_turn.specs.Shared.{IsPassOf, start_of, shared_id}
 use Rattle.inp_port.specs.declared.port.PortOf.{PortOf}
 use Rattle.inp_port.specs.Turn.{told_of}
 
@@ -26,8 +26,8 @@ module _ {S E : Type 0} where
   shared_of port = port.shared
 
   -- the value as it was when the port was made of it
-  abbrev pub first_of : PortOf S E → S
-  first_of port = start_of port.shared
+  abbrev pub start_value : PortOf S E → S
+  start_value port = start_of port.shared
 
   module _ {K : Ghosts S Description E} where
     -- the pass is one of this port's, and has no turn now
@@ -38,7 +38,7 @@ module _ {S E : Type 0} where
 
     -- what the caller of a port sees through a pass, beside its count of answers Again
     abbrev pub told_by : (E → Option Step) → PortOf S E → Pass S Description E K → ℕ → EvdevView
-    told_by made port pass agains = told_of made port.caps (name_of port.shared) (view_of pass) agains
+    told_by made port pass agains = told_of made port.caps (shared_id port.shared) (view_of pass) agains
 
     -- whatever the count of answers Again was, the call is an evdev's for the caller with this pass
     abbrev pub IsCallBy : (E → Option Step) → PortOf S E → Pass S Description E K → Pass S Description E K → Step → Reply → List Taken → List Taken → List ℤ → List ℤ → Type 0

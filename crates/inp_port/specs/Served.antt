@@ -10,7 +10,7 @@ use Rattle.inp_model.specs.Description.{Description}
 use Rattle.inp_model.specs.History.{IsHistory}
 use Rattle.inp_model.specs.Reply.{IsDeviceStep, past_after, is_accepted}
 use Rattle.inp_model.specs.Injecting.{inject_of, entered_count}
-use Rattle.inp_port.specs.Entries.{steps_of, past_of, Grown, GrownBy}
+use Rattle.inp_port.specs.Entries.{steps_among, past_of, Grown, GrownBy}
 
 module _ {E : Type 0} (made : E → Option Step) where
   -- The reply, and what is written to the caller's buffers, are the one-thread device's after the steps so far. An
@@ -24,7 +24,7 @@ module _ {E : Type 0} (made : E → Option Step) where
   -- Events were injected, as many of them as the log limit left room for. They are the last entries, and nothing else was
   -- entered.
   pub record IsServedAll (d : Description) (entries : List E) (events : List Stamped) (injected : Injected) (now : List E) : Type 0 where
-    pub from : injected.from ≡ length (steps_of made entries)
+    pub from : injected.from ≡ length (steps_among made entries)
     pub count : injected.count ≡ entered_count d injected.from events
     pub within : injected.from + injected.count ≤ LOG_MAX
     pub grown : GrownBy made entries (map inject_of (take injected.count events)) now

@@ -11,7 +11,7 @@ use Rattle.inp_model.specs.Description.{Description}
 use Rattle.inp_model.specs.Evdev.{EvdevView}
 use Rattle.inp_turn.specs.declared.pass_view.PassView.{PassView}
 use Rattle.inp_turn.specs.PassView.{added_places}
-use Rattle.inp_port.specs.Entries.{steps_of, step_places, other_places}
+use Rattle.inp_port.specs.Entries.{steps_among, step_places, other_places}
 use Rattle.inp_port.specs.Served.{IsServed, IsServedAll}
 
 module _ {E : Type 0} (made : E → Option Step) where
@@ -45,7 +45,7 @@ module _ {E : Type 0} (made : E → Option Step) where
   abbrev pub told_of : Description → List ℕ → PassView Description E → ℕ → EvdevView
   told_of d name v agains = record {
     description = d;
-    seen = steps_of made v.seen;
+    seen = steps_among made v.seen;
     own = step_places made v.seen v.own;
     agains = agains;
     turns = Some v.turns;

@@ -6,7 +6,7 @@ ghost use Rattle.inp_model.specs.Step.{moment_of};
 ghost use Rattle.inp_model.specs.Reply.{HasRoom, is_accepted};
 ghost use Rattle.inp_model.specs.Injecting.{AreInTime};
 ghost use Rattle.inp_turn.specs.Pass.{view_of};
-ghost use Rattle.inp_turn.specs.PassView.{whole_share, first_view, view_after_split, split_off_view, view_after_join, AreApart, IsEachAddedOnce};
+ghost use Rattle.inp_turn.specs.PassView.{whole_share, first_pass_view, view_after_split, split_off_view, view_after_join, AreApart, IsEachAddedOnce};
 
 use crate::served::Served;
 use inp_caps::Caps;
@@ -18,7 +18,7 @@ use std::sync::Wait;
 
 /// A served value that several threads use, each by a pass of its own. Threads share the port by reference.
 ///
-/// A contract sees its description (`description_of` in `specs/Port.antt`), the value that it was made of (`first_of`), and
+/// A contract sees its description (`description_of` in `specs/Port.antt`), the value that it was made of (`start_value`), and
 /// which passes are its own and have no turn (`IsReadyAt`).
 #[derive(Drop)]
 pub struct PortOf<S: Served> {
@@ -32,18 +32,18 @@ pub type Port = PortOf<Device>;
 impl<S: Served> PortOf<S> {
     ghost use Rattle.inp_port.specs.Served.{IsServed};
     ghost use Rattle.inp_port.specs.Turn.{IsServedTurn, IsServedAllTurn};
-    ghost use Rattle.inp_port.specs.Port.{description_of, shared_of, first_of, IsReadyAt, IsCallBy, IsInjectAllBy};
+    ghost use Rattle.inp_port.specs.Port.{description_of, shared_of, start_value, IsReadyAt, IsCallBy, IsInjectAllBy};
 
     /// Shares a value, and makes the first pass. It has the whole share, has seen all entries and owns none.
     ///
     /// It is refused for memory alone, and the value then comes back. No other call of a port takes memory, but that an
     /// `Open` takes what the value wants for a client.
     pub fn new(alloc: Global, state: S) -> Result<(PortOf<S>, Pass<S>), (S, NoMemory)>
-        ensures first { IfOk result (λ r. first_of r.0 ≡ state) }
+        ensures first { IfOk result (λ r. start_value r.0 ≡ state) }
         ensures description { IfOk result (λ r. description_of r.0 ≡ S.base state) }
         ensures ready { IfOk result (λ r. IsReadyAt r.0 r.1) }
         ensures view { IfOk result (λ r.
-            view_of r.1 ≡ first_view (S.base state) (S.entries state)) }
+            view_of r.1 ≡ first_pass_view (S.base state) (S.entries state)) }
         ensures back { IfErr result (λ r. r.0 ≡ state) }
     {
         let caps = state.caps().copy();
@@ -105,8 +105,8 @@ impl<S: Served> PortOf<S> {
         requires whole { (view_of pass).share ≡ whole_share }
         ensures description { S.base result ≡ description_of self }
         ensures entries { S.entries result ≡ (view_of pass).seen }
-        ensures begins { IsPrefix (S.entries (first_of self)) (S.entries result) }
-        ensures own { let first = S.entries (first_of self) in
+        ensures begins { IsPrefix (S.entries (start_value self)) (S.entries result) }
+        ensures own { let first = S.entries (start_value self) in
             IsEachAddedOnce first (S.entries result) (view_of pass).own }
     {
         self.shared.close(pass)

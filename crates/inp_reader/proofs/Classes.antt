@@ -2,7 +2,7 @@
 use Rattle.std.proofs.Common.{◌≡◌, ℕ, ◌<◌, ◌≤◌, ℤ, pos, Bool, true, false, not, leb, ltb, eqb, int_eq, List, ◌++◌, length, map, get_or, set, refl, sym, ap, ◌∙◌, arith, inl, inr}
 use Rattle.std.proofs.lemmas.Bool.{cond-true, cond-false, lt-ltb, lt-leb, ne_eqb, eq-eqb, not_from_false, and_left, and_right, not-true, not-false, cases_lt, false≢true}
 use Rattle.std.proofs.lemmas.Bool.Decides.{Decides-int_eq, not_from_Decides}
-use Rattle.inp_bits.specs.Bits.{differ}
+use Rattle.inp_bits.specs.Bits.{bits_differ}
 use Rattle.inp_model.specs.declared.event.TheConstants.{EV_KEY, EV_ABS, EV_SW, EV_LED}
 use Rattle.inp_model.specs.declared.event.Event.{Event}
 use Rattle.inp_model.specs.Description.{is_multi_touch_code, is_slot_code}
@@ -15,15 +15,15 @@ use Rattle.inp_reader.proofs.Parts.{SetsPart, leads-puts, EachChanges-puts, lead
 
 -- ---- the tests tell whether two values differ
 
-differ-same : (x y : Bool) → differ x y ≡ false → x ≡ y
+differ-same : (x y : Bool) → bits_differ x y ≡ false → x ≡ y
 differ-same true y h = sym (not-false y h)
 differ-same false y h = sym h
 
-differ-apart : (x y : Bool) → differ x y ≡ true → x ≡ y → ⊥
+differ-apart : (x y : Bool) → bits_differ x y ≡ true → x ≡ y → ⊥
 differ-apart true y h e = false≢true (sym (not-true y h) ∙ sym e)
 differ-apart false y h e = false≢true (e ∙ h)
 
-tells_bits : Tells differ
+tells_bits : Tells bits_differ
 tells_bits = record { same = differ-same; apart = differ-apart }
 
 abbrev pub ints_differ : ℤ → ℤ → Bool
@@ -41,16 +41,16 @@ pub record LeadsTheView (v w : View) (es : List Event) : Type 0 where
   pub to : view_after_events v es ≡ w
   pub changes : EachChanges v es
 
-part-changes : {X : Type 0} (d : X) (new old : List X) (event : ℕ → Event) (count : ℕ) (P : ℕ → Type 0) (with_part : List X → View) (differ : X → X → Bool) → Tells differ → SetsPart d new (λ k. k) event count P with_part
-    → Each P (where_below count (differ_at d differ old new (λ k. k))) → length old ≡ count → length new ≡ count → LeadsTheView (with_part old) (with_part new) (map event (where_below count (differ_at d differ old new (λ k. k))))
-part-changes d new old event count P with_part differ tells sets each l m =
-    let ks : List ℕ = where_below count (differ_at d differ old new (λ k. k)) in
+part-changes : {X : Type 0} (d : X) (new old : List X) (event : ℕ → Event) (count : ℕ) (P : ℕ → Type 0) (with_part : List X → View) (bits_differ : X → X → Bool) → Tells bits_differ → SetsPart d new (λ k. k) event count P with_part
+    → Each P (where_below count (differ_at d bits_differ old new (λ k. k))) → length old ≡ count → length new ≡ count → LeadsTheView (with_part old) (with_part new) (map event (where_below count (differ_at d bits_differ old new (λ k. k))))
+part-changes d new old event count P with_part bits_differ tells sets each l m =
+    let ks : List ℕ = where_below count (differ_at d bits_differ old new (λ k. k)) in
     let within : (k : ℕ) → k < count → k < length new = λ k h. omega (arith, h, m) in
     record {
       to =
           leads-puts d new (λ k. k) event count P with_part sets ks old each l
-          ∙ ap with_part (puts-below d new old (λ k. k) differ tells count (λ k. refl) within (l ∙ sym m) ∙ mixed-all count new old (omega (arith, m)) (omega (arith, l)));
-      changes = EachChanges-puts d new (λ k. k) event count P with_part sets ks old each l (EachPutChanges-below d new old (λ k. k) differ tells count (λ k. refl) within (l ∙ sym m));
+          ∙ ap with_part (puts-below d new old (λ k. k) bits_differ tells count (λ k. refl) within (l ∙ sym m) ∙ mixed-all count new old (omega (arith, m)) (omega (arith, l)));
+      changes = EachChanges-puts d new (λ k. k) event count P with_part sets ks old each l (EachPutChanges-below d new old (λ k. k) bits_differ tells count (λ k. refl) within (l ∙ sym m));
     }
 
 -- one group behind another
@@ -73,7 +73,7 @@ sets-keys v new count few = record {
 
 leads-keys : (v : View) (old new : List Bool) (count : ℕ) → count ≤ 768 → length old ≡ count → length new ≡ count → LeadsTheView (record v { keys = old }) (record v { keys = new }) (bit_changes EV_KEY count old new)
 leads-keys v old new count few l m =
-    part-changes false new old (bit_event EV_KEY new) count (λ k. k < count) (λ xs. record v { keys = xs }) differ tells_bits (sets-keys v new count few) (Each-where_below (λ k. k < count) count (bits_differ_at old new) (λ k h t. h)) l m
+    part-changes false new old (bit_event EV_KEY new) count (λ k. k < count) (λ xs. record v { keys = xs }) bits_differ tells_bits (sets-keys v new count few) (Each-where_below (λ k. k < count) count (bits_differ_at old new) (λ k h t. h)) l m
 
 -- ---- LEDs and switches
 
@@ -91,7 +91,7 @@ sets-leds v new count few = record {
 
 leads-leds : (v : View) (old new : List Bool) (count : ℕ) → count ≤ 64 → length old ≡ count → length new ≡ count → LeadsTheView (record v { leds = old }) (record v { leds = new }) (bit_changes EV_LED count old new)
 leads-leds v old new count few l m =
-    part-changes false new old (bit_event EV_LED new) count (λ k. k < count) (λ xs. record v { leds = xs }) differ tells_bits (sets-leds v new count few) (Each-where_below (λ k. k < count) count (bits_differ_at old new) (λ k h t. h)) l m
+    part-changes false new old (bit_event EV_LED new) count (λ k. k < count) (λ xs. record v { leds = xs }) bits_differ tells_bits (sets-leds v new count few) (Each-where_below (λ k. k < count) count (bits_differ_at old new) (λ k h t. h)) l m
 
 sets-switches : (v : View) (new : List Bool) (count : ℕ) → count ≤ 64 → SetsPart false new (λ k. k) (bit_event EV_SW new) count (λ k. k < count) (λ xs. record v { switches = xs })
 unfolding view_after_event
@@ -103,7 +103,7 @@ sets-switches v new count few = record {
 
 leads-switches : (v : View) (old new : List Bool) (count : ℕ) → count ≤ 64 → length old ≡ count → length new ≡ count → LeadsTheView (record v { switches = old }) (record v { switches = new }) (bit_changes EV_SW count old new)
 leads-switches v old new count few l m =
-    part-changes false new old (bit_event EV_SW new) count (λ k. k < count) (λ xs. record v { switches = xs }) differ tells_bits (sets-switches v new count few) (Each-where_below (λ k. k < count) count (bits_differ_at old new) (λ k h t. h)) l m
+    part-changes false new old (bit_event EV_SW new) count (λ k. k < count) (λ xs. record v { switches = xs }) bits_differ tells_bits (sets-switches v new count few) (Each-where_below (λ k. k < count) count (bits_differ_at old new) (λ k h t. h)) l m
 
 -- ---- axes
 

@@ -22,7 +22,7 @@ use Rattle.inp_recon.proofs.Sizes.{IsSizedFor-first_view}
 use Rattle.inp_recon.proofs.ViewSteps.{client_view-sized}
 use Rattle.inp_reader.specs.Reading.{queries}
 use Rattle.inp_recon.specs.Synchronised.{is_start}
-use Rattle.inp_reader.specs.Standing.{is_use, is_use_of, calls_since, steps_of, view_after_answers, taken_by_calls, events_of, is_read, AreReads}
+use Rattle.inp_reader.specs.Standing.{is_use, is_use_of, calls_since, steps_of, view_after_answers, taken_by_calls, taken_events, is_read, AreReads}
 use Rattle.inp_reader.proofs.Calls.{AreAnswered, AreAccepted}
 use Rattle.inp_reader.proofs.AgainCounts.{NoneIsRead, NoneIsRead-queries}
 
@@ -31,18 +31,18 @@ use Rattle.inp_reader.proofs.AgainCounts.{NoneIsRead, NoneIsRead-queries}
 -- a view after calls, what they took and then their answers
 unfoldable pub fold_calls : View → List Call → View
 fold_calls v [] = v
-fold_calls v (call ∷ calls) = fold_calls (view_after_answer (view_after_events v (events_of call.answer.events)) call.step call.answer.reply call.answer.cells) calls
+fold_calls v (call ∷ calls) = fold_calls (view_after_answer (view_after_events v (taken_events call.answer.events)) call.step call.answer.reply call.answer.cells) calls
 
-fold_calls-push : (v : View) (calls : List Call) (call : Call) → fold_calls v (calls ++ call ∷ []) ≡ view_after_answer (view_after_events (fold_calls v calls) (events_of call.answer.events)) call.step call.answer.reply call.answer.cells
+fold_calls-push : (v : View) (calls : List Call) (call : Call) → fold_calls v (calls ++ call ∷ []) ≡ view_after_answer (view_after_events (fold_calls v calls) (taken_events call.answer.events)) call.step call.answer.reply call.answer.cells
 unfolding fold_calls
 fold_calls-push v [] call = refl
-fold_calls-push v (c ∷ calls) call = fold_calls-push (view_after_answer (view_after_events v (events_of c.answer.events)) c.step c.answer.reply c.answer.cells) calls call
+fold_calls-push v (c ∷ calls) call = fold_calls-push (view_after_answer (view_after_events v (taken_events c.answer.events)) c.step c.answer.reply c.answer.cells) calls call
 
 -- a history's answers are those to accepted steps
 pub accepted-answer : (d : Description) (past : List Step) (x : Step) → refused d past x ≡ None → answer d past x ≡ accepted d past x
 accepted-answer d past x h = ap (λ (o : Option Reply). answer_by o (accepted d past x)) h
 
-pub map-taken : (es : List Entry) → events_of (map taken_of es) ≡ map event_of es
+pub map-taken : (es : List Entry) → taken_events (map taken_of es) ≡ map event_of es
 map-taken [] = refl
 map-taken (e ∷ es) = ap (λ (xs : List Event). event_of e ∷ xs) (map-taken es)
 
@@ -115,15 +115,15 @@ step_if false true a b c P h k l = k refl refl
 step_if false false a b c P h k l = l refl refl
 
 pub used-view : (d : Description) (past : List Step) (client : ℕ) (x : Step) (v : View) → refused d past x ≡ None → is_use_of client x ≡ true
-    → view_after_step d past client x v ≡ view_after_answer (view_after_events v (events_of (answer d past x).events)) x (answer d past x).reply (answer d past x).cells
+    → view_after_step d past client x v ≡ view_after_answer (view_after_events v (taken_events (answer d past x).events)) x (answer d past x).reply (answer d past x).cells
 used-view d past client x v accepts used =
     let told : answer d past x ≡ accepted d past x = accepted-answer d past x accepts in
-    let events : map event_of (taken_by d past client x) ≡ events_of (answer d past x).events =
-    sym (map-taken (taken_by d past client x)) ∙ ap (λ (ts : List Taken). events_of ts) (sym (taken-told d past client x used)) ∙ ap (λ (a : Answer). events_of a.events) (sym told) in
+    let events : map event_of (taken_by d past client x) ≡ taken_events (answer d past x).events =
+    sym (map-taken (taken_by d past client x)) ∙ ap (λ (ts : List Taken). taken_events ts) (sym (taken-told d past client x used)) ∙ ap (λ (a : Answer). taken_events a.events) (sym told) in
     let both : (is_use x ≡ true) × (is_same (client_of x) client ≡ true) = and_parts (is_use x) (is_same (client_of x) client) used in
     cond-true (is_same (client_of x) client) (view_after_answer (view_after_events v (map event_of (taken_by d past client x))) x (accepted d past x).reply (accepted d past x).cells) v both.1
     ∙ ap (λ (es : List Event). view_after_answer (view_after_events v es) x (accepted d past x).reply (accepted d past x).cells) events
-    ∙ ap (λ (a : Answer). view_after_answer (view_after_events v (events_of (answer d past x).events)) x a.reply a.cells) (sym told)
+    ∙ ap (λ (a : Answer). view_after_answer (view_after_events v (taken_events (answer d past x).events)) x a.reply a.cells) (sym told)
 
 -- the view is the one at the start, and what the calls since then make of it
 pub client_view-since : (d : Description) (past : List Step) (client : ℕ) → IsHistory d past → client_view d past client ≡ fold_calls (view_at_start d past client) (calls_since d past client)
@@ -142,7 +142,7 @@ client_view-since d (x ∷ past) client h = by (is_start past client x) (is_use_
     by true used s u rest = (start-idle d past client x v s).0
     by false true s u rest =
         used-view d past client x v h.1 u
-        ∙ ap (λ (w : View). view_after_answer (view_after_events w (events_of call.answer.events)) x call.answer.reply call.answer.cells) rest
+        ∙ ap (λ (w : View). view_after_answer (view_after_events w (taken_events call.answer.events)) x call.answer.reply call.answer.cells) rest
         ∙ sym (fold_calls-push (view_at_start d past client) (calls_since d past client) call)
     by false false s u rest = idle-step d past client x v u ∙ rest
 
@@ -200,8 +200,8 @@ length-took d past client h =
 unfoldable pub view_upto : View → List Call → ℕ → View
 view_upto v [] j = v
 view_upto v (call ∷ calls) j =
-    if nat_lt j (length call.answer.events) then view_after_events v (events_of (take (suc j) call.answer.events))
-    else view_upto (view_after_answer (view_after_events v (events_of call.answer.events)) call.step call.answer.reply call.answer.cells) calls (j - length call.answer.events)
+    if nat_lt j (length call.answer.events) then view_after_events v (taken_events (take (suc j) call.answer.events))
+    else view_upto (view_after_answer (view_after_events v (taken_events call.answer.events)) call.step call.answer.reply call.answer.cells) calls (j - length call.answer.events)
 
 upto-before : (v : View) (calls : List Call) (call : Call) (j : ℕ) → j < length (taken_by_calls calls) → view_upto v (calls ++ call ∷ []) j ≡ view_upto v calls j
 unfolding view_upto
@@ -212,31 +212,31 @@ upto-before v (c ∷ calls) call j h = by (nat_lt j n) refl (λ k. upto-before n
     n = length c.answer.events
 
     next : View
-    next = view_after_answer (view_after_events v (events_of c.answer.events)) c.step c.answer.reply c.answer.cells
+    next = view_after_answer (view_after_events v (taken_events c.answer.events)) c.step c.answer.reply c.answer.cells
 
     by : (b : Bool) → nat_lt j n ≡ b → (j - n < length (taken_by_calls calls) → view_upto next (calls ++ call ∷ []) (j - n) ≡ view_upto next calls (j - n))
-        → (if b then view_after_events v (events_of (take (suc j) c.answer.events)) else view_upto next (calls ++ call ∷ []) (j - n)) ≡ (if b then view_after_events v (events_of (take (suc j) c.answer.events)) else view_upto next calls (j - n))
+        → (if b then view_after_events v (taken_events (take (suc j) c.answer.events)) else view_upto next (calls ++ call ∷ []) (j - n)) ≡ (if b then view_after_events v (taken_events (take (suc j) c.answer.events)) else view_upto next calls (j - n))
     by true is rest = refl
     by false is rest = rest (let above : n ≤ j = ltb-false j n is in omega (arith, h, above, length-append c.answer.events (taken_by_calls calls)))
 
 upto-last : (v : View) (calls : List Call) (call : Call) (j : ℕ) → length (taken_by_calls calls) ≤ j → j < length (taken_by_calls calls) + length call.answer.events
-    → view_upto v (calls ++ call ∷ []) j ≡ view_after_events (fold_calls v calls) (events_of (take (suc j - length (taken_by_calls calls)) call.answer.events))
+    → view_upto v (calls ++ call ∷ []) j ≡ view_after_events (fold_calls v calls) (taken_events (take (suc j - length (taken_by_calls calls)) call.answer.events))
 unfolding view_upto fold_calls
 upto-last v [] call j h k =
     let within : j < length call.answer.events = omega (arith, k) in
     let same : suc j ≡ suc j - 0 = omega arith in
-    cond-true (nat_lt j (length call.answer.events)) (view_after_events v (events_of (take (suc j) call.answer.events))) (view_after_answer (view_after_events v (events_of call.answer.events)) call.step call.answer.reply call.answer.cells) (lt-ltb j (length call.answer.events) within)
-    ∙ ap (λ (n : ℕ). view_after_events v (events_of (take n call.answer.events))) same
+    cond-true (nat_lt j (length call.answer.events)) (view_after_events v (taken_events (take (suc j) call.answer.events))) (view_after_answer (view_after_events v (taken_events call.answer.events)) call.step call.answer.reply call.answer.cells) (lt-ltb j (length call.answer.events) within)
+    ∙ ap (λ (n : ℕ). view_after_events v (taken_events (take n call.answer.events))) same
 upto-last v (c ∷ calls) call j h k =
     let n : ℕ = length c.answer.events in
     let m : ℕ = length (taken_by_calls calls) in
-    let next : View = view_after_answer (view_after_events v (events_of c.answer.events)) c.step c.answer.reply c.answer.cells in
+    let next : View = view_after_answer (view_after_events v (taken_events c.answer.events)) c.step c.answer.reply c.answer.cells in
     let long : length (taken_by_calls (c ∷ calls)) ≡ n + m = length-append c.answer.events (taken_by_calls calls) in
     let above : n ≤ j = omega (arith, h, long) in
     let same : suc (j - n) - m ≡ suc j - length (taken_by_calls (c ∷ calls)) = omega (arith, h, long, above) in
-    cond-false (nat_lt j n) (view_after_events v (events_of (take (suc j) c.answer.events))) (view_upto next (calls ++ call ∷ []) (j - n)) (le-ltb j n above)
+    cond-false (nat_lt j n) (view_after_events v (taken_events (take (suc j) c.answer.events))) (view_upto next (calls ++ call ∷ []) (j - n)) (le-ltb j n above)
     ∙ upto-last next calls call (j - n) (omega (arith, h, long)) (omega (arith, k, long, above))
-    ∙ ap (λ (i : ℕ). view_after_events (fold_calls next calls) (events_of (take i call.answer.events))) same
+    ∙ ap (λ (i : ℕ). view_after_events (fold_calls next calls) (taken_events (take i call.answer.events))) same
 
 -- one more step leaves the view at an earlier event
 pub at-earlier : (d : Description) (past : List Step) (client i : ℕ) (x : Step) → i < length (took d past client) → view_at d (x ∷ past) client i ≡ view_at d past client i
@@ -268,9 +268,9 @@ at-last d past client i x h =
     ap (λ (p : List Step). view_after_events (client_view d p client) (map event_of (drop (length (took d p client)) (take (suc i) (T ++ E))))) same
     ∙ ap (λ (es : List Entry). view_after_events (client_view d past client) (map event_of es)) (take-behind T E (suc i) (omega (arith, h)))
 
-pub taken-events : (d : Description) (past : List Step) (client n : ℕ) (x : Step) → refused d past x ≡ None → is_use_of client x ≡ true → map event_of (take n (taken_by d past client x)) ≡ events_of (take n (answer d past x).events)
+pub taken-events : (d : Description) (past : List Step) (client n : ℕ) (x : Step) → refused d past x ≡ None → is_use_of client x ≡ true → map event_of (take n (taken_by d past client x)) ≡ taken_events (take n (answer d past x).events)
 taken-events d past client n x accepts used =
-    sym (map-taken (take n (taken_by d past client x))) ∙ ap (λ (ts : List Taken). events_of ts) (sym (take-map taken_of n (taken_by d past client x)) ∙ ap (λ (ts : List Taken). take n ts) (used-taken d past client x accepts used))
+    sym (map-taken (take n (taken_by d past client x))) ∙ ap (λ (ts : List Taken). taken_events ts) (sym (take-map taken_of n (taken_by d past client x)) ∙ ap (λ (ts : List Taken). take n ts) (used-taken d past client x accepts used))
 
 -- the view at event j of what the client took since its start
 pub view_at-since : (d : Description) (past : List Step) (client j : ℕ) → IsHistory d past → j < length (taken_by_calls (calls_since d past client)) → view_at d past client (length (taken_at_start d past client) + j) ≡ view_upto (view_at_start d past client) (calls_since d past client) j
@@ -308,8 +308,8 @@ view_at-since d (x ∷ past) client j h k = by (is_start past client x) (is_use_
           let within : j < length (taken_by_calls C) + length call.answer.events = omega (arith, below, ap (λ (ts : List Taken). length ts) (taken_by_calls-push C call), length-append (taken_by_calls C) call.answer.events) in
           at-last d past client (length B + j) x (omega (arith, long, behind))
           ∙ ap (λ (es : List Event). view_after_events (client_view d past client) es) (taken-events d past client n x h.1 u)
-          ∙ ap (λ (w : View). view_after_events w (events_of (take n call.answer.events))) (client_view-since d past client h.0)
-          ∙ ap (λ (m : ℕ). view_after_events (fold_calls v C) (events_of (take m call.answer.events))) same
+          ∙ ap (λ (w : View). view_after_events w (taken_events (take n call.answer.events))) (client_view-since d past client h.0)
+          ∙ ap (λ (m : ℕ). view_after_events (fold_calls v C) (taken_events (take m call.answer.events))) same
           ∙ sym (upto-last v C call j behind within))
     ]
     by false false s u below rest = at-earlier d past client (length B + j) x (omega (arith, long, below)) ∙ rest below
@@ -325,7 +325,7 @@ fold-asked : (v : View) (calls : List Call) → NoneTakes calls → fold_calls v
 unfolding NoneTakes fold_calls
 fold-asked v [] h = refl
 fold-asked v (call ∷ calls) h =
-    let same : view_after_events v (events_of call.answer.events) ≡ v = ap (λ (ts : List Taken). view_after_events v (events_of ts)) h.0 ∙ no-events v in
+    let same : view_after_events v (taken_events call.answer.events) ≡ v = ap (λ (ts : List Taken). view_after_events v (taken_events ts)) h.0 ∙ no-events v in
     ap (λ (w : View). fold_calls (view_after_answer w call.step call.answer.reply call.answer.cells) calls) same
     ∙ fold-asked (view_after_answer v call.step call.answer.reply call.answer.cells) calls h.1
 
@@ -333,12 +333,12 @@ upto-asked : (v : View) (calls more : List Call) (j : ℕ) → NoneTakes calls �
 unfolding NoneTakes view_upto
 upto-asked v [] more j h = refl
 upto-asked v (call ∷ calls) more j h =
-    let next : View = view_after_answer (view_after_events v (events_of call.answer.events)) call.step call.answer.reply call.answer.cells in
+    let next : View = view_after_answer (view_after_events v (taken_events call.answer.events)) call.step call.answer.reply call.answer.cells in
     let n : ℕ = length call.answer.events in
     let none : n ≡ 0 = ap (λ (ts : List Taken). length ts) h.0 in
-    let same : view_after_events v (events_of call.answer.events) ≡ v = ap (λ (ts : List Taken). view_after_events v (events_of ts)) h.0 ∙ no-events v in
+    let same : view_after_events v (taken_events call.answer.events) ≡ v = ap (λ (ts : List Taken). view_after_events v (taken_events ts)) h.0 ∙ no-events v in
     let whole : j - n ≡ j = omega (arith, none) in
-    cond-false (nat_lt j n) (view_after_events v (events_of (take (suc j) call.answer.events))) (view_upto next (calls ++ more) (j - n)) (le-ltb j n (omega (arith, none)))
+    cond-false (nat_lt j n) (view_after_events v (taken_events (take (suc j) call.answer.events))) (view_upto next (calls ++ more) (j - n)) (le-ltb j n (omega (arith, none)))
     ∙ ap (λ (i : ℕ). view_upto next (calls ++ more) i) whole
     ∙ ap (λ (w : View). view_upto (view_after_answer w call.step call.answer.reply call.answer.cells) (calls ++ more) j) same
     ∙ upto-asked (view_after_answer v call.step call.answer.reply call.answer.cells) calls more j h.1
@@ -355,10 +355,10 @@ take-more (x ∷ xs) ys (suc n) h =
     let e : n - length xs ≡ suc n - suc (length xs) = omega arith in
     ap (λ (zs : List Taken). x ∷ zs) (take-more xs ys n (omega (arith, h))) ∙ ap (λ (k : ℕ). x ∷ xs ++ take k ys) e
 
-upto-reads : (v : View) (reads : List Call) (j : ℕ) → AreReads reads → j < length (taken_by_calls reads) → view_upto v reads j ≡ view_after_events v (events_of (take (suc j) (taken_by_calls reads)))
+upto-reads : (v : View) (reads : List Call) (j : ℕ) → AreReads reads → j < length (taken_by_calls reads) → view_upto v reads j ≡ view_after_events v (taken_events (take (suc j) (taken_by_calls reads)))
 unfolding view_upto
 upto-reads v [] j are h = absurd (omega (arith, h))
-upto-reads v (call ∷ reads) j are h = by (nat_lt j n) refl (λ k. upto-reads (view_after_events v (events_of E)) reads (j - n) are.1 k)
+upto-reads v (call ∷ reads) j are h = by (nat_lt j n) refl (λ k. upto-reads (view_after_events v (taken_events E)) reads (j - n) are.1 k)
   where
     E : List Taken
     E = call.answer.events
@@ -370,22 +370,22 @@ upto-reads v (call ∷ reads) j are h = by (nat_lt j n) refl (λ k. upto-reads (
     R = taken_by_calls reads
 
     next : View
-    next = view_after_answer (view_after_events v (events_of E)) call.step call.answer.reply call.answer.cells
+    next = view_after_answer (view_after_events v (taken_events E)) call.step call.answer.reply call.answer.cells
 
-    by : (b : Bool) → nat_lt j n ≡ b → (j - n < length R → view_upto (view_after_events v (events_of E)) reads (j - n) ≡ view_after_events (view_after_events v (events_of E)) (events_of (take (suc (j - n)) R)))
-        → (if b then view_after_events v (events_of (take (suc j) E)) else view_upto next reads (j - n)) ≡ view_after_events v (events_of (take (suc j) (E ++ R)))
+    by : (b : Bool) → nat_lt j n ≡ b → (j - n < length R → view_upto (view_after_events v (taken_events E)) reads (j - n) ≡ view_after_events (view_after_events v (taken_events E)) (taken_events (take (suc (j - n)) R)))
+        → (if b then view_after_events v (taken_events (take (suc j) E)) else view_upto next reads (j - n)) ≡ view_after_events v (taken_events (take (suc j) (E ++ R)))
     by true is rest =
         let below : j < n = ltb-true j n is in
-        ap (λ (ts : List Taken). view_after_events v (events_of ts)) (sym (take-append-le (suc j) E R (omega (arith, below))))
+        ap (λ (ts : List Taken). view_after_events v (taken_events ts)) (sym (take-append-le (suc j) E R (omega (arith, below))))
     by false is rest =
         let above : n ≤ j = ltb-false j n is in
         let same : suc (j - n) ≡ suc j - n = omega (arith, above) in
-        ap (λ (w : View). view_upto w reads (j - n)) (read-view call.step (view_after_events v (events_of E)) call.answer.reply call.answer.cells are.0)
+        ap (λ (w : View). view_upto w reads (j - n)) (read-view call.step (view_after_events v (taken_events E)) call.answer.reply call.answer.cells are.0)
         ∙ rest (omega (arith, h, above, length-append E R))
-        ∙ sym (view_after_events-append v (events_of E) (events_of (take (suc (j - n)) R)))
+        ∙ sym (view_after_events-append v (taken_events E) (taken_events (take (suc (j - n)) R)))
         ∙ ap (λ (es : List Event). view_after_events v es) (sym (map-append (λ (t : Taken). t.event) E (take (suc (j - n)) R)))
-        ∙ ap (λ (m : ℕ). view_after_events v (events_of (E ++ take m R))) same
-        ∙ ap (λ (ts : List Taken). view_after_events v (events_of ts)) (sym (take-more E R (suc j) (omega (arith, above))))
+        ∙ ap (λ (m : ℕ). view_after_events v (taken_events (E ++ take m R))) same
+        ∙ ap (λ (ts : List Taken). view_after_events v (taken_events ts)) (sym (take-more E R (suc j) (omega (arith, above))))
 
 -- a query takes nothing
 pub no_read-takes : (d : Description) (past : List Step) (x : Step) → is_read x ≡ false → (answer d past x).events ≡ []
@@ -430,7 +430,7 @@ none-takes d (call ∷ asked) reads h no_reads =
 
 -- The view at event j of what came behind the queries, which are all of a start.
 pub view_at-behind : (d : Description) (past : List Step) (client j : ℕ) (asked reads : List Call) → IsHistory d past → calls_since d past client ≡ asked ++ reads → steps_of asked ≡ queries d client → AreReads reads → j < length (taken_by_calls reads)
-    → view_at d past client (length (taken_at_start d past client) + j) ≡ view_after_events (view_after_answers (view_at_start d past client) asked) (events_of (take (suc j) (taken_by_calls reads)))
+    → view_at d past client (length (taken_at_start d past client) + j) ≡ view_after_events (view_after_answers (view_at_start d past client) asked) (taken_events (take (suc j) (taken_by_calls reads)))
 view_at-behind d past client j asked reads h since steps are below =
     let no_reads : NoneIsRead (steps_of asked) = subst (λ (xs : List Step). NoneIsRead xs) (sym steps) (NoneIsRead-queries d client) in
     let of_pasts : AreOfPasts d (asked ++ reads) = subst (λ (cs : List Call). AreOfPasts d cs) since (of_pasts-since d past client) in

@@ -27,7 +27,7 @@ use Rattle.inp_reader.specs.Reading.{Reading, queries}
 use Rattle.inp_reader.specs.Showing.{index_handed_out, ShowsTheDevice}
 use Rattle.inp_recon.specs.Synchronised.{has_axis}
 use Rattle.inp_reader.specs.Spare.{IsSpare}
-use Rattle.inp_reader.specs.Standing.{calls_since, steps_of, view_after_answers, taken_by_calls, events_of}
+use Rattle.inp_reader.specs.Standing.{calls_since, steps_of, view_after_answers, taken_by_calls, taken_events}
 use Rattle.inp_reader.proofs.StandsAfterTalks.{IsHandedOut}
 use Rattle.inp_reader.proofs.Answering.{length-rows}
 use Rattle.inp_reader.proofs.Agreeing.{Compared, AgreeBut, agree-answers, keys-spared, switches-spared, leds-spared, slots-spared, plain-asked}
@@ -60,7 +60,7 @@ handed-is-taken d past r t h history =
 
 -- the client's view then: the same answers and events, from the view at its start
 view-then : (d : Description) (past : List Step) (r : Reading) (t : Taken) (h : IsHandedOut d past r t) → IsHistory d past
-    → view_at d past r.client (index_handed_out d past r) ≡ view_after_events (view_after_answers (view_at_start d past r.client) h.asked) (events_of (h.before ++ t ∷ []))
+    → view_at d past r.client (index_handed_out d past r) ≡ view_after_events (view_after_answers (view_at_start d past r.client) h.asked) (taken_events (h.before ++ t ∷ []))
 view-then d past r t h history =
     let j : ℕ = length h.before in
     let front : length (h.before ++ t ∷ []) ≡ suc j = length-append h.before (t ∷ []) ∙ omega arith in
@@ -68,7 +68,7 @@ view-then d past r t h history =
     let first : take (suc j) (taken_by_calls h.reads) ≡ h.before ++ t ∷ [] = ap (λ (ts : List Taken). take (suc j) ts) h.taken ∙ take_at (h.before ++ t ∷ []) r.queue (suc j) front in
     ap (λ (i : ℕ). view_at d past r.client i) (index-is d past r t h history)
     ∙ view_at-behind d past r.client j h.asked h.reads history h.calls h.queries h.reads_only below
-    ∙ ap (λ (ts : List Taken). view_after_events (view_after_answers (view_at_start d past r.client) h.asked) (events_of ts)) first
+    ∙ ap (λ (ts : List Taken). view_after_events (view_after_answers (view_at_start d past r.client) h.asked) (taken_events ts)) first
 
 -- Two views that agree in what the device has
 
@@ -138,7 +138,7 @@ agree-then d past r t h history =
     let good : AreAnswered d h.asked × AreAccepted h.asked = good-first d h.asked h.reads (subst (λ (cs : List Call). AreAnswered d cs × AreAccepted cs) h.calls (since-good d past r.client history)) in
     let begun : AgreeBut (what_is_had d) (steps_of h.asked) base (first_view d) = subst (λ (xs : List Step). AgreeBut (what_is_had d) xs base (first_view d)) (sym h.queries) (agree-had d r.client base (first_view d) (sized-at-start d past r.client) (IsSizedFor-first_view d)) in
     let told : AgreeBut (what_is_had d) [] (view_after_answers base h.asked) (view_after_answers (first_view d) h.asked) = agree-answers (what_is_had d) d h.asked base (first_view d) good.0 good.1 (sized-at-start d past r.client).cells begun in
-    let es : List Event = events_of (h.before ++ t ∷ []) in
+    let es : List Event = taken_events (h.before ++ t ∷ []) in
     let then_it : AgreeBut (what_is_had d) [] (view_after_events (view_after_answers base h.asked) es) (view_after_events (view_after_answers (first_view d) h.asked) es) = agree-events (what_is_had d) (view_after_answers base h.asked) (view_after_answers (first_view d) h.asked) es told in
     subst (λ (v : View). AgreeBut (what_is_had d) [] v r.view) (sym (view-then d past r t h history))
     (subst (λ (w : View). AgreeBut (what_is_had d) [] (view_after_events (view_after_answers base h.asked) es) w) (sym h.view) then_it)

@@ -29,7 +29,7 @@ use Rattle.inp_reader.specs.declared.next.Next.TheVariants.{Success, Dropped, Sy
 use Rattle.inp_reader.specs.declared.started.Started.{Started}
 use Rattle.inp_reader.specs.Reading.{Reading, ask_each, queries, bit_queries, axis_queries, plain_axes, slot_queries, only_if, start_talk, next_talk, talk_in, plain_talk, go_on, go_on_after, sync_talk, after_open, after_queries, start_stop_of, read_talk, read_or_hand_out, after_read, hand_out, hand_out_event, stop_of, handing, hand_synthesised, as_plain, after_full_sync, after_failed_sync}
 use Rattle.inp_recon.specs.Synchronised.{is_discard_of, is_start, is_dropped}
-use Rattle.inp_reader.specs.Standing.{is_use_of, calls_since, steps_of, view_after_answers, taken_by_calls, events_of, is_read, AreReads, IsInStep, is_needed, has_opened}
+use Rattle.inp_reader.specs.Standing.{is_use_of, calls_since, steps_of, view_after_answers, taken_by_calls, taken_events, is_read, AreReads, IsInStep, is_needed, has_opened}
 use Rattle.inp_reader.specs.Talk.{Talk, finish, and_then, LeadsTo, EndsWith}
 use Rattle.inp_model.proofs.Refused.{refused-not_accepted}
 use Rattle.inp_reader.proofs.Calls.{IsSplit, split-and_then, finished, AreAnswered, AreAccepted}
@@ -229,8 +229,8 @@ asks d client past after (x ∷ xs) view (call ∷ calls) asked h all m ends =
 unfoldable pub IsMadeAnew : Description → ℕ → View → Type 0
 IsMadeAnew d client view = (calls : List Call) → steps_of calls ≡ queries d client → AreAccepted calls → AreAnswered d calls → view_after_answers view calls ≡ view_after_answers (first_view d) calls
 
-events_of-push : (handed : List Taken) (taken : Taken) → events_of (handed ++ taken ∷ []) ≡ events_of handed ++ taken.event ∷ []
-events_of-push handed taken = map-append (λ (t : Taken). t.event) handed (taken ∷ [])
+taken_events-push : (handed : List Taken) (taken : Taken) → taken_events (handed ++ taken ∷ []) ≡ taken_events handed ++ taken.event ∷ []
+taken_events-push handed taken = map-append (λ (t : Taken). t.event) handed (taken ∷ [])
 
 one-event : (v : View) (e : Event) → view_after_events v (e ∷ []) ≡ view_after_event v e
 unfolding view_after_events
@@ -245,7 +245,7 @@ pub record IsHandedOut (d : Description) (past : List Step) (r : Reading) (last 
   pub queries : steps_of asked ≡ queries d r.client
   pub reads_only : AreReads reads
   pub taken : taken_by_calls reads ≡ (before ++ last ∷ []) ++ r.queue
-  pub view : r.view ≡ view_after_events (view_after_answers (first_view d) asked) (events_of (before ++ last ∷ []))
+  pub view : r.view ≡ view_after_events (view_after_answers (first_view d) asked) (taken_events (before ++ last ∷ []))
 
 handed-in-step : (d : Description) (past : List Step) (r : Reading) (last : Taken) → IsHandedOut d past r last → IsInStep d past r
 handed-in-step d past r last h = record {
@@ -272,9 +272,9 @@ handed d past r taken rest i q =
       taken = i.taken ∙ ap (λ (ts : List Taken). i.handed ++ ts) q ∙ sym (append_assoc i.handed (taken ∷ []) rest);
       view =
           ap (λ (v : View). view_after_event v taken.event) i.view
-          ∙ sym (one-event (view_after_events begun (events_of i.handed)) taken.event)
-          ∙ sym (view_after_events-append begun (events_of i.handed) (taken.event ∷ []))
-          ∙ ap (λ (es : List Event). view_after_events begun es) (sym (events_of-push i.handed taken));
+          ∙ sym (one-event (view_after_events begun (taken_events i.handed)) taken.event)
+          ∙ sym (view_after_events-append begun (taken_events i.handed) (taken.event ∷ []))
+          ∙ ap (λ (es : List Event). view_after_events begun es) (sym (taken_events-push i.handed taken));
     }
 
 -- what is known of the event that `next` answers

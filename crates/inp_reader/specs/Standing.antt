@@ -65,8 +65,8 @@ view_after_answers v (call ∷ calls) = view_after_answers (view_after_answer v 
 abbrev pub taken_by_calls : List Call → List Taken
 taken_by_calls calls = flat_map (λ call. call.answer.events) calls
 
-abbrev pub events_of : List Taken → List Event
-events_of taken = map (λ t. t.event) taken
+abbrev pub taken_events : List Taken → List Event
+taken_events taken = map (λ t. t.event) taken
 
 abbrev pub is_read : Step → Bool
 is_read (Read client count) = true
@@ -88,7 +88,7 @@ pub record IsInStep (d : Description) (past : List Step) (r : Reading) : Type 0 
   pub queries : steps_of asked ≡ queries d r.client
   pub reads_only : AreReads reads
   pub taken : taken_by_calls reads ≡ handed ++ r.queue
-  pub view : r.view ≡ view_after_events (view_after_answers (first_view d) asked) (events_of handed)
+  pub view : r.view ≡ view_after_events (view_after_answers (first_view d) asked) (taken_events handed)
 
 abbrev pub is_needed : Phase → Bool
 is_needed Needed = true

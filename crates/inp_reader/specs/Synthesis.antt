@@ -2,7 +2,7 @@
 use Rattle.std.specs.Prelude.{ℕ, ℤ, pos, negsuc, int_lt, Bool, true, false, ◌&&◌, not, if◌then◌else◌, List, [], ◌∷◌, ◌++◌, map, filter, slice_index_or}
 use Rattle.std.specs.List.{range_with_len, list_any}
 use Rattle.std.specs.Ordering.{int_eq}
-use Rattle.inp_bits.specs.Bits.{is_on_at, differ}
+use Rattle.inp_bits.specs.Bits.{is_on_at, bits_differ}
 use Rattle.inp_model.specs.declared.event.TheConstants.{EV_SYN, EV_KEY, EV_ABS, EV_SW, EV_LED, SYN_REPORT}
 use Rattle.inp_model.specs.declared.multi_touch.TheConstants.{ABS_MT_TOUCH_MAJOR, ABS_MT_TRACKING_ID, SLOT_VALUES}
 use Rattle.inp_model.specs.declared.event.Event.{Event}
@@ -45,7 +45,7 @@ bit_event kind bits code = record { kind = kind; code = code; value = bit_value 
 
 -- two lists of bits differ at an index
 abbrev pub bits_differ_at : List Bool → List Bool → ℕ → Bool
-bits_differ_at old new i = differ (is_on_at old i) (is_on_at new i)
+bits_differ_at old new i = bits_differ (is_on_at old i) (is_on_at new i)
 
 -- of each of so many codes that two lists of bits differ in, the event of what it is in the new one
 abbrev pub bit_changes : ℕ → ℕ → List Bool → List Bool → List Event

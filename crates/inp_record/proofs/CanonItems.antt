@@ -29,7 +29,7 @@ use Rattle.inp_record.specs.declared.keyword.Keyword.TheVariants as keywords
 use Rattle.inp_record.specs.Keyword.{keyword_rows, filter_rows, keyword_of}
 use Rattle.inp_record.specs.Place.{is_first_place, is_out_of_place}
 use Rattle.inp_record.specs.Words.{word, version_word, is_header, info_in_words, micros_word, offset_item, plain_item, action_with, or_bad_word, item_of}
-use Rattle.inp_record.specs.Past.{Past, next_place, version_of, is_requested, actors_in, stream_count, context_of}
+use Rattle.inp_record.specs.Past.{Past, place_of_next_line, version_of, is_requested, actors_in, stream_count, context_of}
 use Rattle.inp_record.specs.Meaning.{placed, item_of_words}
 use Rattle.inp_record.specs.Spelling.{item_words}
 use Rattle.inp_record.proofs.Sayable.{keyword_for_role, keyword_for_device, keyword_for_filter, is_later_role, IsSayableInfo, IsSayableFilter, IsSayableAction, IsSayable, IsInPlace}
@@ -38,13 +38,13 @@ use Rattle.inp_record.proofs.CanonWords.{decimal_read, decimal_plain, kind_read,
 use Rattle.inp_record.proofs.CanonCommands.{do_words, do_keyword, kind_and_code_read, command_read, command_plain}
 
 -- a line whose words are those of its keyword is read where it may stand
-placed_read : (past : Past) (k : keyword.Keyword) (ws : Words) (i : Item) → keyword_of (version_of past) (word 0 ws) (word 1 ws) (length ws) ≡ Some k → is_first_place (next_place past) ≡ false → is_out_of_place (next_place past) (is_requested past) k ≡ false
+placed_read : (past : Past) (k : keyword.Keyword) (ws : Words) (i : Item) → keyword_of (version_of past) (word 0 ws) (word 1 ws) (length ws) ≡ Some k → is_first_place (place_of_next_line past) ≡ false → is_out_of_place (place_of_next_line past) (is_requested past) k ≡ false
     → item_of (actors_in past) (stream_count past) k ws ≡ Ok i → item_of_words (context_of past) ws ≡ Ok i
 unfolding item_of_words
 placed_read past k ws i is started within says =
-    by_start (is_first_place (next_place past)) started
+    by_start (is_first_place (place_of_next_line past)) started
     ∙ ap (λ (o : Option keyword.Keyword). placed (context_of past) o ws) is
-    ∙ by_place (is_out_of_place (next_place past) (is_requested past) k) within
+    ∙ by_place (is_out_of_place (place_of_next_line past) (is_requested past) k) within
   where
     by_start : (start : Bool) → start ≡ false → (if start && not (is_header ws) then Err BadHeader else placed (context_of past) (keyword_of (version_of past) (word 0 ws) (word 1 ws) (length ws)) ws) ≡ placed (context_of past) (keyword_of (version_of past) (word 0 ws) (word 1 ws) (length ws)) ws
     by_start true h = absurd (cc h)
@@ -149,7 +149,7 @@ action_said : (actors : List ActorText) (streams actor : ℕ) (does : command.Co
 action_said actors streams actor does s = ap (λ (o : Option ActorText). do_words (name_of_actor o) does) s.there
 
 -- a header is read where nothing stands before it
-header_read : (past : Past) (version : ℕ) (w : List ℕ) → version_word w ≡ Some version → is_first_place (next_place past) ≡ true → item_of_words (context_of past) (codes "inputrecord" ∷ w ∷ []) ≡ Ok (Header version)
+header_read : (past : Past) (version : ℕ) (w : List ℕ) → version_word w ≡ Some version → is_first_place (place_of_next_line past) ≡ true → item_of_words (context_of past) (codes "inputrecord" ∷ w ∷ []) ≡ Ok (Header version)
 unfolding item_of_words keyword_of keyword_rows item_of plain_item
 header_read past version w is h = by_version (version_word w) is
   where
@@ -158,8 +158,8 @@ header_read past version w is h = by_version (version_word w) is
     by_start false h = absurd (cc h)
 
     by_version : (o : Option ℕ) → o ≡ Some version
-        → (if is_first_place (next_place past) && not (is_some o) then Err BadHeader else if not (is_first_place (next_place past)) then Err OutOfPlace else or_bad_word (option_map (λ v. Header v) o)) ≡ Ok (Header version)
-    by_version o e = rw e (by_start (is_first_place (next_place past)) h)
+        → (if is_first_place (place_of_next_line past) && not (is_some o) then Err BadHeader else if not (is_first_place (place_of_next_line past)) then Err OutOfPlace else or_bad_word (option_map (λ v. Header v) o)) ≡ Ok (Header version)
+    by_version o e = rw e (by_start (is_first_place (place_of_next_line past)) h)
 
 -- a version, written and read again
 version_read : (version : ℕ) → 1 ≤ version → version ≤ VERSION_MAX → version_word (decimal version) ≡ Some version

@@ -22,7 +22,7 @@ use Rattle.inp_record.specs.declared.keyword.Keyword.TheVariants as keywords
 use Rattle.inp_record.specs.Keyword.{keyword_of, keyword_rows}
 use Rattle.inp_record.specs.Place.{is_first_place, is_out_of_place}
 use Rattle.inp_record.specs.Words.{word, version_word, is_header, item_of, plain_item, or_bad_word}
-use Rattle.inp_record.specs.Past.{Past, next_place, version_of, is_requested, former_devices, actors_in, stream_count, context_of}
+use Rattle.inp_record.specs.Past.{Past, place_of_next_line, version_of, is_requested, former_devices, actors_in, stream_count, context_of}
 use Rattle.inp_record.specs.Meaning.{checked, placed, item_of_words, behind, behind_words, behind_line, then_lines, behind_lines, record_of_past, as_record, meaning}
 use Rattle.inp_record.proofs.Inversions.{IsPlaced, checked_is, words_are, keyword_for as keyword_read}
 use Rattle.inp_record.proofs.Good.{push_get, item_is}
@@ -151,20 +151,20 @@ pub never_both : (a b : Bool) → (a ≡ true → b ≡ false) → (a && b) ≡ 
 never_both true b h = h refl
 never_both false b h = refl
 
-in_place : (past : Past) (i : Item) → (is_first_place (next_place past) ≡ true → is_header_item i ≡ true) → is_out_of_place (next_place past) (is_requested past) (keyword_for i) ≡ false → (is_later_item i ≡ true → nat_eq (version_of past) 1 ≡ false) → IsInPlace past i
-in_place past (Header version) first allowed later = not-false (is_first_place (next_place past)) allowed
-in_place past (Device requested name) first allowed later = (false_from_ne_true (is_first_place (next_place past)) (λ s. let e : false ≡ true = first s in cc e), allowed, never_both requested (nat_eq (version_of past) 1) later)
-in_place past (Hint count) first allowed later = (false_from_ne_true (is_first_place (next_place past)) (λ s. let e : false ≡ true = first s in cc e), allowed)
-in_place past (Log count) first allowed later = (false_from_ne_true (is_first_place (next_place past)) (λ s. let e : false ≡ true = first s in cc e), allowed)
-in_place past (Realtime offset) first allowed later = (false_from_ne_true (is_first_place (next_place past)) (λ s. let e : false ≡ true = first s in cc e), allowed)
-in_place past (Boottime offset) first allowed later = (false_from_ne_true (is_first_place (next_place past)) (λ s. let e : false ≡ true = first s in cc e), allowed)
-in_place past (Slots count) first allowed later = (false_from_ne_true (is_first_place (next_place past)) (λ s. let e : false ≡ true = first s in cc e), allowed)
-in_place past (Kind kind) first allowed later = (false_from_ne_true (is_first_place (next_place past)) (λ s. let e : false ≡ true = first s in cc e), allowed)
-in_place past (Code kind code) first allowed later = (false_from_ne_true (is_first_place (next_place past)) (λ s. let e : false ≡ true = first s in cc e), allowed)
-in_place past (Axis code info) first allowed later = (false_from_ne_true (is_first_place (next_place past)) (λ s. let e : false ≡ true = first s in cc e), allowed)
-in_place past (Filter filter) first allowed later = (false_from_ne_true (is_first_place (next_place past)) (λ s. let e : false ≡ true = first s in cc e), allowed, later refl)
-in_place past (Actor role name) first allowed later = (false_from_ne_true (is_first_place (next_place past)) (λ s. let e : false ≡ true = first s in cc e), allowed, never_both (is_later_role role) (nat_eq (version_of past) 1) later)
-in_place past (Action actor command) first allowed later = (false_from_ne_true (is_first_place (next_place past)) (λ s. let e : false ≡ true = first s in cc e), allowed)
+in_place : (past : Past) (i : Item) → (is_first_place (place_of_next_line past) ≡ true → is_header_item i ≡ true) → is_out_of_place (place_of_next_line past) (is_requested past) (keyword_for i) ≡ false → (is_later_item i ≡ true → nat_eq (version_of past) 1 ≡ false) → IsInPlace past i
+in_place past (Header version) first allowed later = not-false (is_first_place (place_of_next_line past)) allowed
+in_place past (Device requested name) first allowed later = (false_from_ne_true (is_first_place (place_of_next_line past)) (λ s. let e : false ≡ true = first s in cc e), allowed, never_both requested (nat_eq (version_of past) 1) later)
+in_place past (Hint count) first allowed later = (false_from_ne_true (is_first_place (place_of_next_line past)) (λ s. let e : false ≡ true = first s in cc e), allowed)
+in_place past (Log count) first allowed later = (false_from_ne_true (is_first_place (place_of_next_line past)) (λ s. let e : false ≡ true = first s in cc e), allowed)
+in_place past (Realtime offset) first allowed later = (false_from_ne_true (is_first_place (place_of_next_line past)) (λ s. let e : false ≡ true = first s in cc e), allowed)
+in_place past (Boottime offset) first allowed later = (false_from_ne_true (is_first_place (place_of_next_line past)) (λ s. let e : false ≡ true = first s in cc e), allowed)
+in_place past (Slots count) first allowed later = (false_from_ne_true (is_first_place (place_of_next_line past)) (λ s. let e : false ≡ true = first s in cc e), allowed)
+in_place past (Kind kind) first allowed later = (false_from_ne_true (is_first_place (place_of_next_line past)) (λ s. let e : false ≡ true = first s in cc e), allowed)
+in_place past (Code kind code) first allowed later = (false_from_ne_true (is_first_place (place_of_next_line past)) (λ s. let e : false ≡ true = first s in cc e), allowed)
+in_place past (Axis code info) first allowed later = (false_from_ne_true (is_first_place (place_of_next_line past)) (λ s. let e : false ≡ true = first s in cc e), allowed)
+in_place past (Filter filter) first allowed later = (false_from_ne_true (is_first_place (place_of_next_line past)) (λ s. let e : false ≡ true = first s in cc e), allowed, later refl)
+in_place past (Actor role name) first allowed later = (false_from_ne_true (is_first_place (place_of_next_line past)) (λ s. let e : false ≡ true = first s in cc e), allowed, never_both (is_later_role role) (nat_eq (version_of past) 1) later)
+in_place past (Action actor command) first allowed later = (false_from_ne_true (is_first_place (place_of_next_line past)) (λ s. let e : false ≡ true = first s in cc e), allowed)
 
 -- what is read is accepted
 

@@ -17,7 +17,7 @@ use Rattle.inp_record.specs.declared.place.Place.{Place}
 use Rattle.inp_record.specs.declared.place.Place.TheVariants.{Start, Headed, Describing, Naming, Acting}
 use Rattle.inp_record.specs.declared.context.TheConstants.{SLOTS_OF_VERSION_1}
 use Rattle.inp_record.specs.Place.{is_first_place, is_describing, is_naming, is_acting, is_out_of_place}
-use Rattle.inp_record.specs.Past.{Past, next_place, version_of, context_of, latest_name, is_requested, latest_description, former_devices, devices_of, with_latest, actors_in, lines_in, stream_count, latest_source_count, reader_count, owner_count}
+use Rattle.inp_record.specs.Past.{Past, place_of_next_line, version_of, context_of, latest_name, is_requested, latest_description, former_devices, devices_of, with_latest, actors_in, lines_in, stream_count, latest_source_count, reader_count, owner_count}
 use Rattle.inp_record.specs.Meaning.{has_too_many_slots, record_of_past}
 use Rattle.inp_record.specs.Spelling.{description_items, action_item_of}
 use Rattle.inp_record.proofs.Good.{owner_parts, push_get}
@@ -40,7 +40,7 @@ canon past = all_items (version_of past) (actors_in past) (devices_of past) (lin
 
 -- two pasts that the next line, unless it describes, cannot tell apart, and that are of one record
 pub record IsLike (past new : Past) : Type 0 where
-  pub place : next_place new ≡ next_place past
+  pub place : place_of_next_line new ≡ place_of_next_line past
   pub version : version_of new ≡ version_of past
   pub name_is : latest_name new ≡ latest_name past
   pub requested_is : is_requested new ≡ is_requested past
@@ -177,7 +177,7 @@ canon_described past b =
     ∙ ap (λ (n : Option (List ℕ)). head_items (version_of past) actors (with_latest former n (is_requested past) (latest_description past))) b.name_is
     ∙ head_device (version_of past) actors former d b.base.below
 
-again_described : (past : Past) → next_place past ≡ Describing → IsMadeDescription (built (latest_description past)) → FitsVersion past → IsDescribing past → IsAgain past
+again_described : (past : Past) → place_of_next_line past ≡ Describing → IsMadeDescription (built (latest_description past)) → FitsVersion past → IsDescribing past → IsAgain past
 again_described past at m few b =
     let d = built (latest_description past) in
     let heads = head_items (version_of past) (actors_in past) (former_devices past) in
@@ -217,11 +217,11 @@ again_more past i is g a l =
 -- what each past of accepted lines keeps
 pub record IsKept (past : Past) : Type 0 where
   pub again : IsAgain past
-  pub begun : is_describing (next_place past) ≡ true → IsDescribing past
-  pub named : (is_describing (next_place past) || is_naming (next_place past)) ≡ true → is_some (latest_name past) ≡ true
+  pub begun : is_describing (place_of_next_line past) ≡ true → IsDescribing past
+  pub named : (is_describing (place_of_next_line past) || is_naming (place_of_next_line past)) ≡ true → is_some (latest_name past) ≡ true
   pub below : AreBelow (length (devices_of past)) (actors_in past)
-  pub no_lines : is_acting (next_place past) ≡ false → lines_in past ≡ []
-  pub no_streams : is_acting (next_place past) ≡ false → stream_count past ≡ 0
+  pub no_lines : is_acting (place_of_next_line past) ≡ false → lines_in past ≡ []
+  pub no_streams : is_acting (place_of_next_line past) ≡ false → stream_count past ≡ 0
 
 -- no description refuses what was accepted
 described : (past : Past) → WereAccepted past → AreDescribed past
@@ -265,7 +265,7 @@ few_coded d version kind code h = rw (code_slots d kind code) h
 few_slots : (past : Past) → WereAccepted past → has_too_many_slots (context_of past) (Slots (latest_description past).slots) ≡ false
 few_slots [] h = refl
 few_slots (Header version ∷ past) h =
-    let none : [] ≡ past = sym (start_is past (starting (next_place past) h.0.in_place)) in
+    let none : [] ≡ past = sym (start_is past (starting (place_of_next_line past) h.0.in_place)) in
     let P : Past → Type 0 = λ x. has_too_many_slots (context_of (Header version ∷ x)) (Slots (latest_description x).slots) ≡ false in
     subst P none (few_none version)
 few_slots (Device requested name ∷ past) h = few_none (version_of past)
@@ -288,7 +288,7 @@ early_pushed version (g ∷ fs) f h = h
 late_filters : (past : Past) → WereAccepted past → are_early (version_of past) (latest_description past).filters ≡ false
 late_filters [] h = refl
 late_filters (Header version ∷ past) h =
-    let none : [] ≡ past = sym (start_is past (starting (next_place past) h.0.in_place)) in
+    let none : [] ≡ past = sym (start_is past (starting (place_of_next_line past) h.0.in_place)) in
     let P : Past → Type 0 = λ x. are_early version (latest_description x).filters ≡ false in
     subst P none refl
 late_filters (Device requested name ∷ past) h = refl
@@ -323,13 +323,13 @@ kept_first version a = record {
 
 kept_header : (past : Past) (version : ℕ) → IsAccepted past (Header version) → IsKept (Header version ∷ past)
 kept_header past version a =
-    let none : [] ≡ past = sym (start_is past (starting (next_place past) a.in_place)) in
+    let none : [] ≡ past = sym (start_is past (starting (place_of_next_line past) a.in_place)) in
     let P : Past → Type 0 = λ x. IsAccepted x (Header version) → IsKept (Header version ∷ x) in
     subst P none (kept_first version) a
 
 -- a device and what describes it
 
-kept_describing : (past : Past) → next_place past ≡ Describing → IsMadeDescription (built (latest_description past)) → FitsVersion past → IsDescribing past → IsKept past
+kept_describing : (past : Past) → place_of_next_line past ≡ Describing → IsMadeDescription (built (latest_description past)) → FitsVersion past → IsDescribing past → IsKept past
 kept_describing past at m few b =
     let one : devices_of past ≡ former_devices past ++ record { name = b.name; caps = built (latest_description past); requested = is_requested past } ∷ [] = ap (λ (n : Option (List ℕ)). with_latest (former_devices past) n (is_requested past) (latest_description past)) b.name_is in
     let count : length (devices_of past) ≡ length (former_devices past) + 1 = ap length one ∙ length-append (former_devices past) _ in
@@ -354,7 +354,7 @@ device_place false p latest e = e
 
 kept_device : (past : Past) (requested : Bool) (name : List ℕ) → IsKept past → IsAccepted past (Device requested name) → IsMadeDescription (built (latest_description (Device requested name ∷ past))) → FitsVersion (Device requested name ∷ past) → IsKept (Device requested name ∷ past)
 kept_device past requested name k a m few =
-    let quiet : is_acting (next_place past) ≡ false = device_place requested (next_place past) (is_requested past) a.in_place.1 in
+    let quiet : is_acting (place_of_next_line past) ≡ false = device_place requested (place_of_next_line past) (is_requested past) a.in_place.1 in
     let is = canon_quiet past (k.no_lines quiet) in
     let P : List Item → Type 0 = λ x. AreAccepted [] x in
     let like : IsLike past (past_of (head_items (version_of past) (actors_in past) (devices_of past))) = subst (λ (x : List Item). IsLike past (past_of x)) is k.again.like in
@@ -401,8 +401,8 @@ some_name (Some name) e = (name, refl)
 
 kept_actor : (past : Past) (role : Role) (name : List ℕ) → IsKept past → IsAccepted past (Actor role name) → IsKept (Actor role name ∷ past)
 kept_actor past role name k a =
-    let place = actor_place role (next_place past) (is_requested past) a.in_place.1 in
-    let quiet = not_acting (next_place past) place in
+    let place = actor_place role (place_of_next_line past) (is_requested past) a.in_place.1 in
+    let quiet = not_acting (place_of_next_line past) place in
     let latest = some_name (latest_name past) (k.named place) in
     let d : DeviceText = record { name = latest.0; caps = built (latest_description past); requested = is_requested past } in
     let new : ActorText = record { name = name; role = role; device = length (former_devices past) } in
@@ -447,36 +447,36 @@ filter_describes p requested (filters.Chord first second) h = not-false (is_desc
 filter_describes p requested (filters.Bounce code micros) h = not-false (is_describing p) h
 
 -- a past of accepted lines that has a header keeps all this
-pub kept : (past : Past) → WereAccepted past → is_first_place (next_place past) ≡ false → IsKept past
+pub kept : (past : Past) → WereAccepted past → is_first_place (place_of_next_line past) ≡ false → IsKept past
 kept [] h s = absurd (cc s)
 kept (Header version ∷ past) h s = kept_header past version h.0
 kept (Device requested name ∷ past) h s = kept_device past requested name (kept past h.1 h.0.in_place.0) h.0 (described_made (Device requested name ∷ past) h) (fits_version (Device requested name ∷ past) h)
 kept (Hint count ∷ past) h s =
     let k = kept past h.1 h.0.in_place.0 in
-    kept_describing (Hint count ∷ past) refl (described_made (Hint count ∷ past) h) (fits_version (Hint count ∷ past) h) (k.begun (not-false (is_describing (next_place past)) h.0.in_place.1))
+    kept_describing (Hint count ∷ past) refl (described_made (Hint count ∷ past) h) (fits_version (Hint count ∷ past) h) (k.begun (not-false (is_describing (place_of_next_line past)) h.0.in_place.1))
 kept (Log count ∷ past) h s =
     let k = kept past h.1 h.0.in_place.0 in
-    kept_describing (Log count ∷ past) refl (described_made (Log count ∷ past) h) (fits_version (Log count ∷ past) h) (k.begun (not-false (is_describing (next_place past)) h.0.in_place.1))
+    kept_describing (Log count ∷ past) refl (described_made (Log count ∷ past) h) (fits_version (Log count ∷ past) h) (k.begun (not-false (is_describing (place_of_next_line past)) h.0.in_place.1))
 kept (Realtime offset ∷ past) h s =
     let k = kept past h.1 h.0.in_place.0 in
-    kept_describing (Realtime offset ∷ past) refl (described_made (Realtime offset ∷ past) h) (fits_version (Realtime offset ∷ past) h) (k.begun (not-false (is_describing (next_place past)) h.0.in_place.1))
+    kept_describing (Realtime offset ∷ past) refl (described_made (Realtime offset ∷ past) h) (fits_version (Realtime offset ∷ past) h) (k.begun (not-false (is_describing (place_of_next_line past)) h.0.in_place.1))
 kept (Boottime offset ∷ past) h s =
     let k = kept past h.1 h.0.in_place.0 in
-    kept_describing (Boottime offset ∷ past) refl (described_made (Boottime offset ∷ past) h) (fits_version (Boottime offset ∷ past) h) (k.begun (not-false (is_describing (next_place past)) h.0.in_place.1))
+    kept_describing (Boottime offset ∷ past) refl (described_made (Boottime offset ∷ past) h) (fits_version (Boottime offset ∷ past) h) (k.begun (not-false (is_describing (place_of_next_line past)) h.0.in_place.1))
 kept (Slots count ∷ past) h s =
     let k = kept past h.1 h.0.in_place.0 in
-    kept_describing (Slots count ∷ past) refl (described_made (Slots count ∷ past) h) (fits_version (Slots count ∷ past) h) (k.begun (not-false (is_describing (next_place past)) h.0.in_place.1))
+    kept_describing (Slots count ∷ past) refl (described_made (Slots count ∷ past) h) (fits_version (Slots count ∷ past) h) (k.begun (not-false (is_describing (place_of_next_line past)) h.0.in_place.1))
 kept (Kind kind ∷ past) h s =
     let k = kept past h.1 h.0.in_place.0 in
-    kept_describing (Kind kind ∷ past) refl (described_made (Kind kind ∷ past) h) (fits_version (Kind kind ∷ past) h) (k.begun (not-false (is_describing (next_place past)) h.0.in_place.1))
+    kept_describing (Kind kind ∷ past) refl (described_made (Kind kind ∷ past) h) (fits_version (Kind kind ∷ past) h) (k.begun (not-false (is_describing (place_of_next_line past)) h.0.in_place.1))
 kept (Code kind code ∷ past) h s =
     let k = kept past h.1 h.0.in_place.0 in
-    kept_describing (Code kind code ∷ past) refl (described_made (Code kind code ∷ past) h) (fits_version (Code kind code ∷ past) h) (k.begun (not-false (is_describing (next_place past)) h.0.in_place.1))
+    kept_describing (Code kind code ∷ past) refl (described_made (Code kind code ∷ past) h) (fits_version (Code kind code ∷ past) h) (k.begun (not-false (is_describing (place_of_next_line past)) h.0.in_place.1))
 kept (Axis code info ∷ past) h s =
     let k = kept past h.1 h.0.in_place.0 in
-    kept_describing (Axis code info ∷ past) refl (described_made (Axis code info ∷ past) h) (fits_version (Axis code info ∷ past) h) (k.begun (not-false (is_describing (next_place past)) h.0.in_place.1))
+    kept_describing (Axis code info ∷ past) refl (described_made (Axis code info ∷ past) h) (fits_version (Axis code info ∷ past) h) (k.begun (not-false (is_describing (place_of_next_line past)) h.0.in_place.1))
 kept (Filter filter ∷ past) h s =
     let k = kept past h.1 h.0.in_place.0 in
-    kept_describing (Filter filter ∷ past) refl (described_made (Filter filter ∷ past) h) (fits_version (Filter filter ∷ past) h) (k.begun (filter_describes (next_place past) (is_requested past) filter h.0.in_place.1))
+    kept_describing (Filter filter ∷ past) refl (described_made (Filter filter ∷ past) h) (fits_version (Filter filter ∷ past) h) (k.begun (filter_describes (place_of_next_line past) (is_requested past) filter h.0.in_place.1))
 kept (Actor role name ∷ past) h s = kept_actor past role name (kept past h.1 h.0.in_place.0) h.0
 kept (Action actor command ∷ past) h s = kept_action past actor command (kept past h.1 h.0.in_place.0) h.0

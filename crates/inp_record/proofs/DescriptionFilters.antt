@@ -15,7 +15,7 @@ use Rattle.inp_record.specs.declared.item.Item.TheVariants.{Device, Slots, Filte
 use Rattle.inp_record.specs.declared.place.Place.{Place}
 use Rattle.inp_record.specs.declared.place.Place.TheVariants.{Describing}
 use Rattle.inp_record.specs.Place.{is_first_place, is_out_of_place}
-use Rattle.inp_record.specs.Past.{Past, next_place, version_of, context_of, is_requested, latest_description}
+use Rattle.inp_record.specs.Past.{Past, place_of_next_line, version_of, context_of, is_requested, latest_description}
 use Rattle.inp_record.specs.Meaning.{has_too_many_slots, refused_by}
 use Rattle.inp_record.specs.Spelling.{plain_items, filter_items, description_items}
 use Rattle.inp_record.proofs.Sayable.{keyword_for_filter, are_early, IsSayableFilter, IsAccepted, AreAccepted}
@@ -44,7 +44,7 @@ filter_place requested (filters.Bounce code micros) = refl
 filter_fits : (good full : Bool) → good ≡ true → full ≡ false → refused_by (if not good then Err BadCode else if full then Err BadFilter else Ok (tt {0})) ≡ None
 filter_fits good full g f = rw (g, f) refl
 
-filter_accepted : (past : Past) (f : filter.Filter) → next_place past ≡ Describing → nat_eq (version_of past) 1 ≡ false → is_filter f ≡ true → length (latest_description past).filters < FILTERS_MAX → IsAccepted past (Filter f)
+filter_accepted : (past : Past) (f : filter.Filter) → place_of_next_line past ≡ Describing → nat_eq (version_of past) 1 ≡ false → is_filter f ≡ true → length (latest_description past).filters < FILTERS_MAX → IsAccepted past (Filter f)
 filter_accepted past f at later good room =
     let full : nat_eq (length (latest_description past).filters) FILTERS_MAX ≡ false = ne_eqb (length (latest_description past).filters) FILTERS_MAX (λ e. absurd (omega arith)) in
     record {
@@ -62,7 +62,7 @@ early_none version [] h = refl
 early_none version (f ∷ fs) h = h
 
 -- filters one after another, behind those that are there
-filters_accepted : (fs : List filter.Filter) (past : Past) → next_place past ≡ Describing → are_early (version_of past) fs ≡ false → AreFilters ((latest_description past).filters ++ fs) → AreAccepted past (filters_of fs)
+filters_accepted : (fs : List filter.Filter) (past : Past) → place_of_next_line past ≡ Describing → are_early (version_of past) fs ≡ false → AreFilters ((latest_description past).filters ++ fs) → AreAccepted past (filters_of fs)
 filters_accepted [] past at later all = tt
 filters_accepted (f ∷ fs) past at later all =
     let old : List filter.Filter = (latest_description past).filters in

@@ -16,7 +16,7 @@ use Rattle.inp_record.specs.declared.item.Item.TheVariants.{Header, Device, Hint
 use Rattle.inp_record.specs.declared.place.Place.{Place}
 use Rattle.inp_record.specs.declared.place.Place.TheVariants.{Describing}
 use Rattle.inp_record.specs.Place.{is_first_place, is_out_of_place}
-use Rattle.inp_record.specs.Past.{Past, next_place, version_of, context_of, latest_name, is_requested, former_devices, actors_in, lines_in, stream_count, latest_source_count, reader_count, owner_count, axes_of, has_slots}
+use Rattle.inp_record.specs.Past.{Past, place_of_next_line, version_of, context_of, latest_name, is_requested, former_devices, actors_in, lines_in, stream_count, latest_source_count, reader_count, owner_count, axes_of, has_slots}
 use Rattle.inp_record.specs.Meaning.{has_too_many_slots}
 use Rattle.inp_record.specs.Spelling.{number_items, slots_items, kind_items, code_items, codes_items, axis_items, plain_items}
 use Rattle.inp_record.proofs.Sayable.{IsAccepted, AreAccepted, keyword_for}
@@ -60,7 +60,7 @@ is_describing_item _ = true
 
 -- what stands behind the lines of a description as it did behind its device line
 pub record IsDescribedBehind (requested : Bool) (name : List ℕ) (past new : Past) : Type 0 where
-  pub place : next_place new ≡ Describing
+  pub place : place_of_next_line new ≡ Describing
   pub version : version_of new ≡ version_of past
   pub name_is : latest_name new ≡ Some name
   pub requested_is : is_requested new ≡ requested
@@ -130,10 +130,10 @@ plain-behind d requested name past =
 -- a section of lines behind which the latest device has described no axis
 
 record IsOpen (past : Past) : Type 0 where
-  place : next_place past ≡ Describing
+  place : place_of_next_line past ≡ Describing
   axes : axes_of past ≡ []
 
-pub in_place : (past : Past) (i : Item) → next_place past ≡ Describing → is_out_of_place Describing (is_requested past) (keyword_for i) ≡ false → (is_first_place (next_place past) ≡ false) × (is_out_of_place (next_place past) (is_requested past) (keyword_for i) ≡ false)
+pub in_place : (past : Past) (i : Item) → place_of_next_line past ≡ Describing → is_out_of_place Describing (is_requested past) (keyword_for i) ≡ false → (is_first_place (place_of_next_line past) ≡ false) × (is_out_of_place (place_of_next_line past) (is_requested past) (keyword_for i) ≡ false)
 in_place past i at fits = (ap is_first_place at, ap (λ (p : Place). is_out_of_place p (is_requested past) (keyword_for i)) at ∙ fits)
 
 -- the types
@@ -242,7 +242,7 @@ not_among : (code : ℕ) (xs : List ℕ) → AreBelow code xs → list_any (λ x
 not_among code [] h = refl
 not_among code (x ∷ xs) h = or_from (nat_eq x code) (list_any (λ y. nat_eq y code) xs) (ne_eqb x code (λ e. absurd (omega (arith, h.0)))) (not_among code xs h.1)
 
-axis_accepted : (d : Description) (past : Past) (code : ℕ) → IsGathered d → next_place past ≡ Describing → AreBelow code (axes_of past) → code ≤ ABS_MAX → IsAccepted past (Axis code (info d code))
+axis_accepted : (d : Description) (past : Past) (code : ℕ) → IsGathered d → place_of_next_line past ≡ Describing → AreBelow code (axes_of past) → code ≤ ABS_MAX → IsAccepted past (Axis code (info d code))
 axis_accepted d past code g at below within = record {
   sayable = (omega arith, g.axes.said code);
   in_place = in_place past (Axis code (info d code)) at refl;
@@ -257,7 +257,7 @@ axis_then : (past : Past) (b : Bool) (i : Item) (more : List Item) → IsAccepte
 axis_then past true i more here with_it without = (here, with_it)
 axis_then past false i more here with_it without = without
 
-axes_accepted : (d : Description) (from n : ℕ) → IsGathered d → (past : Past) → next_place past ≡ Describing → AreBelow from (axes_of past) → from + n ≤ ABS_MAX + 1 → AreAccepted past (flat_map (axis_items d) (range_with_len from n))
+axes_accepted : (d : Description) (from n : ℕ) → IsGathered d → (past : Past) → place_of_next_line past ≡ Describing → AreBelow from (axes_of past) → from + n ≤ ABS_MAX + 1 → AreAccepted past (flat_map (axis_items d) (range_with_len from n))
 axes_accepted d from zero g past at below within = tt
 axes_accepted d from (suc n) g past at below within =
     axis_then past (supports d EV_ABS from) (Axis from (info d from)) (flat_map (axis_items d) (range_with_len (from + 1) n))

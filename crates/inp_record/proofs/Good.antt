@@ -31,7 +31,7 @@ use Rattle.inp_record.specs.declared.item.Item.TheVariants.{Header, Device, Hint
 use Rattle.inp_record.specs.declared.keyword.Keyword as keyword
 use Rattle.inp_record.specs.Place.{is_describing, is_naming, is_out_of_place}
 use Rattle.inp_record.specs.Words.{item_of, action_item, or_bad_word, plain_item, is_action}
-use Rattle.inp_record.specs.Past.{Past, next_place, latest_name, is_requested, latest_description, former_devices, devices_of, with_latest, actors_in, lines_in, latest_source_count, reader_count, owner_count, stream_count, streams_in, version_of, context_of}
+use Rattle.inp_record.specs.Past.{Past, place_of_next_line, latest_name, is_requested, latest_description, former_devices, devices_of, with_latest, actors_in, lines_in, latest_source_count, reader_count, owner_count, stream_count, streams_in, version_of, context_of}
 use Rattle.inp_record.specs.Meaning.{device_count, has_all, is_too_many, checked, item_of_words, behind, behind_words, behind_line, then_lines, behind_lines, record_of_past}
 use Rattle.inp_record.proofs.Inversions.{IsAct, IsChecked, IsPlaced, keyword_for, checked_is, words_are, plain_keyword, act_is}
 use Rattle.inp_record.proofs.Rooms.{closed_length}
@@ -92,7 +92,7 @@ pub record HasFewOwners (past : Past) : Type 0 where
 
 -- the lists of a past are those of a record, and no longer than so many
 pub record IsGood (n : ℕ) (past : Past) : Type 0 where
-  pub named : (is_describing (next_place past) || is_naming (next_place past)) ≡ true → is_some (latest_name past) ≡ true
+  pub named : (is_describing (place_of_next_line past) || is_naming (place_of_next_line past)) ≡ true → is_some (latest_name past) ≡ true
   pub devices : (i : ℕ) (a : ActorText) → slice_get (actors_in past) i ≡ Some a → a.device < length (devices_of past)
   pub actors : (i : ℕ) (l : Line) → slice_get (lines_in past) i ≡ Some l → l.actor < length (actors_in past)
   pub commands : (i : ℕ) (l : Line) (a : ActorText) → slice_get (lines_in past) i ≡ Some l → slice_get (actors_in past) l.actor ≡ Some a → is_command_of a.role l.command ≡ true
@@ -105,7 +105,7 @@ pub record IsGood (n : ℕ) (past : Past) : Type 0 where
   pub few_streams : stream_count past ≤ n
 
 -- a line that adds to none of the lists
-goes_on : (n : ℕ) (past new : Past) → IsGood n past → ((is_describing (next_place new) || is_naming (next_place new)) ≡ true → is_some (latest_name new) ≡ true)
+goes_on : (n : ℕ) (past new : Past) → IsGood n past → ((is_describing (place_of_next_line new) || is_naming (place_of_next_line new)) ≡ true → is_some (latest_name new) ≡ true)
     → actors_in new ≡ actors_in past → lines_in new ≡ lines_in past → stream_count new ≡ stream_count past → length (devices_of new) ≡ length (devices_of past) → HasFewActors new → HasFewOwners new → IsGood (suc n) new
 goes_on n past new good named a l s d few owners = record {
   named = named;
@@ -153,13 +153,13 @@ or_left true b h = refl
 or_left false b h = absurd (cc h)
 
 -- a description of the latest device
-described : (n : ℕ) (past : Past) (new : Past) → IsGood n past → not (is_describing (next_place past)) ≡ false → latest_name new ≡ latest_name past
+described : (n : ℕ) (past : Past) (new : Past) → IsGood n past → not (is_describing (place_of_next_line past)) ≡ false → latest_name new ≡ latest_name past
     → actors_in new ≡ actors_in past → lines_in new ≡ lines_in past → stream_count new ≡ stream_count past → former_devices new ≡ former_devices past → latest_source_count new ≡ latest_source_count past → reader_count new ≡ reader_count past → is_requested new ≡ is_requested past → owner_count new ≡ owner_count past → IsGood (suc n) new
 described n past new good place name a l s f sources readers made owners =
     let long : length (devices_of new) ≡ length (devices_of past) = rw (f, name, made) (as_many past (latest_description new)) in
     let few_owners : HasFewOwners past = good.few_owners in
     let few : HasFewActors past = good.few_actors in
-    goes_on n past new good (λ h. rw name (good.named (or_left (is_describing (next_place past)) (is_naming (next_place past)) (describing (is_describing (next_place past)) place)))) a l s long
+    goes_on n past new good (λ h. rw name (good.named (or_left (is_describing (place_of_next_line past)) (is_naming (place_of_next_line past)) (describing (is_describing (place_of_next_line past)) place)))) a l s long
     (record {
       devices = omega (arith, long, few.devices);
       sources = omega (arith, sources, few.sources);
@@ -273,7 +273,7 @@ owner_added past r name old made enough =
       ];
     }
 
-actor_added : (n : ℕ) (past : Past) (r : role.Role) (name : List ℕ) → IsGood n past → (is_describing (next_place past) || is_naming (next_place past)) ≡ true → ((r ≡ roles.Owner) → is_requested past ≡ true) → has_all (context_of past) r ≡ false → IsGood (suc n) (Actor r name ∷ past)
+actor_added : (n : ℕ) (past : Past) (r : role.Role) (name : List ℕ) → IsGood n past → (is_describing (place_of_next_line past) || is_naming (place_of_next_line past)) ≡ true → ((r ≡ roles.Owner) → is_requested past ≡ true) → has_all (context_of past) r ≡ false → IsGood (suc n) (Actor r name ∷ past)
 actor_added n past r name good place made enough =
     let some : is_some (latest_name past) ≡ true = good.named place in
     let new : ActorText = record { name = name; role = r; device = length (former_devices past) } in
@@ -348,7 +348,7 @@ action_added n past actor c good act =
       few_streams = omega (arith, good.few_streams, few_in c);
     }
 
-plain_added : (n : ℕ) (past : Past) (i : item.Item) → IsGood n past → is_out_of_place (next_place past) (is_requested past) (keyword_for i) ≡ false → is_action (keyword_for i) ≡ false → is_too_many (context_of past) i ≡ false → IsGood (suc n) (i ∷ past)
+plain_added : (n : ℕ) (past : Past) (i : item.Item) → IsGood n past → is_out_of_place (place_of_next_line past) (is_requested past) (keyword_for i) ≡ false → is_action (keyword_for i) ≡ false → is_too_many (context_of past) i ≡ false → IsGood (suc n) (i ∷ past)
 plain_added n past (Header version) good place plain enough =
     let few : HasFewActors past = good.few_actors in
     let owned : HasFewOwners past = good.few_owners in
@@ -368,12 +368,12 @@ plain_added n past (Filter (filters.Eat kind code)) good place plain enough = de
 plain_added n past (Filter filters.Norepeat) good place plain enough = described n past (Filter filters.Norepeat ∷ past) good place refl refl refl refl refl refl refl refl refl
 plain_added n past (Filter (filters.Chord first second)) good place plain enough = described n past (Filter (filters.Chord first second) ∷ past) good place refl refl refl refl refl refl refl refl refl
 plain_added n past (Filter (filters.Bounce code micros)) good place plain enough = described n past (Filter (filters.Bounce code micros) ∷ past) good place refl refl refl refl refl refl refl refl refl
-plain_added n past (Actor roles.Source name) good place plain enough = actor_added n past roles.Source name good (describing (is_describing (next_place past) || is_naming (next_place past)) place) (λ e. absurd (cc e)) enough
-plain_added n past (Actor roles.Client name) good place plain enough = actor_added n past roles.Client name good (describing (is_describing (next_place past) || is_naming (next_place past)) place) (λ e. absurd (cc e)) enough
-plain_added n past (Actor roles.Tap name) good place plain enough = actor_added n past roles.Tap name good (describing (is_describing (next_place past) || is_naming (next_place past)) place) (λ e. absurd (cc e)) enough
-plain_added n past (Actor roles.Joy name) good place plain enough = actor_added n past roles.Joy name good (describing (is_describing (next_place past) || is_naming (next_place past)) place) (λ e. absurd (cc e)) enough
+plain_added n past (Actor roles.Source name) good place plain enough = actor_added n past roles.Source name good (describing (is_describing (place_of_next_line past) || is_naming (place_of_next_line past)) place) (λ e. absurd (cc e)) enough
+plain_added n past (Actor roles.Client name) good place plain enough = actor_added n past roles.Client name good (describing (is_describing (place_of_next_line past) || is_naming (place_of_next_line past)) place) (λ e. absurd (cc e)) enough
+plain_added n past (Actor roles.Tap name) good place plain enough = actor_added n past roles.Tap name good (describing (is_describing (place_of_next_line past) || is_naming (place_of_next_line past)) place) (λ e. absurd (cc e)) enough
+plain_added n past (Actor roles.Joy name) good place plain enough = actor_added n past roles.Joy name good (describing (is_describing (place_of_next_line past) || is_naming (place_of_next_line past)) place) (λ e. absurd (cc e)) enough
 plain_added n past (Actor roles.Owner name) good place plain enough =
-    let parts = owner_parts (is_describing (next_place past) || is_naming (next_place past)) (is_requested past) place in
+    let parts = owner_parts (is_describing (place_of_next_line past) || is_naming (place_of_next_line past)) (is_requested past) place in
     actor_added n past roles.Owner name good parts.0 (λ e. parts.1) enough
 plain_added n past (Action actor command) good place plain enough = absurd (cc plain)
 

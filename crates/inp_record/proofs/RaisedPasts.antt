@@ -11,8 +11,8 @@ use Rattle.inp_record.specs.declared.item.Item.{Item}
 use Rattle.inp_record.specs.declared.item.Item.TheVariants.{Header, Device, Hint, Log, Realtime, Boottime, Slots, Kind, Code, Axis, Filter, Actor, Action}
 use Rattle.inp_record.specs.declared.place.Place.TheVariants.{Headed, Describing, Naming, Acting}
 use Rattle.inp_record.specs.Place.{is_first_place, is_out_of_place}
-use Rattle.inp_record.specs.Past.{Past, next_place, version_of, with_latest, streams_in, no_given, context_of}
-use Rattle.inp_record.specs.Meaning.{is_later_command, is_twice, is_too_many, builder_refusal, record_of_past, record_in, meaning}
+use Rattle.inp_record.specs.Past.{Past, place_of_next_line, version_of, with_latest, streams_in, no_given, context_of}
+use Rattle.inp_record.specs.Meaning.{is_later_command, is_twice, is_too_many, builder_refusal, record_of_past, record_of_context, meaning}
 use Rattle.inp_record.proofs.Sayable.{is_later_role, keyword_for, IsSayable, IsAccepted}
 use Rattle.inp_record.proofs.CanonPasts.{WereAccepted, never_both, meaning_of_past}
 use Rattle.inp_record.proofs.RoundTrip.{no_start, read_again as past_read_again}
@@ -103,7 +103,7 @@ same_context (i ∷ past) =
     ∙ ap (λ (n : ℕ). record (context_of (i ∷ past)) { version = n }) (version_behind i (raised past))
 
 -- behind their header the raised lines have version 2
-raised_version : (past : Past) → WereAccepted past → is_first_place (next_place past) ≡ false → version_of (raised past) ≡ 2
+raised_version : (past : Past) → WereAccepted past → is_first_place (place_of_next_line past) ≡ false → version_of (raised past) ≡ 2
 raised_version [] were s = absurd (cc s)
 raised_version (Header version ∷ past) were s = refl
 raised_version (Device requested name ∷ past) were s = raised_version past were.1 were.0.in_place.0
@@ -116,7 +116,7 @@ each_command c (Header version) two = refl
 each_command c _ two = refl
 
 -- a line that was accepted is accepted where the version alone differs, and is 2 behind a header
-accepted_alike : (past new : Past) (i : Item) → context_of new ≡ record (context_of past) { version = version_of new } → (is_first_place (next_place past) ≡ false → version_of new ≡ 2) → IsAccepted past i → IsAccepted new (raised_item i)
+accepted_alike : (past new : Past) (i : Item) → context_of new ≡ record (context_of past) { version = version_of new } → (is_first_place (place_of_next_line past) ≡ false → version_of new ≡ 2) → IsAccepted past i → IsAccepted new (raised_item i)
 accepted_alike past new (Header version) same two a = record {
   sayable = (omega arith, omega arith);
   in_place = ap (λ (c : Context). is_first_place c.place) same ∙ a.in_place;
@@ -190,7 +190,7 @@ abbrev with_version_2 : RecordView → RecordView
 with_version_2 r = record r { version = 2 }
 
 raised_record : (past : Past) → version_of (raised past) ≡ 2 → record_of_past (raised past) ≡ with_version_2 (record_of_past past)
-raised_record past two = ap record_in (same_context past) ∙ ap (λ (n : ℕ). record (record_of_past past) { version = n }) two
+raised_record past two = ap record_of_context (same_context past) ∙ ap (λ (n : ℕ). record (record_of_past past) { version = n }) two
 
 -- The canonical text of each record that some bytes are, with version 2, is that record with version 2.
 pub reads_again : (bytes : List ℕ) (r : RecordView) → meaning bytes ≡ Ok r → meaning (record_text (record r { version = 2 })) ≡ Ok (record r { version = 2 })

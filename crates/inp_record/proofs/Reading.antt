@@ -17,7 +17,7 @@ use Rattle.std.proofs.lemmas.List.Splits.{length-slice_split}
 use Rattle.std.proofs.lemmas.List.Sums.{count_by-le-length}
 use Rattle.inp_words.specs.Line.{is_line_feed, lines_of}
 use Rattle.inp_record.specs.Fault.{fault_at, IsParsing}
-use Rattle.inp_record.specs.Past.{Past, next_place, context_of}
+use Rattle.inp_record.specs.Past.{Past, place_of_next_line, context_of}
 use Rattle.inp_record.specs.Meaning.{behind_line, then_lines, behind_lines, record_of_past, as_record, meaning, IsBehind, AreLinesRead}
 
 -- the line at a place, and those behind it
@@ -73,7 +73,7 @@ unfolding meaning
 meaning_read text past h = ap (as_record (length (lines_of text))) h
 
 -- nothing was read before the first line alone
-pub start_is : (past : Past) → next_place past ≡ Start → past ≡ []
+pub start_is : (past : Past) → place_of_next_line past ≡ Start → past ≡ []
 start_is [] e = refl
 start_is (Header version ∷ past) e = absurd (cc)
 start_is (Device requested name ∷ past) e = absurd (cc)
@@ -89,9 +89,9 @@ start_is (Filter filter ∷ past) e = absurd (cc)
 start_is (Actor role name ∷ past) e = absurd (cc)
 start_is (Action actor command ∷ past) e = absurd (cc)
 
-pub headless : (past : Past) (n : ℕ) → next_place past ≡ Start → as_record n (Ok past) ≡ Err (record { line = n; cause = BadHeader })
+pub headless : (past : Past) (n : ℕ) → place_of_next_line past ≡ Start → as_record n (Ok past) ≡ Err (record { line = n; cause = BadHeader })
 headless past n e = ap (λ (p : Past). as_record n (Ok p)) (start_is past e)
 
-pub headed : (past : Past) (n : ℕ) → (next_place past ≡ Start → ⊥) → as_record n (Ok past) ≡ Ok (record_of_past past)
+pub headed : (past : Past) (n : ℕ) → (place_of_next_line past ≡ Start → ⊥) → as_record n (Ok past) ≡ Ok (record_of_past past)
 headed [] n h = absurd (h refl)
 headed (item ∷ past) n h = refl

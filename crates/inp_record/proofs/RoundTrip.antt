@@ -24,7 +24,7 @@ use Rattle.inp_record.specs.declared.item.Item.TheVariants.{Header, Device, Hint
 use Rattle.inp_record.specs.declared.place.Place.TheVariants.{Start}
 use Rattle.inp_record.specs.Place.{is_first_place}
 use Rattle.inp_record.specs.Words.{is_action}
-use Rattle.inp_record.specs.Past.{Past, place_after, next_place, version_of, actors_in, devices_of, lines_in}
+use Rattle.inp_record.specs.Past.{Past, place_after, place_of_next_line, version_of, actors_in, devices_of, lines_in}
 use Rattle.inp_record.specs.Meaning.{behind_lines, record_of_past, meaning}
 use Rattle.inp_record.specs.Spelling.{item_words, number_items, slots_items, kind_items, code_items, codes_items, axis_items, plain_items, filter_items, description_items, actor_items, device_items, action_item_of, RoundTrips}
 use Rattle.inp_record.proofs.Reading.{meaning_read, headed}
@@ -194,13 +194,13 @@ no_start (Filter filter) = refl
 no_start (Actor role name) = refl
 no_start (Action actor command) = refl
 
-pub read_again : (past : Past) → WereAccepted past → is_first_place (next_place past) ≡ false → meaning (record_text (record_of_past past)) ≡ Ok (record_of_past past)
+pub read_again : (past : Past) → WereAccepted past → is_first_place (place_of_next_line past) ≡ false → meaning (record_text (record_of_past past)) ≡ Ok (record_of_past past)
 read_again past were s =
     let k = kept past were s in
     let new = past_of (canon past) in
     let text = lines_text (map (item_words (actors_in past)) (canon past)) in
     let read : behind_lines 1 (text_lines text) [] ≡ Ok new = items_read (actors_in past) (canon past) [] 1 k.again.accepted (all_behind past k.again.like) in
-    let later : next_place new ≡ Start → ⊥ = λ e. both_ways (is_first_place (next_place past)) s (ap is_first_place (sym k.again.like.place ∙ e)) in
+    let later : place_of_next_line new ≡ Start → ⊥ = λ e. both_ways (is_first_place (place_of_next_line past)) s (ap is_first_place (sym k.again.like.place ∙ e)) in
     ap meaning (text_is past)
     ∙ meaning_read text new read
     ∙ headed new (length (text_lines text)) later

@@ -18,7 +18,7 @@ use Rattle.inp_record.specs.declared.item.Item.{Item}
 use Rattle.inp_record.specs.declared.item.Item.TheVariants.{Header, Device, Hint, Log, Realtime, Boottime, Slots, Kind, Code, Axis, Filter, Actor, Action}
 use Rattle.inp_record.specs.declared.keyword.Keyword as keyword
 use Rattle.inp_record.specs.declared.keyword.Keyword.TheVariants as keywords
-use Rattle.inp_record.specs.Past.{Past, next_place, version_of, is_requested, latest_description, actors_in, context_of, stream_count}
+use Rattle.inp_record.specs.Past.{Past, place_of_next_line, version_of, is_requested, latest_description, actors_in, context_of, stream_count}
 use Rattle.inp_record.specs.Place.{is_first_place, is_out_of_place}
 use Rattle.inp_record.specs.Words.{actor_from}
 use Rattle.inp_record.specs.Meaning.{is_later_command, is_twice, is_too_many, has_too_many_slots, builder_refusal}
@@ -138,14 +138,14 @@ are_early version (filter ∷ more) = nat_eq version 1
 -- a header stands first, and each other item behind one, where a line with its keyword may stand; a device made by
 -- requests, a filter, a joystick and an owner under a later version than 1
 abbrev pub IsInPlace : Past → Item → Type 0
-IsInPlace past (Header version) = is_first_place (next_place past) ≡ true
+IsInPlace past (Header version) = is_first_place (place_of_next_line past) ≡ true
 IsInPlace past (Device requested name) =
-    (is_first_place (next_place past) ≡ false) × (is_out_of_place (next_place past) (is_requested past) (keyword_for_device requested) ≡ false) × ((requested && nat_eq (version_of past) 1) ≡ false)
+    (is_first_place (place_of_next_line past) ≡ false) × (is_out_of_place (place_of_next_line past) (is_requested past) (keyword_for_device requested) ≡ false) × ((requested && nat_eq (version_of past) 1) ≡ false)
 IsInPlace past (Filter filter) =
-    (is_first_place (next_place past) ≡ false) × (is_out_of_place (next_place past) (is_requested past) (keyword_for_filter filter) ≡ false) × (nat_eq (version_of past) 1 ≡ false)
+    (is_first_place (place_of_next_line past) ≡ false) × (is_out_of_place (place_of_next_line past) (is_requested past) (keyword_for_filter filter) ≡ false) × (nat_eq (version_of past) 1 ≡ false)
 IsInPlace past (Actor role name) =
-    (is_first_place (next_place past) ≡ false) × (is_out_of_place (next_place past) (is_requested past) (keyword_for_role role) ≡ false) × ((is_later_role role && nat_eq (version_of past) 1) ≡ false)
-IsInPlace past i = (is_first_place (next_place past) ≡ false) × (is_out_of_place (next_place past) (is_requested past) (keyword_for i) ≡ false)
+    (is_first_place (place_of_next_line past) ≡ false) × (is_out_of_place (place_of_next_line past) (is_requested past) (keyword_for_role role) ≡ false) × ((is_later_role role && nat_eq (version_of past) 1) ≡ false)
+IsInPlace past i = (is_first_place (place_of_next_line past) ≡ false) × (is_out_of_place (place_of_next_line past) (is_requested past) (keyword_for i) ≡ false)
 
 -- A line that says the item is accepted behind the past.
 pub record IsAccepted (past : Past) (i : Item) : Type 0 where

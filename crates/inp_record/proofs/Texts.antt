@@ -6,7 +6,7 @@ use Rattle.std.proofs.lemmas.Str.{IsUtf8-from_ascii}
 use Rattle.std.proofs.lemmas.Bool.Decides.{nat_tests}
 use Rattle.std.proofs.lemmas.Bool.{and_parts}
 use Rattle.inp_words.specs.Line.{is_text, is_text_byte, is_blank, is_word, words_of, AreText}
-use Rattle.inp_record.specs.Words.{texts}
+use Rattle.inp_codes.specs.ByNumber.{texts}
 use Rattle.inp_words.proofs.NameWords.{bytes_are_ascii}
 
 byte_is_ascii : (b : ℕ) → is_text_byte b ≡ true → b < 128

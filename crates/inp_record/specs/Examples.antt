@@ -15,7 +15,7 @@ use Rattle.inp_record.specs.declared.cause.Cause.{Cause}
 use Rattle.inp_record.specs.declared.cause.Cause.TheVariants.{NotText, BadHeader, BadLine, OutOfPlace, NoActor, BadCommand, BadWord, Twice, TooMany, Caps}
 use Rattle.inp_record.specs.Past.{streams_in}
 use Rattle.inp_record.specs.Meaning.{meaning}
-use Rattle.inp_record.specs.Stream.{events_of}
+use Rattle.inp_record.specs.Stream.{stamps_of_command}
 
 -- these lines are refused at this one
 abbrev pub AreRefusedAt : ℕ → Cause → List (List ℕ) → Type 0
@@ -410,15 +410,15 @@ press = Some (record { event = press_event; now = 1500000 } ∷ [])
 
 -- What the bytes of a stream's file mean, by the line that names it.
 pub record MeansStreams : Type 0 where
-  pub wide : events_of (commands.Stream (codes "f") 0) press_record ≡ press
-  pub narrow : events_of (commands.Stream16 (codes "f") 0) press_record16 ≡ press
-  pub none : events_of (commands.Stream16 (codes "f") 0) [] ≡ Some []
-  pub wide_as_narrow : events_of (commands.Stream16 (codes "f") 0) press_record ≡ None
-  pub narrow_as_wide : events_of (commands.Stream (codes "f") 0) press_record16 ≡ None
+  pub wide : stamps_of_command (commands.Stream (codes "f") 0) press_record ≡ press
+  pub narrow : stamps_of_command (commands.Stream16 (codes "f") 0) press_record16 ≡ press
+  pub none : stamps_of_command (commands.Stream16 (codes "f") 0) [] ≡ Some []
+  pub wide_as_narrow : stamps_of_command (commands.Stream16 (codes "f") 0) press_record ≡ None
+  pub narrow_as_wide : stamps_of_command (commands.Stream (codes "f") 0) press_record16 ≡ None
   -- 48 bytes are two records of 24 bytes, and three of 16
-  pub two_as_three : events_of (commands.Stream16 (codes "f") 0) (press_record ++ press_record) ≡ Some
+  pub two_as_three : stamps_of_command (commands.Stream16 (codes "f") 0) (press_record ++ press_record) ≡ Some
       (record { event = record { kind = 41248; code = 7; value = pos 0 }; now = 1000000 }
       ∷ record { event = record { kind = 1; code = 0; value = pos 0 }; now = 1966081000001 }
       ∷ record { event = press_event; now = 500000000000 }
       ∷ [])
-  pub bytes_left : events_of (commands.Stream16 (codes "f") 0) (press_record16 ++ 0 ∷ []) ≡ None
+  pub bytes_left : stamps_of_command (commands.Stream16 (codes "f") 0) (press_record16 ++ 0 ∷ []) ≡ None

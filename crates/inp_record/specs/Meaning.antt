@@ -175,8 +175,8 @@ closed c =
     record c { name = None; builder = syn_alone; devices = with_latest c.devices c.name c.requested c.builder }
 
 -- the record of what is in a context
-abbrev pub record_in : Context → RecordView
-record_in c = record {
+abbrev pub record_of_context : Context → RecordView
+record_of_context c = record {
   version = c.version;
   devices = with_latest c.devices c.name c.requested c.builder;
   actors = c.actors;

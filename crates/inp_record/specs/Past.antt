@@ -32,9 +32,9 @@ place_after (Action actor command) = Acting
 place_after _ = Describing
 
 -- where the next line stands
-abbrev pub next_place : Past → place.Place
-next_place [] = Start
-next_place (item ∷ past) = place_after item
+abbrev pub place_of_next_line : Past → place.Place
+place_of_next_line [] = Start
+place_of_next_line (item ∷ past) = place_after item
 
 -- the version of the record, 1 before its header
 abbrev pub version_of : Past → ℕ
@@ -199,7 +199,7 @@ no_given = record { hint = false; log = false; slots = false; realtime = None; b
 -- all that the next line depends on
 abbrev pub context_of : Past → Context
 context_of past = record {
-  place = next_place past;
+  place = place_of_next_line past;
   version = version_of past;
   name = latest_name past;
   requested = is_requested past;

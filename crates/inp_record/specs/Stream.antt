@@ -37,12 +37,12 @@ form_of (Stream16 file index) = Narrow
 form_of _ = Wide
 
 -- the events that a command's stream has, where its file has these bytes
-abbrev pub events_of : Command → List ℕ → Option (List Stamped)
-events_of command bytes = stamps_of (time_len (form_of command)) bytes
+abbrev pub stamps_of_command : Command → List ℕ → Option (List Stamped)
+stamps_of_command command bytes = stamps_of (time_len (form_of command)) bytes
 
 -- the events that a line's stream has, where its file has these bytes
 abbrev pub events_at : RecordView → ℕ → List ℕ → Option (List Stamped)
-events_at r line bytes = option_and_then (λ (l : Line). events_of l.command bytes) (slice_get r.lines line)
+events_at r line bytes = option_and_then (λ (l : Line). stamps_of_command l.command bytes) (slice_get r.lines line)
 
 -- the number of the stream that a line takes, if it takes one
 abbrev pub stream_at : RecordView → ℕ → Option ℕ

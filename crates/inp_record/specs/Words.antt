@@ -1,6 +1,5 @@
 -- What the words of a line mean (docs/FORMATS.md, "The lines").
-use Rattle.std.specs.Borrow.{Bor}
-use Rattle.std.specs.Prelude.{ℕ, suc, ◌+◌, ◌-◌, ◌^◌, ℤ, map, Bool, true, false, ◌&&◌, if◌then◌else◌, nat_eq, nat_le, List, [], ◌∷◌, codes, bytes_eq, length, slice_index_or, Option, Some, None, is_some, option_map, option_and_then, Result, Ok, Err}
+use Rattle.std.specs.Prelude.{ℕ, suc, ◌+◌, ◌-◌, ◌^◌, ℤ, Bool, true, false, ◌&&◌, if◌then◌else◌, nat_eq, nat_le, List, [], ◌∷◌, codes, bytes_eq, length, slice_index_or, Option, Some, None, is_some, option_map, option_and_then, Result, Ok, Err}
 use Rattle.inp_model.specs.declared.event.TheConstants.{EV_KEY, EV_ABS}
 use Rattle.inp_model.specs.declared.limits.TheConstants.{BOUNCE_MAX}
 use Rattle.inp_model.specs.declared.filter.Filter as filter
@@ -250,7 +249,3 @@ is_action _ = false
 -- the meaning of a line with this keyword, by its words
 unfoldable pub item_of : List ActorText → ℕ → keyword.Keyword → List (List ℕ) → Result item.Item Cause
 item_of actors stream k ws = if is_action k then action_item actors stream ws else or_bad_word (plain_item k ws)
-
--- the texts that references point to
-abbrev pub texts : List (Bor (List ℕ)) → List (List ℕ)
-texts list = map (λ w. w.now) list

@@ -3,7 +3,8 @@ ghost use Rattle.std.specs.Prelude.{◌≡◌, ◌+◌, ◌<◌, ◌≤◌, ◌^
 ghost use Rattle.inp_words.specs.Line.{AreText, is_text};
 ghost use Rattle.inp_record.specs.Fault.{IsReading};
 ghost use Rattle.inp_record.specs.Verb.{argument_count};
-ghost use Rattle.inp_record.specs.Words.{texts, moment_word, stamped_words, mask_command, clock_command, set_axis_words, count_max, read_word, feedback_word, plain_command, command_of, actor_from, action_item};
+ghost use Rattle.inp_codes.specs.ByNumber.{texts};
+ghost use Rattle.inp_record.specs.Words.{moment_word, stamped_words, mask_command, clock_command, set_axis_words, count_max, read_word, feedback_word, plain_command, command_of, actor_from, action_item};
 
 use crate::Cause;
 use crate::item::Item;

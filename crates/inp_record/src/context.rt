@@ -4,7 +4,7 @@ ghost use Rattle.std.specs.List.{list_any};
 ghost use Rattle.std.specs.Str.{bytes_eq};
 ghost use Rattle.inp_actors.specs.Record.{IsRecord};
 ghost use Rattle.inp_record.specs.Past.{Past, context_of, no_given, IsWithinCounts, streams_in, is_later};
-ghost use Rattle.inp_record.specs.Meaning.{is_twice, is_too_many, is_later_command, has_too_many_slots, is_text_of, has_device, has_all, device_count, IsLineEntered, closed, record_in};
+ghost use Rattle.inp_record.specs.Meaning.{is_twice, is_too_many, is_later_command, has_too_many_slots, is_text_of, has_device, has_all, device_count, IsLineEntered, closed, record_of_context};
 ghost use Rattle.inp_caps.specs.Builder.{with_filter, filter_answer};
 ghost use Rattle.inp_record.specs.Words.{has_micros};
 ghost use Rattle.inp_record.specs.declared.item.Item.TheVariants as items;
@@ -457,8 +457,8 @@ impl Context {
 
     /// The record of what was entered. It takes memory for the list of its streams, which are empty.
     pub(crate) fn into_record(mut self, alloc: Global) -> Result<Record, NoMemory>
-        requires { IsRecord (record_in self) }
-        ensures { IfOk result (λ made. made ≡ record_in self) }
+        requires { IsRecord (record_of_context self) }
+        ensures { IfOk result (λ made. made ≡ record_of_context self) }
     {
         self.close()?;
         let streams = empty_streams(alloc, self.streams)?;

@@ -2,7 +2,8 @@
 ghost use Rattle.std.specs.Prelude.{◌≡◌, ◌+◌, ◌<◌, ◌≤◌, ◌^◌, length, true};
 ghost use Rattle.inp_words.specs.Number.{number};
 ghost use Rattle.inp_record.specs.Keyword.{has_words};
-ghost use Rattle.inp_record.specs.Words.{texts, word, version_word, is_header, name_word, count_word, kind_and_code, three_numbers, info_in_words, offset_item, device_item, actor_item, micros_word, eat_item, chord_item, bounce_item, plain_item};
+ghost use Rattle.inp_codes.specs.ByNumber.{texts};
+ghost use Rattle.inp_record.specs.Words.{word, version_word, is_header, name_word, count_word, kind_and_code, three_numbers, info_in_words, offset_item, device_item, actor_item, micros_word, eat_item, chord_item, bounce_item, plain_item};
 
 use crate::item::Item;
 use crate::keyword::Keyword;

@@ -3,7 +3,8 @@ ghost use Rattle.std.specs.Prelude.{◌≡◌, ◌+◌, ◌<◌, ◌≤◌, ◌^
 ghost use Rattle.inp_words.specs.Line.{AreText};
 ghost use Rattle.inp_record.specs.Fault.{IsReading};
 ghost use Rattle.inp_record.specs.Keyword.{has_words};
-ghost use Rattle.inp_record.specs.Words.{texts, word, item_of};
+ghost use Rattle.inp_codes.specs.ByNumber.{texts};
+ghost use Rattle.inp_record.specs.Words.{word, item_of};
 ghost use Rattle.inp_record.specs.Past.{Past, context_of, IsWithinCounts};
 ghost use Rattle.inp_record.specs.Meaning.{item_of_words, behind_words, behind_line, IsBehind};
 

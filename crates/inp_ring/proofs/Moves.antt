@@ -3,8 +3,8 @@ use Rattle.std.proofs.Common.{◌≡◌, ◌≤◌, ◌<◌, ℕ, zero, suc, ◌
 use Rattle.std.proofs.lemmas.Bool.{cases_eq, eq-eqb, ne_eqb, cond-true, cond-false}
 use Rattle.inp_ring.specs.declared.cell.Cell.{Cell}
 use Rattle.inp_ring.specs.declared.cell.Held.{Held}
-use Rattle.inp_ring.specs.Store.{StoreView, entry, cell_in, holders, holders_of, held_cell, cell_count, held_more, held_less, held_by, HasCell, IsIdle, IsIdleSlot, IsPut}
-use Rattle.inp_ring.specs.Ring.{times, AreHeld, IsMoved, IsTakenOut, IsEntered}
+use Rattle.inp_ring.specs.Store.{StoreView, held_under, cell_in, holders, holders_of, held_cell, cell_count, held_more, held_less, held_by, HasCell, IsIdle, IsIdleSlot, IsPut}
+use Rattle.inp_ring.specs.Ring.{times, AreHeld, IsMoved, IsTakenOut, IsPutAtEnd}
 use Rattle.inp_ring.proofs.Times.{once, once_same, once_other, times-append, times_push}
 
 -- Nothing moves.
@@ -25,7 +25,7 @@ moved_then {a} {b} {c} {p} {q} {r} m k none = record {
   kept = λ n h. let less : times n q < holders b n = omega (arith, m.held n) in k.kept n less ∙ m.kept n h;
   idle = λ n h. m.idle n (k.idle n h);
   rest = λ n i e.
-      let same : entry b n ≡ entry a n = m.rest n i (none n i e) in
+      let same : held_under b n ≡ held_under a n = m.rest n i (none n i e) in
       let idle : IsIdle b n = subst IsIdleSlot (sym same) i in
       k.rest n idle e ∙ same;
   room = omega (arith, m.room, k.room);
@@ -40,7 +40,7 @@ taken_then {a} {b} {c} {p} {q} {r} m k less none = record {
 
 -- A cell without holders has none.
 pub idle_none : (s : StoreView) (n : ℕ) → IsIdle s n → holders s n ≡ 0
-idle_none s n h = none (entry s n) h
+idle_none s n h = none (held_under s n) h
   where
     none : (o : Option Held) → IsIdleSlot o → holders_of o ≡ 0
     none None i = refl
@@ -51,7 +51,7 @@ pub idle_out : (s : StoreView) (q : List ℕ) (n : ℕ) → AreHeld s q → IsId
 idle_out s q n h i = omega (arith, h n, idle_none s n i)
 
 -- A new cell comes with its one holder.
-pub moved_add : {s new : StoreView} (m : ℕ) (cell : Cell) → entry s m ≡ None → IsPut s new m (held_by 1 cell) → cell_count s + s.spare ≤ cell_count new + new.spare → IsMoved s new [] (m ∷ [])
+pub moved_add : {s new : StoreView} (m : ℕ) (cell : Cell) → held_under s m ≡ None → IsPut s new m (held_by 1 cell) → cell_count s + s.spare ≤ cell_count new + new.spare → IsMoved s new [] (m ∷ [])
 moved_add {s} {new} m cell none put room = record {
   held = λ n. elim (cases_eq n m) [
     | inl e ↦
@@ -78,7 +78,7 @@ moved_add {s} {new} m cell none put room = record {
 }
 
 -- The first number leaves, with the cell of which it is the last holder.
-pub taken_first : {s new : StoreView} (x : ℕ) (q : List ℕ) → AreHeld s (x ∷ q) → IsPut s new x (held_less (entry s x)) → s.spare ≤ new.spare → cell_count s + s.spare ≤ cell_count new + new.spare → IsTakenOut s new (x ∷ q) q
+pub taken_first : {s new : StoreView} (x : ℕ) (q : List ℕ) → AreHeld s (x ∷ q) → IsPut s new x (held_less (held_under s x)) → s.spare ≤ new.spare → cell_count s + s.spare ≤ cell_count new + new.spare → IsTakenOut s new (x ∷ q) q
 taken_first {s} {new} x q h put spare room = record {
   moved = record {
     held = λ n. elim (cases_eq n x) [
@@ -87,7 +87,7 @@ taken_first {s} {new} x q h put spare room = record {
     ];
     kept = λ n fewer. same n (λ e. omega (arith, fewer, ap (λ (k : ℕ). once k x) e, once_same x, ap (λ (k : ℕ). holders s k) e));
     idle = λ n i. elim (cases_eq n x) [
-      | inl e ↦ absurd (last (entry s x) some (subst IsIdleSlot (put.changed) (subst (λ (k : ℕ). IsIdle new k) e i)))
+      | inl e ↦ absurd (last (held_under s x) some (subst IsIdleSlot (put.changed) (subst (λ (k : ℕ). IsIdle new k) e i)))
       | inr d ↦ subst IsIdleSlot (put.others n d) i
     ];
     rest = λ n i none. elim (cases_eq n x) [
@@ -111,7 +111,7 @@ taken_first {s} {new} x q h put spare room = record {
     ]
 
     less : holders new x + 1 ≡ holders s x
-    less = omega (arith, ap holders_of put.changed, one_less (entry s x) some)
+    less = omega (arith, ap holders_of put.changed, one_less (held_under s x) some)
 
     stays : (o : Option Held) → 1 < holders_of o → held_cell (held_less o) ≡ held_cell o
     stays None h = absurd (omega arith)
@@ -128,7 +128,7 @@ taken_first {s} {new} x q h put spare room = record {
 
     same : (n : ℕ) → (n ≡ x → 1 < holders s x) → cell_in new n ≡ cell_in s n
     same n many = elim (cases_eq n x) [
-      | inl e ↦ subst (λ (k : ℕ). cell_in new k ≡ cell_in s k) (sym e) (ap held_cell put.changed ∙ stays (entry s x) (many e))
+      | inl e ↦ subst (λ (k : ℕ). cell_in new k ≡ cell_in s k) (sym e) (ap held_cell put.changed ∙ stays (held_under s x) (many e))
       | inr d ↦ ap held_cell (put.others n d)
     ]
 
@@ -156,7 +156,7 @@ taken_same s p q same = record {
 
 -- A cell that is held is there.
 pub held_there : (s : StoreView) (n : ℕ) → 0 < holders s n → HasCell s n
-held_there s n h = there (entry s n) h
+held_there s n h = there (held_under s n) h
   where
     there : (o : Option Held) → 0 < holders_of o → IsSome o
     there None h = absurd (omega arith)
@@ -172,8 +172,8 @@ number_there s q at x held e = held_there s x (omega (arith, held x, among q at 
     among (y ∷ r) (suc i) e = omega (arith, among r i e)
 
 -- What neither leaves nor comes stays as it is.
-pub entry_same : {old new : StoreView} {from to : List ℕ} (n : ℕ) → IsMoved old new from to → HasCell old n → times n from ≡ 0 → times n to ≡ 0 → entry new n ≡ entry old n
-entry_same {old} {new} n m there out absent = same (entry old n) (entry new n) there (λ i. m.rest n i absent) (λ h. m.kept n (omega arith)) (omega (arith, m.held n))
+pub entry_same : {old new : StoreView} {from to : List ℕ} (n : ℕ) → IsMoved old new from to → HasCell old n → times n from ≡ 0 → times n to ≡ 0 → held_under new n ≡ held_under old n
+entry_same {old} {new} n m there out absent = same (held_under old n) (held_under new n) there (λ i. m.rest n i absent) (λ h. m.kept n (omega arith)) (omega (arith, m.held n))
   where
     same : (o p : Option Held) → IsSome o → (IsIdleSlot o → p ≡ o) → (0 < holders_of o → held_cell p ≡ held_cell o) → holders_of p ≡ holders_of o → p ≡ o
     same None p some idle kept equal = cc
@@ -187,9 +187,9 @@ entry_same {old} {new} n m there out absent = same (entry old n) (entry new n) t
     ]
 
 -- A number that was put, and was given no holder, is given one.
-pub moved_hold : {s t u : StoreView} {from to : List ℕ} (x : ℕ) → IsEntered s t from to x true → times x from ≡ 0 → HasCell t x → IsPut t u x (held_more 1 (entry t x)) → cell_count t + t.spare ≤ cell_count u + u.spare → IsMoved s u from to
+pub moved_hold : {s t u : StoreView} {from to : List ℕ} (x : ℕ) → IsPutAtEnd s t from to x true → times x from ≡ 0 → HasCell t x → IsPut t u x (held_more 1 (held_under t x)) → cell_count t + t.spare ≤ cell_count u + u.spare → IsMoved s u from to
 moved_hold {s} {t} {u} {from} {to} x e absent there put room =
-    let more : holders u x ≡ holders t x + 1 = ap holders_of put.changed ∙ plus (entry t x) there in
+    let more : holders u x ≡ holders t x + 1 = ap holders_of put.changed ∙ plus (held_under t x) there in
     let before : times x e.before ≡ 0 = omega (arith, e.moved.held x, ap holders_of e.same) in
     let here : times x to ≡ 1 = omega (arith, ap (times x) e.entered, times_push x x e.before, once_same x) in
     record {
@@ -198,7 +198,7 @@ moved_hold {s} {t} {u} {from} {to} x e absent there put room =
         | inr d ↦ omega (arith, ap holders_of (put.others n d), ap (times n) e.entered, times_push n x e.before, once_other n x (λ i. d (sym i)), e.moved.held n)
       ];
       kept = λ n h. elim (cases_eq n x) [
-        | inl i ↦ subst (λ (k : ℕ). cell_in u k ≡ cell_in s k) (sym i) (ap held_cell put.changed ∙ same_cell (entry t x) ∙ ap held_cell e.same)
+        | inl i ↦ subst (λ (k : ℕ). cell_in u k ≡ cell_in s k) (sym i) (ap held_cell put.changed ∙ same_cell (held_under t x) ∙ ap held_cell e.same)
         | inr d ↦ ap held_cell (put.others n d) ∙ e.moved.kept n h
       ];
       idle = λ n h. elim (cases_eq n x) [

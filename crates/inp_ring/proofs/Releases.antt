@@ -9,7 +9,7 @@ use Rattle.inp_model.specs.declared.stamped.TheConstants.{MOMENT_MAX}
 use Rattle.inp_model.specs.declared.taken.Taken.{Taken}
 use Rattle.inp_model.specs.Reply.{written}
 use Rattle.inp_ring.specs.declared.cell.Cell.{Cell}
-use Rattle.inp_ring.specs.Store.{StoreView, entry, holders, cell_count, held_less, IsPut}
+use Rattle.inp_ring.specs.Store.{StoreView, held_under, holders, cell_count, held_less, IsPut}
 use Rattle.inp_ring.specs.Ring.{times, AreFit, AreHeld, IsTakenOut, cell_at, some_cell, queue_in}
 use Rattle.inp_ring.proofs.Times.{times_first, times-drop-le, times-append}
 use Rattle.circular_buffer.specs.Buffer.{keep_last}
@@ -47,7 +47,7 @@ module _ {first s : StoreView} {q : List ℕ} {at : ℕ} (r : IsLetGo first q s 
   let_go_cell = ap some_cell (r.taken.stay next there)
 
   -- one more is let go
-  pub let_go_more : (new : StoreView) → IsPut s new next (held_less (entry s next)) → s.spare ≤ new.spare → cell_count s + s.spare ≤ cell_count new + new.spare → IsLetGo first q new (at + 1)
+  pub let_go_more : (new : StoreView) → IsPut s new next (held_less (held_under s next)) → s.spare ≤ new.spare → cell_count s + s.spare ≤ cell_count new + new.spare → IsLetGo first q new (at + 1)
   let_go_more new put spare room =
       let fewer : (n : ℕ) → times n (drop (at + 1) q) ≤ times n (drop at q) = λ n. omega (arith, ap (times n) left_is) in
       let subset : (n : ℕ) → times n (drop at q) ≤ times n q = λ n. times-drop-le n at q in

@@ -6,7 +6,7 @@ use Rattle.std.proofs.Math.Seq.{take-length}
 use Rattle.circular_buffer.specs.Buffer.{Buffer, buffer, keep_last}
 use Rattle.inp_model.specs.declared.event.Event.{Event}
 use Rattle.inp_model.specs.Queue.{is_empty, ends_in_report, flush}
-use Rattle.inp_ring.specs.Store.{StoreView, event_of, cell_in}
+use Rattle.inp_ring.specs.Store.{StoreView, event_of_cell, cell_in}
 use Rattle.inp_ring.specs.Ring.{times, ring_in, IsRing, AreDifferent, IsTakenOut, cell_at, some_cell, queue_in}
 use Rattle.inp_ring.proofs.Times.{times-drop-le, times-le-length, times_first, AreDifferent_push}
 use Rattle.inp_ring.proofs.Kept.{keep_last-push}
@@ -61,7 +61,7 @@ pub queue_rest : (old new : StoreView) (q r : List ℕ) (n : ℕ) → r ≡ drop
 queue_rest old new q r n e t = queue_stays old new r t.stay ∙ ap (queue_in old) e ∙ sym (drop-map (cell_at old) n q)
 
 -- what is left of it when a class of events is removed
-pub queue_flush : (old new : StoreView) (q r : List ℕ) (drops : Event → Bool) → r ≡ flush (event_at old) drops q → IsTakenOut old new q r → queue_in new r ≡ flush event_of drops (queue_in old q)
+pub queue_flush : (old new : StoreView) (q r : List ℕ) (drops : Event → Bool) → r ≡ flush (event_at old) drops q → IsTakenOut old new q r → queue_in new r ≡ flush event_of_cell drops (queue_in old q)
 queue_flush old new q r drops e t = queue_stays old new r t.stay ∙ ap (queue_in old) e ∙ flush-map old drops q
 
 -- the number at an index
@@ -71,7 +71,7 @@ number_at (y ∷ q) zero x e = cc
 number_at (y ∷ q) (suc i) x e = number_at q i x e
 
 -- a queue ends in a report where its numbers do
-pub ends_map : (s : StoreView) (q : List ℕ) → (is_empty (queue_in s q) || ends_in_report event_of (queue_in s q)) ≡ (is_empty q || ends_in_report (event_at s) q)
+pub ends_map : (s : StoreView) (q : List ℕ) → (is_empty (queue_in s q) || ends_in_report event_of_cell (queue_in s q)) ≡ (is_empty q || ends_in_report (event_at s) q)
 ends_map s [] = refl
 ends_map s (x ∷ []) = refl
 ends_map s (x ∷ y ∷ q) = ends_map s (y ∷ q)

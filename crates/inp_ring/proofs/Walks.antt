@@ -5,7 +5,7 @@ use Rattle.circular_buffer.specs.Buffer.{Buffer, buffer}
 use Rattle.inp_model.specs.declared.event.Event.{Event}
 use Rattle.inp_model.specs.Event.{is_report}
 use Rattle.inp_model.specs.Queue.{follows_kept, stays, flush_behind, flush}
-use Rattle.inp_ring.specs.Store.{StoreView, event_of}
+use Rattle.inp_ring.specs.Store.{StoreView, event_of_cell}
 use Rattle.inp_ring.specs.Ring.{times, AreHeld, IsTakenOut, cell_at, some_cell}
 use Rattle.inp_ring.proofs.Times.{once, times-append, times_push, times-take-drop, times_first}
 use Rattle.inp_ring.proofs.Moves.{held_moved, taken_none, taken_then, taken_same, idle_out}
@@ -61,13 +61,13 @@ module _ (event : ℕ → Event) (drops : Event → Bool) where
 
 -- the event of a number as a store has it
 abbrev pub event_at : StoreView → ℕ → Event
-event_at s n = event_of (cell_at s n)
+event_at s n = event_of_cell (cell_at s n)
 
 -- a flush of the numbers is one of the queue
-pub flush-map : (s : StoreView) (drops : Event → Bool) (q : List ℕ) → map (cell_at s) (flush (event_at s) drops q) ≡ flush event_of drops (map (cell_at s) q)
+pub flush-map : (s : StoreView) (drops : Event → Bool) (q : List ℕ) → map (cell_at s) (flush (event_at s) drops q) ≡ flush event_of_cell drops (map (cell_at s) q)
 flush-map s drops q = behind [] q
   where
-    follows : (before : List ℕ) → follows_kept (event_at s) drops before ≡ follows_kept event_of drops (map (cell_at s) before)
+    follows : (before : List ℕ) → follows_kept (event_at s) drops before ≡ follows_kept event_of_cell drops (map (cell_at s) before)
     follows [] = refl
     follows (y ∷ before) = ap (λ (b : Bool). if is_report (event_at s y) then false else if drops (event_at s y) then b else true) (follows before)
 
@@ -75,14 +75,14 @@ flush-map s drops q = behind [] q
     one true x r = refl
     one false x r = refl
 
-    behind : (before q : List ℕ) → map (cell_at s) (flush_behind (event_at s) drops before q) ≡ flush_behind event_of drops (map (cell_at s) before) (map (cell_at s) q)
+    behind : (before q : List ℕ) → map (cell_at s) (flush_behind (event_at s) drops before q) ≡ flush_behind event_of_cell drops (map (cell_at s) before) (map (cell_at s) q)
     behind before [] = refl
     behind before (x ∷ q) =
-        let stay : stays (event_at s) drops before x ≡ stays event_of drops (map (cell_at s) before) (cell_at s x) =
+        let stay : stays (event_at s) drops before x ≡ stays event_of_cell drops (map (cell_at s) before) (cell_at s x) =
         ap (λ (b : Bool). if is_report (event_at s x) then b else not (drops (event_at s x))) (follows before) in
         one (stays (event_at s) drops before x) x (flush_behind (event_at s) drops (x ∷ before) q)
         ∙ ap (λ (b : Bool). (if b then cell_at s x ∷ [] else []) ++ map (cell_at s) (flush_behind (event_at s) drops (x ∷ before) q)) stay
-        ∙ ap (λ r. (if stays event_of drops (map (cell_at s) before) (cell_at s x) then cell_at s x ∷ [] else []) ++ r) (behind (x ∷ before) q)
+        ∙ ap (λ r. (if stays event_of_cell drops (map (cell_at s) before) (cell_at s x) then cell_at s x ∷ [] else []) ++ r) (behind (x ∷ before) q)
 
 -- The numbers before `at` were walked: those that stay stand behind the others. The events are those of the first store.
 pub record IsWalked (drops : Event → Bool) (first : StoreView) (q : List ℕ) (capacity : ℕ) (s : StoreView) (numbers : Buffer ℕ) (at : ℕ) (report_stays : Bool) : Type 0 where
@@ -138,7 +138,7 @@ module _ {drops : Event → Bool} {first s : StoreView} {q : List ℕ} {capacity
     pub walked_event : event_at s (get_or numbers.items 0 0) ≡ event_at first walked_number
     walked_event =
         let there : 1 ≤ times walked_number numbers.items = omega (arith, ap (times walked_number) walked_items, times_first walked_number (drop (at + 1) q ++ flush (event_at first) drops (take at q))) in
-        ap (λ p. event_at s (get_or p 0 0)) walked_items ∙ ap (λ o. event_of (some_cell o)) (w.taken.stay walked_number there)
+        ap (λ p. event_at s (get_or p 0 0)) walked_items ∙ ap (λ o. event_of_cell (some_cell o)) (w.taken.stay walked_number there)
 
     walked_front : take (at + 1) q ≡ take at q ++ walked_number ∷ []
     walked_front = take_more q at 0 here

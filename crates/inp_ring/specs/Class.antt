@@ -4,6 +4,6 @@ use Rattle.inp_ring.specs.declared.class.Class.{Class}
 use Rattle.inp_ring.specs.declared.class.Class.TheVariants.{Kind, MultiTouch}
 
 -- the query that tells the class whole
-abbrev pub query_of : Class → Query
-query_of (Kind kind) = Codes kind
-query_of MultiTouch = Slots
+abbrev pub query_of_class : Class → Query
+query_of_class (Kind kind) = Codes kind
+query_of_class MultiTouch = Slots

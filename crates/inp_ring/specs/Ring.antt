@@ -4,7 +4,7 @@ use Rattle.circular_buffer.specs.Buffer.{Buffer}
 use Rattle.inp_model.specs.declared.stamped.TheConstants.{MOMENT_MAX}
 use Rattle.inp_model.specs.Event.{syn_dropped}
 use Rattle.inp_ring.specs.declared.cell.Cell.{Cell}
-use Rattle.inp_ring.specs.Store.{StoreView, entry, cell_in, holders, cell_count, IsIdle}
+use Rattle.inp_ring.specs.Store.{StoreView, held_under, cell_in, holders, cell_count, IsIdle}
 
 -- the places of a ring, and the numbers of its cells, oldest first
 pub record RingView : Type 0 where
@@ -70,7 +70,7 @@ pub record IsMoved (old new : StoreView) (from to : List ℕ) : Type 0 where
   -- no cell is left without a holder that had one
   pub idle : (n : ℕ) → IsIdle new n → IsIdle old n
   -- a cell without holders stays, unless it comes
-  pub rest : (n : ℕ) → IsIdle old n → times n to ≡ 0 → entry new n ≡ entry old n
+  pub rest : (n : ℕ) → IsIdle old n → times n to ≡ 0 → held_under new n ≡ held_under old n
   pub room : cell_count old + old.spare ≤ cell_count new + new.spare
 
 -- The same where numbers leave and none comes: those that stay keep their cells, and no less is spare.
@@ -80,9 +80,9 @@ pub record IsTakenOut (old new : StoreView) (from to : List ℕ) : Type 0 where
   pub stay : (n : ℕ) → 1 ≤ times n to → cell_in new n ≡ cell_in old n
 
 -- A number was put at the end of a ring, or left out, and was given no holder. `before` is what stands before it.
-pub record IsEntered (old new : StoreView) (from to : List ℕ) (number : ℕ) (is_in : Bool) : Type 0 where
+pub record IsPutAtEnd (old new : StoreView) (from to : List ℕ) (number : ℕ) (is_in : Bool) : Type 0 where
   pub before : List ℕ
   pub moved : IsMoved old new from before
   pub entered : to ≡ (if is_in then before ++ number ∷ [] else before)
   -- its own entry stays
-  pub same : entry new number ≡ entry old number
+  pub same : held_under new number ≡ held_under old number

@@ -36,23 +36,23 @@ IsIdleSlot None = ⊥
 IsIdleSlot (Some h) = h.holders ≡ 0
 
 -- what is under a number
-abbrev pub entry : StoreView → ℕ → Option Held
-entry s number = slice_index_or s.slots number None
+abbrev pub held_under : StoreView → ℕ → Option Held
+held_under s number = slice_index_or s.slots number None
 
 abbrev pub cell_in : StoreView → ℕ → Option Cell
-cell_in s number = held_cell (entry s number)
+cell_in s number = held_cell (held_under s number)
 
 -- how many rings hold the cell under a number, 0 where there is none
 abbrev pub holders : StoreView → ℕ → ℕ
-holders s number = holders_of (entry s number)
+holders s number = holders_of (held_under s number)
 
 -- there is a cell under the number
 abbrev pub HasCell : StoreView → ℕ → Type 0
-HasCell s number = IsSome (entry s number)
+HasCell s number = IsSome (held_under s number)
 
 -- there is a cell under the number that no ring holds
 abbrev pub IsIdle : StoreView → ℕ → Type 0
-IsIdle s number = IsIdleSlot (entry s number)
+IsIdle s number = IsIdleSlot (held_under s number)
 
 -- how many cells there are
 abbrev pub cell_count : StoreView → ℕ
@@ -74,16 +74,16 @@ held_by count cell = Some (record { cell = cell; holders = count })
 
 -- this is under the number now, and all else is as before
 pub record IsPut (old new : StoreView) (number : ℕ) (slot : Option Held) : Type 0 where
-  pub changed : entry new number ≡ slot
-  pub others : (other : ℕ) → other ≢ number → entry new other ≡ entry old other
+  pub changed : held_under new number ≡ slot
+  pub others : (other : ℕ) → other ≢ number → held_under new other ≡ held_under old other
 
 -- the event in a cell
-abbrev pub event_of : Cell → Event
-event_of cell = cell.event
+abbrev pub event_of_cell : Cell → Event
+event_of_cell cell = cell.event
 
 -- SYN_DROPPED in the place of what was lost, at the moment and place of the event that did not fit
-abbrev pub dropped_at : Cell → Cell
-dropped_at cell = record cell { event = syn_dropped }
+abbrev pub dropped_cell : Cell → Cell
+dropped_cell cell = record cell { event = syn_dropped }
 
 -- a cell as it is read on a clock that is so far ahead
 abbrev pub cell_taken : ℕ → Cell → Taken

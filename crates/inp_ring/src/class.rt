@@ -1,7 +1,7 @@
 //! What a flush removes.
 ghost use Rattle.std.specs.Prelude.{◌≡◌};
 ghost use Rattle.inp_model.specs.Step.{is_part_of};
-ghost use Rattle.inp_ring.specs.Class.{query_of};
+ghost use Rattle.inp_ring.specs.Class.{query_of_class};
 
 use inp_model::Event;
 
@@ -17,7 +17,7 @@ pub enum Class {
 impl Class {
     /// Whether an event is of the class.
     pub fn has(self, event: Event) -> bool
-        ensures part { result ≡ is_part_of (query_of self) event }
+        ensures part { result ≡ is_part_of (query_of_class self) event }
     {
         match self {
             Class::Kind(kind) => event.kind == kind,

@@ -6,8 +6,8 @@ ghost use Rattle.inp_model.specs.Event.{is_report};
 ghost use Rattle.inp_model.specs.Queue.{flush};
 ghost use Rattle.inp_model.specs.Reply.{written};
 ghost use Rattle.inp_model.specs.Step.{is_part_of};
-ghost use Rattle.inp_ring.specs.Class.{query_of};
-ghost use Rattle.inp_ring.specs.Store.{event_of, cell_taken, HasCell};
+ghost use Rattle.inp_ring.specs.Class.{query_of_class};
+ghost use Rattle.inp_ring.specs.Store.{event_of_cell, cell_taken, HasCell};
 ghost use Rattle.inp_ring.specs.Ring.{times, cell_at, queue_in, AreHeld, AreFit, IsMoved, IsTakenOut};
 
 use crate::cell::Cell;
@@ -115,8 +115,8 @@ pub fn replace_all(numbers: &mut HeapCircularBuffer<u32>, store: &mut Store, cel
 pub fn remove_class(numbers: &mut HeapCircularBuffer<u32>, store: &mut Store, class: Class)
     requires within { length numbers.old.items ≤ numbers.old.capacity }
     requires held { AreHeld store.old numbers.old.items }
-    ensures rest { let drops = is_part_of (query_of class) in
-        let rest = flush (λ n. event_of (cell_at store.old n)) drops numbers.old.items in
+    ensures rest { let drops = is_part_of (query_of_class class) in
+        let rest = flush (λ n. event_of_cell (cell_at store.old n)) drops numbers.old.items in
         numbers.new ≡ buffer rest numbers.old.capacity }
     ensures moved { IsTakenOut store.old store.new numbers.old.items numbers.new.items }
 {
@@ -136,7 +136,7 @@ pub fn remove_class(numbers: &mut HeapCircularBuffer<u32>, store: &mut Store, cl
 fn first_event(numbers: &HeapCircularBuffer<u32>, store: &Store) -> Event
     requires some { 0 < length numbers.now.items }
     requires held { AreHeld store.now numbers.now.items }
-    ensures event { result ≡ event_of (cell_at store.now (get_or numbers.now.items 0 0)) }
+    ensures event { result ≡ event_of_cell (cell_at store.now (get_or numbers.now.items 0 0)) }
 {
     let number = *numbers.front().unwrap();
     store.get(number).event
@@ -155,7 +155,7 @@ fn turn(numbers: &mut HeapCircularBuffer<u32>)
 
 /// Whether an event stays without a class, where it is known whether a report would.
 fn stays(event: Event, class: Class, report_stays: bool) -> bool
-    ensures { let removed = is_part_of (query_of class) event in
+    ensures { let removed = is_part_of (query_of_class class) event in
         result ≡ (if is_report event then report_stays else not removed) }
 {
     if event.is_report() {

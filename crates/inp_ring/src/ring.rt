@@ -8,9 +8,9 @@ ghost use Rattle.inp_model.specs.Event.{is_report, syn_dropped};
 ghost use Rattle.inp_model.specs.Queue.{is_empty, ends_in_report, put, visible, flush, clock_changed};
 ghost use Rattle.inp_model.specs.Reply.{written};
 ghost use Rattle.inp_model.specs.Step.{is_part_of, Codes, Slots};
-ghost use Rattle.inp_ring.specs.Class.{query_of};
-ghost use Rattle.inp_ring.specs.Store.{entry, cell_in, event_of, dropped_at, cell_taken, holders, HasCell};
-ghost use Rattle.inp_ring.specs.Ring.{times, cell_at, queue_in, IsRing, AreFit, AreHeld, AreDifferent, EntersAlone, HoldsAllButOne, IsMoved, IsTakenOut, IsEntered};
+ghost use Rattle.inp_ring.specs.Class.{query_of_class};
+ghost use Rattle.inp_ring.specs.Store.{held_under, cell_in, event_of_cell, dropped_cell, cell_taken, holders, HasCell};
+ghost use Rattle.inp_ring.specs.Ring.{times, cell_at, queue_in, IsRing, AreFit, AreHeld, AreDifferent, EntersAlone, HoldsAllButOne, IsMoved, IsTakenOut, IsPutAtEnd};
 
 use crate::cell::Cell;
 use crate::class::Class;
@@ -89,12 +89,13 @@ impl Ring {
         requires held { AreHeld store.old self.old.numbers }
         ensures put { let queue = queue_in store.old self.old.numbers in
             queue_in store.new self.new.numbers
-            ≡ put event_of dropped_at self.old.places queue (cell_at store.old number) }
+            ≡ put event_of_cell dropped_cell self.old.places queue (cell_at store.old number) }
         ensures places { self.new.places ≡ self.old.places }
         ensures moved { IsMoved store.old store.new self.old.numbers self.new.numbers }
 
         // SYN_DROPPED, where it is not the item itself, enters at a full ring alone.
-        ensures lost { EntersAlone number self.old.numbers self.new.numbers ⊎ HoldsAllButOne self.old }
+        ensures lost { EntersAlone number self.old.numbers self.new.numbers
+            ⊎ HoldsAllButOne self.old }
     {
         let event = store.get(number).event;
         if self.enter(store, number, event) {
@@ -107,18 +108,20 @@ impl Ring {
     ///
     /// The number must have a cell with this event, and not be in this ring.
     pub fn enter(&mut self, store: &mut Store, number: u32, event: Event) -> bool
-        requires event { option_map event_of (cell_in store.old number) ≡ Some event }
+        requires event { option_map event_of_cell (cell_in store.old number) ≡ Some event }
         requires absent { times number self.old.numbers ≡ 0 }
         requires room { HoldsAllButOne self.old → 0 < store.old.spare }
         requires held { AreHeld store.old self.old.numbers }
         ensures put { let queue = queue_in store.old self.old.numbers in
             queue_in store.new self.new.numbers
-            ≡ put event_of dropped_at self.old.places queue (cell_at store.old number) }
+            ≡ put event_of_cell dropped_cell self.old.places queue (cell_at store.old number) }
         ensures places { self.new.places ≡ self.old.places }
-        ensures entered { IsEntered store.old store.new self.old.numbers self.new.numbers number result }
+        ensures entered { IsPutAtEnd store.old store.new self.old.numbers self.new.numbers
+            number result }
 
         // SYN_DROPPED, where it is not the item itself, enters at a full ring alone.
-        ensures lost { EntersAlone number self.old.numbers self.new.numbers ⊎ HoldsAllButOne self.old }
+        ensures lost { EntersAlone number self.old.numbers self.new.numbers
+            ⊎ HoldsAllButOne self.old }
     {
         if event.is_report() && self.is_all_visible(store) {
             return false;
@@ -142,7 +145,8 @@ impl Ring {
     pub fn append_all(&mut self, numbers: &[u32])
         requires room { length self.old.numbers + length numbers.now < self.old.places }
         requires different { AreDifferent (self.old.numbers ++ numbers.now) }
-        ensures appended { self.new ≡ record self.old { numbers = self.old.numbers ++ numbers.now } }
+        ensures appended { self.new
+            ≡ record self.old { numbers = self.old.numbers ++ numbers.now } }
     {
         self.numbers.fill_from_slice(numbers);
     }
@@ -155,7 +159,8 @@ impl Ring {
         requires not_syn { kind ≢ EV_SYN }
         requires held { AreHeld store.old self.old.numbers }
         ensures flush { let queue = queue_in store.old self.old.numbers in
-            queue_in store.new self.new.numbers ≡ flush event_of (is_part_of (Codes kind)) queue }
+            queue_in store.new self.new.numbers
+            ≡ flush event_of_cell (is_part_of (Codes kind)) queue }
         ensures places { self.new.places ≡ self.old.places }
         ensures moved { IsTakenOut store.old store.new self.old.numbers self.new.numbers }
     {
@@ -166,7 +171,7 @@ impl Ring {
     pub fn flush_slots(&mut self, store: &mut Store)
         requires held { AreHeld store.old self.old.numbers }
         ensures flush { let queue = queue_in store.old self.old.numbers in
-            queue_in store.new self.new.numbers ≡ flush event_of (is_part_of Slots) queue }
+            queue_in store.new self.new.numbers ≡ flush event_of_cell (is_part_of Slots) queue }
         ensures places { self.new.places ≡ self.old.places }
         ensures moved { IsTakenOut store.old store.new self.old.numbers self.new.numbers }
     {
@@ -178,7 +183,7 @@ impl Ring {
     /// It looks from the newest event back to the last SYN_REPORT, which between two frames is the newest one.
     pub fn visible(&self, store: &Store) -> u32
         requires held { AreHeld store.now self.now.numbers }
-        ensures visible { result ≡ visible event_of (queue_in store.now self.now.numbers) }
+        ensures visible { result ≡ visible event_of_cell (queue_in store.now self.now.numbers) }
         ensures within { result ≤ length self.now.numbers }
     {
         let mut count = self.numbers.len();
@@ -198,7 +203,7 @@ impl Ring {
         requires moments { AreFit (queue_in store.old self.old.numbers) }
         requires held { AreHeld store.old self.old.numbers }
         ensures count { let queue = queue_in store.old self.old.numbers in
-            result ≡ min count (visible event_of queue) }
+            result ≡ min count (visible event_of_cell queue) }
         ensures taken { let cells = take result (queue_in store.old self.old.numbers) in
             out.new ≡ written (map (cell_taken offset) cells) out.old }
         ensures rest { self.new ≡ record self.old { numbers = drop result self.old.numbers } }
@@ -215,7 +220,7 @@ impl Ring {
     pub fn discard(&mut self, store: &mut Store) -> u32
         requires held { AreHeld store.old self.old.numbers }
         ensures count { let queue = queue_in store.old self.old.numbers in
-            result ≡ visible event_of queue }
+            result ≡ visible event_of_cell queue }
         ensures rest { self.new ≡ record self.old { numbers = drop result self.old.numbers } }
         ensures left { let queue = queue_in store.old self.old.numbers in
             queue_in store.new self.new.numbers ≡ drop result queue }
@@ -262,7 +267,7 @@ impl Ring {
     fn is_all_visible(&self, store: &Store) -> bool
         requires held { AreHeld store.now self.now.numbers }
         ensures whole { let queue = queue_in store.now self.now.numbers in
-            result ≡ (is_empty queue || ends_in_report event_of queue) }
+            result ≡ (is_empty queue || ends_in_report event_of_cell queue) }
     {
         match self.numbers.back() {
             Some(number) => store.get(*number).event.is_report(),
@@ -275,7 +280,7 @@ impl Ring {
         requires within { index < length self.now.numbers }
         requires held { AreHeld store.now self.now.numbers }
         ensures report { result
-            ≡ is_report (event_of (cell_at store.now (get_or self.now.numbers index 0))) }
+            ≡ is_report (event_of_cell (cell_at store.now (get_or self.now.numbers index 0))) }
     {
         let number = *self.numbers.get(index).unwrap();
         store.get(number).event.is_report()
@@ -300,10 +305,10 @@ impl Ring {
         ensures queue { let queue = queue_in store.old self.old.numbers in
             queue_in store.new self.new.numbers
             ≡ (if nat_lt (suc (length self.old.numbers)) self.old.places then queue
-            else dropped_at (cell_at store.old number) ∷ []) }
+            else dropped_cell (cell_at store.old number) ∷ []) }
         ensures places { self.new.places ≡ self.old.places }
         ensures absent { times number self.new.numbers ≡ 0 }
-        ensures same { entry store.new number ≡ entry store.old number }
+        ensures same { held_under store.new number ≡ held_under store.old number }
         ensures moved { IsMoved store.old store.new self.old.numbers self.new.numbers }
         ensures lost { (self.new.numbers ≡ self.old.numbers) ⊎ HoldsAllButOne self.old }
     {
@@ -325,7 +330,8 @@ impl Ring {
     fn append(&mut self, number: u32)
         requires room { suc (length self.old.numbers) < self.old.places }
         requires absent { times number self.old.numbers ≡ 0 }
-        ensures appended { self.new ≡ record self.old { numbers = self.old.numbers ++ number ∷ [] } }
+        ensures appended { self.new
+            ≡ record self.old { numbers = self.old.numbers ++ number ∷ [] } }
     {
         self.numbers.push_back(number);
     }
@@ -334,7 +340,8 @@ impl Ring {
     fn remove(&mut self, store: &mut Store, class: Class)
         requires held { AreHeld store.old self.old.numbers }
         ensures removed { let queue = queue_in store.old self.old.numbers in
-            queue_in store.new self.new.numbers ≡ flush event_of (is_part_of (query_of class)) queue }
+            queue_in store.new self.new.numbers
+            ≡ flush event_of_cell (is_part_of (query_of_class class)) queue }
         ensures places { self.new.places ≡ self.old.places }
         ensures moved { IsTakenOut store.old store.new self.old.numbers self.new.numbers }
     {

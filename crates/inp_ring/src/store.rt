@@ -1,6 +1,6 @@
 //! The store that all clients of a device share.
 ghost use Rattle.std.specs.Prelude.{◌≡◌, ◌≤◌, ◌<◌, ◌+◌, if◌then◌else◌, nat_eq, nat_lt, [], Some, None, OnOk, OnErr};
-ghost use Rattle.inp_ring.specs.Store.{entry, cell_in, holders, cell_count, held_more, held_less, held_by, HasCell, IsIdle, IsPut};
+ghost use Rattle.inp_ring.specs.Store.{held_under, cell_in, holders, cell_count, held_more, held_less, held_by, HasCell, IsIdle, IsPut};
 
 use crate::cell::{Cell, Held};
 use inp_model::NoMemory;
@@ -68,7 +68,7 @@ impl Store {
     /// Adds a cell that nobody holds, and gives its number, under which there was none. There must be room to spare.
     pub fn add(&mut self, cell: Cell) -> u32
         requires room { 0 < self.old.spare }
-        ensures new { entry self.old result ≡ None }
+        ensures new { held_under self.old result ≡ None }
         ensures added { IsPut self.old self.new result (held_by 0 cell) }
         ensures spare { self.new.spare + 1 ≡ self.old.spare }
         ensures count { cell_count self.new ≡ cell_count self.old + 1 }
@@ -79,7 +79,7 @@ impl Store {
     /// Adds a cell with one holder. It is [`add`](Store::add) and [`hold`](Store::hold) with one look-up.
     pub fn add_held(&mut self, cell: Cell) -> u32
         requires room { 0 < self.old.spare }
-        ensures new { entry self.old result ≡ None }
+        ensures new { held_under self.old result ≡ None }
         ensures added { IsPut self.old self.new result (held_by 1 cell) }
         ensures spare { self.new.spare + 1 ≡ self.old.spare }
         ensures count { cell_count self.new ≡ cell_count self.old + 1 }
@@ -90,7 +90,7 @@ impl Store {
     /// Adds a cell that so many rings hold, as [`add`](Store::add) does one that nobody holds.
     pub fn add_held_by(&mut self, cell: Cell, holders: u32) -> u32
         requires room { 0 < self.old.spare }
-        ensures new { entry self.old result ≡ None }
+        ensures new { held_under self.old result ≡ None }
         ensures added { IsPut self.old self.new result (held_by holders cell) }
         ensures spare { self.new.spare + 1 ≡ self.old.spare }
         ensures count { cell_count self.new ≡ cell_count self.old + 1 }
@@ -117,7 +117,7 @@ impl Store {
     pub fn hold(&mut self, number: u32)
         requires there { HasCell self.old number }
         requires few { holders self.old number < 64 }
-        ensures held { IsPut self.old self.new number (held_more 1 (entry self.old number)) }
+        ensures held { IsPut self.old self.new number (held_more 1 (held_under self.old number)) }
         ensures spare { self.new.spare ≡ self.old.spare }
         ensures count { cell_count self.new ≡ cell_count self.old }
     {
@@ -128,7 +128,8 @@ impl Store {
     pub fn hold_many(&mut self, number: u32, count: u32)
         requires there { HasCell self.old number }
         requires few { holders self.old number + count ≤ 64 }
-        ensures held { IsPut self.old self.new number (held_more count (entry self.old number)) }
+        ensures held { IsPut self.old self.new number
+            (held_more count (held_under self.old number)) }
         ensures spare { self.new.spare ≡ self.old.spare }
         ensures count { cell_count self.new ≡ cell_count self.old }
     {
@@ -138,7 +139,7 @@ impl Store {
     /// Takes one holder from a cell, which must have one. The last holder takes the cell along.
     pub fn release(&mut self, number: u32)
         requires held { 0 < holders self.old number }
-        ensures released { IsPut self.old self.new number (held_less (entry self.old number)) }
+        ensures released { IsPut self.old self.new number (held_less (held_under self.old number)) }
         ensures spare { self.new.spare
             ≡ (if nat_eq (holders self.old number) 1 then self.old.spare + 1 else self.old.spare) }
         ensures room { cell_count self.new + self.new.spare
@@ -151,7 +152,7 @@ impl Store {
     pub fn let_go(&mut self, number: u32) -> Cell
         requires held { 0 < holders self.old number }
         ensures cell { cell_in self.old number ≡ Some result }
-        ensures released { IsPut self.old self.new number (held_less (entry self.old number)) }
+        ensures released { IsPut self.old self.new number (held_less (held_under self.old number)) }
         ensures spare { self.new.spare
             ≡ (if nat_eq (holders self.old number) 1 then self.old.spare + 1 else self.old.spare) }
         ensures room { cell_count self.new + self.new.spare

@@ -28,7 +28,7 @@ use Rattle.inp_script.specs.declared.waiting.Waiting.{Waiting}
 use Rattle.inp_script.specs.Ended.{ended_of, jobs_among, joys_among, owners_among, device_run}
 use Rattle.inp_script.specs.Fold.{IsFolded}
 use Rattle.inp_script.specs.Job.{ActorView, Job, JobView, JoyJobView, OwnerView, first_job, job_end, joy_end, owner_end}
-use Rattle.inp_script.specs.Legal.{entries_of}
+use Rattle.inp_script.specs.Legal.{sight_of_calls}
 use Rattle.inp_script.specs.Runs.{is_on_device, is_joystick, is_owning, actors_of, jobs_of, joysticks_of, joy_actors, owners_of, owner_actors, IsRunOf}
 use Rattle.inp_runs.specs.Done.{HasFollowed, IsDeviceDone, IsRunAsPromised, calls_at}
 use Rattle.inp_runs.specs.Job.{lines_by, lines_talk, entries_at, AreTold, IsJob, IsJoyJob, IsRun, wait_of}
@@ -128,7 +128,7 @@ called-within idle r i d history actors k place a is_record s h some =
     let wait : Option Waiting = wait_of idle r i in
     let its : IsActorOf r i d wait history a = actor_of idle r i d history actors k a s h in
     let f : HasFollowed r d wait history its.text.role a = its.followed in
-    let counted : entries place (entries_of f.calls) ≡ entries place a.job.sight = told-counts wait f.calls a.job.sight (followed-told r d wait history its.text a is_record its.is_text f) place in
+    let counted : entries place (sight_of_calls f.calls) ≡ entries place a.job.sight = told-counts wait f.calls a.job.sight (followed-told r d wait history its.text a is_record its.is_text f) place in
     place-within d history 0 place f.calls f.legal (counts-place place f.calls (omega (arith, some, counted)))
 
 counts-within : (idle : Option ℕ) (r : RecordView) (i : ℕ) (d : Description) (history : List Step) (actors : List ActorView) (place : ℕ) → IsRecord r → IsDeviceDone idle r i d history actors → 1 ≤ sum_by (calls_at place) actors → (place < length history) × (place < d.log_limit)

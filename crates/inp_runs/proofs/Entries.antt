@@ -12,7 +12,7 @@ use Rattle.inp_model.specs.Run.{Call, place_of}
 use Rattle.inp_script.specs.declared.sight.Sight.{Sight}
 use Rattle.inp_script.specs.declared.sight.Sight.TheVariants.{Call as Called, Took, Made, Again, Record}
 use Rattle.inp_script.specs.declared.waiting.Waiting.{Waiting}
-use Rattle.inp_script.specs.Legal.{entries_of, is_call_entry, LeavesOut}
+use Rattle.inp_script.specs.Legal.{sight_of_calls, is_call_entry, LeavesOut}
 use Rattle.inp_script.specs.Sight.{call_sight, again_sight}
 use Rattle.inp_runs.specs.Job.{is_entry_at, AreTold}
 
@@ -54,10 +54,10 @@ pub entries-call : (place : ℕ) (x : Step) (reply : Reply) → entries place (c
 entries-call place x (NothingVisible at ends) = refl
 entries-call place x reply = zero-add (if is_accepted reply && nat_eq (place_of reply) place then 1 else 0)
 
-pub entries-cons_call : (place : ℕ) (call : Call) (calls : List Call) → entries place (entries_of (call ∷ calls)) ≡ (if is_accepted call.answer.reply && nat_eq (place_of call.answer.reply) place then 1 else 0) + entries place (entries_of calls)
+pub entries-cons_call : (place : ℕ) (call : Call) (calls : List Call) → entries place (sight_of_calls (call ∷ calls)) ≡ (if is_accepted call.answer.reply && nat_eq (place_of call.answer.reply) place then 1 else 0) + entries place (sight_of_calls calls)
 entries-cons_call place call calls =
-    entries-append place (call_entries call.step call.answer.reply) (entries_of calls)
-    ∙ ap (λ (n : ℕ). n + entries place (entries_of calls)) (entries-call place call.step call.answer.reply)
+    entries-append place (call_entries call.step call.answer.reply) (sight_of_calls calls)
+    ∙ ap (λ (n : ℕ). n + entries place (sight_of_calls calls)) (entries-call place call.step call.answer.reply)
 
 -- Calls that a sight leaves out
 
@@ -66,21 +66,21 @@ again_none place (NothingVisible at ends) h = refl
 again_none place _ h = absurd cc
 
 -- answers Again have no place
-left_out-entries : (place : ℕ) (kept calls : List Call) → LeavesOut kept calls → entries place (entries_of kept) ≡ entries place (entries_of calls)
-left_out-entries place kept [] out = ap (λ (cs : List Call). entries place (entries_of cs)) out
+left_out-entries : (place : ℕ) (kept calls : List Call) → LeavesOut kept calls → entries place (sight_of_calls kept) ≡ entries place (sight_of_calls calls)
+left_out-entries place kept [] out = ap (λ (cs : List Call). entries place (sight_of_calls cs)) out
 left_out-entries place kept (call ∷ calls) (inl out) =
-    ap (λ (cs : List Call). entries place (entries_of cs)) out.1
+    ap (λ (cs : List Call). entries place (sight_of_calls cs)) out.1
     ∙ entries-cons_call place call out.0
     ∙ ap (λ (n : ℕ). (if is_accepted call.answer.reply && nat_eq (place_of call.answer.reply) place then 1 else 0) + n) (left_out-entries place out.0 calls out.2)
     ∙ sym (entries-cons_call place call calls)
 left_out-entries place kept (call ∷ calls) (inr out) =
     left_out-entries place kept calls out.1
-    ∙ sym (zero-add (entries place (entries_of calls)))
-    ∙ ap (λ (n : ℕ). n + entries place (entries_of calls)) (sym (again_none place call.answer.reply out.0))
+    ∙ sym (zero-add (entries place (sight_of_calls calls)))
+    ∙ ap (λ (n : ℕ). n + entries place (sight_of_calls calls)) (sym (again_none place call.answer.reply out.0))
     ∙ sym (entries-cons_call place call calls)
 
 -- a sight has as many entries at a place as the calls that it tells of
-pub told-counts : (wait : Option Waiting) (calls : List Call) (sight : List Sight) → AreTold wait calls sight → (place : ℕ) → entries place (entries_of calls) ≡ entries place sight
+pub told-counts : (wait : Option Waiting) (calls : List Call) (sight : List Sight) → AreTold wait calls sight → (place : ℕ) → entries place (sight_of_calls calls) ≡ entries place sight
 told-counts None calls sight told = λ place. ap (λ (es : List Sight). entries place es) told ∙ entries-calls place sight
 told-counts (Some waiting) calls sight told = λ place.
     sym (left_out-entries place told.kept calls told.part) ∙ ap (λ (es : List Sight). entries place es) told.entries ∙ entries-calls place sight

@@ -41,7 +41,7 @@ use Rattle.inp_joy.specs.declared.joy_read.JoyRead.{JoyRead}
 use Rattle.inp_joy.specs.declared.joy_read.JoyRead.TheVariants.{Record as HandedOut, Frame, Again as NothingToRead, NoDevice as Revoked, Closed as NotOpen, Full as FullHistory, More}
 use Rattle.inp_joy.specs.declared.joy_record.JoyRecord.{JoyRecord}
 use Rattle.inp_joy.specs.Joying as joy
-use Rattle.inp_joy.specs.Joying.{Joying, JoyAnswer, Turn as JoyTurn, gives, goes_on as reads_on, startup, with_reading, without_startup, joy_started, joy_start, stop_with, is_lost, event_handed_out, joy_record_of, record_or_on, stop_or_event, stop_or_startup, joying_after_sync, sync_turn, after_normal, event_turn, record_or_turn, turn_talk, with_count, is_long, after_turn, turns}
+use Rattle.inp_joy.specs.Joying.{Joying, JoyAnswer, JoyTurn, gives, goes_on as reads_on, startup, with_reading, without_startup, joy_started, joy_start, stop_with, is_lost, event_handed_out, joy_record_of, record_or_on, stop_or_event, stop_or_startup, joying_after_sync, sync_turn, after_normal, event_turn, record_or_turn, turn_talk, with_count, is_long, after_turn, turns}
 use Rattle.inp_reader.specs.Standing.{is_needed}
 use Rattle.inp_reader.specs.Talk.{Talk, finish, ask, and_then, LeadsTo, EndsWith}
 use Rattle.inp_script.specs.declared.sight.Sight.{Sight}

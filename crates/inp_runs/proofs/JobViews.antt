@@ -28,7 +28,7 @@ use Rattle.inp_reader.specs.Standing.{is_read}
 use Rattle.inp_joy.specs.declared.joy_read.JoyRead.{JoyRead}
 use Rattle.inp_joy.specs.declared.joy_read.JoyRead.TheVariants.{Record as HandedOut, Frame, Again as NothingToRead, NoDevice as Revoked, Closed as NotOpen, Full as FullHistory, More}
 use Rattle.inp_joy.specs.declared.joy_record.JoyRecord.{JoyRecord}
-use Rattle.inp_joy.specs.JoyRecord.{bytes_of}
+use Rattle.inp_joy.specs.JoyRecord.{bytes_of_record}
 use Rattle.inp_joy.specs.Joying.{JoyAnswer, joy_start, turns}
 use Rattle.inp_reader.specs.Talk.{Talk, finish, LeadsTo, EndsWith}
 use Rattle.inp_reader.proofs.ClientViews.{no_read-takes}
@@ -135,7 +135,7 @@ module _ (P : List Sight → Taken → Type 0) (d : Description) (h : List Step)
 
   joystick-record : (out : Option JoyRecord) (sight : List Sight) → AtEach P [] sight → AtEach P [] (sight ++ record_sight out)
   joystick-record None sight s = subst (AtEach P []) (sym (append-nil sight)) s
-  joystick-record (Some r) sight s = joystick-entry (Record (bytes_of r)) sight tt s
+  joystick-record (Some r) sight s = joystick-entry (Record (bytes_of_record r)) sight tt s
 
   joystick-start : (j k : Job) (calls : List Call) → EndsWith (start_joystick d j) calls (Some k) → AtEach P [] j.sight → AtEach P [] k.sight
   unfolding start_joystick

@@ -9,7 +9,7 @@ use Rattle.inp_model.specs.Reply.{Answer, answer}
 use Rattle.inp_model.specs.Run.{Call}
 use Rattle.inp_reader.specs.Talk.{Talk, finish, ask, and_then, LeadsTo, EndsWith}
 use Rattle.inp_script.specs.declared.sight.Sight.{Sight}
-use Rattle.inp_script.specs.Legal.{entries_of, is_call_entry}
+use Rattle.inp_script.specs.Legal.{sight_of_calls, is_call_entry}
 use Rattle.inp_script.specs.Sight.{call_sight, noted}
 use Rattle.inp_script.proofs.Told.{call_kept}
 use Rattle.inp_runs.proofs.Entries.{call_entries}
@@ -24,7 +24,7 @@ abbrev pub AreAnswered : Description → List Call → Type 0
 AreAnswered d [] = Unit {0}
 AreAnswered d (call ∷ calls) = (past : List Step) × (call.answer ≡ answer d past call.step) × AreAnswered d calls
 
-pub leaves-ends : {A : Type 0} (d : Description) (P : A → List Sight → Type 0) (entries : List Sight) (talk : Talk A) (calls : List Call) (result : A) → AreAnswered d calls → EndsWith talk calls result → Leaves d P entries talk → P result (entries ++ entries_of calls)
+pub leaves-ends : {A : Type 0} (d : Description) (P : A → List Sight → Type 0) (entries : List Sight) (talk : Talk A) (calls : List Call) (result : A) → AreAnswered d calls → EndsWith talk calls result → Leaves d P entries talk → P result (entries ++ sight_of_calls calls)
 unfolding LeadsTo
 leaves-ends d P entries (finish a) [] result answered ends h =
     let same : a ≡ result = cc in
@@ -36,7 +36,7 @@ leaves-ends d P entries (ask x rest) (call ∷ calls) result answered ends h =
     let here : Leaves d P (entries ++ call_entries call.step call.answer.reply) (rest call.answer) =
     subst (λ (y : Step). Leaves d P (entries ++ call_entries y call.answer.reply) (rest call.answer)) (sym ends.0)
     (subst (λ (b : Answer). Leaves d P (entries ++ call_entries x b.reply) (rest b)) (sym is) (h answered.0)) in
-    subst (λ (es : List Sight). P result es) (append_assoc entries (call_entries call.step call.answer.reply) (entries_of calls))
+    subst (λ (es : List Sight). P result es) (append_assoc entries (call_entries call.step call.answer.reply) (sight_of_calls calls))
     (leaves-ends d P (entries ++ call_entries call.step call.answer.reply) (rest call.answer) calls result answered.2 ends.1 here)
 
 pub leaves-then : {A B : Type 0} (d : Description) (Q : A → List Sight → Type 0) (P : B → List Sight → Type 0) (entries : List Sight) (talk : Talk A) (next : A → Talk B) → Leaves d Q entries talk → ((a : A) (es : List Sight) → Q a es → Leaves d P es (next a)) → Leaves d P entries (and_then talk next)

@@ -27,9 +27,9 @@ use Rattle.inp_reader.specs.Reading.{Reading, start_talk, next_talk}
 use Rattle.inp_joy.specs.declared.joy_read.JoyRead.{JoyRead}
 use Rattle.inp_joy.specs.declared.joy_read.JoyRead.TheVariants.{Record as HandedOut, Frame, Again as NothingToRead, NoDevice as Revoked, Closed as NotOpen, Full as FullHistory, More}
 use Rattle.inp_joy.specs.declared.joy_record.JoyRecord.{JoyRecord}
-use Rattle.inp_joy.specs.JoyRecord.{bytes_of}
+use Rattle.inp_joy.specs.JoyRecord.{bytes_of_record}
 use Rattle.inp_joy.specs.Joying as joy
-use Rattle.inp_joy.specs.Joying.{Joying, JoyAnswer, Turn as JoyTurn, gives, goes_on as reads_on, startup, with_reading, without_startup, joy_started, joy_start, stop_with, is_lost, joy_record_of, record_or_on, joying_after_event, stop_or_startup, joying_after_sync, sync_turn, after_normal, event_turn, record_or_turn, turn_talk, with_count, is_long, after_turn, turns}
+use Rattle.inp_joy.specs.Joying.{Joying, JoyAnswer, JoyTurn, gives, goes_on as reads_on, startup, with_reading, without_startup, joy_started, joy_start, stop_with, is_lost, joy_record_of, record_or_on, joying_after_event, stop_or_startup, joying_after_sync, sync_turn, after_normal, event_turn, record_or_turn, turn_talk, with_count, is_long, after_turn, turns}
 use Rattle.inp_reader.specs.Standing.{is_needed}
 use Rattle.inp_reader.specs.Talk.{Talk, finish, ask}
 use Rattle.inp_script.specs.declared.sight.Sight.{Sight}
@@ -283,7 +283,7 @@ IsKeptReach d (Some (line_ends j)) entries = IsKept d j entries
 -- records are no calls
 record_told : (sight : List Sight) (out : Option JoyRecord) → filter is_call_entry (sight ++ record_sight out) ≡ filter is_call_entry sight
 record_told sight None = ap (filter is_call_entry) (append-nil sight)
-record_told sight (Some r) = filter-append is_call_entry sight (Record (bytes_of r) ∷ []) ∙ append-nil (filter is_call_entry sight)
+record_told sight (Some r) = filter-append is_call_entry sight (Record (bytes_of_record r) ∷ []) ∙ append-nil (filter is_call_entry sight)
 
 leaves-read_on : (d : Description) (most n : ℕ) (j : Job) (entries : List Sight) → IsKept d j entries → Leaves d (IsKeptReach d) entries (read_on d most n j)
 unfolding read_on

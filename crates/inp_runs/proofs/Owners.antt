@@ -28,7 +28,7 @@ use Rattle.inp_model.proofs.Refused.{refused-not_accepted}
 use Rattle.inp_reader.proofs.Calls.{IsPlaceOf}
 use Rattle.inp_script.specs.declared.waiting.Waiting.{Waiting}
 use Rattle.inp_script.specs.Job.{Job, JobView, first_job}
-use Rattle.inp_script.specs.Legal.{entries_of}
+use Rattle.inp_script.specs.Legal.{sight_of_calls}
 use Rattle.inp_script.specs.Line.{tap_client_after}
 use Rattle.inp_runs.specs.Job.{lines_talk, entries_at, AreTold}
 use Rattle.inp_runs.proofs.Entries.{entries, entries-cons_call, told-counts}
@@ -40,7 +40,7 @@ use Rattle.inp_runs.proofs.Listing.{eq_same, eq_true}
 pub record AreCallsOf (d : Description) (history : List Step) (job : JobView) : Type 0 where
   pub calls : List Call
   pub legal : IsLegalRun d history calls
-  pub told : (place : ℕ) → entries place (entries_of calls) ≡ entries place job.sight
+  pub told : (place : ℕ) → entries place (sight_of_calls calls) ≡ entries place job.sight
   pub names : NameLast NO_CLIENT calls
 
 -- Each job of a device has its calls, and each place of the history is the place of one accepted call of one job.
@@ -109,20 +109,20 @@ one-if true true h k = refl
 one-if true false h k = absurd (true≢false (sym k))
 one-if false b h k = absurd (true≢false (sym h))
 
-place-counts : (place : ℕ) (calls : List Call) → IsPlaceOf place calls → 1 ≤ entries place (entries_of calls)
+place-counts : (place : ℕ) (calls : List Call) → IsPlaceOf place calls → 1 ≤ entries place (sight_of_calls calls)
 unfolding IsPlaceOf
 place-counts place [] h = absurd h
 place-counts place (call ∷ calls) (inl same) =
     omega (arith, entries-cons_call place call calls, one-if (is_accepted call.answer.reply) (nat_eq (place_of call.answer.reply) place) same.0 (eq_true (place_of call.answer.reply) place same.1))
 place-counts place (call ∷ calls) (inr h) =
-    let more : 1 ≤ entries place (entries_of calls) = place-counts place calls h in
+    let more : 1 ≤ entries place (sight_of_calls calls) = place-counts place calls h in
     omega (arith, more, entries-cons_call place call calls)
 
-pub counts-place : (place : ℕ) (calls : List Call) → 1 ≤ entries place (entries_of calls) → IsPlaceOf place calls
+pub counts-place : (place : ℕ) (calls : List Call) → 1 ≤ entries place (sight_of_calls calls) → IsPlaceOf place calls
 unfolding IsPlaceOf
 counts-place place [] h = absurd (omega (arith, h))
 counts-place place (call ∷ calls) h =
-    by (is_accepted call.answer.reply) (nat_eq (place_of call.answer.reply) place) refl refl (entries place (entries_of calls)) (counts-place place calls) (omega (arith, h, entries-cons_call place call calls))
+    by (is_accepted call.answer.reply) (nat_eq (place_of call.answer.reply) place) refl refl (entries place (sight_of_calls calls)) (counts-place place calls) (omega (arith, h, entries-cons_call place call calls))
   where
     by : (a b : Bool) → is_accepted call.answer.reply ≡ a → nat_eq (place_of call.answer.reply) place ≡ b → (n : ℕ) → (1 ≤ n → IsPlaceOf place calls) → 1 ≤ (if a && b then 1 else 0) + n
         → ((is_accepted call.answer.reply ≡ true) × (place_of call.answer.reply ≡ place)) ⊎ IsPlaceOf place calls
@@ -348,7 +348,7 @@ maker-opens d history client place x job a made at names other =
     by (inl is) = absurd (other (sym is))
     by (inr h) = h
 
-place-moves : (place : ℕ) (one other : JobView) (calls more : List Call) → entries place (entries_of calls) ≡ entries place one.sight → entries place (entries_of more) ≡ entries place other.sight → one ≡ other → IsPlaceOf place calls → IsPlaceOf place more
+place-moves : (place : ℕ) (one other : JobView) (calls more : List Call) → entries place (sight_of_calls calls) ≡ entries place one.sight → entries place (sight_of_calls more) ≡ entries place other.sight → one ≡ other → IsPlaceOf place calls → IsPlaceOf place more
 place-moves place one other calls more told also same h =
     counts-place place more
     (omega (arith, place-counts place calls h, told, ap (λ (j : JobView). entries place j.sight) same, also))

@@ -32,7 +32,7 @@ use Rattle.inp_recon.proofs.Sizes.{IsSizedFor-after_events}
 use Rattle.inp_recon.proofs.ToldBits.{told_flag}
 use Rattle.inp_recon.proofs.ViewSteps.{client_view-sized}
 use Rattle.inp_reader.specs.Spare.{is_event_of}
-use Rattle.inp_reader.specs.Standing.{is_use_of, events_of}
+use Rattle.inp_reader.specs.Standing.{is_use_of, taken_events}
 use Rattle.inp_reader.proofs.Agreeing.{AgreeBut}
 use Rattle.inp_model.proofs.Refused.{refused-not_accepted}
 use Rattle.inp_reader.proofs.Calls.{IsPlaceOf, place-least}
@@ -158,7 +158,7 @@ no-others-event d v e is s = record {
   leds = λ none. cond-false (nat_eq e.kind EV_LED) (with_flag code_count v.leds e) v.leds (no-leds d e is none) ∙ s.leds none;
 }
 
-pub no-others-events : (d : Description) (v : View) (taken : List Taken) → All (λ (t : Taken). is_event_of d t.event ≡ true) taken → HasNoOthers d v → HasNoOthers d (view_after_events v (events_of taken))
+pub no-others-events : (d : Description) (v : View) (taken : List Taken) → All (λ (t : Taken). is_event_of d t.event ≡ true) taken → HasNoOthers d v → HasNoOthers d (view_after_events v (taken_events taken))
 unfolding view_after_events
 no-others-events d v [] all s = s
 no-others-events d v (t ∷ taken) all s =
@@ -219,7 +219,7 @@ no-others-client d (x ∷ past) client h = by (is_use_of client x) refl (no-othe
     by true used s =
         let given : Answer = answer d past x in
         subst (HasNoOthers d) (sym (used-view d past client x v h.1 used))
-        (no-others-answer d past (view_after_events v (events_of given.events)) x given.cells (no-others-events d v given.events (events-of d past x given (inl refl)) s))
+        (no-others-answer d past (view_after_events v (taken_events given.events)) x given.cells (no-others-events d v given.events (events-of d past x given (inl refl)) s))
     by false idle s = subst (HasNoOthers d) (sym (idle-step d past client x v idle)) s
 
 take-none : (n : ℕ) (es : List Entry) → es ≡ [] → take n es ≡ []

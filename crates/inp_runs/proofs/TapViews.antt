@@ -35,7 +35,7 @@ use Rattle.inp_recon.proofs.Sizes.{IsSizedFor-after_events, IsSizedFor-after_ans
 use Rattle.inp_recon.proofs.ViewSteps.{client_view-sized}
 use Rattle.inp_reader.specs.declared.reader.TheConstants.{NO_CLIENT}
 use Rattle.inp_reader.specs.Spare.{is_event_of}
-use Rattle.inp_reader.specs.Standing.{is_use, is_use_of, is_read, events_of}
+use Rattle.inp_reader.specs.Standing.{is_use, is_use_of, is_read, taken_events}
 use Rattle.inp_reader.specs.Talk.{LeadsTo, EndsWith}
 use Rattle.inp_reader.proofs.Agreeing.{Compared, AgreeBut, is_get_keys, is_get_switches, is_get_leds, is_get_axis, is_sync_slots, agree-answer}
 use Rattle.inp_reader.proofs.ClientViews.{accepted-answer, accepted-accepts, at-last, idle-step, no-events, no_read-takes, read-view, taken-events, used-taken, used-view}
@@ -182,13 +182,13 @@ asked-but past client x v w a = record {
 
 -- what a step makes of both views
 abbrev view_made : View → Step → Answer → View
-view_made v x given = view_after_answer (view_after_events v (events_of given.events)) x given.reply given.cells
+view_made v x given = view_after_answer (view_after_events v (taken_events given.events)) x given.reply given.cells
 
 asked-own : (d : Description) (past : List Step) (client : ℕ) (x : Step) (v : View) → refused d past x ≡ None → is_use_of client x ≡ true → IsSizedFor d.slots v → IsAsked d past client v → IsAsked d (x ∷ past) client (view_made v x (answer d past x))
 unfolding client_view_with
 asked-own d past client x v accepts used sized a =
     let given : Answer = answer d past x in
-    let es : List Event = events_of given.events in
+    let es : List Event = taken_events given.events in
     let w : View = client_view d past client in
     let events : AgreeBut (asked_at past client) [] (view_after_events v es) (view_after_events w es) = agree-events (asked_at past client) v w es a.agree in
     let is : is_accepted given.reply ≡ true = ap (λ (g : Answer). is_accepted g.reply) (accepted-answer d past x accepts) ∙ accepted-accepts d past x in
@@ -254,13 +254,13 @@ front-of done rest es t h =
     ∙ take_at (done ++ t ∷ []) rest (suc (length done)) (length-append done (t ∷ []) ∙ omega arith)
 
 read-shows : (d : Description) (past : List Step) (client : ℕ) (x : Step) (v : View) (done rest : List Taken) (t : Taken) → IsHistory d (x ∷ past) → is_use_of client x ≡ true → (answer d past x).events ≡ done ++ t ∷ rest → HasNoOthers d v → IsSizedFor d.slots v → IsAsked d past client v
-    → ShowsAt d (x ∷ past) client (Some (length (took d past client) + length done)) t (view_after_events v (events_of (done ++ t ∷ [])))
+    → ShowsAt d (x ∷ past) client (Some (length (took d past client) + length done)) t (view_after_events v (taken_events (done ++ t ∷ [])))
 unfolding took_with past_before_read_with
 read-shows d past client x v done rest t history used is bare sized a =
     let T : List Entry = took d past client in
     let E : List Entry = taken_by d past client x in
     let i : ℕ = length T + length done in
-    let es : List Event = events_of (done ++ t ∷ []) in
+    let es : List Event = taken_events (done ++ t ∷ []) in
     let behind : length T ≤ i = omega arith in
     let given : Answer = answer d past x in
     let told : map taken_of E ≡ given.events = used-taken d past client x history.1 used in
@@ -269,8 +269,8 @@ read-shows d past client x v done rest t history used is bare sized a =
     let at : view_at d (x ∷ past) client i ≡ view_after_events (client_view d past client) es =
     at-last d past client i x behind
     ∙ ap (λ (l : List Event). view_after_events (client_view d past client) l) (taken-events d past client (suc i - length T) x history.1 used)
-    ∙ ap (λ (m : ℕ). view_after_events (client_view d past client) (events_of (take m given.events))) n
-    ∙ ap (λ (l : List Taken). view_after_events (client_view d past client) (events_of l)) (front-of done rest given.events t is) in
+    ∙ ap (λ (m : ℕ). view_after_events (client_view d past client) (taken_events (take m given.events))) n
+    ∙ ap (λ (l : List Taken). view_after_events (client_view d past client) (taken_events l)) (front-of done rest given.events t is) in
     let within : i < length (T ++ E) = omega (arith, length-append T E, length-map E taken_of, ap (λ (ts : List Taken). length ts) (told ∙ is), length-append done (t ∷ rest)) in
     let all : All (λ (u : Taken). is_event_of d u.event ≡ true) (done ++ t ∷ []) =
     subst (λ (ts : List Taken). All (λ (u : Taken). is_event_of d u.event ≡ true) ts) (front-of done rest given.events t is) (All-take (λ (u : Taken). is_event_of d u.event ≡ true) (suc (length done)) given.events (events-of d past x given (inl refl))) in
@@ -490,16 +490,16 @@ module _ (d : Description) (h : List Step) (Q : ℕ → Type 0) (history : IsHis
       let next : past_at h (next_place reply) ≡ x ∷ past = past-entered d h call placed ∙ cond-true (is_accepted reply) (x ∷ past) past is in
       let here : IsHistory d (x ∷ past) = subst (IsHistory d) next (history-at d h (next_place reply) history) in
       let i : ℕ = length (took d past client) + length front in
-      let shown : ShowsAt d (x ∷ past) client (Some i) t (view_after_events v (events_of taken)) =
+      let shown : ShowsAt d (x ∷ past) client (Some i) t (view_after_events v (taken_events taken)) =
       read-shows d past client x v front behind t here (read-is_use client x read named) (ap (λ (g : Answer). g.events) (sym exact.0) ∙ e) s.bare s.sized a.1 in
       let whole : reverse h ≡ reverse (drop (next_place reply) h) ++ (x ∷ past) = whole-past h (next_place reply) ∙ ap (λ (p : List Step). reverse (drop (next_place reply) h) ++ p) next in
-      let later : ShowsAt d (reverse h) client (Some i) t (view_after_events v (events_of taken)) =
-      subst (λ (p : List Step). ShowsAt d p client (Some i) t (view_after_events v (events_of taken))) (sym whole) (shows-later d (reverse (drop (next_place reply) h)) (x ∷ past) client (Some i) t (view_after_events v (events_of taken)) shown) in
+      let later : ShowsAt d (reverse h) client (Some i) t (view_after_events v (taken_events taken)) =
+      subst (λ (p : List Step). ShowsAt d p client (Some i) t (view_after_events v (taken_events taken))) (sym whole) (shows-later d (reverse (drop (next_place reply) h)) (x ∷ past) client (Some i) t (view_after_events v (taken_events taken)) shown) in
       let sight : (j.sight ++ told) ++ es ≡ j.sight ++ (told ++ es) = append_assoc j.sight told es in
       let same : reads_as ((j.sight ++ told) ++ es) ≡ client =
       ap reads_as sight ∙ client_after-append NO_CLIENT j.sight (told ++ es) ∙ ap (λ (n : ℕ). client_after_sight n (told ++ es)) s.reads
       ∙ client_after-taking client x reply taken ∙ client_after-kept x reply client (read-no_open x read) in
-      let view : tap_fold d h (first_view d) ((j.sight ++ told) ++ es) ≡ view_after_events v (events_of taken) =
+      let view : tap_fold d h (first_view d) ((j.sight ++ told) ++ es) ≡ view_after_events v (taken_events taken) =
       ap (λ (l : List Sight). tap_fold d h (first_view d) l) sight
       ∙ tap_fold-append d h (first_view d) j.sight (told ++ es) ∙ ap (λ (u : View). tap_fold d h u (told ++ es)) s.fold
       ∙ tap_fold-append d h v told es ∙ ap (λ (u : View). tap_fold d h u es) (entries-fold d h v x given placed.exact ∙ read-sets_nothing v x reply given.cells read)

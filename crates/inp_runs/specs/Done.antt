@@ -15,7 +15,7 @@ use Rattle.inp_script.specs.declared.run.DeviceRun.{DeviceRun}
 use Rattle.inp_script.specs.declared.waiting.Waiting.{Waiting}
 use Rattle.inp_script.specs.Job.{ActorView, OwnerView, first_job}
 use Rattle.inp_script.specs.Runs.{actors_of, joysticks_of, joy_actors, owners_of, owner_actors, IsRunOf}
-use Rattle.inp_script.specs.Ended.{HasCells, ended_of, device_run, played_of}
+use Rattle.inp_script.specs.Ended.{HasDeviceSlots, ended_of, device_run, played_of}
 use Rattle.inp_runs.specs.Owner.{rooms_of, HasOwned, IsOwner}
 use Rattle.inp_runs.specs.Job.{lines_by, lines_talk, is_entry_at, wait_of, IsRun, ArePromised}
 
@@ -28,7 +28,7 @@ pub record HasFollowed (r : RecordView) (d : Description) (wait : Option Waiting
   pub rounds : ℕ
   pub follows : EndsWith (lines_talk role d r.streams wait rounds (lines_by a.actor r.lines) (first_job role d)) calls (Some a.job)
   pub is_role : a.role ≡ role
-  pub cells : HasCells d (ended_of a)
+  pub cells : HasDeviceSlots d (ended_of a)
   pub owned : role ≡ Owner → HasOwned d history (rooms_of (lines_by a.actor r.lines)) a.owning
 
 -- how many accepted calls at this place an actor's sight tells of

@@ -26,7 +26,7 @@ use Rattle.inp_script.specs.declared.waiting.Waiting.{Waiting}
 use Rattle.inp_script.specs.Doing.{line_talk, source_count}
 use Rattle.inp_script.specs.Fold.{IsFolded}
 use Rattle.inp_script.specs.Job.{Job, JobView, JoyJobView, OwnerView, first_job, job_end, joy_end}
-use Rattle.inp_script.specs.Legal.{entries_of, is_call_entry, LeavesOut}
+use Rattle.inp_script.specs.Legal.{sight_of_calls, is_call_entry, LeavesOut}
 use Rattle.inp_script.specs.Line.{end_talk}
 use Rattle.inp_script.specs.Owner.{first_owning}
 use Rattle.inp_script.specs.Sight as script
@@ -65,11 +65,11 @@ call_lacks_memory call = script.lacks_memory call.answer.reply
 pub record TellsAllBut (calls : List model.Call) (sight : List Sight) : Type 0 where
   pub kept : List model.Call
   pub part : LeavesOut kept calls
-  pub entries : entries_of kept ≡ filter is_call_entry sight
+  pub entries : sight_of_calls kept ≡ filter is_call_entry sight
 
 -- The calls are those that the sight tells of. Where lines wait it leaves out the answers Again that they waited through.
 abbrev pub AreTold : Option Waiting → List model.Call → List Sight → Type 0
-AreTold None calls sight = entries_of calls ≡ filter is_call_entry sight
+AreTold None calls sight = sight_of_calls calls ≡ filter is_call_entry sight
 AreTold (Some waiting) calls sight = TellsAllBut calls sight
 
 -- What came of a job: its calls are a legal run of the device's history, none of them lacked memory, and its sight and its

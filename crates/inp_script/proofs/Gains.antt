@@ -14,14 +14,14 @@ use Rattle.inp_script.specs.declared.sight.Sight.{Sight}
 use Rattle.inp_script.specs.declared.sight.Sight.TheVariants.{Call as Called, Took, Made, Again, Record as HandedOut}
 use Rattle.inp_script.specs.Doing.{Holds, DoesLine}
 use Rattle.inp_script.specs.Job.{Job, ActorView}
-use Rattle.inp_script.specs.Legal.{entries_of, is_call_entry, places_in, IsLegalSight, LeavesOut, GainsPlaces}
+use Rattle.inp_script.specs.Legal.{sight_of_calls, is_call_entry, places_in, IsLegalSight, LeavesOut, GainsPlaces}
 use Rattle.inp_script.specs.Line.{end_talk}
 use Rattle.inp_script.specs.Sight.{call_sight, again_sight}
 use Rattle.inp_script.specs.declared.waiting.Waiting.{Waiting}
 use Rattle.inp_actors.specs.Record.{RecordView}
 use Rattle.inp_script.proofs.LineTold.{line-told, end-told}
 use Rattle.inp_script.proofs.Runs.{leaves_out-append, legal-less, runs-on}
-use Rattle.inp_script.proofs.Told.{Tells, entries_of-append}
+use Rattle.inp_script.proofs.Told.{Tells, sight_of_calls-append}
 
 -- The places of calls
 
@@ -62,12 +62,12 @@ call_sight-places x reply = by_flag (is_again reply) refl
     by_flag true e = sym (again_has_none reply e)
     by_flag false e = append-nil (own_after reply [])
 
-entries-places : (calls : List Call) → places_in (entries_of calls) ≡ places_of calls
+entries-places : (calls : List Call) → places_in (sight_of_calls calls) ≡ places_of calls
 entries-places [] = refl
 entries-places (call ∷ calls) =
     let reply : Reply = call.answer.reply in
-    places_in-append (call_sight call.step reply ++ again_sight reply) (entries_of calls)
-    ∙ ap (λ (ps : List ℕ). ps ++ places_in (entries_of calls)) (places_in-append (call_sight call.step reply) (again_sight reply) ∙ ap (λ (ps : List ℕ). places_in (call_sight call.step reply) ++ ps) (again_sight-places reply) ∙ append-nil (places_in (call_sight call.step reply)) ∙ call_sight-places call.step reply)
+    places_in-append (call_sight call.step reply ++ again_sight reply) (sight_of_calls calls)
+    ∙ ap (λ (ps : List ℕ). ps ++ places_in (sight_of_calls calls)) (places_in-append (call_sight call.step reply) (again_sight reply) ∙ ap (λ (ps : List ℕ). places_in (call_sight call.step reply) ++ ps) (again_sight-places reply) ∙ append-nil (places_in (call_sight call.step reply)) ∙ call_sight-places call.step reply)
     ∙ ap (λ (ps : List ℕ). own_after reply [] ++ ps) (entries-places calls)
 
 -- The two laws
@@ -86,8 +86,8 @@ stays-legal d a b calls old new same are t l = record {
   calls = l.calls ++ t.kept;
   legal = legal-less d b.seen 0 (l.calls ++ t.kept) (l.calls ++ calls) (leaves_out-append l.calls t.kept l.calls calls (all_kept l.calls) t.part) (runs-on d a b l.calls calls same l.legal are);
   entries =
-      entries_of-append l.calls t.kept
-      ∙ ap (λ (es : List Sight). es ++ entries_of t.kept) l.entries
+      sight_of_calls-append l.calls t.kept
+      ∙ ap (λ (es : List Sight). es ++ sight_of_calls t.kept) l.entries
       ∙ ap (λ (es : List Sight). filter is_call_entry old ++ es) t.entries
       ∙ sym (filter-append is_call_entry old t.gained)
       ∙ ap (λ (es : List Sight). filter is_call_entry es) (sym t.sight);

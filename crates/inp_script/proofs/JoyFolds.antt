@@ -22,8 +22,8 @@ use Rattle.inp_actors.specs.Command.{is_command_of}
 use Rattle.inp_joy.specs.declared.joy_read.JoyRead.{JoyRead}
 use Rattle.inp_joy.specs.declared.joy_read.JoyRead.TheVariants.{Record as HandedOut, Frame, Again, NoDevice, Closed, Full, More}
 use Rattle.inp_joy.specs.declared.joy_record.JoyRecord.{JoyRecord}
-use Rattle.inp_joy.specs.JoyRecord.{bytes_of}
-use Rattle.inp_joy.specs.Joying.{Joying, JoyAnswer, Turn, gives, goes_on, hand_out_record, next_in_startup, stop_with, joy_read_of, event_handed_out, joy_record_of, record_or_on, event_or_on, stop_or_event, joying_after_next, stop_or_startup, turn_talk, turns, with_reading, without_startup, joying_after_start, joy_started, joy_start}
+use Rattle.inp_joy.specs.JoyRecord.{bytes_of_record}
+use Rattle.inp_joy.specs.Joying.{Joying, JoyAnswer, JoyTurn, gives, goes_on, hand_out_record, next_in_startup, stop_with, joy_read_of, event_handed_out, joy_record_of, record_or_on, event_or_on, stop_or_event, joying_after_next, stop_or_startup, turn_talk, turns, with_reading, without_startup, joying_after_start, joy_started, joy_start}
 use Rattle.inp_joy.specs.Picture.{PictureView, blank_picture, picture_after}
 use Rattle.inp_joy.proofs.Nexts.{lost-needed}
 use Rattle.inp_joy.proofs.Records.{FitsBytes, record-back, startup-fits, FitsIf, event-fits}
@@ -216,20 +216,20 @@ needed-shows d h p Needed r calls o needed placed ends =
 -- Turns
 
 -- the record that a turn hands out, and what is kept then
-abbrev out_of : Turn → Option JoyRecord
+abbrev out_of : JoyTurn → Option JoyRecord
 out_of (gives answer) = answer.record_out
 out_of (goes_on j) = None
 
-abbrev joying_after : Turn → Joying
+abbrev joying_after : JoyTurn → Joying
 joying_after (gives answer) = answer.joying
 joying_after (goes_on j) = j
 
 -- these calls and the record behind them make the picture of what is kept
-abbrev Shows : Description → PictureView → List Sight → Turn → Type 0
+abbrev Shows : Description → PictureView → List Sight → JoyTurn → Type 0
 Shows d p sight t = joy_fold d (shown p) (sight ++ record_sight (out_of t)) ≡ shown (joying_after t).picture
 
-turn-same : (d : Description) (p : PictureView) (sight : List Sight) (t u : Turn) → t ≡ u → Shows d p sight t → Shows d p sight u
-turn-same d p sight t u e h = subst (λ (x : Turn). Shows d p sight x) e h
+turn-same : (d : Description) (p : PictureView) (sight : List Sight) (t u : JoyTurn) → t ≡ u → Shows d p sight t → Shows d p sight u
+turn-same d p sight t u e h = subst (λ (x : JoyTurn). Shows d p sight x) e h
 
 -- no record is handed out
 bare : (d : Description) (p : PictureView) (sight : List Sight) (q : PictureView) → joy_fold d (shown p) sight ≡ shown q → joy_fold d (shown p) (sight ++ []) ≡ shown q
@@ -239,14 +239,14 @@ stop_or_startup-shows : (d : Description) (sight : List Sight) (j : Joying) (sto
 stop_or_startup-shows d sight j None h = bare d j.picture sight blank_picture h
 stop_or_startup-shows d sight j (Some read) h = bare d j.picture sight j.picture h
 
-synchronises-shows : (d : Description) (h : List Step) (j : Joying) (calls : List Call) (t : Turn) → is_needed j.reading.phase ≡ true → ArePlaced d h calls → Synchronises d j calls t → Shows d j.picture (noted_sight calls) t
+synchronises-shows : (d : Description) (h : List Step) (j : Joying) (calls : List Call) (t : JoyTurn) → is_needed j.reading.phase ≡ true → ArePlaced d h calls → Synchronises d j calls t → Shows d j.picture (noted_sight calls) t
 synchronises-shows d h j calls t needed placed s =
     turn-same d j.picture (noted_sight calls) (stop_or_startup (with_reading j s.reading) (joy_read_of s.next)) t s.comes_to
     (stop_or_startup-shows d (noted_sight calls) (with_reading j s.reading) (joy_read_of s.next)
     (needed-shows d h j.picture j.reading.phase j.reading calls (s.next, s.reading) needed placed s.talk_ends))
 
 -- a record that was handed out moves the picture
-record-shows : (d : Description) (p : PictureView) (r : JoyRecord) → FitsBytes r → joy_fold d (shown p) (Record (bytes_of r) ∷ []) ≡ shown (picture_after p r)
+record-shows : (d : Description) (p : PictureView) (r : JoyRecord) → FitsBytes r → joy_fold d (shown p) (Record (bytes_of_record r) ∷ []) ≡ shown (picture_after p r)
 unfolding joy_fold
 record-shows d p r fits = ap (λ (x : JoyRecord). shown (picture_after p x)) (record-back r fits)
 
@@ -300,10 +300,10 @@ next-tells_nothing d p Plain r calls o more plain ends = read-tells_nothing d p 
 next-tells_nothing d p Needed r calls o more plain ends = absurd (true≢false plain)
 next-tells_nothing d p Handing r calls o more plain ends = read-tells_nothing d p (as_plain r) calls o more ends
 
-turn-shows : (d : Description) (h : List Step) (j : Joying) (calls : List Call) (t : Turn) → ArePlaced d h calls → TurnCase d j calls t → Shows d j.picture (noted_sight calls) t
+turn-shows : (d : Description) (h : List Step) (j : Joying) (calls : List Call) (t : JoyTurn) → ArePlaced d h calls → TurnCase d j calls t → Shows d j.picture (noted_sight calls) t
 turn-shows d h j calls t placed (of_startup r at none is) =
     turn-same d j.picture (noted_sight calls) (gives (hand_out_record (next_in_startup j) r)) t is
-    (ap (λ (cs : List Call). joy_fold d (shown j.picture) (noted_sight cs ++ Record (bytes_of r) ∷ [])) none ∙ record-shows d j.picture r (startup-fits d j.reading.view j.handed r at))
+    (ap (λ (cs : List Call). joy_fold d (shown j.picture) (noted_sight cs ++ Record (bytes_of_record r) ∷ [])) none ∙ record-shows d j.picture r (startup-fits d j.reading.view j.handed r at))
 turn-shows d h j calls t placed (of_sync needed s) = synchronises-shows d h j calls t needed placed s
 turn-shows d h j calls t placed (of_loss first second next r plain whole ends lost s) =
     let both : ArePlaced d h (first ++ second) = subst (λ (cs : List Call). ArePlaced d h cs) whole placed in

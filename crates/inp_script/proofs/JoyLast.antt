@@ -8,7 +8,7 @@ use Rattle.inp_model.specs.Run.{Call}
 use Rattle.inp_joy.specs.declared.joy_read.JoyRead.{JoyRead}
 use Rattle.inp_joy.specs.declared.joy_read.JoyRead.TheVariants.{Frame, Again, NoDevice, Closed, Full}
 use Rattle.inp_joy.specs.declared.joy_record.JoyRecord.{JoyRecord}
-use Rattle.inp_joy.specs.Joying.{Joying, JoyAnswer, Turn, gives, goes_on, stop_with, joy_read_of, event_handed_out, joy_record_of, record_or_on, event_or_on, stop_or_event, joying_after_next, stop_or_startup, turns, with_reading}
+use Rattle.inp_joy.specs.Joying.{Joying, JoyAnswer, JoyTurn, gives, goes_on, stop_with, joy_read_of, event_handed_out, joy_record_of, record_or_on, event_or_on, stop_or_event, joying_after_next, stop_or_startup, turns, with_reading}
 use Rattle.inp_joy.proofs.TurnCases.{Synchronises, TurnCase, of_startup, of_sync, of_loss, of_next, turn-case, turns-all}
 use Rattle.inp_reader.specs.declared.mode.Mode.TheVariants.{Normal, Sync as Synchronising}
 use Rattle.inp_reader.specs.declared.next.Next.{Next}
@@ -22,18 +22,18 @@ abbrev pub LastIsAgain : List Call → JoyRead → Type 0
 LastIsAgain calls (Again at ends) = EndsIn calls (NothingVisible at ends)
 LastIsAgain calls _ = Unit {0}
 
-abbrev TurnLastIsAgain : List Call → Turn → Type 0
+abbrev TurnLastIsAgain : List Call → JoyTurn → Type 0
 TurnLastIsAgain calls (gives answer) = LastIsAgain calls answer.read
 TurnLastIsAgain calls (goes_on j) = Unit {0}
 
-turn-same : (calls : List Call) (t u : Turn) → t ≡ u → TurnLastIsAgain calls t → TurnLastIsAgain calls u
-turn-same calls t u e h = subst (λ (x : Turn). TurnLastIsAgain calls x) e h
+turn-same : (calls : List Call) (t u : JoyTurn) → t ≡ u → TurnLastIsAgain calls t → TurnLastIsAgain calls u
+turn-same calls t u e h = subst (λ (x : JoyTurn). TurnLastIsAgain calls x) e h
 
 last-behind : (first second : List Call) (read : JoyRead) → LastIsAgain second read → LastIsAgain (first ++ second) read
 last-behind first second (Again at ends) h = ends_in-behind first second (NothingVisible at ends) h
 last-behind first second _ h = tt
 
-turn-behind : (first second : List Call) (t : Turn) → TurnLastIsAgain second t → TurnLastIsAgain (first ++ second) t
+turn-behind : (first second : List Call) (t : JoyTurn) → TurnLastIsAgain second t → TurnLastIsAgain (first ++ second) t
 turn-behind first second (gives answer) h = last-behind first second answer.read h
 turn-behind first second (goes_on j) h = tt
 
@@ -52,7 +52,7 @@ sync-last : (calls : List Call) (j : Joying) (next : Next) (stop : Option JoyRea
 sync-last calls j next None is last = tt
 sync-last calls j next (Some read) is last = stopped-last calls next read last is
 
-synchronises-last : (d : Description) (j : Joying) (calls : List Call) (t : Turn) → Synchronises d j calls t → TurnLastIsAgain calls t
+synchronises-last : (d : Description) (j : Joying) (calls : List Call) (t : JoyTurn) → Synchronises d j calls t → TurnLastIsAgain calls t
 synchronises-last d j calls t s =
     turn-same calls (stop_or_startup (with_reading j s.reading) (joy_read_of s.next)) t s.comes_to
     (sync-last calls (with_reading j s.reading) s.next (joy_read_of s.next) refl
@@ -74,7 +74,7 @@ after_next-last : (d : Description) (calls : List Call) (j : Joying) (next : Nex
 after_next-last d calls j next None is last = event-last d calls j (event_handed_out next)
 after_next-last d calls j next (Some read) is last = stopped-last calls next read last is
 
-turn-last : (d : Description) (j : Joying) (calls : List Call) (t : Turn) → TurnCase d j calls t → TurnLastIsAgain calls t
+turn-last : (d : Description) (j : Joying) (calls : List Call) (t : JoyTurn) → TurnCase d j calls t → TurnLastIsAgain calls t
 turn-last d j calls t (of_startup r at none is) = turn-same calls _ t is tt
 turn-last d j calls t (of_sync needed s) = synchronises-last d j calls t s
 turn-last d j calls t (of_loss first second next r plain whole h lost s) = subst (λ (cs : List Call). TurnLastIsAgain cs t) (sym whole) (turn-behind first second t (synchronises-last d (with_reading j r) second t s))

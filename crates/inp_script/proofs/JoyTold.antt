@@ -7,7 +7,7 @@ use Rattle.inp_actors.specs.declared.command.Command.TheVariants.{Open, Read}
 use Rattle.inp_joy.specs.declared.joy_read.JoyRead.{JoyRead}
 use Rattle.inp_joy.specs.declared.joy_read.JoyRead.TheVariants.{Record as HandedOut, Frame, Again, NoDevice, Closed, Full, More}
 use Rattle.inp_joy.specs.declared.joy_record.JoyRecord.{JoyRecord}
-use Rattle.inp_joy.specs.JoyRecord.{bytes_of}
+use Rattle.inp_joy.specs.JoyRecord.{bytes_of_record}
 use Rattle.inp_joy.specs.Joying.{Joying, JoyAnswer, joy_start, turns}
 use Rattle.inp_joy.proofs.Records.{HandsOutAsSaid, turns-said}
 use Rattle.inp_reader.specs.declared.started.Started.{Started}
@@ -61,8 +61,8 @@ job_of_reach (line_ends j) = j
 read-told : (calls : List Call) (old sight : List Sight) (out : Option JoyRecord) → sight ≡ old ++ noted_sight calls → Tells calls old (sight ++ record_sight out)
 read-told calls old sight None seen = subst (λ (es : List Sight). Tells calls old es) (sym (append-nil sight)) (tells-noted calls old sight seen)
 read-told calls old sight (Some r) seen =
-    subst (λ (cs : List Call). Tells cs old (sight ++ Record (bytes_of r) ∷ [])) (append-nil calls)
-    (tells-then calls [] old sight (sight ++ Record (bytes_of r) ∷ []) (tells-noted calls old sight seen) (tells-event sight (Record (bytes_of r)) refl))
+    subst (λ (cs : List Call). Tells cs old (sight ++ Record (bytes_of_record r) ∷ [])) (append-nil calls)
+    (tells-then calls [] old sight (sight ++ Record (bytes_of_record r) ∷ []) (tells-noted calls old sight seen) (tells-event sight (Record (bytes_of_record r)) refl))
 
 -- no call follows
 reach-told : (first second : List Call) (old : List Sight) (left reach : Reach) → Tells first old (job_of_reach left).sight → EndsWith (finish (Some left)) second (Some reach) → Tells (first ++ second) old (job_of_reach reach).sight

@@ -11,7 +11,7 @@ use Rattle.inp_model.specs.Run.{Call}
 use Rattle.inp_reader.specs.Talk.{Talk, finish, ask, LeadsTo, EndsWith}
 use Rattle.inp_script.specs.declared.sight.Sight.{Sight}
 use Rattle.inp_script.specs.declared.sight.Sight.TheVariants.{Call as Called, Again}
-use Rattle.inp_script.specs.Legal.{entries_of, is_call_entry, LeavesOut}
+use Rattle.inp_script.specs.Legal.{sight_of_calls, is_call_entry, LeavesOut}
 use Rattle.inp_script.specs.Job.{Job}
 use Rattle.inp_script.specs.Line.{after_call, call_talk, call_if}
 use Rattle.inp_script.specs.Sight.{call_sight, again_sight, taken_sight, sight_of_call, noted}
@@ -24,16 +24,16 @@ pub record Tells (calls : List Call) (old new : List Sight) : Type 0 where
   pub sight : new ≡ old ++ gained
   pub kept : List Call
   pub part : LeavesOut kept calls
-  pub entries : entries_of kept ≡ filter is_call_entry gained
+  pub entries : sight_of_calls kept ≡ filter is_call_entry gained
 
 pub tells-none : (sight : List Sight) → Tells [] sight sight
 tells-none sight = record { gained = []; sight = sym (append-nil sight); kept = []; part = refl; entries = refl }
 
-pub entries_of-append : (calls more : List Call) → entries_of (calls ++ more) ≡ entries_of calls ++ entries_of more
-entries_of-append [] more = refl
-entries_of-append (call ∷ calls) more =
+pub sight_of_calls-append : (calls more : List Call) → sight_of_calls (calls ++ more) ≡ sight_of_calls calls ++ sight_of_calls more
+sight_of_calls-append [] more = refl
+sight_of_calls-append (call ∷ calls) more =
     let e : List Sight = call_sight call.step call.answer.reply ++ again_sight call.answer.reply in
-    ap (λ (es : List Sight). e ++ es) (entries_of-append calls more) ∙ sym (append_assoc e (entries_of calls) (entries_of more))
+    ap (λ (es : List Sight). e ++ es) (sight_of_calls-append calls more) ∙ sym (append_assoc e (sight_of_calls calls) (sight_of_calls more))
 
 pub tells-then : (calls more : List Call) (old mid new : List Sight) → Tells calls old mid → Tells more mid new → Tells (calls ++ more) old new
 tells-then calls more old mid new s t = record {
@@ -42,8 +42,8 @@ tells-then calls more old mid new s t = record {
   kept = s.kept ++ t.kept;
   part = leaves_out-append s.kept t.kept calls more s.part t.part;
   entries =
-      entries_of-append s.kept t.kept
-      ∙ ap (λ (es : List Sight). es ++ entries_of t.kept) s.entries
+      sight_of_calls-append s.kept t.kept
+      ∙ ap (λ (es : List Sight). es ++ sight_of_calls t.kept) s.entries
       ∙ ap (λ (es : List Sight). filter is_call_entry s.gained ++ es) t.entries
       ∙ sym (filter-append is_call_entry s.gained t.gained);
 }
@@ -128,16 +128,16 @@ pub not_again : (reply : Reply) → is_again reply ≡ false → again_sight rep
 not_again (NothingVisible at ends) h = absurd cc
 not_again _ h = refl
 
-entries_without_agains : (calls : List Call) → entries_of (without_agains calls) ≡ filter is_call_entry (noted_sight calls)
+entries_without_agains : (calls : List Call) → sight_of_calls (without_agains calls) ≡ filter is_call_entry (noted_sight calls)
 entries_without_agains [] = refl
 entries_without_agains (call ∷ calls) = by_flag (is_again call.answer.reply) refl (entries_without_agains calls) ∙ sym (filter-append is_call_entry (call_sight call.step call.answer.reply) (noted_sight calls))
   where
-    by_flag : (b : Bool) → is_again call.answer.reply ≡ b → entries_of (without_agains calls) ≡ filter is_call_entry (noted_sight calls)
-        → entries_of (if b then without_agains calls else call ∷ without_agains calls) ≡ filter is_call_entry (call_sight call.step call.answer.reply) ++ filter is_call_entry (noted_sight calls)
+    by_flag : (b : Bool) → is_again call.answer.reply ≡ b → sight_of_calls (without_agains calls) ≡ filter is_call_entry (noted_sight calls)
+        → sight_of_calls (if b then without_agains calls else call ∷ without_agains calls) ≡ filter is_call_entry (call_sight call.step call.answer.reply) ++ filter is_call_entry (noted_sight calls)
     by_flag true e more = more ∙ ap (λ (b : Bool). filter is_call_entry (if b then [] else Called call.step call.answer.reply ∷ []) ++ filter is_call_entry (noted_sight calls)) (sym e)
     by_flag false e more =
-        ap (λ (es : List Sight). (call_sight call.step call.answer.reply ++ es) ++ entries_of (without_agains calls)) (not_again call.answer.reply e)
-        ∙ ap (λ (es : List Sight). es ++ entries_of (without_agains calls)) (append-nil (call_sight call.step call.answer.reply) ∙ sym (call_kept call.step call.answer.reply))
+        ap (λ (es : List Sight). (call_sight call.step call.answer.reply ++ es) ++ sight_of_calls (without_agains calls)) (not_again call.answer.reply e)
+        ∙ ap (λ (es : List Sight). es ++ sight_of_calls (without_agains calls)) (append-nil (call_sight call.step call.answer.reply) ∙ sym (call_kept call.step call.answer.reply))
         ∙ ap (λ (es : List Sight). filter is_call_entry (call_sight call.step call.answer.reply) ++ es) more
 
 pub tells-noted : (calls : List Call) (old new : List Sight) → new ≡ old ++ noted_sight calls → Tells calls old new

@@ -67,7 +67,7 @@ ended_with d (Owner owner) actor sight stop = OwnerEnded (record { actor = actor
 ended_with d state actor sight stop = JobEnded (record { actor = actor; sight = sight; view = (role_reading d state).view; stop = stop })
 
 -- the view of a job has the device's slots
-abbrev pub HasCells : Description → Ended → Type 0
-HasCells d (JobEnded job) = length job.view.cells ≡ SLOT_VALUES * d.slots
-HasCells d (JoyEnded joy) = Unit {0}
-HasCells d (OwnerEnded owner) = Unit {0}
+abbrev pub HasDeviceSlots : Description → Ended → Type 0
+HasDeviceSlots d (JobEnded job) = length job.view.cells ≡ SLOT_VALUES * d.slots
+HasDeviceSlots d (JoyEnded joy) = Unit {0}
+HasDeviceSlots d (OwnerEnded owner) = Unit {0}

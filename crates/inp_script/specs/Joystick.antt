@@ -6,7 +6,7 @@ use Rattle.inp_actors.specs.declared.command.Command.TheVariants.{Open, Read}
 use Rattle.inp_joy.specs.declared.joy_read.JoyRead.{JoyRead}
 use Rattle.inp_joy.specs.declared.joy_read.JoyRead.TheVariants.{Record as HandedOut, Frame, Again, NoDevice, Closed, Full as FullHistory, More}
 use Rattle.inp_joy.specs.declared.joy_record.JoyRecord.{JoyRecord}
-use Rattle.inp_joy.specs.JoyRecord.{bytes_of}
+use Rattle.inp_joy.specs.JoyRecord.{bytes_of_record}
 use Rattle.inp_joy.specs.Joying.{Joying, JoyAnswer, joy_start, turns}
 use Rattle.inp_reader.specs.declared.started.Started.{Started}
 use Rattle.inp_reader.specs.Talk.{Talk, finish, and_then}
@@ -39,7 +39,7 @@ pub data Reach : Type 0 where
 -- the entry of a record that was handed out
 abbrev pub record_sight : Option JoyRecord → List Sight
 record_sight None = []
-record_sight (Some r) = Record (bytes_of r) ∷ []
+record_sight (Some r) = Record (bytes_of_record r) ∷ []
 
 -- a job after an answer of its client
 abbrev pub after_joy_answer : Job → JoyAnswer → List Sight → Job

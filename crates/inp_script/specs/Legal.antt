@@ -11,9 +11,10 @@ use Rattle.inp_script.specs.Job.{Job}
 use Rattle.inp_script.specs.Sight.{call_sight, again_sight}
 
 -- the entries of calls, and of answers Again
-abbrev pub entries_of : List Call → List Sight
-entries_of [] = []
-entries_of (call ∷ calls) = (call_sight call.step call.answer.reply ++ again_sight call.answer.reply) ++ entries_of calls
+abbrev pub sight_of_calls : List Call → List Sight
+sight_of_calls [] = []
+sight_of_calls (call ∷ calls) =
+    (call_sight call.step call.answer.reply ++ again_sight call.answer.reply) ++ sight_of_calls calls
 
 -- an entry of a call, or of an answer Again, and not of an event or a record
 abbrev pub is_call_entry : Sight → Bool
@@ -27,7 +28,7 @@ is_call_entry (HandedOut bytes) = false
 pub record IsLegalSight (d : Description) (seen : List Step) (sight : List Sight) : Type 0 where
   pub calls : List Call
   pub legal : IsLegalRun d seen calls
-  pub entries : entries_of calls ≡ filter is_call_entry sight
+  pub entries : sight_of_calls calls ≡ filter is_call_entry sight
 
 -- the places of the accepted calls that a sight tells of, in order
 abbrev pub places_in : List Sight → List ℕ

@@ -8,7 +8,7 @@ ghost use Rattle.inp_script.specs.Owner.{first_owning, FeedsLine, MayHaveFed};
 ghost use Rattle.inp_script.specs.Doing.{Begins, BeginsLine, DoesLine, Holds, HasActor, IsLineOf, IsWaiting};
 ghost use Rattle.inp_script.specs.Legal.{CountsTurns, GainsPlaces, StaysLegal};
 ghost use Rattle.inp_script.specs.Fold.{IsFolded, StaysFolded};
-ghost use Rattle.inp_script.specs.Ended.{HasCells, ended_as};
+ghost use Rattle.inp_script.specs.Ended.{HasDeviceSlots, ended_as};
 ghost use Rattle.inp_script.specs.Job.{first_job};
 ghost use Rattle.inp_script.specs.Line.{end_talk};
 
@@ -170,7 +170,7 @@ impl Actor {
     /// What came of the job. An actor that did not stop has finished. It takes no memory.
     pub fn finish(self) -> Ended
         ensures ended { result ≡ ended_as self.role self }
-        ensures cells { HasCells self.description result }
+        ensures cells { HasDeviceSlots self.description result }
     {
         let Actor {
             actor,

@@ -5,7 +5,7 @@ ghost use Rattle.inp_feedback.specs.declared.fed.TheConstants.{FEEDBACK_MAX};
 ghost use Rattle.inp_script.specs.Owner.{first_owning, FeedsLine, MayHaveFed};
 ghost use Rattle.inp_script.specs.Doing.{Begins, DoesCommand, IsCommandFor, command_talk};
 ghost use Rattle.inp_script.specs.Job.{first_reading, first_stick};
-ghost use Rattle.inp_script.specs.Ended.{HasCells, ended_with};
+ghost use Rattle.inp_script.specs.Ended.{HasDeviceSlots, ended_with};
 ghost use Rattle.inp_script.specs.RoleState.{role_of, role_reading, stick_of, owning_of, owning_in, job_in, IsSized};
 
 use crate::client::do_client_command;
@@ -44,7 +44,8 @@ impl RoleState {
     // What an actor of a role keeps before its first line. It is refused for memory alone.
     pub(crate) fn new(alloc: Global, caps: &Caps, role: Role) -> Result<RoleState, NoMemory>
         ensures role { IfOk result (λ state. role_of state ≡ role) }
-        ensures reading { IfOk result (λ state. role_reading caps.now state ≡ first_reading caps.now) }
+        ensures reading { IfOk result
+            (λ state. role_reading caps.now state ≡ first_reading caps.now) }
         ensures stick { IfOk result (λ state. stick_of state ≡ first_stick role caps.now) }
         ensures owning { IfOk result (λ state. owning_of state ≡ first_owning) }
         ensures sized { IfOk result (IsSized caps.now) }
@@ -122,7 +123,7 @@ impl RoleState {
     pub(crate) fn end(self, actor: u32, caps: &Caps, sight: Sights, stop: Stop) -> Ended
         requires sized { IsSized caps.now self }
         ensures ended { result ≡ ended_with caps.now self actor sight stop }
-        ensures cells { HasCells caps.now result }
+        ensures cells { HasDeviceSlots caps.now result }
     {
         let view = match self {
             RoleState::Source { view } => view,

@@ -81,9 +81,9 @@ pub staged-stays : (d : Description) (r : List RawItem) (e : Event) → is_on d 
 unfolding staged
 staged-stays d r e h = no_first (is_on d EV_ABS ABS_MT_SLOT e) (is_slot d e.value) e.value (staged d r) h
 
-pub staged-named : (d : Description) (r : List RawItem) (e : Event) → is_on d EV_ABS ABS_MT_SLOT e ≡ true → staged d (Occurred e ∷ r) ≡ (if is_slot d e.value then e.value else staged d r)
+pub staged-slot_named : (d : Description) (r : List RawItem) (e : Event) → is_on d EV_ABS ABS_MT_SLOT e ≡ true → staged d (Occurred e ∷ r) ≡ (if is_slot d e.value then e.value else staged d r)
 unfolding staged
-staged-named d r e h = yes_first (is_on d EV_ABS ABS_MT_SLOT e) (is_slot d e.value) e.value (staged d r) h
+staged-slot_named d r e h = yes_first (is_on d EV_ABS ABS_MT_SLOT e) (is_slot d e.value) e.value (staged d r) h
 
 -- ---- the values
 

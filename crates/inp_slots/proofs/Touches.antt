@@ -14,9 +14,9 @@ use Rattle.inp_model.specs.Defuzz.{defuzz}
 use Rattle.inp_model.specs.State.{staged, cell, is_slot}
 use Rattle.inp_model.specs.Passed.{announced, passes_as, cell_after}
 use Rattle.inp_caps.specs.Disposition.{flags_after}
-use Rattle.inp_slots.specs.Slots.{SlotValues, SlotsStandFor, value_at, touch}
-use Rattle.inp_slots.specs.Changes.{has_slot, named, on_axis, taken, with_value, change, staged_slot, moved, is_announced}
-use Rattle.inp_slots.proofs.Steps.{on_code, off_code, off_all, staged-stays, staged-named, cell-stays, cell-not_staged, cell-moves, announced-not_passed, announced-passed}
+use Rattle.inp_slots.specs.Slots.{SlotValues, SlotsStandFor, slot_value, touch}
+use Rattle.inp_slots.specs.Changes.{is_slot_there, slot_named, on_axis, taken, with_value, change, staged_slot, moved, is_announced}
+use Rattle.inp_slots.proofs.Steps.{on_code, off_code, off_all, staged-stays, staged-slot_named, cell-stays, cell-not_staged, cell-moves, announced-not_passed, announced-passed}
 use Rattle.inp_slots.proofs.Passes.{passes-unsupported, passes-name, passes-without_slots, passes-value, flags-value}
 
 -- ---- a code that is not supported
@@ -40,14 +40,14 @@ record_if : (b : Bool) (s : SlotValues) (slot : ℤ) → (if b then record s { s
 record_if true s slot = refl
 record_if false s slot = refl
 
-pub name-stands : (d : Description) (r : List RawItem) (s : SlotValues) (value : ℤ) → supports d EV_ABS ABS_MT_SLOT ≡ true → SlotsStandFor d r s → SlotsStandFor d (Occurred (touch ABS_MT_SLOT value) ∷ r) (named s value)
+pub name-stands : (d : Description) (r : List RawItem) (s : SlotValues) (value : ℤ) → supports d EV_ABS ABS_MT_SLOT ≡ true → SlotsStandFor d r s → SlotsStandFor d (Occurred (touch ABS_MT_SLOT value) ∷ r) (slot_named s value)
 name-stands d r s value u h =
     let e : Event = touch ABS_MT_SLOT value in
-    let there : has_slot s value ≡ is_slot d value = ap (λ (n : ℕ). not (int_lt value (pos 0)) && int_lt value (pos n)) h.count in
-    let after : (if has_slot s value then value else s.staged) ≡ staged d (Occurred e ∷ r) =
+    let there : is_slot_there s value ≡ is_slot d value = ap (λ (n : ℕ). not (int_lt value (pos 0)) && int_lt value (pos n)) h.count in
+    let after : (if is_slot_there s value then value else s.staged) ≡ staged d (Occurred e ∷ r) =
     ap (λ (b : Bool). if b then value else s.staged) there ∙ ap (λ (z : ℤ). if is_slot d value then value else z) h.staged
-    ∙ sym (staged-named d r e (on_code d ABS_MT_SLOT value u)) in
-    subst (SlotsStandFor d (Occurred e ∷ r)) (sym (record_if (has_slot s value) s value))
+    ∙ sym (staged-slot_named d r e (on_code d ABS_MT_SLOT value u)) in
+    subst (SlotsStandFor d (Occurred e ∷ r)) (sym (record_if (is_slot_there s value) s value))
     (record {
       count = h.count;
       staged = after;
@@ -80,7 +80,7 @@ place_by (negsuc k) n h = absurd (cc h)
 pub record Before (d : Description) (r : List RawItem) (s : SlotValues) (code : ℕ) : Type 0 where
   pub supported : supports d EV_ABS code ≡ true
   pub slot_code : is_slot_code code ≡ true
-  pub there : has_slot s s.staged ≡ true
+  pub there : is_slot_there s s.staged ≡ true
   pub len : length (staged_slot s) ≡ 14
   pub stands : SlotsStandFor d r s
 
@@ -118,7 +118,7 @@ axes_differ : (code other : ℕ) → is_slot_code code ≡ true → is_slot_code
 axes_differ code other h k n p = absurd (grind (arith, nat_tests))
 
 -- the values of all slots after the move
-values_after : (d : Description) (r : List RawItem) (s : SlotValues) (code : ℕ) (value : ℤ) → Before d r s code → (slot other : ℕ) → slot < d.slots → is_slot_code other ≡ true → value_at (moved s code value (info d code).fuzz) slot other ≡ cell d (Occurred (touch code value) ∷ r) (pos slot) other
+values_after : (d : Description) (r : List RawItem) (s : SlotValues) (code : ℕ) (value : ℤ) → Before d r s code → (slot other : ℕ) → slot < d.slots → is_slot_code other ≡ true → slot_value (moved s code value (info d code).fuzz) slot other ≡ cell d (Occurred (touch code value) ∷ r) (pos slot) other
 values_after d r s code value b slot other l q =
     let e : Event = touch code value in
     let k : ℕ = unsigned_abs s.staged in

@@ -6,12 +6,12 @@ use Rattle.inp_model.specs.Defuzz.{defuzz}
 use Rattle.inp_slots.specs.Slots.{SlotValues}
 
 -- there is a slot of this number
-abbrev pub has_slot : SlotValues → ℤ → Bool
-has_slot s slot = not (int_lt slot (pos 0)) && int_lt slot (pos (length s.slots))
+abbrev pub is_slot_there : SlotValues → ℤ → Bool
+is_slot_there s slot = not (int_lt slot (pos 0)) && int_lt slot (pos (length s.slots))
 
 -- the naming of a slot stages it, if there is one of this number
-abbrev pub named : SlotValues → ℤ → SlotValues
-named s slot = if has_slot s slot then record s { staged = slot } else s
+abbrev pub slot_named : SlotValues → ℤ → SlotValues
+slot_named s slot = if is_slot_there s slot then record s { staged = slot } else s
 
 -- the value that a slot has on an axis
 abbrev pub on_axis : List ℤ → ℕ → ℤ

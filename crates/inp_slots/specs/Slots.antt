@@ -19,15 +19,16 @@ pub record SlotValues : Type 0 where
   pub at_frame : ℤ
 
 -- the value of a slot on an axis
-abbrev pub value_at : SlotValues → ℕ → ℕ → ℤ
-value_at s slot code = slice_index_or (slice_index_or s.slots slot []) (code - ABS_MT_TOUCH_MAJOR) (pos 0)
+abbrev pub slot_value : SlotValues → ℕ → ℕ → ℤ
+slot_value s slot code = slice_index_or (slice_index_or s.slots slot []) (code - ABS_MT_TOUCH_MAJOR) (pos 0)
 
 -- on a device with this description these are the values after the items r, newest first
 pub record SlotsStandFor (d : Description) (r : List RawItem) (s : SlotValues) : Type 0 where
   pub count : length s.slots ≡ d.slots
   pub staged : s.staged ≡ staged d r
   pub announced : s.announced ≡ announced d r
-  pub values : (slot code : ℕ) → slot < d.slots → is_slot_code code ≡ true → value_at s slot code ≡ cell d r (pos slot) code
+  pub values : (slot code : ℕ) → slot < d.slots → is_slot_code code ≡ true →
+      slot_value s slot code ≡ cell d r (pos slot) code
 
 -- a raw multi-touch event
 abbrev pub touch : ℕ → ℤ → Event

@@ -8,8 +8,8 @@ ghost use Rattle.inp_model.specs.Description.{Description, is_multi_touch_code, 
 ghost use Rattle.inp_model.specs.State.{staged, cell};
 ghost use Rattle.inp_model.specs.Passed.{passes_as, announced};
 ghost use Rattle.inp_caps.specs.Disposition.{flags_of, flags_after};
-ghost use Rattle.inp_slots.specs.Slots.{SlotsStandFor, value_at, touch};
-ghost use Rattle.inp_slots.specs.Changes.{has_slot, named, staged_slot, moved, change, is_announced};
+ghost use Rattle.inp_slots.specs.Slots.{SlotsStandFor, slot_value, touch};
+ghost use Rattle.inp_slots.specs.Changes.{is_slot_there, slot_named, staged_slot, moved, change, is_announced};
 
 use crate::slot::Slot;
 use bitflags::Flags;
@@ -101,7 +101,7 @@ impl Slots {
 
     // Stages the slot of this number, if there is one.
     fn stage(&mut self, slot: i32)
-        ensures { self.new ≡ named self.old slot }
+        ensures { self.new ≡ slot_named self.old slot }
     {
         if slot < 0 {
             return;
@@ -118,7 +118,7 @@ impl Slots {
         requires slots { 0 < length self.old.slots }
         ensures slots { self.new ≡ moved self.old code value fuzz }
         ensures change { result ≡ change (staged_slot self.old) code value fuzz }
-        ensures staged { has_slot self.old self.old.staged ≡ true }
+        ensures staged { is_slot_there self.old self.old.staged ≡ true }
         ensures len { length (staged_slot self.old) ≡ SLOT_VALUES }
     {
         let slot = &mut self.slots[self.staged];
@@ -173,7 +173,7 @@ impl Slots {
     pub fn value(&self, slot: u32, code: u16) -> i32
         requires slot { slot < length self.now.slots }
         requires code { is_slot_code code ≡ true }
-        ensures value { result ≡ value_at self.now slot code }
+        ensures value { result ≡ slot_value self.now slot code }
         ensures cell { (d : Description) (r : List RawItem) → SlotsStandFor d r self.now
             → result ≡ cell d r (pos slot) code }
     {

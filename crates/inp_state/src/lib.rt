@@ -7,7 +7,7 @@
 //!
 //! Its contract: `inp_model` says what the state is after a list of raw events and descriptions of axes, by the last write
 //! on each key and the like, and by the events on an axis since its last description. A [`State`] keeps no list;
-//! `StandsFor` (`specs/State.antt`) says for which lists it stands. A new one stands for the empty list. After
+//! `StateStandsFor` (`specs/State.antt`) says for which lists it stands. A new one stands for the empty list. After
 //! [`State::apply`] it stands for the list with one event more, and after [`State::describe`] for the list with one
 //! description more, for each list that it stood for. What becomes of an event, and what the calls answer, are the model's
 //! for each such list. An event takes the same time whatever came before, and nothing here takes memory.

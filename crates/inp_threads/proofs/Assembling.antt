@@ -16,7 +16,7 @@ use Rattle.inp_feedback.specs.declared.u_entry.UEntry.{UEntry}
 use Rattle.inp_feedback.specs.UEntry.{step_made}
 use Rattle.inp_script.specs.declared.waiting.Waiting.{Waiting}
 use Rattle.inp_script.specs.Doing.{HasActor}
-use Rattle.inp_script.specs.Ended.{HasCells, ended_of, device_run}
+use Rattle.inp_script.specs.Ended.{HasDeviceSlots, ended_of, device_run}
 use Rattle.inp_script.specs.Job.{ActorView}
 use Rattle.inp_script.specs.Runs.{actors_of, is_on_device}
 use Rattle.inp_runs.specs.Done.{HasFollowed, IsDeviceDone, IsRunAsPromised, calls_at}
@@ -25,7 +25,7 @@ use Rattle.inp_runs.proofs.Done.{device-promised}
 use Rattle.inp_runs.proofs.Listing.{IsAt, IsImage, eq_same, option_map-some, slice_get-filter}
 use Rattle.inp_turn.specs.declared.pass_view.PassView.{PassView}
 use Rattle.inp_turn.specs.PassView.{OwnsSeen}
-use Rattle.inp_port.specs.Entries.{steps_of, is_step_at, step_places}
+use Rattle.inp_port.specs.Entries.{steps_among, is_step_at, step_places}
 use Rattle.inp_port.proofs.Places.{other_places-begins}
 use Rattle.inp_threads.specs.Worker.{HasWorked, HasOwnedLines, HasDoneLines}
 use Rattle.inp_threads.proofs.CallsAt.{HasAllCalls, all-calls}
@@ -41,7 +41,7 @@ pub record HasDoneAllLines (r : RecordView) (d : Description) (wait : Option Wai
   pub has_actor : HasActor r a
   pub seen : IsPrefix view.seen entries
   pub owns : OwnsSeen view
-  pub cells : HasCells d (ended_of a)
+  pub cells : HasDeviceSlots d (ended_of a)
 
 -- a caller or an owner
 data Does (r : RecordView) (d : Description) (wait : Option Waiting) (a : ActorView) (view : PassView Description UEntry) : Type 0 where
@@ -66,13 +66,13 @@ module _ (r : RecordView) (d : Description) (wait : Option Waiting) (entries : L
       let same : has.text ≡ text = same_Some has.text text (sym has.is_text ∙ is_text) in
       sym has.role ∙ ap (λ (t : ActorText). t.role) same
 
-  followed : (text : ActorText) → slice_get r.actors a.actor ≡ Some text → (a.role ≡ Owner → HasAllCalls (reverse entries) view.own) → HasFollowed r d wait (steps_of step_made entries) text.role a
+  followed : (text : ActorText) → slice_get r.actors a.actor ≡ Some text → (a.role ≡ Owner → HasAllCalls (reverse entries) view.own) → HasFollowed r d wait (steps_among step_made entries) text.role a
   followed text is_text all = by does
     where
       role : a.role ≡ text.role
       role = role_of text is_text
 
-      by : Does r d wait a view → HasFollowed r d wait (steps_of step_made entries) text.role a
+      by : Does r d wait a view → HasFollowed r d wait (steps_among step_made entries) text.role a
       by (calls caller w) = caller-followed r d wait a view entries text role h.seen h.cells (ap is_owner (sym role) ∙ caller) w
       by (owns owner w) = owner-followed r d wait a view entries text role h.seen h.cells (sym role ∙ owner) w (all owner)
 
@@ -134,15 +134,15 @@ module _ {W : Type 0} (view : W → PassView Description UEntry) (actor : W → 
         let same : one.item ≡ w = one-owner k one.index w one.item at one.is owner its in
         omega (arith, one.some, ap (λ (u : W). times place (view u).own) same)))
 
-    done_at : (k : ℕ) (a : ActorView) (text : ActorText) → slice_get (map actor ws) k ≡ Some a → slice_get r.actors a.actor ≡ Some text → HasFollowed r d (wait_of idle r i) (steps_of step_made entries) text.role a
+    done_at : (k : ℕ) (a : ActorView) (text : ActorText) → slice_get (map actor ws) k ≡ Some a → slice_get r.actors a.actor ≡ Some text → HasFollowed r d (wait_of idle r i) (steps_among step_made entries) text.role a
     done_at k a text at is_text =
         let image : IsImage actor (slice_get ws k) a = option_map-some actor (slice_get ws k) a (sym (slice_get-map actor ws k) ∙ at) in
         let w : W = image.from in
         let here : slice_get r.actors (actor w).actor ≡ Some text = ap (λ (b : ActorView). slice_get r.actors b.actor) image.same ∙ is_text in
-        subst (λ (b : ActorView). HasFollowed r d (wait_of idle r i) (steps_of step_made entries) text.role b) image.same
+        subst (λ (b : ActorView). HasFollowed r d (wait_of idle r i) (steps_among step_made entries) text.role b) image.same
         (followed r d (wait_of idle r i) entries (view w) (actor w) (h.each k w image.is) text here (owns-all k w image.is))
 
-    pub device-done : IsDeviceDone idle r i d (steps_of step_made entries) (map actor ws)
+    pub device-done : IsDeviceDone idle r i d (steps_among step_made entries) (map actor ws)
     device-done = record {
       numbers = h.numbers;
       each = done_at;
@@ -154,6 +154,6 @@ module _ {W : Type 0} (view : W → PassView Description UEntry) (actor : W → 
 
   -- and so all that is promised of the device holds
   pub done-promised : (idle : Option ℕ) (r : RecordView) (i : ℕ) (device : DeviceText) (entries : List UEntry) (ws : List W) → IsRecord r → IsDescription device.caps → AreAllDone idle r i device.caps entries ws
-      → IsRunAsPromised idle r i device (device_run (steps_of step_made entries) (map ended_of (map actor ws)))
+      → IsRunAsPromised idle r i device (device_run (steps_among step_made entries) (map ended_of (map actor ws)))
   done-promised idle r i device entries ws is_record described h =
-      device-promised idle r i device (steps_of step_made entries) (map actor ws) is_record described (device-done idle r i device.caps entries ws is_record h)
+      device-promised idle r i device (steps_among step_made entries) (map actor ws) is_record described (device-done idle r i device.caps entries ws is_record h)

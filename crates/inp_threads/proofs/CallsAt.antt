@@ -9,7 +9,7 @@ use mathlib.Core.List.{IsPrefix}
 use Rattle.inp_model.specs.Description.{Description}
 use Rattle.inp_turn.specs.declared.pass_view.PassView.{PassView}
 use Rattle.inp_turn.proofs.Places.{here-other, count-cons, count-append}
-use Rattle.inp_port.specs.Entries.{steps_of, is_step_at, step_places}
+use Rattle.inp_port.specs.Entries.{steps_among, is_step_at, step_places}
 use Rattle.inp_port.proofs.Places.{slice_get-seam, step_places-append, step_places-begins}
 use Rattle.inp_feedback.specs.declared.u_entry.UEntry.{UEntry}
 use Rattle.inp_feedback.specs.declared.u_entry.UEntry.TheVariants.{Made, Feedback}
@@ -138,7 +138,7 @@ ends-longer d more kept rooms done before last steps (inr refused) =
 
 -- An owner that did its lines owned all feedback calls of the device, of which its pass saw a beginning.
 pub lines-owned : (d : Description) (rooms : List ℕ) (view : PassView Description UEntry) (entries : List UEntry) (last : Owning) → HasFedLines d rooms view last → IsPrefix view.seen entries → HasAllCalls (reverse entries) view.own
-    → HasOwned d (steps_of step_made entries) rooms last
+    → HasOwned d (steps_among step_made entries) rooms last
 lines-owned d rooms view entries last h begins all =
     let kept : List UEntry = reverse view.seen in
     let more : List UEntry = reverse begins.0 in

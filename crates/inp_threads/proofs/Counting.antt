@@ -11,7 +11,7 @@ use Rattle.inp_model.specs.Reply.{is_accepted}
 use Rattle.inp_model.specs.Run.{Call, place_of}
 use Rattle.inp_turn.proofs.Places.{count-append}
 use Rattle.inp_script.specs.Job.{ActorView}
-use Rattle.inp_script.specs.Legal.{entries_of}
+use Rattle.inp_script.specs.Legal.{sight_of_calls}
 use Rattle.inp_runs.specs.Done.{calls_at}
 use Rattle.inp_runs.proofs.Entries.{entries, entries-cons_call}
 
@@ -33,7 +33,7 @@ times-call place reply = by_flag (is_accepted reply)
     by_flag true = one
     by_flag false = refl
 
-pub times-calls : (place : ℕ) (calls : List Call) → times place (places_of calls) ≡ entries place (entries_of calls)
+pub times-calls : (place : ℕ) (calls : List Call) → times place (places_of calls) ≡ entries place (sight_of_calls calls)
 times-calls place [] = refl
 times-calls place (call ∷ calls) =
     count-append place (own_after call.answer.reply []) (places_of calls)

@@ -12,7 +12,7 @@ use Rattle.inp_actors.specs.declared.device_text.DeviceText.{DeviceText}
 use Rattle.inp_actors.specs.Record.{RecordView, IsRecord}
 use Rattle.inp_script.specs.declared.waiting.Waiting.{Waiting}
 use Rattle.inp_script.specs.declared.ended.Ended.{Ended}
-use Rattle.inp_script.specs.Ended.{HasCells, ended_of, device_run}
+use Rattle.inp_script.specs.Ended.{HasDeviceSlots, ended_of, device_run}
 use Rattle.inp_script.specs.Job.{ActorView}
 use Rattle.inp_script.specs.Runs.{actors_of}
 use Rattle.inp_runs.specs.Done.{IsRunAsPromised}
@@ -22,7 +22,7 @@ use Rattle.inp_turn.specs.PassView.{IsEachAddedOnce, OwnsSeen}
 use Rattle.inp_turn.specs.declared.kept.Kept.{Ghosts}
 use Rattle.inp_turn.specs.declared.pass.Pass.{Pass}
 use Rattle.inp_port.specs.declared.port.PortOf.{PortOf}
-use Rattle.inp_port.specs.Entries.{steps_of}
+use Rattle.inp_port.specs.Entries.{steps_among}
 use Rattle.inp_port.specs.Port.{description_of}
 use Rattle.inp_threads.specs.declared.worker.Worker.{Worker}
 use Rattle.inp_threads.specs.Worker.{view_in, actor_number, HasPass, HasDoneLines, IsWorked}
@@ -69,7 +69,7 @@ module _ (idle i : ℕ) (r : RecordView) (device : DeviceText) (port : PortOf Ud
         has_actor = here.actor;
         seen = subst (IsPrefix (view_in w.pass).seen) is.seen (at_found (λ (u : Worker). IsPrefix (view_in u.pass).seen joined.seen) workers k w all.seen at);
         owns = owned_by w.pass here.pass;
-        cells = subst (λ (d : Description). HasCells d (ended_of w.actor)) (here.description ∙ is.description) (at_found IsSizedWorker workers k w is.sized at);
+        cells = subst (λ (d : Description). HasDeviceSlots d (ended_of w.actor)) (here.description ∙ is.description) (at_found IsSizedWorker workers k w is.sized at);
       }
 
   all_done : AreAllDone (λ (w : Worker). view_in w.pass) (λ (w : Worker). w.actor) (Some idle) r i device.caps entries workers
@@ -83,7 +83,7 @@ module _ (idle i : ℕ) (r : RecordView) (device : DeviceText) (port : PortOf Ud
         once = λ place below. ap (count_by (nat_eq place)) (sym own) ∙ owned.once place (omega arith) below;
       }
 
-  pub left-promised : IsRecord r → IsDescription device.caps → (ends : List Ended) → ends ≡ ends_of_workers workers → IsRunAsPromised (Some idle) r i device (device_run (steps_of step_made entries) ends)
+  pub left-promised : IsRecord r → IsDescription device.caps → (ends : List Ended) → ends ≡ ends_of_workers workers → IsRunAsPromised (Some idle) r i device (device_run (steps_among step_made entries) ends)
   left-promised is_record described ends ended =
-      subst (λ (es : List Ended). IsRunAsPromised (Some idle) r i device (device_run (steps_of step_made entries) es)) (actor_ends workers ∙ sym ended)
+      subst (λ (es : List Ended). IsRunAsPromised (Some idle) r i device (device_run (steps_among step_made entries) es)) (actor_ends workers ∙ sym ended)
       (done-promised (λ (w : Worker). view_in w.pass) (λ (w : Worker). w.actor) (Some idle) r i device entries workers is_record described all_done)

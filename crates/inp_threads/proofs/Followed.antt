@@ -18,7 +18,7 @@ use Rattle.inp_feedback.specs.declared.u_entry.UEntry.{UEntry}
 use Rattle.inp_feedback.specs.UEntry.{step_made}
 use Rattle.inp_reader.specs.Talk.{LeadsTo, EndsWith, finish}
 use Rattle.inp_script.specs.declared.waiting.Waiting.{Waiting}
-use Rattle.inp_script.specs.Ended.{HasCells, ended_of}
+use Rattle.inp_script.specs.Ended.{HasDeviceSlots, ended_of}
 use Rattle.inp_script.specs.Job.{ActorView, Job, first_job}
 use Rattle.inp_runs.specs.Done.{HasFollowed, calls_at}
 use Rattle.inp_runs.specs.Job.{is_entry_at, lines_by, lines_talk}
@@ -28,7 +28,7 @@ use Rattle.inp_runs.proofs.Entries.{told-counts}
 use Rattle.inp_runs.proofs.OwnerTalks.{lines-nothing}
 use Rattle.inp_turn.specs.declared.pass_view.PassView.{PassView}
 use Rattle.inp_turn.specs.PassView.{OwnsSeen}
-use Rattle.inp_port.specs.Entries.{steps_of, step_places}
+use Rattle.inp_port.specs.Entries.{steps_among, step_places}
 use Rattle.inp_port.proofs.Places.{steps-begins, step_places-begins}
 use Rattle.inp_threads.specs.Worker.{HasWorked, HasOwnedLines}
 use Rattle.inp_threads.proofs.CallsAt.{HasAllCalls, calls-no_steps, lines-owned}
@@ -44,14 +44,14 @@ not_both role caller owner = opposite (sym caller ∙ ap is_owner owner)
     opposite : false ≡ true → ⊥
     opposite e = cc
 
-module _ (r : RecordView) (d : Description) (wait : Option Waiting) (a : ActorView) (view : PassView Description UEntry) (entries : List UEntry) (text : ActorText) (is_role : a.role ≡ text.role) (begins : IsPrefix view.seen entries) (cells : HasCells d (ended_of a)) where
+module _ (r : RecordView) (d : Description) (wait : Option Waiting) (a : ActorView) (view : PassView Description UEntry) (entries : List UEntry) (text : ActorText) (is_role : a.role ≡ text.role) (begins : IsPrefix view.seen entries) (cells : HasDeviceSlots d (ended_of a)) where
   -- a caller followed its lines on the steps of all entries that begin with what it saw
-  abbrev pub caller-followed : is_owner text.role ≡ false → HasWorked r d wait a view → HasFollowed r d wait (steps_of step_made entries) text.role a
+  abbrev pub caller-followed : is_owner text.role ≡ false → HasWorked r d wait a view → HasFollowed r d wait (steps_among step_made entries) text.role a
   caller-followed caller w =
       let begun = steps-begins step_made view.seen entries begins in
       record {
         calls = w.calls;
-        legal = legal-longer d (steps_of step_made view.seen) (steps_of step_made entries) 0 w.calls (begun.0, sym begun.1) w.legal;
+        legal = legal-longer d (steps_among step_made view.seen) (steps_among step_made entries) 0 w.calls (begun.0, sym begun.1) w.legal;
         rounds = w.rounds;
         follows = subst (λ (x : Role). EndsWith (lines_talk x d r.streams wait w.rounds (lines_by a.actor r.lines) (first_job x d)) w.calls (Some a.job)) is_role w.follows;
         is_role = is_role;
@@ -60,7 +60,7 @@ module _ (r : RecordView) (d : Description) (wait : Option Waiting) (a : ActorVi
       }
 
   -- an owner made no calls of an evdev, and all feedback calls
-  pub owner-followed : text.role ≡ Owner → HasOwnedLines r d a view → HasAllCalls (reverse entries) view.own → HasFollowed r d wait (steps_of step_made entries) text.role a
+  pub owner-followed : text.role ≡ Owner → HasOwnedLines r d a view → HasAllCalls (reverse entries) view.own → HasFollowed r d wait (steps_among step_made entries) text.role a
   unfolding LeadsTo
   owner-followed owner w all = record {
     calls = [];
@@ -77,7 +77,7 @@ module _ (r : RecordView) (d : Description) (wait : Option Waiting) (a : ActorVi
     -- a caller has as many accepted calls at a place as its pass owns it among the steps
     pub caller-counts : is_owner text.role ≡ false → HasWorked r d wait a view → IsRecord r → slice_get r.actors a.actor ≡ Some text → (place : ℕ) → calls_at place a ≡ times place (step_places step_made entries view.own)
     caller-counts caller w is_record is_text = λ place.
-        sym (told-counts wait w.calls a.job.sight (followed-told r d wait (steps_of step_made entries) text a is_record is_text (caller-followed caller w)) place)
+        sym (told-counts wait w.calls a.job.sight (followed-told r d wait (steps_among step_made entries) text a is_record is_text (caller-followed caller w)) place)
         ∙ sym (times-calls place w.calls)
         ∙ ap (times place) (sym w.own ∙ sym (step_places-begins step_made view.seen entries view.own begins owns))
 

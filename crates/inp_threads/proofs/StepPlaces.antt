@@ -5,7 +5,7 @@ use Rattle.std.specs.List.{count_by, cons_option}
 use Rattle.std.proofs.lemmas.Bool.Decides.{nat_tests}
 use Rattle.inp_model.specs.declared.step.Step.{Step}
 use Rattle.inp_turn.proofs.Places.{here-other, count-cons}
-use Rattle.inp_port.specs.Entries.{steps_of, is_step_at, steps_before, step_places, other_places}
+use Rattle.inp_port.specs.Entries.{steps_among, is_step_at, steps_before, step_places, other_places}
 use Rattle.inp_port.proofs.Places.{step_places-append}
 
 module _ {E : Type 0} (made : E → Option Step) where
@@ -24,10 +24,10 @@ module _ {E : Type 0} (made : E → Option Step) where
 
   -- the steps before a place that is not the first one
   before-step : (e : E) (entries : List E) (x : Step) (p : ℕ) → made e ≡ Some x → steps_before made (e ∷ entries) (suc p) ≡ suc (steps_before made entries p)
-  before-step e entries x p is = ap (λ (o : Option Step). length (cons_option o (steps_of made (take p entries)))) is
+  before-step e entries x p is = ap (λ (o : Option Step). length (cons_option o (steps_among made (take p entries)))) is
 
   before-other : (e : E) (entries : List E) (p : ℕ) → made e ≡ None → steps_before made (e ∷ entries) (suc p) ≡ steps_before made entries p
-  before-other e entries p none = ap (λ (o : Option Step). length (cons_option o (steps_of made (take p entries)))) none
+  before-other e entries p none = ap (λ (o : Option Step). length (cons_option o (steps_among made (take p entries)))) none
 
   first-step : (e : E) (entries : List E) (x : Step) → made e ≡ Some x → (p : ℕ) → (is_step_at made (e ∷ entries) p && nat_eq 0 (steps_before made (e ∷ entries) p)) ≡ nat_eq 0 p
   first-step e entries x is zero = ap (λ (o : Option Step). is_some o && nat_eq 0 0) is
@@ -61,17 +61,17 @@ module _ {E : Type 0} (made : E → Option Step) where
   after-other : (e : E) (entries : List E) (n : ℕ) → made e ≡ None → IsPlaceOfStep entries n → IsPlaceOfStep (e ∷ entries) n
   after-other e entries n none there = record { place = suc there.place; within = omega (arith, there.within); alone = next-other e entries n there.place none there.alone }
 
-  one-less : (e : E) (entries : List E) (x : Step) (n m : ℕ) → made e ≡ Some x → n < length (steps_of made (e ∷ entries)) → n ≡ suc m → m < length (steps_of made entries)
-  one-less e entries x n m is l same = omega (arith, l, same, ap (λ (o : Option Step). length (cons_option o (steps_of made entries))) is)
+  one-less : (e : E) (entries : List E) (x : Step) (n m : ℕ) → made e ≡ Some x → n < length (steps_among made (e ∷ entries)) → n ≡ suc m → m < length (steps_among made entries)
+  one-less e entries x n m is l same = omega (arith, l, same, ap (λ (o : Option Step). length (cons_option o (steps_among made entries))) is)
 
-  no-less : (e : E) (entries : List E) (n : ℕ) → made e ≡ None → n < length (steps_of made (e ∷ entries)) → n < length (steps_of made entries)
-  no-less e entries n none l = omega (arith, l, ap (λ (o : Option Step). length (cons_option o (steps_of made entries))) none)
+  no-less : (e : E) (entries : List E) (n : ℕ) → made e ≡ None → n < length (steps_among made (e ∷ entries)) → n < length (steps_among made entries)
+  no-less e entries n none l = omega (arith, l, ap (λ (o : Option Step). length (cons_option o (steps_among made entries))) none)
 
-  pub step-stands : (entries : List E) (n : ℕ) → n < length (steps_of made entries) → IsPlaceOfStep entries n
+  pub step-stands : (entries : List E) (n : ℕ) → n < length (steps_among made entries) → IsPlaceOfStep entries n
   step-stands [] n l = absurd (omega (arith, l))
   step-stands (e ∷ entries) n l = by (made e) refl (λ m k. step-stands entries m k)
     where
-      by : (o : Option Step) → made e ≡ o → ((m : ℕ) → m < length (steps_of made entries) → IsPlaceOfStep entries m) → IsPlaceOfStep (e ∷ entries) n
+      by : (o : Option Step) → made e ≡ o → ((m : ℕ) → m < length (steps_among made entries) → IsPlaceOfStep entries m) → IsPlaceOfStep (e ∷ entries) n
       by None is later = after-other e entries n is (later n (no-less e entries n is l))
       by (Some x) is later = after-step e entries x n is (λ m same. later m (one-less e entries x n m is l same))
 
@@ -96,7 +96,7 @@ module _ {E : Type 0} (made : E → Option Step) where
       omega (arith, here, count-steps test f place n own same, count-cons place p own)
 
   pub steps-once : (entries : List E) (own : List ℕ) → ((place : ℕ) → place < length entries → count_by (nat_eq place) own ≡ 1)
-      → (n : ℕ) → n < length (steps_of made entries) → count_by (nat_eq n) (step_places made entries own) ≡ 1
+      → (n : ℕ) → n < length (steps_among made entries) → count_by (nat_eq n) (step_places made entries own) ≡ 1
   steps-once entries own once n l =
       let there : IsPlaceOfStep entries n = step-stands entries n l in
       count-steps (is_step_at made entries) (steps_before made entries) there.place n own there.alone ∙ once there.place there.within

@@ -2,7 +2,7 @@
 use Rattle.std.proofs.Common.{◌≡◌, ℕ, zero, suc, List, [], ◌∷◌, ◌++◌, length, drop, refl, ap, arith, Option, Some, None}
 use Rattle.inp_model.specs.Description.{Description}
 use Rattle.inp_turn.specs.declared.shared.Shared.{Shared}
-use Rattle.inp_turn.specs.Shared.{name_of}
+use Rattle.inp_turn.specs.Shared.{shared_id}
 use Rattle.inp_feedback.specs.declared.u_entry.UEntry.{UEntry}
 use Rattle.inp_uinput.specs.UdevView.{UdevView}
 
@@ -26,7 +26,7 @@ as-long (x ∷ xs) (y ∷ ys) more long h =
     ((λ i. first i ∷ rest.0 i), rest.1)
 
 -- which table it is, by its name
-pub same-table : (s s' : Shared UdevView Description UEntry) → name_of s' ≡ name_of s → s'.table.shared.table_id ≡ s.table.shared.table_id
+pub same-table : (s s' : Shared UdevView Description UEntry) → shared_id s' ≡ shared_id s → s'.table.shared.table_id ≡ s.table.shared.table_id
 same-table s s' e = λ i. record {
   words = number_at 0 (e i);
   slots = number_at 1 (e i);

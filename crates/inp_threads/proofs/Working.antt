@@ -26,14 +26,14 @@ use Rattle.inp_turn.specs.declared.kept.Kept.{Ghosts}
 use Rattle.inp_turn.specs.declared.pass.Pass.{Pass}
 use Rattle.inp_turn.specs.declared.pass_view.PassView.{PassView}
 use Rattle.inp_turn.specs.Pass.{view_of}
-use Rattle.inp_turn.specs.Shared.{name_of}
+use Rattle.inp_turn.specs.Shared.{shared_id}
 use Rattle.inp_port.specs.declared.port.PortOf.{PortOf}
-use Rattle.inp_port.specs.Entries.{steps_of, step_places, other_places}
+use Rattle.inp_port.specs.Entries.{steps_among, step_places, other_places}
 use Rattle.inp_port.specs.Port.{IsReadyAt, told_by}
 use Rattle.inp_uinput.specs.UdevView.{UdevView}
 use Rattle.inp_runs.specs.Owner.{rooms_of}
 use Rattle.inp_threads.specs.Owner.{HasFedLines}
-use Rattle.inp_threads.specs.Worker.{IsFresh, HasPass, HasWorked, HasOwnedLines, HasDoneLines}
+use Rattle.inp_threads.specs.Worker.{IsFreshPass, HasPass, HasWorked, HasOwnedLines, HasDoneLines}
 use Rattle.inp_threads.proofs.Ties.{numbers_in, number_at, as-long, same-table}
 
 module _ {K : Ghosts UdevView Description UEntry} where
@@ -44,14 +44,14 @@ module _ {K : Ghosts UdevView Description UEntry} where
     pub others : other_places step_made (view_of p').seen (view_of p').own ≡ []
 
   pub pass-back : (port port' : PortOf UdevView UEntry) (p p' : Pass UdevView Description UEntry K) (n n' : ℕ)
-      → IsFresh port p → IsLeft (told_by step_made port p n) (told_by step_made port' p' n') → IsReadyAt port' p' → IsCallersPass port port' p'
+      → IsFreshPass port p → IsLeft (told_by step_made port p n) (told_by step_made port' p' n') → IsReadyAt port' p' → IsCallersPass port port' p'
   pass-back port port' p p' n n' fresh left ready =
       let others : List ℕ = other_places step_made (view_of p').seen (view_of p').own in
       let none : other_places step_made (view_of p).seen (view_of p).own ≡ [] = ap (other_places step_made (view_of p).seen) fresh.own in
-      let tie : (view_of p').share ∷ length (name_of port'.shared) ∷ name_of port'.shared ++ others ≡ (view_of p).share ∷ length (name_of port.shared) ∷ name_of port.shared ++ other_places step_made (view_of p).seen (view_of p).own =
+      let tie : (view_of p').share ∷ length (shared_id port'.shared) ∷ shared_id port'.shared ++ others ≡ (view_of p).share ∷ length (shared_id port.shared) ∷ shared_id port.shared ++ other_places step_made (view_of p).seen (view_of p).own =
       ap numbers_in left.leaves.tie in
-      let rest : name_of port'.shared ++ others ≡ name_of port.shared = ap (drop 2) tie ∙ ap (λ (l : List ℕ). name_of port.shared ++ l) none ∙ append-nil (name_of port.shared) in
-      let name = as-long (name_of port'.shared) (name_of port.shared) others (ap (number_at 1) tie) rest in
+      let rest : shared_id port'.shared ++ others ≡ shared_id port.shared = ap (drop 2) tie ∙ ap (λ (l : List ℕ). shared_id port.shared ++ l) none ∙ append-nil (shared_id port.shared) in
+      let name = as-long (shared_id port'.shared) (shared_id port.shared) others (ap (number_at 1) tie) rest in
       let table = same-table port.shared port'.shared name.0 in
       let caps : port'.caps ≡ port.caps = left.leaves.description in
       record {
@@ -67,7 +67,7 @@ module _ {K : Ghosts UdevView Description UEntry} where
 -- What the actor did
 
 pub has-worked : (r : RecordView) (d : Description) (wait : Option Waiting) (a : ActorView) (new : Job) (b e : EvdevView) (v : PassView Description UEntry)
-    → b.seen ≡ [] → b.own ≡ [] → e.description ≡ d → e.seen ≡ steps_of step_made v.seen → e.own ≡ step_places step_made v.seen v.own → other_places step_made v.seen v.own ≡ []
+    → b.seen ≡ [] → b.own ≡ [] → e.description ≡ d → e.seen ≡ steps_among step_made v.seen → e.own ≡ step_places step_made v.seen v.own → other_places step_made v.seen v.own ≡ []
     → a.description ≡ d → a.job ≡ first_job a.role a.description → DoesAll b e r wait a new → HasWorked r d wait (record a { job = new }) v
 has-worked r d wait a new b e v no_seen no_own same_d seen own others described first does =
     let h = does.holds in

@@ -5,7 +5,7 @@ use Rattle.inp_feedback.specs.declared.u_entry.UEntry.{UEntry}
 use Rattle.inp_model.specs.Description.{Description}
 use Rattle.inp_uinput.specs.UdevView.{UdevView}
 use Rattle.inp_script.specs.declared.ended.Ended.{Ended}
-use Rattle.inp_script.specs.Ended.{HasCells, ended_of}
+use Rattle.inp_script.specs.Ended.{HasDeviceSlots, ended_of}
 use Rattle.inp_turn.specs.declared.pass_view.PassView.{PassView}
 use Rattle.inp_port.specs.declared.port.PortOf.{PortOf}
 use Rattle.inp_threads.specs.declared.worker.Worker.{Worker}
@@ -40,7 +40,7 @@ AreWorkersDone workers = All (λ (w : Worker). w.is_done ≡ true) workers
 
 -- the view that comes of a worker's actor, if one does, has the slots of its device
 abbrev pub IsSizedWorker : Worker → Type 0
-IsSizedWorker w = HasCells w.actor.description (ended_of w.actor)
+IsSizedWorker w = HasDeviceSlots w.actor.description (ended_of w.actor)
 
 -- and so has that of each
 abbrev pub AreSized : List Worker → Type 0

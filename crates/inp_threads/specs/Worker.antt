@@ -25,7 +25,7 @@ use Rattle.inp_turn.specs.declared.pass_view.PassView.{PassView}
 use Rattle.inp_turn.specs.Pass.{view_of}
 use Rattle.inp_turn.specs.PassView.{whole_share, spent_view}
 use Rattle.inp_port.specs.declared.port.PortOf.{PortOf}
-use Rattle.inp_port.specs.Entries.{steps_of, step_places, other_places}
+use Rattle.inp_port.specs.Entries.{steps_among, step_places, other_places}
 use Rattle.inp_port.specs.Port.{IsReadyAt, description_of}
 use Rattle.inp_uinput.specs.UdevView.{UdevView}
 use Rattle.inp_threads.specs.declared.worker.Worker.{Worker}
@@ -38,7 +38,7 @@ module _ {K : Ghosts UdevView Description UEntry} where
   view_in (Some pass) = view_of pass
 
   -- A pass of this port, without the turn and with one unit of the share, that has seen nothing.
-  pub record IsFresh (port : PortOf UdevView UEntry) (pass : Pass UdevView Description UEntry K) : Type 0 where
+  pub record IsFreshPass (port : PortOf UdevView UEntry) (pass : Pass UdevView Description UEntry K) : Type 0 where
     pub ready : IsReadyAt port pass
     pub share : (view_of pass).share ≡ 1
     pub seen : (view_of pass).seen ≡ []
@@ -48,7 +48,7 @@ module _ {K : Ghosts UdevView Description UEntry} where
   pub record HasFreshPass (port : PortOf UdevView UEntry) (place : Option (Pass UdevView Description UEntry K)) : Type 0 where
     pub pass : Pass UdevView Description UEntry K
     pub is_pass : place ≡ Some pass
-    pub fresh : IsFresh port pass
+    pub fresh : IsFreshPass port pass
 
   -- A pass of this port lies there, without the turn and with one unit of the share.
   pub record HasPass (port : PortOf UdevView UEntry) (place : Option (Pass UdevView Description UEntry K)) : Type 0 where
@@ -108,7 +108,7 @@ AreDealt port r device left workers = AreDealtUpTo port r device (length r.actor
 -- its lines and the answers to these calls make, and its pass owns the places of its steps and no others.
 pub record HasWorked (r : RecordView) (d : Description) (wait : Option Waiting) (a : ActorView) (view : PassView Description UEntry) : Type 0 where
   pub calls : List Call
-  pub legal : IsLegalRun d (steps_of step_made view.seen) calls
+  pub legal : IsLegalRun d (steps_among step_made view.seen) calls
   pub rounds : ℕ
   pub follows : EndsWith (lines_talk a.role d r.streams wait rounds (lines_by a.actor r.lines) (first_job a.role d)) calls (Some a.job)
   pub own : step_places step_made view.seen view.own ≡ places_of calls

@@ -4,7 +4,7 @@ ghost use Rattle.inp_actors.specs.declared.role.Role.TheVariants.{Owner};
 ghost use Rattle.inp_actors.specs.Command.{is_owner};
 ghost use Rattle.inp_script.specs.declared.waiting.Waiting.{Waiting};
 ghost use Rattle.inp_script.specs.Doing.{IsWaiting};
-ghost use Rattle.inp_threads.specs.Worker.{IsAtStart, IsFresh, IsReadyWorker, IsWorked, actor_number};
+ghost use Rattle.inp_threads.specs.Worker.{IsAtStart, IsFreshPass, IsReadyWorker, IsWorked, actor_number};
 
 use crate::owner_client::OwnerClient;
 use inp_actors::{Record, Role};
@@ -64,7 +64,7 @@ impl Worker {
         gate: &G,
         pass: Pass<Udev>,
     )
-        requires fresh { IsFresh port.now pass }
+        requires fresh { IsFreshPass port.now pass }
         requires start { IsAtStart port.now rec.now self.old.actor }
         requires number { self.old.actor.actor ≡ self.old.number }
         requires caller { is_owner self.old.actor.role ≡ false }
@@ -93,7 +93,7 @@ impl Worker {
         gate: &G,
         pass: Pass<Udev>,
     )
-        requires fresh { IsFresh port.now pass }
+        requires fresh { IsFreshPass port.now pass }
         requires start { IsAtStart port.now rec.now self.old.actor }
         requires number { self.old.actor.actor ≡ self.old.number }
         requires owner { self.old.actor.role ≡ Owner }

@@ -9,7 +9,7 @@ use Rattle.inp_model.specs.declared.stamped.Stamped.{Stamped}
 use Rattle.inp_actors.specs.declared.line.Line.{Line}
 use Rattle.inp_actors.specs.Command.{stream_of, first_of}
 use Rattle.inp_actors.specs.Record.{RecordView, IsRecord}
-use Rattle.inp_record.specs.Stream.{events_of, events_at, stream_at, with_stream, with_stream_at}
+use Rattle.inp_record.specs.Stream.{stamps_of_command, events_at, stream_at, with_stream, with_stream_at}
 use Rattle.inp_tool.specs.declared.no_record.NoRecord.{NoRecord}
 use Rattle.inp_tool.specs.declared.no_record.NoRecord.TheVariants.{Unread, TooLong, Refused, NoMemory}
 use Rattle.inp_tool.specs.Edge.{InputView, Reads}
@@ -17,7 +17,7 @@ use Rattle.inp_tool.specs.Streams.{StreamFile, file_of, stream_files, events_in,
 use Rattle.inp_tool.specs.Reading.{AreLoaded, IsAtStream}
 use Rattle.inp_tool.specs.Loading.{TakesFiles, IsPassedOver, IsTaken, IsDone, CannotDo, IsLoadedTo, AreStreamsLoaded, CannotFinish}
 use Rattle.inp_tool.proofs.Spans.{span, AreToldAlike, are_read_on, are_read_push, are_read_length, is_read_from, is_last_push, is_unread_from, is_too_long_from, ran_out_from, is_read_last_from}
-use Rattle.inp_tool.proofs.StreamFiles.{one_stream, events_of-file, as_many_files, line_found, files_more, stream_number}
+use Rattle.inp_tool.proofs.StreamFiles.{one_stream, stamps_of_command-file, as_many_files, line_found, files_more, stream_number}
 
 abbrev files_to : RecordView → ℕ → List StreamFile
 files_to parsed line = stream_files (take line parsed.lines)
@@ -54,7 +54,7 @@ same_length (f ∷ files) (b ∷ contents) [] all = absurd all
 events_at-file : (r : RecordView) (line : ℕ) (file : StreamFile) (bytes : List ℕ) → TakesFiles r line (file ∷ []) → events_at r line bytes ≡ events_in file bytes
 events_at-file r line file bytes h =
     let found = line_found (λ (l : Line). file_of l.command) (slice_get r.lines line) (file ∷ []) h in
-    ap (λ (o : Option Line). option_and_then (λ (l : Line). events_of l.command bytes) o) found.1 ∙ events_of-file (found.0).command file bytes found.2
+    ap (λ (o : Option Line). option_and_then (λ (l : Line). stamps_of_command l.command bytes) o) found.1 ∙ stamps_of_command-file (found.0).command file bytes found.2
 
 -- a stream that is put in its place, with the empty ones behind it
 put_stream : (streams empty : List (List Stamped)) (stamps : List Stamped) → length streams < length empty

@@ -14,7 +14,7 @@ use Rattle.inp_model.specs.Description.{ring}
 use Rattle.inp_actors.specs.declared.command.Command.TheVariants as command
 use Rattle.inp_actors.specs.declared.line.Line.{Line}
 use Rattle.inp_actors.specs.Record.{RecordView}
-use Rattle.inp_make.specs.Generated.{pad, fast, mid, slow, line, frame_moment, injected, finger_events, touches, frame_events, follows, frame_lines, opens, lines, generated}
+use Rattle.inp_make.specs.Generated.{pad, fast, mid, slow, line, frame_moment, injected, finger_events, touches, frame_events, follows, frame_lines, open_lines, lines, generated}
 use Rattle.inp_reader.specs.Reading.{queries, axes_among}
 use Rattle.inp_actors.specs.declared.role.Role.{Role}
 use Rattle.inp_actors.specs.declared.role.Role.TheVariants.{Source, Client, Tap, Joy, Owner}
@@ -102,7 +102,7 @@ adds-frames r number first (suc count) =
     adds-more r pad (64 + 64 * count) (64 * suc count) _ (omega arith)
     (adds-append r pad 64 (64 * count) (frame_lines number first) (flat_map (frame_lines number) (range_with_len (first + 1) count)) (adds-frame r number first) (adds-frames r number (first + 1) count))
 
-adds-opens : (r : RecordView) → Adds r pad 9 opens
+adds-opens : (r : RecordView) → Adds r pad 9 open_lines
 adds-opens r =
     adds-line r pad 6 3 (line fast command.Open) _ opening
     (adds-line r pad 3 3 (line mid command.Open) _ opening (adds-line r pad 0 3 (line slow command.Open) [] opening (adds-none r pad)))
@@ -113,7 +113,7 @@ adds-lines r number count =
     let frames : List Line = flat_map (frame_lines number) (range_with_len 0 count) in
     let last : List Line = line slow command.Follow ∷ [] in
     adds-more r pad (9 + 64 * count + 11) (20 + 64 * count) _ (omega arith)
-    (adds-append r pad (9 + 64 * count) 11 (opens ++ frames) last (adds-append r pad 9 (64 * count) opens frames (adds-opens r) (adds-frames r number 0 count))
+    (adds-append r pad (9 + 64 * count) 11 (open_lines ++ frames) last (adds-append r pad 9 (64 * count) open_lines frames (adds-opens r) (adds-frames r number 0 count))
     (adds-line r pad 0 11 (line slow command.Follow) [] following (adds-none r pad)))
 
 -- Before the first line

@@ -14,7 +14,7 @@ use Rattle.inp_actors.specs.declared.line.Line.{Line}
 use Rattle.inp_actors.specs.Command.{stream_of}
 use Rattle.inp_actors.specs.Record.{streams_of}
 use Rattle.inp_stream.specs.declared.record_form.RecordForm.TheVariants.{Wide, Narrow}
-use Rattle.inp_record.specs.Stream.{events_of}
+use Rattle.inp_record.specs.Stream.{stamps_of_command}
 use Rattle.inp_tool.specs.Streams.{StreamFile, file_of, stream_files, events_in}
 
 -- a command that names a file takes one stream
@@ -25,13 +25,13 @@ one_stream Open file h = absurd (cc h)
 one_stream _ file h = absurd (cc h)
 
 -- a command takes the events that its file holds
-pub events_of-file : (c : Command) (file : StreamFile) (bytes : List ℕ) → file_of c ≡ file ∷ [] → events_of c bytes ≡ events_in file bytes
-events_of-file (Stream name index) file bytes h =
+pub stamps_of_command-file : (c : Command) (file : StreamFile) (bytes : List ℕ) → file_of c ≡ file ∷ [] → stamps_of_command c bytes ≡ events_in file bytes
+stamps_of_command-file (Stream name index) file bytes h =
     let its : StreamFile = record { name = name; form = Wide } in let same : its ≡ file = cc h in ap (λ (f : StreamFile). events_in f bytes) same
-events_of-file (Stream16 name index) file bytes h =
+stamps_of_command-file (Stream16 name index) file bytes h =
     let its : StreamFile = record { name = name; form = Narrow } in let same : its ≡ file = cc h in ap (λ (f : StreamFile). events_in f bytes) same
-events_of-file Open file bytes h = absurd (cc h)
-events_of-file _ file bytes h = absurd (cc h)
+stamps_of_command-file Open file bytes h = absurd (cc h)
+stamps_of_command-file _ file bytes h = absurd (cc h)
 
 pub as_many : (c : Command) → length (stream_of c) ≡ length (file_of c)
 as_many (Stream name index) = refl

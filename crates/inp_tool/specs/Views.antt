@@ -68,12 +68,12 @@ abbrev pub steps : List Step
 steps = first_steps ++ motion 33 4000 ++ last_steps
 
 -- the past before the step at this place
-abbrev pub steps_before : ℕ → List Step
-steps_before at = reverse (take at steps)
+abbrev pub past_till : ℕ → List Step
+past_till at = reverse (take at steps)
 
 -- what the read at this place took, up to item j
 abbrev pub taken_up_to : ℕ → ℕ → ℕ → List Entry
-taken_up_to at client j = take (suc j) (taken_by keyboard (steps_before at) client (Read client 64))
+taken_up_to at client j = take (suc j) (taken_by keyboard (past_till at) client (Read client 64))
 
 -- the frame of that item
 abbrev pub frame_at : ℕ → ℕ → ℕ → Frame
@@ -82,15 +82,15 @@ frame_at at client j = or_none (last_frame (taken_up_to at client j))
 -- the client's view then, that item included
 abbrev pub view_then : ℕ → ℕ → ℕ → View
 view_then at client j =
-    view_after_events (client_view keyboard (steps_before at) client) (map event_of (taken_up_to at client j))
+    view_after_events (client_view keyboard (past_till at) client) (map event_of (taken_up_to at client j))
 
 -- whether the promise speaks there: the client is synchronised, the frame was passed behind its last query, and nothing was
 -- kept from it
 abbrev pub speaks : ℕ → ℕ → ℕ → Bool
 speaks at client j =
-    is_synchronised keyboard (steps_before at) client (taken_up_to at client j)
-    && nat_lt (sync_place (steps_before at) client) (place (frame_at at client j))
-    && is_undisturbed keyboard (steps_before at) client (frame_at at client j)
+    is_synchronised keyboard (past_till at) client (taken_up_to at client j)
+    && nat_lt (sync_place (past_till at) client) (place (frame_at at client j))
+    && is_undisturbed keyboard (past_till at) client (frame_at at client j)
 
 -- which of the keys A and B are down
 abbrev pub down : (ℕ → Bool) → List ℕ
@@ -109,7 +109,7 @@ Shows at client j speaking in_view on_device =
 abbrev pub losses : ℕ → ℕ → List ℕ
 losses at client =
     map (λ (e : Entry). e.taken.place)
-    (filter (λ (e : Entry). is_dropped (event_of e)) (taken_by keyboard (steps_before at) client (Read client 64)))
+    (filter (λ (e : Entry). is_dropped (event_of e)) (taken_by keyboard (past_till at) client (Read client 64)))
 
 -- The promise speaks of a press after the client opened and asked for keys, and of the release that an inhibition makes,
 -- since the desktop synchronised before it.

@@ -11,8 +11,8 @@ use Rattle.atomic_table.specs.Table.{State}
 use Rattle.inp_turn.specs.declared.pass_view.PassView.{PassView}
 use Rattle.inp_turn.specs.declared.seat_view.SeatView.{SeatView}
 use Rattle.inp_turn.specs.PassView.{whole_share, added_places, spent_view, OwnsSeen, IsEachAddedOnce}
-use Rattle.inp_turn.specs.Turn.{turn_of, share_of, own_count, IsTurn}
-use Rattle.inp_turn.specs.Steps.{EndsWith}
+use Rattle.inp_turn.specs.Turn.{turn_count, share_of, own_count, IsTurn}
+use Rattle.inp_turn.specs.Steps.{ClosesWith}
 use Rattle.inp_turn.proofs.Prefixes.{prefix-length, prefix_whole}
 use Rattle.inp_turn.proofs.Places.{count-below, count-behind, count-within}
 use Rattle.inp_turn.proofs.Sums.{sum-alone, two-le-sum}
@@ -32,9 +32,9 @@ module _ {B E : Type 0} where
   others-none : (vs : List (SeatView B E)) (id j : ℕ) (v d : SeatView B E) → j ≢ id → get_elem? vs id ≡ some v → get_elem? vs j ≡ some d → (n : ℕ) → sum_by share_of vs ≡ n → n ≤ share_of v → share_of d ≡ 0
   others-none vs id j v d other at k n sum all = less-all (share_of v) (share_of d) (sum_by share_of vs) (two-le-sum share_of vs id j v d other at k) (subst (λ (m : ℕ). m ≤ share_of v) (sym sum) all)
 
-  idle : (d : SeatView B E) (b : Bool) → d.has_turn ≡ b → (d.has_turn ≡ true → 0 < d.pass.share) → share_of d ≡ 0 → turn_of d ≡ 0
+  idle : (d : SeatView B E) (b : Bool) → d.has_turn ≡ b → (d.has_turn ≡ true → 0 < d.pass.share) → share_of d ≡ 0 → turn_count d ≡ 0
   idle d true e alive none = let l : 0 < d.pass.share = alive e in absurd (omega arith)
-  idle d false e alive none = ap (λ (b : Bool). turn_of (record d { has_turn = b })) e
+  idle d false e alive none = ap (λ (b : Bool). turn_count (record d { has_turn = b })) e
 
   owns-none : (place : ℕ) (d : SeatView B E) → (d.pass.share ≡ 0 → d.pass.own ≡ []) → (d.met.share ≡ 0 → d.met.own ≡ []) → share_of d ≡ 0 → own_count place d ≡ 0
   owns-none place d p m z = let a : count_by (nat_eq place) d.pass.own ≡ 0 = ap (λ (l : List ℕ). count_by (nat_eq place) l) (p (omega arith)) in
@@ -80,8 +80,8 @@ module _ {S B E : Type 0} (base : S → B) (entries : S → List E) where
     others : (s : State (Option S) (SeatView B E)) → sum_by share_of s.views ≡ whole_share → get_elem? s.views id ≡ some v → (j : ℕ) (d : SeatView B E) → j ≢ id → get_elem? s.views j ≡ some d → share_of d ≡ 0
     others s shares at j d other k = others-none s.views id j v d other at k whole_share shares has-all
 
-    no-turn : (s : State (Option S) (SeatView B E)) → IsTurn base entries start s → get_elem? s.views id ≡ some v → sum_by turn_of s.views ≡ 0
-    no-turn s r at = sum-alone turn_of s.views id v at (λ j d other k. idle d d.has_turn refl (r.each_seat j d k).alive (others s r.shares at j d other k)) ∙ ap (λ (b : Bool). turn_of (record v { has_turn = b })) free
+    no-turn : (s : State (Option S) (SeatView B E)) → IsTurn base entries start s → get_elem? s.views id ≡ some v → sum_by turn_count s.views ≡ 0
+    no-turn s r at = sum-alone turn_count s.views id v at (λ j d other k. idle d d.has_turn refl (r.each_seat j d k).alive (others s r.shares at j d other k)) ∙ ap (λ (b : Bool). turn_count (record v { has_turn = b })) free
 
     all-own : (s : State (Option S) (SeatView B E)) → (r : IsTurn base entries start s) → get_elem? s.views id ≡ some v → (place : ℕ) → count_by (nat_eq place) v.pass.own ≡ count_by (nat_eq place) (added_places (entries start) r.log)
     all-own s r at place = let none : count_by (nat_eq place) v.met.own ≡ 0 = ap (λ (z : PassView B E). count_by (nat_eq place) z.own) clear in
@@ -103,7 +103,7 @@ module _ {S B E : Type 0} (base : S → B) (entries : S → List E) where
           };
         }
 
-    pub comes : (x : Option S) → EndsWith base entries start id v x → Comes start v.pass x
+    pub comes : (x : Option S) → ClosesWith base entries start id v x → Comes start v.pass x
     comes x e = lies e.final.0 e.final.1.0 e.final.1.1 e.slots x (λ y h. e.final.4 0 y h) e.slot
 
   -- the same of what was unwrapped

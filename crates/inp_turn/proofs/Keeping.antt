@@ -17,7 +17,7 @@ use Rattle.atomic_table.proofs.Lists.{at_set, set_else, set_again, at_snoc}
 use Rattle.inp_turn.specs.declared.pass_view.PassView.{PassView}
 use Rattle.inp_turn.specs.declared.seat_view.SeatView.{SeatView}
 use Rattle.inp_turn.specs.PassView.{added_places, spent_view}
-use Rattle.inp_turn.specs.Turn.{first_seat, turn_of, share_of, own_count, FitsLog, SeatFits, IsTurn}
+use Rattle.inp_turn.specs.Turn.{first_seat, turn_count, share_of, own_count, FitsLog, SeatFits, IsTurn}
 use Rattle.inp_turn.specs.Steps.{Sitting, seat_after_split, split_off_seat, seat_after_meeting, spent_seat, seat_after_join, seat_after_take, seat_after_give, Tries, Releases, Unites}
 use Rattle.inp_turn.proofs.Prefixes.{prefix-refl, prefix-trans, prefix-length, longer_is}
 use Rattle.inp_turn.proofs.Places.{count-append, added-more, added-none, added-le-one}
@@ -83,10 +83,10 @@ module _ {S B E : Type 0} (base : S → B) (entries : S → List E) where
   -- a try for the turn takes the value out where the word is 0
   pub tries : (start : S) (slots id : ℕ) (me : Sitting S B E) → me.0.has_turn ≡ false → 0 < me.0.pass.share
       → Allows (Rule start) slots id me 0 (λ n. either (eqb n 0) 1 n) (Tries base entries (step slots 0 0 1 none) me)
-  tries start slots id me free alive s r _ at _ = let n : ℕ = get_or s.words 0 0 in let is : n ≡ sum_by turn_of s.views = ap (λ (ws : List ℕ). get_or ws 0 0) r.word in let fits = r.each_seat id me.0 at in
-      dite (ℕ_discrete n 0) (λ hit. let h = r.home (sym is ∙ hit) in let x : S = h.0 in let w : SeatView B E = seat_after_take me.0 (entries x) in let none_had : turn_of me.0 ≡ 0 = ap (λ (b : Bool). turn_of (record me.0 { has_turn = b })) free in
-      let turns = sum-set turn_of s.views id me.0 w at in let shared = sum-set share_of s.views id me.0 w at in let zero_now : sum_by turn_of s.views ≡ 0 = sym is ∙ hit in
-      let now : sum_by turn_of (set s.views id w) ≡ 1 = omega arith in (
+  tries start slots id me free alive s r _ at _ = let n : ℕ = get_or s.words 0 0 in let is : n ≡ sum_by turn_count s.views = ap (λ (ws : List ℕ). get_or ws 0 0) r.word in let fits = r.each_seat id me.0 at in
+      dite (ℕ_discrete n 0) (λ hit. let h = r.home (sym is ∙ hit) in let x : S = h.0 in let w : SeatView B E = seat_after_take me.0 (entries x) in let none_had : turn_count me.0 ≡ 0 = ap (λ (b : Bool). turn_count (record me.0 { has_turn = b })) free in
+      let turns = sum-set turn_count s.views id me.0 w at in let shared = sum-set share_of s.views id me.0 w at in let zero_now : sum_by turn_count s.views ≡ 0 = sym is ∙ hit in
+      let now : sum_by turn_count (set s.views id w) ≡ 1 = omega arith in (
         w,
         takes 0 (Some x),
         ap (λ (hs : List (maybe.Option (Option S))). get_elem? hs 0) h.1,
@@ -127,8 +127,8 @@ module _ {S B E : Type 0} (base : S → B) (entries : S → List E) where
   releases start slots id me y held turn alive based more s r _ at _ = let fits = r.each_seat id me.0 at in let w : SeatView B E = seat_after_give me.0 (entries y) in let all : me.0.pass.seen ≡ r.log = fits.all_seen turn in
       let grown : IsPrefix r.log (entries y) = subst (λ (l : List E). IsPrefix l (entries y)) all more in let both : Some (base y) ≡ Some (base start) = sym based ∙ fits.pass.base_is alive in let same : base y ≡ base start = cc in
       let homes : put_back s.homes me.1 ≡ some (Some y) ∷ [] = ap (put_back s.homes) held ∙ set-one s.homes (some (Some y)) r.one_slot in
-      let had : turn_of me.0 ≡ 1 = ap (λ (b : Bool). turn_of (record me.0 { has_turn = b })) turn in let turns = sum-set turn_of s.views id me.0 w at in let shared = sum-set share_of s.views id me.0 w at in
-      let one = r.one_turn in let now : sum_by turn_of (set s.views id w) ≡ 0 = omega arith in (
+      let had : turn_count me.0 ≡ 1 = ap (λ (b : Bool). turn_count (record me.0 { has_turn = b })) turn in let turns = sum-set turn_count s.views id me.0 w at in let shared = sum-set share_of s.views id me.0 w at in
+      let one = r.one_turn in let now : sum_by turn_count (set s.views id w) ≡ 0 = omega arith in (
         w,
         gives,
         tt,
@@ -159,7 +159,7 @@ module _ {S B E : Type 0} (base : S → B) (entries : S → List E) where
             met = still_fits (base start) (entries start) r.log (entries y) me.0.met grown fits.met;
             all_seen = λ z. absurd (false≢true z);
             alive = λ z. absurd (false≢true z);
-          } (λ j d other k. let f = r.each_seat j d k in let idle : d.has_turn ≡ true → ⊥ = λ has. let has_one : turn_of d ≡ 1 = ap (λ (b : Bool). turn_of (record d { has_turn = b })) has in omega (arith, two-le-sum turn_of s.views id j me.0 d other at k) in record {
+          } (λ j d other k. let f = r.each_seat j d k in let idle : d.has_turn ≡ true → ⊥ = λ has. let has_one : turn_count d ≡ 1 = ap (λ (b : Bool). turn_count (record d { has_turn = b })) has in omega (arith, two-le-sum turn_count s.views id j me.0 d other at k) in record {
             pass = still_fits (base start) (entries start) r.log (entries y) d.pass grown f.pass;
             met = still_fits (base start) (entries start) r.log (entries y) d.met grown f.met;
             all_seen = λ z. absurd (idle z);
@@ -172,7 +172,7 @@ module _ {S B E : Type 0} (base : S → B) (entries : S → List E) where
   -- a split
   pub splits : (start : S) (id : ℕ) (v : SeatView B E) → v.has_turn ≡ false → 2 ≤ v.pass.share → Splits (Rule start) id v (seat_after_split v) (split_off_seat v)
   splits start id v free two s r at = let fits = r.each_seat id v at in let left : SeatView B E = seat_after_split v in let right : SeatView B E = split_off_seat v in let vs : List (SeatView B E) = set s.views id left in
-      let turns : sum_by turn_of (vs ++ right ∷ []) ≡ sum_by turn_of s.views = omega (arith, sum-set turn_of s.views id v left at, sum_by_push turn_of vs right) in record {
+      let turns : sum_by turn_count (vs ++ right ∷ []) ≡ sum_by turn_count s.views = omega (arith, sum-set turn_count s.views id v left at, sum_by_push turn_count vs right) in record {
         log = r.log;
         begins = r.begins;
         word = r.word ∙ ap (λ (k : ℕ). k ∷ []) (sym turns);
@@ -197,8 +197,8 @@ module _ {S B E : Type 0} (base : S → B) (entries : S → List E) where
   -- the first load of a join puts the other pass beside the seat's own
   pub meets : (start : S) (id : ℕ) (v : SeatView B E) (other : ℕ) (w : SeatView B E) → v.met ≡ spent_view → w.met ≡ spent_view → w.has_turn ≡ false → Joins (Rule start) id v other w (seat_after_meeting v w) spent_seat
   meets start id v other w clear clear' free s r at apart there = let both : SeatView B E = seat_after_meeting v w in let vs : List (SeatView B E) = set s.views id both in
-      let fits = r.each_seat id v at in let others = r.each_seat other w (sym (set_else s.views id other both apart) ∙ there) in let none_had : turn_of w ≡ 0 = ap (λ (b : Bool). turn_of (record w { has_turn = b })) free in
-      let turns : sum_by turn_of (set vs other spent_seat) ≡ sum_by turn_of s.views = omega (arith, sum-set turn_of s.views id v both at, sum-set turn_of vs other w spent_seat there) in
+      let fits = r.each_seat id v at in let others = r.each_seat other w (sym (set_else s.views id other both apart) ∙ there) in let none_had : turn_count w ≡ 0 = ap (λ (b : Bool). turn_count (record w { has_turn = b })) free in
+      let turns : sum_by turn_count (set vs other spent_seat) ≡ sum_by turn_count s.views = omega (arith, sum-set turn_count s.views id v both at, sum-set turn_count vs other w spent_seat there) in
       let no_share : v.met.share ≡ 0 = ap (λ (z : PassView B E). z.share) clear in let no_share' : w.met.share ≡ 0 = ap (λ (z : PassView B E). z.share) clear' in record {
         log = r.log;
         begins = r.begins;
@@ -221,7 +221,7 @@ module _ {S B E : Type 0} (base : S → B) (entries : S → List E) where
   pub unites : (start : S) (slots id : ℕ) (me : Sitting S B E) → me.0.has_turn ≡ false → 0 < me.0.pass.share → 0 < me.0.met.share → Allows (Rule start) slots id me 0 (λ n. n) (λ _ after. Unites me after)
   unites start slots id me free alive met_alive s r _ at _ = let fits = r.each_seat id me.0 at in let w : SeatView B E = seat_after_join me.0 in
       let long = longer_is me.0.pass.seen me.0.met.seen r.log fits.pass.seen fits.met.seen in
-      let turns : sum_by turn_of (set s.views id w) ≡ sum_by turn_of s.views = omega (arith, sum-set turn_of s.views id me.0 w at) in (
+      let turns : sum_by turn_count (set s.views id w) ≡ sum_by turn_count s.views = omega (arith, sum-set turn_count s.views id me.0 w at) in (
         w,
         keeps,
         tt,

@@ -27,8 +27,8 @@ pub record IsEachAddedOnce {E : Type 0} (first seen : List E) (own : List ℕ) :
 
 module _ {B E : Type 0} where
   -- the first pass has seen all, and made none of it
-  abbrev pub first_view : B → List E → PassView B E
-  first_view base entries = record { base = Some base; seen = entries; own = []; share = whole_share; turns = 0 }
+  abbrev pub first_pass_view : B → List E → PassView B E
+  first_pass_view base entries = record { base = Some base; seen = entries; own = []; share = whole_share; turns = 0 }
 
   -- what a join leaves of the pass that it takes in
   abbrev pub spent_view : PassView B E

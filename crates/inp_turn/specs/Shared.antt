@@ -15,8 +15,8 @@ module _ {S B E : Type 0} where
   start_of s = s.table.shared.key.value
 
   -- which shared value it is
-  abbrev pub name_of : Shared S B E → List ℕ
-  name_of s = numbers_of s.table.shared.table_id
+  abbrev pub shared_id : Shared S B E → List ℕ
+  shared_id s = numbers_of s.table.shared.table_id
 
   -- the pass takes turns on this shared value
   abbrev pub IsPassOf : {K : Ghosts S B E} → Shared S B E → Pass S B E K → Type 0

@@ -52,7 +52,7 @@ module _ {S B E : Type 0} (base : S → B) (entries : S → List E) where
   Tries step before found after = (found ≡ 0 → (x : S) × ComesOut x before after) × (found ≢ 0 → after ≡ before)
 
   -- the end: where the seat had the number and the view, x lies in the slot
-  pub record EndsWith (start : S) (id : ℕ) (v : SeatView B E) (x : Option S) : Type 0 where
+  pub record ClosesWith (start : S) (id : ℕ) (v : SeatView B E) (x : Option S) : Type 0 where
     pub words : List ℕ
     pub slots : List (Option S)
     pub final : Final (Seen (IsTurn base entries start) id v) words slots

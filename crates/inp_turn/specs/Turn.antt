@@ -7,7 +7,7 @@ use lib.ListN.{get_elem?}
 use Rattle.atomic_table.specs.Table.{State}
 use Rattle.inp_turn.specs.declared.pass_view.PassView.{PassView}
 use Rattle.inp_turn.specs.declared.seat_view.SeatView.{SeatView}
-use Rattle.inp_turn.specs.PassView.{whole_share, added_places, first_view, spent_view}
+use Rattle.inp_turn.specs.PassView.{whole_share, added_places, first_pass_view, spent_view}
 
 module _ {B E : Type 0} where
   -- a pass that has no turn and is in no join
@@ -15,11 +15,11 @@ module _ {B E : Type 0} where
   free_seat v = record { pass = v; met = spent_view; has_turn = false }
 
   abbrev pub first_seat : B → List E → SeatView B E
-  first_seat base entries = free_seat (first_view base entries)
+  first_seat base entries = free_seat (first_pass_view base entries)
 
   -- 1 where the seat has the turn
-  abbrev pub turn_of : SeatView B E → ℕ
-  turn_of s = if s.has_turn then 1 else 0
+  abbrev pub turn_count : SeatView B E → ℕ
+  turn_count s = if s.has_turn then 1 else 0
 
   abbrev pub share_of : SeatView B E → ℕ
   share_of s = s.pass.share + s.met.share
@@ -53,10 +53,10 @@ module _ {S B E : Type 0} (base : S → B) (entries : S → List E) where
     -- the entries that the value has, or had when it was taken
     pub log : List E
     pub begins : IsPrefix (entries start) log
-    pub word : s.words ≡ sum_by turn_of s.views ∷ []
-    pub one_turn : sum_by turn_of s.views ≤ 1
+    pub word : s.words ≡ sum_by turn_count s.views ∷ []
+    pub one_turn : sum_by turn_count s.views ≤ 1
     pub one_slot : length s.homes ≡ 1
-    pub home : sum_by turn_of s.views ≡ 0 → IsHome (base start) log s.homes
+    pub home : sum_by turn_count s.views ≡ 0 → IsHome (base start) log s.homes
     pub shares : sum_by share_of s.views ≡ whole_share
     -- each entry made since the start is own to one pass
     pub owned : (place : ℕ) → sum_by (own_count place) s.views ≡ count_by (nat_eq place) (added_places (entries start) log)

@@ -1,7 +1,7 @@
 //! A value that several passes use in turns.
 ghost use Rattle.std.specs.Prelude.{◌≡◌, ◌<◌, ◌+◌, ◌≤◌, IfOk, IfErr, IfSome, IfNone, true, false, Some, length};
 ghost use mathlib.Core.List.{IsPrefix};
-ghost use Rattle.inp_turn.specs.PassView.{whole_share, first_view, view_after_split, split_off_view, view_after_take, view_after_give, view_after_join, AreApart, IsEachAddedOnce};
+ghost use Rattle.inp_turn.specs.PassView.{whole_share, first_pass_view, view_after_split, split_off_view, view_after_take, view_after_give, view_after_join, AreApart, IsEachAddedOnce};
 
 use crate::held::Held;
 use crate::kept::Kept;
@@ -18,7 +18,7 @@ use std::thread::yield_now;
 /// A kept value that several passes use, one at a time. Threads share it by reference.
 ///
 /// A contract sees the value as it came in (`start_of` in `specs/Shared.antt`), which passes are its own (`IsPassOf`), and
-/// what tells it from other shared values (`name_of`).
+/// what tells it from other shared values (`shared_id`).
 #[derive(Drop)]
 pub struct Shared<S: Kept> {
     table: TurnTable<S>,
@@ -27,9 +27,9 @@ pub struct Shared<S: Kept> {
 }
 
 impl<S: Kept> Shared<S> {
-    ghost use Rattle.inp_turn.specs.Pass.{view_of, has_turn, Takes};
+    ghost use Rattle.inp_turn.specs.Pass.{view_of, has_turn, TakesTurn};
     ghost use Rattle.inp_turn.specs.Shared.{IsPassOf, start_of};
-    ghost use Rattle.inp_turn.specs.Steps.{EndsWith};
+    ghost use Rattle.inp_turn.specs.Steps.{ClosesWith};
 
     /// Shares a value, and makes the first pass. It has the whole share, has seen all entries and owns none.
     ///
@@ -37,7 +37,8 @@ impl<S: Kept> Shared<S> {
     pub fn new(alloc: Global, state: S) -> Result<(Shared<S>, Pass<S>), (S, NoMemory)>
         ensures start { IfOk result (λ r. start_of r.0 ≡ state) }
         ensures pass { IfOk result (λ r. IsPassOf r.0 r.1 × (has_turn r.1 ≡ false)) }
-        ensures view { IfOk result (λ r. view_of r.1 ≡ first_view (S.base state) (S.entries state)) }
+        ensures view { IfOk result
+            (λ r. view_of r.1 ≡ first_pass_view (S.base state) (S.entries state)) }
         ensures back { IfErr result (λ r. r.0 ≡ state) }
     {
         let Ok(mut slots) = Vec::with_capacity(alloc, 1) else {
@@ -103,7 +104,7 @@ impl<S: Kept> Shared<S> {
         requires own { IsPassOf self.now pass.old }
         requires free { has_turn pass.old ≡ false }
         ensures own { IsPassOf self.now pass.new }
-        ensures taken { IfSome result (Takes S.base S.entries pass.old pass.new) }
+        ensures taken { IfSome result (TakesTurn S.base S.entries pass.old pass.new) }
         ensures waits { IfNone result
             ((view_of pass.new ≡ view_of pass.old) × (has_turn pass.new ≡ false)) }
     {
@@ -182,7 +183,7 @@ impl<S: Kept> Shared<S> {
     fn into_slot(self, seat: TurnSeat<S>) -> Option<S>
         requires own { seat.table_id ≡ self.table.shared.table_id }
         ensures last { let start = start_of self in
-            EndsWith S.base S.entries start seat.id seat.me.0 result }
+            ClosesWith S.base S.entries start seat.id seat.me.0 result }
     {
         let Shared { table } = self;
         let mut closed = table.close_with(seat);

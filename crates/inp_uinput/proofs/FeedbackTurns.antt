@@ -11,7 +11,7 @@ use Rattle.inp_model.specs.Reply.{written}
 use Rattle.inp_turn.specs.declared.pass_view.PassView.{PassView}
 use Rattle.inp_turn.specs.PassView.{added_places, OwnsSeen, view_after_take, view_after_give}
 use Rattle.inp_turn.proofs.Prefixes.{prefix-refl, prefix-trans}
-use Rattle.inp_port.specs.Entries.{steps_of, is_step_at, steps_before, step_places, other_places}
+use Rattle.inp_port.specs.Entries.{steps_among, is_step_at, steps_before, step_places, other_places}
 use Rattle.inp_port.specs.Turn.{told_of}
 use Rattle.inp_port.proofs.Places.{slice_get-seam, added-one, added-none, steps-begins, step_places-begins, other_places-begins, step_places-append}
 use Rattle.inp_feedback.specs.declared.u_entry.UEntry.{UEntry}
@@ -30,8 +30,8 @@ module _ (found : List UEntry) (count : ℕ) where
   abbrev longer : List UEntry
   longer = found ++ Feedback count ∷ []
 
-  steps-call : steps_of step_made longer ≡ steps_of step_made found
-  steps-call = filter_map-append step_made found (Feedback count ∷ []) ∙ append-nil (steps_of step_made found)
+  steps-call : steps_among step_made longer ≡ steps_among step_made found
+  steps-call = filter_map-append step_made found (Feedback count ∷ []) ∙ append-nil (steps_among step_made found)
 
   is_no_step : is_step_at step_made longer (length found) ≡ false
   is_no_step = ap (λ (o : Option UEntry). is_some (option_and_then step_made o)) (slice_get-seam found [] (Feedback count))
@@ -56,7 +56,7 @@ begins-after : (answer : Fed) (found : List UEntry) → IsPrefix found (entries_
 begins-after (Took at count) found = (Feedback count ∷ [], refl)
 begins-after (Full at) found = prefix-refl found
 
-steps-after : (answer : Fed) (found : List UEntry) → steps_of step_made (entries_after_call answer found) ≡ steps_of step_made found
+steps-after : (answer : Fed) (found : List UEntry) → steps_among step_made (entries_after_call answer found) ≡ steps_among step_made found
 steps-after (Took at count) found = steps-call found count
 steps-after (Full at) found = refl
 
@@ -101,7 +101,7 @@ turn_at d v w kept answer out new_out begins answered out_written view =
       seen = seen;
       own = ap (λ (p : PassView Description UEntry). p.own) view ∙ ap (λ (l : List ℕ). v.own ++ l) (added-after answer found)
           ∙ ap (λ (es : List UEntry). v.own ++ call_places answer es) (sym seen);
-      steps = ap (steps_of step_made) seen ∙ steps-after answer found;
+      steps = ap (steps_among step_made) seen ∙ steps-after answer found;
       turns = ap (λ (p : PassView Description UEntry). p.turns) view;
       share = ap (λ (p : PassView Description UEntry). p.share) view;
       base = ap (λ (p : PassView Description UEntry). p.base) view;

@@ -11,7 +11,7 @@ use Rattle.inp_turn.specs.declared.pass.Pass.{Pass}
 use Rattle.inp_turn.specs.declared.pass_view.PassView.{PassView}
 use Rattle.inp_turn.specs.Pass.{view_of}
 use Rattle.inp_port.specs.declared.port.PortOf.{PortOf}
-use Rattle.inp_port.specs.Entries.{steps_of}
+use Rattle.inp_port.specs.Entries.{steps_among}
 use Rattle.inp_port.specs.Port.{told_by}
 use Rattle.inp_feedback.specs.declared.u_entry.UEntry.{UEntry}
 use Rattle.inp_feedback.specs.declared.u_entry.UEntry.TheVariants.{Feedback}
@@ -48,7 +48,7 @@ pub record IsFeedbackTurn (d : Description) (before : PassView Description UEntr
   pub seen : after.seen ≡ entries_after_call answer found
   pub own : after.own ≡ before.own ++ call_places answer after.seen
   -- no step was made
-  pub steps : steps_of step_made after.seen ≡ steps_of step_made found
+  pub steps : steps_among step_made after.seen ≡ steps_among step_made found
   pub turns : after.turns ≡ before.turns + 1
   pub share : after.share ≡ before.share
   pub base : after.base ≡ before.base

@@ -4,7 +4,7 @@ use Rattle.inp_ring.specs.Ring.{AreDifferent}
 use Rattle.inp_client.specs.Client.{new_client}
 use Rattle.inp_client.specs.Member.{Member}
 use Rattle.inp_client.specs.Locations.{clients_in}
-use Rattle.inp_client.specs.Offered.{TakesAll}
+use Rattle.inp_client.specs.Offered.{TakesFrame}
 use Rattle.inp_client.proofs.Locating.{members_long}
 use Rattle.inp_client.proofs.Runs.{appended_none, appended_more, appended_all, old_is, same_number}
 use Rattle.inp_client.proofs.clients.append_each.Goals as goal
@@ -15,7 +15,7 @@ loop-location-init c = appended_none c.args.holder c.args.numbers.now c.args.loc
 pub append_all-requires-clause-room : goal.append_all-requires-clause-room
 append_all-requires-clause-room c h =
     let ms = clients_in c.args.locations.now c.args.slab.now in
-    let P : Member → Type 0 = λ m. TakesAll c.args.holder (length c.args.numbers.now) m in
+    let P : Member → Type 0 = λ m. TakesFrame c.args.holder (length c.args.numbers.now) m in
     (subst P (old_is c.loop-location.invariant c.loop-location-test.true _ c.index_mut.result.now refl c.index_mut.ensures.value)
     (All-get_or P ms c.loop-location.location-index (new_client 0 0) (omega (arith, c.loop-location-test.true, members_long c.requires.located)) c.requires.room) h).1
 

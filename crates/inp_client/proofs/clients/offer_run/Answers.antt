@@ -6,14 +6,14 @@ use Rattle.inp_ring.specs.Ring.{AreDifferent}
 use Rattle.inp_client.specs.Client.{new_client}
 use Rattle.inp_client.specs.Member.{Member}
 use Rattle.inp_client.specs.Locations.{clients_in}
-use Rattle.inp_client.specs.Offered.{TakesAll}
+use Rattle.inp_client.specs.Offered.{TakesFrame}
 use Rattle.inp_client.proofs.Runs.{different_with, shared_with, offered_with, wanted_with}
 use Rattle.inp_client.proofs.clients.offer_run.Goals as goal
 
 pub append_each-requires-clause-room : goal.append_each-requires-clause-room
 append_each-requires-clause-room c =
     let long : length (take (length c.args.frame.now) c.add_cells.new.numbers) ≡ length c.args.frame.now = length-take-le (length c.args.frame.now) c.add_cells.new.numbers (omega (arith, c.requires.run.short, c.add_cells.ensures.long)) in
-    let P : ℕ → Type 0 = λ k. All (TakesAll c.args.holder k) (clients_in c.args.locations.now c.args.slab.now) in
+    let P : ℕ → Type 0 = λ k. All (TakesFrame c.args.holder k) (clients_in c.args.locations.now c.args.slab.now) in
     subst P (sym long) c.requires.run.all
 
 pub append_each-requires-clause-different : goal.append_each-requires-clause-different

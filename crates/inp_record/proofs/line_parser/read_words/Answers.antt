@@ -1,5 +1,5 @@
 use Rattle.std.proofs.Common.{◌<◌, length, rules}
-use Rattle.inp_record.specs.Words.{texts}
+use Rattle.inp_codes.specs.ByNumber.{texts}
 use Rattle.inp_record.proofs.Texts.{some_texts}
 use Rattle.inp_record.proofs.Behind.{entered_behind}
 use Rattle.inp_record.proofs.Inversions.{words_are}

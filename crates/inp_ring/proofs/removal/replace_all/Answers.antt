@@ -2,7 +2,7 @@ use Rattle.std.proofs.Common.{◌≡◌, ◌≢◌, None, Some, IsSome, [], ◌�
 use Rattle.std.proofs.lemmas.List.{drop_all}
 use Rattle.circular_buffer.specs.Buffer.{Buffer, buffer, keep_last}
 use Rattle.inp_ring.specs.declared.cell.Held.{Held}
-use Rattle.inp_ring.specs.Store.{entry}
+use Rattle.inp_ring.specs.Store.{held_under}
 use Rattle.inp_ring.specs.Ring.{times, IsMoved}
 use Rattle.inp_ring.proofs.Kept.{keep_last-all}
 use Rattle.inp_ring.proofs.Times.{once_other}
@@ -33,8 +33,8 @@ returns-clause-moved c =
 
 pub returns-clause-fresh : goal.returns-clause-fresh
 returns-clause-fresh c n there out =
-    let here : entry c.release_front.new.store n ≡ entry c.args.store.now n = entry_same n (emptied c) there out refl in
-    let other : c.add_held-number.result ≢ n = λ e. apart (entry c.args.store.now n) there (sym here ∙ ap (entry c.release_front.new.store) (sym e) ∙ c.add_held-number.ensures.new) in
+    let here : held_under c.release_front.new.store n ≡ held_under c.args.store.now n = entry_same n (emptied c) there out refl in
+    let other : c.add_held-number.result ≢ n = λ e. apart (held_under c.args.store.now n) there (sym here ∙ ap (held_under c.release_front.new.store) (sym e) ∙ c.add_held-number.ensures.new) in
     omega (arith, ap (times n) (only c), once_other n c.add_held-number.result other)
   where
     apart : (o : Option Held) → IsSome o → o ≡ None → ⊥

@@ -7,7 +7,7 @@ use Rattle.inp_model.specs.declared.step.Step.{Step}
 use Rattle.inp_model.specs.Description.{IsDescription}
 use Rattle.inp_feedback.specs.declared.u_entry.UEntry.{UEntry}
 use Rattle.inp_feedback.specs.UEntry.{step_made}
-use Rattle.inp_port.specs.Entries.{steps_of}
+use Rattle.inp_port.specs.Entries.{steps_among}
 use Rattle.inp_uinput.specs.UdevView.{UdevView}
 use Rattle.inp_uinput.proofs.Serving.{steps-reverse}
 use Rattle.inp_script.specs.Ended.{device_run}
@@ -16,7 +16,7 @@ use Rattle.inp_script.specs.declared.run.DeviceRun.{DeviceRun}
 use Rattle.inp_runs.specs.Done.{IsRunAsPromised}
 use Rattle.inp_turn.specs.Pass.{view_of}
 use Rattle.inp_turn.specs.PassView.{IsEachAddedOnce}
-use Rattle.inp_port.specs.Port.{description_of, first_of}
+use Rattle.inp_port.specs.Port.{description_of, start_value}
 use Rattle.inp_threads.specs.Promise.{IsPromisedOf}
 use Rattle.inp_threads.specs.Worker.{actor_number}
 use Rattle.inp_threads.proofs.DeviceRun.{IsLeftOf, left-promised}
@@ -34,16 +34,16 @@ returns g c = record {
       (λ done is. λ device at.
       (let item : slice_get c.args.rec.now.devices c.args.number ≡ Some c.get.result.now = ap (λ (ds : List DeviceText). slice_get ds c.args.number) (sym c.devices.ensures.devices) ∙ c.get.ensures.item in
       let caps : c.copy-caps.result ≡ device.caps = c.copy-caps.ensures.same ∙ ap (λ (text : DeviceText). text.caps) (same_Some c.get.result.now device (sym item ∙ at)) in
-      let fresh : first_of c.in-Ok.port ≡ record { description = c.copy-caps.result; kept = []; agains = 0 } = c.in-Ok.ensures.first ∙ c.in_ok-new.ensures.fresh in
-      let none : reverse (first_of c.in-Ok.port).kept ≡ [] = ap (λ (v : UdevView). reverse v.kept) fresh in
+      let fresh : start_value c.in-Ok.port ≡ record { description = c.copy-caps.result; kept = []; agains = 0 } = c.in-Ok.ensures.first ∙ c.in_ok-new.ensures.fresh in
+      let none : reverse (start_value c.in-Ok.port).kept ≡ [] = ap (λ (v : UdevView). reverse v.kept) fresh in
       let described : description_of c.in-Ok.port ≡ device.caps = c.in-Ok.ensures.description ∙ ap (λ (v : UdevView). v.description) c.in_ok-new.ensures.fresh ∙ caps in
       let dealt = c.in_ok-workers.ensures.dealt in
       let joined = view_of c.gather-pass.result.pass in
       let own : IsEachAddedOnce [] joined.seen joined.own =
       subst (λ (first : List UEntry). IsEachAddedOnce first joined.seen joined.own) none
-      (subst (λ (entries : List UEntry). IsEachAddedOnce (reverse (first_of c.in-Ok.port).kept) entries joined.own) c.close.ensures.entries c.close.ensures.own) in
-      let history : c.into_history-history.result ≡ steps_of step_made joined.seen =
-      c.into_history-history.ensures.history ∙ sym (steps-reverse c.close.result.kept) ∙ ap (steps_of step_made) c.close.ensures.entries in
+      (subst (λ (entries : List UEntry). IsEachAddedOnce (reverse (start_value c.in-Ok.port).kept) entries joined.own) c.close.ensures.entries c.close.ensures.own) in
+      let history : c.into_history-history.result ≡ steps_among step_made joined.seen =
+      c.into_history-history.ensures.history ∙ sym (steps-reverse c.close.result.kept) ∙ ap (steps_among step_made) c.close.ensures.entries in
       let left : IsLeftOf c.args.idle c.args.number c.args.rec.now device.caps c.in-Ok.port (view_of c.deal.new.pass) joined c.run_all.new.workers.items joined.seen = record {
         description = described;
         numbers = c.run_all.ensures.numbers ∙ dealt.numbers;

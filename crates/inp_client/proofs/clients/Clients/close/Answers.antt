@@ -1,7 +1,7 @@
 use Rattle.std.proofs.Common.{◌≡◌, ◌+◌, ◌-◌, sym, ap, ◌∙◌, arith}
 use Rattle.std.proofs.lemmas.List.Edits.{length-remove}
 use Rattle.inp_client.specs.Clients.{ClientsView, without_client}
-use Rattle.inp_client.specs.Kept.{view_of}
+use Rattle.inp_client.specs.Kept.{kept_view}
 use Rattle.inp_client.proofs.Locating.{has_client-clients_in, key_in_slab, located_after_removal}
 use Rattle.inp_client.proofs.Searching.{index_is_some, index_is}
 use Rattle.inp_client.proofs.Calling.{call_open}
@@ -66,6 +66,6 @@ returns c =
       closed =
           rw c.remove-location.ensures.items
           (list_close c.self.inside c.self.invariant c.unwrap-index.result index.within c.remove-location.result c.remove-location.result.key c.remove-client.result at c.remove-client.ensures.value c.remove-client.new.self c.remove-client.ensures.updates c.clear.new.self c.clear.new.store c.clear.ensures.cleared c.clear.ensures.none
-          ∙ ap (λ n. without_client n (view_of c.self.inside).list) (index.numbered c.remove-location.result)
+          ∙ ap (λ n. without_client n (kept_view c.self.inside).list) (index.numbered c.remove-location.result)
           ∙ ap (λ (v : ClientsView). without_client c.args.number v.list) c.self.view_is);
     }

@@ -1,6 +1,6 @@
 use Rattle.std.proofs.Common.{sym, ap, subst, rules}
 use mathlib.Core.List.{IsPrefix}
-use Rattle.inp_turn.specs.Shared.{name_of}
+use Rattle.inp_turn.specs.Shared.{shared_id}
 use Rattle.inp_turn.specs.Pass.{view_of}
 use Rattle.inp_model.specs.Reply.{is_accepted}
 use Rattle.inp_port.proofs.Turns.{grown-begins, told_call, turn-begins}
@@ -18,7 +18,7 @@ returns-clause-seen g c =
 
 pub returns-clause-called : goal.returns-clause-called
 returns-clause-called g c =
-    told_call g.S.Served.made c.args.self.now.caps (name_of c.args.self.now.shared) (view_of c.args.pass.now) (view_of c.give.new.pass) c.args.step c.serve-reply.result c.args.out.now c.serve-reply.new.out c.args.cells.now
+    told_call g.S.Served.made c.args.self.now.caps (shared_id c.args.self.now.shared) (view_of c.args.pass.now) (view_of c.give.new.pass) c.args.step c.serve-reply.result c.args.out.now c.serve-reply.new.out c.args.cells.now
     c.serve-reply.new.cells c.args.pass.now.owns_seen (search rules)
 
 pub returns-clause-nothing_entered : goal.returns-clause-nothing_entered

@@ -1,6 +1,6 @@
 use Rattle.std.proofs.Common.{◌≡◌, sym, ap, ◌∙◌, subst, Some}
 use mathlib.Core.List.{IsPrefix}
-use Rattle.inp_turn.specs.Shared.{name_of}
+use Rattle.inp_turn.specs.Shared.{shared_id}
 use Rattle.inp_turn.specs.Pass.{view_of}
 use Rattle.inp_turn.specs.PassView.{view_after_give}
 use Rattle.inp_port.specs.Turn.{IsServedAllTurn}
@@ -29,5 +29,5 @@ returns-clause-seen g c =
 
 pub returns-clause-injected : goal.returns-clause-injected
 returns-clause-injected g c =
-    told_all g.S.Served.made c.args.self.now.caps (name_of c.args.self.now.shared) (view_of c.args.pass.now) (view_of c.give.new.pass) c.args.events.now c.serve_all-injected.result c.args.pass.now.owns_seen
+    told_all g.S.Served.made c.args.self.now.caps (shared_id c.args.self.now.shared) (view_of c.args.pass.now) (view_of c.give.new.pass) c.args.events.now c.serve_all-injected.result c.args.pass.now.owns_seen
     (returns-clause-served g c)

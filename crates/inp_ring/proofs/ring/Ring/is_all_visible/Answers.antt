@@ -1,6 +1,6 @@
 use Rattle.std.proofs.Common.{◌≡◌, length, ◌-◌, Some, sym, ap, ◌∙◌, option_copied, slice_get}
 use Rattle.inp_model.specs.Event.{is_report}
-use Rattle.inp_ring.specs.Store.{event_of}
+use Rattle.inp_ring.specs.Store.{event_of_cell}
 use Rattle.inp_ring.specs.Ring.{cell_at, some_cell}
 use Rattle.inp_ring.proofs.Counts.{ends_last, ends_none}
 use Rattle.inp_ring.proofs.Moves.{number_there}
@@ -17,12 +17,12 @@ returns-in-Some c =
     let q = c.self.inside.numbers.items in
     let last : slice_get q (length q - 1) ≡ Some c.in-Some.number.now = sym c.back.ensures ∙ ap option_copied c.in-Some.is in
     rw (← c.self.view_is) (record {
-      whole = c.is_report.ensures.report ∙ ap (λ o. is_report (event_of (some_cell o))) (sym c.get.ensures.cell) ∙ sym (ends_map c.args.store.now q ∙ ends_last (λ n. event_of (cell_at c.args.store.now n)) q c.in-Some.number.now last);
+      whole = c.is_report.ensures.report ∙ ap (λ o. is_report (event_of_cell (some_cell o))) (sym c.get.ensures.cell) ∙ sym (ends_map c.args.store.now q ∙ ends_last (λ n. event_of_cell (cell_at c.args.store.now n)) q c.in-Some.number.now last);
     })
 
 pub returns-in-None : goal.returns-in-None
 returns-in-None c =
     let q = c.self.inside.numbers.items in
     rw (← c.self.view_is) (record {
-      whole = sym (ends_map c.args.store.now q ∙ ends_none (λ n. event_of (cell_at c.args.store.now n)) q (sym c.back.ensures ∙ ap option_copied c.in-None.is));
+      whole = sym (ends_map c.args.store.now q ∙ ends_none (λ n. event_of_cell (cell_at c.args.store.now n)) q (sym c.back.ensures ∙ ap option_copied c.in-None.is));
     })

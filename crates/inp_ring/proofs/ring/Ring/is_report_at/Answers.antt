@@ -1,6 +1,6 @@
 use Rattle.std.proofs.Common.{sym, ap, ◌∙◌, option_copied}
 use Rattle.inp_model.specs.Event.{is_report}
-use Rattle.inp_ring.specs.Store.{event_of}
+use Rattle.inp_ring.specs.Store.{event_of_cell}
 use Rattle.inp_ring.specs.Ring.{cell_at, some_cell}
 use Rattle.inp_ring.proofs.Moves.{number_there}
 use Rattle.inp_ring.proofs.Rings.{number_at}
@@ -15,5 +15,5 @@ pub returns : goal.returns
 returns c =
     let number = number_at c.self.inside.numbers.items c.args.index c.unwrap-number.result.now (sym c.get.ensures ∙ ap option_copied c.unwrap-number.ensures) in
     rw (← c.self.view_is) (record {
-      report = c.is_report.ensures.report ∙ ap (λ o. is_report (event_of (some_cell o))) (sym c.get-2.ensures.cell) ∙ ap (λ n. is_report (event_of (cell_at c.args.store.now n))) (sym number);
+      report = c.is_report.ensures.report ∙ ap (λ o. is_report (event_of_cell (some_cell o))) (sym c.get-2.ensures.cell) ∙ ap (λ n. is_report (event_of_cell (cell_at c.args.store.now n))) (sym number);
     })

@@ -8,7 +8,7 @@ use Rattle.inp_model.specs.declared.axis_info.AxisInfo.{AxisInfo}
 use Rattle.inp_model.specs.RawItem.{Occurred}
 use Rattle.inp_model.specs.Description.{supports, is_slot_code, is_multi_touch_code}
 use Rattle.inp_slots.specs.Slots.{SlotValues, SlotsStandFor, touch}
-use Rattle.inp_slots.specs.Changes.{named}
+use Rattle.inp_slots.specs.Changes.{slot_named}
 use Rattle.inp_slots.proofs.Touches.{unsupported-stands, name-stands, value-stands-without_slots, given-passes, passed-stands, kept-stands, passed-flags, kept-flags}
 use Rattle.inp_slots.proofs.slots.Slots.apply.Goals as goal
 
@@ -30,10 +30,10 @@ pub returns-then-code-eq-ABS_MT_SLOT-clause-stands : goal.returns-then-code-eq-A
 returns-then-code-eq-ABS_MT_SLOT-clause-stands c =
     let u : supports c.args.caps.now EV_ABS c.args.code ≡ true = sym c.supports.ensures.supported ∙ c.if-not-supports.false in
     let p : c.args.code ≡ ABS_MT_SLOT = c.if-code-eq-ABS_MT_SLOT.true in
-    let new : c.stage.new.self ≡ named c.args.self.now c.args.value =
-    c.stage.ensures ∙ ap (named c.args.self.now) (to_z-of_z w32 c.args.value c.ranges.value) in
+    let new : c.stage.new.self ≡ slot_named c.args.self.now c.args.value =
+    c.stage.ensures ∙ ap (slot_named c.args.self.now) (to_z-of_z w32 c.args.value c.ranges.value) in
     λ r h. subst (SlotsStandFor c.args.caps.now (Occurred (touch c.args.code c.args.value) ∷ r)) (sym new)
-    (subst (λ (n : ℕ). SlotsStandFor c.args.caps.now (Occurred (touch n c.args.value) ∷ r) (named c.args.self.now c.args.value)) (sym p)
+    (subst (λ (n : ℕ). SlotsStandFor c.args.caps.now (Occurred (touch n c.args.value) ∷ r) (slot_named c.args.self.now c.args.value)) (sym p)
     (name-stands c.args.caps.now r c.args.self.now c.args.value (subst (λ (n : ℕ). supports c.args.caps.now EV_ABS n ≡ true) p u) h))
 
 pub returns-then-is_empty-clause-stands : goal.returns-then-is_empty-clause-stands

@@ -6,7 +6,7 @@ use Rattle.inp_script.specs.Job.{ActorView}
 use Rattle.inp_runs.specs.DoingAll.{DoesAll}
 use Rattle.inp_model.specs.Leaves.{IsLeft}
 use Rattle.inp_turn.specs.Pass.{view_of}
-use Rattle.inp_port.specs.Entries.{steps_of, step_places}
+use Rattle.inp_port.specs.Entries.{steps_among, step_places}
 use Rattle.inp_port.specs.Port.{told_by, description_of}
 use Rattle.inp_threads.specs.Worker.{HasWorked}
 use Rattle.inp_threads.proofs.Working.{pass-back, has-worked, calling-done, has_actor-job, on-ok}
@@ -39,7 +39,7 @@ returns-clause-worked g c =
           let worked : HasWorked r (description_of port) (Some c.args.waiting) new (view_of client.pass) =
           subst (λ (a : ActorView). HasWorked r (description_of port) (Some c.args.waiting) a (view_of client.pass)) (sym job)
           (has-worked r (description_of port) (Some c.args.waiting) old new.job b e (view_of client.pass)
-          (ap (steps_of step_made) fresh.seen) (ap (step_places step_made (view_of p).seen) fresh.own)
+          (ap (steps_among step_made) fresh.seen) (ap (step_places step_made (view_of p).seen) fresh.own)
           left.leaves.description refl refl back.others start.description start.job does) in
           calling-done new.role r (description_of port) (Some c.args.waiting) new (view_of client.pass) (ap (λ (a : ActorView). is_owner a.role) job ∙ c.requires.caller) worked);
     }

@@ -1,6 +1,6 @@
 use Rattle.std.proofs.Common.{◌≡◌, sym, ap, ◌∙◌, subst, length, reverse, Some}
 use mathlib.Core.List.{IsPrefix}
-use Rattle.inp_turn.specs.Shared.{name_of}
+use Rattle.inp_turn.specs.Shared.{shared_id}
 use Rattle.inp_turn.specs.Pass.{view_of}
 use Rattle.inp_turn.specs.PassView.{view_after_give}
 use Rattle.inp_uinput.specs.UdevView.{UdevView}
@@ -25,5 +25,5 @@ returns-clause-fed g c =
 
 pub returns-clause-told : goal.returns-clause-told
 returns-clause-told g c =
-    feedback-told c.args.self.now.caps (name_of c.args.self.now.shared) (view_of c.args.pass.now) (view_of c.give.new.pass) c.feedback-fed.result c.args.out.now c.feedback-fed.new.out c.args.pass.now.owns_seen
+    feedback-told c.args.self.now.caps (shared_id c.args.self.now.shared) (view_of c.args.pass.now) (view_of c.give.new.pass) c.feedback-fed.result c.args.out.now c.feedback-fed.new.out c.args.pass.now.owns_seen
     (returns-clause-fed g c)
