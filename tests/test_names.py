@@ -1,4 +1,4 @@
-"""What documents and crates name is there: definitions, files of definitions, and sections of pages."""
+"""What documents and crates name is there: definitions, files, and sections of pages; and a name means one thing."""
 
 import re
 import sys
@@ -22,8 +22,12 @@ QUOTED = r'"([^"]+)"'
 CITED = re.compile(rf"(?:docs/)?([A-Z]+)\.md`?,\s+({QUOTED}(?:(?:,| and|, and)\s+{QUOTED})*)")
 CITED_HERE = re.compile(r"\(\"([A-Z][^\"]+)\"(?: below)?\)")
 QUOTED_CODE = re.compile(r"From\s`([^`]+)`,[^:]*:\n\n```rust\n(.*?)^```$", re.M | re.S)
-# `name`, or several, in a file of proofs or definitions.
-LEMMAS = re.compile(r"((?:`[\w-]+`,?\s+)+)(?:in|of)\s+`(proofs|specs)/(\w+)\.antt`")
+# `name`, or several, in a file of proofs or definitions, maybe of another crate.
+LEMMAS = re.compile(r"((?:`[\w-]+`,?\s+)+)(?:in\s+|of\s+|\(|)`(?:(inp_\w+)/)?(proofs|specs)/(\w+)\.antt`")
+# A row of a table of crates.
+CRATE_ROW = re.compile(r"^\| `(inp_\w+)` \| (.*) \|$", re.M)
+COMMENTED = re.compile(r"^\s*(?:--|//[/!]?)(?: (.*))?$", re.M)
+FILE = re.compile(r"`(?:crates/)?(?:(inp_\w+)/)?((?:proofs|specs|src)/(?:\w+/)*\w+\.(?:antt|rt))`")
 MARK = re.compile(r"^\s*(?:--|//[/!]?) ?", re.M)
 
 
@@ -52,10 +56,43 @@ def named(text):
 
 
 def lemmas(text):
-    """The names that a page says are in a file of proofs or definitions, each with the folder and the file."""
-    for names, kind, stem in LEMMAS.findall(text):
-        for name in re.findall(r"`([\w-]+)`", names):
-            yield name, kind, stem
+    """The names that a text says are in a file of proofs or definitions, each with the crate, if named, and the file."""
+    for names, crate, kind, stem in LEMMAS.findall(text):
+        for name in re.findall(r"`(?!inp_)([\w-]+)`", names):
+            yield name, crate, f"{kind}/{stem}.antt"
+
+
+def files_of_crates():
+    """The files of all crates, each with its crate's name."""
+    for kind in ("src/**/*.rt", "specs/*.antt", "proofs/**/*.antt"):
+        for path in sorted(TOP.glob(f"crates/*/{kind}")):
+            yield path.relative_to(TOP / "crates").parts[0], path
+
+
+def comments(path):
+    """The comments of a file, as one text."""
+    return " ".join(COMMENTED.findall(path.read_text()))
+
+
+def promised(text):
+    """The words in code that a table of crates says of each crate, with the crate."""
+    for crate, says in CRATE_ROW.findall(text):
+        for code in re.findall(r"`([^`]+)`", says):
+            for name in re.findall(r"[A-Za-z_]\w+", code):
+                if not name.startswith("inp_"):
+                    yield crate, name
+
+
+def stands_in(name, path):
+    return path.is_file() and re.search(rf"(?<![\w-]){re.escape(name)}(?![\w-])", path.read_text())
+
+
+def shared(names_of_crates):
+    """The names that stand in two crates, each with its crates."""
+    found = {}
+    for crate, name in names_of_crates:
+        found.setdefault(name, set()).add(crate)
+    return {name: sorted(crates) for name, crates in found.items() if len(crates) > 1}
 
 
 def sections(page):
@@ -98,17 +135,70 @@ class Names(unittest.TestCase):
     def test_each_lemma_that_a_page_places_in_a_file_is_there(self):
         count = 0
         for page in PAGES:
-            for name, kind, stem in lemmas(page.read_text()):
+            for name, crate, path in lemmas(page.read_text()):
                 count += 1
-                files = [path.read_text() for path in TOP.glob(f"crates/*/{kind}/{stem}.antt")]
-                there = any(re.search(rf"(?<![\w-]){re.escape(name)}(?![\w-])", text) for text in files)
-                self.assertTrue(there, f"{page.relative_to(TOP)}: `{name}` in {kind}/{stem}.antt")
+                there = any(stands_in(name, folder / path) for folder in TOP.glob(f"crates/{crate or '*'}"))
+                self.assertTrue(there, f"{page.relative_to(TOP)}: `{name}` in {path}")
         self.assertGreater(count, 8)
 
-    def test_what_it_finds_of_lemmas(self):
-        page = "`a_b`, `c-d` in `proofs/Calls.antt`, a row in `e`\nof `specs/Read.antt`, `f` and `g`"
-        found = [("a_b", "proofs", "Calls"), ("c-d", "proofs", "Calls"), ("e", "specs", "Read")]
-        self.assertEqual(found, list(lemmas(page)))
+    def test_each_name_that_a_crate_places_in_a_file_is_there(self):
+        count = 0
+        for crate, file in files_of_crates():
+            for name, other, path in lemmas(comments(file)):
+                count += 1
+                there = stands_in(name, TOP / "crates" / (other or crate) / path)
+                self.assertTrue(there, f"{file.relative_to(TOP)}: `{name}` in {path}")
+        self.assertGreater(count, 30)
+
+    def test_each_file_that_a_crate_names_is_there(self):
+        count = 0
+        for crate, file in files_of_crates():
+            for other, path in FILE.findall(comments(file)):
+                count += 1
+                there = (TOP / "crates" / (other or crate) / path).is_file()
+                self.assertTrue(there, f"{file.relative_to(TOP)}: {path}")
+        self.assertGreater(count, 80)
+
+    def test_what_the_page_says_of_a_crate_is_there(self):
+        words, count = {}, 0
+        for crate, file in files_of_crates():
+            if "proofs" not in file.parts:
+                words.setdefault(crate, set()).update(re.findall(r"\w+", file.read_text()))
+        for crate, name in promised((TOP / "README.md").read_text()):
+            count += 1
+            self.assertIn(name, words[crate], f"README.md: `{name}` of {crate}")
+        self.assertGreater(count, 80)
+
+    def test_no_name_is_defined_in_two_crates(self):
+        repository = Repository(TOP)
+        names = [
+            (crate, name)
+            for crate in repository.crates
+            for path in repository.paths(crate, "specs", "antt")
+            if not path.endswith("Examples.antt")
+            for name in repository.file(crate, path).items
+        ]
+        self.assertGreater(len(names), 1_500)
+        self.assertEqual({}, shared(names))
+
+    def test_what_it_finds_of_promises(self):
+        page = "| Crate | Proved |\n|---|---|\n| `inp_a` | `Tee::of` (`Is`), as in `inp_b`; `examples` |\n"
+        self.assertEqual([("inp_a", "Tee"), ("inp_a", "of"), ("inp_a", "Is"), ("inp_a", "examples")], list(promised(page)))
+
+    def test_what_it_finds_of_two_crates(self):
+        names = [("inp_a", "one"), ("inp_a", "two"), ("inp_b", "one"), ("inp_a", "one")]
+        self.assertEqual({"one": ["inp_a", "inp_b"]}, shared(names))
+
+    def test_what_it_finds_of_names_in_files(self):
+        text = "`a_b`, `c-d` in `proofs/C.antt`, a row in `e`\nof `specs/R.antt`, `f` (`inp_x/specs/F.antt`), `g`, `h` and `i`"
+        found = [
+            ("a_b", "", "proofs/C.antt"),
+            ("c-d", "", "proofs/C.antt"),
+            ("e", "", "specs/R.antt"),
+            ("f", "inp_x", "specs/F.antt"),
+        ]
+        self.assertEqual(found, list(lemmas(text)))
+        self.assertEqual([("", "src/a/b.rt"), ("inp_x", "specs/C.antt")], FILE.findall("`src/a/b.rt`, `crates/inp_x/specs/C.antt`"))
 
     def test_what_it_finds_in_a_page(self):
         page = "see `Past.is_open` (`proofs/Calls.antt`)\nand `RULES.md`, `a.b`, `Device::step`, `Past.x y`"
