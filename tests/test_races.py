@@ -34,7 +34,9 @@ do t read 1
 
 
 def stack(*names):
-    return "<stack>" + "".join(f"<frame><fn>{name}</fn></frame>" for name in names) + "</stack>"
+    """A stack of these functions, the innermost first, whose instructions have the addresses 0xA, 0xB and so on."""
+    frames = (f"<frame><ip>0x{at:X}</ip><fn>{name}</fn></frame>" for at, name in enumerate(names, 10))
+    return "<stack>" + "".join(frames) + "</stack>"
 
 
 DRD = (
@@ -42,7 +44,7 @@ DRD = (
     + stack("step", "work")
     + "<auxwhat>Address 0x30 is at offset 16 from 0x20.</auxwhat>"
     + "<allocation_context>" + stack("malloc", "make", "main") + "</allocation_context></error>"
-    + "<error><unique>0x2</unique><what>Conflicting store by thread 2 at 0x2 size 8</what>" + stack("work") + "</error>"
+    + "<error><unique>0x2</unique><what>Conflicting store by thread 2 at 0x2 size 8</what>" + stack("memmove", "work") + "</error>"
     + "<errorcounts><pair><count>7</count><unique>0x1</unique></pair></errorcounts>"
     + "<suppcounts><pair><count>9</count><name>drd-ld</name></pair></suppcounts></valgrindoutput>"
 )
@@ -66,19 +68,20 @@ class Races(unittest.TestCase):
         self.assertEqual(TWICE, races.repeated(RECORD, 2))
 
     def test_reports_of_drd(self):
-        found = [(("step", "reads", "make"), 0x20, 7), (("work", "writes", "-"), 0, 1)]
+        found = [(("step", "reads", "make"), "0xA", 0x20, 7), (("work", "writes", "-"), "0xB", 0, 1)]
         self.assertEqual(found, races.reports(DRD))
 
     def test_reports_of_helgrind(self):
-        found = [(("step", "writes", "make"), 0x90, 1), (("step", "reads", "make"), 0, 1)]
+        found = [(("step", "writes", "make"), "0xA", 0x90, 1), (("step", "reads", "make"), "0xA", 0, 1)]
         self.assertEqual(found, races.reports(HELGRIND))
 
     def test_a_table(self):
-        found = [(("f", "reads", "g"), 8, 2), (("f", "reads", "g"), 9, 3), (("f", "writes", "-"), 0, 1)]
+        read, wrote = ("f", "reads", "g"), ("f", "writes", "-")
+        found = [(read, "0x1", 8, 2), (read, "0x2", 9, 3), (read, "0x2", 9, 1), (wrote, "0x1", 0, 1)]
         lines = [
-            "     2 places         5 times    2 blocks  f reads the memory of g",
+            "     2 places         6 times    2 blocks  f reads the memory of g",
             "     1 places         1 times    1 blocks  f writes the memory of -",
-            "3 places, 6 times",
+            "3 places, 7 times",
         ]
         self.assertEqual(lines, list(races.table(found)))
 
