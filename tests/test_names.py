@@ -190,7 +190,7 @@ class Names(unittest.TestCase):
         self.assertEqual({"one": ["inp_a", "inp_b"]}, shared(names))
 
     def test_what_it_finds_of_names_in_files(self):
-        text = "`a_b`, `c-d` in `proofs/C.antt`, a row in `e`\nof `specs/R.antt`, `f` (`inp_x/specs/F.antt`), `g`, `h` and `i`"
+        text = "`a_b`, `c-d` in `proofs/C.antt`, a row in `e`\nof `specs/R.antt`, `f` (`inp_x/specs/F.antt`), `g` and `h`"
         found = [
             ("a_b", "", "proofs/C.antt"),
             ("c-d", "", "proofs/C.antt"),
@@ -198,7 +198,8 @@ class Names(unittest.TestCase):
             ("f", "inp_x", "specs/F.antt"),
         ]
         self.assertEqual(found, list(lemmas(text)))
-        self.assertEqual([("", "src/a/b.rt"), ("inp_x", "specs/C.antt")], FILE.findall("`src/a/b.rt`, `crates/inp_x/specs/C.antt`"))
+        files = FILE.findall("`src/a/b.rt`, `crates/inp_x/specs/C.antt`")
+        self.assertEqual([("", "src/a/b.rt"), ("inp_x", "specs/C.antt")], files)
 
     def test_what_it_finds_in_a_page(self):
         page = "see `Past.is_open` (`proofs/Calls.antt`)\nand `RULES.md`, `a.b`, `Device::step`, `Past.x y`"
