@@ -12,7 +12,7 @@ use Rattle.inp_reader.specs.Showing.{AnswerShows}
 use Rattle.inp_reader.specs.Standing.{StandsAt, Stands, IsAlone}
 use Rattle.inp_reader.proofs.UseAlone.{alone-first, alone-then}
 use Rattle.inp_reader.proofs.LeftByCalls.{leaves_made-none, leaves_made-then}
-use Rattle.inp_reader.proofs.StandsByCalls.{client-in}
+use Rattle.inp_reader.proofs.StandsByCalls.{client-next}
 use Rattle.inp_joy.specs.Kept.{ReaderCalls}
 
 -- one `next`
@@ -22,7 +22,7 @@ calls-next before after old new mode r s next says same left kept stands shows =
   more = s.made;
   kept = kept;
   left = left;
-  client = client-in r.description mode r.reading.phase r.reading says.calls (next, s.reading) says.talk_ends;
+  client = client-next r.description mode r.reading says.calls (next, s.reading) says.talk_ends;
   stands = λ stood alone. subst (λ (d : Description). StandsAt d (reverse after.seen) s.reading) same (stands stood alone);
   shows = shows;
 }

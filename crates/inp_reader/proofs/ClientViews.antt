@@ -24,7 +24,8 @@ use Rattle.inp_reader.specs.Reading.{queries}
 use Rattle.inp_recon.specs.Synchronised.{is_start}
 use Rattle.inp_reader.specs.Standing.{is_use, is_use_of, calls_since, steps_of, view_after_answers, taken_by_calls, taken_events, is_read, AreReads}
 use Rattle.inp_reader.proofs.Calls.{AreAnswered, AreAccepted}
-use Rattle.inp_reader.proofs.AgainCounts.{NoneIsRead, NoneIsRead-queries}
+use Rattle.inp_recon.proofs.Each.{Each}
+use Rattle.inp_reader.proofs.AgainCounts.{IsNoRead, no_read-queries}
 
 -- One call
 
@@ -422,7 +423,7 @@ of_pasts-since d (x ∷ past) client = by (is_start past client x) (is_use_of cl
     by false true h = of_pasts-push d (calls_since d past client) call h (past, refl)
     by false false h = h
 
-none-takes : (d : Description) (asked reads : List Call) → AreOfPasts d (asked ++ reads) → NoneIsRead (steps_of asked) → NoneTakes asked
+none-takes : (d : Description) (asked reads : List Call) → AreOfPasts d (asked ++ reads) → Each IsNoRead (steps_of asked) → NoneTakes asked
 unfolding AreOfPasts NoneTakes
 none-takes d [] reads h no_reads = tt
 none-takes d (call ∷ asked) reads h no_reads =
@@ -432,7 +433,7 @@ none-takes d (call ∷ asked) reads h no_reads =
 pub view_at-behind : (d : Description) (past : List Step) (client j : ℕ) (asked reads : List Call) → IsHistory d past → calls_since d past client ≡ asked ++ reads → steps_of asked ≡ queries d client → AreReads reads → j < length (taken_by_calls reads)
     → view_at d past client (length (taken_at_start d past client) + j) ≡ view_after_events (view_after_answers (view_at_start d past client) asked) (taken_events (take (suc j) (taken_by_calls reads)))
 view_at-behind d past client j asked reads h since steps are below =
-    let no_reads : NoneIsRead (steps_of asked) = subst (λ (xs : List Step). NoneIsRead xs) (sym steps) (NoneIsRead-queries d client) in
+    let no_reads : Each IsNoRead (steps_of asked) = subst (λ (xs : List Step). Each IsNoRead xs) (sym steps) (no_read-queries d client) in
     let of_pasts : AreOfPasts d (asked ++ reads) = subst (λ (cs : List Call). AreOfPasts d cs) since (of_pasts-since d past client) in
     let none : NoneTakes asked = none-takes d asked reads of_pasts no_reads in
     let all : taken_by_calls (calls_since d past client) ≡ taken_by_calls asked ++ taken_by_calls reads = ap (λ (cs : List Call). taken_by_calls cs) since ∙ flat_map-append (λ (c : Call). c.answer.events) asked reads in
@@ -446,7 +447,7 @@ view_at-behind d past client j asked reads h since steps are below =
 pub taken-behind : (d : Description) (past : List Step) (client : ℕ) (asked reads : List Call) → calls_since d past client ≡ asked ++ reads → steps_of asked ≡ queries d client → taken_by_calls (calls_since d past client) ≡ taken_by_calls reads
 unfolding NoneTakes
 taken-behind d past client asked reads since steps =
-    let no_reads : NoneIsRead (steps_of asked) = subst (λ (xs : List Step). NoneIsRead xs) (sym steps) (NoneIsRead-queries d client) in
+    let no_reads : Each IsNoRead (steps_of asked) = subst (λ (xs : List Step). Each IsNoRead xs) (sym steps) (no_read-queries d client) in
     let of_pasts : AreOfPasts d (asked ++ reads) = subst (λ (cs : List Call). AreOfPasts d cs) since (of_pasts-since d past client) in
     ap (λ (cs : List Call). taken_by_calls cs) since ∙ flat_map-append (λ (c : Call). c.answer.events) asked reads ∙ ap (λ (ts : List Taken). ts ++ taken_by_calls reads) (none-taken asked (none-takes d asked reads of_pasts no_reads))
   where

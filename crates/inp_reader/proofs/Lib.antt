@@ -17,6 +17,8 @@ pub mod Synchronising
 pub mod Answering
 pub mod LeftByCalls
 pub mod Calls
+pub mod Meets
+pub mod NextWalk
 pub mod AgainCounts
 pub mod PastsAtCalls
 pub mod StandsAfterTalks

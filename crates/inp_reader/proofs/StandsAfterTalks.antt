@@ -1,38 +1,39 @@
 -- Where a reader stands after the talks of `start` and `next`, by the pasts at which its calls were answered.
-use Rattle.std.proofs.Common.{◌≡◌, ◌<◌, ◌⊎◌, inl, inr, ℕ, suc, nat_eq, nat_lt, Bool, true, false, ◌&&◌, ◌||◌, List, [], ◌∷◌, ◌++◌, length, refl, sym, ap, subst, ◌∙◌, arith, append-nil, append_assoc, if◌then◌else◌, ℤ, Option, Some, None}
+use Rattle.std.proofs.Common.{◌≡◌, ◌<◌, ◌⊎◌, inl, inr, ℕ, suc, nat_eq, Bool, true, false, ◌&&◌, ◌||◌, List, [], ◌∷◌, ◌++◌, length, refl, sym, ap, subst, ◌∙◌, arith, append-nil, append_assoc, if◌then◌else◌, ℤ, Option, Some, None}
 use Rattle.std.specs.Prelude.{Result, Ok, Err}
 use Rattle.std.proofs.lemmas.Bool.{true≢false, false≢true, ne_eqb, eq-eqb, cond-false, cond-true}
 use Rattle.std.proofs.lemmas.List.{map-append}
 use Rattle.std.proofs.lemmas.List.Concat.{flat_map-append}
 use Rattle.inp_model.specs.declared.event.Event.{Event}
-use Rattle.inp_model.specs.declared.event.TheConstants.{EV_KEY, EV_LED, EV_SW}
 use Rattle.inp_model.specs.declared.taken.Taken.{Taken}
 use Rattle.inp_model.specs.declared.step.Step.{Step}
-use Rattle.inp_model.specs.declared.step.Step.TheVariants.{Open, Read, Discard, GetKeys, GetSwitches, GetLeds, SyncSlots}
+use Rattle.inp_model.specs.declared.step.Step.TheVariants.{Open, Read, Discard}
 use Rattle.inp_model.specs.declared.reply.Reply.{Reply}
-use Rattle.inp_model.specs.declared.reply.Reply.TheVariants.{Opened, Again as NothingVisible, Refused}
-use Rattle.inp_model.specs.declared.reply.Refusal.TheVariants.{NoMemory, NoDevice as Revoked, LogFull}
-use Rattle.inp_model.specs.Description.{Description, has_kind, ring as ring_of}
+use Rattle.inp_model.specs.declared.reply.Reply.TheVariants.{Opened, Refused}
+use Rattle.inp_model.specs.declared.reply.Refusal.TheVariants.{NoMemory}
+use Rattle.inp_model.specs.Description.{Description, ring as ring_of}
 use Rattle.inp_model.specs.Past.{opens, is_opening}
 use Rattle.inp_model.specs.Reply.{Answer, IsAnswer, answer, answer_by, accepted, refused, is_accepted, past_after}
 use Rattle.inp_model.specs.Run.{Call}
 use Rattle.inp_model.specs.Step.{is_open_step}
 use Rattle.inp_recon.specs.declared.view.View.{View}
 use Rattle.inp_recon.specs.View.{first_view, view_after_event, view_after_events, view_after_answer}
+use Rattle.inp_recon.proofs.Each.{Each}
 use Rattle.inp_recon.proofs.Folds.{view_after_events-append}
 use Rattle.inp_reader.specs.declared.mode.Mode.{Mode}
-use Rattle.inp_reader.specs.declared.mode.Mode.TheVariants.{Normal, Sync as Synchronising}
 use Rattle.inp_reader.specs.declared.phase.Phase.{Phase}
 use Rattle.inp_reader.specs.declared.phase.Phase.TheVariants.{Plain, Needed, Handing}
 use Rattle.inp_reader.specs.declared.next.Next.{Next}
-use Rattle.inp_reader.specs.declared.next.Next.TheVariants.{Success, Dropped, Synced}
+use Rattle.inp_reader.specs.declared.next.Next.TheVariants.{Success}
 use Rattle.inp_reader.specs.declared.started.Started.{Started}
-use Rattle.inp_reader.specs.Reading.{Reading, ask_each, queries, bit_queries, axis_queries, plain_axes, slot_queries, only_if, start_talk, next_talk, talk_in, plain_talk, go_on, go_on_after, sync_talk, after_open, after_queries, start_stop_of, read_talk, read_or_hand_out, after_read, hand_out, hand_out_event, stop_of, handing, hand_synthesised, as_plain, after_full_sync, after_failed_sync}
-use Rattle.inp_recon.specs.Synchronised.{is_discard_of, is_start, is_dropped}
+use Rattle.inp_reader.specs.Reading.{Reading, ask_each, queries, start_talk, next_talk, sync_talk, after_open, after_queries, start_stop_of, stop_of, as_plain, after_full_sync, after_failed_sync}
+use Rattle.inp_recon.specs.Synchronised.{is_discard_of, is_start}
 use Rattle.inp_reader.specs.Standing.{is_use_of, calls_since, steps_of, view_after_answers, taken_by_calls, taken_events, is_read, AreReads, IsInStep, is_needed, has_opened}
-use Rattle.inp_reader.specs.Talk.{Talk, finish, and_then, LeadsTo, EndsWith}
+use Rattle.inp_reader.specs.Talk.{Talk, finish, LeadsTo, EndsWith}
 use Rattle.inp_model.proofs.Refused.{refused-not_accepted}
 use Rattle.inp_reader.proofs.Calls.{IsSplit, split-and_then, finished, AreAnswered, AreAccepted}
+use Rattle.inp_reader.proofs.Meets.{Meets, Any, Runs, ends-meet}
+use Rattle.inp_reader.proofs.NextWalk.{each-query, Renewed, NextRules, next-ends, stop-cases}
 use Rattle.inp_reader.proofs.PastsAtCalls.{AreQuiet, IsMet, AreMet, AreMet-split, AreMet-answered}
 
 -- Steps since the client was opened
@@ -151,36 +152,14 @@ opens-met d client past after (call ∷ calls) h m = opens-met d client m.0 afte
 
 -- Steps that are asked for in order
 
-unfoldable AllAsk : ℕ → List Step → Type 0
-AllAsk client [] = Unit {0}
-AllAsk client (x ∷ xs) = (is_use_of client x ≡ true) × (is_discard_of client x ≡ false) × AllAsk client xs
+-- the step is a use of the client, and no Discard
+abbrev Asks : ℕ → Step → Type 0
+Asks client x = (is_use_of client x ≡ true) × (is_discard_of client x ≡ false)
 
-AllAsk-append : (client : ℕ) (xs ys : List Step) → AllAsk client xs → AllAsk client ys → AllAsk client (xs ++ ys)
-unfolding AllAsk
-AllAsk-append client [] ys h k = k
-AllAsk-append client (x ∷ xs) ys h k = (h.0, h.1, AllAsk-append client xs ys h.2 k)
-
-AllAsk-only_if : (client : ℕ) (wanted : Bool) (x : Step) → is_use_of client x ≡ true → is_discard_of client x ≡ false → AllAsk client (only_if wanted x)
-unfolding AllAsk
-AllAsk-only_if client true x h k = (h, k, tt)
-AllAsk-only_if client false x h k = tt
-
-AllAsk-axes : (client : ℕ) (codes : List ℕ) → AllAsk client (axis_queries client codes)
-unfolding AllAsk
-AllAsk-axes client [] = tt
-AllAsk-axes client (code ∷ codes) = (eq-eqb client client refl, refl, AllAsk-axes client codes)
-
-AllAsk-queries : (d : Description) (client : ℕ) → AllAsk client (queries d client)
-unfolding queries
-AllAsk-queries d client =
+asks-queries : (d : Description) (client : ℕ) → Each (Asks client) (queries d client)
+asks-queries d client =
     let same : nat_eq client client ≡ true = eq-eqb client client refl in
-    let keys : List Step = only_if (has_kind d EV_KEY) (GetKeys client) in
-    let leds : List Step = only_if (has_kind d EV_LED) (GetLeds client) in
-    let switches : List Step = only_if (has_kind d EV_SW) (GetSwitches client) in
-    let bits : AllAsk client ((keys ++ leds) ++ switches) =
-    AllAsk-append client (keys ++ leds) switches (AllAsk-append client keys leds (AllAsk-only_if client (has_kind d EV_KEY) (GetKeys client) same refl) (AllAsk-only_if client (has_kind d EV_LED) (GetLeds client) same refl)) (AllAsk-only_if client (has_kind d EV_SW) (GetSwitches client) same refl) in
-    let axes : List Step = axis_queries client (plain_axes d) in
-    AllAsk-append client (bit_queries d client ++ axes) (slot_queries d client) (AllAsk-append client (bit_queries d client) axes bits (AllAsk-axes client (plain_axes d))) (AllAsk-only_if client (nat_lt 0 d.slots) (SyncSlots client) same refl)
+    each-query d client (Asks client) (record { keys = λ h. (same, refl); leds = λ h. (same, refl); switches = λ h. (same, refl); axes = λ code h. (same, refl); slots = λ h. (same, refl) })
 
 -- all were asked for and accepted
 record IsAsked (d : Description) (client : ℕ) (past after : List Step) (xs : List Step) (view : View) (calls : List Call) (asked : View) : Type 0 where
@@ -203,8 +182,8 @@ none_asked d client past after view asked [] m none same = record {
 }
 none_asked d client past after view asked (call ∷ calls) m none same = absurd cc
 
-asks : (d : Description) (client : ℕ) (past after : List Step) (xs : List Step) (view : View) (calls : List Call) (asked : View) → client < opens past → AllAsk client xs → AreMet d client past after calls → EndsWith (ask_each xs view) calls (Ok asked) → IsAsked d client past after xs view calls asked
-unfolding LeadsTo ask_each AreMet AllAsk AreAccepted
+asks : (d : Description) (client : ℕ) (past after : List Step) (xs : List Step) (view : View) (calls : List Call) (asked : View) → client < opens past → Each (Asks client) xs → AreMet d client past after calls → EndsWith (ask_each xs view) calls (Ok asked) → IsAsked d client past after xs view calls asked
+unfolding LeadsTo ask_each AreMet AreAccepted
 asks d client past after [] view calls asked h all m ends =
     let e : (calls ≡ []) × (Ok view ≡ Ok asked) = finished (Ok view) (Ok asked) calls ends in
     none_asked d client past after view asked calls m e.0 (let k : Ok view ≡ Ok asked = e.1 in cc)
@@ -212,10 +191,10 @@ asks d client past after (x ∷ xs) view [] asked h all m ends = absurd cc
 asks d client past after (x ∷ xs) view (call ∷ calls) asked h all m ends =
     let next : View = view_after_answer view x call.answer.reply call.answer.cells in
     let a : (is_accepted call.answer.reply ≡ true) × EndsWith (ask_each xs next) calls (Ok asked) = accepted_if (is_accepted call.answer.reply) (ask_each xs next) call.answer.reply calls asked ends.1 in
-    let used : is_use_of client call.step ≡ true = ap (λ (y : Step). is_use_of client y) ends.0 ∙ all.0 in
-    let kept : is_discard_of client call.step ≡ false = ap (λ (y : Step). is_discard_of client y) ends.0 ∙ all.1 in
+    let used : is_use_of client call.step ≡ true = ap (λ (y : Step). is_use_of client y) ends.0 ∙ all.0.0 in
+    let kept : is_discard_of client call.step ≡ false = ap (λ (y : Step). is_discard_of client y) ends.0 ∙ all.0.1 in
     let one : calls_since d m.0 client ≡ calls_since d past client ++ call ∷ [] = met-use d client past m.0 call h m.1 used kept a.0 in
-    let rest : IsAsked d client m.0 after xs next calls asked = asks d client m.0 after xs next calls asked (met-opens d client past m.0 call h m.1) all.2 m.2 a.1 in
+    let rest : IsAsked d client m.0 after xs next calls asked = asks d client m.0 after xs next calls asked (met-opens d client past m.0 call h m.1) all.1 m.2 a.1 in
     record {
       since = rest.since ∙ ap (λ (cs : List Call). cs ++ calls) one ∙ append_assoc (calls_since d past client) (call ∷ []) calls;
       steps = ap (λ (y : Step). y ∷ steps_of calls) ends.0 ∙ ap (λ (ys : List Step). x ∷ ys) rest.steps;
@@ -330,70 +309,28 @@ in-step-read d past after r call i empty read since =
 
 -- a stop is no event
 stop-hands : (d : Description) (past : List Step) (reply : Reply) (r : Reading) → HandsOut d past (stop_of reply) r
-stop-hands d past (NothingVisible at ends) r = tt
-stop-hands d past (Refused at Revoked) r = tt
-stop-hands d past (Refused at LogFull) r = tt
-stop-hands d past (Refused at _) r = tt
-stop-hands d past _ r = tt
+stop-hands d past reply r = stop-cases (λ next. HandsOut d past next r) reply (λ at ends is. tt) tt tt (λ at. tt)
 
-in_phase : (b : Bool) (d : Description) (past : List Step) (x y : Next × Reading) → Leaves d past x → Leaves d past y → (let o : Next × Reading = if b then x else y in Leaves d past o)
-in_phase true d past x y h k = h
-in_phase false d past x y h k = k
+-- Calls that were met so
 
-stands-handed : (d : Description) (past : List Step) (r : Reading) (taken : Taken) (rest : List Taken) → r.client < opens past → IsInStep d past r → r.queue ≡ taken ∷ rest → Leaves d past (hand_out_event r taken rest)
-stands-handed d past r taken rest opened i q =
-    let view : View = view_after_event r.view taken.event in
-    let h : IsHandedOut d past (record r { queue = rest; view = view }) taken = handed d past r taken rest i q in
-    in_phase (is_dropped taken.event) d past (Dropped taken, record r { queue = rest; view = view; phase = Needed }) (Success taken, record r { queue = rest; view = view })
-    (record { stands = record { opened = opened; in_step = λ needed. absurd (true≢false needed) }; hands_out = tt })
-    (record { stands = record { opened = opened; in_step = λ needed. handed-in-step d past (record r { queue = rest; view = view }) taken h }; hands_out = h })
+abbrev MetBy : Description → ℕ → List Step → Step → Answer → List Step → Type 0
+MetBy d client past x answer after = IsMet d client past after (record { step = x; answer = answer })
 
-stands-hand_out : (d : Description) (past : List Step) (r : Reading) (queue : List Taken) → r.client < opens past → IsInStep d past (record r { queue = queue }) → Leaves d past (hand_out r queue)
-stands-hand_out d past r [] opened i = record { stands = record { opened = opened; in_step = λ needed. i }; hands_out = tt }
-stands-hand_out d past r (taken ∷ rest) opened i = stands-handed d past (record r { queue = taken ∷ rest }) taken rest opened i refl
+met-run : (d : Description) (client : ℕ) (past after : List Step) (calls : List Call) → AreMet d client past after calls → Runs (MetBy d client) past calls after
+unfolding AreMet Runs
+met-run d client past after [] h = h
+met-run d client past after (call ∷ calls) h = (h.0, h.1, met-run d client h.0 after calls h.2)
 
-stands-same : (d : Description) (past after : List Step) (x : Next × Reading) (result : Next × Reading) → after ≡ past → x ≡ result → Leaves d past x → Leaves d after result
-stands-same d past after x result same e h =
-    let P : List Step → Type 0 = λ p. Leaves d p result in
-    subst P (sym same) (subst (λ (o : Next × Reading). Leaves d past o) e h)
+run-met : (d : Description) (client : ℕ) (past after : List Step) (calls : List Call) → Runs (MetBy d client) past calls after → AreMet d client past after calls
+unfolding AreMet Runs
+run-met d client past after [] h = h
+run-met d client past after (call ∷ calls) h = (h.0, h.1, run-met d client h.0 after calls h.2)
 
 -- no call was made
 nothing-met : (d : Description) (client : ℕ) (past after : List Step) (calls : List Call) → calls ≡ [] → AreMet d client past after calls → after ≡ past
 unfolding AreMet
 nothing-met d client past after [] none m = m
 nothing-met d client past after (call ∷ calls) none m = absurd cc
-
-stands-after-read : (d : Description) (past after : List Step) (r : Reading) (call : Call) → r.client < opens past → IsInStep d past r → r.queue ≡ [] → call.step ≡ Read r.client 64 → IsMet d r.client past after call → Leaves d after (after_read r call.answer)
-stands-after-read d past after r call opened i empty asked m = by (is_accepted call.answer.reply) refl
-  where
-    still : r.client < opens after
-    still = met-opens d r.client past after call opened m
-
-    by : (b : Bool) → is_accepted call.answer.reply ≡ b → (let o : Next × Reading = if b then hand_out r call.answer.events else (stop_of call.answer.reply, r) in Leaves d after o)
-    by true is =
-        let used : is_use_of r.client call.step ≡ true = ap (λ (x : Step). is_use_of r.client x) asked ∙ eq-eqb r.client r.client refl in
-        let since : calls_since d after r.client ≡ calls_since d past r.client ++ call ∷ [] = met-use d r.client past after call opened m used (ap (λ (x : Step). is_discard_of r.client x) asked) is in
-        stands-hand_out d after r call.answer.events still (in-step-read d past after r call i empty (ap is_read asked) since)
-    by false is = record { stands = record { opened = still; in_step = λ needed. in-step-kept d past after r i (met-refused d r.client past after call opened m is) }; hands_out = stopped call.answer.reply }
-      where
-        stopped : (reply : Reply) → HandsOut d after (stop_of reply) r
-        stopped reply = stop-hands d after reply r
-
-stands-queued : (d : Description) (past after : List Step) (r : Reading) (queue : List Taken) (calls : List Call) (result : Next × Reading) → r.client < opens past → IsInStep d past r → r.queue ≡ queue → AreMet d r.client past after calls → EndsWith (read_or_hand_out r queue) calls result → Leaves d after result
-unfolding LeadsTo AreMet
-stands-queued d past after r [] [] result opened i q m h = absurd cc
-stands-queued d past after r [] (call ∷ calls) result opened i q m h =
-    let e : (calls ≡ []) × (after_read r call.answer ≡ result) = finished (after_read r call.answer) result calls h.1 in
-    stands-same d m.0 after (after_read r call.answer) result (nothing-met d r.client m.0 after calls e.0 m.2) e.1 (stands-after-read d past m.0 r call opened i q h.0 m.1)
-stands-queued d past after r (taken ∷ rest) calls result opened i q m h =
-    let e : (calls ≡ []) × (hand_out_event r taken rest ≡ result) = finished (hand_out_event r taken rest) result calls h in
-    stands-same d past after (hand_out_event r taken rest) result (nothing-met d r.client past after calls e.0 m) e.1 (stands-handed d past r taken rest opened i q)
-
-stands-read : (d : Description) (past after : List Step) (r : Reading) (calls : List Call) (result : Next × Reading) → r.client < opens past → IsInStep d past r → AreMet d r.client past after calls → EndsWith (read_talk r) calls result → Leaves d after result
-unfolding read_talk
-stands-read d past after r calls result opened i m h = stands-queued d past after r r.queue calls result opened i refl m h
-
--- Going on
 
 in-step-plain : (d : Description) (past : List Step) (r : Reading) → IsInStep d past r → IsInStep d past (as_plain r)
 in-step-plain d past r i = record {
@@ -418,22 +355,6 @@ in-step-left d past r left i = record {
   taken = i.taken;
   view = i.view;
 }
-
-stands-handing : (d : Description) (past : List Step) (r : Reading) (left : List Event) → r.client < opens past → IsInStep d past r → Leaves d past (hand_synthesised r left)
-stands-handing d past r [] opened i = record { stands = record { opened = opened; in_step = λ needed. in-step-plain d past r i }; hands_out = tt }
-stands-handing d past r (event ∷ left) opened i = record { stands = record { opened = opened; in_step = λ needed. in-step-left d past r left i }; hands_out = tt }
-
-stands-go_on : (d : Description) (mode : Mode) (past after : List Step) (r : Reading) (calls : List Call) (result : Next × Reading) → r.client < opens past → IsInStep d past r → AreMet d r.client past after calls → EndsWith (go_on mode r) calls result → Leaves d after result
-stands-go_on d Normal past after r calls result opened i m h = stands-read d past after (as_plain r) calls result opened (in-step-plain d past r i) m h
-stands-go_on d Synchronising past after r calls result opened i m h =
-    let e : (calls ≡ []) × (handing r ≡ result) = finished (handing r) result calls h in
-    stands-same d past after (handing r) result (nothing-met d r.client past after calls e.0 m) e.1 (stands-handing d past r r.left opened i)
-
-stands-plain : (d : Description) (mode : Mode) (past after : List Step) (r : Reading) (calls : List Call) (result : Next × Reading) → r.client < opens past → IsInStep d past r → AreMet d r.client past after calls → EndsWith (plain_talk mode r) calls result → Leaves d after result
-stands-plain d Normal past after r calls result opened i m h = stands-read d past after r calls result opened i m h
-stands-plain d Synchronising past after r calls result opened i m h =
-    let e : (calls ≡ []) × ((Synced, r) ≡ result) = finished (Synced, r) result calls h in
-    stands-same d past after (Synced, r) result (nothing-met d r.client past after calls e.0 m) e.1 (record { stands = record { opened = opened; in_step = λ needed. i }; hands_out = tt })
 
 -- Synchronising
 
@@ -477,7 +398,7 @@ synchronised d client past after view (call ∷ calls) told h m ends =
     let met : IsMet d client past m.0 call = m.1 in
     let entered : m.0 ≡ Discard client ∷ (met.others ++ past) = met.entered ∙ accepted-past call.answer.reply call.step (met.others ++ past) a.0 ∙ ap (λ (x : Step). x ∷ (met.others ++ past)) ends.0 in
     let none : calls_since d m.0 client ≡ [] = ap (λ (p : List Step). calls_since d p client) entered ∙ discard-step d (met.others ++ past) client in
-    let rest : IsAsked d client m.0 after (queries d client) next calls told = asks d client m.0 after (queries d client) next calls told (met-opens d client past m.0 call h m.1) (AllAsk-queries d client) m.2 a.1 in
+    let rest : IsAsked d client m.0 after (queries d client) next calls told = asks d client m.0 after (queries d client) next calls told (met-opens d client past m.0 call h m.1) (asks-queries d client) m.2 a.1 in
     record {
       asked = calls;
       since = rest.since ∙ ap (λ (cs : List Call). cs ++ calls) none;
@@ -487,36 +408,88 @@ synchronised d client past after view (call ∷ calls) told h m ends =
       view_is = rest.view_is ∙ ap (λ (v : View). view_after_answers v calls) (discard-view client view call.answer.reply call.answer.cells);
     }
 
-stands-synchronised : (d : Description) (mode : Mode) (past mid after : List Step) (r : Reading) (asked : Result View Reply) (first later : List Call) (result : Next × Reading) → r.client < opens past → IsMadeAnew d r.client r.view → AreMet d r.client past mid first → AreMet d r.client mid after later
-    → EndsWith (sync_talk d r) first asked → EndsWith (go_on_after mode r asked) later result → Leaves d after result
-unfolding sync_talk
-stands-synchronised d mode past mid after r (Ok view) first later result opened anew m k ends then_ends =
-    let s : IsSynchronised d r.client past mid r.view first view = synchronised d r.client past mid r.view first view opened m ends in
-    let i : IsInStep d mid (after_full_sync r view) = in-step-anew d mid r.client s.asked r.view view Handing (after_full_sync r view).left s.since s.steps s.accepted s.answered s.view_is anew in
-    stands-go_on d mode mid after (after_full_sync r view) later result (opens-met d r.client past mid first opened m) i k then_ends
-stands-synchronised d mode past mid after r (Err reply) first later result opened anew m k ends then_ends =
-    let stopped : Next × Reading = (stop_of reply, after_failed_sync r) in
-    let e : (later ≡ []) × (stopped ≡ result) = finished stopped result later then_ends in
-    stands-same d mid after stopped result (nothing-met d r.client mid after later e.0 k) e.1
-    (record { stands = record { opened = opens-met d r.client past mid first opened m; in_step = λ needed. absurd (true≢false needed) }; hands_out = stop-hands d mid reply (after_failed_sync r) })
-
-stands-needed : (d : Description) (mode : Mode) (past after : List Step) (r : Reading) (calls : List Call) (result : Next × Reading) → r.client < opens past → IsMadeAnew d r.client r.view → AreMet d r.client past after calls → EndsWith (and_then (sync_talk d r) (go_on_after mode r)) calls result → Leaves d after result
-stands-needed d mode past after r calls result opened anew m h =
-    let s : IsSplit (sync_talk d r) (go_on_after mode r) calls result = split-and_then (sync_talk d r) (go_on_after mode r) calls result h in
-    let all : AreMet d r.client past after (s.first ++ s.later) = subst (λ (cs : List Call). AreMet d r.client past after cs) s.calls_are m in
-    let k : (mid : List Step) × AreMet d r.client past mid s.first × AreMet d r.client mid after s.later = AreMet-split d r.client past after s.first s.later all in
-    stands-synchronised d mode past k.0 after r s.between s.first s.later result opened anew k.1 k.2 s.first_ends s.later_ends
-
 -- `next`
 
-stands-in : (d : Description) (mode : Mode) (phase : Phase) (past after : List Step) (r : Reading) (calls : List Call) (result : Next × Reading) → r.phase ≡ phase → IsOpenInStep d past r → IsMadeAnew d r.client r.view → AreMet d r.client past after calls → EndsWith (talk_in d mode phase r) calls result → Leaves d after result
-stands-in d mode Plain past after r calls result e s anew m h = stands-plain d mode past after r calls result s.opened (s.in_step (ap is_needed e)) m h
-stands-in d mode Needed past after r calls result e s anew m h = stands-needed d mode past after r calls result s.opened anew m h
-stands-in d mode Handing past after r calls result e s anew m h = stands-go_on d mode past after r calls result s.opened (s.in_step (ap is_needed e)) m h
+-- what is known of a reader, of whose client alone the rule is
+record StandsAs (d : Description) (client : ℕ) (past : List Step) (r : Reading) : Type 0 where
+  same : client ≡ r.client
+  opened : r.client < opens past
+  in_step : is_needed r.phase ≡ false → IsInStep d past r
+  anew : r.phase ≡ Needed → IsMadeAnew d r.client r.view
+
+not_needed : (phase is : Phase) → phase ≡ is → is_needed is ≡ false → is_needed phase ≡ false
+not_needed phase is e h = ap is_needed e ∙ h
+
+-- a call of the reader's client
+own-met : (d : Description) (client : ℕ) (past after : List Step) (r : Reading) (call : Call) → StandsAs d client past r → IsMet d client past after call → IsMet d r.client past after call
+own-met d client past after r call s m = subst (λ (n : ℕ). IsMet d n past after call) s.same m
+
+stands-read : (d : Description) (client : ℕ) (past after : List Step) (r : Reading) (a : Answer) → StandsAs d client past r → r.phase ≡ Plain → r.queue ≡ [] → IsMet d client past after (record { step = Read r.client 64; answer = a }) → is_accepted a.reply ≡ true
+    → StandsAs d client after (record r { queue = a.events })
+stands-read d client past after r a s plain empty by is =
+    let call : Call = record { step = Read r.client 64; answer = a } in
+    let m : IsMet d r.client past after call = own-met d client past after r call s by in
+    record {
+      same = s.same;
+      opened = met-opens d r.client past after call s.opened m;
+      in_step = λ needed. in-step-read d past after r call (s.in_step needed) empty refl (met-use d r.client past after call s.opened m (eq-eqb r.client r.client refl) refl is);
+      anew = λ e. absurd (let k : Plain ≡ Needed = sym plain ∙ e in cc);
+    }
+
+stands-stopped_read : (d : Description) (client : ℕ) (past after : List Step) (r : Reading) (a : Answer) → StandsAs d client past r → IsMet d client past after (record { step = Read r.client 64; answer = a }) → is_accepted a.reply ≡ false → Leaves d after (stop_of a.reply, r)
+stands-stopped_read d client past after r a s by is =
+    let call : Call = record { step = Read r.client 64; answer = a } in
+    let m : IsMet d r.client past after call = own-met d client past after r call s by in
+    record {
+      stands = record { opened = met-opens d r.client past after call s.opened m; in_step = λ needed. in-step-kept d past after r (s.in_step needed) (met-refused d r.client past after call s.opened m is) };
+      hands_out = stop-hands d after a.reply r;
+    }
+
+stands-renewed : (d : Description) (client : ℕ) (past : List Step) (r : Reading) → StandsAs d client past r → r.phase ≡ Needed → Meets Any (MetBy d client) (Renewed (StandsAs d client) (Leaves d) r) past (sync_talk d r)
+unfolding sync_talk
+stands-renewed d client past r s needed = ends-meet (MetBy d client) (Renewed (StandsAs d client) (Leaves d) r) past (ask_each (Discard r.client ∷ queries d r.client) r.view) by
+  where
+    by : (after : List Step) (calls : List Call) (asked : Result View Reply) → Runs (MetBy d client) past calls after → EndsWith (ask_each (Discard r.client ∷ queries d r.client) r.view) calls asked → Renewed (StandsAs d client) (Leaves d) r after asked
+    by after calls (Ok view) run ends =
+        let m : AreMet d r.client past after calls = subst (λ (n : ℕ). AreMet d n past after calls) s.same (run-met d client past after calls run) in
+        let k : IsSynchronised d r.client past after r.view calls view = synchronised d r.client past after r.view calls view s.opened m ends in
+        record {
+          same = s.same;
+          opened = opens-met d r.client past after calls s.opened m;
+          in_step = λ e. in-step-anew d after r.client k.asked r.view view Handing (after_full_sync r view).left k.since k.steps k.accepted k.answered k.view_is (s.anew needed);
+          anew = λ e. absurd cc;
+        }
+    by after calls (Err reply) run ends =
+        let m : AreMet d r.client past after calls = subst (λ (n : ℕ). AreMet d n past after calls) s.same (run-met d client past after calls run) in
+        record { stands = record { opened = opens-met d r.client past after calls s.opened m; in_step = λ e. absurd (true≢false e) }; hands_out = stop-hands d after reply (after_failed_sync r) }
+
+stands-rules : (d : Description) (client : ℕ) (mode : Mode) → NextRules Any (MetBy d client) (StandsAs d client) (Leaves d) d mode
+stands-rules d client mode = record {
+  asks_read = λ p r s. tt;
+  reads = λ p t r a s plain empty m is. stands-read d client p t r a s plain empty m is;
+  stops = λ p t r a s plain empty m is. stands-stopped_read d client p t r a s m is;
+  hands = λ p r taken rest s plain q is.
+      let h : IsHandedOut d p (record r { queue = rest; view = view_after_event r.view taken.event }) taken = handed d p r taken rest (s.in_step (not_needed r.phase Plain plain refl)) q in
+      record { stands = record { opened = s.opened; in_step = λ e. handed-in-step d p (record r { queue = rest; view = view_after_event r.view taken.event }) taken h }; hands_out = h };
+  loses = λ p r taken rest s plain q is. record { stands = record { opened = s.opened; in_step = λ e. absurd (true≢false e) }; hands_out = tt };
+  empty = λ p r s plain q. record { stands = record { opened = s.opened; in_step = s.in_step }; hands_out = tt };
+  idles = λ p r s plain is. record { stands = record { opened = s.opened; in_step = s.in_step }; hands_out = tt };
+  syncs = λ p r s needed. stands-renewed d client p r s needed;
+  makes = λ p r event left s handing sync is. record { stands = record { opened = s.opened; in_step = λ e. in-step-left d p r left (s.in_step e) }; hands_out = tt };
+  made_all = λ p r s handing sync is. record { stands = record { opened = s.opened; in_step = λ e. in-step-plain d p r (s.in_step (not_needed r.phase Handing handing refl)) }; hands_out = tt };
+  goes_on = λ p r s handing is. record {
+    same = s.same;
+    opened = s.opened;
+    in_step = λ e. in-step-plain d p r (s.in_step (not_needed r.phase Handing handing refl));
+    anew = λ e. absurd cc;
+  };
+}
 
 -- a reader that stood stands after `next`, and what that handed out is the last event that was
 pub stands-after-next : (d : Description) (mode : Mode) (past after : List Step) (r : Reading) (calls : List Call) (result : Next × Reading) → IsOpenInStep d past r → IsMadeAnew d r.client r.view → AreMet d r.client past after calls → EndsWith (next_talk d mode r) calls result → Leaves d after result
-stands-after-next d mode past after r calls result s anew m h = stands-in d mode r.phase past after r calls result refl s anew m h
+stands-after-next d mode past after r calls result s anew m ends =
+    let here : StandsAs d r.client past r = record { same = refl; opened = s.opened; in_step = s.in_step; anew = λ needed. anew } in
+    next-ends Any (MetBy d r.client) (StandsAs d r.client) (Leaves d) d mode (stands-rules d r.client mode) past after r calls result here (met-run d r.client past after calls m) ends
 
 -- `start`
 
@@ -554,7 +527,7 @@ met-unused d client past after call h m unused = ap (λ (p : List Step). calls_s
 pub stands-queried : (d : Description) (client ring : ℕ) (past after : List Step) (r : Reading) (asked : Result View Reply) (calls : List Call) → client < opens past → calls_since d past client ≡ [] → IsMadeAnew d client r.view → AreMet d client past after calls → EndsWith (ask_each (queries d client) r.view) calls asked
     → IsOpenInStep d after (after_queries client ring r asked).1
 stands-queried d client ring past after r (Ok view) calls opened none anew m h =
-    let a : IsAsked d client past after (queries d client) r.view calls view = asks d client past after (queries d client) r.view calls view opened (AllAsk-queries d client) m h in
+    let a : IsAsked d client past after (queries d client) r.view calls view = asks d client past after (queries d client) r.view calls view opened (asks-queries d client) m h in
     record {
       opened = opens-met d client past after calls opened m;
       in_step = λ needed. in-step-anew d after client calls r.view view Plain [] (a.since ∙ ap (λ (cs : List Call). cs ++ calls) none) a.steps a.accepted (AreMet-answered d client past after calls m) a.view_is anew;

@@ -1,8 +1,6 @@
 -- Where a reader stands, by the calls that it made.
-use Rattle.std.proofs.Common.{◌≡◌, inl, inr, ℕ, Bool, true, false, List, [], ◌∷◌, reverse, refl, sym, ap, subst, ◌∙◌, if◌then◌else◌}
+use Rattle.std.proofs.Common.{◌≡◌, inl, inr, ℕ, true, List, [], ◌∷◌, reverse, refl, sym, subst, ◌∙◌}
 use Rattle.std.specs.Prelude.{Result, Ok, Err}
-use Rattle.inp_model.specs.declared.event.Event.{Event}
-use Rattle.inp_model.specs.declared.taken.Taken.{Taken}
 use Rattle.inp_model.specs.declared.step.Step.{Step}
 use Rattle.inp_model.specs.declared.reply.Reply.{Reply}
 use Rattle.inp_model.specs.Description.{Description, IsDescription}
@@ -10,20 +8,14 @@ use Rattle.inp_model.specs.Evdev.{EvdevView, IsCall}
 use Rattle.inp_model.specs.History.{IsHistory}
 use Rattle.inp_model.specs.Leaves.{AreCalls}
 use Rattle.inp_model.proofs.Leaves.{description-kept, history-kept}
-use Rattle.inp_model.specs.Reply.{Answer, is_accepted}
 use Rattle.inp_model.specs.Run.{Call}
 use Rattle.inp_recon.specs.declared.view.View.{View}
-use Rattle.inp_recon.specs.View.{view_after_event}
 use Rattle.inp_reader.specs.declared.call_made.CallMade.{CallMade}
 use Rattle.inp_reader.specs.declared.mode.Mode.{Mode}
-use Rattle.inp_reader.specs.declared.mode.Mode.TheVariants.{Normal, Sync as Synchronising}
-use Rattle.inp_reader.specs.declared.phase.Phase.{Phase}
-use Rattle.inp_reader.specs.declared.phase.Phase.TheVariants.{Plain, Needed, Handing}
 use Rattle.inp_reader.specs.declared.next.Next.{Next}
-use Rattle.inp_reader.specs.declared.next.Next.TheVariants.{Success, Dropped, Synced}
+use Rattle.inp_reader.specs.declared.next.Next.TheVariants.{Success}
 use Rattle.inp_reader.specs.declared.started.Started.{Started}
-use Rattle.inp_recon.specs.Synchronised.{is_dropped}
-use Rattle.inp_reader.specs.Reading.{Reading, start_talk, next_talk, talk_in, go_on, go_on_after, sync_talk, read_talk, read_or_hand_out, after_read, hand_out, hand_out_event, stop_of, handing, hand_synthesised, as_plain, after_full_sync, after_failed_sync}
+use Rattle.inp_reader.specs.Reading.{Reading, start_talk, next_talk, sync_talk, handing}
 use Rattle.inp_reader.specs.Says.{Says}
 use Rattle.inp_reader.specs.Spare.{IsSpare, HasSpare}
 use Rattle.inp_reader.specs.Showing.{AnswerShows}
@@ -32,9 +24,10 @@ use Rattle.inp_reader.specs.Talk.{LeadsTo, EndsWith}
 use Rattle.inp_recon.proofs.FaithfulHistories.{faithful_by_reads}
 use Rattle.inp_recon.proofs.FaithfulReads.{reads-faithful}
 use Rattle.inp_reader.proofs.ShowsDevice.{shows-device}
+use Rattle.inp_reader.proofs.Meets.{Any, AnyAnswer, any-run, meets-always}
+use Rattle.inp_reader.proofs.NextWalk.{Renewed, NextRules, next-ends}
 use Rattle.inp_reader.proofs.TalksKeepSpare.{says-keeps_next}
 use Rattle.inp_reader.proofs.Agreeing.{spare-made_anew}
-use Rattle.inp_reader.proofs.Calls.{IsSplit, split-and_then, finished}
 use Rattle.inp_reader.proofs.PastsAtCalls.{AreMet, says-met}
 use Rattle.inp_reader.proofs.StandsAfterTalks.{HandsOut, IsOpenInStep, Leaves, StoodOrOpened, stands-after-next, stands-after-start}
 
@@ -83,60 +76,34 @@ start-stands d before after made r s started same spare h stood alone = start-le
 
 -- `next` keeps the client
 
-client_if : (b : Bool) (x y : Next × Reading) (client : ℕ) → x.1.client ≡ client → y.1.client ≡ client → (let o : Next × Reading = if b then x else y in o.1.client ≡ client)
-client_if true x y client h k = h
-client_if false x y client h k = k
+client-rules : (d : Description) (mode : Mode) (client : ℕ) → NextRules Any AnyAnswer (λ (s : Unit {0}) (r : Reading). r.client ≡ client) (λ (s : Unit {0}) (o : Next × Reading). o.1.client ≡ client) d mode
+client-rules d mode client = record {
+  asks_read = λ s r h. tt;
+  reads = λ s t r a h plain none any is. h;
+  stops = λ s t r a h plain none any is. h;
+  hands = λ s r taken rest h plain q is. h;
+  loses = λ s r taken rest h plain q is. h;
+  empty = λ s r h plain q. h;
+  idles = λ s r h plain is. h;
+  syncs = λ s r h needed. meets-always AnyAnswer (Renewed (λ (t : Unit {0}) (o : Reading). o.client ≡ client) (λ (t : Unit {0}) (o : Next × Reading). o.1.client ≡ client) r) s (sync_talk d r) (renewed r h);
+  makes = λ s r event left h handing sync is. h;
+  made_all = λ s r h handing sync is. h;
+  goes_on = λ s r h handing is. h;
+}
+  where
+    renewed : (r : Reading) → r.client ≡ client → (t : Unit {0}) (asked : Result View Reply) → Renewed (λ (u : Unit {0}) (o : Reading). o.client ≡ client) (λ (u : Unit {0}) (o : Next × Reading). o.1.client ≡ client) r t asked
+    renewed r h t (Ok view) = h
+    renewed r h t (Err reply) = h
 
-client-event : (r : Reading) (taken : Taken) (rest : List Taken) → (hand_out_event r taken rest).1.client ≡ r.client
-client-event r taken rest =
-    let view : View = view_after_event r.view taken.event in
-    client_if (is_dropped taken.event) (Dropped taken, record r { queue = rest; view = view; phase = Needed }) (Success taken, record r { queue = rest; view = view }) r.client refl refl
-
-client-hand_out : (r : Reading) (queue : List Taken) → (hand_out r queue).1.client ≡ r.client
-client-hand_out r [] = refl
-client-hand_out r (taken ∷ rest) = client-event r taken rest
-
-client-read : (r : Reading) (given : Answer) → (after_read r given).1.client ≡ r.client
-client-read r given = client_if (is_accepted given.reply) (hand_out r given.events) (stop_of given.reply, r) r.client (client-hand_out r given.events) refl
-
-client-same : (x result : Next × Reading) (client : ℕ) → x ≡ result → x.1.client ≡ client → result.1.client ≡ client
-client-same x result client e h = ap (λ (o : Next × Reading). o.1.client) (sym e) ∙ h
-
-client-queued : (r : Reading) (queue : List Taken) (calls : List Call) (result : Next × Reading) → EndsWith (read_or_hand_out r queue) calls result → result.1.client ≡ r.client
-unfolding LeadsTo
-client-queued r [] [] result h = absurd cc
-client-queued r [] (call ∷ calls) result h = client-same (after_read r call.answer) result r.client (finished (after_read r call.answer) result calls h.1).1 (client-read r call.answer)
-client-queued r (taken ∷ rest) calls result h = client-same (hand_out_event r taken rest) result r.client (finished (hand_out_event r taken rest) result calls h).1 (client-event r taken rest)
-
-client-read_talk : (r : Reading) (calls : List Call) (result : Next × Reading) → EndsWith (read_talk r) calls result → result.1.client ≡ r.client
-unfolding read_talk
-client-read_talk r calls result h = client-queued r r.queue calls result h
-
-client-handing : (r : Reading) (left : List Event) → (hand_synthesised r left).1.client ≡ r.client
-client-handing r [] = refl
-client-handing r (event ∷ left) = refl
-
-client-go_on : (mode : Mode) (r : Reading) (calls : List Call) (result : Next × Reading) → EndsWith (go_on mode r) calls result → result.1.client ≡ r.client
-client-go_on Normal r calls result h = client-read_talk (as_plain r) calls result h
-client-go_on Synchronising r calls result h = client-same (handing r) result r.client (finished (handing r) result calls h).1 (client-handing r r.left)
-
-client-go_on_after : (mode : Mode) (r : Reading) (asked : Result View Reply) (calls : List Call) (result : Next × Reading) → EndsWith (go_on_after mode r asked) calls result → result.1.client ≡ r.client
-client-go_on_after mode r (Ok view) calls result h = client-go_on mode (after_full_sync r view) calls result h
-client-go_on_after mode r (Err reply) calls result h = client-same (stop_of reply, after_failed_sync r) result r.client (finished (stop_of reply, after_failed_sync r) result calls h).1 refl
-
-pub client-in : (d : Description) (mode : Mode) (phase : Phase) (r : Reading) (calls : List Call) (result : Next × Reading) → EndsWith (talk_in d mode phase r) calls result → result.1.client ≡ r.client
-client-in d Normal Plain r calls result h = client-read_talk r calls result h
-client-in d Synchronising Plain r calls result h = client-same (Synced, r) result r.client (finished (Synced, r) result calls h).1 refl
-client-in d mode Needed r calls result h =
-    let s : IsSplit (sync_talk d r) (go_on_after mode r) calls result = split-and_then (sync_talk d r) (go_on_after mode r) calls result h in
-    client-go_on_after mode r s.between s.later result s.later_ends
-client-in d mode Handing r calls result h = client-go_on mode r calls result h
+pub client-next : (d : Description) (mode : Mode) (r : Reading) (calls : List Call) (result : Next × Reading) → EndsWith (next_talk d mode r) calls result → result.1.client ≡ r.client
+client-next d mode r calls result ends =
+    next-ends Any AnyAnswer (λ (s : Unit {0}) (o : Reading). o.client ≡ r.client) (λ (s : Unit {0}) (o : Next × Reading). o.1.client ≡ r.client) d mode (client-rules d mode r.client) tt tt r calls result refl (any-run calls) ends
 
 -- any `next` of a reader that stood
 pub next-leaves : (d : Description) (before after : EvdevView) (made : List CallMade) (mode : Mode) (r s : Reading) (next : Next) → before.description ≡ d → HasSpare d r → Says before after [] made (next_talk d mode r) (next, s)
     → StandsAt d (reverse before.seen) r → IsAlone before after s.client made → Leaves d (reverse after.seen) (next, s)
 next-leaves d before after made mode r s next same spare h stood alone =
-    let client : s.client ≡ r.client = client-in d mode r.phase r h.calls (next, s) h.talk_ends in
+    let client : s.client ≡ r.client = client-next d mode r h.calls (next, s) h.talk_ends in
     let met : AreMet d s.client (reverse before.seen) (reverse after.seen) h.calls = says-met d s.client before after made h.calls same h.are_calls h.kept alone.only_own in
     stands-after-next d mode (reverse before.seen) (reverse after.seen) r h.calls (next, s) (open-in-step d (reverse before.seen) r stood) (spare-made_anew d r.client r.view spare.view)
     (subst (λ (n : ℕ). AreMet d n (reverse before.seen) (reverse after.seen) h.calls) client met) h.talk_ends

@@ -1,6 +1,6 @@
 -- What a past of accepted lines keeps.
-use Rattle.std.proofs.Common.{◌≡◌, ◌≤◌, ℕ, suc, Bool, true, false, ◌&&◌, not, if◌then◌else◌, nat_eq, bytes_eq, List, [], ◌∷◌, length, Option, Some, None, is_some, option_map, Result, Ok, Err, refl, sym, ap, ◌∙◌, subst, arith, inl, inr}
-use Rattle.std.specs.Prelude.{codes}
+use Rattle.std.proofs.Common.{◌≡◌, ◌≤◌, ℕ, suc, Bool, true, false, ◌&&◌, not, if◌then◌else◌, nat_eq, bytes_eq, List, [], ◌∷◌, length, Option, Some, None, is_some, Result, Ok, Err, refl, sym, ap, ◌∙◌, subst, arith, inl, inr}
+use Rattle.std.specs.Prelude.{codes, option_and_then}
 use Rattle.std.proofs.lemmas.Bool.{and_parts, not-false, false_from_ne_true}
 use Rattle.std.proofs.lemmas.Bool.Decides.{nat_tests}
 use Rattle.std.proofs.lemmas.Slice.Eq.{bytes_eq-Decides}
@@ -19,12 +19,14 @@ use Rattle.inp_record.specs.declared.item.Item.{Item}
 use Rattle.inp_record.specs.declared.item.Item.TheVariants.{Header, Device, Hint, Log, Realtime, Boottime, Slots, Kind, Code, Axis, Filter, Actor, Action}
 use Rattle.inp_record.specs.declared.keyword.Keyword as keyword
 use Rattle.inp_record.specs.declared.keyword.Keyword.TheVariants as keywords
-use Rattle.inp_record.specs.Keyword.{keyword_of, keyword_rows}
+use Rattle.inp_record.specs.Keyword.{keyword_of, keyword_rows, has_words}
 use Rattle.inp_record.specs.Place.{is_first_place, is_out_of_place}
-use Rattle.inp_record.specs.Words.{word, version_word, is_header, item_of, plain_item, or_bad_word}
+use Rattle.inp_record.specs.Words.{word, is_header, item_of, plain_item, or_bad_word}
+use Rattle.inp_record.specs.Field.{version_word}
+use Rattle.inp_record.specs.Line.{line_row}
 use Rattle.inp_record.specs.Past.{Past, place_of_next_line, version_of, is_requested, former_devices, actors_in, stream_count, context_of}
 use Rattle.inp_record.specs.Meaning.{checked, placed, item_of_words, behind, behind_words, behind_line, then_lines, behind_lines, record_of_past, as_record, meaning}
-use Rattle.inp_record.proofs.Inversions.{IsPlaced, checked_is, words_are, keyword_for as keyword_read}
+use Rattle.inp_record.proofs.Inversions.{IsPlaced, checked_is, words_are}
 use Rattle.inp_record.proofs.Good.{push_get, item_is}
 use Rattle.inp_record.proofs.Keywords.{is_later_keyword, keyword_is_later}
 use Rattle.inp_record.proofs.Sayable.{is_later_role, keyword_for, IsInPlace, IsAccepted}
@@ -65,7 +67,7 @@ is_header_item (Device requested name) = false
 is_header_item _ = false
 
 header_keyword : (version : ℕ) (ws : List (List ℕ)) → is_header ws ≡ true → keyword_of version (word 0 ws) (word 1 ws) (length ws) ≡ Some keywords.Header
-unfolding keyword_of keyword_rows
+unfolding keyword_of keyword_rows has_words line_row
 header_keyword version ws h =
     let parts = and_parts (nat_eq (length ws) 2 && bytes_eq (word 0 ws) (codes "inputrecord")) (is_some (version_word (word 1 ws))) h in
     let more = and_parts (nat_eq (length ws) 2) (bytes_eq (word 0 ws) (codes "inputrecord")) parts.0 in
@@ -74,10 +76,10 @@ header_keyword version ws h =
     rw (count, first) refl
 
 header_item : (c : Context) (ws : List (List ℕ)) (i : Item) → placed c (Some keywords.Header) ws ≡ Ok i → is_header_item i ≡ true
-unfolding item_of plain_item
+unfolding item_of plain_item line_row
 header_item c ws i e = by_place (is_out_of_place c.place c.requested keywords.Header) (version_word (word 1 ws)) e
   where
-    by_place : (out : Bool) (o : Option ℕ) → (if out then Err OutOfPlace else or_bad_word (option_map (λ version. Header version) o)) ≡ Ok i → is_header_item i ≡ true
+    by_place : (out : Bool) (o : Option ℕ) → (if out then Err OutOfPlace else or_bad_word (option_and_then (λ version. Some (Header version)) o)) ≡ Ok i → is_header_item i ≡ true
     by_place true o e = absurd (cc e)
     by_place false None e = absurd (cc e)
     by_place false (Some version) e = let same : Header version ≡ i = cc e in ap is_header_item (sym same)
@@ -93,30 +95,10 @@ first_header c ws i start e = by_header (is_first_place c.place) (is_header ws) 
 
 -- a line is read only where it may stand
 
-same_keyword : (i : Item) → keyword_read i ≡ keyword_for i
-same_keyword (Header version) = refl
-same_keyword (Device true name) = refl
-same_keyword (Device false name) = refl
-same_keyword (Hint count) = refl
-same_keyword (Log count) = refl
-same_keyword (Realtime offset) = refl
-same_keyword (Boottime offset) = refl
-same_keyword (Slots count) = refl
-same_keyword (Kind kind) = refl
-same_keyword (Code kind code) = refl
-same_keyword (Axis code info) = refl
-same_keyword (Filter filter) = refl
-same_keyword (Actor roles.Source name) = refl
-same_keyword (Actor roles.Client name) = refl
-same_keyword (Actor roles.Tap name) = refl
-same_keyword (Actor roles.Joy name) = refl
-same_keyword (Actor roles.Owner name) = refl
-same_keyword (Action actor command) = refl
-
 keyword_allowed : (c : Context) (ws : List (List ℕ)) (i : Item) → IsPlaced c ws i → is_out_of_place c.place c.requested (keyword_for i) ≡ false
 keyword_allowed c ws i p = elim (item_is c.actors c.streams p.keyword ws i p.item) [
   | inl h ↦ let P : Item → Type 0 = λ x. is_out_of_place c.place c.requested (keyword_for x) ≡ false in subst P (sym h.2) refl
-  | inr h ↦ rw (sym (same_keyword i) ∙ h.0) p.in_place
+  | inr h ↦ rw h.0 p.in_place
 ]
 
 -- a device made by requests, a filter, a joystick and an owner are read under a later version than 1 alone
@@ -143,7 +125,7 @@ item_keyworded i h = absurd (cc h)
 item_later : (c : Context) (ws : List (List ℕ)) (i : Item) → IsPlaced c ws i → is_later_item i ≡ true → nat_eq c.version 1 ≡ false
 item_later c ws i p h = elim (item_is c.actors c.streams p.keyword ws i p.item) [
   | inl a ↦ let none : is_later_item i ≡ false = ap is_later_item a.2 in absurd (cc (none, h))
-  | inr a ↦ keyword_is_later c.version (word 0 ws) (word 1 ws) (length ws) p.keyword p.named (ap is_later_keyword (sym (sym (same_keyword i) ∙ a.0)) ∙ item_keyworded i h)
+  | inr a ↦ keyword_is_later c.version (word 0 ws) (word 1 ws) (length ws) p.keyword p.named (ap is_later_keyword (sym a.0) ∙ item_keyworded i h)
 ]
 
 -- where the first holds the second does not, so both never hold

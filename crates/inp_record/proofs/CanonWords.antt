@@ -12,18 +12,17 @@ use Rattle.inp_codes.specs.KindNames.{kind_name, kind_of}
 use Rattle.inp_codes.specs.CodeNames.{name_of, code_of}
 use Rattle.inp_codes.proofs.LawLemmas.{kind_name-iff_kind_of, is_name_word-kind_name, name_of-iff_code_of, is_name_word-name_of}
 use Rattle.inp_texts.specs.Texts.{kind_text, code_text, bits_text, clock_text}
-use Rattle.inp_canon.specs.Device.{fuzz_words, info_words as info_text}
 use Rattle.inp_actors.specs.Name.{is_name, is_name_byte}
 use Rattle.inp_words.specs.Line.{is_word}
 use Rattle.inp_words.specs.Number.{digit_of, is_digit, value_of, is_hexadecimal, numeral, number, signed_number}
 use Rattle.inp_words.specs.Code.{or_number, kind_word, code_of_kind, code_word}
 use Rattle.inp_words.proofs.Numerals.{numeral_is}
-use Rattle.inp_model.specs.declared.axis_info.AxisInfo.{AxisInfo}
 use Rattle.inp_model.specs.declared.clock.Clock as clock
 use Rattle.inp_model.specs.declared.clock.Clock.TheVariants.{Realtime, Monotonic, Boottime}
-use Rattle.inp_record.specs.Verb.{clock_rows}
-use Rattle.inp_record.specs.Words.{name_word, clock_word, three_numbers, info_in_words}
-use Rattle.inp_record.proofs.Sayable.{is_visible, IsPlainWord, IsSayableInfo}
+use Rattle.inp_words.specs.Table.{named}
+use Rattle.inp_actors.specs.declared.record.TheConstants.{VERSION_MAX}
+use Rattle.inp_record.specs.Field.{clock_rows, other_clock_rows, other_clock, version_word, name_word}
+use Rattle.inp_record.proofs.Sayable.{is_visible, IsPlainWord}
 use Rattle.inp_record.proofs.CanonLines.{is_plain}
 
 -- digits in a base
@@ -224,7 +223,7 @@ code_plain kind code h = by_name (name_of kind code) refl
 
 -- clocks and names
 
-pub clock_read : (k : clock.Clock) → clock_word (clock_text k) ≡ Some k
+pub clock_read : (k : clock.Clock) → named clock_rows (clock_text k) ≡ Some k
 unfolding clock_text clock_rows
 clock_read Realtime = refl
 clock_read Monotonic = refl
@@ -235,6 +234,18 @@ unfolding clock_text
 clock_plain Realtime = refl
 clock_plain Monotonic = refl
 clock_plain Boottime = refl
+
+pub other_clock_read : (boot : Bool) → named other_clock_rows (clock_text (other_clock boot)) ≡ Some boot
+unfolding clock_text other_clock_rows
+other_clock_read true = refl
+other_clock_read false = refl
+
+pub version_read : (version : ℕ) → 1 ≤ version → version ≤ VERSION_MAX → version_word (decimal version) ≡ Some version
+unfolding digits
+version_read zero some few = absurd (omega arith)
+version_read (suc zero) some few = refl
+version_read (suc (suc zero)) some few = refl
+version_read (suc (suc (suc n))) some few = absurd (omega arith)
 
 pub name_read : (w : List ℕ) → is_name w ≡ true → name_word w ≡ Some w
 name_read w h = rw h refl
@@ -255,21 +266,3 @@ is_plain-name w h =
 
 pub is_plain-word : (w : List ℕ) → IsPlainWord w → is_plain w ≡ true
 is_plain-word w h = rw (h.some, h.visible) refl
-
--- the data of an axis, behind two words and behind four
-
-module _ (first second : List ℕ) (i : AxisInfo) (s : IsSayableInfo i) where
-  pub info_read : info_in_words 2 (first ∷ second ∷ info_text i) ≡ Some i
-  unfolding info_in_words three_numbers info_text fuzz_words
-  info_read =
-      rw (signed_read i.value s.value, signed_read i.minimum s.minimum, signed_read i.maximum s.maximum, signed_read i.fuzz s.fuzz, signed_read i.flat s.flat, signed_read i.resolution s.resolution) refl
-
-  pub info_read_behind : (third fourth : List ℕ) → info_in_words 4 (first ∷ second ∷ third ∷ fourth ∷ info_text i) ≡ Some i
-  unfolding info_in_words three_numbers info_text fuzz_words
-  info_read_behind third fourth =
-      rw (signed_read i.value s.value, signed_read i.minimum s.minimum, signed_read i.maximum s.maximum, signed_read i.fuzz s.fuzz, signed_read i.flat s.flat, signed_read i.resolution s.resolution) refl
-
-pub info_plain : (i : AxisInfo) → IsSayableInfo i → list_all is_plain (info_text i) ≡ true
-unfolding info_text fuzz_words
-info_plain i s =
-    rw (signed_plain i.value s.value, signed_plain i.minimum s.minimum, signed_plain i.maximum s.maximum, signed_plain i.fuzz s.fuzz, signed_plain i.flat s.flat, signed_plain i.resolution s.resolution) refl

@@ -33,7 +33,9 @@ use Rattle.inp_record.specs.Place.{is_describing, is_naming, is_out_of_place}
 use Rattle.inp_record.specs.Words.{item_of, action_item, or_bad_word, plain_item, is_action}
 use Rattle.inp_record.specs.Past.{Past, place_of_next_line, latest_name, is_requested, latest_description, former_devices, devices_of, with_latest, actors_in, lines_in, latest_source_count, reader_count, owner_count, stream_count, streams_in, version_of, context_of}
 use Rattle.inp_record.specs.Meaning.{device_count, has_all, is_too_many, checked, item_of_words, behind, behind_words, behind_line, then_lines, behind_lines, record_of_past}
-use Rattle.inp_record.proofs.Inversions.{IsAct, IsChecked, IsPlaced, keyword_for, checked_is, words_are, plain_keyword, act_is}
+use Rattle.inp_record.proofs.Inversions.{IsAct, IsChecked, IsPlaced, checked_is, words_are, act_is}
+use Rattle.inp_record.proofs.Sayable.{keyword_for}
+use Rattle.inp_record.proofs.Lines.{plain_keyword}
 use Rattle.inp_record.proofs.Rooms.{closed_length}
 
 pub push_get : {X : Type 0} (xs : List X) (y : X) (i : ℕ) (a : X) → slice_get (xs ++ y ∷ []) i ≡ Some a → (slice_get xs i ≡ Some a) ⊎ (a ≡ y)

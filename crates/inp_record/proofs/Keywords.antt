@@ -9,7 +9,7 @@ use Rattle.inp_record.specs.declared.keyword.Keyword as keyword
 use Rattle.inp_record.specs.declared.keyword.Keyword.TheVariants as keywords
 use Rattle.inp_record.specs.Keyword.{keyword_rows, filter_rows, filter_keyword, keyword_under, has_words, with_words, keyword_of}
 use Rattle.inp_record.specs.Words.{is_action}
-use Rattle.inp_record.proofs.Inversions.{and_then_is}
+use Rattle.inp_record.proofs.Options.{and_then_is}
 
 -- what a table says of a word passes each test that all its rows pass
 pub named_passes : {T : Type 0} (test : List ℕ × T → Bool) (rows : List (List ℕ × T)) (word : List ℕ) (x : T) → list_all test rows ≡ true → named rows word ≡ Some x → test (word, x) ≡ true

@@ -23,7 +23,9 @@ use Rattle.inp_record.specs.Words.{word, has_word, is_header, is_action, or_bad_
 use Rattle.inp_record.specs.Past.{Past, lines_in, context_of}
 use Rattle.inp_record.specs.Meaning.{placed, checked, item_of_words, behind, behind_words, behind_line, then_lines, behind_lines, record_of_past, as_record, meaning}
 use Rattle.inp_record.specs.LineNumber.{is_action_line, action_numbers}
-use Rattle.inp_record.proofs.Inversions.{keyword_for, plain_keyword, checked_is, act_is}
+use Rattle.inp_record.proofs.Inversions.{checked_is, act_is}
+use Rattle.inp_record.proofs.Sayable.{keyword_for}
+use Rattle.inp_record.proofs.Lines.{plain_keyword}
 use Rattle.inp_record.proofs.Keywords.{action_is_do}
 
 -- behind the first item

@@ -1,5 +1,5 @@
 -- When an item can be said by words, and when a line that says it is accepted behind a past.
-use Rattle.std.proofs.Common.{◌≡◌, ◌<◌, ◌≤◌, ◌^◌, ℕ, ℤ, Bool, true, false, ◌&&◌, ◌||◌, nat_eq, nat_le, List, [], ◌∷◌, slice_get, Some, None, FitsSigned, w32}
+use Rattle.std.proofs.Common.{◌≡◌, ◌<◌, ◌≤◌, ◌^◌, ℕ, Bool, true, false, ◌&&◌, ◌||◌, nat_eq, nat_le, List, [], ◌∷◌, slice_get, Some, None, FitsSigned, w32}
 use Rattle.std.specs.List.{list_all}
 use Rattle.inp_model.specs.declared.axis_info.AxisInfo.{AxisInfo}
 use Rattle.inp_model.specs.declared.limits.TheConstants.{BOUNCE_MAX}
@@ -9,10 +9,9 @@ use Rattle.inp_actors.specs.declared.role.Role as role
 use Rattle.inp_actors.specs.declared.role.Role.TheVariants as roles
 use Rattle.inp_actors.specs.declared.actor_text.ActorText.{ActorText}
 use Rattle.inp_actors.specs.declared.command.Command as command
-use Rattle.inp_actors.specs.declared.command.Command.TheVariants as commands
 use Rattle.inp_actors.specs.declared.record.TheConstants.{VERSION_MAX}
 use Rattle.inp_actors.specs.Name.{is_name}
-use Rattle.inp_actors.specs.Command.{is_joy, is_owner, is_command_of, is_in_range}
+use Rattle.inp_actors.specs.Command.{is_joy, is_owner}
 use Rattle.inp_words.specs.Line.{is_word}
 use Rattle.inp_record.specs.declared.item.Item.{Item}
 use Rattle.inp_record.specs.declared.item.Item.TheVariants.{Header, Device, Hint, Log, Realtime, Boottime, Slots, Kind, Code, Axis, Filter, Actor, Action}
@@ -22,6 +21,7 @@ use Rattle.inp_record.specs.Past.{Past, place_of_next_line, version_of, is_reque
 use Rattle.inp_record.specs.Place.{is_first_place, is_out_of_place}
 use Rattle.inp_record.specs.Words.{actor_from}
 use Rattle.inp_record.specs.Meaning.{is_later_command, is_twice, is_too_many, has_too_many_slots, builder_refusal}
+use Rattle.inp_record.proofs.Rows.{IsOfRow}
 
 -- the first word of the canonical line of an item
 abbrev pub keyword_for_role : role.Role → keyword.Keyword
@@ -84,35 +84,13 @@ pub record IsPlainWord (w : List ℕ) : Type 0 where
   pub some : is_word w ≡ true
   pub visible : list_all is_visible w ≡ true
 
-pub record IsSayableEvent (kind code : ℕ) (value : ℤ) : Type 0 where
-  pub kind_fits : kind ≤ 65535
-  pub code_fits : code ≤ 65535
-  pub value_fits : FitsSigned w32 value
-
--- what a command holds besides what its range says fits a word; a stream has this number
-abbrev pub IsSayableCommand : ℕ → command.Command → Type 0
-IsSayableCommand stream (commands.Event moment kind code value) = IsSayableEvent kind code value
-IsSayableCommand stream (commands.Write moment kind code value) = IsSayableEvent kind code value
-IsSayableCommand stream (commands.Stream file index) = IsPlainWord file × (index ≡ stream)
-IsSayableCommand stream (commands.Stream16 file index) = IsPlainWord file × (index ≡ stream)
-IsSayableCommand stream (commands.Mask kind place bits) = (kind ≤ 65535) × (place ≤ 65535) × (bits < 2 ^ 64)
-IsSayableCommand stream (commands.SetAxis code info) = (code ≤ 65535) × IsSayableInfo info
-IsSayableCommand stream (commands.Axis code) = code ≤ 65535
-IsSayableCommand stream (commands.Slots code) = code ≤ 65535
-IsSayableCommand stream (commands.Read count) = count < 2 ^ 32
-IsSayableCommand stream (commands.Next count) = count < 2 ^ 32
-IsSayableCommand stream (commands.Skip count) = count < 2 ^ 32
-IsSayableCommand stream _ = Unit {0}
-
 -- the actor of this number is there and the first of its name, and its role has the command
 pub record IsSayableAction (actors : List ActorText) (stream actor : ℕ) (does : command.Command) : Type 0 where
   pub text : ActorText
   pub there : slice_get actors actor ≡ Some text
   pub first : actor_from 0 actors text.name ≡ Some (actor, text.role)
   pub name : is_name text.name ≡ true
-  pub of_role : is_command_of text.role does ≡ true
-  pub in_range : is_in_range text.role does ≡ true
-  pub sayable : IsSayableCommand stream does
+  pub of_row : IsOfRow IsPlainWord stream text.role does
 
 -- the item can be said, where these actors are there and so many streams
 abbrev pub IsSayable : List ActorText → ℕ → Item → Type 0

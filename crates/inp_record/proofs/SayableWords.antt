@@ -1,12 +1,9 @@
 -- What words mean can be said again.
-use Rattle.std.proofs.Common.{◌≡◌, ◌≤◌, ◌+◌, ◌-◌, ◌^◌, ℕ, zero, suc, ℤ, pos, neg_ℤ, Bool, true, false, if◌then◌else◌, nat_le, nat_eq, List, [], ◌∷◌, Option, Some, None, option_map, FitsSigned, w32, Contains, refl, sym, ◌∙◌, subst, arith}
-use Rattle.std.specs.Prelude.{option_and_then}
+use Rattle.std.proofs.Common.{◌≡◌, ◌≤◌, ◌-◌, ◌^◌, ℕ, zero, suc, ℤ, pos, neg_ℤ, Bool, true, false, if◌then◌else◌, nat_le, nat_eq, List, [], ◌∷◌, Option, Some, None, option_map, bytes_eq, codes, FitsSigned, w32, Contains, refl, sym, ◌∙◌, subst, arith}
 use Rattle.std.specs.List.{list_all}
 use Rattle.std.proofs.lemmas.Bool.{leb-true}
 use Rattle.std.proofs.lemmas.Bool.Decides.{nat_tests}
 use Rattle.std.proofs.lemmas.List.Recursion.{and_at}
-use Rattle.inp_model.specs.declared.stamped.Stamped.{Stamped}
-use Rattle.inp_model.specs.declared.axis_info.AxisInfo.{AxisInfo}
 use Rattle.inp_codes.specs.Table.{NamedNumber}
 use Rattle.inp_codes.specs.KindNames.{kind_entries, kind_of}
 use Rattle.inp_codes.specs.CodeNames.{code_entries, code_of, is_same_code}
@@ -16,9 +13,9 @@ use Rattle.inp_codes.proofs.TableLemmas.{Contains-number_in}
 use Rattle.inp_words.specs.Number.{number, signed_number}
 use Rattle.inp_words.specs.Code.{kind_word, code_word, or_number, code_of_kind}
 use Rattle.inp_words.proofs.Numerals.{number_within}
-use Rattle.inp_record.proofs.Inversions.{map_is, and_then_is}
-use Rattle.inp_record.specs.Words.{three_numbers, info_in_words, kind_and_code, stamped_words, moment_word, word}
-use Rattle.inp_record.proofs.Sayable.{IsSayableInfo, IsSayableEvent}
+use Rattle.inp_record.proofs.Options.{map_is}
+use Rattle.inp_actors.specs.declared.record.TheConstants.{VERSION_MAX}
+use Rattle.inp_record.specs.Field.{version_word}
 
 -- numbers
 
@@ -91,59 +88,10 @@ code_fits kind w code e = by_name (code_of w) refl e
     by_name (Some named) h e = by_kind (nat_eq named.0 kind) named.1 (named_code w named h) e
     by_name None h e = number_most 65535 w code e
 
--- an axis's data and an event
-
-pub record AreThree (t : ℤ × ℤ × ℤ) : Type 0 where
-  pub first : FitsSigned w32 t.0
-  pub second : FitsSigned w32 t.1
-  pub third : FitsSigned w32 t.2
-
-three_fit : (i : ℕ) (ws : List (List ℕ)) (t : ℤ × ℤ × ℤ) → three_numbers i ws ≡ Some t → AreThree t
-unfolding three_numbers
-three_fit i ws t e =
-    let f = and_then_is (λ a. option_and_then (λ b. option_map (λ c. (a, b, c)) (signed_number (word (suc (suc i)) ws))) (signed_number (word (suc i) ws))) (signed_number (word i ws)) t e in
-    let g = and_then_is (λ b. option_map (λ c. (f.0, b, c)) (signed_number (word (suc (suc i)) ws))) (signed_number (word (suc i) ws)) t f.2 in
-    let h = map_is (λ c. (f.0, g.0, c)) (signed_number (word (suc (suc i)) ws)) t g.2 in
-    subst (λ (x : ℤ × ℤ × ℤ). AreThree x) (sym h.2) (record {
-      first = signed_fits (word i ws) f.0 f.1;
-      second = signed_fits (word (suc i) ws) g.0 g.1;
-      third = signed_fits (word (suc (suc i)) ws) h.0 h.1;
-    })
-
-pub info_fits : (n : ℕ) (ws : List (List ℕ)) (i : AxisInfo) → info_in_words n ws ≡ Some i → IsSayableInfo i
-unfolding info_in_words
-info_fits n ws i e =
-    let f = and_then_is (λ a. option_map (λ b. record { value = a.0; minimum = a.1; maximum = a.2; fuzz = b.0; flat = b.1; resolution = b.2 }) (three_numbers (n + 3) ws)) (three_numbers n ws) i e in
-    let g = map_is (λ (b : ℤ × ℤ × ℤ). record { value = f.0.0; minimum = f.0.1; maximum = f.0.2; fuzz = b.0; flat = b.1; resolution = b.2 }) (three_numbers (n + 3) ws) i f.2 in
-    let a = three_fit n ws f.0 f.1 in
-    let b = three_fit (n + 3) ws g.0 g.1 in
-    subst (λ (x : AxisInfo). IsSayableInfo x) (sym g.2) (record {
-      value = a.first;
-      minimum = a.second;
-      maximum = a.third;
-      fuzz = b.first;
-      flat = b.second;
-      resolution = b.third;
-    })
-
-pub pair_fits : (k c : List ℕ) (named : ℕ × ℕ) → kind_and_code k c ≡ Some named → (named.0 ≤ 65535) × (named.1 ≤ 65535)
-pair_fits k c named e =
-    let f = and_then_is (λ kind. option_map (λ code. (kind, code)) (code_word kind c)) (kind_word k) named e in
-    let g = map_is (λ code. (f.0, code)) (code_word f.0 c) named f.2 in
-    let P : ℕ × ℕ → Type 0 = λ x. (x.0 ≤ 65535) × (x.1 ≤ 65535) in
-    subst P (sym g.2) (kind_fits k f.0 f.1, code_fits f.0 c g.0 g.1)
-
-pub event_fits : (ws : List (List ℕ)) (s : Stamped) → stamped_words ws ≡ Some s → IsSayableEvent s.event.kind s.event.code s.event.value
-unfolding stamped_words
-event_fits ws s e =
-    let h = and_then_is (λ now. option_and_then (λ (named : ℕ × ℕ). option_map (λ value.
-    record { event = record { kind = named.0; code = named.1; value = value }; now = now })
-    (signed_number (word 6 ws))) (kind_and_code (word 4 ws) (word 5 ws))) (moment_word (word 3 ws)) s e in
-    let g = and_then_is (λ (named : ℕ × ℕ). option_map (λ value. record { event = record { kind = named.0; code = named.1; value = value }; now = h.0 }) (signed_number (word 6 ws))) (kind_and_code (word 4 ws) (word 5 ws)) s h.2 in
-    let f = map_is (λ value. record { event = record { kind = g.0.0; code = g.0.1; value = value }; now = h.0 }) (signed_number (word 6 ws)) s g.2 in
-    let fit = pair_fits (word 4 ws) (word 5 ws) g.0 g.1 in
-    subst (λ (x : Stamped). IsSayableEvent x.event.kind x.event.code x.event.value) (sym f.2) (record {
-      kind_fits = fit.0;
-      code_fits = fit.1;
-      value_fits = signed_fits (word 6 ws) f.0 f.1;
-    })
+pub version_fits : (w : List ℕ) (n : ℕ) → version_word w ≡ Some n → (1 ≤ n) × (n ≤ VERSION_MAX)
+version_fits w n e = by_words (bytes_eq w (codes "1")) (bytes_eq w (codes "2")) e
+  where
+    by_words : (one two : Bool) → (if one then Some 1 else if two then Some 2 else None) ≡ Some n → (1 ≤ n) × (n ≤ VERSION_MAX)
+    by_words true two e = let same : 1 ≡ n = cc e in (omega (arith, same), omega (arith, same))
+    by_words false true e = let same : 2 ≡ n = cc e in (omega (arith, same), omega (arith, same))
+    by_words false false e = absurd (cc e)

@@ -1,6 +1,7 @@
 -- The words that say what a line is (docs/FORMATS.md, "The lines").
-use Rattle.std.specs.Prelude.{ℕ, Bool, if◌then◌else◌, nat_eq, nat_le, List, [], ◌∷◌, codes, Option, Some, None, option_and_then, unwrap_or}
+use Rattle.std.specs.Prelude.{ℕ, ◌+◌, length, Bool, if◌then◌else◌, nat_eq, nat_le, List, [], ◌∷◌, codes, Option, Some, None, option_and_then, unwrap_or}
 use Rattle.inp_words.specs.Table.{named}
+use Rattle.inp_record.specs.Line.{line_row}
 use Rattle.inp_record.specs.declared.keyword.Keyword.{Keyword}
 use Rattle.inp_record.specs.declared.keyword.Keyword.TheVariants.{Header, Device, Udevice, Hint, Log, Clock, Slots, Kind, Code, Axis, Filter, Eat, Norepeat, Chord, Bounce, Source, Client, Tap, Joy, Owner, Action}
 
@@ -44,17 +45,11 @@ keyword_under version second Joy = if nat_eq version 1 then None else Some Joy
 keyword_under version second Owner = if nat_eq version 1 then None else Some Owner
 keyword_under version second keyword = Some keyword
 
--- a line of this keyword has so many words
-abbrev pub has_words : Keyword → ℕ → Bool
-has_words Clock count = nat_eq count 3
-has_words Code count = nat_eq count 3
-has_words Axis count = nat_eq count 8
-has_words Eat count = nat_eq count 4
-has_words Chord count = nat_eq count 4
-has_words Bounce count = nat_eq count 4
+-- a line of this keyword has so many words: those of its row
+unfoldable pub has_words : Keyword → ℕ → Bool
 has_words Filter count = nat_le 2 count
 has_words Action count = nat_le 3 count
-has_words _ count = nat_eq count 2
+has_words k count = nat_eq count ((line_row k).first + length (line_row k).fields)
 
 -- the keyword, if it has so many words
 abbrev pub with_words : ℕ → Option Keyword → Option Keyword

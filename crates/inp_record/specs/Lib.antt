@@ -1,6 +1,8 @@
 pub mod Cause
 pub mod Fault
 pub mod Keyword
+pub mod Field
+pub mod Line
 pub mod Verb
 pub mod Place
 pub mod Words

@@ -1,45 +1,85 @@
 //! The commands of action lines.
-ghost use Rattle.std.specs.Prelude.{◌≡◌, ◌+◌, ◌<◌, ◌≤◌, ◌^◌, length, IfOk, true};
+ghost use Rattle.std.specs.Prelude.{◌≡◌, ◌+◌, ◌<◌, ◌≤◌, ◌^◌, length, IfOk, true, false};
+ghost use Rattle.inp_model.specs.declared.stamped.TheConstants.{MOMENT_MAX};
+ghost use Rattle.inp_actors.specs.declared.command.TheConstants.{READ_MAX};
+ghost use Rattle.inp_actors.specs.declared.role.Role.TheVariants.{Source, Client};
 ghost use Rattle.inp_words.specs.Line.{AreText, is_text};
+ghost use Rattle.inp_words.specs.Number.{number};
 ghost use Rattle.inp_record.specs.Fault.{IsReading};
-ghost use Rattle.inp_record.specs.Verb.{argument_count};
+ghost use Rattle.inp_record.specs.declared.verb.Verb.TheVariants.{Event, Write, Mask, Clock, SetAxis};
+ghost use Rattle.inp_record.specs.Field.{field_word, Positive};
+ghost use Rattle.inp_record.specs.Verb.{argument_count, count_max, is_stream};
 ghost use Rattle.inp_codes.specs.ByNumber.{texts};
-ghost use Rattle.inp_record.specs.Words.{moment_word, stamped_words, mask_command, clock_command, set_axis_words, count_max, read_word, feedback_word, plain_command, command_of, actor_from, action_item};
+ghost use Rattle.inp_record.specs.Words.{command_of, actor_from, action_item};
 
 use crate::Cause;
 use crate::item::Item;
-use crate::item_parser::{count_word, info_in_words, kind_and_code, word};
+use crate::item_parser::{count_word, word};
 use crate::line_fault::LineFault;
 use crate::verb::{Verb, clock_word, verb_of};
 use inp_actors::{ActorText, Command, FileName, READ_MAX, Role};
-use inp_model::{EV_ABS, Event, MOMENT_MAX, NoMemory, Stamped};
+use inp_model::{AxisInfo, EV_ABS, MOMENT_MAX, NoMemory};
 use inp_words::{code_word, kind_word, number, signed_number};
 use std::alloc::Global;
 
 /// The moment that a word is.
 fn moment_word(word: &[u8]) -> Option<u64>
-    ensures { result ≡ moment_word word.now }
+    ensures { result ≡ number MOMENT_MAX word.now }
 {
     number(word, MOMENT_MAX)
 }
 
-/// An event and its moment: moment, type, code, value.
-#[tactic(auto, unfolding(crate::specs::Words::stamped_words))]
-fn stamped_words(words: &[&[u8]]) -> Option<Stamped>
-    requires { 7 ≤ length words.now }
-    ensures { result ≡ stamped_words (texts words.now) }
+/// A count of at most 4,096 and at least 1.
+fn some_word(word: &[u8]) -> Option<u32>
+    ensures { result ≡ field_word (Positive READ_MAX) 0 word.now }
 {
-    let now = moment_word(word(words, 3))?;
-    let (kind, code) = kind_and_code(word(words, 4), word(words, 5))?;
+    match number(word, u64::from(READ_MAX)) {
+        Some(0) | None => None,
+        Some(count) => Some(count as u32),
+    }
+}
+
+/// An event that a source injects.
+#[tactic(auto, unfolding(crate::specs::Words::command_of, crate::specs::Verb::command_row))]
+fn event_command(words: &[&[u8]]) -> Option<Command>
+    requires { 7 ≤ length words.now }
+    ensures { result ≡ command_of 0 Source Event (texts words.now) }
+{
+    let moment = moment_word(word(words, 3))?;
+    let kind = kind_word(word(words, 4))?;
+    let code = code_word(kind, word(words, 5))?;
     let value = signed_number(word(words, 6))?;
-    let event = Event { kind, code, value };
-    Some(Stamped { event, now })
+    Some(Command::Event {
+        moment,
+        kind,
+        code,
+        value,
+    })
+}
+
+/// An event that a client writes.
+#[tactic(auto, unfolding(crate::specs::Words::command_of, crate::specs::Verb::command_row))]
+fn write_command(words: &[&[u8]]) -> Option<Command>
+    requires { 7 ≤ length words.now }
+    ensures { result ≡ command_of 0 Client Write (texts words.now) }
+{
+    let moment = moment_word(word(words, 3))?;
+    let kind = kind_word(word(words, 4))?;
+    let code = code_word(kind, word(words, 5))?;
+    let value = signed_number(word(words, 6))?;
+    Some(Command::Write {
+        moment,
+        kind,
+        code,
+        value,
+    })
 }
 
 /// A word of a mask: its type, its place and its bits.
+#[tactic(auto, unfolding(crate::specs::Words::command_of, crate::specs::Verb::command_row))]
 fn mask_command(words: &[&[u8]]) -> Option<Command>
     requires { 6 ≤ length words.now }
-    ensures { result ≡ mask_command (texts words.now) }
+    ensures { result ≡ command_of 0 Client Mask (texts words.now) }
 {
     let kind = kind_word(word(words, 3))?;
     let place = number(word(words, 4), 65535)?;
@@ -52,9 +92,10 @@ fn mask_command(words: &[&[u8]]) -> Option<Command>
 }
 
 /// A clock with the moment of its choice.
+#[tactic(auto, unfolding(crate::specs::Words::command_of, crate::specs::Verb::command_row))]
 fn clock_command(words: &[&[u8]]) -> Option<Command>
     requires { 5 ≤ length words.now }
-    ensures { result ≡ clock_command (texts words.now) }
+    ensures { result ≡ command_of 0 Client Clock (texts words.now) }
 {
     let clock = clock_word(word(words, 3))?;
     let moment = moment_word(word(words, 4))?;
@@ -62,12 +103,26 @@ fn clock_command(words: &[&[u8]]) -> Option<Command>
 }
 
 /// An axis with what describes it anew.
-fn set_axis_words(words: &[&[u8]]) -> Option<Command>
+#[tactic(auto, unfolding(crate::specs::Words::command_of, crate::specs::Verb::command_row))]
+fn set_axis_command(words: &[&[u8]]) -> Option<Command>
     requires { 10 ≤ length words.now }
-    ensures { result ≡ set_axis_words (texts words.now) }
+    ensures { result ≡ command_of 0 Client SetAxis (texts words.now) }
 {
     let code = code_word(EV_ABS, word(words, 3))?;
-    let info = info_in_words(words, 4)?;
+    let value = signed_number(word(words, 4))?;
+    let minimum = signed_number(word(words, 5))?;
+    let maximum = signed_number(word(words, 6))?;
+    let fuzz = signed_number(word(words, 7))?;
+    let flat = signed_number(word(words, 8))?;
+    let resolution = signed_number(word(words, 9))?;
+    let info = AxisInfo {
+        value,
+        minimum,
+        maximum,
+        fuzz,
+        flat,
+        resolution,
+    };
     Some(Command::SetAxis { code, info })
 }
 
@@ -82,44 +137,15 @@ fn count_max(role: Role) -> u64
     }
 }
 
-/// How many events a tap reads, or how many records a joystick hands out.
-fn read_word(role: Role, word: &[u8]) -> Option<Command>
-    ensures { result ≡ read_word role word.now }
-{
-    let count = number(word, count_max(role))?;
-    Some(Command::Read {
-        count: count as u32,
-    })
-}
-
-/// How many events an owner takes at most, which is one or more.
-fn feedback_word(word: &[u8]) -> Option<Command>
-    ensures { result ≡ feedback_word word.now }
-{
-    match number(word, u64::from(READ_MAX)) {
-        Some(0) | None => None,
-        Some(count) => Some(Command::Feedback {
-            count: count as u32,
-        }),
-    }
-}
-
 /// A command with its words, other than a stream, of an actor of this role.
-#[tactic(auto, unfolding(crate::specs::Words::plain_command))]
+#[tactic(auto, unfolding(crate::specs::Words::command_of, crate::specs::Verb::command_row))]
 fn plain_command(role: Role, verb: Verb, words: &[&[u8]]) -> Option<Command>
-    requires { argument_count verb + 3 ≡ length words.now }
-    ensures { result ≡ plain_command role verb (texts words.now) }
+    requires count { argument_count verb + 3 ≡ length words.now }
+    requires plain { is_stream verb ≡ false }
+    ensures { result ≡ command_of 0 role verb (texts words.now) }
 {
     match verb {
-        Verb::Event => {
-            let stamped = stamped_words(words)?;
-            Some(Command::Event {
-                moment: stamped.now,
-                kind: stamped.event.kind,
-                code: stamped.event.code,
-                value: stamped.event.value,
-            })
-        }
+        Verb::Event => event_command(words),
         Verb::Tick => {
             let moment = moment_word(word(words, 3))?;
             Some(Command::Tick { moment })
@@ -129,7 +155,7 @@ fn plain_command(role: Role, verb: Verb, words: &[&[u8]]) -> Option<Command>
             Some(Command::Inhibit { moment })
         }
         Verb::Uninhibit => Some(Command::Uninhibit),
-        Verb::Stream | Verb::Stream16 => None,
+        Verb::Stream | Verb::Stream16 => unreachable!(),
         Verb::Open => Some(Command::Open),
         Verb::Close => Some(Command::Close),
         Verb::Grab => Some(Command::Grab),
@@ -137,17 +163,14 @@ fn plain_command(role: Role, verb: Verb, words: &[&[u8]]) -> Option<Command>
         Verb::Revoke => Some(Command::Revoke),
         Verb::Mask => mask_command(words),
         Verb::Clock => clock_command(words),
-        Verb::Write => {
-            let stamped = stamped_words(words)?;
-            Some(Command::Write {
-                moment: stamped.now,
-                kind: stamped.event.kind,
-                code: stamped.event.code,
-                value: stamped.event.value,
+        Verb::Write => write_command(words),
+        Verb::SetAxis => set_axis_command(words),
+        Verb::Read => {
+            let count = number(word(words, 3), count_max(role))?;
+            Some(Command::Read {
+                count: count as u32,
             })
         }
-        Verb::SetAxis => set_axis_words(words),
-        Verb::Read => read_word(role, word(words, 3)),
         Verb::Discard => Some(Command::Discard),
         Verb::Keys => Some(Command::Keys),
         Verb::Switches => Some(Command::Switches),
@@ -172,7 +195,10 @@ fn plain_command(role: Role, verb: Verb, words: &[&[u8]]) -> Option<Command>
         }
         Verb::Follow => Some(Command::Follow),
         Verb::Force => Some(Command::Force),
-        Verb::Feedback => feedback_word(word(words, 3)),
+        Verb::Feedback => {
+            let count = some_word(word(words, 3))?;
+            Some(Command::Feedback { count })
+        }
     }
 }
 
@@ -186,7 +212,7 @@ fn file_name(alloc: Global, word: &[u8]) -> Result<FileName, NoMemory>
 }
 
 /// A command with its words, of an actor of this role. A stream has this number.
-#[tactic(auto, unfolding(crate::specs::Words::command_of))]
+#[tactic(auto, using(crate::proofs::Streamless::same_stream), unfolding(crate::specs::Words::command_of, crate::specs::Verb::command_row))]
 fn command_of(
     alloc: Global,
     index: u32,

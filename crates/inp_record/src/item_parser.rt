@@ -1,15 +1,19 @@
 //! What the words of lines mean, actions aside.
-ghost use Rattle.std.specs.Prelude.{◌≡◌, ◌+◌, ◌<◌, ◌≤◌, ◌^◌, length, true};
+ghost use Rattle.std.specs.Prelude.{◌≡◌, ◌-◌, ◌<◌, ◌^◌, length, true, option_and_then};
+ghost use Rattle.inp_model.specs.declared.limits.TheConstants.{BOUNCE_MAX};
 ghost use Rattle.inp_words.specs.Number.{number};
-ghost use Rattle.inp_record.specs.Keyword.{has_words};
 ghost use Rattle.inp_codes.specs.ByNumber.{texts};
-ghost use Rattle.inp_record.specs.Words.{word, version_word, is_header, name_word, count_word, kind_and_code, three_numbers, info_in_words, offset_item, device_item, actor_item, micros_word, eat_item, chord_item, bounce_item, plain_item};
+ghost use Rattle.inp_record.specs.declared.keyword.Keyword.TheVariants.{Code, Clock, Axis, Eat, Chord, Bounce};
+ghost use Rattle.inp_record.specs.declared.item.Item.TheVariants.{Device, Actor};
+ghost use Rattle.inp_record.specs.Keyword.{has_words};
+ghost use Rattle.inp_record.specs.Field.{field_word, name_word, version_word, Positive};
+ghost use Rattle.inp_record.specs.Words.{word, is_header, plain_item};
 
 use crate::item::Item;
 use crate::keyword::Keyword;
-use crate::verb::clock_word;
+use crate::verb::other_clock_word;
 use inp_actors::{Name, Role, is_name};
-use inp_model::{AxisInfo, BOUNCE_MAX, Clock, EV_ABS, EV_KEY, Filter};
+use inp_model::{AxisInfo, BOUNCE_MAX, EV_ABS, EV_KEY, Filter};
 use inp_words::{code_word, kind_word, number, signed_number};
 
 /// The word at a place.
@@ -55,7 +59,7 @@ fn name_word(word: &[u8]) -> Option<Name>
 
 /// The number of 32 bits that a word is.
 pub(crate) fn count_word(word: &[u8]) -> Option<u32>
-    ensures { result ≡ count_word word.now }
+    ensures { result ≡ number (2 ^ 32 - 1) word.now }
 {
     match number(word, 4_294_967_295) {
         Some(count) => Some(count as u32),
@@ -63,59 +67,59 @@ pub(crate) fn count_word(word: &[u8]) -> Option<u32>
     }
 }
 
-/// A type and one of its codes.
-pub(crate) fn kind_and_code(kind: &[u8], code: &[u8]) -> Option<(u16, u16)>
-    ensures { result ≡ kind_and_code kind.now code.now }
+/// A code that a device supports.
+#[tactic(auto, unfolding(crate::specs::Words::plain_item, crate::specs::Line::line_row))]
+fn code_item(words: &[&[u8]]) -> Option<Item>
+    requires { 2 < length words.now }
+    ensures { result ≡ plain_item Code (texts words.now) }
 {
-    let kind = kind_word(kind)?;
-    let code = code_word(kind, code)?;
-    Some((kind, code))
+    let kind = kind_word(word(words, 1))?;
+    let code = code_word(kind, word(words, 2))?;
+    Some(Item::Code { kind, code })
 }
 
-/// Three numbers with a sign, from this word on.
-#[tactic(auto, unfolding(crate::specs::Words::three_numbers))]
-fn three_numbers(words: &[&[u8]], place: usize) -> Option<(i32, i32, i32)>
-    requires { place + 2 < length words.now }
-    ensures { result ≡ three_numbers place (texts words.now) }
+/// The offset of a clock.
+#[tactic(auto, unfolding(crate::specs::Words::plain_item, crate::specs::Line::line_row))]
+fn offset_item(words: &[&[u8]]) -> Option<Item>
+    requires { 2 < length words.now }
+    ensures { result ≡ plain_item Clock (texts words.now) }
 {
-    let first = signed_number(word(words, place))?;
-    let second = signed_number(word(words, place + 1))?;
-    let third = signed_number(word(words, place + 2))?;
-    Some((first, second, third))
+    let boot = other_clock_word(word(words, 1))?;
+    let offset = number(word(words, 2), u64::MAX)?;
+    if boot {
+        Some(Item::Boottime { offset })
+    } else {
+        Some(Item::Realtime { offset })
+    }
 }
 
-/// The data of an axis from this word on: value, minimum, maximum, fuzz, flat, resolution.
-#[tactic(auto, unfolding(crate::specs::Words::info_in_words))]
-pub(crate) fn info_in_words(words: &[&[u8]], place: usize) -> Option<AxisInfo>
-    requires { place + 5 < length words.now }
-    ensures { result ≡ info_in_words place (texts words.now) }
+/// An axis that a device supports.
+#[tactic(auto, unfolding(crate::specs::Words::plain_item, crate::specs::Line::line_row))]
+fn axis_item(words: &[&[u8]]) -> Option<Item>
+    requires { 7 < length words.now }
+    ensures { result ≡ plain_item Axis (texts words.now) }
 {
-    let (value, minimum, maximum) = three_numbers(words, place)?;
-    let (fuzz, flat, resolution) = three_numbers(words, place + 3)?;
-    Some(AxisInfo {
+    let code = code_word(EV_ABS, word(words, 1))?;
+    let value = signed_number(word(words, 2))?;
+    let minimum = signed_number(word(words, 3))?;
+    let maximum = signed_number(word(words, 4))?;
+    let fuzz = signed_number(word(words, 5))?;
+    let flat = signed_number(word(words, 6))?;
+    let resolution = signed_number(word(words, 7))?;
+    let info = AxisInfo {
         value,
         minimum,
         maximum,
         fuzz,
         flat,
         resolution,
-    })
-}
-
-/// The offset of a clock other than the monotonic one.
-fn offset_item(clock: Clock, offset: u64) -> Option<Item>
-    ensures { result ≡ offset_item clock offset }
-{
-    match clock {
-        Clock::Realtime => Some(Item::Realtime { offset }),
-        Clock::Monotonic => None,
-        Clock::Boottime => Some(Item::Boottime { offset }),
-    }
+    };
+    Some(Item::Axis { code, info })
 }
 
 /// The microseconds of a filter, of which there is one or more.
 fn micros_word(word: &[u8]) -> Option<u32>
-    ensures { result ≡ micros_word word.now }
+    ensures { result ≡ field_word (Positive BOUNCE_MAX) 0 word.now }
 {
     match number(word, u64::from(BOUNCE_MAX)) {
         Some(0) | None => None,
@@ -124,19 +128,22 @@ fn micros_word(word: &[u8]) -> Option<u32>
 }
 
 /// A filter that eats one code.
+#[tactic(auto, unfolding(crate::specs::Words::plain_item, crate::specs::Line::line_row))]
 fn eat_item(words: &[&[u8]]) -> Option<Item>
     requires { 3 < length words.now }
-    ensures { result ≡ eat_item (texts words.now) }
+    ensures { result ≡ plain_item Eat (texts words.now) }
 {
-    let (kind, code) = kind_and_code(word(words, 2), word(words, 3))?;
+    let kind = kind_word(word(words, 2))?;
+    let code = code_word(kind, word(words, 3))?;
     let filter = Filter::Eat { kind, code };
     Some(Item::Filter { filter })
 }
 
 /// A filter for chords of two keys.
+#[tactic(auto, unfolding(crate::specs::Words::plain_item, crate::specs::Line::line_row))]
 fn chord_item(words: &[&[u8]]) -> Option<Item>
     requires { 3 < length words.now }
-    ensures { result ≡ chord_item (texts words.now) }
+    ensures { result ≡ plain_item Chord (texts words.now) }
 {
     let first = code_word(EV_KEY, word(words, 2))?;
     let second = code_word(EV_KEY, word(words, 3))?;
@@ -145,9 +152,10 @@ fn chord_item(words: &[&[u8]]) -> Option<Item>
 }
 
 /// A filter for a key that bounces.
+#[tactic(auto, unfolding(crate::specs::Words::plain_item, crate::specs::Line::line_row))]
 fn bounce_item(words: &[&[u8]]) -> Option<Item>
     requires { 3 < length words.now }
-    ensures { result ≡ bounce_item (texts words.now) }
+    ensures { result ≡ plain_item Bounce (texts words.now) }
 {
     let code = code_word(EV_KEY, word(words, 2))?;
     let micros = micros_word(word(words, 3))?;
@@ -156,7 +164,7 @@ fn bounce_item(words: &[&[u8]]) -> Option<Item>
 }
 
 /// The meaning of a line that is no action.
-#[tactic(auto, unfolding(crate::specs::Words::plain_item))]
+#[tactic(auto, unfolding(crate::specs::Words::plain_item, crate::specs::Line::line_row, crate::specs::Keyword::has_words))]
 pub(crate) fn plain_item(keyword: Keyword, words: &[&[u8]]) -> Option<Item>
     requires { has_words keyword (length words.now) ≡ true }
     ensures { result ≡ plain_item keyword (texts words.now) }
@@ -176,11 +184,7 @@ pub(crate) fn plain_item(keyword: Keyword, words: &[&[u8]]) -> Option<Item>
             let count = count_word(word(words, 1))?;
             Some(Item::Log { count })
         }
-        Keyword::Clock => {
-            let clock = clock_word(word(words, 1))?;
-            let offset = number(word(words, 2), u64::MAX)?;
-            offset_item(clock, offset)
-        }
+        Keyword::Clock => offset_item(words),
         Keyword::Slots => {
             let count = count_word(word(words, 1))?;
             Some(Item::Slots { count })
@@ -189,15 +193,8 @@ pub(crate) fn plain_item(keyword: Keyword, words: &[&[u8]]) -> Option<Item>
             let kind = kind_word(word(words, 1))?;
             Some(Item::Kind { kind })
         }
-        Keyword::Code => {
-            let (kind, code) = kind_and_code(word(words, 1), word(words, 2))?;
-            Some(Item::Code { kind, code })
-        }
-        Keyword::Axis => {
-            let code = code_word(EV_ABS, word(words, 1))?;
-            let info = info_in_words(words, 2)?;
-            Some(Item::Axis { code, info })
-        }
+        Keyword::Code => code_item(words),
+        Keyword::Axis => axis_item(words),
         Keyword::Filter => None,
         Keyword::Eat => eat_item(words),
         Keyword::Norepeat => Some(Item::Filter {
@@ -216,7 +213,7 @@ pub(crate) fn plain_item(keyword: Keyword, words: &[&[u8]]) -> Option<Item>
 
 /// A device with this name, which is made by requests or is not.
 fn device_item(requested: bool, word: &[u8]) -> Option<Item>
-    ensures { result ≡ device_item requested word.now }
+    ensures { result ≡ option_and_then (λ name. Some (Device requested name)) (name_word word.now) }
 {
     let name = name_word(word)?;
     Some(Item::Device { requested, name })
@@ -224,7 +221,7 @@ fn device_item(requested: bool, word: &[u8]) -> Option<Item>
 
 /// An actor of this role, with this name.
 fn actor_item(role: Role, word: &[u8]) -> Option<Item>
-    ensures { result ≡ actor_item role word.now }
+    ensures { result ≡ option_and_then (λ name. Some (Actor role name)) (name_word word.now) }
 {
     let name = name_word(word)?;
     Some(Item::Actor { role, name })

@@ -95,6 +95,7 @@ fn keyword_under(version: u32, second: &[u8], keyword: Keyword) -> Option<Keywor
 }
 
 /// Whether a line of this keyword has so many words.
+#[tactic(auto, unfolding(crate::specs::Keyword::has_words, crate::specs::Line::line_row))]
 fn has_words(keyword: Keyword, count: usize) -> bool
     ensures { result ≡ has_words keyword count }
 {

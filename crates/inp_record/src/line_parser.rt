@@ -22,7 +22,7 @@ use inp_words::{is_comment, is_text, words};
 use std::alloc::Global;
 
 /// The meaning of a line with this keyword, by its words.
-#[tactic(auto, unfolding(crate::specs::Words::item_of))]
+#[tactic(auto, unfolding(crate::specs::Words::item_of, crate::specs::Keyword::has_words))]
 fn item_of(
     alloc: Global,
     actors: &[ActorText],

@@ -1,7 +1,8 @@
 //! The commands of actors, as words.
 ghost use Rattle.std.specs.Prelude.{◌≡◌, IfSome};
 ghost use Rattle.inp_words.specs.Table.{named, rows_of};
-ghost use Rattle.inp_record.specs.Verb.{verb_rows, verb_of, clock_rows, argument_count, is_verb_of};
+ghost use Rattle.inp_record.specs.Field.{clock_rows, other_clock_rows};
+ghost use Rattle.inp_record.specs.Verb.{verb_rows, verb_of, argument_count, is_verb_of};
 
 use inp_actors::Role;
 use inp_model::Clock;
@@ -42,7 +43,7 @@ pub(crate) enum Verb {
 }
 
 /// Each word with its command.
-#[tactic(auto, unfolding(crate::specs::Verb::verb_rows))]
+#[tactic(auto, unfolding(crate::specs::Verb::verb_rows, crate::specs::Verb::command_row))]
 fn verb_rows() -> &'static [(&'static str, Verb)]
     ensures { rows_of result.now ≡ verb_rows }
 {
@@ -95,6 +96,7 @@ pub(crate) fn verb_of(role: Role, word: &[u8], arguments: usize) -> Option<Verb>
 }
 
 /// Whether actors of this role have the command.
+#[tactic(auto, unfolding(crate::specs::Verb::command_row))]
 fn is_verb_of(role: Role, verb: Verb) -> bool
     ensures { result ≡ is_verb_of role verb }
 {
@@ -121,6 +123,7 @@ fn is_verb_of(role: Role, verb: Verb) -> bool
 }
 
 /// How many words a command is given.
+#[tactic(auto, unfolding(crate::specs::Verb::command_row))]
 fn argument_count(verb: Verb) -> usize
     ensures { result ≡ argument_count verb }
 {
@@ -144,7 +147,7 @@ fn argument_count(verb: Verb) -> usize
 }
 
 /// Each word with its clock.
-#[tactic(auto, unfolding(crate::specs::Verb::clock_rows))]
+#[tactic(auto, unfolding(crate::specs::Field::clock_rows))]
 fn clock_rows() -> &'static [(&'static str, Clock)]
     ensures { rows_of result.now ≡ clock_rows }
 {
@@ -154,6 +157,22 @@ fn clock_rows() -> &'static [(&'static str, Clock)]
         ("boottime", Clock::Boottime),
     ];
     &ROWS
+}
+
+/// Each word with its clock, but for the monotonic one: whether it is that since boot.
+#[tactic(auto, unfolding(crate::specs::Field::other_clock_rows))]
+fn other_clock_rows() -> &'static [(&'static str, bool)]
+    ensures { rows_of result.now ≡ other_clock_rows }
+{
+    static ROWS: [(&str, bool); 2] = [("realtime", false), ("boottime", true)];
+    &ROWS
+}
+
+/// Whether the clock that a word is, other than the monotonic one, is that since boot.
+pub(crate) fn other_clock_word(word: &[u8]) -> Option<bool>
+    ensures { result ≡ named other_clock_rows word.now }
+{
+    named(other_clock_rows(), word)
 }
 
 /// The clock that a word is.

@@ -1,46 +1,41 @@
 -- Where a client's reader stands in the history of its device, and what an event shows that it hands out.
-use Rattle.std.proofs.Common.{◌≡◌, ◌≤◌, ◌<◌, ◌⊎◌, inl, inr, ℕ, suc, Bool, true, false, if◌then◌else◌, List, [], ◌∷◌, ◌++◌, length, map, take, reverse, refl, sym, ap, subst, ◌∙◌, arith, append-nil, Option, Some, None}
+use Rattle.std.proofs.Common.{◌≡◌, ◌≤◌, ◌<◌, ◌⊎◌, inl, inr, ℕ, suc, Bool, true, false, List, [], ◌∷◌, ◌++◌, length, map, take, reverse, refl, sym, ap, subst, ◌∙◌, arith, append-nil, Option, Some, None}
 use Rattle.std.specs.Prelude.{Result, Ok, Err, slice_get}
-use Rattle.std.proofs.lemmas.Bool.{true≢false, cond-true, cond-false}
+use Rattle.std.proofs.lemmas.Bool.{true≢false, cond-true}
 use Rattle.std.proofs.lemmas.List.{length-map, length-reverse, length-take}
 use Rattle.std.proofs.lemmas.Option.{slice_get_within}
-use Rattle.inp_model.specs.declared.event.Event.{Event}
 use Rattle.inp_model.specs.declared.taken.Taken.{Taken}
 use Rattle.inp_model.specs.declared.step.Step.{Step}
-use Rattle.inp_model.specs.declared.step.Step.TheVariants.{Open, Discard}
+use Rattle.inp_model.specs.declared.step.Step.TheVariants.{Open}
 use Rattle.inp_model.specs.declared.reply.Reply.{Reply}
-use Rattle.inp_model.specs.declared.reply.Reply.TheVariants.{Opened, Again as NothingVisible, Refused as StepRefused}
-use Rattle.inp_model.specs.declared.reply.Refusal.{Refusal}
-use Rattle.inp_model.specs.declared.reply.Refusal.TheVariants.{NoDevice as Revoked, LogFull}
+use Rattle.inp_model.specs.declared.reply.Reply.TheVariants.{Opened}
 use Rattle.inp_model.specs.Description.{Description}
 use Rattle.inp_model.specs.Past.{past_at, opens}
 use Rattle.inp_model.specs.Queue.{took}
-use Rattle.inp_model.specs.Reply.{is_accepted, refused, taken_of}
+use Rattle.inp_model.specs.Reply.{Answer, is_accepted, refused, taken_of}
 use Rattle.inp_model.specs.Run.{Call, HasPlace, IsLegalFrom, place_of, next_place}
 use Rattle.inp_model.specs.Step.{client_of}
 use Rattle.inp_recon.specs.declared.view.View.{View}
-use Rattle.inp_recon.specs.View.{view_after_answer}
 use Rattle.inp_recon.specs.ClientView.{view_at}
 use Rattle.inp_model.specs.History.{IsHistory}
 use Rattle.inp_recon.proofs.Each.{Each}
 use Rattle.inp_model.proofs.Opens.{is_open-lt, opens-le}
 use Rattle.inp_reader.specs.declared.mode.Mode.{Mode}
-use Rattle.inp_reader.specs.declared.mode.Mode.TheVariants.{Normal, Sync as Synchronising}
-use Rattle.inp_reader.specs.declared.phase.Phase.{Phase}
-use Rattle.inp_reader.specs.declared.phase.Phase.TheVariants.{Plain, Needed, Handing}
 use Rattle.inp_reader.specs.declared.next.Next.{Next}
-use Rattle.inp_reader.specs.declared.next.Next.TheVariants.{Success, Dropped, Synced}
+use Rattle.inp_reader.specs.declared.next.Next.TheVariants.{Success, Dropped}
 use Rattle.inp_reader.specs.declared.reader.TheConstants.{NO_CLIENT}
 use Rattle.inp_reader.specs.declared.started.Started.{Started}
-use Rattle.inp_reader.specs.Reading.{Reading, ask_each, queries, after_queries, after_open, start_stop_of, start_talk, stop_of, hand_out, after_read, read_or_hand_out, read_talk, hand_synthesised, as_plain, after_failed_sync, go_on, go_on_after, sync_talk, talk_in, next_talk}
+use Rattle.inp_reader.specs.Reading.{Reading, ask_each, queries, after_queries, after_open, start_stop_of, start_talk, stop_of, next_talk}
 use Rattle.inp_reader.specs.Showing.{index_handed_out}
 use Rattle.inp_reader.specs.Spare.{IsSpare, HasSpare}
 use Rattle.inp_reader.specs.Standing.{is_use_of, calls_since}
 use Rattle.inp_reader.specs.Talk.{Talk, finish, LeadsTo, EndsWith}
 use Rattle.inp_reader.proofs.Agreeing.{spare-made_anew}
 use Rattle.inp_reader.proofs.Calls.{AreAnswered}
+use Rattle.inp_reader.proofs.Meets.{Any, Runs}
+use Rattle.inp_reader.proofs.NextWalk.{sync-by_parts, Renewed, NextRules, next-ends, stop-cases}
 use Rattle.inp_reader.proofs.PastsAtCalls.{AreMet, IsMet}
-use Rattle.inp_reader.proofs.StandsByCalls.{client-in}
+use Rattle.inp_reader.proofs.StandsByCalls.{client-next}
 use Rattle.inp_reader.proofs.ShowsDevice.{handed-is-taken, agree-then}
 use Rattle.inp_reader.proofs.TalksKeepSpare.{keeps-next, keeps-start}
 use Rattle.inp_reader.proofs.StandsAfterTalks.{IsHandedOut, HandsOut, IsOpenInStep, Leaves, met-opens, met-unused, in-step-kept, stands-after-next, stands-queried, open-step, open-opens}
@@ -130,78 +125,52 @@ HandsNone (Success taken) = ⊥
 HandsNone (Dropped taken) = ⊥
 HandsNone _ = Unit {0}
 
-none-refused : (at : ℕ) (why : Refusal) → HandsNone (stop_of (StepRefused at why))
-none-refused at Revoked = tt
-none-refused at LogFull = tt
-none-refused at _ = tt
-
 none-stop : (reply : Reply) → HandsNone (stop_of reply)
-none-stop (NothingVisible at ends) = tt
-none-stop (StepRefused at why) = none-refused at why
-none-stop _ = tt
+none-stop reply = stop-cases HandsNone reply (λ at ends is. tt) tt tt (λ at. tt)
 
 record StaysUnopened (o : Next × Reading) : Type 0 where
   unopened : IsUnopened o.1
   none : HandsNone o.0
 
-unopened-result : (x o : Next × Reading) → x ≡ o → StaysUnopened x → StaysUnopened o
-unopened-result x o e s = subst StaysUnopened e s
+abbrev ShutBy : Unit {0} → Step → Answer → Unit {0} → Type 0
+ShutBy s x a t = IsShut (record { step = x; answer = a })
 
-unopened-queued : (r : Reading) (queue : List Taken) (calls : List Call) (o : Next × Reading) → queue ≡ [] → IsUnopened r → EndsWith (read_or_hand_out r queue) calls o → Each IsShut calls → StaysUnopened o
-unfolding LeadsTo
-unopened-queued r [] [] o none u ends shut = absurd cc
-unopened-queued r [] (call ∷ calls) o none u ends shut =
-    let names : client_of call.step ≡ Some NO_CLIENT = ap (λ (x : Step). client_of x) ends.0 ∙ ap (λ (n : ℕ). Some n) u.client in
-    let f = finish-only (after_read r call.answer) o calls ends.1 in
-    let stopped : after_read r call.answer ≡ (stop_of call.answer.reply, r) = cond-false (is_accepted call.answer.reply) (hand_out r call.answer.events) (stop_of call.answer.reply, r) (shut.0 names) in
-    unopened-result (stop_of call.answer.reply, r) o (sym stopped ∙ f.1) (record { unopened = u; none = none-stop call.answer.reply })
-unopened-queued r (taken ∷ queue) calls o none u ends shut = absurd cc
+shut-run : (calls : List Call) → Each IsShut calls → Runs ShutBy tt calls tt
+unfolding Runs
+shut-run [] shut = refl
+shut-run (call ∷ calls) shut = (tt, shut.0, shut-run calls shut.1)
 
-unopened-read : (r : Reading) (calls : List Call) (o : Next × Reading) → IsUnopened r → EndsWith (read_talk r) calls o → Each IsShut calls → StaysUnopened o
-unfolding read_talk
-unopened-read r calls o u ends shut = unopened-queued r r.queue calls o u.queue u ends shut
+abbrev Unopened : Unit {0} → Reading → Type 0
+Unopened s r = IsUnopened r
 
-unopened-handing : (r : Reading) (left : List Event) → IsUnopened r → StaysUnopened (hand_synthesised r left)
-unopened-handing r [] u = record { unopened = record { client = u.client; queue = u.queue }; none = tt }
-unopened-handing r (event ∷ left) u = record { unopened = record { client = u.client; queue = u.queue }; none = tt }
+abbrev Stays : Unit {0} → Next × Reading → Type 0
+Stays s o = StaysUnopened o
 
-unopened-go_on : (mode : Mode) (r : Reading) (calls : List Call) (o : Next × Reading) → IsUnopened r → EndsWith (go_on mode r) calls o → Each IsShut calls → StaysUnopened o
-unopened-go_on Normal r calls o u ends shut = unopened-read (as_plain r) calls o (record { client = u.client; queue = u.queue }) ends shut
-unopened-go_on Synchronising r calls o u ends shut =
-    let f = finish-only (hand_synthesised r r.left) o calls ends in
-    unopened-result (hand_synthesised r r.left) o f.1 (unopened-handing r r.left u)
-
-unopened-sync : (d : Description) (r : Reading) (calls : List Call) (asked : Result View Reply) → IsUnopened r → EndsWith (sync_talk d r) calls asked → Each IsShut calls → (reply : Reply) × (asked ≡ Err reply)
-unfolding sync_talk ask_each LeadsTo
-unopened-sync d r [] asked u ends shut = absurd cc
-unopened-sync d r (call ∷ calls) asked u ends shut =
-    let names : client_of call.step ≡ Some NO_CLIENT = ap (λ (x : Step). client_of x) ends.0 ∙ ap (λ (n : ℕ). Some n) u.client in
-    by (is_accepted call.answer.reply) (ask_each (queries d r.client) (view_after_answer r.view (Discard r.client) call.answer.reply call.answer.cells)) (shut.0 names) ends.1
+unopened-rules : (d : Description) (mode : Mode) → NextRules Any ShutBy Unopened Stays d mode
+unopened-rules d mode = record {
+  asks_read = λ s r u. tt;
+  reads = λ s t r a u plain none shut is. absurd (true≢false (sym is ∙ shut (named r u)));
+  stops = λ s t r a u plain none shut is. record { unopened = u; none = none-stop a.reply };
+  hands = λ s r taken rest u plain q is. absurd (let k : [] ≡ taken ∷ rest = sym u.queue ∙ q in cc);
+  loses = λ s r taken rest u plain q is. absurd (let k : [] ≡ taken ∷ rest = sym u.queue ∙ q in cc);
+  empty = λ s r u plain q. record { unopened = u; none = tt };
+  idles = λ s r u plain is. record { unopened = u; none = tt };
+  syncs = λ s r u needed.
+      sync-by_parts Any ShutBy (Renewed Unopened Stays r) d r s (record {
+        asks_discard = tt;
+        discarded = λ t a shut is. absurd (true≢false (sym is ∙ shut (named r u)));
+        refused = λ t a shut is. record { unopened = record { client = u.client; queue = refl }; none = none-stop a.reply };
+      });
+  makes = λ s r event left u handing sync is. record { unopened = record { client = u.client; queue = u.queue }; none = tt };
+  made_all = λ s r u handing sync is. record { unopened = record { client = u.client; queue = u.queue }; none = tt };
+  goes_on = λ s r u handing is. record { client = u.client; queue = u.queue };
+}
   where
-    by : (b : Bool) (talk : Talk (Result View Reply)) → b ≡ false → EndsWith (if b then talk else finish (Err call.answer.reply)) calls asked → (reply : Reply) × (asked ≡ Err reply)
-    by true talk e k = absurd (true≢false e)
-    by false talk e k = let f = finish-only (Err call.answer.reply) asked calls k in (call.answer.reply, sym f.1)
+    named : (r : Reading) → IsUnopened r → ◌≡◌ {A = Option ℕ} (Some r.client) (Some NO_CLIENT)
+    named r u = ap (λ (n : ℕ). Some n) u.client
 
-each-first : {X : Type 0} (P : X → Type 0) (xs ys : List X) → Each P (xs ++ ys) → Each P xs
-each-first P [] ys h = tt
-each-first P (x ∷ xs) ys h = (h.0, each-first P xs ys h.1)
-
-unopened-failed : (mode : Mode) (r : Reading) (asked : Result View Reply) (reply : Reply) (calls : List Call) (o : Next × Reading) → IsUnopened r → asked ≡ Err reply → EndsWith (go_on_after mode r asked) calls o → StaysUnopened o
-unopened-failed mode r (Ok view) reply calls o u e ends = absurd cc
-unopened-failed mode r (Err why) reply calls o u e ends =
-    let f = finish-only (stop_of why, after_failed_sync r) o calls ends in
-    unopened-result (stop_of why, after_failed_sync r) o f.1 (record { unopened = record { client = u.client; queue = refl }; none = none-stop why })
-
-unopened-in : (d : Description) (mode : Mode) (phase : Phase) (r : Reading) (calls : List Call) (o : Next × Reading) → IsUnopened r → EndsWith (talk_in d mode phase r) calls o → Each IsShut calls → StaysUnopened o
-unopened-in d Normal Plain r calls o u ends shut = unopened-read r calls o u ends shut
-unopened-in d Synchronising Plain r calls o u ends shut =
-    let f = finish-only (Synced, r) o calls ends in
-    unopened-result (Synced, r) o f.1 (record { unopened = u; none = tt })
-unopened-in d mode Needed r calls o u ends shut =
-    let p = and_then-parts (sync_talk d r) (go_on_after mode r) calls o ends in
-    let failed = unopened-sync d r p.first p.mid u p.first_ends (each-first IsShut p.first p.second (subst (Each IsShut) p.whole shut)) in
-    unopened-failed mode r p.mid failed.0 p.second o u failed.1 p.second_ends
-unopened-in d mode Handing r calls o u ends shut = unopened-go_on mode r calls o u ends shut
+unopened-next : (d : Description) (mode : Mode) (r : Reading) (calls : List Call) (o : Next × Reading) → IsUnopened r → EndsWith (next_talk d mode r) calls o → Each IsShut calls → StaysUnopened o
+unopened-next d mode r calls o u ends shut = next-ends Any ShutBy Unopened Stays d mode (unopened-rules d mode) tt tt r calls o u (shut-run calls shut) ends
 
 -- Where a reader stands
 
@@ -242,7 +211,7 @@ module _ (d : Description) (h : List Step) (Q : ℕ → Type 0) where
 
       by : (Q r.client × IsOpenInStep d (past_at h least) r) ⊎ IsUnopened r → NextReads (place_behind least calls) next s
       by (inl at) =
-          let same : s.client ≡ r.client = client-in d mode r.phase r calls (next, s) ends in
+          let same : s.client ≡ r.client = client-next d mode r calls (next, s) ends in
           let met : AreMet d r.client (past_at h least) (past_at h (place_behind least calls)) calls = calls-met d h Q r.client least calls more c at.0 in
           let l : Leaves d (past_at h (place_behind least calls)) (next, s) =
           stands-after-next d mode (past_at h least) (past_at h (place_behind least calls)) r calls (next, s) at.1 (spare-made_anew d r.client r.view reads.spare.view) met ends in
@@ -251,7 +220,7 @@ module _ (d : Description) (h : List Step) (Q : ℕ → Type 0) where
             hands = hands-later (place_behind least calls) next s history spare.view l.hands_out;
           }
       by (inr u) =
-          let o : StaysUnopened (next, s) = unopened-in d mode r.phase r calls (next, s) u ends (shut-calls d h least calls short legal) in
+          let o : StaysUnopened (next, s) = unopened-next d mode r calls (next, s) u ends (shut-calls d h least calls short legal) in
           record { reading = record { spare = spare; stands = inr o.unopened }; hands = hands-none (place_behind least calls) next s o.none }
 
   -- a call that is no use of its client leaves it

@@ -35,7 +35,7 @@ use Rattle.inp_reader.specs.Showing.{index_handed_out}
 use Rattle.inp_reader.specs.Standing.{is_use, is_use_of}
 use Rattle.inp_reader.proofs.StandsAfterTalks.{IsOpenInStep}
 use Rattle.inp_reader.specs.Talk.{Talk, finish, LeadsTo, EndsWith}
-use Rattle.inp_reader.proofs.StandsByCalls.{client-in}
+use Rattle.inp_reader.proofs.StandsByCalls.{client-next}
 use Rattle.inp_reader.proofs.TalksKeepSpare.{new-spare}
 use Rattle.inp_script.specs.declared.sight.Sight.{Sight}
 use Rattle.inp_script.specs.declared.sight.Sight.TheVariants.{Took, Made, Again as AgainSight}
@@ -288,7 +288,7 @@ module _ (d : Description) (h : List Step) (Q : ℕ → Type 0) (history : IsHis
       let now : reads_as p.mid.1 ≡ p.mid.0.1.client = ap reads_as b.1 ∙ noted-reads g.job p.first p.mid.0.1.client s.reads names.0 in
       let seen : AtEach (ClientSaw d h) [] p.mid.1 = subst (AtEach (ClientSaw d h) []) (sym b.1) (noted-seen g.job p.first s.seen) in
       let job : Job = record g.job { reading = p.mid.0.1; sight = p.mid.1 } in
-      let same : p.mid.0.1.client ≡ r.client = client-in d mode r.phase r p.first p.mid.0 b.0 in
+      let same : p.mid.0.1.client ≡ r.client = client-next d mode r p.first p.mid.0 b.0 in
       let left_hand : AreAtHand d h (place_behind least p.first) r.client (read_after_sight r.client (read_after_sight r.client None g.job.sight) (noted_sight p.first)) (with_handed p.mid.0.0 p.mid.0.1.queue) =
       next-hand d h Q least r.client (read_after_sight r.client None g.job.sight) r.queue (with_handed p.mid.0.0 p.mid.0.1.queue) p.first (p.second ++ more) here s.hand (next-sources d mode r p.mid.0.1 p.mid.0.0 p.first b.0) in
       let hand : HasAtHand d h (place_behind least p.first) job (with_handed p.mid.0.0 p.mid.0.1.queue) =

@@ -1,10 +1,8 @@
 -- Which clients the calls of a job name: each names none, or the one that the job opened last.
-use Rattle.std.proofs.Common.{◌≡◌, ◌⊎◌, ℕ, zero, suc, ◌+◌, Bool, true, false, if◌then◌else◌, nat_le, nat_lt, List, [], ◌∷◌, ◌++◌, refl, sym, ap, subst, ◌∙◌, inl, inr, Option, Some, None}
+use Rattle.std.proofs.Common.{◌≡◌, ◌⊎◌, ℕ, zero, suc, ◌+◌, Bool, true, false, if◌then◌else◌, nat_le, List, [], ◌∷◌, ◌++◌, refl, sym, ap, subst, ◌∙◌, inl, inr, Option, Some, None}
 use Rattle.std.specs.Prelude.{Result, Ok, Err, slice_get}
 use Rattle.std.proofs.lemmas.Bool.{true≢false}
 use Rattle.std.proofs.lemmas.Option.{same_Some}
-use Rattle.inp_model.specs.declared.event.Event.{Event}
-use Rattle.inp_model.specs.declared.event.TheConstants.{EV_KEY, EV_LED, EV_SW}
 use Rattle.inp_model.specs.declared.stamped.Stamped.{Stamped}
 use Rattle.inp_model.specs.declared.taken.Taken.{Taken}
 use Rattle.inp_model.specs.declared.step.Step.{Step}
@@ -13,7 +11,7 @@ use Rattle.inp_model.specs.declared.reply.Reply.{Reply}
 use Rattle.inp_model.specs.declared.reply.Reply.TheVariants.{Opened, Again as NothingVisible, Refused as StepRefused}
 use Rattle.inp_model.specs.declared.reply.Refusal.{Refusal}
 use Rattle.inp_model.specs.declared.reply.Refusal.TheVariants.{NoDevice as Revoked, LogFull}
-use Rattle.inp_model.specs.Description.{Description, has_kind}
+use Rattle.inp_model.specs.Description.{Description}
 use Rattle.inp_model.specs.Event.{is_report}
 use Rattle.inp_model.specs.Reply.{Answer, is_accepted}
 use Rattle.inp_model.specs.Run.{Call}
@@ -24,25 +22,24 @@ use Rattle.inp_actors.specs.declared.line.Line.{Line}
 use Rattle.inp_actors.specs.declared.role.Role.{Role}
 use Rattle.inp_actors.specs.declared.role.Role.TheVariants.{Source, Client, Tap, Joy, Owner}
 use Rattle.inp_recon.specs.declared.view.View.{View}
-use Rattle.inp_recon.specs.View.{view_after_answer, view_after_event}
-use Rattle.inp_recon.proofs.Each.{Each, Each-append}
+use Rattle.inp_recon.proofs.Each.{Each}
 use Rattle.inp_reader.specs.declared.mode.Mode.{Mode}
 use Rattle.inp_reader.specs.declared.mode.Mode.TheVariants.{Normal, Sync as Synchronising}
-use Rattle.inp_reader.specs.declared.phase.Phase.{Phase}
-use Rattle.inp_reader.specs.declared.phase.Phase.TheVariants.{Plain, Needed, Handing}
 use Rattle.inp_reader.specs.declared.next.Next.{Next}
 use Rattle.inp_reader.specs.declared.next.Next.TheVariants.{Success, Dropped, Sync, Again, Synced, NoDevice, Closed, Full}
 use Rattle.inp_reader.specs.declared.started.Started.{Started}
 use Rattle.inp_reader.specs.declared.started.Started.TheVariants.{Opened as StartedOn, Refused}
 use Rattle.inp_reader.specs.declared.reader.TheConstants.{NO_CLIENT}
 use Rattle.inp_recon.specs.Synchronised.{is_dropped}
-use Rattle.inp_reader.specs.Reading.{Reading, ask_each, queries, bit_queries, axis_queries, plain_axes, slot_queries, only_if, after_queries, after_open, start_talk, stop_of, hand_out_event, hand_out, after_read, read_or_hand_out, read_talk, hand_synthesised, as_plain, after_full_sync, go_on, go_on_after, sync_talk, talk_in, next_talk}
+use Rattle.inp_reader.specs.Reading.{Reading, queries, start_talk, stop_of, next_talk}
 use Rattle.inp_joy.specs.declared.joy_read.JoyRead.{JoyRead}
 use Rattle.inp_joy.specs.declared.joy_read.JoyRead.TheVariants.{Record as HandedOut, Frame, Again as NothingToRead, NoDevice as Revoked, Closed as NotOpen, Full as FullHistory, More}
 use Rattle.inp_joy.specs.declared.joy_record.JoyRecord.{JoyRecord}
 use Rattle.inp_joy.specs.Joying as joy
 use Rattle.inp_joy.specs.Joying.{Joying, JoyAnswer, JoyTurn, gives, goes_on as reads_on, startup, with_reading, without_startup, joy_started, joy_start, stop_with, is_lost, event_handed_out, joy_record_of, record_or_on, stop_or_event, stop_or_startup, joying_after_sync, sync_turn, after_normal, event_turn, record_or_turn, turn_talk, with_count, is_long, after_turn, turns}
 use Rattle.inp_reader.specs.Standing.{is_needed}
+use Rattle.inp_reader.proofs.Meets.{Meets}
+use Rattle.inp_reader.proofs.NextWalk.{OfQueries, each-query, each-sync, AskRules, asked-meets, sync-meets, Queried, start-meets, Renewed, NextRules, next-meets}
 use Rattle.inp_reader.specs.Talk.{Talk, finish, ask, and_then, LeadsTo, EndsWith}
 use Rattle.inp_script.specs.declared.sight.Sight.{Sight}
 use Rattle.inp_script.specs.declared.sight.Sight.TheVariants.{Took, Made, Again as AgainSight}
@@ -121,69 +118,51 @@ stays-last : (x : Step) (reply : Reply) (last : ℕ) → is_open_step x ≡ fals
 stays-last ToOpen reply last h = absurd (true≢false h)
 stays-last _ reply last h = refl
 
--- Queries
-
-named-only_if : (client : ℕ) (wanted : Bool) (x : Step) → IsNamed client x → Each (IsNamed client) (only_if wanted x)
-named-only_if client true x h = (h, tt)
-named-only_if client false x h = tt
-
-named-axes : (client : ℕ) (codes : List ℕ) → Each (IsNamed client) (axis_queries client codes)
-named-axes client [] = tt
-named-axes client (code ∷ codes) = ((names-it client (GetAxis client code) refl, refl), named-axes client codes)
-
-named-queries : (d : Description) (client : ℕ) → Each (IsNamed client) (queries d client)
-unfolding queries
-named-queries d client =
-    let P : Step → Type 0 = IsNamed client in
-    let keys : List Step = only_if (has_kind d EV_KEY) (GetKeys client) in
-    let leds : List Step = only_if (has_kind d EV_LED) (GetLeds client) in
-    let switches : List Step = only_if (has_kind d EV_SW) (GetSwitches client) in
-    let bits : Each P ((keys ++ leds) ++ switches) =
-    Each-append P (keys ++ leds) switches
-    (Each-append P keys leds (named-only_if client (has_kind d EV_KEY) (GetKeys client) (names-it client (GetKeys client) refl, refl)) (named-only_if client (has_kind d EV_LED) (GetLeds client) (names-it client (GetLeds client) refl, refl)))
-    (named-only_if client (has_kind d EV_SW) (GetSwitches client) (names-it client (GetSwitches client) refl, refl)) in
-    let axes : List Step = axis_queries client (plain_axes d) in
-    Each-append P (bit_queries d client ++ axes) (slot_queries d client)
-    (Each-append P (bit_queries d client) axes bits (named-axes client (plain_axes d)))
-    (named-only_if client (nat_lt 0 d.slots) (ToSyncSlots client) (names-it client (ToSyncSlots client) refl, refl))
-
--- the client stays
-abbrev StaysLast : {A : Type 0} → ℕ → ℕ → A → Type 0
-StaysLast last now a = now ≡ last
-
-names-asked : (xs : List Step) (view : View) (last : ℕ) → Each (IsNamed last) xs → Names last (ask_each xs view) (StaysLast last)
-unfolding ask_each
-names-asked [] view last h = refl
-names-asked (x ∷ xs) view last h = (
-  h.0.0,
-  λ answer.
-      let next : Talk (Result View Reply) = ask_each xs (view_after_answer view x answer.reply answer.cells) in
-      subst (λ (now : ℕ). Names now (if is_accepted answer.reply then next else finish (Err answer.reply)) (StaysLast last)) (sym (stays-last x answer.reply last h.0.1))
-      (by (is_accepted answer.reply) answer.reply next (names-asked xs (view_after_answer view x answer.reply answer.cells) last h.1)),
-)
-  where
-    by : (b : Bool) (reply : Reply) (next : Talk (Result View Reply)) → Names last next (StaysLast last) → Names last (if b then next else finish (Err reply)) (StaysLast last)
-    by true reply next more = more
-    by false reply next more = refl
-
 -- Readers
+
+abbrev Opening : ℕ → Step → Answer → ℕ → Type 0
+Opening last x answer now = now ≡ tap_client_after x answer.reply last
+
+names-of : {A : Type 0} (last : ℕ) (talk : Talk A) (P : ℕ → A → Type 0) → Meets NamesOr Opening P last talk → Names last talk P
+names-of last (finish a) P h = h
+names-of last (ask x rest) P h = (h.0, λ answer. names-of (tap_client_after x answer.reply last) (rest answer) P (h.1 (tap_client_after x answer.reply last) answer refl))
+
+of_queries : (d : Description) (client : ℕ) → OfQueries d client (IsNamed client)
+of_queries d client = record {
+  keys = λ h. (names-it client (GetKeys client) refl, refl);
+  leds = λ h. (names-it client (GetLeds client) refl, refl);
+  switches = λ h. (names-it client (GetSwitches client) refl, refl);
+  axes = λ code h. (names-it client (GetAxis client code) refl, refl);
+  slots = λ h. (names-it client (ToSyncSlots client) refl, refl);
+}
+
+abbrev NamesSoFar : ℕ → ℕ → View → List Step → Type 0
+NamesSoFar client last view left = (last ≡ client) × Each (IsNamed client) left
+
+names-asks : (client : ℕ) (Q : ℕ → Result View Reply → Type 0) → ((now : ℕ) (view : View) → now ≡ client → Q now (Ok view)) → ((now : ℕ) (reply : Reply) → now ≡ client → Q now (Err reply)) → AskRules NamesOr Opening (NamesSoFar client) Q
+names-asks client Q whole stopped = record {
+  asks = λ s view x xs j. subst (λ (n : ℕ). NamesOr n x) (sym j.0) j.1.0.0;
+  told = λ s t view x xs a j by is. (by ∙ stays-last x a.reply s j.1.0.1 ∙ j.0, j.1.1);
+  stopped = λ s t view x xs a j by is. stopped t a.reply (by ∙ stays-last x a.reply s j.1.0.1 ∙ j.0);
+  whole = λ s view j. whole s view j.0;
+}
 
 abbrev OfStart : ℕ → Started × Reading → Type 0
 OfStart now o = now ≡ o.1.client
 
 names-start : (d : Description) (r : Reading) (last : ℕ) → last ≡ r.client → Names last (start_talk d r) OfStart
-unfolding start_talk
-names-start d r last h = (names-none last ToOpen refl, λ answer. by answer.reply)
+names-start d r last h =
+    names-of last (start_talk d r) OfStart (start-meets NamesOr Opening OfStart d r last (record {
+      asks_open = names-none last ToOpen refl;
+      opened = λ t a at client ring by is.
+          asked-meets NamesOr Opening (NamesSoFar client) (Queried OfStart client ring r) (names-asks client (Queried OfStart client ring r) (λ now view e. e) (λ now reply e. e)) t (queries d client) r.view
+          (by ∙ ap (λ (reply : Reply). tap_client_after ToOpen reply last) is, each-query d client (IsNamed client) (of_queries d client));
+      refused = λ t a by other. by ∙ unopened a.reply other ∙ h;
+    }))
   where
-    asked : (client ring now : ℕ) (o : Result View Reply) → now ≡ client → now ≡ (after_queries client ring r o).1.client
-    asked client ring now (Ok view) e = e
-    asked client ring now (Err reply) e = e
-
-    by : (reply : Reply) → Names (tap_client_after ToOpen reply last) (after_open d r reply) OfStart
-    by (Opened at client ring) =
-        names-then client (ask_each (queries d client) r.view) (λ o. finish (after_queries client ring r o)) (StaysLast client) OfStart (names-asked (queries d client) r.view client (named-queries d client))
-        (λ now o e. asked client ring now o e)
-    by _ = h
+    unopened : (reply : Reply) → ((at client ring : ℕ) → reply ≡ Opened at client ring → ⊥) → tap_client_after ToOpen reply last ≡ last
+    unopened (Opened at client ring) other = absurd (other at client ring refl)
+    unopened _ other = refl
 
 -- an answer that tells of a loss has it in its event
 abbrev pub Drops : Next → Type 0
@@ -192,17 +171,6 @@ Drops _ = Unit {0}
 
 abbrev OfAnswer : ℕ → Next × Reading → Type 0
 OfAnswer now o = (now ≡ o.1.client) × Drops o.0
-
-of-event : (r : Reading) (taken : Taken) (rest : List Taken) (last : ℕ) → last ≡ r.client → OfAnswer last (hand_out_event r taken rest)
-of-event r taken rest last h = by (is_dropped taken.event) refl
-  where
-    by : (b : Bool) → is_dropped taken.event ≡ b → OfAnswer last (let view = view_after_event r.view taken.event in if b then (Dropped taken, record r { queue = rest; view = view; phase = Needed }) else (Success taken, record r { queue = rest; view = view }))
-    by true e = (h, e)
-    by false e = (h, tt)
-
-of-hand_out : (r : Reading) (queue : List Taken) (last : ℕ) → last ≡ r.client → OfAnswer last (hand_out r queue)
-of-hand_out r [] last h = (h, tt)
-of-hand_out r (taken ∷ rest) last h = of-event r taken rest last h
 
 drops-refused : (at : ℕ) (why : Refusal) → Drops (stop_of (StepRefused at why))
 drops-refused at Revoked = tt
@@ -214,49 +182,29 @@ drops-stop (NothingVisible at ends) = tt
 drops-stop (StepRefused at why) = drops-refused at why
 drops-stop _ = tt
 
-of-read : (r : Reading) (answer : Answer) (last : ℕ) → last ≡ r.client → OfAnswer last (after_read r answer)
-of-read r answer last h = by (is_accepted answer.reply)
-  where
-    by : (b : Bool) → OfAnswer last (if b then hand_out r answer.events else (stop_of answer.reply, r))
-    by true = of-hand_out r answer.events last h
-    by false = (h, drops-stop answer.reply)
+abbrev IsLast : ℕ → Reading → Type 0
+IsLast last r = last ≡ r.client
 
-names-queued : (r : Reading) (queue : List Taken) (last : ℕ) → last ≡ r.client → Names last (read_or_hand_out r queue) OfAnswer
-names-queued r [] last h = (names-it last (ToRead r.client 64) (ap (λ (n : ℕ). Some n) (sym h)), λ answer. of-read r answer last h)
-names-queued r (taken ∷ rest) last h = of-event r taken rest last h
-
-names-read : (r : Reading) (last : ℕ) → last ≡ r.client → Names last (read_talk r) OfAnswer
-unfolding read_talk
-names-read r last h = names-queued r r.queue last h
-
-of-handing : (r : Reading) (left : List Event) (last : ℕ) → last ≡ r.client → OfAnswer last (hand_synthesised r left)
-of-handing r [] last h = (h, tt)
-of-handing r (event ∷ left) last h = (h, tt)
-
-names-go_on : (mode : Mode) (r : Reading) (last : ℕ) → last ≡ r.client → Names last (go_on mode r) OfAnswer
-names-go_on Normal r last h = names-read (as_plain r) last h
-names-go_on Synchronising r last h = of-handing r r.left last h
-
-names-go_on_after : (mode : Mode) (r : Reading) (asked : Result View Reply) (last : ℕ) → last ≡ r.client → Names last (go_on_after mode r asked) OfAnswer
-names-go_on_after mode r (Ok view) last h = names-go_on mode (after_full_sync r view) last h
-names-go_on_after mode r (Err reply) last h = (h, drops-stop reply)
-
-names-sync : (d : Description) (r : Reading) (last : ℕ) → last ≡ r.client → Names last (sync_talk d r) (StaysLast last)
-unfolding sync_talk
-names-sync d r last h =
-    let xs : List Step = ToDiscard r.client ∷ queries d r.client in
-    let named : Each (IsNamed r.client) xs = ((names-it r.client (ToDiscard r.client) refl, refl), named-queries d r.client) in
-    names-asked xs r.view last (subst (λ (n : ℕ). Each (IsNamed n) xs) (sym h) named)
-
-names-in : (d : Description) (mode : Mode) (phase : Phase) (r : Reading) (last : ℕ) → last ≡ r.client → Names last (talk_in d mode phase r) OfAnswer
-names-in d Normal Plain r last h = names-read r last h
-names-in d Synchronising Plain r last h = (h, tt)
-names-in d mode Needed r last h =
-    names-then last (sync_talk d r) (go_on_after mode r) (StaysLast last) OfAnswer (names-sync d r last h) (λ now asked e. names-go_on_after mode r asked now (e ∙ h))
-names-in d mode Handing r last h = names-go_on mode r last h
+names-rules : (d : Description) (mode : Mode) → NextRules NamesOr Opening IsLast OfAnswer d mode
+names-rules d mode = record {
+  asks_read = λ s r h. names-it s (ToRead r.client 64) (ap (λ (n : ℕ). Some n) (sym h));
+  reads = λ s t r a h plain none by is. by ∙ h;
+  stops = λ s t r a h plain none by is. (by ∙ h, drops-stop a.reply);
+  hands = λ s r taken rest h plain q is. (h, tt);
+  loses = λ s r taken rest h plain q is. (h, is);
+  empty = λ s r h plain q. (h, tt);
+  idles = λ s r h plain is. (h, tt);
+  syncs = λ s r h needed.
+      let Q : ℕ → Result View Reply → Type 0 = Renewed IsLast OfAnswer r in
+      sync-meets NamesOr Opening (NamesSoFar r.client) Q d s r (names-asks r.client Q (λ now view e. e) (λ now reply e. (e, drops-stop reply)))
+      (h, each-sync d r.client (IsNamed r.client) (names-it r.client (ToDiscard r.client) refl, refl) (of_queries d r.client));
+  makes = λ s r event left h handing sync is. (h, tt);
+  made_all = λ s r h handing sync is. (h, tt);
+  goes_on = λ s r h handing is. h;
+}
 
 names-next : (d : Description) (mode : Mode) (r : Reading) (last : ℕ) → last ≡ r.client → Names last (next_talk d mode r) OfAnswer
-names-next d mode r last h = names-in d mode r.phase r last h
+names-next d mode r last h = names-of last (next_talk d mode r) OfAnswer (next-meets NamesOr Opening IsLast OfAnswer d mode (names-rules d mode) last r h)
 
 -- the client that a reader's calls opened last
 pub start-names : (d : Description) (r s : Reading) (started : Started) (calls : List Call) → EndsWith (start_talk d r) calls (started, s) → last_opened r.client calls ≡ s.client

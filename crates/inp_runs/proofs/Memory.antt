@@ -1,16 +1,14 @@
 -- A line whose Open was refused for want of memory leaves no job.
 use Rattle.std.proofs.Common.{◌≡◌, ℕ, zero, suc, ◌+◌, Bool, true, false, if◌then◌else◌, List, [], ◌∷◌, ◌++◌, length, Option, Some, None, refl, sym, ap, subst, ◌∙◌, inl, inr}
-use Rattle.std.specs.Prelude.{Result, Ok, Err, slice_get}
+use Rattle.std.specs.Prelude.{Result, slice_get}
 use Rattle.std.specs.List.{list_any}
-use Rattle.inp_model.specs.declared.event.TheConstants.{EV_KEY, EV_LED, EV_SW}
 use Rattle.inp_model.specs.declared.stamped.Stamped.{Stamped}
-use Rattle.inp_model.specs.declared.taken.Taken.{Taken}
 use Rattle.inp_model.specs.declared.step.Step.{Step}
-use Rattle.inp_model.specs.declared.step.Step.TheVariants.{Open as ToOpen, Discard, GetKeys, GetSwitches, GetLeds, SyncSlots, Inject, End}
+use Rattle.inp_model.specs.declared.step.Step.TheVariants.{Open as ToOpen, Inject, End}
 use Rattle.inp_model.specs.declared.reply.Reply.{Reply}
 use Rattle.inp_model.specs.declared.reply.Reply.TheVariants.{Opened, Refused}
 use Rattle.inp_model.specs.declared.reply.Refusal.TheVariants.{NoMemory}
-use Rattle.inp_model.specs.Description.{Description, has_kind}
+use Rattle.inp_model.specs.Description.{Description}
 use Rattle.inp_model.specs.Step.{is_open_step}
 use Rattle.inp_model.specs.Past.{past_at}
 use Rattle.inp_model.specs.Reply.{Answer, answer, accepted, alone, is_accepted}
@@ -22,15 +20,12 @@ use Rattle.inp_actors.specs.declared.role.Role.{Role}
 use Rattle.inp_actors.specs.declared.role.Role.TheVariants.{Source, Client, Tap, Joy, Owner}
 use Rattle.inp_actors.specs.Command.{is_command_of}
 use Rattle.inp_recon.specs.declared.view.View.{View}
-use Rattle.inp_recon.specs.View.{view_after_answer}
 use Rattle.inp_reader.specs.declared.mode.Mode.{Mode}
 use Rattle.inp_reader.specs.declared.mode.Mode.TheVariants.{Normal, Sync as Synchronising}
 use Rattle.inp_reader.specs.declared.next.Next.{Next as Answered}
-use Rattle.inp_reader.specs.declared.phase.Phase.{Phase}
-use Rattle.inp_reader.specs.declared.phase.Phase.TheVariants.{Plain, Needed, Handing}
 use Rattle.inp_reader.specs.declared.reader.TheConstants.{NO_CLIENT}
 use Rattle.inp_reader.specs.declared.started.Started.{Started}
-use Rattle.inp_reader.specs.Reading.{Reading, ask_each, only_if, bit_queries, axis_queries, slot_queries, plain_axes, queries, start_talk, after_open, after_queries, read_or_hand_out, read_talk, plain_talk, as_plain, go_on, go_on_after, after_full_sync, sync_talk, talk_in, next_talk}
+use Rattle.inp_reader.specs.Reading.{Reading, ask_each, queries, start_talk, after_open, after_queries, next_talk}
 use Rattle.inp_joy.specs.declared.joy_read.JoyRead.{JoyRead}
 use Rattle.inp_joy.specs.declared.joy_read.JoyRead.TheVariants.{Frame, More}
 use Rattle.inp_joy.specs.declared.joy_record.JoyRecord.{JoyRecord}
@@ -38,6 +33,8 @@ use Rattle.inp_joy.specs.Joying as joy
 use Rattle.inp_joy.specs.Joying.{Joying, JoyAnswer, JoyTurn, gives, goes_on as reads_on, startup, with_reading, joy_started, joy_start, stop_with, is_lost, joying_after_sync, sync_turn, after_normal, event_turn, record_or_turn, turn_talk, with_count, is_long, after_turn, turns}
 use Rattle.inp_reader.specs.Standing.{is_needed}
 use Rattle.inp_reader.specs.Talk.{Talk, finish, ask, and_then, LeadsTo, EndsWith}
+use Rattle.inp_reader.proofs.Meets.{Asks, asks-then}
+use Rattle.inp_reader.proofs.NextWalk.{OfQueries, each-query, asks-each, next-asks}
 use Rattle.inp_script.specs.declared.sight.Sight.{Sight}
 use Rattle.inp_script.specs.declared.stop.Stop.{Stop}
 use Rattle.inp_script.specs.declared.waiting.Waiting.{Waiting}
@@ -60,9 +57,11 @@ GivesUp (ask x rest) = (x ≡ ToOpen → (n : ℕ) → rest (alone (Refused n No
 
 -- Talks that ask for no Open
 
+abbrev opens_none : Step → Type 0
+opens_none x = is_open_step x ≡ false
+
 abbrev NoOpen : {A : Type 0} → Talk A → Type 0
-NoOpen (finish a) = Unit {0}
-NoOpen (ask x rest) = (is_open_step x ≡ false) × ((answer : Answer) → NoOpen (rest answer))
+NoOpen talk = Asks opens_none talk
 
 other_step : (x : Step) → is_open_step x ≡ false → x ≡ ToOpen → ⊥
 other_step x h e = let opens : is_open_step x ≡ true = ap is_open_step e in cc
@@ -71,82 +70,15 @@ no_open-gives_up : (talk : Talk (Option Job)) → NoOpen talk → GivesUp talk
 no_open-gives_up (finish job) h = tt
 no_open-gives_up (ask x rest) h = ((λ e n. absurd (other_step x h.0 e)), λ answer. no_open-gives_up (rest answer) (h.1 answer))
 
-no_open-then : {A B : Type 0} (talk : Talk A) (next : A → Talk B) → NoOpen talk → ((a : A) → NoOpen (next a)) → NoOpen (and_then talk next)
-no_open-then (finish a) next h more = more a
-no_open-then (ask x rest) next h more = (h.0, λ answer. no_open-then (rest answer) next (h.1 answer) more)
-
 no_open-noted : {A : Type 0} (talk : Talk A) (sight : List Sight) → NoOpen talk → NoOpen (noted talk sight)
 no_open-noted (finish a) sight h = tt
 no_open-noted (ask x rest) sight h = (h.0, λ answer. no_open-noted (rest answer) (sight ++ call_sight x answer.reply) (h.1 answer))
 
--- Queries
+no_open-queries : (d : Description) (client : ℕ) → OfQueries d client opens_none
+no_open-queries d client = record { keys = λ h. refl; leds = λ h. refl; switches = λ h. refl; axes = λ code h. refl; slots = λ h. refl }
 
-abbrev AllNoOpen : List Step → Type 0
-AllNoOpen [] = Unit {0}
-AllNoOpen (x ∷ xs) = (is_open_step x ≡ false) × AllNoOpen xs
-
-no_open-append : (xs ys : List Step) → AllNoOpen xs → AllNoOpen ys → AllNoOpen (xs ++ ys)
-no_open-append [] ys h k = k
-no_open-append (x ∷ xs) ys h k = (h.0, no_open-append xs ys h.1 k)
-
-no_open-if : (wanted : Bool) (x : Step) → is_open_step x ≡ false → AllNoOpen (only_if wanted x)
-no_open-if true x h = (h, tt)
-no_open-if false x h = tt
-
-no_open-axes : (client : ℕ) (codes : List ℕ) → AllNoOpen (axis_queries client codes)
-no_open-axes client [] = tt
-no_open-axes client (code ∷ codes) = (refl, no_open-axes client codes)
-
-no_open-queries : (d : Description) (client : ℕ) → AllNoOpen (queries d client)
-unfolding queries
-no_open-queries d client =
-    no_open-append (bit_queries d client ++ axis_queries client (plain_axes d)) (slot_queries d client)
-    (no_open-append (bit_queries d client) (axis_queries client (plain_axes d))
-    (no_open-append (only_if (has_kind d EV_KEY) (GetKeys client) ++ only_if (has_kind d EV_LED) (GetLeds client)) (only_if (has_kind d EV_SW) (GetSwitches client))
-    (no_open-append (only_if (has_kind d EV_KEY) (GetKeys client)) (only_if (has_kind d EV_LED) (GetLeds client)) (no_open-if (has_kind d EV_KEY) (GetKeys client) refl) (no_open-if (has_kind d EV_LED) (GetLeds client) refl))
-    (no_open-if (has_kind d EV_SW) (GetSwitches client) refl))
-    (no_open-axes client (plain_axes d)))
-    (no_open-if _ (SyncSlots client) refl)
-
-no_open-ask_each : (xs : List Step) (view : View) → AllNoOpen xs → NoOpen (ask_each xs view)
-unfolding ask_each
-no_open-ask_each [] view h = tt
-no_open-ask_each (x ∷ xs) view h = (h.0, λ answer. by_flag answer.reply (is_accepted answer.reply) (ask_each xs (view_after_answer view x answer.reply answer.cells)) (no_open-ask_each xs (view_after_answer view x answer.reply answer.cells) h.1))
-  where
-    by_flag : (reply : Reply) (b : Bool) (talk : Talk (Result View Reply)) → NoOpen talk → NoOpen (if b then talk else finish (Err reply))
-    by_flag reply true talk more = more
-    by_flag reply false talk more = tt
-
--- Reading
-
-no_open-read : (r : Reading) → NoOpen (read_talk r)
-unfolding read_talk
-no_open-read r = by_queue r.queue
-  where
-    by_queue : (queue : List Taken) → NoOpen (read_or_hand_out r queue)
-    by_queue [] = (refl, λ answer. tt)
-    by_queue (taken ∷ rest) = tt
-
-no_open-go_on : (mode : Mode) (r : Reading) → NoOpen (go_on mode r)
-no_open-go_on Normal r = no_open-read (as_plain r)
-no_open-go_on Synchronising r = tt
-
-no_open-go_on_after : (mode : Mode) (r : Reading) (asked : Result View Reply) → NoOpen (go_on_after mode r asked)
-no_open-go_on_after mode r (Ok view) = no_open-go_on mode (after_full_sync r view)
-no_open-go_on_after mode r (Err reply) = tt
-
-no_open-sync : (d : Description) (r : Reading) → NoOpen (sync_talk d r)
-unfolding sync_talk
-no_open-sync d r = no_open-ask_each (Discard r.client ∷ queries d r.client) r.view (refl, no_open-queries d r.client)
-
-no_open-plain : (mode : Mode) (r : Reading) → NoOpen (plain_talk mode r)
-no_open-plain Normal r = no_open-read r
-no_open-plain Synchronising r = tt
-
-no_open-next : (d : Description) (mode : Mode) (phase : Phase) (r : Reading) → NoOpen (talk_in d mode phase r)
-no_open-next d mode Plain r = no_open-plain mode r
-no_open-next d mode Needed r = no_open-then (sync_talk d r) (go_on_after mode r) (no_open-sync d r) (no_open-go_on_after mode r)
-no_open-next d mode Handing r = no_open-go_on mode r
+no_open-next : (d : Description) (mode : Mode) (r : Reading) → NoOpen (next_talk d mode r)
+no_open-next d mode r = next-asks opens_none d mode r (record { read = refl; discard = refl; queries = no_open-queries d r.client })
 
 -- The lines of a client
 
@@ -154,14 +86,14 @@ no_open-round : (d : Description) (wait : Option Waiting) (skips : Bool) (g : Go
 unfolding next_round
 no_open-round d wait skips g =
     let talk : Talk (Answered × Reading) = next_talk d (mode_of skips g.job.reading.phase) g.job.reading in
-    no_open-then (noted talk g.job.sight) (λ o. finish (after_next wait g o))
-    (no_open-noted talk g.job.sight (no_open-next d (mode_of skips g.job.reading.phase) g.job.reading.phase g.job.reading))
+    asks-then opens_none (noted talk g.job.sight) (λ o. finish (after_next wait g o))
+    (no_open-noted talk g.job.sight (no_open-next d (mode_of skips g.job.reading.phase) g.job.reading))
     (λ o. tt)
 
 no_open-rounds : (d : Description) (wait : Option Waiting) (skips : Bool) (n : ℕ) (g : Going) → NoOpen (rounds d wait skips n g)
 unfolding rounds
 no_open-rounds d wait skips zero g = tt
-no_open-rounds d wait skips (suc n) g = no_open-then (next_round d wait skips g) (on_turn (rounds d wait skips n)) (no_open-round d wait skips g) (by_turn (no_open-rounds d wait skips n))
+no_open-rounds d wait skips (suc n) g = asks-then opens_none (next_round d wait skips g) (on_turn (rounds d wait skips n)) (no_open-round d wait skips g) (by_turn (no_open-rounds d wait skips n))
   where
     by_turn : ((here : Going) → NoOpen (rounds d wait skips n here)) → (turn : Turn) → NoOpen (on_turn (rounds d wait skips n) turn)
     by_turn more (goes_on here) = more here
@@ -184,9 +116,9 @@ gives_up-start d j = ((λ e n. refl), λ answer. by_reply answer.reply (j.sight 
         let asks : Talk (Result View Reply) = ask_each (queries d client) j.reading.view in
         let talk : Talk (Started × Reading) = and_then asks (λ asked. finish (after_queries client ring j.reading asked)) in
         no_open-gives_up (and_then (noted talk sight) (λ o. finish (start_ends o)))
-        (no_open-then (noted talk sight) (λ o. finish (start_ends o))
+        (asks-then opens_none (noted talk sight) (λ o. finish (start_ends o))
         (no_open-noted talk sight
-        (no_open-then asks (λ asked. finish (after_queries client ring j.reading asked)) (no_open-ask_each (queries d client) j.reading.view (no_open-queries d client)) (λ asked. tt)))
+        (asks-then opens_none asks (λ asked. finish (after_queries client ring j.reading asked)) (asks-each opens_none (queries d client) j.reading.view (each-query d client opens_none (no_open-queries d client))) (λ asked. tt)))
         (λ o. tt))
     by_reply _ sight = tt
 
@@ -235,12 +167,12 @@ gives_up-client d wait n command j = gives_up-call (step_of j.reading.client com
 
 no_open-sync_turn : (d : Description) (k : Joying) → NoOpen (sync_turn d k)
 unfolding sync_turn
-no_open-sync_turn d k = no_open-then (next_talk d Synchronising k.reading) (λ o. finish (joying_after_sync k o)) (no_open-next d Synchronising k.reading.phase k.reading) (λ o. tt)
+no_open-sync_turn d k = asks-then opens_none (next_talk d Synchronising k.reading) (λ o. finish (joying_after_sync k o)) (no_open-next d Synchronising k.reading) (λ o. tt)
 
 no_open-event_turn : (d : Description) (k : Joying) → NoOpen (event_turn d k)
 unfolding event_turn
 no_open-event_turn d k =
-    no_open-then (next_talk d Normal k.reading) (after_normal d k) (no_open-next d Normal k.reading.phase k.reading)
+    asks-then opens_none (next_talk d Normal k.reading) (after_normal d k) (no_open-next d Normal k.reading)
     (λ o. by_flag (is_lost o.0) (with_reading k o.1) (joy.joying_after_next d (with_reading k o.1) o.0))
   where
     by_flag : (b : Bool) (here : Joying) (turn : JoyTurn) → NoOpen (if b then sync_turn d here else finish turn)
@@ -263,7 +195,7 @@ no_open-turns : (d : Description) (most n : ℕ) (k : Joying) → NoOpen (turns 
 unfolding turns
 no_open-turns d zero n k = tt
 no_open-turns d (suc most) n k =
-    no_open-then (with_count (turn_talk d k) n) (λ o. after_turn d (turns d most) o.0 o.1)
+    asks-then opens_none (with_count (turn_talk d k) n) (λ o. after_turn d (turns d most) o.0 o.1)
     (no_open-counted (turn_talk d k) n (no_open-joy_turn d k (slice_get (startup d k.reading.view) k.handed)))
     (λ o. by_turn o.0 o.1 (λ (m : ℕ) (here : Joying). no_open-turns d most m here))
   where
@@ -279,7 +211,7 @@ no_open-read_on : (d : Description) (most n : ℕ) (j : Job) → NoOpen (read_on
 unfolding read_on
 no_open-read_on d most zero j = tt
 no_open-read_on d most (suc n) j =
-    no_open-then (noted (turns d most 0 (joying_of j)) j.sight) (λ o. after_turns (read_on d most n) j o.0 o.1)
+    asks-then opens_none (noted (turns d most 0 (joying_of j)) j.sight) (λ o. after_turns (read_on d most n) j o.0 o.1)
     (no_open-noted (turns d most 0 (joying_of j)) j.sight (no_open-turns d most 0 (joying_of j)))
     (λ o. by_answer o.0 o.1 (no_open-read_on d most n))
   where
@@ -295,7 +227,7 @@ no_open-read_on d most (suc n) j =
 no_open-records : (d : Description) (n count : ℕ) (j : Job) → NoOpen (read_records d n count j)
 unfolding read_records
 no_open-records d n zero j = tt
-no_open-records d n (suc count) j = no_open-then (read_on d n n j) (on_reach (read_records d n count)) (no_open-read_on d n n j) (by_reach (no_open-records d n count))
+no_open-records d n (suc count) j = asks-then opens_none (read_on d n n j) (on_reach (read_records d n count)) (no_open-read_on d n n j) (by_reach (no_open-records d n count))
   where
     by_reach : ((here : Job) → NoOpen (read_records d n count here)) → (reach : Option Reach) → NoOpen (on_reach (read_records d n count) reach)
     by_reach more None = tt
@@ -313,10 +245,10 @@ gives_up-joy_start d j = ((λ e n. refl), λ answer. by_reply answer.reply (j.si
         let start : Talk (Started × Reading) = and_then asks (λ asked. finish (after_queries client ring j.reading asked)) in
         let talk : Talk (Started × Joying) = and_then start (λ o. finish (joy_started d (joying_of j) o)) in
         no_open-gives_up (and_then (noted talk sight) (λ o. finish (after_joy_start j o)))
-        (no_open-then (noted talk sight) (λ o. finish (after_joy_start j o))
+        (asks-then opens_none (noted talk sight) (λ o. finish (after_joy_start j o))
         (no_open-noted talk sight
-        (no_open-then start (λ o. finish (joy_started d (joying_of j) o))
-        (no_open-then asks (λ asked. finish (after_queries client ring j.reading asked)) (no_open-ask_each (queries d client) j.reading.view (no_open-queries d client)) (λ asked. tt))
+        (asks-then opens_none start (λ o. finish (joy_started d (joying_of j) o))
+        (asks-then opens_none asks (λ asked. finish (after_queries client ring j.reading asked)) (asks-each opens_none (queries d client) j.reading.view (each-query d client opens_none (no_open-queries d client))) (λ asked. tt))
         (λ o. tt)))
         (λ o. tt))
     by_reply _ sight = tt

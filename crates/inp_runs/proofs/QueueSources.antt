@@ -1,28 +1,21 @@
 -- Where the events come from that a reader has at hand: its last read.
-use Rattle.std.proofs.Common.{◌≡◌, ◌⊎◌, inl, inr, Bool, true, false, if◌then◌else◌, ℕ, List, [], ◌∷◌, ◌++◌, refl, sym, ap, subst, ◌∙◌, append_assoc}
+use Rattle.std.proofs.Common.{◌≡◌, ◌⊎◌, inl, inr, ℕ, true, List, [], ◌∷◌, ◌++◌, refl, sym, ap, subst, ◌∙◌}
 use Rattle.std.specs.Prelude.{Result, Ok, Err}
-use Rattle.inp_model.specs.declared.event.Event.{Event}
 use Rattle.inp_model.specs.declared.taken.Taken.{Taken}
+use Rattle.inp_model.specs.declared.step.Step.{Step}
 use Rattle.inp_model.specs.declared.step.Step.TheVariants.{Read}
 use Rattle.inp_model.specs.declared.reply.Reply.{Reply}
-use Rattle.inp_model.specs.declared.reply.Reply.TheVariants.{Again as NothingVisible, Refused as StepRefused}
-use Rattle.inp_model.specs.declared.reply.Refusal.{Refusal}
-use Rattle.inp_model.specs.declared.reply.Refusal.TheVariants.{NoDevice as Revoked, LogFull}
 use Rattle.inp_model.specs.Description.{Description}
-use Rattle.inp_model.specs.Reply.{is_accepted}
+use Rattle.inp_model.specs.Reply.{Answer, is_accepted}
 use Rattle.inp_model.specs.Run.{Call}
 use Rattle.inp_recon.specs.declared.view.View.{View}
-use Rattle.inp_recon.specs.View.{view_after_event}
 use Rattle.inp_reader.specs.declared.mode.Mode.{Mode}
-use Rattle.inp_reader.specs.declared.mode.Mode.TheVariants.{Normal, Sync as Synchronising}
-use Rattle.inp_reader.specs.declared.phase.Phase.{Phase}
-use Rattle.inp_reader.specs.declared.phase.Phase.TheVariants.{Plain, Needed, Handing}
 use Rattle.inp_reader.specs.declared.next.Next.{Next}
-use Rattle.inp_reader.specs.declared.next.Next.TheVariants.{Success, Dropped, Synced}
-use Rattle.inp_recon.specs.Synchronised.{is_dropped}
-use Rattle.inp_reader.specs.Reading.{Reading, stop_of, hand_out_event, hand_out, after_read, read_or_hand_out, read_talk, hand_synthesised, as_plain, after_full_sync, after_failed_sync, go_on, go_on_after, sync_talk, talk_in, next_talk}
-use Rattle.inp_reader.specs.Talk.{LeadsTo, EndsWith}
-use Rattle.inp_script.proofs.LastAgain.{finish-only, and_then-parts}
+use Rattle.inp_reader.specs.declared.next.Next.TheVariants.{Success, Dropped}
+use Rattle.inp_reader.specs.Reading.{Reading, stop_of, sync_talk, next_talk}
+use Rattle.inp_reader.specs.Talk.{EndsWith}
+use Rattle.inp_reader.proofs.Meets.{Any, Listed, listed-run, meets-always}
+use Rattle.inp_reader.proofs.NextWalk.{Renewed, NextRules, next-ends, stop-cases}
 
 -- the queue before the event of this answer was handed out
 abbrev pub with_handed : Next → List Taken → List Taken
@@ -43,111 +36,37 @@ pub record EndsWithRead (client : ℕ) (calls : List Call) (events : List Taken)
 abbrev pub ComeFrom : ℕ → List Taken → List Call → List Taken → Type 0
 ComeFrom client old calls events = (events ≡ []) ⊎ (((calls ≡ []) × (events ≡ old)) ⊎ EndsWithRead client calls events)
 
--- the same of what a reader has at hand with the event that it handed out
-abbrev IsSourced : Reading → List Call → Next × Reading → Type 0
-IsSourced r calls o = ComeFrom r.client r.queue calls (with_handed o.0 o.1.queue)
+-- what a reader has at hand, behind these calls
+abbrev IsSourced : ℕ → List Taken → List Call → Reading → Type 0
+IsSourced client old calls r = (r.client ≡ client) × ComeFrom client old calls r.queue
 
-sourced-result : (r : Reading) (calls : List Call) (x o : Next × Reading) → x ≡ o → IsSourced r calls x → IsSourced r calls o
-sourced-result r calls x o e s = subst (IsSourced r calls) e s
+-- and with the event that it handed out
+abbrev HandsSourced : ℕ → List Taken → List Call → Next × Reading → Type 0
+HandsSourced client old calls o = ComeFrom client old calls (with_handed o.0 o.1.queue)
 
 -- a stop is no event
-stopped-refused : (at : ℕ) (why : Refusal) (queue : List Taken) → with_handed (stop_of (StepRefused at why)) queue ≡ queue
-stopped-refused at Revoked queue = refl
-stopped-refused at LogFull queue = refl
-stopped-refused at _ queue = refl
-
 stopped : (reply : Reply) (queue : List Taken) → with_handed (stop_of reply) queue ≡ queue
-stopped (NothingVisible at ends) queue = refl
-stopped (StepRefused at why) queue = stopped-refused at why queue
-stopped _ queue = refl
+stopped reply queue = stop-cases (λ next. with_handed next queue ≡ queue) reply (λ at ends is. refl) refl refl (λ at. refl)
 
-event-handed : (r : Reading) (taken : Taken) (rest : List Taken) → (let o : Next × Reading = hand_out_event r taken rest in with_handed o.0 o.1.queue ≡ taken ∷ rest)
-event-handed r taken rest = by (is_dropped taken.event)
+sourced-rules : (client : ℕ) (old : List Taken) (d : Description) (mode : Mode) → NextRules Any Listed (IsSourced client old) (HandsSourced client old) d mode
+sourced-rules client old d mode = record {
+  asks_read = λ s r h. tt;
+  reads = λ s t r a h plain empty by is. (h.0, inr (inr (record { first = s; read = record { step = Read r.client 64; answer = a }; whole = by; step = ap (λ (n : ℕ). Read n 64) h.0; accepted = is; given = refl })));
+  stops = λ s t r a h plain empty by is. inl (stopped a.reply r.queue ∙ empty);
+  hands = λ s r taken rest h plain q is. subst (λ (ts : List Taken). ComeFrom client old s ts) q h.1;
+  loses = λ s r taken rest h plain q is. subst (λ (ts : List Taken). ComeFrom client old s ts) q h.1;
+  empty = λ s r h plain q. h.1;
+  idles = λ s r h plain is. h.1;
+  syncs = λ s r h needed. meets-always Listed (Renewed (IsSourced client old) (HandsSourced client old) r) s (sync_talk d r) (renewed r h.0);
+  makes = λ s r event left h handing sync is. h.1;
+  made_all = λ s r h handing sync is. h.1;
+  goes_on = λ s r h handing is. h;
+}
   where
-    by : (b : Bool) → (let view : View = view_after_event r.view taken.event in
-        let o : Next × Reading = if b then (Dropped taken, record r { queue = rest; view = view; phase = Needed }) else (Success taken, record r { queue = rest; view = view }) in
-        with_handed o.0 o.1.queue ≡ taken ∷ rest)
-    by true = refl
-    by false = refl
+    renewed : (r : Reading) → r.client ≡ client → (t : List Call) (asked : Result View Reply) → Renewed (IsSourced client old) (HandsSourced client old) r t asked
+    renewed r same t (Ok view) = (same, inl refl)
+    renewed r same t (Err reply) = inl (stopped reply [])
 
--- Reading
-
-sourced-hand_out : (r : Reading) (call : Call) (calls : List Call) (events : List Taken) → calls ≡ [] → call.step ≡ Read r.client 64 → is_accepted call.answer.reply ≡ true → call.answer.events ≡ events → IsSourced r (call ∷ calls) (hand_out r events)
-sourced-hand_out r call calls [] none step good given = inl refl
-sourced-hand_out r call calls (taken ∷ rest) none step good given =
-    inr (inr (record {
-      first = [];
-      read = call;
-      whole = ap (λ (cs : List Call). call ∷ cs) none;
-      step = step;
-      accepted = good;
-      given = given ∙ sym (event-handed r taken rest);
-    }))
-
-sourced-after_read : (r : Reading) (call : Call) (calls : List Call) → calls ≡ [] → r.queue ≡ [] → call.step ≡ Read r.client 64 → IsSourced r (call ∷ calls) (after_read r call.answer)
-sourced-after_read r call calls none empty step = by (is_accepted call.answer.reply) refl
-  where
-    by : (b : Bool) → is_accepted call.answer.reply ≡ b → (let o : Next × Reading = if b then hand_out r call.answer.events else (stop_of call.answer.reply, r) in IsSourced r (call ∷ calls) o)
-    by true good = sourced-hand_out r call calls call.answer.events none step good refl
-    by false good = inl (stopped call.answer.reply r.queue ∙ empty)
-
-sourced-queued : (r : Reading) (queue : List Taken) (calls : List Call) (o : Next × Reading) → r.queue ≡ queue → EndsWith (read_or_hand_out r queue) calls o → IsSourced r calls o
-unfolding LeadsTo
-sourced-queued r [] [] o is ends = absurd cc
-sourced-queued r [] (call ∷ calls) o is ends =
-    let f = finish-only (after_read r call.answer) o calls ends.1 in
-    sourced-result r (call ∷ calls) (after_read r call.answer) o f.1 (sourced-after_read r call calls f.0 is ends.0)
-sourced-queued r (taken ∷ rest) calls o is ends =
-    let f = finish-only (hand_out_event r taken rest) o calls ends in
-    sourced-result r calls (hand_out_event r taken rest) o f.1 (inr (inl (f.0, event-handed r taken rest ∙ sym is)))
-
-sourced-read : (r : Reading) (calls : List Call) (o : Next × Reading) → EndsWith (read_talk r) calls o → IsSourced r calls o
-unfolding read_talk
-sourced-read r calls o ends = sourced-queued r r.queue calls o refl ends
-
--- Synchronising
-
-sourced-handing : (r : Reading) (left : List Event) (calls : List Call) → calls ≡ [] → IsSourced r calls (hand_synthesised r left)
-sourced-handing r [] calls none = inr (inl (none, refl))
-sourced-handing r (event ∷ left) calls none = inr (inl (none, refl))
-
-sourced-go_on : (mode : Mode) (r : Reading) (calls : List Call) (o : Next × Reading) → EndsWith (go_on mode r) calls o → IsSourced r calls o
-sourced-go_on Normal r calls o ends = sourced-read (as_plain r) calls o ends
-sourced-go_on Synchronising r calls o ends =
-    let f = finish-only (hand_synthesised r r.left) o calls ends in
-    sourced-result r calls (hand_synthesised r r.left) o f.1 (sourced-handing r r.left calls f.0)
-
--- calls that came before make no difference where nothing was at hand
-come-behind : (client : ℕ) (old : List Taken) (calls first second : List Call) (events : List Taken) → calls ≡ first ++ second → ComeFrom client [] second events → ComeFrom client old calls events
-come-behind client old calls first second events whole (inl none) = inl none
-come-behind client old calls first second events whole (inr (inl same)) = inl same.1
-come-behind client old calls first second events whole (inr (inr l)) =
-    inr (inr (record {
-      first = first ++ l.first;
-      read = l.read;
-      whole = whole ∙ ap (λ (cs : List Call). first ++ cs) l.whole ∙ sym (append_assoc first l.first (l.read ∷ []));
-      step = l.step;
-      accepted = l.accepted;
-      given = l.given;
-    }))
-
-sourced-after_sync : (mode : Mode) (r : Reading) (asked : Result View Reply) (calls first second : List Call) (o : Next × Reading) → calls ≡ first ++ second → EndsWith (go_on_after mode r asked) second o → IsSourced r calls o
-sourced-after_sync mode r (Ok view) calls first second o whole ends =
-    come-behind r.client r.queue calls first second (with_handed o.0 o.1.queue) whole (sourced-go_on mode (after_full_sync r view) second o ends)
-sourced-after_sync mode r (Err reply) calls first second o whole ends =
-    let f = finish-only (stop_of reply, after_failed_sync r) o second ends in
-    sourced-result r calls (stop_of reply, after_failed_sync r) o f.1 (inl (stopped reply []))
-
-sourced-in : (d : Description) (mode : Mode) (phase : Phase) (r : Reading) (calls : List Call) (o : Next × Reading) → EndsWith (talk_in d mode phase r) calls o → IsSourced r calls o
-sourced-in d Normal Plain r calls o ends = sourced-read r calls o ends
-sourced-in d Synchronising Plain r calls o ends =
-    let f = finish-only (Synced, r) o calls ends in
-    sourced-result r calls (Synced, r) o f.1 (inr (inl (f.0, refl)))
-sourced-in d mode Needed r calls o ends =
-    let p = and_then-parts (sync_talk d r) (go_on_after mode r) calls o ends in
-    sourced-after_sync mode r p.mid calls p.first p.second o p.whole p.second_ends
-sourced-in d mode Handing r calls o ends = sourced-go_on mode r calls o ends
-
--- what `next` leaves at hand, with the event that it handed out
 pub next-sources : (d : Description) (mode : Mode) (r s : Reading) (next : Next) (calls : List Call) → EndsWith (next_talk d mode r) calls (next, s) → ComeFrom r.client r.queue calls (with_handed next s.queue)
-next-sources d mode r s next calls ends = sourced-in d mode r.phase r calls (next, s) ends
+next-sources d mode r s next calls ends =
+    next-ends Any Listed (IsSourced r.client r.queue) (HandsSourced r.client r.queue) d mode (sourced-rules r.client r.queue d mode) [] calls r calls (next, s) (refl, inr (inl (refl, refl))) (listed-run [] calls) ends

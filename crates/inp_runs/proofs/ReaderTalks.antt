@@ -1,12 +1,10 @@
 -- What the talks of a reader leave: a view of the device's size, and each answer told but Again, which ends them.
-use Rattle.std.proofs.Common.{◌≡◌, ℕ, Bool, true, false, if◌then◌else◌, List, [], ◌∷◌, ◌++◌, refl, sym, ap, ◌∙◌, append_assoc, append-nil, inl}
+use Rattle.std.proofs.Common.{◌≡◌, ℕ, true, false, List, [], ◌∷◌, ◌++◌, refl, sym, ap, subst, ◌∙◌, append_assoc, append-nil, inl}
 use Rattle.std.specs.Prelude.{Result, Ok, Err}
-use Rattle.inp_model.specs.declared.event.Event.{Event}
-use Rattle.inp_model.specs.declared.taken.Taken.{Taken}
 use Rattle.inp_model.specs.declared.step.Step.{Step}
-use Rattle.inp_model.specs.declared.step.Step.TheVariants.{Open, Read, Discard}
+use Rattle.inp_model.specs.declared.step.Step.TheVariants.{Open, Read}
 use Rattle.inp_model.specs.declared.reply.Reply.{Reply}
-use Rattle.inp_model.specs.declared.reply.Reply.TheVariants.{Opened, Again as NothingVisible, Refused as StepRefused}
+use Rattle.inp_model.specs.declared.reply.Reply.TheVariants.{Again as NothingVisible, Refused as StepRefused}
 use Rattle.inp_model.specs.declared.reply.Refusal.{Refusal}
 use Rattle.inp_model.specs.declared.reply.Refusal.TheVariants.{NoDevice as Revoked, LogFull}
 use Rattle.inp_model.specs.Description.{Description}
@@ -16,23 +14,23 @@ use Rattle.inp_recon.specs.declared.view.View.{View}
 use Rattle.inp_recon.specs.View.{IsSizedFor, view_after_answer, view_after_event}
 use Rattle.inp_recon.proofs.Sizes.{IsSizedFor-after_event, length-keys_after_answer, length-switches_after_answer, length-leds_after_answer, length-axes_after_answer}
 use Rattle.inp_reader.specs.declared.mode.Mode.{Mode}
-use Rattle.inp_reader.specs.declared.mode.Mode.TheVariants.{Normal, Sync as Synchronising}
-use Rattle.inp_reader.specs.declared.phase.Phase.{Phase}
-use Rattle.inp_reader.specs.declared.phase.Phase.TheVariants.{Plain, Needed, Handing}
+use Rattle.inp_reader.specs.declared.phase.Phase.TheVariants.{Needed}
 use Rattle.inp_reader.specs.declared.started.Started.{Started}
 use Rattle.inp_reader.specs.declared.next.Next.{Next}
-use Rattle.inp_reader.specs.declared.next.Next.TheVariants.{Success, Dropped, Again}
-use Rattle.inp_recon.specs.Synchronised.{is_dropped}
-use Rattle.inp_reader.specs.Reading.{Reading, ask_each, queries, after_queries, after_open, start_talk, stop_of, hand_out_event, hand_out, after_read, read_or_hand_out, read_talk, as_plain, hand_synthesised, after_full_sync, go_on, go_on_after, sync_talk, talk_in, next_talk}
-use Rattle.inp_reader.specs.Talk.{Talk, finish}
+use Rattle.inp_reader.specs.declared.next.Next.TheVariants.{Success, Dropped, Sync, Synced, Closed, Again}
+use Rattle.inp_reader.specs.Reading.{Reading, queries, start_talk, stop_of, as_plain, after_failed_sync, next_talk}
+use Rattle.inp_reader.specs.Talk.{Talk, finish, ask}
 use Rattle.inp_script.specs.declared.sight.Sight.{Sight}
 use Rattle.inp_script.specs.declared.sight.Sight.TheVariants.{Again as AgainSight}
 use Rattle.inp_script.specs.Sight.{call_sight, again_sight}
-use Rattle.inp_script.proofs.ClientFolds.{AllNoRead, not_again, no_read-queries}
+use Rattle.inp_recon.proofs.Each.{Each}
+use Rattle.inp_reader.proofs.AgainCounts.{IsNoRead, not_again, no_read-queries, no_read-sync}
+use Rattle.inp_reader.proofs.Meets.{Meets, Any}
+use Rattle.inp_reader.proofs.NextWalk.{AskRules, asked-meets, sync-meets, Queried, start-meets, Renewed, NextRules, next-meets}
 use Rattle.inp_reader.proofs.Agreeing.{sized-answer}
 use Rattle.inp_script.proofs.Told as told
 use Rattle.inp_runs.proofs.Entries.{call_entries}
-use Rattle.inp_runs.proofs.LeftByTalks.{Answers, answers-then}
+use Rattle.inp_runs.proofs.LeftByTalks.{Answers}
 
 -- One answer
 
@@ -59,48 +57,69 @@ one_told kept entries x reply none same =
     ap (λ (ks : List Sight). ks ++ call_sight x reply) same
     ∙ ap (λ (es : List Sight). entries ++ es) (sym (append-nil (call_sight x reply)) ∙ ap (λ (es : List Sight). call_sight x reply ++ es) (sym none))
 
+-- The rule: the one-thread device answers, and this is noted, and told.
+
+abbrev Both : Type 0
+Both = List Sight × List Sight
+
+abbrev AnswersBy : Description → Both → Step → Answer → Both → Type 0
+AnswersBy d u x a v = (past : List Step) × (a ≡ answer d past x) × (v.0 ≡ u.0 ++ call_sight x a.reply) × (v.1 ≡ u.1 ++ call_entries x a.reply)
+
+meets-answers : {A : Type 0} (d : Description) (P : A → List Sight → List Sight → Type 0) (kept entries : List Sight) (talk : Talk A) → Meets Any (AnswersBy d) (λ (u : Both) (a : A). P a u.0 u.1) (kept, entries) talk → Answers d P kept entries talk
+meets-answers d P kept entries (finish a) h = h
+meets-answers d P kept entries (ask x rest) h = λ past.
+    let a : Answer = answer d past x in
+    let ks : List Sight = kept ++ call_sight x a.reply in
+    let es : List Sight = entries ++ call_entries x a.reply in
+    meets-answers d P ks es (rest a) (h.1 (ks, es) a (past, refl, refl, refl))
+
+-- the same is noted and told
+abbrev IsSame : Both → Type 0
+IsSame u = u.0 ≡ u.1
+
+told-by : (d : Description) (u v : Both) (x : Step) (a : Answer) → again_sight a.reply ≡ [] → IsSame u → AnswersBy d u x a v → IsSame v
+told-by d u v x a none same by = by.2 ∙ one_told u.0 u.1 x a.reply none same ∙ sym by.3
+
+quiet-by : (d : Description) (u v : Both) (x : Step) (a : Answer) → IsNoRead x → AnswersBy d u x a v → is_again a.reply ≡ false
+quiet-by d u v x a no_read by = not_again d by.0 x a no_read (inl by.1)
+
 -- Asking for steps in order
 
-abbrev pub IsAsked : Description → Result View Reply → List Sight → List Sight → Type 0
-IsAsked d (Ok view) kept entries = IsSizedFor d.slots view × (kept ≡ entries)
-IsAsked d (Err reply) kept entries = (is_again reply ≡ false) × (kept ≡ entries)
+abbrev IsSizedSoFar : Description → Both → View → List Step → Type 0
+IsSizedSoFar d u view left = IsSizedFor d.slots view × IsSame u × Each IsNoRead left
 
-asked_if : (d : Description) (accepted : Bool) (talk : Talk (Result View Reply)) (reply : Reply) (kept entries : List Sight) → is_again reply ≡ false → kept ≡ entries → Answers d (IsAsked d) kept entries talk → Answers d (IsAsked d) kept entries (if accepted then talk else finish (Err reply))
-asked_if d true talk reply kept entries never same more = more
-asked_if d false talk reply kept entries never same more = (never, same)
-
-answers-asked : (d : Description) (xs : List Step) (view : View) (kept entries : List Sight) → AllNoRead xs → IsSizedFor d.slots view → kept ≡ entries → Answers d (IsAsked d) kept entries (ask_each xs view)
-unfolding ask_each
-answers-asked d [] view kept entries no_reads sized same = (sized, same)
-answers-asked d (x ∷ xs) view kept entries no_reads sized same = λ past.
-    let a : Answer = answer d past x in
-    let never : is_again a.reply ≡ false = not_again d past x a (inl refl) no_reads.0 in
-    let told : kept ++ call_sight x a.reply ≡ entries ++ call_entries x a.reply = one_told kept entries x a.reply (told.not_again a.reply never) same in
-    asked_if d (is_accepted a.reply) (ask_each xs (view_after_answer view x a.reply a.cells)) a.reply (kept ++ call_sight x a.reply) (entries ++ call_entries x a.reply) never told
-    (answers-asked d xs (view_after_answer view x a.reply a.cells) (kept ++ call_sight x a.reply) (entries ++ call_entries x a.reply) no_reads.1 (sized-answered d past x view sized) told)
+sized-asks : (d : Description) (Q : Both → Result View Reply → Type 0) → ((u : Both) (view : View) → IsSizedFor d.slots view → IsSame u → Q u (Ok view)) → ((u : Both) (reply : Reply) → is_again reply ≡ false → IsSame u → Q u (Err reply)) → AskRules Any (AnswersBy d) (IsSizedSoFar d) Q
+sized-asks d Q whole stopped = record {
+  asks = λ u view x xs j. tt;
+  told = λ u v view x xs a j by is. (
+    subst (λ (b : Answer). IsSizedFor d.slots (view_after_answer view x b.reply b.cells)) (sym by.1) (sized-answered d by.0 x view j.0),
+    told-by d u v x a (told.not_again a.reply (quiet-by d u v x a j.2.0 by)) j.1 by,
+    j.2.1,
+  );
+  stopped = λ u v view x xs a j by is.
+      let never : is_again a.reply ≡ false = quiet-by d u v x a j.2.0 by in
+      stopped v a.reply never (told-by d u v x a (told.not_again a.reply never) j.1 by);
+  whole = λ u view j. whole u view j.0 j.1;
+}
 
 -- A start
 
 abbrev pub IsStarted : Description → Started × Reading → List Sight → List Sight → Type 0
 IsStarted d o kept entries = IsSizedFor d.slots o.1.view × (kept ≡ entries)
 
-started : (d : Description) (client ring : ℕ) (r : Reading) (result : Result View Reply) (kept entries : List Sight) → IsSizedFor d.slots r.view → IsAsked d result kept entries → IsStarted d (after_queries client ring r result) kept entries
-started d client ring r (Ok view) kept entries sized h = h
-started d client ring r (Err reply) kept entries sized h = (sized, h.1)
-
-answers-opened : (d : Description) (r : Reading) (reply : Reply) (kept entries : List Sight) → IsSizedFor d.slots r.view → kept ≡ entries → Answers d (IsStarted d) kept entries (after_open d r reply)
-answers-opened d r (Opened at client ring) kept entries sized same =
-    answers-then d (IsAsked d) (IsStarted d) kept entries (ask_each (queries d client) r.view) (λ asked. finish (after_queries client ring r asked))
-    (answers-asked d (queries d client) r.view kept entries (no_read-queries d client) sized same)
-    (λ result ks es h. started d client ring r result ks es sized h)
-answers-opened d r _ kept entries sized same = (sized, same)
-
 pub answers-start : (d : Description) (r : Reading) (entries : List Sight) → IsSizedFor d.slots r.view → Answers d (IsStarted d) entries entries (start_talk d r)
-unfolding start_talk
-answers-start d r entries sized = λ past.
-    let reply : Reply = (answer d past Open).reply in
-    let never : is_again reply ≡ false = not_again d past Open (answer d past Open) (inl refl) refl in
-    answers-opened d r reply (entries ++ call_sight Open reply) (entries ++ call_entries Open reply) sized (one_told entries entries Open reply (told.not_again reply never) refl)
+answers-start d r entries sized =
+    let Q : Both → Started × Reading → Type 0 = λ u o. IsStarted d o u.0 u.1 in
+    let here : Both = (entries, entries) in
+    let opens : (v : Both) (a : Answer) → AnswersBy d here Open a v → IsSame v = λ v a by. told-by d here v Open a (told.not_again a.reply (quiet-by d here v Open a refl by)) refl by in
+    meets-answers d (IsStarted d) entries entries (start_talk d r)
+    (start-meets Any (AnswersBy d) Q d r here (record {
+      asks_open = tt;
+      opened = λ v a at client ring by is.
+          asked-meets Any (AnswersBy d) (IsSizedSoFar d) (Queried Q client ring r) (sized-asks d (Queried Q client ring r) (λ u view s same. (s, same)) (λ u reply never same. (sized, same))) v (queries d client) r.view
+          (sized, opens v a by, no_read-queries d client);
+      refused = λ v a by other. (sized, opens v a by);
+    }))
 
 -- The next event
 
@@ -122,68 +141,40 @@ stopped-again _ = refl
 abbrev pub IsNext : Description → Next × Reading → List Sight → List Sight → Type 0
 IsNext d o kept entries = IsSizedFor d.slots o.1.view × (kept ++ again_of o.0 ≡ entries)
 
-handed : (d : Description) (r : Reading) (taken : Taken) (rest : List Taken) (kept entries : List Sight) → IsSizedFor d.slots r.view → kept ≡ entries → IsNext d (hand_out_event r taken rest) kept entries
-handed d r taken rest kept entries sized same = by_flag (is_dropped taken.event)
-  where
-    view : View
-    view = view_after_event r.view taken.event
+abbrev IsSizedReader : Description → Both → Reading → Type 0
+IsSizedReader d u r = IsSizedFor d.slots r.view × IsSame u
 
-    by_flag : (dropped : Bool) → IsNext d (if dropped then (Dropped taken, record r { queue = rest; view = view_after_event r.view taken.event; phase = Needed }) else (Success taken, record r { queue = rest; view = view_after_event r.view taken.event })) kept entries
-    by_flag true = (IsSizedFor-after_event d.slots r.view taken.event sized, append-nil kept ∙ same)
-    by_flag false = (IsSizedFor-after_event d.slots r.view taken.event sized, append-nil kept ∙ same)
+abbrev LeavesNext : Description → Both → Next × Reading → Type 0
+LeavesNext d u o = IsNext d o u.0 u.1
 
-handed_first : (d : Description) (r : Reading) (events : List Taken) (kept entries : List Sight) → IsSizedFor d.slots r.view → kept ≡ entries → IsNext d (hand_out r events) kept entries
-handed_first d r [] kept entries sized same = (sized, append-nil kept ∙ same)
-handed_first d r (taken ∷ rest) kept entries sized same = handed d r taken rest kept entries sized same
+next-nothing : (d : Description) (u : Both) (o : Next × Reading) → IsSizedFor d.slots o.1.view → again_of o.0 ≡ [] → IsSame u → LeavesNext d u o
+next-nothing d u o sized none same = (sized, ap (λ (es : List Sight). u.0 ++ es) none ∙ append-nil u.0 ∙ same)
 
--- after a read
-read_next : (d : Description) (r : Reading) (x : Step) (a : Answer) (kept entries : List Sight) → IsSizedFor d.slots r.view → kept ≡ entries → IsNext d (after_read r a) (kept ++ call_sight x a.reply) (entries ++ call_entries x a.reply)
-read_next d r x a kept entries sized same = by_flag (is_accepted a.reply) (λ e. accepted_again a.reply e)
-  where
-    by_flag : (b : Bool) → (b ≡ true → again_sight a.reply ≡ []) → IsNext d (if b then hand_out r a.events else (stop_of a.reply, r)) (kept ++ call_sight x a.reply) (entries ++ call_entries x a.reply)
-    by_flag true none = handed_first d r a.events (kept ++ call_sight x a.reply) (entries ++ call_entries x a.reply) sized (one_told kept entries x a.reply (none refl) same)
-    by_flag false none = (
-      sized,
-      ap (λ (es : List Sight). (kept ++ call_sight x a.reply) ++ es) (stopped-again a.reply)
-          ∙ append_assoc kept (call_sight x a.reply) (again_sight a.reply)
-          ∙ ap (λ (ks : List Sight). ks ++ call_entries x a.reply) same,
-    )
-
-answers-queue : (d : Description) (r : Reading) (queue : List Taken) (kept entries : List Sight) → IsSizedFor d.slots r.view → kept ≡ entries → Answers d (IsNext d) kept entries (read_or_hand_out r queue)
-answers-queue d r [] kept entries sized same = λ past. read_next d r (Read r.client 64) (answer d past (Read r.client 64)) kept entries sized same
-answers-queue d r (taken ∷ rest) kept entries sized same = handed d r taken rest kept entries sized same
-
-answers-read : (d : Description) (r : Reading) (kept entries : List Sight) → IsSizedFor d.slots r.view → kept ≡ entries → Answers d (IsNext d) kept entries (read_talk r)
-unfolding read_talk
-answers-read d r kept entries sized same = answers-queue d r r.queue kept entries sized same
-
-handed_synthesised : (d : Description) (r : Reading) (left : List Event) (kept entries : List Sight) → IsSizedFor d.slots r.view → kept ≡ entries → IsNext d (hand_synthesised r left) kept entries
-handed_synthesised d r [] kept entries sized same = (sized, append-nil kept ∙ same)
-handed_synthesised d r (event ∷ left) kept entries sized same = (sized, append-nil kept ∙ same)
-
-answers-going : (d : Description) (mode : Mode) (r : Reading) (kept entries : List Sight) → IsSizedFor d.slots r.view → kept ≡ entries → Answers d (IsNext d) kept entries (go_on mode r)
-answers-going d Normal r kept entries sized same = answers-read d (as_plain r) kept entries sized same
-answers-going d Synchronising r kept entries sized same = handed_synthesised d r r.left kept entries sized same
-
-answers-synchronised : (d : Description) (mode : Mode) (r : Reading) (result : Result View Reply) (kept entries : List Sight) → IsSizedFor d.slots r.view → IsAsked d result kept entries → Answers d (IsNext d) kept entries (go_on_after mode r result)
-answers-synchronised d mode r (Ok view) kept entries sized h = answers-going d mode (after_full_sync r view) kept entries h.0 h.1
-answers-synchronised d mode r (Err reply) kept entries sized h = (
-  sized,
-  ap (λ (es : List Sight). kept ++ es) (stopped-again reply ∙ told.not_again reply h.0) ∙ append-nil kept ∙ h.1,
-)
-
-answers-needed : (d : Description) (mode : Mode) (r : Reading) (entries : List Sight) → IsSizedFor d.slots r.view → Answers d (IsNext d) entries entries (talk_in d mode Needed r)
-unfolding sync_talk
-answers-needed d mode r entries sized =
-    answers-then d (IsAsked d) (IsNext d) entries entries (ask_each (Discard r.client ∷ queries d r.client) r.view) (go_on_after mode r)
-    (answers-asked d (Discard r.client ∷ queries d r.client) r.view entries entries (refl, no_read-queries d r.client) sized refl)
-    (λ result ks es h. answers-synchronised d mode r result ks es sized h)
-
-answers-phase : (d : Description) (mode : Mode) (phase : Phase) (r : Reading) (entries : List Sight) → IsSizedFor d.slots r.view → Answers d (IsNext d) entries entries (talk_in d mode phase r)
-answers-phase d Normal Plain r entries sized = answers-read d r entries entries sized refl
-answers-phase d Synchronising Plain r entries sized = (sized, append-nil entries)
-answers-phase d mode Needed r entries sized = answers-needed d mode r entries sized
-answers-phase d mode Handing r entries sized = answers-going d mode r entries entries sized refl
+next-rules : (d : Description) (mode : Mode) → NextRules Any (AnswersBy d) (IsSizedReader d) (LeavesNext d) d mode
+next-rules d mode = record {
+  asks_read = λ u r h. tt;
+  reads = λ u v r a h plain none by is. (h.0, told-by d u v (Read r.client 64) a (accepted_again a.reply is) h.1 by);
+  stops = λ u v r a h plain none by is. (
+    h.0,
+    ap (λ (ks : List Sight). ks ++ again_of (stop_of a.reply)) by.2
+        ∙ ap (λ (es : List Sight). (u.0 ++ call_sight (Read r.client 64) a.reply) ++ es) (stopped-again a.reply)
+        ∙ append_assoc u.0 (call_sight (Read r.client 64) a.reply) (again_sight a.reply)
+        ∙ ap (λ (ks : List Sight). ks ++ call_entries (Read r.client 64) a.reply) h.1
+        ∙ sym by.3,
+  );
+  hands = λ u r taken rest h plain q is. next-nothing d u (Success taken, record r { queue = rest; view = view_after_event r.view taken.event }) (IsSizedFor-after_event d.slots r.view taken.event h.0) refl h.1;
+  loses = λ u r taken rest h plain q is. next-nothing d u (Dropped taken, record r { queue = rest; view = view_after_event r.view taken.event; phase = Needed }) (IsSizedFor-after_event d.slots r.view taken.event h.0) refl h.1;
+  empty = λ u r h plain q. next-nothing d u (Closed, r) h.0 refl h.1;
+  idles = λ u r h plain is. next-nothing d u (Synced, r) h.0 refl h.1;
+  syncs = λ u r h needed.
+      let Q : Both → Result View Reply → Type 0 = Renewed (IsSizedReader d) (LeavesNext d) r in
+      sync-meets Any (AnswersBy d) (IsSizedSoFar d) Q d u r
+      (sized-asks d Q (λ v view sized same. (sized, same)) (λ v reply never same. next-nothing d v (stop_of reply, after_failed_sync r) h.0 (stopped-again reply ∙ told.not_again reply never) same))
+      (h.0, h.1, no_read-sync d r.client);
+  makes = λ u r event left h handing sync is. next-nothing d u (Sync event, record r { left = left }) h.0 refl h.1;
+  made_all = λ u r h handing sync is. next-nothing d u (Synced, as_plain r) h.0 refl h.1;
+  goes_on = λ u r h handing is. h;
+}
 
 pub answers-next : (d : Description) (mode : Mode) (r : Reading) (entries : List Sight) → IsSizedFor d.slots r.view → Answers d (IsNext d) entries entries (next_talk d mode r)
-answers-next d mode r entries sized = answers-phase d mode r.phase r entries sized
+answers-next d mode r entries sized = meets-answers d (IsNext d) entries entries (next_talk d mode r) (next-meets Any (AnswersBy d) (IsSizedReader d) (LeavesNext d) d mode (next-rules d mode) (entries, entries) r (sized, refl))

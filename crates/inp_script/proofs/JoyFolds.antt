@@ -7,8 +7,6 @@ use Rattle.inp_model.specs.declared.step.Step.{Step}
 use Rattle.inp_model.specs.declared.step.Step.TheVariants.{Open as ToOpen, Read as ToRead, Discard, Close as ToClose}
 use Rattle.inp_model.specs.declared.reply.Reply.{Reply}
 use Rattle.inp_model.specs.declared.reply.Reply.TheVariants.{Opened, Again as NothingVisible, Refused as StepRefused}
-use Rattle.inp_model.specs.declared.reply.Refusal.{Refusal}
-use Rattle.inp_model.specs.declared.reply.Refusal.TheVariants.{NoDevice as RefusedNoDevice, LogFull}
 use Rattle.inp_model.specs.Description.{Description}
 use Rattle.inp_model.specs.Evdev.{is_again}
 use Rattle.inp_model.specs.Event.{is_report}
@@ -29,13 +27,11 @@ use Rattle.inp_joy.proofs.Nexts.{lost-needed}
 use Rattle.inp_joy.proofs.Records.{FitsBytes, record-back, startup-fits, FitsIf, event-fits}
 use Rattle.inp_joy.proofs.TurnCases.{Synchronises, TurnCase, of_startup, of_sync, of_loss, of_next, turn-case, turns-all}
 use Rattle.inp_recon.specs.declared.view.View.{View}
-use Rattle.inp_recon.specs.View.{view_after_answer}
 use Rattle.inp_reader.specs.declared.mode.Mode.TheVariants.{Normal, Sync as Synchronising}
 use Rattle.inp_reader.specs.declared.next.Next.{Next}
-use Rattle.inp_reader.specs.declared.phase.Phase.{Phase}
-use Rattle.inp_reader.specs.declared.phase.Phase.TheVariants.{Plain, Needed, Handing}
+use Rattle.inp_reader.specs.declared.phase.Phase.TheVariants.{Needed}
 use Rattle.inp_reader.specs.declared.started.Started.{Started}
-use Rattle.inp_reader.specs.Reading.{Reading, ask_each, queries, start_talk, after_open, after_queries, start_stop_of, stop_of as reader_stop, hand_out_event, after_read as after_reading, read_or_hand_out, read_talk, as_plain, handing, hand_synthesised, after_full_sync, after_failed_sync, go_on_after, sync_talk, talk_in}
+use Rattle.inp_reader.specs.Reading.{Reading, queries, start_talk, after_queries, start_stop_of, stop_of as reader_stop, hand_synthesised, after_full_sync, next_talk}
 use Rattle.inp_reader.specs.Standing.{is_needed}
 use Rattle.inp_reader.specs.Talk.{Talk, finish, LeadsTo, EndsWith}
 use Rattle.inp_script.specs.declared.sight.Sight.{Sight}
@@ -44,10 +40,15 @@ use Rattle.inp_script.specs.declared.stop.Stop.TheVariants.{Full as FullHistory}
 use Rattle.inp_script.specs.Client.{with_sight, with_stop}
 use Rattle.inp_script.specs.Job.{Job, joying_of}
 use Rattle.inp_script.specs.Joystick.{Reach, handed_out, line_ends, start_joystick, record_sight, after_joy_answer, after_joy_read, after_turns, read_on, on_reach, read_records, joystick_talk}
-use Rattle.inp_script.specs.JoyFold.{Showing, shown, asking, blank_shown, asked_on, after_first_call, after_joy_call, after_joy_entry, joy_fold}
+use Rattle.inp_script.specs.JoyFold.{Showing, shown, asking, blank_shown, asked_on, after_joy_call, after_joy_entry, joy_fold}
 use Rattle.inp_script.specs.Line.{after_call, call_talk}
 use Rattle.inp_script.specs.Sight.{call_sight, again_sight, taken_sight, sight_of_call, noted}
-use Rattle.inp_script.proofs.ClientFolds.{AllNoRead, no_read-queries, not_again, placed-left, placed-right}
+use Rattle.std.proofs.lemmas.Bool.{cond-true, cond-false}
+use Rattle.inp_recon.proofs.Each.{Each}
+use Rattle.inp_reader.proofs.Meets.{Any, Runs, meets-ends}
+use Rattle.inp_reader.proofs.NextWalk.{AskRules, asked-meets, sync-by_parts, Queried, start-meets, Handed, needed-meets, NextRules, next-ends, stop-cases}
+use Rattle.inp_reader.proofs.AgainCounts.{IsNoRead, no_read-queries, not_again}
+use Rattle.inp_script.proofs.ClientFolds.{placed-left, placed-right}
 use Rattle.inp_script.proofs.Folds.{ArePlaced}
 use Rattle.inp_script.proofs.JoyTold.{job_of_reach, starts}
 use Rattle.inp_script.proofs.LastAgain.{finish-only, and_then-parts}
@@ -58,6 +59,29 @@ unfolding joy_fold
 joy_fold-append d s [] more = refl
 joy_fold-append d s (entry ∷ sight) more = joy_fold-append d (after_joy_entry d s entry) sight more
 
+-- Calls, each answered at its place: what they make of the picture
+
+abbrev ShownAt : Description → List Step → Showing → Step → Answer → Showing → Type 0
+ShownAt d h s x a t = IsAnswer d (past_at h (place_of a.reply)) x a × (t ≡ joy_fold d s (call_sight x a.reply))
+
+shown-run : (d : Description) (h : List Step) (s : Showing) (calls : List Call) → ArePlaced d h calls → Runs (ShownAt d h) s calls (joy_fold d s (noted_sight calls))
+unfolding Runs joy_fold
+shown-run d h s [] placed = refl
+shown-run d h s (call ∷ calls) placed =
+    let entry : List Sight = call_sight call.step call.answer.reply in (
+      joy_fold d s entry,
+      (placed.0.exact, refl),
+      subst (λ (t : Showing). Runs (ShownAt d h) (joy_fold d s entry) calls t) (sym (joy_fold-append d s entry (noted_sight calls))) (shown-run d h (joy_fold d s entry) calls placed.1),
+    )
+
+called : (d : Description) (s : Showing) (x : Step) (reply : Reply) → is_again reply ≡ false → joy_fold d s (call_sight x reply) ≡ after_joy_call d s x reply
+unfolding joy_fold
+called d s x reply e = ap (λ (b : Bool). joy_fold d s (if b then [] else Called x reply ∷ [])) e
+
+-- one that is no read
+once : (d : Description) (h : List Step) (s t e : Showing) (x : Step) (a : Answer) → s ≡ e → IsNoRead x → ShownAt d h s x a t → t ≡ after_joy_call d e x a.reply
+once d h s t e x a is no_read by = by.1 ∙ called d s x a.reply (not_again d (past_at h (place_of a.reply)) x a no_read by.0) ∙ ap (λ (k : Showing). after_joy_call d k x a.reply) is
+
 -- Queries
 
 -- the picture once asking ended
@@ -65,47 +89,16 @@ abbrev asked_picture : PictureView → Result View Reply → PictureView
 asked_picture p (Ok view) = blank_picture
 asked_picture p (Err reply) = p
 
--- the entry of a call that was not answered Again
-told_once : (d : Description) (s : Showing) (x : Step) (reply : Reply) (sight : List Sight) → is_again reply ≡ false → joy_fold d s (call_sight x reply ++ sight) ≡ joy_fold d (after_joy_call d s x reply) sight
-unfolding joy_fold
-told_once d s x reply sight e = ap (λ (b : Bool). joy_fold d s ((if b then [] else Called x reply ∷ []) ++ sight)) e
+abbrev AsksSoFar : PictureView → Showing → View → List Step → Type 0
+AsksSoFar p s view left = (s ≡ asked_on p left) × Each IsNoRead left
 
--- where asking ended so
-asked-shows : (d : Description) (s : Showing) (p : PictureView) (asked result : Result View Reply) (calls : List Call) → s ≡ shown (asked_picture p asked) → EndsWith (finish asked) calls result → joy_fold d s (noted_sight calls) ≡ shown (asked_picture p result)
-unfolding joy_fold
-asked-shows d s p asked result calls is ends =
-    let f = finish-only asked result calls ends in
-    ap (λ (cs : List Call). joy_fold d s (noted_sight cs)) f.0 ∙ is ∙ ap (λ (r : Result View Reply). shown (asked_picture p r)) f.1
-
-ask-shows : (d : Description) (h : List Step) (xs : List Step) (p : PictureView) (view : View) (calls : List Call) (result : Result View Reply) → AllNoRead xs → ArePlaced d h calls → EndsWith (ask_each xs view) calls result → joy_fold d (asked_on p xs) (noted_sight calls) ≡ shown (asked_picture p result)
-unfolding LeadsTo ask_each
-ask-shows d h [] p view calls result no_reads placed ends = asked-shows d blank_shown p (Ok view) result calls refl ends
-ask-shows d h (x ∷ xs) p view [] result no_reads placed ends = absurd cc
-ask-shows d h (x ∷ xs) p view (call ∷ calls) result no_reads placed ends =
-    let a : Answer = call.answer in
-    let is : IsAnswer d (past_at h (place_of a.reply)) x a = subst (λ (y : Step). IsAnswer d (past_at h (place_of a.reply)) y a) ends.0 placed.0.exact in
-    told_once d (asking p (x ∷ xs)) call.step a.reply (noted_sight calls) (not_again d (past_at h (place_of a.reply)) x a is no_reads.0)
-    ∙ by_flag (is_accepted a.reply) (λ w e. ask-shows d h xs p w calls result no_reads.1 placed.1 e) ends.1
-  where
-    by_flag : (b : Bool) → ((w : View) → EndsWith (ask_each xs w) calls result → joy_fold d (asked_on p xs) (noted_sight calls) ≡ shown (asked_picture p result))
-        → EndsWith (if b then ask_each xs (view_after_answer view x call.answer.reply call.answer.cells) else finish (Err call.answer.reply)) calls result
-        → joy_fold d (if b then asked_on p xs else shown p) (noted_sight calls) ≡ shown (asked_picture p result)
-    by_flag true more e = more (view_after_answer view x call.answer.reply call.answer.cells) e
-    by_flag false more e = asked-shows d (shown p) p (Err call.answer.reply) result calls refl e
-
-discard-shows : (d : Description) (h : List Step) (client : ℕ) (p : PictureView) (view : View) (calls : List Call) (result : Result View Reply) → ArePlaced d h calls → EndsWith (ask_each (Discard client ∷ queries d client) view) calls result → joy_fold d (shown p) (noted_sight calls) ≡ shown (asked_picture p result)
-unfolding LeadsTo ask_each
-discard-shows d h client p view [] result placed ends = absurd cc
-discard-shows d h client p view (call ∷ calls) result placed ends =
-    let a : Answer = call.answer in
-    let is : IsAnswer d (past_at h (place_of a.reply)) (Discard client) a = subst (λ (y : Step). IsAnswer d (past_at h (place_of a.reply)) y a) ends.0 placed.0.exact in
-    told_once d (shown p) call.step a.reply (noted_sight calls) (not_again d (past_at h (place_of a.reply)) (Discard client) a is refl)
-    ∙ ap (λ (y : Step). joy_fold d (after_first_call d p y a.reply) (noted_sight calls)) ends.0
-    ∙ by_flag (is_accepted a.reply) (view_after_answer view (Discard client) a.reply a.cells) ends.1
-  where
-    by_flag : (b : Bool) (w : View) → EndsWith (if b then ask_each (queries d client) w else finish (Err call.answer.reply)) calls result → joy_fold d (if b then asked_on p (queries d client) else shown p) (noted_sight calls) ≡ shown (asked_picture p result)
-    by_flag true w e = ask-shows d h (queries d client) p w calls result (no_read-queries d client) placed.1 e
-    by_flag false w e = asked-shows d (shown p) p (Err call.answer.reply) result calls refl e
+shows-asks : (d : Description) (h : List Step) (p : PictureView) (Q : Showing → Result View Reply → Type 0) → ((s : Showing) (asked : Result View Reply) → s ≡ shown (asked_picture p asked) → Q s asked) → AskRules Any (ShownAt d h) (AsksSoFar p) Q
+shows-asks d h p Q so = record {
+  asks = λ s view x xs j. tt;
+  told = λ s t view x xs a j by is. (once d h s t (asking p (x ∷ xs)) x a j.0 j.1.0 by ∙ cond-true (is_accepted a.reply) (asked_on p xs) (shown p) is, j.1.1);
+  stopped = λ s t view x xs a j by is. so t (Err a.reply) (once d h s t (asking p (x ∷ xs)) x a j.0 j.1.0 by ∙ cond-false (is_accepted a.reply) (asked_on p xs) (shown p) is);
+  whole = λ s view j. so s (Ok view) j.0;
+}
 
 -- A start
 
@@ -126,31 +119,23 @@ asked-picture : (d : Description) (j : Joying) (client ring : ℕ) (result : Res
 asked-picture d j client ring (Ok view) = refl
 asked-picture d j client ring (Err reply) = refused-picture d j (record { client = client; queue = []; view = j.reading.view; phase = Needed; left = [] }) reply
 
-opened-shows : (d : Description) (h : List Step) (j : Joying) (o : Started × Reading) (reply : Reply) (calls : List Call) → ArePlaced d h calls → EndsWith (after_open d j.reading reply) calls o → joy_fold d (shown j.picture) (call_sight ToOpen reply ++ noted_sight calls) ≡ shown (joy_started d j o).1.picture
-unfolding joy_fold
-opened-shows d h j o (Opened at client ring) calls placed ends =
-    let next : Result View Reply → Talk (Started × Reading) = λ asked. finish (after_queries client ring j.reading asked) in
-    let p = and_then-parts (ask_each (queries d client) j.reading.view) next calls o ends in
-    let f = finish-only (after_queries client ring j.reading p.mid) o p.second p.second_ends in
-    let first : ArePlaced d h p.first = placed-left d h p.first p.second (subst (λ (cs : List Call). ArePlaced d h cs) p.whole placed) in
-    ap (λ (cs : List Call). joy_fold d (asked_on j.picture (queries d client)) (noted_sight cs)) (p.whole ∙ ap (λ (cs : List Call). p.first ++ cs) f.0 ∙ append-nil p.first)
-    ∙ ask-shows d h (queries d client) j.picture j.reading.view p.first p.mid (no_read-queries d client) first p.first_ends
-    ∙ ap (λ (q : PictureView). shown q) (sym (asked-picture d j client ring p.mid) ∙ ap (λ (q : Started × Reading). (joy_started d j q).1.picture) f.1)
-opened-shows d h j o (NothingVisible at n) calls placed ends =
-    let f = finish-only (start_stop_of (NothingVisible at n), j.reading) o calls ends in
-    ap (λ (cs : List Call). joy_fold d (shown j.picture) (noted_sight cs)) f.0
-    ∙ ap (λ (q : PictureView). shown q) (sym (refused-picture d j j.reading (NothingVisible at n)) ∙ ap (λ (q : Started × Reading). (joy_started d j q).1.picture) f.1)
-opened-shows d h j o reply calls placed ends =
-    let f = finish-only (start_stop_of reply, j.reading) o calls ends in
-    ap (λ (cs : List Call). joy_fold d (shown j.picture) (noted_sight cs)) f.0
-    ∙ ap (λ (q : PictureView). shown q) (sym (refused-picture d j j.reading reply) ∙ ap (λ (q : Started × Reading). (joy_started d j q).1.picture) f.1)
+not_opened : (d : Description) (p : PictureView) (reply : Reply) → ((at client ring : ℕ) → reply ≡ Opened at client ring → ⊥) → after_joy_call d (shown p) ToOpen reply ≡ shown p
+not_opened d p (Opened at client ring) other = absurd (other at client ring refl)
+not_opened d p reply other = refl
 
 reader_start-shows : (d : Description) (h : List Step) (j : Joying) (o : Started × Reading) (calls : List Call) → ArePlaced d h calls → EndsWith (start_talk d j.reading) calls o → joy_fold d (shown j.picture) (noted_sight calls) ≡ shown (joy_started d j o).1.picture
-unfolding LeadsTo start_talk
-reader_start-shows d h j o [] placed ends = absurd cc
-reader_start-shows d h j o (call ∷ calls) placed ends =
-    ap (λ (y : Step). joy_fold d (shown j.picture) (call_sight y call.answer.reply ++ noted_sight calls)) ends.0
-    ∙ opened-shows d h j o call.answer.reply calls placed.1 ends.1
+reader_start-shows d h j o calls placed ends =
+    let p : PictureView = j.picture in
+    let Q : Showing → Started × Reading → Type 0 = λ s q. s ≡ shown (joy_started d j q).1.picture in
+    meets-ends Any (ShownAt d h) Q (shown p) (joy_fold d (shown p) (noted_sight calls)) (start_talk d j.reading) calls o
+    (start-meets Any (ShownAt d h) Q d j.reading (shown p) (record {
+      asks_open = tt;
+      opened = λ t a at client ring by is.
+          asked-meets Any (ShownAt d h) (AsksSoFar p) (Queried Q client ring j.reading)
+          (shows-asks d h p (Queried Q client ring j.reading) (λ u asked e. e ∙ ap (λ (q : PictureView). shown q) (sym (asked-picture d j client ring asked)))) t (queries d client) j.reading.view
+          (once d h (shown p) t (shown p) ToOpen a refl refl by ∙ ap (λ (reply : Reply). after_joy_call d (shown p) ToOpen reply) is, no_read-queries d client);
+      refused = λ t a by other. once d h (shown p) t (shown p) ToOpen a refl refl by ∙ not_opened d p a.reply other ∙ ap (λ (q : PictureView). shown q) (sym (refused-picture d j j.reading a.reply));
+    })) (shown-run d h (shown p) calls placed) ends
 
 joy_start-shows : (d : Description) (h : List Step) (j : Joying) (o : Started × Joying) (calls : List Call) → ArePlaced d h calls → EndsWith (joy_start d j) calls o → joy_fold d (shown j.picture) (noted_sight calls) ≡ shown o.1.picture
 unfolding joy_start
@@ -174,44 +159,35 @@ abbrev IsStopped : Option JoyRead → Type 0
 IsStopped None = ⊥
 IsStopped (Some read) = Unit {0}
 
-refused-stops : (at : ℕ) (why : Refusal) → IsStopped (joy_read_of (reader_stop (StepRefused at why)))
-refused-stops at RefusedNoDevice = tt
-refused-stops at LogFull = tt
-refused-stops at _ = tt
-
 reply-stops : (reply : Reply) → IsStopped (joy_read_of (reader_stop reply))
-reply-stops (NothingVisible at ends) = tt
-reply-stops (StepRefused at why) = refused-stops at why
-reply-stops _ = tt
+reply-stops reply = stop-cases (λ next. IsStopped (joy_read_of next)) reply (λ at ends is. tt) tt tt (λ at. tt)
 
 stopped-picture : (p : PictureView) (stop : Option JoyRead) → IsStopped stop → p ≡ synced_picture p stop
 stopped-picture p None h = absurd h
 stopped-picture p (Some read) h = refl
 
-synthesised-picture : (p : PictureView) (r : Reading) (left : List _) → blank_picture ≡ synced_picture p (joy_read_of (hand_synthesised r left).0)
-synthesised-picture p r [] = refl
-synthesised-picture p r (event ∷ left) = refl
+abbrev Syncs : PictureView → Showing → Next × Reading → Type 0
+Syncs p s o = s ≡ shown (synced_picture p (joy_read_of o.0))
 
-after_sync-shows : (d : Description) (p : PictureView) (r : Reading) (asked : Result View Reply) (calls : List Call) (o : Next × Reading) → EndsWith (go_on_after Synchronising r asked) calls o → (calls ≡ []) × (asked_picture p asked ≡ synced_picture p (joy_read_of o.0))
-after_sync-shows d p r (Ok view) calls o ends =
-    let s : Reading = after_full_sync r view in
-    let f = finish-only (handing s) o calls ends in
-    (f.0, synthesised-picture p s s.left ∙ ap (λ (q : Next × Reading). synced_picture p (joy_read_of q.0)) f.1)
-after_sync-shows d p r (Err reply) calls o ends =
-    let f = finish-only (reader_stop reply, after_failed_sync r) o calls ends in
-    (f.0, stopped-picture p (joy_read_of (reader_stop reply)) (reply-stops reply) ∙ ap (λ (q : Next × Reading). synced_picture p (joy_read_of q.0)) f.1)
+needed-shows : (d : Description) (h : List Step) (p : PictureView) (r : Reading) (calls : List Call) (o : Next × Reading) → is_needed r.phase ≡ true → ArePlaced d h calls → EndsWith (next_talk d Synchronising r) calls o → joy_fold d (shown p) (noted_sight calls) ≡ shown (synced_picture p (joy_read_of o.0))
+needed-shows d h p r calls o needed placed ends =
+    let Q : Showing → Result View Reply → Type 0 = Handed (Syncs p) r in
+    meets-ends Any (ShownAt d h) (Syncs p) (shown p) (joy_fold d (shown p) (noted_sight calls)) (next_talk d Synchronising r) calls o
+    (needed-meets Any (ShownAt d h) (Syncs p) d (shown p) r needed (sync-by_parts Any (ShownAt d h) Q d r (shown p) (record {
+      asks_discard = tt;
+      discarded = λ t a by is.
+          asked-meets Any (ShownAt d h) (AsksSoFar p) Q (shows-asks d h p Q so) t (queries d r.client) r.view
+          (once d h (shown p) t (shown p) (Discard r.client) a refl refl by ∙ cond-true (is_accepted a.reply) (asked_on p (queries d r.client)) (shown p) is, no_read-queries d r.client);
+      refused = λ t a by is. so t (Err a.reply) (once d h (shown p) t (shown p) (Discard r.client) a refl refl by ∙ cond-false (is_accepted a.reply) (asked_on p (queries d r.client)) (shown p) is);
+    }))) (shown-run d h (shown p) calls placed) ends
+  where
+    made : (s : Showing) (view : View) (left : List _) → s ≡ blank_shown → Syncs p s (hand_synthesised (after_full_sync r view) left)
+    made s view [] e = e
+    made s view (event ∷ left) e = e
 
-needed-shows : (d : Description) (h : List Step) (p : PictureView) (phase : Phase) (r : Reading) (calls : List Call) (o : Next × Reading) → is_needed phase ≡ true → ArePlaced d h calls → EndsWith (talk_in d Synchronising phase r) calls o → joy_fold d (shown p) (noted_sight calls) ≡ shown (synced_picture p (joy_read_of o.0))
-unfolding sync_talk
-needed-shows d h p Plain r calls o needed placed ends = absurd (true≢false (sym needed))
-needed-shows d h p Handing r calls o needed placed ends = absurd (true≢false (sym needed))
-needed-shows d h p Needed r calls o needed placed ends =
-    let q = and_then-parts (ask_each (Discard r.client ∷ queries d r.client) r.view) (go_on_after Synchronising r) calls o ends in
-    let first : ArePlaced d h q.first = placed-left d h q.first q.second (subst (λ (cs : List Call). ArePlaced d h cs) q.whole placed) in
-    let after = after_sync-shows d p r q.mid q.second o q.second_ends in
-    ap (λ (cs : List Call). joy_fold d (shown p) (noted_sight cs)) (q.whole ∙ ap (λ (cs : List Call). q.first ++ cs) after.0 ∙ append-nil q.first)
-    ∙ discard-shows d h r.client p r.view q.first q.mid first q.first_ends
-    ∙ ap (λ (w : PictureView). shown w) after.1
+    so : (s : Showing) (asked : Result View Reply) → s ≡ shown (asked_picture p asked) → Handed (Syncs p) r s asked
+    so s (Ok view) e = made s view (after_full_sync r view).left e
+    so s (Err reply) e = e ∙ ap (λ (q : PictureView). shown q) (stopped-picture p (joy_read_of (reader_stop reply)) (reply-stops reply))
 
 -- Turns
 
@@ -243,7 +219,7 @@ synchronises-shows : (d : Description) (h : List Step) (j : Joying) (calls : Lis
 synchronises-shows d h j calls t needed placed s =
     turn-same d j.picture (noted_sight calls) (stop_or_startup (with_reading j s.reading) (joy_read_of s.next)) t s.comes_to
     (stop_or_startup-shows d (noted_sight calls) (with_reading j s.reading) (joy_read_of s.next)
-    (needed-shows d h j.picture j.reading.phase j.reading calls (s.next, s.reading) needed placed s.talk_ends))
+    (needed-shows d h j.picture j.reading calls (s.next, s.reading) needed placed s.talk_ends))
 
 -- a record that was handed out moves the picture
 record-shows : (d : Description) (p : PictureView) (r : JoyRecord) → FitsBytes r → joy_fold d (shown p) (Record (bytes_of_record r) ∷ []) ≡ shown (picture_after p r)
@@ -271,34 +247,50 @@ after_next-shows d j None event = event-shows d j event
 after_next-shows d j (Some read) event = refl
 
 -- the calls of a read tell nothing of the picture
-read_entry : (d : Description) (p : PictureView) (client count : ℕ) (reply : Reply) (more : List Sight) → joy_fold d (shown p) (call_sight (ToRead client count) reply ++ more) ≡ joy_fold d (shown p) more
+
+abbrev ShownBy : Description → Showing → Step → Answer → Showing → Type 0
+ShownBy d s x a t = t ≡ joy_fold d s (call_sight x a.reply)
+
+shown_by-run : (d : Description) (s : Showing) (calls : List Call) → Runs (ShownBy d) s calls (joy_fold d s (noted_sight calls))
+unfolding Runs joy_fold
+shown_by-run d s [] = refl
+shown_by-run d s (call ∷ calls) =
+    let entry : List Sight = call_sight call.step call.answer.reply in
+    (joy_fold d s entry, refl, subst (λ (t : Showing). Runs (ShownBy d) (joy_fold d s entry) calls t) (sym (joy_fold-append d s entry (noted_sight calls))) (shown_by-run d (joy_fold d s entry) calls))
+
+read_once : (d : Description) (p : PictureView) (client count : ℕ) (reply : Reply) → joy_fold d (shown p) (call_sight (ToRead client count) reply) ≡ shown p
 unfolding joy_fold
-read_entry d p client count reply more = by_flag (is_again reply)
+read_once d p client count reply = by_flag (is_again reply)
   where
-    by_flag : (b : Bool) → joy_fold d (shown p) ((if b then [] else Called (ToRead client count) reply ∷ []) ++ more) ≡ joy_fold d (shown p) more
+    by_flag : (b : Bool) → joy_fold d (shown p) (if b then [] else Called (ToRead client count) reply ∷ []) ≡ shown p
     by_flag true = refl
     by_flag false = refl
 
-queue-tells_nothing : (d : Description) (p : PictureView) (r : Reading) (queue : List Taken) (calls : List Call) (o : Next × Reading) (more : List Sight) → EndsWith (read_or_hand_out r queue) calls o → joy_fold d (shown p) (noted_sight calls ++ more) ≡ joy_fold d (shown p) more
-unfolding LeadsTo
-queue-tells_nothing d p r [] [] o more ends = absurd cc
-queue-tells_nothing d p r [] (call ∷ calls) o more ends =
-    let f = finish-only (after_reading r call.answer) o calls ends.1 in
-    ap (λ (cs : List Call). joy_fold d (shown p) ((call_sight call.step call.answer.reply ++ noted_sight cs) ++ more)) f.0
-    ∙ ap (λ (es : List Sight). joy_fold d (shown p) (es ++ more)) (append-nil (call_sight call.step call.answer.reply))
-    ∙ ap (λ (y : Step). joy_fold d (shown p) (call_sight y call.answer.reply ++ more)) ends.0
-    ∙ read_entry d p r.client 64 call.answer.reply more
-queue-tells_nothing d p r (taken ∷ rest) calls o more ends =
-    let f = finish-only (hand_out_event r taken rest) o calls ends in ap (λ (cs : List Call). joy_fold d (shown p) (noted_sight cs ++ more)) f.0
+abbrev IsStill : PictureView → Showing → Reading → Type 0
+IsStill p s r = (s ≡ shown p) × (is_needed r.phase ≡ false)
 
-read-tells_nothing : (d : Description) (p : PictureView) (r : Reading) (calls : List Call) (o : Next × Reading) (more : List Sight) → EndsWith (read_talk r) calls o → joy_fold d (shown p) (noted_sight calls ++ more) ≡ joy_fold d (shown p) more
-unfolding read_talk
-read-tells_nothing d p r calls o more ends = queue-tells_nothing d p r r.queue calls o more ends
+still-rules : (d : Description) (p : PictureView) → NextRules Any (ShownBy d) (IsStill p) (λ (s : Showing) (o : Next × Reading). s ≡ shown p) d Normal
+still-rules d p = record {
+  asks_read = λ s r i. tt;
+  reads = λ s t r a i plain none by is. (after_read s t r a i.0 by, i.1);
+  stops = λ s t r a i plain none by is. after_read s t r a i.0 by;
+  hands = λ s r taken rest i plain q is. i.0;
+  loses = λ s r taken rest i plain q is. i.0;
+  empty = λ s r i plain q. i.0;
+  idles = λ s r i plain is. i.0;
+  syncs = λ s r i needed. absurd (true≢false (sym (ap is_needed needed) ∙ i.1));
+  makes = λ s r event left i is sync more. i.0;
+  made_all = λ s r i is sync none. i.0;
+  goes_on = λ s r i is mode. (i.0, refl);
+}
+  where
+    after_read : (s t : Showing) (r : Reading) (a : Answer) → s ≡ shown p → ShownBy d s (ToRead r.client 64) a t → t ≡ shown p
+    after_read s t r a is by = by ∙ ap (λ (k : Showing). joy_fold d k (call_sight (ToRead r.client 64) a.reply)) is ∙ read_once d p r.client 64 a.reply
 
-next-tells_nothing : (d : Description) (p : PictureView) (phase : Phase) (r : Reading) (calls : List Call) (o : Next × Reading) (more : List Sight) → is_needed phase ≡ false → EndsWith (talk_in d Normal phase r) calls o → joy_fold d (shown p) (noted_sight calls ++ more) ≡ joy_fold d (shown p) more
-next-tells_nothing d p Plain r calls o more plain ends = read-tells_nothing d p r calls o more ends
-next-tells_nothing d p Needed r calls o more plain ends = absurd (true≢false plain)
-next-tells_nothing d p Handing r calls o more plain ends = read-tells_nothing d p (as_plain r) calls o more ends
+next-tells_nothing : (d : Description) (p : PictureView) (r : Reading) (calls : List Call) (o : Next × Reading) (more : List Sight) → is_needed r.phase ≡ false → EndsWith (next_talk d Normal r) calls o → joy_fold d (shown p) (noted_sight calls ++ more) ≡ joy_fold d (shown p) more
+next-tells_nothing d p r calls o more plain ends =
+    joy_fold-append d (shown p) (noted_sight calls) more
+    ∙ ap (λ (s : Showing). joy_fold d s more) (next-ends Any (ShownBy d) (IsStill p) (λ (s : Showing) (q : Next × Reading). s ≡ shown p) d Normal (still-rules d p) (shown p) (joy_fold d (shown p) (noted_sight calls)) r calls o (refl, plain) (shown_by-run d (shown p) calls) ends)
 
 turn-shows : (d : Description) (h : List Step) (j : Joying) (calls : List Call) (t : JoyTurn) → ArePlaced d h calls → TurnCase d j calls t → Shows d j.picture (noted_sight calls) t
 turn-shows d h j calls t placed (of_startup r at none is) =
@@ -311,10 +303,10 @@ turn-shows d h j calls t placed (of_loss first second next r plain whole ends lo
     ap (λ (cs : List Call). joy_fold d (shown j.picture) (noted_sight cs ++ out)) whole
     ∙ ap (λ (es : List Sight). joy_fold d (shown j.picture) (es ++ out)) (noted_sight-append first second)
     ∙ ap (λ (es : List Sight). joy_fold d (shown j.picture) es) (append_assoc (noted_sight first) (noted_sight second) out)
-    ∙ next-tells_nothing d j.picture j.reading.phase j.reading first (next, r) (noted_sight second ++ out) plain ends
+    ∙ next-tells_nothing d j.picture j.reading first (next, r) (noted_sight second ++ out) plain ends
     ∙ synchronises-shows d h (with_reading j r) second t (lost-needed d j.reading r first next plain ends lost) (placed-right d h first second both) s
 turn-shows d h j calls t placed (of_next next r plain ends kept is) =
-    next-tells_nothing d j.picture j.reading.phase j.reading calls (next, r) (record_sight (out_of t)) plain ends
+    next-tells_nothing d j.picture j.reading calls (next, r) (record_sight (out_of t)) plain ends
     ∙ turn-same d j.picture [] (joying_after_next d (with_reading j r) next) t is (after_next-shows d (with_reading j r) (joy_read_of next) (event_handed_out next))
 
 -- a turn that goes on

@@ -13,6 +13,7 @@ pub mod Lines
 pub mod Runs
 pub mod Told
 pub mod LastAgain
+pub mod LineWalk
 pub mod JoyLast
 pub mod JoyTold
 pub mod JoyStops

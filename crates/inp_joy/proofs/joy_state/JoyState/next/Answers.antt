@@ -2,7 +2,7 @@ use Rattle.std.proofs.Common.{◌++◌, ◌∙◌, ap, List}
 use Rattle.inp_reader.specs.declared.call_made.CallMade.{CallMade}
 use Rattle.inp_reader.specs.declared.next.Next.{Next}
 use Rattle.inp_reader.specs.Reading.{Reading}
-use Rattle.inp_reader.proofs.TalkResults.{Gives-says, Gives-next, HasKeptView}
+use Rattle.inp_reader.proofs.TalkResults.{next-kept}
 use Rattle.inp_joy.proofs.ReaderCalls.{calls-next}
 use Rattle.inp_joy.proofs.joy_state.JoyState.next.Goals as goal
 
@@ -18,5 +18,5 @@ returns-clause-state g c = record {
   axes = c.requires.state.axes;
   handed = c.requires.state.handed;
   view =
-      Gives-says _ (λ (o : Next × Reading). HasKeptView c.args.self.now.reader.description o) _ _ _ _ _ (c.next-next.result, c.next-next.new.self.reading) (Gives-next c.args.self.now.reader.description c.args.mode _ c.args.self.now.reader.reading c.requires.state.view) c.requires.description c.next-next.ensures.says;
+      next-kept c.args.self.now.reader.description c.args.mode c.args.self.now.reader.reading _ _ _ _ (c.next-next.result, c.next-next.new.self.reading) c.requires.description c.requires.state.view c.next-next.ensures.says;
 }

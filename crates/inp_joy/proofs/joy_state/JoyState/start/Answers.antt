@@ -4,7 +4,7 @@ use Rattle.inp_reader.specs.declared.call_made.CallMade.{CallMade}
 use Rattle.inp_reader.specs.declared.started.Started.{Started}
 use Rattle.inp_reader.specs.Reading.{Reading}
 use Rattle.inp_reader.specs.Says.{Says}
-use Rattle.inp_reader.proofs.TalkResults.{Gives-says, Gives-start, HasKeptView}
+use Rattle.inp_reader.proofs.TalkResults.{start-kept}
 use Rattle.inp_joy.specs.declared.joy_state.JoyState.{JoyState}
 use Rattle.inp_joy.specs.Codes.{startup_len}
 use Rattle.inp_joy.specs.Joying.{joy_start, with_reading, joying_after_start}
@@ -17,7 +17,7 @@ use Rattle.inp_joy.proofs.joy_state.JoyState.start.Goals as goal
 pub after_start-requires : goal.after_start-requires
 after_start-requires g c =
     let d = c.args.self.now.reader.description in
-    let kept = Gives-says _ (λ (o : Started × Reading). HasKeptView d o) _ _ _ _ _ (c.start-started.result, c.start-started.new.self.reading) (Gives-start d _ c.args.self.now.reader.reading c.requires.state.view) c.requires.description c.start-started.ensures.says in
+    let kept = start-kept d c.args.self.now.reader.reading _ _ _ _ (c.start-started.result, c.start-started.new.self.reading) c.requires.description c.requires.state.view c.start-started.ensures.says in
     let same = sym c.start-started.ensures.reader in
     record {
       state = subst (λ (e : Description). IsJoyState e (record c.args.self.now { reader = c.start-started.new.self; made = c.add_all.new.self })) same (record {
@@ -44,7 +44,7 @@ returns-clause-says g c =
 pub returns-clause-state : goal.returns-clause-state
 returns-clause-state g c =
     let d = c.args.self.now.reader.description in
-    let kept = Gives-says _ (λ (o : Started × Reading). HasKeptView d o) _ _ _ _ _ (c.start-started.result, c.start-started.new.self.reading) (Gives-start d _ c.args.self.now.reader.reading c.requires.state.view) c.requires.description c.start-started.ensures.says in
+    let kept = start-kept d c.args.self.now.reader.reading _ _ _ _ (c.start-started.result, c.start-started.new.self.reading) c.requires.description c.requires.state.view c.start-started.ensures.says in
     let few = subst (λ (e : Description). c.after_start.new.self.handed ≤ startup_len e) c.start-started.ensures.reader c.after_start.ensures.handed in
     subst (λ (s : JoyState). IsJoyState d s) (sym c.after_start.ensures.rest) (record {
       description = c.start-started.ensures.reader;

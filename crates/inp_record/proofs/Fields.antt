@@ -1,0 +1,120 @@
+-- Fields, written and read again: each field once, and lists of fields from that.
+use Rattle.std.proofs.Common.{◌≡◌, ℕ, zero, suc, ◌+◌, ◌-◌, ◌^◌, ◌≤◌, ◌<◌, Bool, true, false, if◌then◌else◌, nat_eq, nat_lt, List, [], ◌∷◌, length, drop, Option, Some, None, refl, sym, ap, ◌∙◌, subst, arith}
+use Rattle.std.specs.Prelude.{option_and_then, slice_index_or}
+use Rattle.std.specs.List.{list_all}
+use Rattle.std.proofs.lemmas.Bool.{and_parts, ltb-true}
+use Rattle.std.proofs.lemmas.Bool.Decides.{nat_tests}
+use Rattle.inp_actors.specs.Name.{is_name}
+use Rattle.inp_words.specs.Number.{number}
+use Rattle.inp_record.specs.Field.{Field, Number, Positive, Bits, Signed, Kind, Code, CodeOf, Clock, Name, File, Version, OtherClock, Never, other_clock, ValueOf, field_word, field_text, kind_behind, unless_zero, Makes, made}
+use Rattle.inp_record.proofs.Options.{and_then_is}
+use Rattle.inp_record.proofs.FieldFits.{is_sound, FitsField, Values, FitsFields, of_values, written}
+use Rattle.inp_record.proofs.Sayable.{IsPlainWord}
+use Rattle.inp_record.proofs.CanonLines.{is_plain}
+use Rattle.inp_record.proofs.CanonWords.{decimal_read, decimal_plain, signed_read, signed_plain, bits_read, bits_plain, kind_read, kind_plain, code_read, code_plain, clock_read, other_clock_read, version_read, clock_plain, name_read, is_plain-name, is_plain-word}
+use Rattle.inp_record.proofs.SayableWords.{number_most, signed_fits, kind_fits, code_fits, version_fits}
+
+-- one field
+
+below : (most : ℕ) → nat_lt most (2 ^ 64) ≡ true → most < 2 ^ 64
+below most h = ltb-true most (2 ^ 64) h
+
+-- what a field says is read again
+field_read : (f : Field) (kind : ℕ) (v : ValueOf f) → is_sound f ≡ true → FitsField IsPlainWord f v → field_word f kind (field_text f kind v) ≡ Some v
+field_read (Number most) kind n sound h = let small = below most sound in decimal_read most n h (omega (arith, small))
+field_read (Positive most) kind n sound h =
+    let small = below most sound in
+    let some : nat_eq n 0 ≡ false = grind (arith, nat_tests, h.0) in
+    ap (option_and_then (λ (k : ℕ). unless_zero k)) (decimal_read most n h.1 (omega (arith, small, h.1))) ∙ rw some refl
+field_read Bits kind bits sound h = bits_read bits h
+field_read Signed kind z sound h = signed_read z h
+field_read Kind kind k sound h = kind_read k h
+field_read Code kind code sound h = code_read kind code h
+field_read (CodeOf of) kind code sound h = code_read of code h
+field_read Clock kind c sound h = clock_read c
+field_read Name kind name sound h = name_read name h
+field_read File kind file sound h = refl
+field_read Version kind n sound h = version_read n h.0 h.1
+field_read OtherClock kind boot sound h = other_clock_read boot
+field_read Never kind never sound h = absurd never
+
+-- and its word is plain
+field_plain : (f : Field) (kind : ℕ) (v : ValueOf f) → is_sound f ≡ true → FitsField IsPlainWord f v → is_plain (field_text f kind v) ≡ true
+field_plain (Number most) kind n sound h = let small = below most sound in decimal_plain n (omega (arith, small))
+field_plain (Positive most) kind n sound h = let small = below most sound in decimal_plain n (omega (arith, small, h.1))
+field_plain Bits kind bits sound h = bits_plain bits h
+field_plain Signed kind z sound h = signed_plain z h
+field_plain Kind kind k sound h = kind_plain k h
+field_plain Code kind code sound h = code_plain kind code h
+field_plain (CodeOf of) kind code sound h = code_plain of code h
+field_plain Clock kind c sound h = clock_plain c
+field_plain Name kind name sound h = is_plain-name name h
+field_plain File kind file sound h = is_plain-word file h
+field_plain Version kind n sound h = decimal_plain n (omega (arith, h.1))
+field_plain OtherClock kind boot sound h = clock_plain (other_clock boot)
+field_plain Never kind never sound h = absurd never
+
+positive_is : (n m : ℕ) (none : Bool) → nat_eq n 0 ≡ none → (if none then None else Some n) ≡ Some m → (1 ≤ n) × (n ≡ m)
+positive_is n m true z e = absurd (cc e)
+positive_is n m false z e = let some : 1 ≤ n = grind (arith, nat_tests) in (some, cc e)
+
+name_is : (w n : List ℕ) (is : Bool) → is_name w ≡ is → (if is then Some w else None) ≡ Some n → is_name n ≡ true
+name_is w n true h e = let same : w ≡ n = cc e in ap is_name (sym same) ∙ h
+name_is w n false h e = absurd (cc e)
+
+-- what a word says as a field is a value that the field can say
+field_fits : (P : List ℕ → Type 0) (f : Field) (kind : ℕ) (w : List ℕ) (v : ValueOf f) → P w → field_word f kind w ≡ Some v → FitsField P f v
+field_fits P (Number most) kind w n p e = number_most most w n e
+field_fits P (Positive most) kind w n p e =
+    let h = and_then_is (λ (k : ℕ). unless_zero k) (number most w) n e in
+    let low = positive_is h.0 n (nat_eq h.0 0) refl h.2 in
+    (omega (arith, low), omega (arith, low, number_most most w h.0 h.1))
+field_fits P Bits kind w bits p e = omega (arith, number_most (2 ^ 64 - 1) w bits e)
+field_fits P Signed kind w z p e = signed_fits w z e
+field_fits P Kind kind w k p e = kind_fits w k e
+field_fits P Code kind w code p e = code_fits kind w code e
+field_fits P (CodeOf of) kind w code p e = code_fits of w code e
+field_fits P Clock kind w c p e = tt
+field_fits P Name kind w name p e = name_is w name (is_name w) refl e
+field_fits P File kind w file p e = let same : w ≡ file = cc e in subst P same p
+field_fits P Version kind w n p e = version_fits w n e
+field_fits P OtherClock kind w boot p e = tt
+field_fits P Never kind w never p e = tt
+
+-- lists of fields
+
+at_drop : (ws : List (List ℕ)) (i : ℕ) (w : List ℕ) (rest : List (List ℕ)) → drop i ws ≡ w ∷ rest → (slice_index_or ws i [] ≡ w) × (drop (suc i) ws ≡ rest)
+at_drop ws zero w rest e = (ap (λ (l : List (List ℕ)). slice_index_or l 0 []) e, ap (λ (l : List (List ℕ)). drop 1 l) e)
+at_drop [] (suc i) w rest e = absurd (cc e)
+at_drop (x ∷ ws) (suc i) w rest e = at_drop ws i w rest e
+
+-- The words of values that fields can say are read again as what is made of these values.
+pub made_read : (A : Type 0) (fs : List Field) (kind i : ℕ) (ws : List (List ℕ)) (make : Makes A fs) (vs : Values fs) → list_all is_sound fs ≡ true → FitsFields IsPlainWord fs vs → drop i ws ≡ written fs kind vs
+    → made A fs kind i ws make ≡ Some (of_values A fs make vs)
+made_read A [] kind i ws thing vs sound h at = refl
+made_read A (f ∷ fs) kind i ws make vs sound h at =
+    let parts = and_parts (is_sound f) (list_all is_sound fs) sound in
+    let here = at_drop ws i (field_text f kind vs.0) (written fs (kind_behind f kind vs.0) vs.1) at in
+    let more : ValueOf f → Option A = λ (v : ValueOf f). made A fs (kind_behind f kind v) (suc i) ws (make v) in
+    ap (λ (w : List ℕ). option_and_then more (field_word f kind w)) here.0
+    ∙ ap (λ (o : Option (ValueOf f)). option_and_then more o) (field_read f kind vs.0 parts.0 h.0)
+    ∙ made_read A fs (kind_behind f kind vs.0) (suc i) ws (make vs.0) vs.1 parts.1 h.1 here.1
+
+pub written_plain : (fs : List Field) (kind : ℕ) (vs : Values fs) → list_all is_sound fs ≡ true → FitsFields IsPlainWord fs vs → list_all is_plain (written fs kind vs) ≡ true
+written_plain [] kind vs sound h = refl
+written_plain (f ∷ fs) kind vs sound h =
+    let parts = and_parts (is_sound f) (list_all is_sound fs) sound in
+    rw (field_plain f kind vs.0 parts.0 h.0, written_plain fs (kind_behind f kind vs.0) vs.1 parts.1 h.1) refl
+
+pub length-written : (fs : List Field) (kind : ℕ) (vs : Values fs) → length (written fs kind vs) ≡ length fs
+length-written [] kind vs = refl
+length-written (f ∷ fs) kind vs = ap suc (length-written fs (kind_behind f kind vs.0) vs.1)
+
+-- What is made of words is made of values that the fields can say, where each word may be a file.
+pub made_fits : (P : List ℕ → Type 0) (A : Type 0) (fs : List Field) (kind i : ℕ) (ws : List (List ℕ)) (make : Makes A fs) (a : A) → ((k : ℕ) → i ≤ k → k < i + length fs → P (slice_index_or ws k [])) → made A fs kind i ws make ≡ Some a
+    → (vs : Values fs) × FitsFields P fs vs × (a ≡ of_values A fs make vs)
+made_fits P A [] kind i ws thing a p e = (tt, tt, cc e)
+made_fits P A (f ∷ fs) kind i ws make a p e =
+    let h = and_then_is (λ (v : ValueOf f). made A fs (kind_behind f kind v) (suc i) ws (make v)) (field_word f kind (slice_index_or ws i [])) a e in
+    let more = made_fits P A fs (kind_behind f kind h.0) (suc i) ws (make h.0) a (λ k le lt. p k (omega arith) (omega arith)) h.2 in
+    ((h.0, more.0), (field_fits P f kind (slice_index_or ws i []) h.0 (p i (omega arith) (omega arith)) h.1, more.1), more.2)

@@ -1,0 +1,208 @@
+-- The talks of lines, walked once: what has to be shown of one call, of a start and of a `next`, for `Meets` of a whole line.
+use Rattle.std.proofs.Common.{◌≡◌, ℕ, zero, suc, Bool, true, false, if◌then◌else◌, List, [], ◌∷◌, ◌++◌, refl, Option, Some, None, nat_le}
+use Rattle.inp_model.specs.declared.stamped.Stamped.{Stamped}
+use Rattle.inp_model.specs.declared.step.Step.{Step}
+use Rattle.inp_model.specs.declared.step.Step.TheVariants.{Inject, End}
+use Rattle.inp_model.specs.Description.{Description}
+use Rattle.inp_model.specs.Reply.{Answer, is_accepted}
+use Rattle.inp_actors.specs.declared.command.Command.{Command}
+use Rattle.inp_actors.specs.declared.command.Command.TheVariants.{Stream, Stream16, Open, Next as ToNext, Skip, Follow, Force}
+use Rattle.inp_actors.specs.declared.role.Role.{Role}
+use Rattle.inp_actors.specs.declared.role.Role.TheVariants.{Source, Client, Tap, Joy, Owner}
+use Rattle.inp_reader.specs.declared.next.Next.{Next}
+use Rattle.inp_reader.specs.declared.next.Next.TheVariants.{Success, Dropped, Sync, Again, Synced, NoDevice, Closed, Full}
+use Rattle.inp_reader.specs.declared.started.Started.{Started}
+use Rattle.inp_reader.specs.declared.reader.TheConstants.{NO_CLIENT}
+use Rattle.inp_reader.specs.Reading.{Reading, start_talk, next_talk}
+use Rattle.inp_reader.specs.Talk.{Talk, finish, ask}
+use Rattle.inp_reader.proofs.Meets.{Meets, Any, meets-then, meets-if}
+use Rattle.inp_script.specs.declared.sight.Sight.{Sight}
+use Rattle.inp_script.specs.declared.sight.Sight.TheVariants.{Took, Made, Again as AgainSight}
+use Rattle.inp_script.specs.declared.stop.Stop.{Stop}
+use Rattle.inp_script.specs.declared.stop.Stop.TheVariants.{Idle, Full as FullStop}
+use Rattle.inp_script.specs.declared.waiting.Waiting.{Waiting}
+use Rattle.inp_script.specs.Client.{Going, Turn, goes_on, ends_with, start_job, start_ends, job_after_start, handed, one_less, is_done, patience, after_again, turn_after, after_next, mode_of, with_sight, with_stop, forced, next_round, on_turn, rounds, hand_talk, client_talk}
+use Rattle.inp_script.specs.Doing.{command_talk, unless_stopped, line_talk}
+use Rattle.inp_script.specs.Job.{Job}
+use Rattle.inp_script.specs.Joystick.{joystick_talk}
+use Rattle.inp_script.specs.Line.{step_of, after_call, call_if, stream_talk, stream_numbered, source_talk, end_talk, after_tap_call, tap_call_if}
+use Rattle.inp_script.specs.Sight.{noted, call_sight, lacks_memory, start_lacks_memory}
+
+-- ---- a talk whose calls are noted
+
+-- the same rule, with what is noted of the calls
+abbrev pub NotedBy : {S : Type 0} → (S → Step → Answer → S → Type 0) → S × List Sight → Step → Answer → S × List Sight → Type 0
+NotedBy R u x a v = R u.0 x a v.0 × (v.1 ≡ u.1 ++ call_sight x a.reply)
+
+pub meets-noted : {S A : Type 0} (R : S → Step → Answer → S → Type 0) (Q : S → A × List Sight → Type 0) (s : S) (sight : List Sight) (talk : Talk A)
+    → Meets Any (NotedBy R) (λ (u : S × List Sight) (a : A). Q u.0 (a, u.1)) (s, sight) talk → Meets Any R Q s (noted talk sight)
+meets-noted R Q s sight (finish a) h = h
+meets-noted R Q s sight (ask x rest) h = (tt, λ t answer allowed. meets-noted R Q t (sight ++ call_sight x answer.reply) (rest answer) (h.1 (t, sight ++ call_sight x answer.reply) answer (allowed, refl)))
+
+-- ---- what is known of a job
+
+abbrev pub OfJob : {S : Type 0} → (S → Job → Type 0) → S → Option Job → Type 0
+OfJob I s None = Unit {0}
+OfJob I s (Some j) = I s j
+
+abbrev pub OfTurn : {S : Type 0} → (S → Job → Type 0) → (S → Going → Type 0) → S → Turn → Type 0
+OfTurn I G s (goes_on g) = G s g
+OfTurn I G s (ends_with j) = I s j
+
+-- what is known of the job alone
+abbrev pub OfGoing : {S : Type 0} → (S → Job → Type 0) → S → Going → Type 0
+OfGoing I s g = I s g.job
+
+-- of a job behind an answer of its reader, with the entry that the answer adds
+abbrev pub AfterNext : {S : Type 0} → (S → Job → Type 0) → S → Next → Job → Type 0
+AfterNext I s (Success taken) j = I s (with_sight j (Took taken))
+AfterNext I s (Dropped taken) j = I s (with_sight j (Took taken))
+AfterNext I s (Sync event) j = I s (with_sight j (Made event))
+AfterNext I s Synced j = I s j
+AfterNext I s (Again at ends) j = I s j × I s (with_sight j (AgainSight at ends))
+AfterNext I s NoDevice j = I s j
+AfterNext I s Closed j = I s j
+AfterNext I s (Full at) j = I s j
+
+abbrev pub read_so : Job → Reading → List Sight → Job
+read_so j r sight = record j { reading = r; sight = sight }
+
+-- What is known of a job, I, stays so on each way through a line; and so does what is known of one in the midst of a line, G.
+pub record LineRules {S : Type 0} (R : S → Step → Answer → S → Type 0) (I : S → Job → Type 0) (G : S → Going → Type 0) (d : Description) (role : Role) (command : Command) : Type 0 where
+  pub injects : role ≡ Source → (s t : S) (j : Job) (x : Step) (a : Answer) → I s j → R s x a t → I t (after_call j x a)
+  pub calls : role ≡ Client → (s t : S) (j : Job) (x : Step) (a : Answer) → step_of j.reading.client command ≡ Some x → I s j → R s x a t → I t (after_call j x a)
+  pub taps : role ≡ Tap → (s t : S) (j : Job) (x : Step) (a : Answer) → I s j → R s x a t → I t (after_tap_call j x a)
+  pub starts : role ≡ Client → (s : S) (j : Job) → I s j → Meets Any R (OfJob I) s (start_job d j)
+  pub begins : role ≡ Client → (s : S) (j : Job) (left : Option ℕ) → I s j → G s (record { job = j; left = left; agains = 0 })
+  pub rounds : role ≡ Client → (s : S) (wait : Option Waiting) (skips : Bool) (g : Going) → G s g → Meets Any R (OfTurn I G) s (next_round d wait skips g)
+  pub forces : role ≡ Client → (s : S) (j : Job) → I s j → I s (forced j)
+  pub joys : role ≡ Joy → (s : S) (j : Job) (n : ℕ) → j.stop ≡ None → I s j → Meets Any R (OfJob I) s (joystick_talk d n command j)
+
+-- ---- single calls
+
+call_if-meets : {S : Type 0} (R : S → Step → Answer → S → Type 0) (I : S → Job → Type 0) (j : Job) (o : Option Step) → ((u v : S) (y : Step) (b : Answer) → o ≡ Some y → I u j → R u y b v → I v (after_call j y b)) → (s : S) → I s j → Meets Any R (OfJob I) s (call_if j o)
+call_if-meets R I j None calls s i = i
+call_if-meets R I j (Some x) calls s i = (tt, λ t a allowed. calls s t x a refl i allowed)
+
+tap-meets : {S : Type 0} (R : S → Step → Answer → S → Type 0) (I : S → Job → Type 0) → ((u v : S) (k : Job) (y : Step) (b : Answer) → I u k → R u y b v → I v (after_tap_call k y b)) → (s : S) (j : Job) (o : Option Step) → I s j → Meets Any R (OfJob I) s (tap_call_if j o)
+tap-meets R I calls s j None i = i
+tap-meets {S} R I calls s j (Some x) i = (tt, λ t a allowed. by (lacks_memory a.reply) t (after_tap_call j x a) (calls s t j x a i allowed))
+  where
+    by : (lacks : Bool) (t : S) (k : Job) → I t k → OfJob I t (if lacks then None else Some k)
+    by true t k h = tt
+    by false t k h = h
+
+stream-meets : {S : Type 0} (R : S → Step → Answer → S → Type 0) (I : S → Job → Type 0) → ((u v : S) (k : Job) (y : Step) (b : Answer) → I u k → R u y b v → I v (after_call k y b)) → (stream : List Stamped) (s : S) (j : Job) → I s j → Meets Any R (OfJob I) s (stream_talk stream j)
+unfolding stream_talk
+stream-meets R I calls [] s j i = i
+stream-meets R I calls (stamped ∷ stream) s j i = (
+  tt,
+  λ t a allowed.
+      let x : Step = Inject stamped.event stamped.now in
+      let k : Job = after_call j x a in
+      let here : I t k = calls s t j x a i allowed in
+      meets-if Any R (OfJob I) t (is_accepted a.reply) (stream_talk stream k) (finish (Some k)) (λ is. stream-meets R I calls stream t k here) (λ is. here),
+)
+
+source-meets : {S : Type 0} (R : S → Step → Answer → S → Type 0) (I : S → Job → Type 0) → ((u v : S) (k : Job) (y : Step) (b : Answer) → I u k → R u y b v → I v (after_call k y b)) → (streams : List (List Stamped)) (command : Command) (s : S) (j : Job) → I s j → Meets Any R (OfJob I) s (source_talk streams command j)
+source-meets R I calls streams (Stream file index) s j i = stream-meets R I calls (stream_numbered streams index) s j i
+source-meets R I calls streams (Stream16 file index) s j i = stream-meets R I calls (stream_numbered streams index) s j i
+source-meets R I calls streams command s j i = call_if-meets R I j (step_of NO_CLIENT command) (λ u v y b is. calls u v j y b) s i
+
+pub end-meets : {S : Type 0} (R : S → Step → Answer → S → Type 0) (I : S → Job → Type 0) → ((s t : S) (j : Job) (x : Step) (a : Answer) → I s j → R s x a t → I t (after_call j x a)) → (stop : Option Stop) (s : S) (j : Job) → I s j → Meets Any R (OfJob I) s (end_talk stop j)
+end-meets R I calls None s j i = (tt, λ t a allowed. calls s t j End a i allowed)
+end-meets R I calls (Some stop) s j i = i
+
+-- ---- a client
+
+pub start_job-meets : {S : Type 0} (R : S → Step → Answer → S → Type 0) (I : S → Job → Type 0) (d : Description) (s : S) (j : Job)
+    → Meets Any (NotedBy R) (λ (u : S × List Sight) (o : Started × Reading). I u.0 (job_after_start o.0 o.1 u.1)) (s, j.sight) (start_talk d j.reading) → Meets Any R (OfJob I) s (start_job d j)
+unfolding start_job
+start_job-meets {S} R I d s j h =
+    let Q : S → (Started × Reading) × List Sight → Type 0 = λ t o. I t (job_after_start o.0.0 o.0.1 o.1) in
+    meets-then Any R Q (OfJob I) s (noted (start_talk d j.reading) j.sight) (λ o. finish (start_ends o)) (meets-noted R Q s j.sight (start_talk d j.reading) h)
+    (λ t o k. by (start_lacks_memory o.0.0) t (job_after_start o.0.0 o.0.1 o.1) k)
+  where
+    by : (lacks : Bool) (t : S) (k : Job) → I t k → OfJob I t (if lacks then None else Some k)
+    by true t k h = tt
+    by false t k h = h
+
+-- a round, by what `next` leaves
+pub round-meets : {S : Type 0} (R : S → Step → Answer → S → Type 0) (I : S → Job → Type 0) (G : S → Going → Type 0) (d : Description) (s : S) (wait : Option Waiting) (skips : Bool) (g : Going)
+    → Meets Any (NotedBy R) (λ (u : S × List Sight) (o : Next × Reading). OfTurn I G u.0 (after_next wait g (o, u.1))) (s, g.job.sight) (next_talk d (mode_of skips g.job.reading.phase) g.job.reading) → Meets Any R (OfTurn I G) s (next_round d wait skips g)
+unfolding next_round
+round-meets {S} R I G d s wait skips g h =
+    let talk : Talk (Next × Reading) = next_talk d (mode_of skips g.job.reading.phase) g.job.reading in
+    let Q : S → (Next × Reading) × List Sight → Type 0 = λ t o. OfTurn I G t (after_next wait g o) in
+    meets-then Any R Q (OfTurn I G) s (noted talk g.job.sight) (λ o. finish (after_next wait g o)) (meets-noted R Q s g.job.sight talk h) (λ t o k. k)
+
+-- what a turn leaves, where it is known of the job alone
+pub turn-of : {S : Type 0} (I : S → Job → Type 0) → ((s : S) (j : Job) (stop : Stop) → I s j → I s (with_stop j stop)) → (s : S) (wait : Option Waiting) (left : Option ℕ) (agains : ℕ) (next : Next) (j : Job) → AfterNext I s next j → OfTurn I (OfGoing I) s (turn_after wait left agains next j)
+turn-of {S} I stops s wait left agains next j h = by next h
+  where
+    handed-of : (left : Option ℕ) (k : Job) → I s k → OfTurn I (OfGoing I) s (handed left k)
+    handed-of left k i = by_flag (is_done left)
+      where
+        by_flag : (b : Bool) → OfTurn I (OfGoing I) s (if b then ends_with k else goes_on (record { job = k; left = left; agains = 0 }))
+        by_flag true = i
+        by_flag false = i
+
+    again-of : (patient : Option ℕ) (more at ends : ℕ) → I s j → I s (with_sight j (AgainSight at ends)) → OfTurn I (OfGoing I) s (after_again patient left more at ends j)
+    again-of None more at ends i k = k
+    again-of (Some idle) more at ends i k = by_flag (nat_le idle more)
+      where
+        by_flag : (b : Bool) → OfTurn I (OfGoing I) s (if b then ends_with (with_stop (with_sight j (AgainSight at ends)) (Idle idle at)) else goes_on (record { job = j; left = left; agains = more }))
+        by_flag true = stops s (with_sight j (AgainSight at ends)) (Idle idle at) k
+        by_flag false = i
+
+    by : (n : Next) → AfterNext I s n j → OfTurn I (OfGoing I) s (turn_after wait left agains n j)
+    by (Success taken) i = handed-of (one_less left) (with_sight j (Took taken)) i
+    by (Dropped taken) i = handed-of (one_less left) (with_sight j (Took taken)) i
+    by (Sync event) i = handed-of (one_less left) (with_sight j (Made event)) i
+    by Synced i = i
+    by (Again at ends) i = again-of (patience wait ends) (suc agains) at ends i.0 i.1
+    by NoDevice i = i
+    by Closed i = i
+    by (Full at) i = stops s j (FullStop at) i
+
+rounds-meets : {S : Type 0} (R : S → Step → Answer → S → Type 0) (I : S → Job → Type 0) (G : S → Going → Type 0) (d : Description) (command : Command) → LineRules R I G d Client command → (wait : Option Waiting) (skips : Bool) (n : ℕ) (s : S) (g : Going) → G s g → Meets Any R (OfJob I) s (rounds d wait skips n g)
+unfolding rounds
+rounds-meets R I G d command rules wait skips zero s g i = tt
+rounds-meets {S} R I G d command rules wait skips (suc n) s g i =
+    meets-then Any R (OfTurn I G) (OfJob I) s (next_round d wait skips g) (on_turn (rounds d wait skips n)) (rules.rounds refl s wait skips g i) (λ t turn h. by t turn h (λ here k. rounds-meets R I G d command rules wait skips n t here k))
+  where
+    by : (t : S) (turn : Turn) → OfTurn I G t turn → ((here : Going) → G t here → Meets Any R (OfJob I) t (rounds d wait skips n here)) → Meets Any R (OfJob I) t (on_turn (rounds d wait skips n) turn)
+    by t (goes_on here) h more = more here h
+    by t (ends_with j) h more = h
+
+hand-meets : {S : Type 0} (R : S → Step → Answer → S → Type 0) (I : S → Job → Type 0) (G : S → Going → Type 0) (d : Description) (command : Command) → LineRules R I G d Client command → (wait : Option Waiting) (skips : Bool) (left : Option ℕ) (n : ℕ) (s : S) (j : Job) → I s j → Meets Any R (OfJob I) s (hand_talk d wait skips left n j)
+hand-meets R I G d command rules wait skips left n s j i =
+    let start : Going = record { job = j; left = left; agains = 0 } in
+    meets-if Any R (OfJob I) s (is_done left) (finish (Some j)) (rounds d wait skips n start) (λ is. i) (λ is. rounds-meets R I G d command rules wait skips n s start (rules.begins refl s j left i))
+
+client-meets : {S : Type 0} (R : S → Step → Answer → S → Type 0) (I : S → Job → Type 0) (G : S → Going → Type 0) (d : Description) (command : Command) → LineRules R I G d Client command → (wait : Option Waiting) (n : ℕ) (s : S) (j : Job) → I s j → Meets Any R (OfJob I) s (client_talk d wait n command j)
+client-meets R I G d Open rules wait n s j i = rules.starts refl s j i
+client-meets R I G d (ToNext count) rules wait n s j i = hand-meets R I G d (ToNext count) rules None false (Some count) n s j i
+client-meets R I G d (Skip count) rules wait n s j i = hand-meets R I G d (Skip count) rules None true (Some count) n s j i
+client-meets R I G d Follow rules wait n s j i = hand-meets R I G d Follow rules wait false None n s j i
+client-meets R I G d Force rules wait n s j i = rules.forces refl s j i
+client-meets R I G d command rules wait n s j i = call_if-meets R I j (step_of j.reading.client command) (λ u v y b is. rules.calls refl u v j y b is) s i
+
+-- ---- a line
+
+command-meets : {S : Type 0} (R : S → Step → Answer → S → Type 0) (I : S → Job → Type 0) (G : S → Going → Type 0) (d : Description) (role : Role) (command : Command) → LineRules R I G d role command → (streams : List (List Stamped)) (wait : Option Waiting) (n : ℕ) (s : S) (j : Job) → j.stop ≡ None → I s j
+    → Meets Any R (OfJob I) s (command_talk role d streams wait n command j)
+command-meets R I G d Source command rules streams wait n s j none i = source-meets R I (rules.injects refl) streams command s j i
+command-meets R I G d Client command rules streams wait n s j none i = client-meets R I G d command rules wait n s j i
+command-meets R I G d Tap command rules streams wait n s j none i = tap-meets R I (rules.taps refl) s j (step_of j.reading.client command) i
+command-meets R I G d Joy command rules streams wait n s j none i = rules.joys refl s j n none i
+command-meets R I G d Owner command rules streams wait n s j none i = i
+
+pub line-meets : {S : Type 0} (R : S → Step → Answer → S → Type 0) (I : S → Job → Type 0) (G : S → Going → Type 0) (d : Description) (role : Role) (command : Command) → LineRules R I G d role command → (streams : List (List Stamped)) (wait : Option Waiting) (n : ℕ) (s : S) (j : Job) → I s j
+    → Meets Any R (OfJob I) s (line_talk role d streams wait n command j)
+unfolding line_talk
+line-meets {S} R I G d role command rules streams wait n s j i = by j.stop refl
+  where
+    by : (stop : Option Stop) → j.stop ≡ stop → Meets Any R (OfJob I) s (unless_stopped stop j (command_talk role d streams wait n command j))
+    by None none = command-meets R I G d role command rules streams wait n s j none i
+    by (Some stop) is = i
