@@ -26,9 +26,10 @@ def say(program, text):
 
 
 def run(program, command):
-    """Ends in what the command gives: its text on standard output and its notes on standard error."""
+    """Ends in what the command gives: its text on standard output, its notes on standard error, and its
+    status, which is 0 where it gives none."""
     try:
-        text, notes = command(sys.argv[1:])
+        text, notes, *status = command(sys.argv[1:])
     except Wrong as wrong:
         say(program, str(wrong))
         sys.exit(2)
@@ -40,6 +41,7 @@ def run(program, command):
     except BrokenPipeError:
         # (Python would try to flush once more at its end)
         os.dup2(os.open(os.devnull, os.O_WRONLY), sys.stdout.fileno())
+    sys.exit(status[0] if status else 0)
 
 
 def number(text, low, high, what, base=10):
