@@ -100,14 +100,14 @@ class Expectations(CheckCase):
         )
 
     def test_the_view_at_the_end(self):
-        told = "at place 15 (2.5 s): KEY_A came; it took EV_KEY KEY_A 1 last, at place 9 (1 s)"
+        told = "at place 15 (2.5 s): KEY_A came; it took EV_KEY KEY_A 1 last, at place 9 (1.0 s)"
         self.fails(STICKS, "desktop at-end keys", told)
         self.fails(STICKS, "desktop at-end keys KEY_A KEY_B", "at place 15 (2.5 s): KEY_A came")
         self.fails(STICKS, "desktop at-end axes ABS_X=6", "at place 15 (2.5 s): ABS_X=5 came")
         self.fails(STICKS, "desktop at-end axes ABS_Y=6", "at place 15 (2.5 s): nothing came")
 
     def test_events(self):
-        self.fails(STICKS, "desktop never KEY_A", "at place 9 (1 s): 'took 9 1000000 EV_KEY KEY_A 1' came")
+        self.fails(STICKS, "desktop never KEY_A", "at place 9 (1.0 s): 'took 9 1000000 EV_KEY KEY_A 1' came")
         self.fails(STICKS, "desktop takes KEY_A 0", "at place 15 (2.5 s): it did not come among 2 events")
         # what the reader makes up is handed out too
         forced = STICKS + "do desktop force\ndo desktop follow\n"
@@ -125,7 +125,7 @@ class Expectations(CheckCase):
         status, lines = self.checked(STICKS, "desktop agrees")
         self.assertEqual(1, status)
         self.assertTrue(lines[0].startswith("2: desktop agrees: at place 13 (2.5 s): KEY_A is down for it and up on the device: "), lines)
-        self.assertIn("grab of remapper from place 11", lines[0])
+        self.assertIn("grab of remapper from place 11 (1.0 s) to 14 (2.5 s)", lines[0])
 
     def test_reports(self):
         for name in ("stuck_key", "views"):
@@ -162,7 +162,7 @@ class Expectations(CheckCase):
 
     def test_joysticks_slots_and_owners(self):
         self.holds(
-            VERSION_2, "j at-end buttons 0", "c at-end slot 0 ABS_MT_TRACKING_ID=7", "c at-end current 0",
+            VERSION_2, "j at-end buttons 0", "j agrees", "c at-end slot 0 ABS_MT_TRACKING_ID=7", "c at-end current 0",
             "o takes LED_CAPSL 1", "o never EV_SND", "c at-end keys BTN_TRIGGER",
         )
         status, lines = self.checked(VERSION_2, "j at-end buttons", "o never LED_CAPSL", "c at-end slot 1 ABS_MT_TRACKING_ID=7")
@@ -239,7 +239,7 @@ class Forms(CheckCase):
 ok 1 - {self.path}:2: desktop takes KEY_A
 not ok 2 - {self.path}:3: desktop never KEY_A
   ---
-  message: "at place 9 (1 s): {self.came}"
+  message: "at place 9 (1.0 s): {self.came}"
   ...
 ok 3 - {self.path}:4: desktop never KEY_A 0
 not ok 4 - {self.missing}
@@ -260,7 +260,7 @@ not ok 4 - {self.missing}
                          tuple(first.attrib[name] for name in ("name", "tests", "failures", "errors")))
         self.assertEqual(["line 2: desktop takes KEY_A", "line 3: desktop never KEY_A", "line 4: desktop never KEY_A 0"],
                          [case.attrib["name"] for case in first])
-        self.assertEqual(f"at place 9 (1 s): {self.came}", first[1][0].attrib["message"])
+        self.assertEqual(f"at place 9 (1.0 s): {self.came}", first[1][0].attrib["message"])
         self.assertEqual("No such file or directory", second[0][0].attrib["message"])
 
     def test_json(self):

@@ -5,11 +5,13 @@ import os
 from desk.belief import thing_text
 from desk.command import Wrong
 from desk.expectations import AT_END, FLAG_KINDS, expectations_of
+from desk.places import Places
 from desk.played import play
 from desk.program import PLAYED, folder_of
 from desk.recordfile import read_text
-from desk.reportlines import Line, Report, moments_of, place_text, without_history
+from desk.reportlines import Line, Report, without_history
 from desk.slips import refusal_text
+from desk.source import as_file, shown
 
 LOST = ("EV_SYN", "SYN_DROPPED")
 OF_A_VIEW = (AT_END, "agrees")
@@ -37,28 +39,41 @@ class Played:
     """A record that was played once, with its history."""
 
     def __init__(self, path, player):
-        self.path, self.player, self.folder = path, player, folder_of(path)
-        self.text = read_text(path)
+        self.name, self.player, self.folder, self.path = shown(path), player, folder_of(path), as_file(path)
+        self.text = read_text(self.path)
         self.expectations = expectations_of(self.text)
-        self.status, self.written = player.play(path, self.folder, ["--history"])
-        self.report, self.moments = None, {}
+        self.status, self.written = player.play(self.path, self.folder, ["--history"])
+        self.report, self.places = None, {}
         if self.status in PLAYED:
             self.report = Report(self.written)
             for device in self.report.devices:
-                self.moments[device.name] = moments_of([step.words[2:] for step in device.history])
+                self.places[device.name] = Places([step.words[2:] for step in device.history])
         self.devices = None
 
-    def moments_for(self, part):
-        """The moments of the actor's device. A joystick and an owner are told apart by the record alone."""
-        if part.device:
-            return self.moments[part.device.name]
-        return next(iter(self.moments.values())) if len(self.moments) == 1 else []
+    def device_of(self, part):
+        """The actor's device. That of a joystick and of an owner no report tells, but where there is one alone."""
+        devices = self.report.devices
+        return part.device or (devices[0] if len(devices) == 1 else None)
+
+    def time(self, part, place):
+        device = self.device_of(part)
+        return None if device is None or place is None else self.places[device.name].moment(place)
+
+    def place_text(self, part, place):
+        """A place with its time."""
+        device = self.device_of(part)
+        return f"place {place}" if device is None else self.places[device.name].text(place)
+
+    def end(self, part):
+        """The place and the time of the end of the actor's device."""
+        device = self.device_of(part)
+        return (None, None) if device is None else (device.steps, self.time(part, device.steps))
 
     def client(self, name):
         """A client, as it was compared with its device."""
         if self.devices is None:
             self.devices = play(self.path, self.player)
-        return next(each for device in self.devices for each in device.clients if each.name == name)
+        return next(each for device in self.devices for each in device.readers() if each.name == name)
 
 
 def outcomes_of(path, player):
@@ -95,7 +110,7 @@ def is_opened(part):
 
 def wrong_expectation(played, expectation, why):
     """An expectation that cannot be met or missed."""
-    return Wrong(f"{played.path}: line {expectation.number}: {expectation.text}: {why}")
+    return Wrong(f"{played.name}: line {expectation.number}: {expectation.text}: {why}")
 
 
 def of_status(played, expectation):
@@ -143,18 +158,8 @@ def place_in_report(played, rows, number):
         if line.words[0] in ("device", "client", "tap", "joy", "owner", "source"):
             break
         if line.place() is not None:
-            return line.place(), time_at(played.moments.get(name), line.place())
+            return line.place(), played.places[name].moment(line.place()) if name in played.places else None
     return None, None
-
-
-def time_at(moments, place):
-    return moments[min(place, len(moments) - 1)] if moments else None
-
-
-def at_the_end(played, part):
-    """The place and the time of the end of an actor's device."""
-    moments = played.moments_for(part)
-    return (len(moments), moments[-1]) if moments else (None, None)
 
 
 def of_view(played, expectation, part):
@@ -173,7 +178,7 @@ def of_view(played, expectation, part):
     if is_held:
         return Outcome(expectation)
     came = " ".join(words) or "nothing"
-    return Outcome(expectation, *at_the_end(played, part), f"{came} came{told_text(played, part, words, wanted)}")
+    return Outcome(expectation, *played.end(part), f"{came} came{told_text(played, part, words, wanted)}")
 
 
 def told_text(played, part, words, wanted):
@@ -183,7 +188,7 @@ def told_text(played, part, words, wanted):
     handed = [line for line in part.sight if line.words[0] == "took" and line.words[-2] == code]
     if not handed:
         return ""
-    place = place_text(handed[-1].place(), played.moments_for(part))
+    place = played.place_text(part, handed[-1].place())
     return f"; it took {' '.join(handed[-1].words[3:])} last, at {place}"
 
 
@@ -208,15 +213,14 @@ def of_never(played, expectation, part):
         return Outcome(expectation)
     place = place_of_line(part, found[0])
     more = f", the first of {len(found)}" if len(found) > 1 else ""
-    time = time_at(played.moments_for(part), place)
-    return Outcome(expectation, place, time, f"{found[0].text!r} came{more}")
+    return Outcome(expectation, place, played.time(part, place), f"{found[0].text!r} came{more}")
 
 
 def of_takes(played, expectation, part):
     if any(is_such(expectation, line) for line in part.sight):
         return Outcome(expectation)
     events = sum(line.words[0] in ("took", "made", "fed") for line in part.sight)
-    return Outcome(expectation, *at_the_end(played, part), f"it did not come among {events_text(events)}")
+    return Outcome(expectation, *played.end(part), f"it did not come among {events_text(events)}")
 
 
 def events_text(count):
@@ -227,10 +231,9 @@ def of_drops(played, expectation, part):
     lost = [line for line in part.sight if line.words[0] == "took" and tuple(line.words[3:5]) == LOST]
     if len(lost) == int(expectation.words[0]):
         return Outcome(expectation)
-    moments = played.moments_for(part)
-    places = [place_text(line.place(), moments) for line in lost]
+    places = [played.place_text(part, line.place()) for line in lost]
     shown = ", ".join(places if len(places) <= 4 else [*places[:3], "..", places[-1]])
-    return Outcome(expectation, *at_the_end(played, part), f"{len(lost)} came" + (f": {shown}" if lost else ""))
+    return Outcome(expectation, *played.end(part), f"{len(lost)} came" + (f": {shown}" if lost else ""))
 
 
 def of_agreement(played, expectation, part):
@@ -242,4 +245,4 @@ def of_agreement(played, expectation, part):
     more = f", and {len(client.at_end) - 1} things more differ" if len(client.at_end) > 1 else ""
     came = f"{thing_text(parting.thing)} is {believed} for it and {present} on the device: {parting.cause}{more}"
     place = 0 if parting.since is None else parting.since
-    return Outcome(expectation, place, time_at(played.moments_for(part), place), came)
+    return Outcome(expectation, place, played.time(part, place), came)

@@ -24,7 +24,7 @@ FLAG_KINDS = {"keys": KEY, "switches": SW, "leds": LED}
 
 # What can be expected of an actor, by its role.
 OF_READER = ("at-end", "never", "takes", "drops", "agrees")
-KINDS = {"client": OF_READER, "tap": OF_READER, "joy": ("at-end",), "owner": ("never", "takes"), "source": ()}
+KINDS = {"client": OF_READER, "tap": OF_READER, "joy": ("at-end", "agrees"), "owner": ("never", "takes"), "source": ()}
 LINES = {"client": ("keys", "switches", "leds", "axes", "current", "slot"), "joy": ("buttons", "axes")}
 LINES["tap"] = LINES["client"]
 

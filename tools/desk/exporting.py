@@ -26,8 +26,8 @@ class Source:
     """The device of a record that is exported, its sources' events in the order of the record, and notes on
     what is left out."""
 
-    def __init__(self, path, text, chosen):
-        self.path, self.folder = path, os.path.dirname(os.path.abspath(path))
+    def __init__(self, path, folder, text, chosen):
+        self.path, self.folder = path, folder
         lines = text.split("\n")
         try:
             recordings = parse(text)

@@ -113,31 +113,3 @@ def is_report(text):
 def without_history(text):
     """A report without the steps of the histories."""
     return "".join(line for line in text.splitlines(keepends=True) if not line.startswith("step "))
-
-
-# The place of the moment among the words of a step.
-MOMENTS = {"inject": 1, "tick": 1, "inhibit": 1, "write": 2, "clock": 3}
-
-
-def moments_of(steps):
-    """For the words of each step of a history, the moment that was last told up to it."""
-    moments, last = [], 0
-    for words in steps:
-        if words[0] in MOMENTS:
-            last = int(words[MOMENTS[words[0]]])
-        moments.append(last)
-    return moments
-
-
-def time_text(micros):
-    """A time in seconds, for people."""
-    whole, rest = divmod(micros, 1000000)
-    digits = f"{rest:06d}".rstrip("0")
-    return f"{whole}.{digits} s" if digits else f"{whole} s"
-
-
-def place_text(place, moments):
-    """A place with its time, where the history tells one."""
-    if not moments:
-        return f"place {place}"
-    return f"place {place} ({time_text(moments[min(place, len(moments) - 1)])})"

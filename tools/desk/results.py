@@ -4,7 +4,7 @@ import json
 from xml.sax.saxutils import escape, quoteattr
 
 from desk.command import Wrong
-from desk.reportlines import time_text
+from desk.places import seconds_text
 
 
 class Checked:
@@ -28,7 +28,7 @@ def where_text(outcome):
     """The place and the time at which it failed."""
     if outcome.place is None:
         return ""
-    return f"at place {outcome.place}" + ("" if outcome.time is None else f" ({time_text(outcome.time)})") + ": "
+    return f"at place {outcome.place}" + ("" if outcome.time is None else f" ({seconds_text(outcome.time)})") + ": "
 
 
 def failure_text(outcome):
