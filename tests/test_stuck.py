@@ -1,6 +1,7 @@
 """tools/stuck: where a client's belief and its device part, since which place, and why."""
 
 import os
+import re
 import stat
 import subprocess
 
@@ -43,15 +44,24 @@ def flood(count):
     return "".join(frame(5000 + number, "EV_REL REL_X 1") for number in range(count))
 
 
+def without_times(text):
+    """What a tool said, without the times behind places."""
+    return re.sub(r" \([0-9]+\.[0-9]+ s\)", "", text)
+
+
 class StuckCase(DeskCase):
+    def all_said(self, text):
+        """What the tool says of a record."""
+        return self.written("stuck", self.file("case.rec", text))
+
     def said(self, text):
-        """What the tool says of a record, without the device's state at the end."""
-        return self.written("stuck", self.file("case.rec", text)).split("the device at the end\n")[0]
+        """The same without times, and without the device's state at the end."""
+        return without_times(self.all_said(text)).split("the device at the end\n")[0]
 
     def part(self, text, name):
         """What it says of one client."""
         lines = self.said(text).splitlines()
-        begin = next(i for i, line in enumerate(lines) if line.split() in (["client", name], ["tap", name]))
+        begin = next(i for i, line in enumerate(lines) if line.split()[1:] == [name] and line[0] != " ")
         end = next(i for i, line in enumerate(lines) if i > begin and line.startswith("  at the end"))
         return "\n".join(lines[begin + 1 : end + 1])
 
@@ -73,7 +83,7 @@ client remapper
 the device at the end
   keys
 """
-        self.assertEqual(wanted, self.written("stuck", EXAMPLES / "stuck_key.rec"))
+        self.assertEqual(wanted, without_times(self.written("stuck", EXAMPLES / "stuck_key.rec")))
 
     def test_a_grab_that_goes_on(self):
         text = KEYBOARD + "client c\ntap g\ndo c open\ndo g open\n" + frame(1, press("KEY_A"))
@@ -384,8 +394,9 @@ class Records(StuckCase):
         text += "client d\n"
         text += "do c open\ndo d open\n" + frame(1, press("KEY_A"))
         text += "do p event 1 EV_ABS ABS_MT_POSITION_X 5\ndo p event 1 EV_SYN SYN_REPORT 0\ndo d follow\n"
-        said = self.written("stuck", self.file("two.rec", text))
-        self.assertIn("  keys KEY_A\ndevice pad steps 5\nclient d\n  at the end: as the device\n", said)
+        said = without_times(self.all_said(text))
+        held = "  KEY_A: down on the device itself since place 3: no release followed\n"
+        self.assertIn(f"  keys KEY_A\n{held}device pad steps 5\nclient d\n  at the end: as the device\n", said)
         self.assertIn("client c\n  KEY_A: up for it, down on the device\n", said)
 
     def test_sixty_four_clients(self):
@@ -400,6 +411,7 @@ class Records(StuckCase):
             with self.subTest(record.name):
                 said = self.written("stuck", record).splitlines()
                 state = [line[2:] for line in said[said.index("the device at the end") + 1 :]]
+                state = [line for line in state if "on the device itself" not in line]
                 played = subprocess.run([PROGRAM, record], cwd=EXAMPLES, capture_output=True, text=True)
                 # the parts of joysticks and owners stand behind all others
                 report = played.stdout.split("\njoy ")[0].split("\nowner ")[0]

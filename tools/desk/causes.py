@@ -1,16 +1,25 @@
 """What kept an event from a client: the first cause that holds, in words.
 
 The causes are looked for in the order of an event's way: its frame must have been offered to the client (it
-was open and not revoked, nobody else held the grab), admitted by its masks, kept in its ring (no loss, no
-discard), and read.
+was open and not revoked, nobody else held the grab), left by the device's filters, admitted by its masks,
+kept in its ring (no loss, no discard), and read.
 """
+
+from dataclasses import dataclass
 
 from desk.belief import CURRENT, SLOT
 from desk.devicestate import DESCRIPTION
 
 
-def span_text(begin, end):
-    return f"from place {begin} to {end}" if end is not None else f"from place {begin} on"
+@dataclass(frozen=True)
+class Cause:
+    """A cause: which of the known ones it is, and what is said of it."""
+
+    kind: str
+    text: str
+
+    def __str__(self):
+        return self.text
 
 
 def event_of_thing(thing):
@@ -24,23 +33,26 @@ class Causes:
     """The causes of one device: its state, what its history says of the clients, and whose the clients
     are."""
 
-    def __init__(self, state, handles, device, unread):
-        self.state, self.handles, self.unread = state, handles, unread
+    def __init__(self, state, device, unread):
+        self.state, self.handles, self.at, self.unread = state, state.handles, state.at, unread
         self.openers = {}
-        for part in device.parts:
+        for part in device.parts + device.joysticks:
             for entry in part.sight:
                 if entry[0] == "call" and entry[2][0] == "opened":
                     self.openers[int(entry[2][2])] = part.name
 
     def cause_of(self, walk, thing, point):
         """Since which place a belief is not the device's state, None for the start, and why."""
+        own = walk.own_cause(thing, point)
+        if own:
+            return own
         value, origin = walk.belief.value(thing), walk.belief.origin(thing)
-        if point.kind == "end" and self.state.value(thing, point.frame) == value:
+        if point.kind == "end" and walk.seen(thing, self.state.value(thing, point.frame)) == value:
             return self.in_open_frame(thing, origin)
         described = self.description_behind(thing, self.state.last_change(thing, point.frame))
         if described is not None and (origin is None or origin[2] <= self.state.place_of(point.frame)):
-            return described, self.description_text(described)
-        frame = self.state.other_since(thing, point.frame, value)
+            return described, self.of_description(described)
+        frame = self.state.other_since(thing, point.frame, value, lambda present: walk.seen(thing, present))
         place = self.state.place_of(frame)
         if origin is not None and (place is None or origin[2] > place):
             later = self.of_later_belief(thing, origin, point)
@@ -53,12 +65,12 @@ class Causes:
         ended = self.state.frame_places[-1] if self.state.frames else -1
         described = self.last_description(thing, len(self.state.history))
         if described is not None and described > ended:
-            return described, self.description_text(described)
+            return described, self.of_description(described)
         if origin is not None and origin[2] > ended:
             ended = origin[2]
         behind = (place for place in self.state.places if place > ended)
         place = next((place for place in behind if self.sets(self.state.history[place], thing)), None)
-        return place, "its frame has not ended: no report followed"
+        return place, Cause("open-frame", "its frame has not ended: no report followed")
 
     def sets(self, step, thing):
         """Does a step inject or write an event for this thing?"""
@@ -73,9 +85,10 @@ class Causes:
     def describes(self, step, thing):
         return step[0] == DESCRIPTION and thing == ("EV_ABS", step[2])
 
-    def description_text(self, place):
+    def of_description(self, place):
         client = int(self.state.history[place][1])
-        return f"{self.openers.get(client, client)} described the axis anew at place {place}, which no event tells"
+        who = self.openers.get(client, client)
+        return Cause("described", f"{who} described the axis anew at {self.at.text(place)}, which no event tells")
 
     def description_behind(self, thing, frame):
         """The place of the description that gave the axis its value at the end of a frame which has no event
@@ -88,62 +101,88 @@ class Causes:
 
     def of_later_belief(self, thing, origin, point):
         """The cause where the belief was told later than the device took its value."""
+        where = self.at.text(origin[2])
         if origin[1] == "answer" and point.kind == "report" and origin[2] > point.place:
-            return f"it asked at place {origin[2]}, behind this report's frame"
+            return Cause("asked-later", f"it asked at {where}, behind this report's frame")
         if origin[1] == "took" and thing[0] == "slot":
-            where = f"it took the value of place {origin[2]} for this slot"
-            return f"{where}, which is not the device's current one there"
+            text = f"it took the value of {where} for this slot, which is not the device's current one there"
+            return Cause("slot", text)
         return None
 
     def of_event(self, walk, thing, frame, point):
         """What kept the event of a frame from the client."""
         if frame < 0:
-            return "it did not ask for the state at its start"
+            return Cause("not-asked", "it did not ask for the state at its start")
         place = self.state.place_of(frame)
         kind, code = event_of_thing(thing)
         taken_for = walk.slot_of_taken.get((place, code))
         if thing[0] == "slot" and taken_for not in (None, thing[1]):
-            return f"it took the value for slot {taken_for}, since that is the current one for it"
+            return Cause("slot", f"it took the value for slot {taken_for}, since that is the current one for it")
         before = [client for opened, client in walk.clients if opened < place]
         if not before:
             return self.of_no_client(walk)
-        return self.of_offer(before[-1], place, kind, code) or self.of_queue(walk, before[-1], place, point)
+        kept = self.of_offer(before[-1], place) or self.of_filter(thing, frame)
+        kept = kept or self.of_mask(before[-1], place, kind, code)
+        return kept or self.of_queue(walk, before[-1], place, point)
 
     def of_no_client(self, walk):
         if not walk.clients:
-            return "it has not opened the device"
-        return f"it opened the device later, at place {walk.clients[0][0]}, and has not asked since"
+            return Cause("never-opened", "it has not opened the device")
+        opened = self.at.text(walk.clients[0][0])
+        return Cause("opened-later", f"it opened the device later, at {opened}, and has not asked since")
 
-    def of_offer(self, client, place, kind, code):
-        """Why the client was not offered the event, or None."""
+    def of_offer(self, client, place):
+        """Why the client was not offered the frame of a place, or None."""
         handles = self.handles
         if handles.closes.get(client, place) < place:
-            return f"it closed the device at place {handles.closes[client]}"
+            return Cause("closed", f"it closed the device at {self.at.text(handles.closes[client])}")
         if handles.revokes.get(client, place) < place:
-            return f"it was revoked at place {handles.revokes[client]}"
+            return Cause("revoked", f"it was revoked at {self.at.text(handles.revokes[client])}")
         grab = handles.grab_of_another(client, place)
-        if grab is not None:
-            return f"grab of {self.openers.get(grab.client, grab.client)} {span_text(grab.begin, grab.end)}"
-        mask = handles.mask_at(client, place, kind, code)
-        return None if mask is None else f"its mask of {mask[0]} {span_text(*mask[1:])}"
+        if grab is None:
+            return None
+        holder = self.openers.get(grab.client, grab.client)
+        return Cause("grab", f"grab of {holder} {self.at.span(grab.begin, grab.end)}")
+
+    def of_filter(self, thing, frame):
+        """Which filter ate the event, or None."""
+        number = self.state.eater_of(thing, frame)
+        if number is None:
+            return None
+        return Cause("filter", f"eaten by filter {number} ({self.state.description.filters[number - 1].text})")
+
+    def of_mask(self, client, place, kind, code):
+        """Which of its masks left the event out, or None."""
+        mask = self.handles.mask_at(client, place, kind, code)
+        return mask and Cause("mask", f"its mask of {mask[0]} {self.at.span(*mask[1:])}")
 
     def of_queue(self, walk, client, place, point):
         """What became of an event that the client was offered."""
-        causes = [(lost, self.loss_text(client, lost)) for lost in walk.losses if lost >= place]
-        gone = [discard for discard in walk.discards if discard > place]
-        causes += [(discard, f"removed unread by its discard at place {discard}") for discard in gone]
+        gone = [(lost, self.of_loss(client, lost)) for lost in walk.losses if lost >= place]
+        gone += [(discard, self.of_discard(discard)) for discard in walk.discards if discard > place]
         changed = self.handles.clock_change_behind(client, place)
-        if changed is not None:
-            causes.append((changed, self.loss_text(client, changed)))
-        causes += [(new, f"it opened the device anew at place {new}, and left its events unread")
-                   for new, _ in walk.clients if new > place]
-        if causes:
-            return min(causes)[1]
+        gone += [] if changed is None else [(changed, self.of_loss(client, changed))]
+        gone += [(new, self.of_new_client(new)) for new, _ in walk.clients if new > place]
+        if gone:
+            return min(gone, key=lambda each: each[0])[1]
         if point.kind != "end":
-            return "nothing that is known here"
-        lost = [lost for lost in self.unread.losses(walk.part.name) if lost >= place]
-        return self.loss_text(client, lost[0]) + ", of which it has not read yet" if lost else "not read yet"
+            return Cause("unknown", "nothing that is known here")
+        lost = [lost for lost in self.unread.losses(walk.part.name) if lost is None or lost >= place]
+        return self.of_loss(client, lost[0], ", of which it has not read yet") if lost else NOT_READ
 
-    def loss_text(self, client, place):
+    def of_loss(self, client, place, more=""):
+        """A loss at a place, or at one that is not told."""
+        if place is None:
+            return Cause("loss", f"loss (its ring was full){more}")
         why = "it changed its clock" if self.handles.is_clock_change(client, place) else "its ring was full"
-        return f"loss at place {place} (SYN_DROPPED: {why})"
+        return Cause("loss", f"loss at {self.at.text(place)} (SYN_DROPPED: {why}){more}")
+
+    def of_discard(self, place):
+        return Cause("discard", f"removed unread by its discard at {self.at.text(place)}")
+
+    def of_new_client(self, place):
+        where = self.at.text(place)
+        return Cause("opened-anew", f"it opened the device anew at {where}, and left its events unread")
+
+
+NOT_READ = Cause("not-read", "not read yet")

@@ -2,8 +2,9 @@
 
 A second record is made of the history of the first one, and played by the same program. It has the same
 device and all steps that a device's state comes of: what was injected and written, ticks and inhibitions,
-and axes that were described anew, in order. Nobody else is there, so there is no grab and no mask, and the
-log limit is the greatest one. Two clients watch:
+and axes that were described anew, in order. Nobody else is there, so there is no grab and no mask; the
+filters are left out, since they keep events from clients and not from the device; and the log limit is the
+greatest one. Two clients watch:
 
 - `frames` reads whatever each step ended. So its events are the frames that were passed, and its belief at
 each report is the device's state at that frame's end.
@@ -11,7 +12,8 @@ each report is the device's state at that frame's end.
   synchronisation of slots, whose answer no report writes, and at the end.
 
 Where axes were described anew, a tap `axes` describes them, which no event tells, and asks for these axes
-behind each step.
+behind each step. Where the device is made by requests, an owner `owner` asks behind each step that may send
+it something, so it is told what each of them sent.
 
 Their own steps are taken out again: those of the source, and the descriptions, stand for those of the first
 history, one for one.
@@ -22,9 +24,13 @@ import itertools
 import os
 import tempfile
 
-from desk.belief import QUERIED_KIND, Belief, first_difference, first_value, thing_text, view_of_lines
+from desk.belief import CURRENT, QUERIED_KIND, Belief, first_difference, first_value, settings_of
+from desk.belief import thing_text, view_of_lines
 from desk.command import Wrong
-from desk.report import read_report
+from desk.filters import filter_frames
+from desk.handles import Handles
+from desk.places import Places
+from desk.report import parts_behind, read_report
 
 GREATEST_LOG = 8388608
 TEXT_LIMIT = 16777216
@@ -33,11 +39,18 @@ DESCRIPTION = "setaxis"
 STATE_STEPS = SOURCE_STEPS + (DESCRIPTION,)
 
 
+# The types of the events that go to the device, for its owner to read; and the one code of EV_SYN.
+OUTPUT_KINDS = ("EV_LED", "EV_SND", "EV_MSC", "EV_REP")
+OUTPUT_SYN = ["EV_SYN", "SYN_CONFIG"]
+
+
 class Frame:
-    """A frame: the place of the step that ended it, its moment, and its events."""
+    """A frame: the place of the step that ended it, its moment, its events, and of each of them the number of
+    the filter that ate it, from 1, or None."""
 
     def __init__(self, place, time, events):
         self.place, self.time, self.events = place, time, events
+        self.eaten = [None] * len(events)
 
 
 class Changes:
@@ -60,9 +73,9 @@ class Changes:
     def change_before(self, frame):
         return self.frames[bisect.bisect_right(self.frames, frame) - 1]
 
-    def other_since(self, frame, value):
+    def other_since(self, frame, value, seen):
         index = bisect.bisect_right(self.frames, frame) - 1
-        while index > 0 and self.values[index - 1] != value:
+        while index > 0 and seen(self.values[index - 1]) != value:
             index -= 1
         return self.frames[index]
 
@@ -72,11 +85,13 @@ class DeviceState:
 
     `frames` are its frames, `changes` how each thing changed, and `changed` which things each frame set;
     `sync_states` is its state at each synchronisation of slots, `end` that at the end, and `view` the lines
-    in which a report has it.
+    in which a report has it. `sent` has what was sent to it, as (place, event); `handles` says what its
+    history does of clients, and `at` tells places with their times.
     """
 
     def __init__(self, description, history):
         self.description, self.history, self.name = description, history, description.name
+        self.handles, self.at, self.sent = Handles(history), Places(history), []
         self.frames, self.changes, self.changed = [], {}, []
         self.sync_states, self.end, self.view = {}, {}, []
         self.places = [place for place, step in enumerate(history) if step[0] in STATE_STEPS]
@@ -96,9 +111,21 @@ class DeviceState:
         """The number of the last frame up to `frame` that changed a thing, or -1."""
         return self.changes[thing].change_before(frame) if thing in self.changes else -1
 
-    def other_since(self, thing, frame, value):
-        """The number of the frame since which a thing was always another than `value`, up to `frame`."""
-        return self.changes[thing].other_since(frame, value) if thing in self.changes else -1
+    def other_since(self, thing, frame, value, seen=lambda present: present):
+        """The number of the frame since which a thing was always another than `value`, up to `frame`. `seen`
+        says as what a reader is told a value."""
+        return self.changes[thing].other_since(frame, value, seen) if thing in self.changes else -1
+
+    def eater_of(self, thing, frame):
+        """The number of the filter that ate the event by which a frame set a thing last, from 1, or None."""
+        current, eater = self.value(CURRENT, frame - 1), None
+        for event, by in zip(self.frames[frame].events, self.frames[frame].eaten):
+            setting = settings_of(event, current, self.description.slots)
+            if setting and setting[0] == CURRENT:
+                current = setting[1]
+            if setting and setting[0] == thing:
+                eater = by
+        return eater
 
     def place_of(self, frame):
         """The place of a frame, or None for the start."""
@@ -141,19 +168,34 @@ def is_read_behind(step, waiting, hint):
     return not is_event or step[-3:-1] == ["EV_SYN", "SYN_REPORT"] or waiting >= hint
 
 
+def is_sent(step):
+    """May this step send something to the device?"""
+    if step[0] not in ("inject", "write"):
+        return False
+    return step[-3] in OUTPUT_KINDS or step[-3:-1] == OUTPUT_SYN
+
+
+def sending_places(state):
+    """The places of the steps behind which the owner asks, where there is one."""
+    is_requested = state.description.is_requested
+    return [place for place in state.places if is_requested and is_sent(state.history[place])]
+
+
 def device_lines(number, state):
-    """The lines of a device and its actors: a source `s`, the clients `frames` and `state`, and a tap where
-    axes are described."""
-    lines = [f"device d{number}", f"log {GREATEST_LOG}"] + state.description.lines
+    """The lines of a device and its actors: a source `s`, the clients `frames` and `state`, a tap where axes
+    are described, and an owner where it is made by requests."""
+    word = "udevice" if state.description.is_requested else "device"
+    lines = [f"{word} d{number}", f"log {GREATEST_LOG}"] + state.description.lines
     lines += [f"source s{number}", f"client frames{number}", f"client state{number}"]
-    return lines + ([f"tap axes{number}"] if state.described else [])
+    lines += [f"tap axes{number}"] if state.described else []
+    return lines + ([f"owner owner{number}"] if state.description.is_requested else [])
 
 
 def action_lines(number, state):
     """What the source and both clients of a device do."""
     read, tap = [f"do frames{number} follow"], f"do axes{number}"
     ask = [f"do state{number} force", f"do state{number} follow"]
-    points = sync_points(state.history, state.places)
+    points, sending = sync_points(state.history, state.places), set(sending_places(state))
     lines = [f"do frames{number} open", f"do frames{number} clock monotonic 0", f"do state{number} open"]
     lines += [f"{tap} open"] if state.described else []
     lines += ask if 0 in points else []
@@ -163,6 +205,7 @@ def action_lines(number, state):
         is_description = step[0] == DESCRIPTION
         words = [tap, DESCRIPTION] + step[2:] if is_description else [f"do s{number}"] + action_of(step)
         lines += [" ".join(words)] + [f"{tap} axis {code}" for code in state.described]
+        lines += [f"do owner{number} feedback 1"] if place in sending else []
         waiting += 1
         if is_read_behind(step, waiting, state.description.hint):
             lines += read
@@ -292,6 +335,16 @@ def read_synchronisations(state, part):
     is_told_by(part, belief, state)
 
 
+def read_sent(state, part):
+    """What each step sent to the device, as its owner was told behind it. A step sends one event at most."""
+    calls = iter(sending_places(state))
+    for entry in part.sight:
+        if entry[0] == "feedback":
+            place = next(calls)
+        else:
+            state.sent.append((place, entry[1]))
+
+
 def is_told_by(part, belief, state):
     """Refuses to go on where a client's belief is not the one that the report has at its end."""
     thing = first_difference(belief, view_of_lines(part.view), state.description)
@@ -309,9 +362,13 @@ def ask(states, player):
         status, written = player.play(path, folder)
     if status != 0:
         raise Wrong(f"the record that asks for the device's state was not played: {written.strip()}")
-    for device, state in zip(read_report(written), states):
+    owners = {part.name: part for part in parts_behind(written)}
+    for number, (device, state) in enumerate(zip(read_report(written), states)):
         places = source_places(device, state)
         read_frames(state, device.parts[1], places)
         if state.described:
             read_described(state, device.parts[3], places)
         read_synchronisations(state, device.parts[2])
+        if state.description.is_requested:
+            read_sent(state, owners[f"owner{number}"])
+        filter_frames(state.frames, state.description.filters, state.handles.is_grabbed)

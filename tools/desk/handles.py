@@ -1,6 +1,8 @@
 """What a history says of a device's clients: when each was opened, closed and revoked, its grabs, masks and
 clocks."""
 
+import bisect
+
 from desk.names import TYPES, number_of_code
 
 ALL_BITS = 2**64 - 1
@@ -21,7 +23,7 @@ class Handles:
 
     def __init__(self, history):
         self.opens, self.closes, self.revokes = [], {}, {}
-        self.grabs, self.masks, self.clocks = [], {}, {}
+        self.grabs, self.grab_begins, self.masks, self.clocks = [], [], {}, {}
         for place, step in enumerate(history):
             self.add(place, step)
 
@@ -30,6 +32,7 @@ class Handles:
             self.opens.append(place)
         elif step[0] == "grab":
             self.grabs.append(Grab(int(step[1]), place))
+            self.grab_begins.append(place)
         elif step[0] in ("ungrab", "close", "revoke"):
             self.end_grab(place, int(step[1]))
             ends = {"close": self.closes, "revoke": self.revokes}.get(step[0], {})
@@ -49,9 +52,18 @@ class Handles:
         if changes[-1][1] != clock:
             changes.append((place, clock))
 
+    def grab_at(self, place):
+        """The grab that was held when the step at a place was made, or None. One holds at a time."""
+        index = bisect.bisect_left(self.grab_begins, place) - 1
+        return self.grabs[index] if index >= 0 and self.grabs[index].holds_at(place) else None
+
+    def is_grabbed(self, place):
+        return self.grab_at(place) is not None
+
     def grab_of_another(self, client, place):
         """The grab that another client held when the step at a place was made, or None."""
-        return next((grab for grab in self.grabs if grab.holds_at(place) and grab.client != client), None)
+        grab = self.grab_at(place)
+        return grab if grab is not None and grab.client != client else None
 
     def mask_at(self, client, place, kind, code):
         """The client's mask that leaves an event out at a place: its type, from which place to which; or

@@ -23,8 +23,8 @@ class Parting:
     """A thing in which belief and device differ: both values at first, since which place, why, and at which
     points.
 
-    `since` is None where they differed from the start. `met` tells how they met again, ("asked", "event",
-    "device" or None) and the place.
+    `since` is None where they differed from the start, and `cause` is a Cause. `met` tells how they met
+    again, ("asked", "event", "device" or None) and the place.
     """
 
     def __init__(self, thing, believed, present, since, cause):
@@ -71,8 +71,16 @@ class Walk:
 
     # Comparing
 
+    def seen(self, thing, value):
+        """As what the client is told a value of the device."""
+        return value
+
+    def own_cause(self, thing, point):
+        """Since which place and why it differs, where that is seen of the client alone; or None."""
+        return None
+
     def is_other(self, thing):
-        return self.belief.value(thing) != self.state.value(thing, self.frame)
+        return self.belief.value(thing) != self.seen(thing, self.state.value(thing, self.frame))
 
     def note(self, thing):
         """Enters whether a thing differs now."""
@@ -140,7 +148,7 @@ class Walk:
 
     def differing_at_end(self):
         things = set(self.belief.values) | set(self.state.end)
-        return {thing for thing in things if self.belief.value(thing) != self.state.end_value(thing)}
+        return {thing for thing in things if self.belief.value(thing) != self.seen(thing, self.state.end_value(thing))}
 
     # What the client saw
 

@@ -8,16 +8,17 @@ from desk import devicestate
 from desk.devicestate import SOURCE_STEPS
 from desk.causes import Causes
 from desk.command import Wrong
-from desk.handles import Handles
+from desk.joysticks import JoyWalk
+from desk.owners import Owner
 from desk.partings import Walk
 from desk.program import PLAYED, folder_of
 from desk.recordfile import RECORD_SIZES, Record, read_text
-from desk.report import read_report
+from desk.report import parts_behind, read_report
 from desk.slips import refusal_text
 
 
-# The command by which an actor reads all that is queued. A joystick's part is not asked for.
-READS = {"client": "follow", "tap": "read 4096"}
+# The command by which an actor reads all that is queued.
+READS = {"client": "follow", "tap": "read 4096", "joy": "read 100000"}
 
 
 class Unread:
@@ -29,11 +30,15 @@ class Unread:
         self.parts = None
 
     def losses(self, name):
-        """The places of the losses that an actor would read of at the end."""
+        """The places of the losses that an actor would read of at the end; None for one whose place is not
+        told, as to a joystick, which then synchronises."""
         if self.parts is None:
             self.parts = self.play()
-        before = next(part for device in self.report for part in device.parts if part.name == name)
+        parts = (part for device in self.report for part in device.parts + device.joysticks)
+        before = next(part for part in parts if part.name == name)
         behind = self.parts[name].sight[len(before.sight) :] if name in self.parts else []
+        if before.role == "joy":
+            return [None for entry in behind if entry[0] == "call" and entry[1][0] == "discard"]
         return [entry[1] for entry in behind if entry[0] == "took" and entry[3][1] == "SYN_DROPPED"]
 
     def play(self):
@@ -46,16 +51,18 @@ class Unread:
             with open(path, "w", encoding="latin-1", newline="") as file:
                 file.write(self.text + "\n".join(lines) + "\n")
             status, written = self.player.play(path, self.folder)
-        report = read_report(written) if status in PLAYED else []
-        return {part.name: part for device in report for part in device.parts}
+        if status not in PLAYED:
+            return {}
+        parts = [part for device in read_report(written) for part in device.parts] + parts_behind(written)
+        return {part.name: part for part in parts}
 
 
 class Client:
-    """A client or tap: what it saw, where it parted from its device and met it again, and where it differs
-    at the end."""
+    """A client, tap or joystick: what it saw, where it parted from its device and met it again, and where it
+    differs at the end."""
 
     def __init__(self, part, walk, at_end):
-        self.name, self.part = part.name, part
+        self.name, self.role, self.part = part.name, part.role, part
         self.walk, self.partings, self.at_end = walk, walk.partings, at_end
 
 
@@ -79,20 +86,35 @@ def source_steps(record, number, history, folder):
 
 
 class PlayedDevice:
-    """A device: its description, what was reported of it, its state, its clients' handles, and its clients.
+    """A device: its description, what was reported of it, its state, its clients' handles, its clients and
+    taps, its joysticks, and its owners, of which there is one at most.
 
     `source_steps` has the place and the source's name of each step that a source made.
     """
 
     def __init__(self, report, state, unread, steps):
         self.name, self.report, self.state, self.source_steps = report.name, report, state, steps
-        self.handles = Handles(report.history)
-        causes = Causes(state, self.handles, report, unread)
-        self.clients = []
-        for part in report.parts:
-            if part.role != "source":
-                walk = Walk(part, state, causes.cause_of)
-                self.clients.append(Client(part, walk, walk.run()))
+        self.handles = state.handles
+        causes = Causes(state, report, unread)
+        parts = [part for part in report.parts if part.role != "source"]
+        self.clients = [walked(Walk(part, state, causes.cause_of)) for part in parts]
+        self.joysticks = [walked(JoyWalk(part, state, causes.cause_of)) for part in report.joysticks]
+        self.owners = [Owner(part, state) for part in report.owners]
+
+    def readers(self):
+        """All who may part from the device."""
+        return self.clients + self.joysticks + self.owners
+
+
+def walked(walk):
+    return Client(walk.part, walk, walk.run())
+
+
+def add_parts_behind(devices, parts, record):
+    """Puts the parts of joysticks and owners to their devices."""
+    for part in parts:
+        device = devices[record.actors[part.name].device]
+        (device.joysticks if part.role == "joy" else device.owners).append(part)
 
 
 def play(path, player):
@@ -103,6 +125,7 @@ def play(path, player):
     if status not in PLAYED:
         raise Wrong(f"{path}: {refusal_text(text, written, status)}")
     record, report = Record(text), read_report(written)
+    add_parts_behind(report, parts_behind(written), record)
     histories = [device.history for device in report]
     states = [devicestate.DeviceState(*pair) for pair in zip(record.devices, histories)]
     devicestate.ask(states, player)

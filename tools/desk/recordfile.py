@@ -5,6 +5,7 @@ say. The forms of the lines are in docs/FORMATS.md.
 """
 
 from desk.command import Wrong
+from desk.filters import filters_of
 from desk.names import ABS, KEY, LED, SLOT, SW, TYPES, code_text, is_slot_value
 from desk.recordlines import DEVICE_WORDS, ROLES, Parser
 
@@ -15,15 +16,19 @@ RECORD_SIZES = {"stream": 24, "stream16": 16}
 
 
 class Device:
-    """A device of a record: its name, its lines of description but the log limit, and what they describe."""
+    """A device of a record: its name, its lines of description but the log limit and the filters, and what
+    they describe."""
 
-    def __init__(self, name):
-        self.name, self.lines = name, []
+    def __init__(self, name, is_requested=False):
+        self.name, self.lines, self.filter_lines = name, [], []
+        self.is_requested = is_requested
         self.parser = Parser(name)
 
     def describe(self, words):
         """Adds a line of the description."""
-        if words[0] != "log":
+        if words[0] == "filter":
+            self.filter_lines.append(" ".join(words))
+        elif words[0] != "log":
             self.lines.append(" ".join(words))
         self.parser.take(words)
 
@@ -33,6 +38,9 @@ class Device:
         self.hint, self.slots = described.hint or DEFAULT_HINT, described.slots
         self.codes = {kind: set(codes) for kind, codes in described.codes.items()}
         self.codes[ABS] = {code for code in described.axes if not is_slot_value(code)} - {SLOT}
+        self.filters = filters_of(self.filter_lines)
+        clocks = [line.split() for line in self.lines if line.startswith("clock realtime ")]
+        self.realtime = number_of(clocks[0][2]) if clocks else 0
 
     def written_codes(self, kind):
         """The codes of a type that a report writes of a client's belief."""
@@ -66,13 +74,18 @@ class Record:
 
     def add(self, number, words):
         if words[0] in DEVICE_WORDS:
-            self.devices.append(Device(words[1]))
+            self.devices.append(Device(words[1], words[0] == "udevice"))
         elif words[0] in ROLES:
             self.actors[words[1]] = Actor(words[1], words[0], len(self.devices) - 1)
         elif words[0] == "do":
             self.actions.append((number, words[1], words[2:]))
         else:
             self.devices[-1].describe(words)
+
+
+def number_of(word):
+    """The number that a word of a record stands for."""
+    return int(word, 16) if word.startswith("0x") else int(word)
 
 
 def words_of(line):

@@ -4,15 +4,22 @@ The lines of a report are described in docs/FORMATS.md, "The report". Events are
 value), types and codes as they are written and the value as a number; all other words stay words.
 """
 
-VIEW_WORDS = ("keys", "switches", "leds", "axes", "current", "slot")
+VIEW_WORDS = ("keys", "switches", "leds", "buttons", "axes", "current", "slot")
+
+# The actors whose parts stand behind all devices.
+BEHIND = ("joy", "owner")
 
 
 class Device:
-    """A device's name, the length of its history, the words of each step, and its actors' parts."""
+    """A device's name, the length of its history, the words of each step, and its actors' parts.
+
+    A report does not say whose the joysticks and owners are that stand behind all devices: who knows the
+    record puts them to the devices.
+    """
 
     def __init__(self, name, steps):
         self.name, self.steps = name, steps
-        self.history, self.parts = [], []
+        self.history, self.parts, self.joysticks, self.owners = [], [], [], []
 
     def part(self, name):
         return next(part for part in self.parts if part.name == name)
@@ -22,7 +29,8 @@ class Part:
     """What an actor saw: `sight` has one tuple an entry, `view` the lines of its view, `stop` how it ended.
 
     Entries are ("call", words of the step, words of the reply), ("took", place, time, event), ("made",
-    event) and ("again", place).
+    event) and ("again", place); of a joystick ("js", time, value, type, number) too; and of an owner
+    ("feedback", place, count) and ("fed", event).
     """
 
     def __init__(self, role, name):
@@ -43,9 +51,21 @@ def entry_of(words):
         return "call", words[1:middle], words[middle + 1 :]
     if words[0] == "made":
         return "made", event_of(words[1:])
-    if words[0] == "again":
-        return "again", int(words[1])
+    if words[0] == "fed":
+        return "fed", event_of(words[1:])
+    if words[0] in ("again", "js", "feedback"):
+        return (words[0], *map(int, words[1:]))
     return None
+
+
+def add_to_part(part, words):
+    """Adds a line to an actor's part."""
+    if words[0] in VIEW_WORDS:
+        part.view.append(words)
+    elif words[0] == "stop":
+        part.stop = " ".join(words[1:])
+    else:
+        part.sight.append(entry_of(words))
 
 
 def add_line(devices, words):
@@ -60,20 +80,28 @@ def add_line(devices, words):
         devices[-1].parts.append(part)
     elif words[0] in ("client", "tap"):
         devices[-1].parts.append(Part(words[0], words[1]))
-    elif words[0] in VIEW_WORDS:
-        devices[-1].parts[-1].view.append(words)
-    elif words[0] == "stop":
-        devices[-1].parts[-1].stop = " ".join(words[1:])
     else:
-        devices[-1].parts[-1].sight.append(entry_of(words))
+        add_to_part(devices[-1].parts[-1], words)
 
 
 def read_report(text):
-    """The devices of a report. The parts of joysticks and owners, which stand behind all devices, are passed over."""
+    """The devices of a report, without the parts that stand behind all of them."""
     devices = []
     for line in text.splitlines():
         words = line.split(" ")
-        if words[0] in ("joy", "owner"):
+        if words[0] in BEHIND:
             break
         add_line(devices, words)
     return devices
+
+
+def parts_behind(text):
+    """The parts of joysticks and owners, which stand behind all devices."""
+    parts = []
+    for line in text.splitlines():
+        words = line.split(" ")
+        if words[0] in BEHIND:
+            parts.append(Part(words[0], words[1]))
+        elif parts:
+            add_to_part(parts[-1], words)
+    return parts

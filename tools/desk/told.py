@@ -3,39 +3,34 @@
 from itertools import groupby
 
 from desk.belief import thing_text
+from desk.held import held_of
+
+MOST_SHOWN = 4
 
 
-def place_text(place):
-    return "from the start" if place is None else f"since place {place}"
+def since_text(place, at):
+    return "from the start" if place is None else f"since {at.text(place)}"
 
 
-def places_text(one, several, places):
-    """Places of one kind, the first three and the last of many."""
-    if len(places) == 1:
-        return f"{one} {places[0]}"
-    shown = [str(place) for place in places]
-    if len(shown) > 4:
-        shown = shown[:3] + [f".. {shown[-1]} ({len(places)} in all)"]
-    return f"{several} {', '.join(shown)}"
-
-
-def points_text(points):
+def points_text(points, at):
     """Where a parting was seen."""
     reports = [point.place for point in points if point.kind == "report"]
     agains = [point.place for point in points if point.kind == "again"]
-    texts = [places_text("the report of place", "the reports of places", reports)] if reports else []
+    texts = [at.several("the report of place", "the reports of places", reports)] if reports else []
     if agains:
-        texts.append(places_text("nothing left to read at place", "nothing left to read at places", agains))
+        texts.append(at.several("nothing left to read at place", "nothing left to read at places", agains))
     if points[-1].kind == "end":
         texts.append("the end")
     return "; ".join(texts)
 
 
-def met_text(partings):
+def met_text(partings, at):
     """How belief and device met again."""
     how = partings[0].met[0]
-    places = sorted({parting.met[1] for parting in partings})
-    where = f"place {places[0]}" if len(places) == 1 else f"places {places[0]} to {places[-1]}"
+    places = sorted({parting.met[1] for parting in partings}, key=lambda place: -1 if place is None else place)
+    if places == [None]:
+        return "the device came back to it"
+    where = at.text(places[0]) if len(places) == 1 else f"places {at.bare(places[0])} to {at.bare(places[-1])}"
     if how == "asked":
         return f"it asked at {where}"
     return f"it took the event of {where}" if how == "event" else f"the device came back to it at {where}"
@@ -45,49 +40,102 @@ def group_of(parting):
     """What partings that are written together have in common."""
     since = -1 if parting.since is None else parting.since
     points = [point.entry for point in parting.points]
-    return points[0], since, parting.cause, points, str(parting.met[0])
+    return points[0], since, str(parting.cause), points, str(parting.met[0])
 
 
-def parting_lines(partings):
+def name_of(client, thing):
+    """A thing's name; of a joystick with its number."""
+    if client.role != "joy":
+        return thing_text(thing)
+    walk = client.walk
+    if thing in walk.buttons:
+        return f"{thing_text(thing)} (button {walk.buttons.index(thing)})"
+    return f"{thing_text(thing)} (axis {walk.axes.index(thing)})"
+
+
+def parting_lines(client, partings, at):
     """The lines on things that parted together."""
     first = partings[0]
     lines = []
     for parting in partings:
         believed, present = parting.value_texts()
-        lines.append(f"  {thing_text(parting.thing)}: {believed} for it, {present} on the device")
-    lines += [f"    {place_text(first.since)}: {first.cause}", f"    seen at: {points_text(first.points)}"]
-    return lines + ([f"    until {met_text(partings)}"] if first.met[0] else [])
+        lines.append(f"  {name_of(client, parting.thing)}: {believed} for it, {present} on the device")
+    lines += [f"    {since_text(first.since, at)}: {first.cause}", f"    seen at: {points_text(first.points, at)}"]
+    return lines + ([f"    until {met_text(partings, at)}"] if first.met[0] else [])
 
 
-def loss_lines(client):
+def all_parting_lines(client, at):
+    lines = []
+    for _, partings in groupby(sorted(client.partings, key=group_of), group_of):
+        lines += parting_lines(client, list(partings), at)
+    return lines
+
+
+def loss_lines(client, at):
     """The losses that a client read, which part no belief where it asked at once."""
-    places = client.walk.losses
-    if not places:
-        return []
-    return ["  it lost events: " + places_text("SYN_DROPPED of place", "SYN_DROPPED of places", places)]
+    if client.walk.losses:
+        return ["  it lost events: " + at.several("SYN_DROPPED of place", "SYN_DROPPED of places", client.walk.losses)]
+    if client.role == "joy" and client.walk.synchronised:
+        return ["  it synchronised anew: " + at.several("at place", "at places", client.walk.synchronised)]
+    return []
 
 
-def end_text(partings):
+def end_text(client):
     """Whether a belief is the device's state at the end."""
-    if not partings:
+    things = [parting.thing for parting in client.at_end]
+    if not things:
         return "as the device"
-    things = thing_text(partings[0].thing) if len(partings) == 1 else f"{len(partings)} things"
-    return f"not as the device in {things}"
+    return "not as the device in " + (name_of(client, things[0]) if len(things) == 1 else f"{len(things)} things")
 
 
-def client_lines(client):
-    """The lines on one client."""
-    lines = [f"{client.part.role} {client.name}"]
+def client_lines(client, at):
+    """The lines on one client, tap or joystick."""
+    lines = [f"{client.role} {client.name}"]
     if not client.walk.clients:
         return lines + ["  it never opened the device"]
-    lines += loss_lines(client)
-    for _, partings in groupby(sorted(client.partings, key=group_of), group_of):
-        lines += parting_lines(list(partings))
-    return lines + [f"  at the end: {end_text(client.at_end)}"]
+    return lines + loss_lines(client, at) + all_parting_lines(client, at) + [f"  at the end: {end_text(client)}"]
+
+
+# Owners
+
+
+def count_text(count, one):
+    return f"1 {one}" if count == 1 else f"{count} {one}s"
+
+
+def sent_text(sent, at):
+    """Events that were sent, each with the place of its step: the first three and the last of many."""
+    shown = [f"{event[1]} {event[2]} of {at.text(place)}" for place, event in sent]
+    if len(shown) > MOST_SHOWN:
+        shown = shown[:3] + [f".. {shown[-1]}"]
+    return ", ".join(shown)
+
+
+def owner_lines(owner, at):
+    """What an owner was told of what was sent to its device."""
+    told = owner.told()
+    calls = count_text(len(owner.calls), "call")
+    lines = [f"owner {owner.name}", f"  it was told {count_text(len(told), 'event')} by {calls}"]
+    lines[-1] += f": {sent_text(told, at)}" if told else ""
+    if owner.lost:
+        lines.append(f"  lost, since 15 wait at most: {count_text(len(owner.lost), 'event')}: {sent_text(owner.lost, at)}")
+    if owner.waiting:
+        waiting = count_text(len(owner.waiting), "event")
+        lines.append(f"  not taken at the end: {waiting}: {sent_text(owner.waiting, at)}")
+    return lines + all_parting_lines(owner, at) + [f"  at the end: {end_text(owner)}"]
+
+
+# Devices
+
+
+def reader_lines(reader, at):
+    return owner_lines(reader, at) if reader.role == "owner" else client_lines(reader, at)
 
 
 def device_lines(device):
+    at = device.state.at
     lines = [f"device {device.name} steps {device.report.steps}"]
-    for client in device.clients:
-        lines += client_lines(client)
-    return lines + ["the device at the end"] + ["  " + " ".join(words) for words in device.state.view]
+    for reader in device.readers():
+        lines += reader_lines(reader, at)
+    lines += ["the device at the end"] + ["  " + " ".join(words) for words in device.state.view]
+    return lines + [f"  {held.text(at)}" for held in held_of(device.state)]

@@ -1,0 +1,53 @@
+"""Places of a history with their times, as they are told to people.
+
+The time of a place is the moment of its step, or that of the last step before it that has one. It is told in
+seconds, with as many digits as it has.
+"""
+
+import bisect
+
+# Where the moment stands in the words of a step.
+MOMENT_AT = {"inject": 1, "tick": 1, "inhibit": 1, "write": 2, "clock": 3}
+
+
+def seconds_text(micros):
+    """Microseconds as seconds: 12.3 s."""
+    whole, rest = divmod(micros, 1000000)
+    return f"{whole}.{f'{rest:06d}'.rstrip('0') or '0'} s"
+
+
+class Places:
+    """The places of a history."""
+
+    def __init__(self, history):
+        self.places, self.moments = [], []
+        for place, step in enumerate(history):
+            if step[0] in MOMENT_AT:
+                self.places.append(place)
+                self.moments.append(int(step[MOMENT_AT[step[0]]]))
+
+    def moment(self, place):
+        """The time of a place in microseconds, or None where no step up to it has one."""
+        index = bisect.bisect_right(self.places, place) - 1
+        return self.moments[index] if index >= 0 else None
+
+    def bare(self, place):
+        """A place and its time: `12 (12.3 s)`."""
+        moment = self.moment(place)
+        return str(place) if moment is None else f"{place} ({seconds_text(moment)})"
+
+    def text(self, place):
+        return f"place {self.bare(place)}"
+
+    def span(self, begin, end):
+        """From one place to another, or on where it did not end."""
+        return f"from {self.text(begin)} " + ("on" if end is None else f"to {self.bare(end)}")
+
+    def several(self, one, more, places):
+        """Places of one kind, the first three and the last of many."""
+        if len(places) == 1:
+            return f"{one} {self.bare(places[0])}"
+        shown = [self.bare(place) for place in places]
+        if len(shown) > 4:
+            shown = shown[:3] + [f".. {shown[-1]}, {len(places)} in all"]
+        return f"{more} {', '.join(shown)}"
