@@ -9,6 +9,7 @@ from desk_cases import TOP, DeskCase
 from desk.paper import COLOURS, RULES, UPON
 
 EXAMPLES = TOP / "examples"
+RECORDS = TOP / "tests" / "records"
 SVG = "{http://www.w3.org/2000/svg}"
 VOID = ("meta", "input")
 
@@ -64,12 +65,13 @@ class Pictures(DrawCase):
         (grab,) = self.found(picture, "grab")
         (parted,) = self.found(picture, "parted")
         frames = self.found(picture, "frame")
-        self.assertEqual("KEY_LEFTCTRL down from place 5 (0.001 s) to place 9 (0.002 s)", on[2])
-        self.assertEqual("grab of remapper from place 7 (0.001 s) to place 10 (0.002 s)", grab[2])
-        self.assertTrue(parted[2].startswith(
-            "KEY_LEFTCTRL differs from place 9 (0.002 s) to place 12 (0.002 s): down for it, up on the device: "
-            "grab of remapper "
-        ), parted[2])
+        self.assertEqual("KEY_LEFTCTRL down from place 5 (0.001 s) to 9 (0.002 s)", on[2])
+        self.assertEqual("grab of remapper from place 7 (0.001 s) to 10 (0.002 s)", grab[2])
+        self.assertEqual(
+            "KEY_LEFTCTRL differs from place 9 (0.002 s) to 12 (0.002 s): down for it, up on the device: "
+            "grab of remapper from place 7 (0.001 s) to 10 (0.002 s)",
+            parted[2],
+        )
         self.assertEqual(
             [
                 "frame of place 5 (0.001 s): EV_KEY KEY_LEFTCTRL 1, EV_SYN SYN_REPORT 0",
@@ -105,10 +107,10 @@ class Pictures(DrawCase):
         picture = self.picture(EXAMPLES / "touchpad.rec")
         contacts = self.found(picture, "contact")
         self.assertEqual(
-            ["contact 100 from place 23 (1764255600 s) to place 772 (1764255600.756 s)",
+            ["contact 100 from place 23 (1764255600.0 s) to 772 (1764255600.756 s)",
              "contact 103 from place 783 (1764255601.268 s) on",
-             "contact 101 from place 42 (1764255600.024 s) to place 772 (1764255600.756 s)",
-             "contact 102 from place 42 (1764255600.024 s) to place 772 (1764255600.756 s)"],
+             "contact 101 from place 42 (1764255600.024 s) to 772 (1764255600.756 s)",
+             "contact 102 from place 42 (1764255600.024 s) to 772 (1764255600.756 s)"],
             [text for *_, text in contacts],
         )
         lines = [text for *_, text in self.found(picture, "first", "path")]
@@ -138,6 +140,58 @@ class Pictures(DrawCase):
         self.assertEqual(axes, texts[:5])
         for text in (("number", "4200"), ("number", "3000"), ("second", "3000"), ("second", "1540")):
             self.assertIn(text, texts[6:])
+
+    def texts(self, picture, kind, tag="path"):
+        return [text for *_, text in self.found(picture, kind, tag)]
+
+    def test_what_filters_eat(self):
+        """Each eaten event is a mark of the device, and a cause; a grab passes the filters by."""
+        picture = self.picture(RECORDS / "grab_passes_filters_by.rec")
+        eaten = self.texts(picture, "eaten")
+        by = "is eaten by filter 1 (chord KEY_A KEY_B)"
+        wanted = [f"place 5 (0.002 s): EV_KEY KEY_B 1 {by}", f"place 13 (0.005 s): EV_KEY KEY_B 1 {by}"]
+        self.assertEqual(wanted + [f"place 19 (0.008 s): EV_KEY KEY_B 0 {by}"], eaten)
+        parted = self.texts(picture, "parted", "rect")
+        cause = "up for it, down on the device: eaten by filter 1 (chord KEY_A KEY_B)"
+        self.assertEqual([f"KEY_B differs from place 13 (0.005 s) to 21 (0.009 s): {cause}"] * 2, parted)
+
+    def test_a_joystick(self):
+        """Its lane has its calls with the records that it was handed, and where its picture is not the
+        device's."""
+        picture = self.picture(RECORDS / "joystick_reads_a_press.rec")
+        handed = ": it was handed BTN_TRIGGER 1, ABS_X 32767"
+        self.assertEqual([f"place 6 (2.5 s): read 3 events{handed}"], self.texts(picture, "read"))
+        startup = ": it was handed startup BTN_TRIGGER 0, startup ABS_X 5"
+        self.assertEqual([f"place 0: opened{startup}"], self.texts(picture, "ask"))
+        headings = [shape.text for shape in picture.iter(SVG + "text") if shape.get("class") == "heading"]
+        self.assertEqual(["sources", "device stick", "joy j"], headings)
+        picture = self.picture(RECORDS / "joystick_start_is_refused.rec")
+        parted = self.texts(picture, "parted", "rect")
+        self.assertEqual("ABS_X (axis 0) differs from place 7 (0.002 s) on: 7 for it, 8 on the device: "
+                         "its frame has not ended: no report followed", parted[0])
+        self.assertTrue(parted[2].startswith("BTN_TRIGGER (button 0) differs from place 5 (0.001 s) on"))
+
+    def test_an_owner(self):
+        """Its lane has its calls with what it was told, and what became of all that was sent."""
+        picture = self.picture(RECORDS / "last_fifteen_wait_for_the_owner.rec")
+        lost = "lost, since it was not asked for in time"
+        wanted = [f"place {place} (0.0000{place + 1:02} s): EV_SND SND_BELL {place + 1}: {lost}"
+                  for place in (0, 1, 18)]
+        self.assertEqual(wanted, self.texts(picture, "loss"))
+        told = self.texts(picture, "read")
+        self.assertEqual(3, len(told))
+        self.assertEqual("asked at place 20 (0.000021 s): told EV_SND SND_BELL 18", told[1])
+        self.assertEqual(["asked at place 0 (0.000001 s): nothing was there",
+                          "asked at place 34 (0.000034 s): nothing was there"],
+                         self.texts(picture, "again", "circle"))
+        sent = [text for text in self.texts(picture, "event", "rect") if "told at" in text]
+        self.assertEqual(31, len(sent))
+        self.assertEqual("place 2 (0.000003 s): EV_SND SND_BELL 3: told at place 17 (0.000018 s)", sent[0])
+
+    def test_each_record_is_drawn(self):
+        for record in sorted(RECORDS.glob("*.rec")):
+            with self.subTest(record.name):
+                self.page(record)
 
     def test_ranges(self):
         text = self.written("draw", "--svg", "--from", "7", "--to", "9", EXAMPLES / "stuck_key.rec")
@@ -209,7 +263,7 @@ class Pages(DrawCase):
         hits = re.findall(r'<rect class="hit" x="(\d+)" [^>]*width="(\d+)"[^>]*><title>([^<]*)</title>', row)
         self.assertEqual(list(range(176, 1176, 8)), [int(left) for left, *_ in hits])
         self.assertEqual({"8"}, {width for _, width, _ in hits})
-        first = "place 2 (0 s): inject EV_REL REL_X 1; place 3 (0 s): inject EV_SYN SYN_REPORT 0; place 5"
+        first = "place 2 (0.0 s): inject EV_REL REL_X 1; place 3 (0.0 s): inject EV_SYN SYN_REPORT 0; "
         self.assertTrue(hits[0][2].startswith(first), hits[0][2])
         self.assertRegex(hits[-1][2], r"inject .* \(and \d+ more here\)$")
 
@@ -312,7 +366,7 @@ class Axes(DrawCase):
     def test_times_stand_below_places(self):
         picture = self.picture(EXAMPLES / "touchpad.rec", "--from", "1", "--to", "700")
         names = [shape.text for shape in picture.iter(SVG + "text") if shape.get("x") == "10"][:2]
-        self.assertEqual(["place", "time from 1764255600 s"], names)
+        self.assertEqual(["place", "time from 1764255600.0 s"], names)
         self.assertEqual(("100", "+0.084 s"), tuple(row[0][0] for row in self.ticks(picture)))
 
     def test_ticks_of_time_are_round(self):
@@ -325,7 +379,7 @@ class Axes(DrawCase):
         page = self.page(self.file("times.rec", "\n".join(lines) + "\n"))
         shown = page.split('<div class="time">')[1].split("</div>")[0]
         texts = re.findall(r'y="16" text-anchor="\w+" class="faint">([^<]*)<', shown)
-        self.assertEqual([f"{tenths / 10:g} s" for tenths in range(125, 160, 5)], texts)
+        self.assertEqual([f"{tenths / 10} s" for tenths in range(125, 160, 5)], texts)
 
 
 class Paper(DrawCase):

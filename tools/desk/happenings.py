@@ -5,7 +5,7 @@ where events are lost. The page draws the ranges of places in which any of this 
 from itertools import groupby
 from typing import NamedTuple
 
-from desk.belief import thing_text
+from desk.told import count_text, name_of
 
 LEAST_RANGE = 200
 MOST_RANGES = 40
@@ -32,12 +32,9 @@ class Happening(NamedTuple):
 
 
 def happenings_of_client(played, client):
-    found = [Happening(place, "loses", client.name) for place in client.walk.losses]
-    for parting in client.partings:
-        name = thing_text(parting.thing)
-        found.append(Happening(parting.since or 0, "parts", client.name, name))
-        if parting.met[1] is not None:
-            found.append(Happening(parting.met[1], "meets", client.name, name))
+    # (a joystick synchronises anew where it lost events)
+    lost = client.walk.synchronised if client.role == "joy" else client.walk.losses
+    found = [Happening(place, "loses", client.name) for place in lost]
     for _, number in client.walk.clients:
         if number in played.handles.revokes:
             found.append(Happening(played.handles.revokes[number], "revoked", client.name))
@@ -48,10 +45,24 @@ def happenings_of_client(played, client):
     return found
 
 
+def happenings_of_reader(played, reader):
+    """Where a client, a joystick or an owner parts from the device, and all else that happens to it."""
+    if reader.role == "owner":
+        found = [Happening(place, "loses", reader.name) for place, _ in reader.lost]
+    else:
+        found = happenings_of_client(played, reader)
+    for parting in reader.partings:
+        name = name_of(reader, parting.thing)
+        found.append(Happening(parting.since or 0, "parts", reader.name, name))
+        if parting.met[1] is not None:
+            found.append(Happening(parting.met[1], "meets", reader.name, name))
+    return found
+
+
 def happenings(played):
     """All that happens on a device, by place. (What is told of the history's end is of its last place.)"""
     last = max(len(played.report.history) - 1, 0)
-    found = [one for client in played.clients for one in happenings_of_client(played, client)]
+    found = [one for reader in played.readers() for one in happenings_of_reader(played, reader)]
     return sorted(one._replace(place=min(one.place, last)) for one in found)
 
 
@@ -80,24 +91,25 @@ def order(one):
     return list(KINDS).index(one.kind), one.who
 
 
-def lines_of(found, moments):
+def lines_of(found, at):
     """What happens, in words: one line for each kind and client."""
     lines = []
     for _, group in groupby(sorted(found, key=order), order):
         group = list(group)
         names = sorted({one.what for one in group})
         what = ", ".join(names[:NAMED])
-        what += f" and {len(names) - NAMED} things more" if len(names) > NAMED else ""
+        if len(names) > NAMED:
+            what += " and " + count_text(len(names) - NAMED, "thing") + " more"
         places = sorted({one.place for one in group})
-        where = f"at {moments.text(places[0])}"
+        where = f"at {at.text(places[0])}"
         if len(places) > 1:
-            where = f"at {len(places)} places from {places[0]} to {places[-1]}{moments.time_of(places[0])}"
+            where = f"at {len(places)} places from {at.bare(places[0])} to {at.bare(places[-1])}"
         lines.append(KINDS[group[0].kind].format(who=group[0].who, what=what) + " " + where)
     return lines
 
 
-def text_of(found, moments):
+def text_of(found, at):
     """What happens, in one text that is no longer than can be read."""
-    lines = lines_of(found, moments)
+    lines = lines_of(found, at)
     more = f"; and {len(lines) - TOLD} more" if len(lines) > TOLD else ""
     return "; ".join(lines[:TOLD]) + more

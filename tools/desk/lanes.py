@@ -6,10 +6,16 @@ mark and bar has a text, which is shown where the pointer rests on it. Places ha
 
 import bisect
 
-from desk.belief import BIT_KINDS, TRACKING_ID, thing_text, value_text
-from desk.moments import MOMENT_WORDS, Moments
+from desk.belief import BIT_KINDS, TRACKING_ID, value_text
+from desk.joysticks import BUTTON, STARTUP
+from desk.moments import Moments
+from desk.places import MOMENT_AT
+from desk.told import name_of
 
 MOST_ROWS = 20
+
+# What stands before a joystick's records in a text, and how long that is at most, about.
+HANDED, LONGEST = ": it was handed ", 240
 
 
 class Ordered:
@@ -76,13 +82,20 @@ class Lanes:
         self.end = len(played.report.history)
 
     def at(self, place):
-        return self.moments.text(place)
+        return self.state.at.text(place)
+
+    def span_text(self, begin, end):
+        """From which place to which. None is the start, or no end."""
+        if begin is not None:
+            return self.state.at.span(begin, end)
+        return "from the start " + ("on" if end is None else f"to {self.at(end)}")
 
     def sections(self):
-        """The headings and their rows: the sources, the device, each client."""
+        """The headings and their rows: the sources, the device, each client, joystick and owner."""
         found = [("sources", self.source_rows()), (f"device {self.played.name}", self.device_rows())]
-        for client in self.played.clients:
-            found.append((f"{client.part.role} {client.name}", self.client_rows(client)))
+        for reader in self.played.readers():
+            rows = self.owner_rows(reader) if reader.role == "owner" else self.client_rows(reader)
+            found.append((f"{reader.role} {reader.name}", rows))
         return found
 
     # Sources
@@ -95,14 +108,15 @@ class Lanes:
             is_report = step[-3:-1] == ["EV_SYN", "SYN_REPORT"]
             kind = "report" if is_report else "event" if step[0] == "inject" else "timer"
             # (the moment of a step stands beside its place already)
-            words = [word for number, word in enumerate(step) if number != MOMENT_WORDS.get(step[0])]
+            words = [word for number, word in enumerate(step) if number != MOMENT_AT.get(step[0])]
             marks[name].append((place, kind, f"{self.at(place)}: {' '.join(words)}"))
         return [Row(name, marks=found) for name, found in marks.items()]
 
     # The device
 
     def device_rows(self):
-        return [self.frame_row()] + self.bit_rows() + self.axis_rows() + self.slot_rows()
+        rows = [self.frame_row()] + ([self.filter_row()] if self.state.description.filters else [])
+        return rows + self.bit_rows() + self.axis_rows() + self.slot_rows()
 
     def frame_row(self):
         marks = []
@@ -111,6 +125,17 @@ class Lanes:
             more = f" and {len(frame.events) - 6} more" if len(frame.events) > 6 else ""
             marks.append((frame.place, "frame", f"frame of {self.at(frame.place)}: {events}{more}"))
         return Row("frames", marks=marks)
+
+    def filter_row(self):
+        """What the device's filters ate of its frames."""
+        filters, marks = self.state.description.filters, []
+        for frame in self.state.frames:
+            for event, by in zip(frame.events, frame.eaten):
+                if by is not None:
+                    words = " ".join(map(str, event))
+                    text = f"{self.at(frame.place)}: {words} is eaten by filter {by} ({filters[by - 1].text})"
+                    marks.append((frame.place, "eaten", text))
+        return Row("eaten by filters", marks=marks)
 
     def spans(self, changes, text_of):
         """The spans of places in which a thing is on: from, to, text. `text_of` gives None for an off value.
@@ -126,7 +151,7 @@ class Lanes:
     def span_bar(self, begin, end, kind, text):
         """A bar from a place, or the start, to a place, or the end."""
         last = self.end if end is None else end
-        return begin or 0, last, kind, f"{text} {self.moments.span_text(begin, end)}"
+        return begin or 0, last, kind, f"{text} {self.span_text(begin, end)}"
 
     def span_bars(self, changes, kind, text_of):
         return [self.span_bar(begin, end, kind, text) for begin, end, text in self.spans(changes, text_of)]
@@ -179,9 +204,10 @@ class Lanes:
 
     # Clients
 
-    def call_marks(self, part):
-        """The marks of a client's reads, losses, synchronisations and answers Again."""
-        marks = []
+    def call_marks(self, client):
+        """The marks of a client's reads, losses, synchronisations and answers Again. Behind a joystick's call
+        stand the records that it was handed."""
+        marks, part = [], client.part
         for entry in part.sight:
             if entry[0] == "again":
                 marks.append((max(entry[1] - 0.5, 0), "again", f"nothing left to read at {self.at(entry[1])}"))
@@ -191,6 +217,8 @@ class Lanes:
                 kind, word = call_mark(part, entry[1], entry[2])
                 place = int(entry[2][1])
                 marks += [(place, kind, f"{self.at(place)}: {word}")] if kind else []
+            elif entry[0] == "js" and marks:
+                marks[-1] = (*marks[-1][:2], with_record(marks[-1][2], client.walk, entry))
         return marks
 
     def handle_bars(self, client):
@@ -213,20 +241,48 @@ class Lanes:
         """A row for each thing in which a client's belief was not the device's state."""
         rows = {}
         for parting in client.partings:
-            name = thing_text(parting.thing)
+            name = name_of(client, parting.thing)
             if parting.thing not in rows:
-                shown = name.replace("ABS_MT_", "MT_")
+                shown = name.replace("ABS_MT_", "MT_").replace(" (", ", ").rstrip(")")
                 rows[parting.thing] = Row(shown, "parted", told=f"{client.name}, {name}")
             since = 0 if parting.since is None else parting.since
             met = self.end if parting.met[1] is None else parting.met[1]
             believed, present = parting.value_texts()
-            span = self.moments.span_text(parting.since, parting.met[1])
+            span = self.span_text(parting.since, parting.met[1])
             text = f"{name} differs {span}: {believed} for it, {present} on the device: {parting.cause}"
             rows[parting.thing].bars.append((min(since, met), max(since, met), "parted", text))
         return list(rows.values())
 
+    # Owners
+
+    def owner_rows(self, owner):
+        """A row for an owner's calls, one for what was sent to its device, and those of what it was not told
+        of."""
+        marks = []
+        for place, events in owner.calls:
+            told = ", ".join(" ".join(map(str, event)) for _, event in events)
+            text = f"asked at {self.at(place)}: " + (f"told {told}" if events else "nothing was there")
+            marks.append((max(place - 0.5, 0), "read" if events else "again", text))
+        sent = Row("sent to the device", marks=self.sent_marks(owner), told=f"sent to {self.played.name}")
+        return [Row(owner.name, "client", marks), sent] + self.parting_rows(owner)
+
+    def sent_marks(self, owner):
+        """The events that were sent, each with what became of it."""
+        became = {}
+        for place, events in owner.calls:
+            became.update({sent: ("event", f"told at {self.at(place)}") for sent, _ in events})
+        became.update({sent: ("loss", "lost, since it was not asked for in time") for sent, _ in owner.lost})
+        became.update({sent: ("timer", "not asked for until the end") for sent, _ in owner.waiting})
+        marks = []
+        for place, event in self.state.sent:
+            kind, word = became[place]
+            marks.append((place, kind, f"{self.at(place)}: {' '.join(map(str, event))}: {word}"))
+        return marks
+
+    # All clients
+
     def client_rows(self, client):
-        row = Row(client.name, "client", self.call_marks(client.part), self.handle_bars(client))
+        row = Row(client.name, "client", self.call_marks(client), self.handle_bars(client))
         return [row] + self.parting_rows(client)
 
 
@@ -239,7 +295,7 @@ def during(points, begin, end):
 def call_mark(part, step, reply):
     """The kind of a call's mark and what it says, or twice None for a call without one."""
     if reply[0] == "took":
-        return "read", f"read {reply[2]} event" + ("s" if reply[2] != "1" else "")
+        return "read", "read 1 event" if reply[2] == "1" else f"read {reply[2]} events"
     if step[0] == "open":
         return "ask", "opened"
     if step[0] == "discard":
@@ -247,6 +303,19 @@ def call_mark(part, step, reply):
     if step[0].startswith(("get", "sync")) and part.role == "tap":
         return "ask", " ".join(step)
     return None, None
+
+
+def with_record(text, walk, entry):
+    """The text of a joystick's call and of one more record that it was handed."""
+    _, _, value, kind, number = entry
+    thing = (walk.buttons if kind % STARTUP == BUTTON else walk.axes)[number]
+    word = "startup " if kind >= STARTUP else ""
+    behind = ", " if HANDED in text else HANDED
+    return f"{text}{behind}{word}{thing[1]} {value}" if len(text) < LONGEST else cut(text)
+
+
+def cut(text):
+    return text if text.endswith("..") else f"{text}, .."
 
 
 # All

@@ -34,7 +34,8 @@ content-visibility: visible; display: block; height: auto } #said { display: non
 MARKS = (
     ("event", "event"), ("report", "report"), ("timer", "tick or inhibition"),
     ("frame", "frame"), ("read", "read"),
-    ("again", "nothing left to read"), ("ask", "opened, or asked anew"), ("loss", "loss (SYN_DROPPED)"),
+    ("again", "nothing left to read"), ("ask", "opened, or asked anew"), ("eaten", "eaten by a filter"),
+    ("loss", "loss (SYN_DROPPED)"),
 )
 BARS = (
     ("on", "down, or on"), ("contact", "contact"), ("open", "open"), ("grab", "grab"), ("mask", "mask"),
@@ -71,14 +72,15 @@ class DevicePart:
         self.played, self.ident = played, f"d{number}"
         self.lanes, self.found = Lanes(played), happenings(played)
         self.sections, self.moments = self.lanes.sections(), self.lanes.moments
-        self.steps = len(played.report.history)
+        self.at, self.steps = played.state.at, len(played.report.history)
 
     def said(self, begin, end):
         """The title and the description of a picture."""
         title = f"device {self.played.name}, {self.moments.range_text(begin, end)}"
-        names = ", ".join(f"{part.role} {part.name}" for part in self.played.report.parts)
-        happens = text_of(between(self.found, begin, end), self.moments)
-        return title, f"Lanes for {names}. {happens or 'Nothing parts, is grabbed or is lost'}."
+        names = [f"source {part.name}" for part in self.played.report.parts if part.role == "source"]
+        names += [f"{reader.role} {reader.name}" for reader in self.played.readers()]
+        happens = text_of(between(self.found, begin, end), self.at)
+        return title, f"Lanes for {', '.join(names) or 'the device'}. {happens or 'Nothing parts, is grabbed or is lost'}."
 
     def both_ways(self, begin, end, ranges=()):
         """A picture over places and one over moments; the page shows one of them."""
@@ -99,14 +101,14 @@ class DevicePart:
             found = between(self.found, begin, end)
             left, right = scale.x(begin), scale.x(end)
             box = f'x="{left:.1f}" y="{AXIS - 13}" width="{max(right - left - 1, 3):.1f}" height="10"'
-            title = f"{self.moments.range_text(begin, end)}: {text_of(found, self.moments)}"
+            title = f"{self.moments.range_text(begin, end)}: {text_of(found, self.at)}"
             shape = f'<rect class="pick {gravest(found)}" {box}><title>{escape(title)}</title></rect>'
             shapes.append(f'<a href="#{self.ident}-{begin}" tabindex="-1">{shape}</a>')
         return "".join(shapes)
 
     def range_part(self, begin, end):
         """A range in which something happens, which is opened to be seen."""
-        lines = lines_of(between(self.found, begin, end), self.moments)
+        lines = lines_of(between(self.found, begin, end), self.at)
         told = "".join(f"<li>{escape(line)}</li>" for line in lines)
         summary = f"{self.moments.range_text(begin, end)}<ul>{told}</ul>"
         head = f'<details id="{self.ident}-{begin}"><summary>{summary}</summary>'

@@ -5,7 +5,7 @@ Each tick has two texts: over the places a place and the time there, over time a
 
 import bisect
 
-from desk.moments import time_text
+from desk.places import seconds_text
 
 GUTTER, PLOT, RIGHT = 176, 1000, 44
 WIDTH = GUTTER + PLOT + RIGHT
@@ -58,13 +58,13 @@ class Scale:
 
     def names(self):
         """What the two texts of a tick are."""
-        time = f"time from {time_text(self.base)}" if self.base else "time"
+        time = f"time from {seconds_text(self.base)}" if self.base else "time"
         if not self.moments.are_told:
             return ("place", "")
         return (time, "place") if self.is_over_time else ("place", time)
 
     def time(self, moment):
-        return ("+" if self.base else "") + time_text(moment - self.base)
+        return ("+" if self.base else "") + seconds_text(moment - self.base)
 
     def rounded(self, moment):
         """A moment to a thousandth of the scale's length, or finer."""
