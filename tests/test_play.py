@@ -1,9 +1,13 @@
 """tools/play: which program plays, what it hands on, and what it says of a line that is refused."""
 
+import gzip
+import json
 import os
 import shutil
+import signal
 import stat
 import subprocess
+import time
 
 from desk_cases import PROGRAM, TOOLS, TOP, DeskCase
 from desk.slips import SLIPS
@@ -12,13 +16,13 @@ EXAMPLES = TOP / "examples"
 
 
 class PlayCase(DeskCase):
-    def play_tool(self, *words, **environment):
+    def play_tool(self, *words, stdin=None, **environment):
         """Runs the tool: its status, its output, and its lines on standard error."""
         if not os.access(PROGRAM, os.X_OK):
             self.fail(f"no program at {PROGRAM}: build it, or name one in INPUTPLAY")
         env = {**os.environ, "INPUTPLAY": PROGRAM, **environment}
         words = [TOOLS / "play", *words]
-        done = subprocess.run(words, env=env, capture_output=True, text=True, cwd=self.folder)
+        done = subprocess.run(words, env=env, capture_output=True, text=True, cwd=self.folder, stdin=stdin)
         return done.returncode, done.stdout, done.stderr.splitlines()
 
     def stand_in(self, status, text):
@@ -38,8 +42,32 @@ class Played(PlayCase):
 
     def test_several_files(self):
         records = [EXAMPLES / "one_key.rec", EXAMPLES / "stuck_key.rec"]
-        wanted = "".join(record.with_suffix(".report").read_text() for record in records)
+        wanted = "".join(f"file {record}\n" + record.with_suffix(".report").read_text() for record in records)
         self.assertEqual((0, wanted), self.play_tool(*records)[:2])
+
+    def test_standard_input(self):
+        wanted = (EXAMPLES / "one_key.report").read_text()
+        with open(EXAMPLES / "one_key.rec") as record:
+            status, text, _ = self.play_tool("-", stdin=record)
+        self.assertEqual((0, wanted), (status, text))
+
+    def test_standard_input_has_streams_in_the_present_folder(self):
+        shutil.copy(EXAMPLES / "views_flood.bin", self.folder)
+        with open(EXAMPLES / "views.rec") as record:
+            status, text, _ = self.play_tool("-", stdin=record)
+        self.assertEqual((0, (EXAMPLES / "views.report").read_text()), (status, text))
+
+    def test_json(self):
+        status, text, _ = self.play_tool("--json", "--history", EXAMPLES / "views.rec", EXAMPLES / "joystick.rec")
+        self.assertEqual(0, status)
+        objects = [json.loads(line) for line in text.splitlines()]
+        reports = [self.play_tool("--history", EXAMPLES / name)[1] for name in ("views.rec", "joystick.rec")]
+        played = [{"kind": "played", "file": str(EXAMPLES / name), "status": 0} for name in ("views.rec", "joystick.rec")]
+        self.assertEqual(played, [each for each in objects if each["kind"] == "played"])
+        self.assertEqual(sum(len(report.splitlines()) for report in reports), len(objects) - 2)
+        took = {"kind": "took", "file": str(EXAMPLES / "joystick.rec"), "device": "gamepad", "role": "client"}
+        took.update(name="overlay", place=4, time=2000000, type="EV_KEY", code="BTN_SOUTH", value=1)
+        self.assertTrue(any(set(took) == set(each) for each in objects), took)
 
     def test_history(self):
         text = self.play_tool("--history", EXAMPLES / "one_key.rec")[1]
@@ -101,7 +129,9 @@ class Refused(PlayCase):
     def test_the_first_status_that_is_not_0(self):
         letter = self.file("letter.rec", "dear all\n")
         status, text, _ = self.play_tool(EXAMPLES / "one_key.rec", letter, self.folder / "missing.rec")
-        self.assertEqual((1, (EXAMPLES / "one_key.report").read_text()), (status, text))
+        report = (EXAMPLES / "one_key.report").read_text()
+        files = [f"file {EXAMPLES / 'one_key.rec'}\n", report, f"file {letter}\n", f"file {self.folder / 'missing.rec'}\n"]
+        self.assertEqual((1, "".join(files)), (status, text))
 
     def test_messages_and_statuses_are_handed_on(self):
         record = self.file("case.rec", "inputrecord 1\n")
@@ -120,7 +150,46 @@ class Refused(PlayCase):
                 stderr=subprocess.PIPE,
                 text=True,
             )
-        self.assertEqual((4, 1), (done.returncode, len(done.stderr.splitlines())), done.stderr)
+        said = [f"play: played by {PROGRAM}", "play: standard output: No space left on device"]
+        self.assertEqual((4, said), (done.returncode, done.stderr.splitlines()))
+
+    def test_a_closed_output(self):
+        done = subprocess.run(
+            ["sh", "-c", f"'{TOOLS / 'play'}' '{EXAMPLES / 'one_key.rec'}' >&-"],
+            env={**os.environ, "INPUTPLAY": PROGRAM},
+            stderr=subprocess.PIPE,
+            text=True,
+        )
+        self.assertEqual((4, "play: standard output is closed"), (done.returncode, done.stderr.splitlines()[-1]))
+
+    def test_files_that_are_no_records(self):
+        """What a file is that was played by mistake is told in place of the usual slips."""
+        made = "make a record of it with tools/record"
+        data = TOP / "tests" / "data"
+        other = {
+            data / "lid.evtest": f"this is what evtest prints: {made}",
+            data / "lid.evemu": f"this is what evemu writes: {made}",
+            data / "lid.libinput.yml": f"this is a recording of libinput: {made}",
+            data / "lid.proc": "this is /proc/bus/input/devices: tools/describe reads it",
+            data / "lid.bin": f"this is binary, as a raw capture of a device's events is: {made}",
+            self.file("packed", gzip.compress(b"inputrecord 1\n")): "this is a gzip file: unpack it with gunzip",
+            self.file("shot", b"\x89PNG\r\n\x1a\n\0\0"): "this is a picture (PNG), and no record",
+            TOP / "docs" / "stuck_key.svg": "this is a picture (SVG), as tools/draw writes one, and no record",
+            EXAMPLES / "lid.report": "this is a report, as playing a record writes it, and no record",
+        }
+        for path, said in other.items():
+            with self.subTest(path.name):
+                status, text, lines = self.play_tool(path)
+                self.assertEqual((1, ""), (status, text))
+                self.assertTrue(lines[-1].startswith(f"  {said}"), lines)
+                self.assertFalse([line for line in lines if "usual slips" in line], lines)
+
+    def test_json(self):
+        record = self.file("case.rec", "inputrecord 1\nfollow\n")
+        status, text, _ = self.play_tool("--json", record)
+        wanted = {"kind": "refused", "file": str(record), "message": "inputplay: line 2: bad-line"}
+        wanted.update(line=2, cause="bad-line")
+        self.assertEqual((1, wanted), (status, json.loads(text)))
 
 
 class Words(PlayCase):
@@ -139,6 +208,44 @@ class Words(PlayCase):
         because = f"INPUTPLAY names {missing}, which is no program"
         self.refuses(EXAMPLES / "one_key.rec", because=because, INPUTPLAY=missing)
 
+    def test_other_programs(self):
+        """A program that is not inputplay is told in one line, whatever it does."""
+        endless = "#!/bin/sh\nkill -9 $$\n"
+        others = {
+            "true": ("#!/bin/sh\n", "is not inputplay, or is broken: it wrote nothing"),
+            "echo": ("#!/bin/sh\necho hello\n", "is not inputplay, or is broken: what it wrote is no report"),
+            "status": ("#!/bin/sh\necho device d steps 0\nexit 77\n", "is not inputplay: it ended in status 77"),
+            "killed": (f"{endless}", "not inputplay, or is broken: it wrote nothing"),
+            "no_program": ("#!/no/such/shell\n", "does not start: No such file or directory"),
+            "no_format": ("\x7fELF", "does not start: Exec format error"),
+        }
+        for name, (content, said) in others.items():
+            with self.subTest(name):
+                program = self.file(name, content)
+                program.chmod(0o755)
+                status, _, lines = self.play_tool(EXAMPLES / "one_key.rec", INPUTPLAY=str(program))
+                self.assertEqual((2, 2), (status, len(lines)), lines)
+                self.assertTrue(lines[1].startswith(f"play: {program}, which INPUTPLAY names,"), lines)
+                self.assertIn(said, lines[1])
+
+    def test_stopped_from_the_keyboard(self):
+        program = self.file("slow", "#!/bin/sh\nexec sleep 20\n")
+        program.chmod(0o755)
+        for tool, words in (("play", []), ("stuck", []), ("draw", [])):
+            with self.subTest(tool):
+                started = subprocess.Popen(
+                    [TOOLS / tool, *words, EXAMPLES / "one_key.rec"],
+                    env={**os.environ, "INPUTPLAY": str(program)},
+                    stdout=subprocess.PIPE,
+                    stderr=subprocess.PIPE,
+                    text=True,
+                    start_new_session=True,
+                )
+                time.sleep(1)
+                os.killpg(started.pid, signal.SIGINT)
+                text, said = started.communicate(timeout=20)
+                self.assertEqual((130, "", f"{tool}: stopped"), (started.returncode, text, said.splitlines()[-1]))
+
     def test_neither_program_nor_toolchain(self):
         """In a copy of the tools alone, with no toolchain on the path."""
         shutil.copytree(TOOLS, self.folder / "tools", ignore=shutil.ignore_patterns("__pycache__"))
@@ -155,18 +262,51 @@ class Words(PlayCase):
         self.assertEqual(1, len(done.stderr.splitlines()), done.stderr)
         self.assertIn("no built program (crates/inp_main/out/inp_main) and no toolchain (rt)", done.stderr)
 
-    def test_the_toolchain(self):
-        """A stand-in for the toolchain is handed the record, and the files of its `stream` lines."""
+
+class Toolchain(PlayCase):
+    """A stand-in for the toolchain, in a copy of the tools beside no built program."""
+
+    last = "run=ended status=6 runners=1 races=unchecked proved=no"
+
+    def setUp(self):
+        super().setUp()
         shutil.copytree(TOOLS, self.folder / "tools", ignore=shutil.ignore_patterns("__pycache__"))
         (self.folder / "crates" / "inp_main").mkdir(parents=True)
-        toolchain = self.file("rt", '#!/bin/sh\npwd\necho "$@"\necho "checked: ended status=6" >&2\nexit 6\n')
-        toolchain.chmod(toolchain.stat().st_mode | stat.S_IXUSR)
+
+    def by_toolchain(self, tool, status, *lines, write='echo "$@"'):
+        """Runs a tool by a toolchain that writes these lines at its end."""
+        said = "".join(f"echo '{line}' >&2\n" for line in lines)
+        toolchain = self.file("rt", f"#!/bin/sh\n{write}\n{said}exit {status}\n")
+        toolchain.chmod(0o755)
         env = {"PATH": f"{self.folder}:{os.environ['PATH']}", "PYTHONDONTWRITEBYTECODE": "1"}
-        done = subprocess.run(
-            [self.folder / "tools" / "play", EXAMPLES / "views.rec"], env=env, capture_output=True, text=True
-        )
+        words = [self.folder / "tools" / tool, EXAMPLES / "views.rec"]
+        return subprocess.run(words, env=env, capture_output=True, text=True)
+
+    def test_the_record_and_its_streams_are_handed_on(self):
+        done = self.by_toolchain("play", 6, "checked: ended status=6", self.last, write='pwd; echo "$@"')
         data = f"--data views.rec={EXAMPLES}/views.rec --data views_flood.bin={EXAMPLES}/views_flood.bin"
         self.assertEqual(6, done.returncode, done.stderr)
         self.assertEqual(f"{self.folder.resolve()}/crates/inp_main\ntry {data} -- ./views.rec\n", done.stdout)
-        self.assertEqual(["play: played by the toolchain without proof (rt try); this takes about a minute"],
-                         done.stderr.splitlines())
+        said = ["play: played by the toolchain without proof (rt try); this takes one to three minutes"]
+        self.assertEqual(said, done.stderr.splitlines())
+
+    def test_each_end_that_is_not_the_programs(self):
+        """Whatever status the toolchain has: its last line tells that the program did not end."""
+        long = "checked: no-answer: the run wrote more than 1048576 bytes to standard output or to standard error, the limit on each"
+        ends = {
+            "a long report": (6, [long, "run=no-answer proved=no"], "hands on 1 MiB of a report at most"),
+            "a long run": (6, ["checked: no-answer: 60 seconds", "run=no-answer proved=no"], "took more than it grants"),
+            "a fault": (4, ["checked: fault: an index", "run=fault proved=no"], "stopped at a fault under the toolchain"),
+            "two answers": (5, ["run=differs proved=no"], "the toolchain's two runs of the program differ"),
+            "no program": (1, ["error[type]: it is none", "run=none proved=no"], "built no program and played nothing"),
+            "nothing said": (0, [], "built no program and played nothing"),
+            "said by the crate": (0, ["run=ended status=0 proved=no", "more"], "built no program"),
+        }
+        for case, (status, lines, wanted) in ends.items():
+            for tool in ("play", "stuck", "draw"):
+                with self.subTest(case, tool=tool):
+                    done = self.by_toolchain(tool, status, *lines, write="true")
+                    said = [line for line in done.stderr.splitlines() if "played by the toolchain" not in line]
+                    self.assertEqual((2, "", 1), (done.returncode, done.stdout, len(said)), said)
+                    self.assertTrue(said[0].startswith(f"{tool}: "), said)
+                    self.assertIn(wanted, said[0])

@@ -4,6 +4,10 @@ import argparse
 import os
 import sys
 
+from desk.progress import progress
+
+WRONG, CUT_OFF, STOPPED = 2, 4, 130
+
 
 class Wrong(Exception):
     """Input that is refused. Its text is the one line that is written."""
@@ -21,25 +25,68 @@ class Words(argparse.ArgumentParser):
 
 def say(program, text):
     """One line on standard error, whatever characters a file's own names have."""
+    progress.clear()
     line = " ".join(text.split())
-    print(f"{program}: {line.encode('ascii', 'backslashreplace').decode()}", file=sys.stderr)
+    if sys.stderr is not None:
+        try:
+            print(f"{program}: {line.encode('ascii', 'backslashreplace').decode()}", file=sys.stderr, flush=True)
+        except OSError:
+            pass
 
 
-def run(program, command):
-    """Ends in what the command gives: its text on standard output and its notes on standard error."""
-    try:
-        text, notes = command(sys.argv[1:])
-    except Wrong as wrong:
-        say(program, str(wrong))
-        sys.exit(2)
-    for note in notes:
-        say(program, f"note: {note}")
+def write(program, text):
+    """Writes a text to standard output; the status of the command's end."""
+    progress.clear()
+    if sys.stdout is None:
+        say(program, "standard output is closed")
+        return CUT_OFF
     try:
         sys.stdout.write(text)
         sys.stdout.flush()
     except BrokenPipeError:
-        # (Python would try to flush once more at its end)
-        os.dup2(os.open(os.devnull, os.O_WRONLY), sys.stdout.fileno())
+        # (who reads it has read enough)
+        forget_output()
+    except OSError as fault:
+        forget_output()
+        say(program, f"standard output: {fault.strerror}")
+        return CUT_OFF
+    return 0
+
+
+def forget_output():
+    """What was not written to standard output yet goes nowhere. (Python would try to write it once more at
+    its end.)"""
+    os.dup2(os.open(os.devnull, os.O_WRONLY), sys.stdout.fileno())
+
+
+def ends(program, body):
+    """Does what a command does, and ends in its status: that which it gives, 2 for wrong input, and 130 where
+    it is stopped from the keyboard."""
+    progress.begin(program)
+    try:
+        status = body()
+    except Wrong as wrong:
+        say(program, str(wrong))
+        status = WRONG
+    except KeyboardInterrupt:
+        say(program, "stopped")
+        status = STOPPED
+    progress.end()
+    if status:
+        sys.exit(status)
+
+
+def run(program, command):
+    """Ends in what the command gives: its text on standard output, its notes on standard error, and a status
+    where it gives one."""
+
+    def body():
+        text, notes, *status = command(sys.argv[1:])
+        for note in notes:
+            say(program, f"note: {note}")
+        return write(program, text) or (status[0] if status else 0)
+
+    ends(program, body)
 
 
 def number(text, low, high, what, base=10):
@@ -48,6 +95,11 @@ def number(text, low, high, what, base=10):
     if not low <= value <= high:
         raise Wrong(f"{what} {text[:40]} is not in {low} to {high}")
     return value
+
+
+def counted(count, one):
+    """A count of things: 1 event, 2 events."""
+    return f"1 {one}" if count == 1 else f"{count} {one}s"
 
 
 def at_line(index, what):

@@ -2,7 +2,7 @@
 
 import re
 
-from desk import evemu, evtest, libinput, procfs, raw, recordlines
+from desk import evemu, evtest, kinds, libinput, procfs, raw, recordlines, source
 from desk.command import Wrong
 
 # The first that recognises a text reads it.
@@ -18,19 +18,16 @@ GREATEST_SIZE = 1 << 28
 
 
 def read_bytes(path):
-    try:
-        with open(path, "rb") as file:
-            data = file.read(GREATEST_SIZE + 1)
-    except (OSError, ValueError) as fault:
-        raise Wrong(f"{path}: {getattr(fault, 'strerror', None) or fault}") from None
+    data = source.read_bytes(path, GREATEST_SIZE + 1)
     if len(data) > GREATEST_SIZE:
-        raise Wrong(f"{path}: more than {GREATEST_SIZE} bytes")
+        raise Wrong(f"{source.shown(path)}: more than {GREATEST_SIZE} bytes")
     return data
 
 
 def recordings_of(data, raw_size=None):
     if not data:
         raise Wrong("the file is empty")
+    refuse_other_kinds(data)
     if raw_size or raw.is_raw(data):
         return raw.parse(data, raw_size)
     text = data.decode("utf-8", "replace").replace("\r\n", "\n").replace("\r", "\n")
@@ -44,13 +41,22 @@ def recordings_of(data, raw_size=None):
     raise Wrong(f"not in a form that is known here ({KNOWN}, a raw capture)")
 
 
+def refuse_other_kinds(data):
+    """Refuses what neither describes a device nor is a capture: a packed file, a picture, a page."""
+    start = data[:512].lstrip(b"\xef\xbb\xbf \t\r\n").lower()
+    for magic, said in kinds.MAGICS:
+        if start.startswith(magic.lower()):
+            raise Wrong(said.replace(", and no record", ", and no capture"))
+
+
 def read(path, chosen=None, raw_size=None):
     """The recording of a file, the chosen one where it has several."""
     try:
         return choose(recordings_of(read_bytes(path), raw_size), chosen)
     except Wrong as wrong:
         text = str(wrong)
-        raise Wrong(text if text.startswith(f"{path}: ") else f"{path}: {text}") from None
+        name = source.shown(path)
+        raise Wrong(text if text.startswith((f"{name}: ", source.NAME)) else f"{name}: {text}") from None
 
 
 def choose(recordings, chosen):

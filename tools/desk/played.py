@@ -15,6 +15,7 @@ from desk.program import PLAYED, folder_of
 from desk.recordfile import RECORD_SIZES, Record, read_text
 from desk.report import parts_behind, read_report
 from desk.slips import refusal_text
+from desk.source import as_file, shown
 
 
 # The command by which an actor reads all that is queued.
@@ -119,11 +120,12 @@ def add_parts_behind(devices, parts, record):
 
 def play(path, player):
     """Plays a record and asks for its devices' states; the played devices."""
+    folder, name = folder_of(path), shown(path)
+    path = as_file(path)
     text = read_text(path)
-    folder = folder_of(path)
     status, written = player.play(path, folder, ["--history"])
     if status not in PLAYED:
-        raise Wrong(f"{path}: {refusal_text(text, written, status)}")
+        raise Wrong(f"{name}: {refusal_text(text, written, status)}")
     record, report = Record(text), read_report(written)
     add_parts_behind(report, parts_behind(written), record)
     histories = [device.history for device in report]

@@ -5,26 +5,40 @@ crates/inp_main/out/inp_main of this repository. Else the toolchain's `rt try` p
 proof. It runs the program in a folder of its own, so it is handed the record and the file of each `stream`
 line by name.
 
-The program writes its report and its one-line messages to the same output. `play` tells them apart by the
-status.
+The program writes its report and its one-line messages to the same output, and they are told apart by how
+they begin. The toolchain has statuses of its own: whether a status is the program's is told by the last line
+that the toolchain writes.
 """
 
 import os
+import re
 import shutil
 import subprocess
 import tempfile
 
 from desk.command import Wrong
+from desk.progress import progress
 from desk.recordfile import stream_names
+from desk.source import folder_of  # noqa: F401  (who plays a record needs its folder)
 
 REPOSITORY = os.path.dirname(os.path.dirname(os.path.dirname(os.path.abspath(__file__))))
 BUILT = os.path.join(REPOSITORY, "crates", "inp_main", "out", "inp_main")
 SOURCE = os.path.join(REPOSITORY, "crates", "inp_main")
 
-TOOLCHAIN_LINES = ("checked: ended", "run=ended")
-
 # The statuses with which a report was written.
 PLAYED = (0, 6)
+GREATEST_STATUS = 7
+
+# How the program's output begins: with a device of a report, or with a message.
+MESSAGES = (b"inputplay: ", b"usage: inputplay ")
+BEGINS = (b"device ", *MESSAGES)
+
+# The toolchain's own lines: at the end one with how the run ended, before it what it says of the runs.
+TOOLCHAIN_LINES = ("checked: ", "races: ", "run=", "interpreter: ")
+LAST_LINE = re.compile(r"^run=([a-z-]+)(?: status=(\d+))?.*proved=no$")
+BUILD = "build the program with bin/inputplay, which plays it at once"
+TOO_LONG = re.compile(r"more than \d+ bytes|the limit on each|standard output")
+TOO_SLOW = re.compile(r"seconds|did not end|time")
 
 
 class Player:
@@ -46,7 +60,7 @@ class Player:
     def is_told(self):
         """What is said of the way in which a record is played."""
         if self.by_toolchain:
-            return "played by the toolchain without proof (rt try); this takes about a minute"
+            return "played by the toolchain without proof (rt try); this takes one to three minutes"
         return f"played by {self.name}"
 
     def command(self, path, folder, flags):
@@ -69,21 +83,87 @@ class Player:
         words, where = self.command(path, folder, flags)
         self.beside = tempfile.TemporaryFile()
         given = {"stdin": subprocess.DEVNULL, "stdout": subprocess.PIPE, "stderr": self.beside}
-        return subprocess.Popen(words, cwd=where, **given)
+        how = "the toolchain plays it, in one to three minutes" if self.by_toolchain else "it is played"
+        progress.tell(f"{os.path.basename(path)}: {how}")
+        try:
+            return subprocess.Popen(words, cwd=where, **given)
+        except OSError as fault:
+            raise Wrong(f"{self.who()} does not start: {fault.strerror}") from None
+
+    def who(self):
+        """The program's name, where it is to be told that something is wrong with it."""
+        if self.by_toolchain:
+            return "the toolchain (rt)"
+        return f"{self.name}, which INPUTPLAY names," if os.environ.get("INPUTPLAY") else self.name
+
+    def lines_beside(self):
+        self.beside.seek(0)
+        return self.beside.read().decode("utf-8", "replace").splitlines()
 
     def said(self):
         """The lines that were said beside the output of the last run, but the toolchain's own."""
-        self.beside.seek(0)
-        lines = self.beside.read().decode("utf-8", "replace").splitlines()
-        return [line for line in lines if not line.startswith(TOOLCHAIN_LINES)]
+        return [line for line in self.lines_beside() if not line.startswith(TOOLCHAIN_LINES)]
+
+    def check_begin(self, written, path):
+        """Refuses what another program wrote: neither a report nor a message."""
+        if written.startswith(BEGINS) or self.by_toolchain:
+            return
+        if written or has_devices(path):
+            wrote = "what it wrote is no report" if written else "it wrote nothing"
+            raise Wrong(f"{self.who()} is not inputplay, or is broken: {wrote}")
+
+    def status(self, process):
+        """The program's status, once its output was read. Every other end is one line that says what to do."""
+        status = process.wait()
+        if self.by_toolchain:
+            return toolchain_status(self.lines_beside())
+        if status < 0:
+            raise Wrong(f"{self.who()} was ended by signal {-status}")
+        if status > GREATEST_STATUS:
+            raise Wrong(f"{self.who()} is not inputplay: it ended in status {status}")
+        return status
 
     def play(self, path, folder, flags=()):
         """The status, and what was written."""
         process = self.start(path, folder, flags)
-        written, _ = process.communicate()
-        return process.returncode, written.decode("ascii", "replace")
+        try:
+            written, _ = process.communicate()
+        except BaseException:
+            process.kill()
+            process.wait()
+            raise
+        status = self.status(process)
+        self.check_begin(written[:64], path)
+        return status, written.decode("ascii", "replace")
 
 
-def folder_of(path):
-    """The folder in which the record is played, which has the files of its `stream` lines."""
-    return os.path.dirname(os.path.abspath(path))
+def has_devices(path):
+    """Does a file have a line that begins a device? Its report is not empty then."""
+    try:
+        with open(path, "rb") as file:
+            return re.search(rb"^[ \t]*u?device[ \t]", file.read(), re.MULTILINE) is not None
+    except OSError:
+        return False
+
+
+def toolchain_status(lines):
+    """The program's status, by the toolchain's last line. Each other end is told with what to do."""
+    last = LAST_LINE.match(lines[-1]) if lines else None
+    how = last[1] if last else "none"
+    if how == "ended" and last[2] is not None:
+        return int(last[2])
+    told = next((line for line in reversed(lines[:-1]) if line.startswith("checked: ")), "")
+    told = told or next((line for line in lines if "error" in line or line.startswith("rt: ")), "")
+    raise Wrong(f"{toolchain_end(how, told)}" + (f" [{told[:160]}]" if told else ""))
+
+
+def toolchain_end(how, told):
+    if how == "no-answer" and TOO_LONG.search(told):
+        return f"the toolchain hands on 1 MiB of a report at most, and this one is longer: {BUILD}"
+    if how == "no-answer":
+        return f"the toolchain ended the run, since it took more than it grants: {BUILD}"
+    if how == "fault":
+        return "the program stopped at a fault under the toolchain: keep the record, and report it"
+    if how == "differs":
+        return "the toolchain's two runs of the program differ: keep the record, and report it"
+    return "the toolchain built no program and played nothing: look at `rt try` in crates/inp_main"

@@ -4,10 +4,10 @@ It takes the text for a record that the program has accepted: what is wrong in a
 say. The forms of the lines are in docs/FORMATS.md.
 """
 
-from desk.command import Wrong
 from desk.filters import filters_of
 from desk.names import ABS, KEY, LED, SLOT, SW, TYPES, code_text, is_slot_value
 from desk.recordlines import DEVICE_WORDS, ROLES, Parser
+from desk.source import read_bytes
 
 DEFAULT_HINT = 16
 
@@ -96,11 +96,7 @@ def words_of(line):
 
 def read_text(path):
     """The text of a record. A byte that is no text stays one character."""
-    try:
-        with open(path, encoding="latin-1", newline="") as file:
-            return file.read()
-    except (OSError, ValueError) as fault:
-        raise Wrong(f"{path}: {getattr(fault, 'strerror', None) or fault}") from None
+    return read_bytes(path).decode("latin-1")
 
 
 def stream_names(path):

@@ -2,6 +2,8 @@
 
 import re
 
+from desk.kinds import said_of
+
 REFUSAL = re.compile(r"inputplay: line (\d+): ([a-z-]+)$")
 
 SLIPS = {
@@ -72,10 +74,19 @@ def line_text(text, number):
     return plain if len(plain) <= 100 else plain[:97] + "..."
 
 
+def other_kind(text, cause):
+    """What a file is that was played by mistake, or None."""
+    is_other = cause in ("not-text", "bad-header", "bad-line")
+    return said_of(text.encode("latin-1")) if is_other else None
+
+
 def refusal_text(text, written, status):
     """One line on why a record was not played."""
     refused = refused_line(written)
     if refused is None:
         return f"{written.strip() or 'the program wrote nothing'} (status {status})"
     number, cause = refused
+    other = other_kind(text, cause)
+    if other:
+        return other
     return f"line {number}: {cause}: {line_text(text, number).strip()!r}: {SLIPS.get(cause, 'no hint')}"

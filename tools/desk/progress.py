@@ -1,0 +1,60 @@
+"""Says on a terminal what a command does and how far it is, where that takes longer than two seconds."""
+
+import sys
+import threading
+import time
+
+QUIET = 2.0
+STEP = 0.5
+
+
+class Progress:
+    """One line on standard error, which is written over and cleared again. Where standard error is no
+    terminal nothing is written."""
+
+    def __init__(self):
+        self.program, self.what, self.share = "", None, None
+        self.begun, self.is_shown, self.thread = 0.0, False, None
+        self.lock, self.is_over = threading.Lock(), threading.Event()
+
+    def begin(self, program):
+        self.program, self.begun = program, time.monotonic()
+        self.is_over.clear()
+
+    def tell(self, what, done=None, total=None):
+        """What is done now, and how much of it."""
+        self.what = what
+        self.share = f", {done} of {total}" if total else ""
+        if self.thread is None and sys.stderr is not None and sys.stderr.isatty():
+            self.thread = threading.Thread(target=self.show_on, daemon=True)
+            self.thread.start()
+
+    def show_on(self):
+        while not self.is_over.wait(STEP):
+            if time.monotonic() - self.begun >= QUIET:
+                self.show()
+
+    def show(self):
+        with self.lock:
+            if self.what is None or self.is_over.is_set():
+                return
+            seconds = int(time.monotonic() - self.begun)
+            sys.stderr.write(f"\r\033[K{self.program}: {self.what}{self.share} ({seconds} s)")
+            sys.stderr.flush()
+            self.is_shown = True
+
+    def clear(self):
+        """Takes the line away, so that another one may be written."""
+        with self.lock:
+            if self.is_shown:
+                sys.stderr.write("\r\033[K")
+                sys.stderr.flush()
+            self.is_shown, self.what = False, None
+
+    def end(self):
+        self.is_over.set()
+        self.clear()
+        self.thread = None
+
+
+progress = Progress()
