@@ -209,7 +209,7 @@ class Names(unittest.TestCase):
             count += len(FACT.findall(text))
             missing += [(crate, name) for name in FACT.findall(text) if name not in known]
         self.assertEqual([], missing)
-        self.assertGreater(count, 200)
+        self.assertGreater(count, 50)
 
     def test_each_fact_that_a_page_names_is_there(self):
         known = set().union(*facts().values())
