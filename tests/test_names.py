@@ -29,6 +29,11 @@ CRATE_ROW = re.compile(r"^\| `(inp_\w+)` \| (.*) \|$", re.M)
 COMMENTED = re.compile(r"^\s*(?:--|//[/!]?)(?: (.*))?$", re.M)
 FILE = re.compile(r"`(?:crates/)?(?:(inp_\w+)/)?((?:proofs|specs|src)/(?:\w+/)*\w+\.(?:antt|rt))`")
 MARK = re.compile(r"^\s*(?:--|//[/!]?) ?", re.M)
+# A fact, named as all facts are whose name is no verb.
+FACT = re.compile(r"`(?:\w+\.)?((?:Is|Are|Has)[A-Z]\w*)`")
+# A row of the table of what crates stand on, and where it ends in all that those below stand on.
+STANDS_ROW = re.compile(r"^\| (`inp_\w+`(?:, `inp_\w+`)*) \| (.*) \|$", re.M)
+ALL_BELOW = re.compile(r"and (?:the crates|what) (?:that )?(?:these|it) stands? on")
 
 
 def given():
@@ -81,6 +86,34 @@ def promised(text):
             for name in re.findall(r"[A-Za-z_]\w+", code):
                 if not name.startswith("inp_"):
                     yield crate, name
+
+
+def dependencies():
+    """What each crate of crates.txt stands on, crates of the toolchain too."""
+    lines = [line.split(":") for line in (TOP / "crates.txt").read_text().splitlines() if ":" in line]
+    return {head.split()[0]: below.split() for head, below in lines}
+
+
+def below(crate, stands_on):
+    """A crate, and all that it stands on."""
+    return {crate}.union(*(below(other, stands_on) for other in stands_on.get(crate, ())))
+
+
+def facts():
+    """The facts that the definitions and the lemmas of each crate have."""
+    found = {}
+    for kind in ("specs/*.antt", "proofs/**/*.antt"):
+        for path in TOP.glob(f"crates/*/{kind}"):
+            found.setdefault(path.relative_to(TOP / "crates").parts[0], set()).update(PROVED.findall(path.read_text()))
+    return found
+
+
+def said_of_crates():
+    """The texts that are about a crate, each with the crate: its comments, and its row of the README."""
+    for crate, file in files_of_crates():
+        if "proofs" not in file.parts:
+            yield crate, comments(file)
+    yield from CRATE_ROW.findall((TOP / "README.md").read_text())
 
 
 def stands_in(name, path):
@@ -169,6 +202,32 @@ class Names(unittest.TestCase):
             self.assertIn(name, words[crate], f"README.md: `{name}` of {crate}")
         self.assertGreater(count, 80)
 
+    def test_each_fact_that_is_said_of_a_crate_is_one_of_it_or_below(self):
+        there, stands_on, count, missing = facts(), dependencies(), 0, []
+        for crate, text in said_of_crates():
+            known = set().union(*(there.get(other, set()) for other in below(crate, stands_on)))
+            count += len(FACT.findall(text))
+            missing += [(crate, name) for name in FACT.findall(text) if name not in known]
+        self.assertEqual([], missing)
+        self.assertGreater(count, 50)
+
+    def test_each_fact_that_a_page_names_is_there(self):
+        known = set().union(*facts().values())
+        missing = [(page.name, name) for page in PAGES for name in FACT.findall(page.read_text()) if name not in known]
+        self.assertEqual([], missing)
+
+    def test_the_table_of_crates_has_what_each_stands_on(self):
+        stands_on, rows = dependencies(), {}
+        for crates, says in STANDS_ROW.findall((TOP / "docs" / "ARCHITECTURE.md").read_text()):
+            rows.update(dict.fromkeys(re.findall(r"inp_\w+", crates), says))
+        toolchain = set().union(*stands_on.values()) - set(stands_on)
+        for crate, others in stands_on.items():
+            self.assertIn(crate, rows)
+            named = {name for name in re.findall(r"`(\w+)`", rows[crate]) if name in stands_on or name in toolchain}
+            self.assertLessEqual(named, set(others), crate)
+            all_below = set().union(*(below(name, stands_on) for name in named)) if ALL_BELOW.search(rows[crate]) else named
+            self.assertLessEqual(set(others), all_below, crate)
+
     def test_no_name_is_defined_in_two_crates(self):
         repository = Repository(TOP)
         names = [
@@ -184,6 +243,12 @@ class Names(unittest.TestCase):
     def test_what_it_finds_of_promises(self):
         page = "| Crate | Proved |\n|---|---|\n| `inp_a` | `Tee::of` (`Is`), as in `inp_b`; `examples` |\n"
         self.assertEqual([("inp_a", "Tee"), ("inp_a", "of"), ("inp_a", "Is"), ("inp_a", "examples")], list(promised(page)))
+
+    def test_what_it_finds_of_facts(self):
+        self.assertEqual(["IsRun", "AreTold", "HasRoom"], FACT.findall("`IsRun`, `Job.AreTold`; `HasRoom`, `Is`, `IsRun.once`"))
+        self.assertEqual({"a", "b", "c", "d"}, below("a", {"a": ["b", "d"], "b": ["c"], "c": []}))
+        self.assertIn("IsRun", facts()["inp_runs"])
+        self.assertNotIn("IsRun", facts()["inp_model"])
 
     def test_what_it_finds_of_two_crates(self):
         names = [("inp_a", "one"), ("inp_a", "two"), ("inp_b", "one"), ("inp_a", "one")]

@@ -1,8 +1,12 @@
 """What `bench/races` makes of a record, and of what valgrind's two race detectors write."""
 
+import contextlib
+import io
+import sys
 import unittest
 from importlib.machinery import SourceFileLoader
 from importlib.util import module_from_spec, spec_from_loader
+from unittest import mock
 
 from playing import TOP
 
@@ -14,20 +18,24 @@ RECORD = """inputrecord 1
 # a comment
 device kbd
 source s
+client c
 tap t
 do t open
 do s uninhibit
 do t read 1
+do c follow
 do t revoke
 """
 
 TWICE = """inputrecord 1
 device kbd
 source s
+client c
 tap t
 do t open
 do s uninhibit
 do t read 1
+do c follow
 do s uninhibit
 do t read 1
 """
@@ -63,9 +71,43 @@ HELGRIND = (
 )
 
 
+REPORT = """device kbd steps 4
+step 0 open
+step 1 inject 1 EV_SYN SYN_REPORT 0
+step 2 read 0 64
+step 3 read 0 64
+source s calls 1 stop finished
+client c
+call read 0 64 reply took 3 1
+device pad steps 0
+"""
+
+
 class Races(unittest.TestCase):
     def test_a_record_is_repeated(self):
         self.assertEqual(TWICE, races.repeated(RECORD, 2))
+
+    def test_how_many_reads_were_accepted(self):
+        self.assertEqual((["device kbd steps 4", "device pad steps 0"], 2), races.summed(REPORT))
+
+    def run_over(self, report):
+        """What it prints and its status, where the program printed this report and valgrind nothing."""
+        said = io.StringIO()
+        with mock.patch.object(races, "play", lambda *_: (report, "<valgrindoutput></valgrindoutput>")):
+            with mock.patch.object(sys, "argv", ["races"]), contextlib.redirect_stdout(said):
+                try:
+                    races.main()
+                except SystemExit as end:
+                    return said.getvalue(), str(end)
+        return said.getvalue(), ""
+
+    def test_a_run_without_a_read_fails(self):
+        said, end = self.run_over(REPORT)
+        self.assertEqual("device kbd steps 4\ndevice pad steps 0\n2 reads were accepted\n0 places, 0 times\n", said)
+        self.assertEqual("", end)
+        said, end = self.run_over("device kbd steps 0\n")
+        self.assertIn("\n0 reads were accepted\n", said)
+        self.assertIn("no read was accepted", end)
 
     def test_reports_of_drd(self):
         found = [(("step", "reads", "make"), "0xA", 0x20, 7), (("work", "writes", "-"), "0xB", 0, 1)]

@@ -73,6 +73,11 @@ class Replay(FolderCase):
     def test_a_run_side_by_side_is_the_one_of_its_history(self):
         self.assertIsNone(self.complaint(self.report()))
 
+    def test_how_far_the_jobs_met(self):
+        """The tap, sources, the client, sources, the tap, the client, sources; the client's read took the frame of step 5."""
+        (device,) = check(RECORD, self.report().split("\n")[:-1], idle=IDLE)
+        self.assertEqual((6, 1), (device.changes(), device.waits()))
+
     def test_a_spoiled_report_is_not(self):
         for name, (before, after, word) in SPOILED.items():
             with self.subTest(name):
@@ -89,7 +94,7 @@ class Replay(FolderCase):
 
     def test_the_script(self):
         record, report = self.folder / "f", self.folder / "report"
-        record.write_text(RECORD)
+        record.write_bytes(RECORD.encode() + b"# any bytes: \xe9\xff\x85\n")
         report.write_text(self.report())
         for words, status, said in (
             (["--idle", IDLE, record, report], 0, ""),

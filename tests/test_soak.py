@@ -24,6 +24,12 @@ OTHER = SAME.replace("read(), 1,", "read(), os.getpid(),")
 SPOILED = RUN.replace("SEED", "1") + "print('\\n'.join(lines[:-1] + ['stop full 0']))\nsys.exit(6)\n"
 STATUS = RUN.replace("SEED", "1") + "print('\\n'.join(lines))\nsys.exit(3)\n"
 
+# Of the jobs that wait for their turn the last one by name is next: a client comes when all sources and taps have ended.
+ONE_BY_ONE = SAME.replace(
+    "words = sys", "import side_by_side\nside_by_side.Order.next = lambda order: order.waiting and "
+    "len(order.waiting) == order.running and order.waiting.pop(max(order.waiting)).set()\nwords = sys"
+)
+
 
 class Soak(FolderCase):
     def soak(self, program, *words):
@@ -35,17 +41,25 @@ class Soak(FolderCase):
         return subprocess.run(command, capture_output=True, text=True, timeout=60, env=where)
 
     def test_what_it_says(self):
-        words = ["--records", "4", "--times", "2"]
+        words = ["--records", "4", "--times", "2", "--frames", "12"]
         for name, program, status, said in (
             ("one order", SAME, 0, "8 runs of 4 records, none that differs; 4 different reports\n"),
+            ("jobs that meet", SAME, 0, " had both\n"),
+            ("jobs one by one", ONE_BY_ONE, 1, "fewer than half of the runs have both"),
             ("orders of their own", OTHER, 0, "8 runs of 4 records, none that differs; "),
-            ("a spoiled report", SPOILED, 1, "bench/soak: record 0 with --idle 1: "),
+            ("a spoiled report", SPOILED, 1, "bench/soak: record 0 with --idle 1000: "),
             ("a wrong status", STATUS, 1, "status 3, and "),
         ):
             with self.subTest(name):
                 done = self.soak(program, *words)
                 self.assertEqual(status, done.returncode, done.stderr)
                 self.assertIn(said, done.stdout + done.stderr)
+
+    def test_a_line_for_each_run(self):
+        done = self.soak(SAME, "--records", "1", "--times", "3", "--frames", "2", "--each")
+        lines = [line for line in done.stdout.splitlines() if line.startswith("record 0, --idle 1000, processors ")]
+        self.assertEqual(3, len(lines), done.stderr)
+        self.assertEqual(1, len({line.split(": ")[1] for line in lines}), "one order is one run")
 
     def test_wrong_words(self):
         for words, said in (

@@ -14,7 +14,7 @@ import argparse
 import os
 import sys
 
-from device import Device, Outputs
+from device import Device, Outputs, is_report
 from model import (
     LATER_ROLES,
     Actor,
@@ -79,8 +79,8 @@ class Played:
 
     def __init__(self, name, caps, texts, asked):
         self.device, self.answers, self.moments = Device(name, caps), [], {}
-        # What each step sends to the device.
-        self.sent = []
+        # What each step sends to the device; and by the place of each read of a line `follow` those of the reports it took.
+        self.sent, self.followed = [], {}
         for place, text in enumerate(texts):
             if place in asked:
                 self.moments[place] = Moment(self.device)
@@ -105,6 +105,19 @@ class Played:
         self.callers[place] = caller
         return self.answers[place]
 
+    def changes(self):
+        """In how many places the job changes: the step is another job's than the one before. All sources count as one job."""
+        return sum(caller != before for before, caller in zip(self.callers, self.callers[1:]))
+
+    def waits(self):
+        """How many reads of lines `follow` took frames that all ended behind the step that their job made before."""
+        last, count = {}, 0
+        for place, caller in enumerate(self.callers):
+            reports = self.followed.get(place)
+            count += bool(reports) and min(reports) > last[caller]
+            last[caller] = place
+        return count
+
     def refuse(self, place, step, caller):
         why = self.moments[place].refusal(step) if place in self.moments else None
         if why is None:
@@ -120,7 +133,7 @@ class Share:
         self.told = iter([place_and_word(line) for line in told if is_call(line)])
         self.told_feedback = iter([place for line in told for place in places_of_feedback(line)])
         self.outputs = Outputs(self.caps.log)
-        self.seen = 0
+        self.seen, self.follows = 0, False
 
     def step(self, step):
         place, word = next(self.told, (None, None))
@@ -130,7 +143,10 @@ class Share:
             raise Differs(f"{self.name}: its call {step_text(step)} at {place} is below what it had seen")
         is_refused = word in ("again", "refused")
         self.seen = place + (not is_refused)
-        return (self.played.refuse if is_refused else self.played.claim)(place, step, self.name)
+        answer = (self.played.refuse if is_refused else self.played.claim)(place, step, self.name)
+        if self.follows and answer[0][0] == "took":
+            self.played.followed[place] = [at for event, _, at in answer[1] if is_report(event)]
+        return answer
 
     def feedback(self, room):
         """A feedback call, which takes of what the steps before the place sent that the owner printed."""
@@ -171,6 +187,7 @@ class Job(Actor):
         self.sources, self.idle = sources, idle
 
     def do_client(self, words, streams):
+        self.device.follows = words[0] == "follow"
         super().do_client(words, streams)
         last = self.sight[-1].split() if words[0] == "follow" else [""]
         if last[0] == "again" and self.device.played.ends(int(last[1])) < self.sources:
@@ -231,7 +248,7 @@ def parts_of(lines):
 
 
 def replay_device(i, record, printed, streams, idle):
-    """The jobs of a device with what they saw, and the device."""
+    """A device as its printed history has it, and its jobs with what they saw."""
     name, caps = record.descriptions[i]
     texts, parts = printed
     actors = [(actor, role) for actor, role, device in record.actors if device == i]
@@ -255,24 +272,25 @@ def replay_device(i, record, printed, streams, idle):
     share_out(played, [job for job in jobs if job.role == "source"])
     for job in jobs:
         job.device = played.device
-    return played.device, jobs
+    return played, jobs
 
 
 def replay(text, printed, folder=".", idle=IDLE):
-    """The report that comes of a printed one's histories; `Differs` where none does."""
+    """The report that comes of a printed one's histories, and the devices; `Differs` where none does."""
     record = read_record(text)
     devices, later = parts_of(printed)
     if len(devices) != len(record.descriptions):
         raise Differs(f"the record has {len(record.descriptions)} devices, and the report {len(devices)}")
     devices = [(texts, {**later, **parts}) for texts, parts in devices]
     ended = [replay_device(i, record, device, streams_of(folder), idle) for i, device in enumerate(devices)]
-    return report([device for device, _ in ended], [job for _, jobs in ended for job in jobs], history=True)
+    lines = report([played.device for played, _ in ended], [job for _, jobs in ended for job in jobs], history=True)
+    return lines, [played for played, _ in ended]
 
 
 def check(text, printed, folder=".", idle=IDLE):
-    """Raises `Differs` where a printed report is not what comes of its histories."""
+    """The devices of a printed report, each a `Played`. Raises `Differs` where it is not what comes of its histories."""
     try:
-        wanted = replay(text, printed, folder, idle)
+        wanted, devices = replay(text, printed, folder, idle)
     except (IndexError, KeyError, ValueError) as error:
         raise Differs(f"it has a line that is none of a report ({error})") from error
     for number, (line, other) in enumerate(zip(wanted, printed), start=1):
@@ -280,6 +298,13 @@ def check(text, printed, folder=".", idle=IDLE):
             raise Differs(f"line {number} is {other!r}, and {line!r} comes of the history")
     if len(wanted) != len(printed):
         raise Differs(f"the report has {len(printed)} lines, and {len(wanted)} come of the history")
+    return devices
+
+
+def text_of(path):
+    """The text of a record or a report. A comment may have any bytes."""
+    with open(path, encoding="latin1", newline="") as file:
+        return file.read()
 
 
 def main():
@@ -289,7 +314,7 @@ def main():
     parser.add_argument("report", help="what the program printed of it with --threads and --history")
     words = parser.parse_args()
     try:
-        text, printed = open(words.record).read(), open(words.report).read().split("\n")[:-1]
+        text, printed = text_of(words.record), text_of(words.report).split("\n")[:-1]
         check(text, printed, os.path.dirname(os.path.abspath(words.record)), words.idle)
     except OSError as error:
         parser.error(str(error))

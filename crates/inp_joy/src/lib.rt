@@ -9,7 +9,7 @@
 //! Its contract: `specs/Joying.antt` says what `start` and `read` ask of an evdev, one step by the answers before it,
 //! and what they answer, hand out and keep (a `Talk` of `inp_reader`). [`Joy::start`] and [`Joy::read`] promise that
 //! the calls they made are those of that talk, of `read` in some number of turns, and that the answer, the record and
-//! what is kept are its result (`Says`, `IsRead`). Without a record the caller's bytes stay. A `read` ends. The count
+//! what is kept are its result (`Says`, `IsJoyRead`). Without a record the caller's bytes stay. A `read` ends. The count
 //! of answers Again rises at `Again` alone. What the calls leave of the history is said as
 //! [`Reader`](inp_reader::Reader) says it (`LeavesMade`), and so is where the client stands. [`laws::pictures`] states
 //! what a startup, an event and a view that is the device's make of pictures. [`examples`] shows what two short

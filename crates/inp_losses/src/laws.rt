@@ -4,7 +4,7 @@ ghost use Rattle.inp_losses.specs.Losses.{AreQueuedCaused, AreTakenCaused};
 /// A client loses events for two causes alone. It does nothing: its contract is the point.
 ///
 /// For every description, every list of steps and every client: let a `SYN_DROPPED` be queued for the client, or taken by
-/// it. Then the step at its place did one of two things (`HasCause`).
+/// it. Then the step at its place did one of two things (`IsCausedAt`).
 ///
 /// - It ended frames, and one of their events came to the client's ring while all places but one were taken
 ///   (`MeetsFullRing`).

@@ -13,7 +13,7 @@
 //! step was answered from just what the pass has seen now, and its own places and the caller's buffers stay. And in the
 //! words of `Evdev`, by `IsCallBy` in `specs/Port.antt`: whatever the count of answers `Again`, the call is an evdev's
 //! for the caller with this pass. A [`PortClient`] is an `Evdev` by that, whose turns rise with each call and whose tie
-//! is its pass's share and its port.
+//! is its pass's share, its port, and those places of the pass's own where no step stands.
 //!
 //! [`PortOf::inject_all`] says the same of many events under one turn, also of none (`IsServedAllTurn`,
 //! `IsInjectAllBy`). [`PortOf::split`], [`PortOf::join`] and [`PortOf::close`] say of a port's passes what those of

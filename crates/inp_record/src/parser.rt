@@ -31,7 +31,7 @@ fn read_lines(alloc: Global, text: &[u8]) -> Result<(Context, u32), ParseFault>
 }
 
 /// The record that bytes are. `docs/FORMATS.md` has the form, which is this project's choice. Each stream is empty: `load`
-/// gives it its events. The time is linear in the length of the text, since a record has at most 1,088 actors and a line
+/// gives it its events. The time is linear in the length of the text, since a record has at most 1,096 actors and a line
 /// looks at each at most once.
 ///
 /// # Errors

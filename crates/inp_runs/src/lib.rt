@@ -28,7 +28,7 @@
 //! ([`owners_lines_are_calls`]). [`feed_lines`] has an owner do all its lines over
 //! whatever answers its feedback calls, and says so (`AreFed`, `specs/Feeding.antt`). After want of memory too all that
 //! was done is feedback calls (`AnswersCalls`). For the crates above `proofs/OwnerLaws.antt` has what an owner was told
-//! as its device goes on by steps and by its lines (`IsTold`).
+//! as its device goes on by steps and by its lines (`IsToldByLines`).
 #![tactic(auto)]
 
 mod doing;
