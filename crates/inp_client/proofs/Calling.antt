@@ -1,6 +1,8 @@
 -- What a call on one client leaves of all that is kept.
-use Rattle.std.proofs.Common.{◌≡◌, ◌≢◌, ◌≤◌, ◌<◌, ℕ, ◌+◌, Bool, true, false, ◌||◌, if◌then◌else◌, nat_eq, List, [], ◌∷◌, length, map, get_or, set, Contains, Option, Some, None, IsSome, refl, sym, ap, ◌∙◌, subst, inl, inr, arith}
+use Rattle.std.proofs.Common.{◌≡◌, ◌≢◌, ◌≤◌, ◌<◌, ℕ, ◌+◌, Bool, true, false, ◌||◌, ◌⊎◌, if◌then◌else◌, nat_eq, List, [], ◌∷◌, length, map, get_or, set, Contains, Option, Some, None, IsSome, refl, sym, ap, ◌∙◌, subst, inl, inr, arith}
+use Rattle.std.specs.Prelude.{flat_map}
 use Rattle.std.specs.Option.{option_map_or, option_map}
+use Rattle.std.proofs.Math.Seq.{map-set_same}
 use Rattle.std.proofs.lemmas.Bool.{cases_lt}
 use Rattle.std.proofs.lemmas.List.Sums.{sum_by-set}
 use Rattle.std.proofs.lemmas.List.Elements.{All-drop, All-append, All-cons, All-nil, All-head, All-tail}
@@ -15,18 +17,20 @@ use Rattle.inp_model.specs.Queue.{stays, flush_behind, is_same_clock, clock_chan
 use Rattle.inp_ring.specs.declared.cell.Cell.{Cell}
 use Rattle.inp_ring.specs.declared.cell.Held.{Held}
 use Rattle.inp_ring.specs.Store.{StoreView, held_under, holders, holders_of, event_of_cell, cell_taken, HasCell, IsIdle, IsIdleSlot}
-use Rattle.inp_ring.specs.Ring.{cell_at, AreFit, AreHeld, IsRing}
+use Rattle.inp_ring.specs.Ring.{times, cell_at, AreFit, AreHeld, IsRing}
 use Rattle.inp_ring.proofs.Moves.{moved_none}
 use Rattle.inp_client.specs.declared.clients.Clients.TheInside.{Inside}
 use Rattle.inp_client.specs.Client.{ClientView, new_client, cell_of_event, after_take, after_flush, after_mask, after_clock, after_revoke}
-use Rattle.inp_client.specs.Clients.{ClientsView, has_client, client_named, events_of, has_revoked_client, map_client}
+use Rattle.inp_client.specs.Clients.{ClientsView, distinct, has_client, client_named, events_of, has_revoked_client, map_client}
 use Rattle.inp_client.specs.Read.{client_on, clients_on}
-use Rattle.inp_client.specs.Member.{Member, ring_of, client_in, cells_in, times_in, wanted, AreStored, IsMemberChanged}
+use Rattle.inp_client.specs.Member.{Member, ring_of, client_in, cells_in, numbers_in, times_in, wanted, AreStored, HasFewer, IsMemberChanged}
+use Rattle.inp_client.specs.Numbers.{stored_of, HoldNoneNew}
 use Rattle.inp_client.specs.Locations.{client_at, clients_in}
 use Rattle.inp_client.specs.Kept.{kept_view, AreKept}
 use Rattle.inp_client.proofs.Locating.{client_at_found, located_after_write, members_after_write, members_long, member_in_location, member_number, members_apart}
 use Rattle.inp_client.proofs.Sharing.{member_held, member_timed, member_ring, spare_some, others_stay, stored_after_write, cells_after_write, client_named-cells_in}
 use Rattle.inp_client.proofs.OnClock.{client_named-on}
+use Rattle.inp_client.proofs.RingsLeft.{rings_of, numbers_of-rings, fewer_set, stored_set}
 
 -- a client is open whatever its cells are
 pub has_client-cells_in : (s : StoreView) (ms : List Member) (number : ℕ) → has_client number (cells_in s ms) ≡ has_client number ms
@@ -165,3 +169,27 @@ module _ (k : Inside) (kept : AreKept k) (number key : ℕ) (location : Contains
         ∙ cells_after_write k.store after members location.0 (new_client 0 0) new change in_members moved.number moved.changed
         (others_stay kept.stored (new_client 0 0) location.0 in_members after new.ring.events moved.moved (λ n some. absurd (omega (arith, some)))) apart
         ∙ ap (λ (n : ℕ). map_client n change (cells_in k.store members)) numbered
+
+    -- the numbers of the others stay
+    pub rings_after_call : new.ring.events ≡ old.ring.events → (kept_view next).rings ≡ (kept_view k).rings
+    rings_after_call same =
+        ap rings_of members_next ∙ map-set_same (λ (m : Member). m.ring.events) members location.0 new (new_client 0 0) (same ∙ sym (ap (λ (m : Member). m.ring.events) here))
+
+    pub fewer_after_call : HasFewer old new → HoldNoneNew (kept_view k) (kept_view next)
+    fewer_after_call fewer client n =
+        omega (
+          arith,
+          ap (λ (ms : List Member). times n (get_or (rings_of ms) client [])) members_next,
+          fewer_set members location.0 new (new_client 0 0) client n in_members (λ j. omega (arith, fewer j, ap (λ (m : Member). times j m.ring.events) here)),
+        )
+
+    pub stored_after_call : (new.ring.events ≡ old.ring.events) ⊎ (length new.ring.events ≤ 1) → stored_of (kept_view next) ≤ stored_of (kept_view k) + 1
+    stored_after_call (inl same) = omega (arith, ap (λ (rings : List (List ℕ)). length (distinct (flat_map (λ (q : List ℕ). q) rings))) (rings_after_call same))
+    stored_after_call (inr one) =
+        omega (
+          arith,
+          ap (λ (q : List ℕ). length (distinct q)) (numbers_of-rings (clients_in k.locations.items (with_value k.slab key new))),
+          ap (λ (ms : List Member). length (distinct (numbers_in ms))) members_next,
+          stored_set members location.0 new (new_client 0 0) in_members one,
+          ap (λ (q : List ℕ). length (distinct q)) (numbers_of-rings members),
+        )

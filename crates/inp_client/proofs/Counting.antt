@@ -1,14 +1,14 @@
 -- How many cells a store has, by the numbers that name them.
-use Rattle.std.proofs.Common.{◌≡◌, ◌≤◌, ◌<◌, ℕ, zero, suc, ◌+◌, ◌*◌, cond, if◌then◌else◌, nat_lt, List, [], ◌∷◌, length, get_or, Option, Some, None, is_some, IsSome, refl, sym, ap, inl, inr, arith}
+use Rattle.std.proofs.Common.{◌≡◌, ◌≤◌, ◌<◌, ℕ, zero, suc, ◌+◌, ◌*◌, cond, if◌then◌else◌, nat_lt, List, [], ◌∷◌, length, map, get_or, Option, Some, None, is_some, IsSome, refl, sym, ap, subst, inl, inr, arith}
 use Rattle.std.specs.Prelude.{count_by, sum_by, All}
 use Rattle.std.proofs.lemmas.Bool.{cases_eq, cases_lt, lt-ltb, le-ltb}
-use Rattle.std.proofs.lemmas.List.{get_or_past, length-append}
+use Rattle.std.proofs.lemmas.List.{get_or_past, length-append, length-map}
 use Rattle.std.proofs.lemmas.List.Sums.{sum_by-cons}
 use Rattle.std.proofs.lemmas.List.Elements.{All-head, All-tail}
 use Rattle.inp_ring.specs.declared.cell.Held.{Held}
 use Rattle.inp_ring.specs.Store.{StoreView, held_under, cell_count, HasCell}
 use Rattle.inp_ring.specs.Ring.{times, AreDifferent, IsRing}
-use Rattle.inp_ring.proofs.Times.{once, once_same, once_other, times-append}
+use Rattle.inp_ring.proofs.Times.{once, once_same, once_other, times_first, times-append}
 use Rattle.inp_client.specs.Clients.{distinct}
 use Rattle.inp_client.specs.Member.{Member, ring_of, numbers_in, times_in, wanted}
 
@@ -156,6 +156,67 @@ cells_exactly s q some all =
       cells_few s (distinct q) (λ n h. (distinct_times n q).there (some n h)),
       cells_many s (distinct q) (λ n. (distinct_times n q).once_at_most) (λ n h. all n (omega (arith, h, (distinct_times n q).no_more))),
     )
+
+-- No more different numbers than there are in a list that has them all
+
+bound : List ℕ → ℕ
+bound [] = 0
+bound (m ∷ q) = m + 1 + bound q
+
+below_bound : (n : ℕ) (q : List ℕ) → 1 ≤ times n q → n < bound q
+unfolding bound
+below_bound n [] h = absurd (omega arith)
+below_bound n (m ∷ q) h = elim (cases_eq n m) [
+  | inl e ↦ omega (arith, e)
+  | inr d ↦ omega (arith, below_bound n q (omega (arith, h, once_other n m (λ e. d (sym e)))))
+]
+
+upto-le : (f g : ℕ → ℕ) (k l : ℕ) → ((n : ℕ) → f n ≤ g n) → upto f k l ≤ upto g k l
+upto-le f g k zero h = omega arith
+upto-le f g k (suc l) h = omega (arith, h k, upto-le f g (k + 1) l h)
+
+different_few : (q r : List ℕ) → AreDifferent q → ((n : ℕ) → 1 ≤ times n q → 1 ≤ times n r) → length q ≤ length r
+different_few q r different h =
+    omega (arith, times_exactly q (bound q) (λ n t. below_bound n q t), upto-le (λ n. times n q) (λ n. times n r) 0 (bound q) le, times_at_most r 0 (bound q))
+  where
+    le : (n : ℕ) → times n q ≤ times n r
+    le n = elim (cases_lt 0 (times n q)) [
+      | inl some ↦ omega (arith, h n (omega arith), different n)
+      | inr none ↦ omega (arith, none)
+    ]
+
+pub distinct_few : (q r : List ℕ) → ((n : ℕ) → 1 ≤ times n q → 1 ≤ times n r) → length (distinct q) ≤ length r
+distinct_few q r h = different_few (distinct q) r (λ n. (distinct_times n q).once_at_most) (λ n t. h n (omega (arith, t, (distinct_times n q).no_more)))
+
+-- a number is among the different ones
+pub distinct_there : (n : ℕ) (q : List ℕ) → 1 ≤ times n q → 1 ≤ times n (distinct q)
+distinct_there n q there = (distinct_times n q).there there
+
+-- No more values than numbers that they come from
+
+module _ (f : ℕ → ℕ) where
+  comes_from : (n : ℕ) (q : List ℕ) → 1 ≤ times n (map f q) → (m : ℕ) × (f m ≡ n) × (1 ≤ times m q)
+  comes_from n [] there = absurd (omega arith)
+  comes_from n (x ∷ q) there = elim (cases_eq n (f x)) [
+    | inl e ↦ (x, sym e, times_first x q)
+    | inr d ↦ let rest = comes_from n q (omega (arith, there, once_other n (f x) (λ e. d (sym e)))) in (rest.0, rest.1, omega (arith, rest.2))
+  ]
+
+  goes_to : (m : ℕ) (q : List ℕ) → 1 ≤ times m q → 1 ≤ times (f m) (map f q)
+  goes_to m [] there = absurd (omega arith)
+  goes_to m (x ∷ q) there = elim (cases_eq m x) [
+    | inl e ↦ omega (arith, times_first (f x) (map f q), ap (λ k. times (f k) (map f (x ∷ q))) e)
+    | inr d ↦ omega (arith, goes_to m q (omega (arith, there, once_other m x (λ e. d (sym e)))))
+  ]
+
+  pub distinct-map : (q : List ℕ) → length (distinct (map f q)) ≤ length (distinct q)
+  distinct-map q = omega (arith, distinct_few (map f q) (map f (distinct q)) among, length-map (distinct q) f)
+    where
+      among : (n : ℕ) → 1 ≤ times n (map f q) → 1 ≤ times n (map f (distinct q))
+      among n there =
+          let from = comes_from n q there in
+          let P : ℕ → Type 0 = λ k. 1 ≤ times k (map f (distinct q)) in
+          subst P from.1 (goes_to from.0 (distinct q) (distinct_there from.0 q from.2))
 
 -- how often a number is in all rings
 pub times-numbers_in : (n : ℕ) (ms : List Member) → times n (numbers_in ms) ≡ times_in n ms

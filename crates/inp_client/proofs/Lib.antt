@@ -11,4 +11,6 @@ pub mod Calling
 pub mod Offers
 pub mod Opening
 pub mod Stored
+pub mod Numbers
+pub mod RingsLeft
 pub mod Runs

@@ -15,11 +15,12 @@ use Rattle.inp_ring.specs.Store.{StoreView, held_under, cell_in, held_cell, hold
 use Rattle.inp_ring.specs.Ring.{times, cell_at, some_cell, AreFit, AreHeld, IsRing, IsMoved, IsPutAtEnd}
 use Rattle.inp_ring.proofs.Times.{once, times_push, once_same, once_other}
 use Rattle.inp_client.specs.declared.location.Location.{Location}
-use Rattle.inp_client.specs.Masks.{admits_of}
+use Rattle.inp_client.specs.Masks.{MaskView, admits_of}
 use Rattle.inp_client.specs.Client.{ClientView, new_client, with_events, is_offered_to}
 use Rattle.inp_client.specs.Member.{Member, ring_of, client_in, cells_in, times_in, wanted, after_event, AreStored}
 use Rattle.inp_client.specs.Locations.{client_at, clients_in, AreLocated}
-use Rattle.inp_client.specs.Offered.{IsEnteredTo, owing, member_at}
+use Rattle.inp_client.specs.Numbers.{loses_event, admitted_number, IsPutBehind}
+use Rattle.inp_client.specs.Offered.{IsEnteredTo, HasNumber, owing, member_at, seen_at, ring_at}
 use Rattle.inp_client.proofs.Locating.{client_at_found, located_after_write, members_after_write, members_long, member_in_location}
 use Rattle.inp_client.proofs.Sharing.{member_held, member_timed, member_ring, spare_some, others_stay, stored_after_write}
 
@@ -102,7 +103,7 @@ module _ {cell : Cell} {holder : Option ℕ} {number : ℕ} {locations : List Lo
 
     -- it was put into its ring, or not
     module _ (new : Member) (after : StoreView) (is_in : Bool) (entered : IsPutAtEnd store after old.ring.events new.ring.events number is_in) (numbered : new.number ≡ old.number) (places : new.ring.places ≡ old.ring.places)
-        (sound : IsRing (ring_of old) → IsRing (ring_of new)) (offered : client_in after new ≡ after_event (cell_at store number) holder (client_in store old)) (now : cell.now ≤ MOMENT_MAX) where
+        (sound : IsRing (ring_of old) → IsRing (ring_of new)) (put : IsPutBehind (admitted_number old.masks cell.event number) (nat_lt (length new.ring.events) (length old.ring.events)) old.ring.events new.ring.events) (offered : client_in after new ≡ after_event (cell_at store number) holder (client_in store old)) (now : cell.now ≤ MOMENT_MAX) where
       abbrev gained : ℕ
       gained = if is_in then 1 else 0
 
@@ -188,6 +189,35 @@ module _ {cell : Cell} {holder : Option ℕ} {number : ℕ} {locations : List Lo
             | inr above ↦ le-ltb j i above ∙ sym (le-ltb j (i + 1) (omega (arith, differs)))
           ]
 
+      was_ring : ring_at locations before i ≡ old.ring.events
+      was_ring = sym (to.rest i (omega arith) in_i) ∙ ap (λ (m : Member). m.ring.events) old_is
+
+      was_seen : client_in store old ≡ seen_at first locations before i
+      was_seen = ap (client_in store) (sym old_is) ∙ to.changed i in_i ∙ cond-false (nat_lt i i) _ _ (le-ltb i i (omega arith))
+
+      -- its queue is shorter where it was lost
+      lost_here : nat_lt (length new.ring.events) (length old.ring.events) ≡ loses_event cell holder (seen_at first locations before i)
+      lost_here =
+          ap (λ (k : ℕ). nat_lt k (length old.ring.events)) (sym (length-map new.ring.events (cell_at after)) ∙ ap (λ (c : ClientView Cell). length c.ring.events) (offered ∙ ap (λ (x : Cell). after_event x holder (client_in store old)) same_cell))
+          ∙ ap (λ (k : ℕ). nat_lt (length (after_event cell holder (client_in store old)).ring.events) k) (sym (length-map old.ring.events (cell_at store)))
+          ∙ ap (loses_event cell holder) was_seen
+
+      put_here : IsPutBehind (admitted_number (seen_at first locations before i).masks cell.event number) (loses_event cell holder (seen_at first locations before i)) (ring_at locations before i) new.ring.events
+      put_here =
+          let P : MaskView → Bool → List ℕ → Type 0 = λ m b q. IsPutBehind (admitted_number m cell.event number) b q new.ring.events in
+          subst (λ (m : MaskView). P m (loses_event cell holder (seen_at first locations before i)) (ring_at locations before i)) (ap (λ (c : ClientView Cell). c.masks) was_seen)
+          (subst (λ (b : Bool). P old.masks b (ring_at locations before i)) lost_here (subst (λ (q : List ℕ). P old.masks (nat_lt (length new.ring.events) (length old.ring.events)) q) (sym was_ring) put))
+
+      next_numbered : (j : ℕ) → j < i + 1 → j < length locations → IsPutBehind (admitted_number (seen_at first locations before j).masks cell.event number) (loses_event cell holder (seen_at first locations before j)) (ring_at locations before j) (ring_at locations next_slab j)
+      next_numbered j below in_j = elim (cases_eq j i) [
+        | inl e ↦
+            let P : ℕ → List ℕ → Type 0 = λ k q. IsPutBehind (admitted_number (seen_at first locations before k).masks cell.event number) (loses_event cell holder (seen_at first locations before k)) (ring_at locations before k) q in
+            subst (λ (q : List ℕ). P j q) (sym (ap (λ (k : ℕ). ring_at locations next_slab k) e ∙ ap (λ (m : Member). m.ring.events) member_here)) (subst (λ (k : ℕ). P k new.ring.events) (sym e) put_here)
+        | inr d ↦
+            let P : List ℕ → Type 0 = λ q. IsPutBehind (admitted_number (seen_at first locations before j).masks cell.event number) (loses_event cell holder (seen_at first locations before j)) (ring_at locations before j) q in
+            subst P (sym (ap (λ (m : Member). m.ring.events) (member_other j d))) (to.numbered j (omega (arith, d)) in_j)
+      ]
+
       next_few : taken + gained ≤ i + 1
       next_few = omega (arith, to.few, one is_in)
         where
@@ -204,6 +234,8 @@ module _ {cell : Cell} {holder : Option ℕ} {number : ℕ} {locations : List Lo
         changed = next_changed;
         absent = λ j le in_j. ap (λ (m : Member). times number m.ring.events) (member_other j (λ e. omega (arith, e))) ∙ to.absent j (omega arith) in_j;
         few = next_few;
+        numbered = next_numbered;
+        rest = λ j le in_j. ap (λ (m : Member). m.ring.events) (member_other j (λ e. omega (arith, e))) ∙ to.rest j (omega arith) in_j;
         wanted = ap wanted members_next ∙ omega (arith, places_kept, sum_by-set (λ (m : Member). m.ring.places + 1) (clients_in locations slab) i new (new_client 0 0) long_i) ∙ to.wanted;
         capacity = to.capacity;
       }
@@ -219,6 +251,8 @@ entered_none cell holder number locations slab store located stored idle same = 
   changed = λ j in_j. sym (cond-false (nat_lt j 0) _ _ (le-ltb j 0 (omega arith)));
   absent = λ j le in_j. omega (arith, stored.held number, ap holders_of same, get_or-le-sum_by (λ (m : Member). times number m.ring.events) (clients_in locations slab) j (new_client 0 0) (omega (arith, in_j, members_long located)));
   few = omega arith;
+  numbered = λ j below in_j. absurd (omega arith);
+  rest = λ j le in_j. refl;
   wanted = refl;
   capacity = refl;
 }
@@ -243,6 +277,22 @@ entered_all {cell} {holder} {number} {locations} {before} {slab} {first} {store}
         ∙ to.changed j in_j ∙ cond-true (nat_lt j count) _ _ (lt-ltb j count (omega arith))
         ∙ sym (get_or-map (after_event cell holder) (cells_in first (clients_in locations before)) j (client_in first (new_client 0 0)) e (omega (arith, in_j, long_before))
         ∙ ap (after_event cell holder) (get_or-map (client_in first) (clients_in locations before) j (new_client 0 0) (client_in first (new_client 0 0)) (omega (arith, in_j, length-map locations (λ s. client_at before s.key)))))
+
+-- The event has one number, also where its cell was not there yet.
+pub numbered_all : {cell : Cell} {holder : Option ℕ} {number : ℕ} {locations : List Location} {before slab : Slab Member} {first store : StoreView} {count taken : ℕ} → IsEnteredTo count cell holder number locations before slab first store taken → length locations ≤ count
+    → (s : StoreView) → cells_in first (clients_in locations before) ≡ cells_in s (clients_in locations before) → HasNumber cell holder locations before slab s
+numbered_all {cell} {holder} {number} {locations} {before} {slab} {first} {store} {count} {taken} to past s same = record {
+  number = number;
+  each = λ j in_j.
+      let P : ClientView Cell → Type 0 = λ c. IsPutBehind (admitted_number c.masks cell.event number) (loses_event cell holder c) (ring_at locations before j) (ring_at locations slab j) in
+      subst P (seen_same j in_j) (to.numbered j (omega arith) in_j);
+}
+  where
+    seen : (t : StoreView) (j : ℕ) → j < length locations → get_or (cells_in t (clients_in locations before)) j (new_client 0 0) ≡ seen_at t locations before j
+    seen t j in_j = get_or-map (client_in t) (clients_in locations before) j (new_client 0 0) (new_client 0 0) (omega (arith, in_j, length-map locations (λ at. client_at before at.key)))
+
+    seen_same : (j : ℕ) → j < length locations → seen_at first locations before j ≡ seen_at s locations before j
+    seen_same j in_j = sym (seen first j in_j) ∙ ap (λ (cs : List (ClientView Cell)). get_or cs j (new_client 0 0)) same ∙ seen s j in_j
 
 -- a flag counts one where it is set
 pub flag_counts : (b : Bool) → bool_byte b ≡ (if b then 1 else 0)

@@ -20,10 +20,12 @@ use Rattle.inp_ring.proofs.Rings.{queue_stays}
 use Rattle.inp_client.specs.declared.location.Location.{Location}
 use Rattle.inp_client.specs.Masks.{MaskView, admits_of, full_masks}
 use Rattle.inp_client.specs.Client.{ClientView, new_client, with_events, is_offered_to, cell_of_event, after_offer}
-use Rattle.inp_client.specs.Member.{Member, ring_of, client_in, cells_in, times_in, wanted, AreStored}
+use Rattle.inp_client.specs.Member.{Member, ring_of, client_in, cells_in, times_in, wanted, after_event, AreStored}
+use Rattle.inp_client.specs.Numbers.{loses, admitted_numbers, IsPutBehind}
 use Rattle.inp_client.specs.Locations.{client_at, clients_in, AreLocated}
-use Rattle.inp_client.specs.Offered.{AreShared, FitsInOneRun, AreAdded, TakesFrame, takers_in, with_run, are_reports_apart, member_at}
+use Rattle.inp_client.specs.Offered.{AreShared, FitsInOneRun, AreAdded, HaveNumbers, TakesFrame, takers_in, with_run, are_reports_apart, member_at, seen_at, ring_at}
 use Rattle.inp_client.proofs.MaskBits.{admits_of-full_masks}
+use Rattle.inp_client.proofs.Numbers.{put_behind, put_same, admitted_all}
 use Rattle.inp_client.proofs.Locating.{client_at_found, located_after_write, members_after_write, members_long, member_in_location}
 
 -- A frame whose reports are apart
@@ -88,6 +90,40 @@ taken_whole frame now place holder c is_to full apart room =
     cond-true (is_offered_to holder c) _ _ is_to
     ∙ ap (λ (es : List Event). with_events (put_all event_of_cell dropped_cell c.ring.places c.ring.events (map (cell_of_event now place) es)) c) (admits_all c.masks frame full)
     ∙ ap (λ (q : List Cell). with_events q c) (put_apart c.ring.places c.ring.events frame now place (apart_any frame (ends c.ring.events) apart) room)
+
+-- It loses nothing.
+
+long_after : (cell : Cell) (holder : Option ℕ) (c : ClientView Cell) → suc (length c.ring.events) < c.ring.places
+    → (length c.ring.events ≤ length (after_event cell holder c).ring.events) × (length (after_event cell holder c).ring.events ≤ suc (length c.ring.events)) × ((after_event cell holder c).ring.places ≡ c.ring.places)
+long_after cell holder c room = either (is_offered_to holder c && admits_of c.masks cell.event)
+  where
+    putting : (a b : Bool) → b ≡ true → (length c.ring.events ≤ length (if a then c.ring.events else if b then c.ring.events ++ cell ∷ [] else dropped_cell cell ∷ cell ∷ [])) × (length (if a then c.ring.events else if b then c.ring.events ++ cell ∷ [] else dropped_cell cell ∷ cell ∷ []) ≤ suc (length c.ring.events))
+    putting true b h = (omega arith, omega arith)
+    putting false true h = (omega (arith, length_push c.ring.events cell), omega (arith, length_push c.ring.events cell))
+    putting false false h = cc
+
+    either : (b : Bool) → (length c.ring.events ≤ length (if b then with_events (put event_of_cell dropped_cell c.ring.places c.ring.events cell) c else c).ring.events) × (length (if b then with_events (put event_of_cell dropped_cell c.ring.places c.ring.events cell) c else c).ring.events ≤ suc (length c.ring.events)) × ((if b then with_events (put event_of_cell dropped_cell c.ring.places c.ring.events cell) c else c).ring.places ≡ c.ring.places)
+    either true =
+        let long = putting (is_report (event_of_cell cell) && (is_empty c.ring.events || ends_in_report event_of_cell c.ring.events)) (nat_lt (suc (length c.ring.events)) c.ring.places) (lt-ltb (suc (length c.ring.events)) c.ring.places room) in
+        (long.0, long.1, refl)
+    either false = (omega arith, omega arith, refl)
+
+fits_whole : (frame : List Event) (now place : ℕ) (holder : Option ℕ) (c : ClientView Cell) → length c.ring.events + length frame < c.ring.places → loses frame now place holder c ≡ false
+fits_whole [] now place holder c room = refl
+fits_whole (e ∷ frame) now place holder c room =
+    let cell = cell_of_event now place e in
+    let long = long_after cell holder c (omega (arith, room)) in
+    ap (λ (b : Bool). b || loses frame now place holder (after_event cell holder c)) (le-ltb (length (after_event cell holder c).ring.events) (length c.ring.events) long.0)
+    ∙ fits_whole frame now place holder (after_event cell holder c) (omega (arith, room, long.1, long.2))
+
+loses_none : (frame : List Event) (now place : ℕ) (holder : Option ℕ) (c : ClientView Cell) → is_offered_to holder c ≡ false → loses frame now place holder c ≡ false
+loses_none [] now place holder c not_to = refl
+loses_none (e ∷ frame) now place holder c not_to =
+    let cell = cell_of_event now place e in
+    let same : after_event cell holder c ≡ c = ap (λ (b : Bool). if b && admits_of c.masks cell.event then with_events (put event_of_cell dropped_cell c.ring.places c.ring.events cell) c else c) not_to in
+    ap (λ (x : ClientView Cell). nat_lt (length x.ring.events) (length c.ring.events) || loses frame now place holder x) same
+    ∙ ap (λ (b : Bool). b || loses frame now place holder c) (le-ltb (length c.ring.events) (length c.ring.events) (omega arith))
+    ∙ loses_none frame now place holder c not_to
 
 -- Cells that are added one by one
 
@@ -426,6 +462,27 @@ module _ {locations : List Location} {before : Slab Member} {first store : Store
         ∙ seen_with j in_ms
         ∙ sym (get_or-map (after_offer frame now place holder) (cells_in first ms) j (client_in first (new_client 0 0)) e (omega (arith, in_ms, length-map ms (client_in first)))
         ∙ ap (after_offer frame now place holder) (get_or-map (client_in first) ms j (new_client 0 0) (client_in first (new_client 0 0)) in_ms)))
+
+    -- each event has the number of its cell
+    pub numbered_with : HaveNumbers frame now place holder locations before slab first
+    numbered_with = record {
+      given = numbers;
+      long = count_is;
+      each = λ j in_j.
+          let P : List ℕ → Type 0 = λ q. IsPutBehind (admitted_numbers (seen_at first locations before j).masks frame numbers) (loses frame now place holder (seen_at first locations before j)) (ring_at locations before j) q in
+          let in_ms : j < length ms = omega (arith, in_j, length-map locations (λ at. client_at before at.key)) in
+          subst P (sym (ap (λ (l : List Member). (get_or l j (new_client 0 0)).ring.events) members ∙ ap (λ (m : Member). m.ring.events) (next_at j in_ms))) (put_at j in_ms);
+    }
+      where
+        put_at : (j : ℕ) → j < length ms → IsPutBehind (admitted_numbers (seen_at first locations before j).masks frame numbers) (loses frame now place holder (seen_at first locations before j)) (ring_at locations before j) (with_run holder numbers (member_at locations before j)).ring.events
+        put_at j in_j = either (is_offered_to holder (member_at locations before j)) refl
+          where
+            either : (b : Bool) → is_offered_to holder (member_at locations before j) ≡ b → IsPutBehind (admitted_numbers (member_at locations before j).masks frame numbers) (loses frame now place holder (client_in first (member_at locations before j))) (member_at locations before j).ring.events (if b then with_events ((member_at locations before j).ring.events ++ numbers) (member_at locations before j) else (member_at locations before j)).ring.events
+            either true h =
+                let whole = takes j in_j h in
+                let P : List ℕ → Type 0 = λ g. IsPutBehind g (loses frame now place holder (client_in first (member_at locations before j))) (member_at locations before j).ring.events ((member_at locations before j).ring.events ++ numbers) in
+                subst P (sym (admitted_all (member_at locations before j).masks frame numbers whole.0 count_is)) (put_behind numbers (member_at locations before j).ring.events ((member_at locations before j).ring.events ++ numbers) _ (fits_whole frame now place holder (client_in first (member_at locations before j)) (omega (arith, whole.1, length-map (member_at locations before j).ring.events (cell_at first)))) refl)
+            either false h = put_same (admitted_numbers (member_at locations before j).masks frame numbers) (member_at locations before j).ring.events (member_at locations before j).ring.events _ (loses_none frame now place holder (client_in first (member_at locations before j)) h) refl
 
     pub wanted_with : wanted (clients_in locations slab) ≡ wanted ms
     wanted_with = ap wanted members ∙ wanted_same holder numbers ms

@@ -1,7 +1,7 @@
 -- How many cells are kept.
-use Rattle.std.proofs.Common.{◌≡◌, ◌≤◌, ◌<◌, ℕ, List, [], ◌∷◌, length, get_or, refl, arith}
-use Rattle.std.specs.Prelude.{All, sum_by}
-use Rattle.std.proofs.lemmas.List.{length-map}
+use Rattle.std.proofs.Common.{◌≡◌, ◌≤◌, ◌<◌, ℕ, List, [], ◌∷◌, ◌++◌, length, map, get_or, refl, sym, ap, ◌∙◌, arith}
+use Rattle.std.specs.Prelude.{All, sum_by, flat_map}
+use Rattle.std.proofs.lemmas.List.{length-map, map-append}
 use Rattle.std.proofs.lemmas.List.Sums.{sum_by-cons, get_or-le-sum_by}
 use Rattle.std.proofs.lemmas.List.Elements.{All-map, All-get_or}
 use Rattle.inp_ring.specs.declared.cell.Cell.{Cell}
@@ -11,11 +11,13 @@ use Rattle.inp_ring.proofs.Moves.{held_there}
 use Rattle.inp_client.specs.declared.clients.Clients.TheInside.{Inside}
 use Rattle.inp_client.specs.Client.{ClientView}
 use Rattle.inp_client.specs.Clients.{distinct}
+use Rattle.inp_client.specs.Numbers.{stored_of, places_of}
 use Rattle.inp_client.specs.Member.{Member, ring_of, client_in, cells_in, times_in, numbers_in}
 use Rattle.inp_client.specs.Locations.{clients_in}
 use Rattle.inp_client.specs.Kept.{kept_view, AreKept}
-use Rattle.inp_client.proofs.Counting.{cells_few, cells_many, cells_exactly, times-numbers_in, length-numbers_in}
+use Rattle.inp_client.proofs.Counting.{cells_few, cells_many, cells_exactly, distinct-map, times-numbers_in, length-numbers_in}
 use Rattle.inp_client.proofs.Calling.{kept_known}
+use Rattle.inp_client.proofs.RingsLeft.{numbers_of-rings}
 
 module _ (k : Inside) (kept : AreKept k) where
   abbrev members : List Member
@@ -30,8 +32,10 @@ module _ (k : Inside) (kept : AreKept k) where
   has_cell n there = held_there k.store n (omega (arith, there, kept.stored.held n))
 
   -- as many cells are kept as there are different numbers
-  pub stored_exactly : cell_count k.store ≡ length (distinct (kept_view k).numbers)
-  stored_exactly = cells_exactly k.store (numbers_in members) in_some (λ n there. has_cell n (omega (arith, there, times-numbers_in n members)))
+  pub stored_exactly : cell_count k.store ≡ stored_of (kept_view k)
+  stored_exactly =
+      cells_exactly k.store (numbers_in members) in_some (λ n there. has_cell n (omega (arith, there, times-numbers_in n members)))
+      ∙ ap (λ (q : List ℕ). length (distinct q)) (sym (numbers_of-rings members))
 
   -- not fewer than a queue has events
   pub stored_least : All (λ c. length c.ring.events ≤ cell_count k.store) (kept_view k).list
@@ -55,3 +59,25 @@ module _ (k : Inside) (kept : AreKept k) where
       lengths [] = refl
       lengths (m ∷ ms) =
           omega (arith, sum_by-cons (λ (c : ClientView Cell). length c.ring.events) (client_in k.store m) (cells_in k.store ms), sum_by-cons (λ (m : Member). length m.ring.events) m ms, length-map m.ring.events (cell_at k.store), lengths ms)
+
+  -- events of different places are different cells
+  pub stored_places : length (places_of (kept_view k).list) ≤ cell_count k.store
+  stored_places =
+      omega (
+        arith,
+        ap (λ (q : List ℕ). length (distinct q)) (places members),
+        distinct-map (λ n. (cell_at k.store n).place) (numbers_in members),
+        stored_exactly,
+        ap (λ (q : List ℕ). length (distinct q)) (numbers_of-rings members),
+      )
+    where
+      of_ring : (q : List ℕ) → map (λ (cell : Cell). cell.place) (map (cell_at k.store) q) ≡ map (λ n. (cell_at k.store n).place) q
+      of_ring [] = refl
+      of_ring (n ∷ q) = ap (λ (ps : List ℕ). (cell_at k.store n).place ∷ ps) (of_ring q)
+
+      places : (ms : List Member) → flat_map (λ (c : ClientView Cell). map (λ (cell : Cell). cell.place) c.ring.events) (cells_in k.store ms) ≡ map (λ n. (cell_at k.store n).place) (numbers_in ms)
+      places [] = refl
+      places (m ∷ ms) =
+          ap (λ (ps : List ℕ). ps ++ flat_map (λ (c : ClientView Cell). map (λ (cell : Cell). cell.place) c.ring.events) (cells_in k.store ms)) (of_ring m.ring.events)
+          ∙ ap (λ (ps : List ℕ). map (λ n. (cell_at k.store n).place) m.ring.events ++ ps) (places ms)
+          ∙ sym (map-append (λ n. (cell_at k.store n).place) m.ring.events (numbers_in ms))

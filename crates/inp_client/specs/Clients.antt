@@ -6,11 +6,11 @@ use Rattle.inp_ring.specs.declared.cell.Cell.{Cell}
 use Rattle.inp_ring.specs.Ring.{times}
 use Rattle.inp_client.specs.Client.{ClientView}
 
--- The open clients, each with its queue of cells; and the numbers of the cells that their rings hold, ring by ring, so that a
--- cell stands there as often as rings hold it.
+-- The open clients, each with its queue of cells; and for each of them, in that order, the numbers of the cells that its
+-- ring holds.
 pub record ClientsView : Type 0 where
   pub list : List (ClientView Cell)
-  pub numbers : List ℕ
+  pub rings : List (List ℕ)
 
 -- the numbers, each once
 abbrev pub distinct : List ℕ → List ℕ

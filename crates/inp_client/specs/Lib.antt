@@ -3,6 +3,7 @@ pub mod Client
 pub mod Clients
 pub mod Read
 pub mod Member
+pub mod Numbers
 pub mod Locations
 pub mod Offered
 pub mod Kept

@@ -10,8 +10,9 @@ use Rattle.inp_client.specs.declared.location.Location.{Location}
 use Rattle.inp_model.specs.declared.event.Event.{Event}
 use Rattle.inp_model.specs.Event.{is_report}
 use Rattle.inp_client.specs.Masks.{full_masks}
-use Rattle.inp_client.specs.Client.{new_client, with_events, is_offered_to}
+use Rattle.inp_client.specs.Client.{ClientView, new_client, with_events, is_offered_to}
 use Rattle.inp_client.specs.Member.{Member, client_in, wanted, after_event, AreStored}
+use Rattle.inp_client.specs.Numbers.{loses_event, loses, admitted_number, admitted_numbers, IsPutBehind}
 use Rattle.inp_client.specs.Locations.{clients_in, AreLocated}
 
 -- clients in their locations, whose cells and no other are in a store
@@ -65,6 +66,14 @@ owing number count n = if nat_eq n number then count else 0
 abbrev pub member_at : List Location → Slab Member → ℕ → Member
 member_at locations slab i = get_or (clients_in locations slab) i (new_client 0 0)
 
+-- the client in the location at an index, with the cells of a store
+abbrev pub seen_at : StoreView → List Location → Slab Member → ℕ → ClientView Cell
+seen_at s locations slab i = client_in s (member_at locations slab i)
+
+-- the numbers of its ring
+abbrev pub ring_at : List Location → Slab Member → ℕ → List ℕ
+ring_at locations slab i = (member_at locations slab i).ring.events
+
 -- The number of a cell was put into the rings of the first `count` clients, so far as they take it. `taken` of them have it,
 -- and it is owed as many holders. The others are as before.
 pub record IsEnteredTo (count : ℕ) (cell : Cell) (holder : Option ℕ) (number : ℕ) (locations : List Location) (before slab : Slab Member) (first store : StoreView) (taken : ℕ) : Type 0 where
@@ -76,5 +85,21 @@ pub record IsEnteredTo (count : ℕ) (cell : Cell) (holder : Option ℕ) (number
       ≡ (if nat_lt j count then after_event cell holder (client_in first (member_at locations before j)) else client_in first (member_at locations before j))
   pub absent : (j : ℕ) → count ≤ j → j < length locations → times number (member_at locations slab j).ring.events ≡ 0
   pub few : taken ≤ count
+  pub numbered : (j : ℕ) → j < count → j < length locations → IsPutBehind (admitted_number (seen_at first locations before j).masks cell.event number)
+      (loses_event cell holder (seen_at first locations before j)) (ring_at locations before j) (ring_at locations slab j)
+  pub rest : (j : ℕ) → count ≤ j → j < length locations → ring_at locations slab j ≡ ring_at locations before j
   pub wanted : wanted (clients_in locations slab) ≡ wanted (clients_in locations before)
   pub capacity : slab.capacity ≡ before.capacity
+
+-- One event was offered to clients, whose cells were in a store: it has one number, whoever takes it.
+pub record HasNumber (cell : Cell) (holder : Option ℕ) (locations : List Location) (before slab : Slab Member) (first : StoreView) : Type 0 where
+  pub number : ℕ
+  pub each : (j : ℕ) → j < length locations → IsPutBehind (admitted_number (seen_at first locations before j).masks cell.event number)
+      (loses_event cell holder (seen_at first locations before j)) (ring_at locations before j) (ring_at locations slab j)
+
+-- A frame was offered to clients, whose cells were in a store: each of its events has one number, whoever takes it.
+pub record HaveNumbers (frame : List Event) (now place : ℕ) (holder : Option ℕ) (locations : List Location) (before slab : Slab Member) (first : StoreView) : Type 0 where
+  pub given : List ℕ
+  pub long : length given ≡ length frame
+  pub each : (j : ℕ) → j < length locations → IsPutBehind (admitted_numbers (seen_at first locations before j).masks frame given)
+      (loses frame now place holder (seen_at first locations before j)) (ring_at locations before j) (ring_at locations slab j)

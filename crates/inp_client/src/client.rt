@@ -1,5 +1,5 @@
 //! One open client.
-ghost use Rattle.std.specs.Prelude.{◌≡◌, ◌≢◌, ◌≤◌, ◌<◌, ◌+◌, ◌&&◌, ◌++◌, ℕ, if◌then◌else◌, [], true, length, min, map, take, Some, IfOk};
+ghost use Rattle.std.specs.Prelude.{◌≡◌, ◌≢◌, ◌≤◌, ◌<◌, ◌+◌, ◌&&◌, ◌⊎◌, ◌++◌, ℕ, if◌then◌else◌, nat_lt, [], true, length, min, map, take, Some, IfOk};
 ghost use Rattle.std.specs.Option.{option_map};
 ghost use Rattle.inp_model.specs.declared.event.TheConstants.{EV_SYN};
 ghost use Rattle.inp_model.specs.declared.stamped.TheConstants.{MOMENT_MAX};
@@ -13,7 +13,8 @@ ghost use Rattle.inp_ring.specs.Ring.{times, cell_at, AreFit, AreHeld, AreDiffer
 ghost use Rattle.inp_client.specs.Masks.{admits_of, full_masks};
 ghost use Rattle.inp_client.specs.Client.{new_client, with_events, is_offered_to, after_take, after_flush, after_mask, after_clock, after_revoke};
 ghost use Rattle.inp_client.specs.Offered.{with_run};
-ghost use Rattle.inp_client.specs.Member.{ring_of, client_in, after_event, IsMemberChanged};
+ghost use Rattle.inp_client.specs.Member.{ring_of, client_in, after_event, HasFewer, IsMemberChanged};
+ghost use Rattle.inp_client.specs.Numbers.{admitted_number, IsPutBehind};
 
 use crate::masks::Masks;
 use inp_caps::Caps;
@@ -98,6 +99,8 @@ impl Client {
         requires held { AreHeld store.old self.old.ring.events }
         ensures set { IsMemberChanged store.old store.new self.old self.new
             (after_clock clock now place) }
+        ensures one { (self.new.ring.events ≡ self.old.ring.events)
+            ⊎ (length self.new.ring.events ≤ 1) }
     {
         if is_same_clock(self.clock, clock) {
             return;
@@ -126,6 +129,7 @@ impl Client {
         ensures taken { let cells = take result (map (cell_at store.old) self.old.ring.events) in
             out.new ≡ written (map (cell_taken (offset caps.now self.old.clock)) cells) out.old }
         ensures rest { IsMemberChanged store.old store.new self.old self.new (after_take result) }
+        ensures fewer { HasFewer self.old self.new }
     {
         let taken = self.ring.take(store, count, caps.offset(self.clock), out);
         self.ring.sound();
@@ -138,6 +142,7 @@ impl Client {
         ensures count { let queue = map (cell_at store.old) self.old.ring.events in
             result ≡ visible event_of_cell queue }
         ensures rest { IsMemberChanged store.old store.new self.old self.new (after_take result) }
+        ensures fewer { HasFewer self.old self.new }
     {
         let removed = self.ring.discard(store);
         self.ring.sound();
@@ -150,6 +155,7 @@ impl Client {
         requires held { AreHeld store.old self.old.ring.events }
         ensures flushed { IsMemberChanged store.old store.new self.old self.new
             (after_flush event_of_cell (Codes kind)) }
+        ensures fewer { HasFewer self.old self.new }
     {
         self.ring.flush(store, kind);
         self.ring.sound();
@@ -160,6 +166,7 @@ impl Client {
         requires held { AreHeld store.old self.old.ring.events }
         ensures flushed { IsMemberChanged store.old store.new self.old self.new
             (after_flush event_of_cell Slots) }
+        ensures fewer { HasFewer self.old self.new }
     {
         self.ring.flush_slots(store);
         self.ring.sound();
@@ -195,6 +202,9 @@ impl Client {
             self.old.ring.events self.new.ring.events number result }
         ensures offered { client_in store.new self.new
             ≡ after_event (cell_at store.old number) holder (client_in store.old self.old) }
+        ensures numbered { IsPutBehind (admitted_number self.old.masks event number)
+            (nat_lt (length self.new.ring.events) (length self.old.ring.events))
+            self.old.ring.events self.new.ring.events }
     {
         if !self.is_offered_to(holder) || !self.admits(event) {
             return false;

@@ -1,5 +1,5 @@
 //! The open clients of a device.
-ghost use Rattle.std.specs.Prelude.{◌≡◌, ◌≢◌, ℕ, ◌≤◌, ◌<◌, ◌↔◌, ◌++◌, [], true, false, length, min, map, take, sum_by, All, Contains, Err, IfOk, IfSome, OnOk, OnErr};
+ghost use Rattle.std.specs.Prelude.{◌≡◌, ◌≢◌, ℕ, ◌≤◌, ◌<◌, ◌+◌, ◌↔◌, ◌++◌, [], true, false, length, min, map, take, sum_by, count_by, All, Contains, Err, IfOk, IfSome, OnOk, OnErr};
 ghost use Rattle.slab.specs.Slab.{ContainsKey};
 ghost use Rattle.inp_model.specs.declared.event.TheConstants.{EV_SYN};
 ghost use Rattle.inp_model.specs.declared.limits.TheConstants.{CLIENTS_MAX};
@@ -10,12 +10,13 @@ ghost use Rattle.inp_model.specs.Reply.{written};
 ghost use Rattle.inp_model.specs.Step.{Codes, Slots};
 ghost use Rattle.inp_ring.specs.Store.{event_of_cell, held_under, held_by, IsIdle};
 ghost use Rattle.inp_client.specs.Client.{new_client, cell_of_event, after_offer, after_take, after_flush, after_mask, after_clock, after_revoke};
-ghost use Rattle.inp_client.specs.Clients.{distinct, has_client, has_revoked_client, events_of, map_client, with_client, without_client};
+ghost use Rattle.inp_client.specs.Clients.{has_client, has_revoked_client, events_of, map_client, with_client, without_client};
 ghost use Rattle.inp_client.specs.Read.{clients_on};
 ghost use Rattle.inp_client.specs.Locations.{clients_in, AreLocated};
 ghost use Rattle.inp_client.specs.Member.{cells_in, wanted, after_event, AreStored};
-ghost use Rattle.inp_ring.specs.Ring.{AreDifferent};
-ghost use Rattle.inp_client.specs.Offered.{AreShared, IsEnteredTo, owing, FitsInOneRun, AreAdded, TakesFrame, takers_in, with_run, are_reports_apart};
+ghost use Rattle.inp_ring.specs.Ring.{times, AreDifferent};
+ghost use Rattle.inp_client.specs.Numbers.{numbers_of, stored_of, places_of, loses, HoldNoneNew, IsStoredOnce};
+ghost use Rattle.inp_client.specs.Offered.{AreShared, IsEnteredTo, HasNumber, HaveNumbers, owing, FitsInOneRun, AreAdded, TakesFrame, takers_in, with_run, are_reports_apart};
 ghost use Rattle.inp_client.specs.declared.open_refused.OpenRefused.TheVariants.{TooMany};
 
 use crate::client::Client;
@@ -58,7 +59,7 @@ impl Model for Clients {
 impl Clients {
     /// No client, with room for 64. It is refused for memory alone.
     pub fn new(alloc: Global) -> Result<Clients, NoMemory>
-        ensures none { IfOk result (λ clients. clients ≡ record { list = []; numbers = [] }) }
+        ensures none { IfOk result (λ clients. clients ≡ record { list = []; rings = [] }) }
     {
         Ok(Clients {
             alloc,
@@ -80,6 +81,7 @@ impl Clients {
         ensures ok { OnOk result
             (self.new.list ≡ with_client (new_client number ring) self.old.list) }
         ensures err { OnErr result (self.new ≡ self.old) }
+        ensures numbers { numbers_of self.new ≡ numbers_of self.old }
     {
         if self.locations.len() == CLIENTS_MAX as usize {
             return Err(OpenRefused::TooMany);
@@ -100,6 +102,7 @@ impl Clients {
     pub fn close(&mut self, number: u32)
         requires open { has_client number self.old.list ≡ true }
         ensures closed { self.new.list ≡ without_client number self.old.list }
+        ensures none_new { (n : ℕ) → times n (numbers_of self.new) ≤ times n (numbers_of self.old) }
     {
         let index = index_of(&self.locations, number).unwrap();
         let location = self.locations.remove(index);
@@ -113,6 +116,7 @@ impl Clients {
     pub fn revoke(&mut self, number: u32)
         requires open { has_client number self.old.list ≡ true }
         ensures revoked { self.new.list ≡ map_client number after_revoke self.old.list }
+        ensures numbers { self.new.rings ≡ self.old.rings }
     {
         let key = key_of(&self.locations, &self.slab, number);
         self.slab[key].revoke();
@@ -147,7 +151,8 @@ impl Clients {
     /// It is as many as there are different numbers in the rings. So it is at least the length of the longest queue, and at
     /// most that of all queues together.
     pub fn stored(&self) -> u32
-        ensures stored { result ≡ length (distinct self.now.numbers) }
+        ensures stored { result ≡ stored_of self.now }
+        ensures places { length (places_of self.now.list) ≤ result }
         ensures least { All (λ c. length c.ring.events ≤ result) self.now.list }
         ensures most { result ≤ sum_by (λ c. length c.ring.events) self.now.list }
     {
@@ -163,6 +168,7 @@ impl Clients {
         requires kind { has_mask kind ≡ true }
         requires word { word < mask_words kind }
         ensures set { self.new.list ≡ map_client number (after_mask kind word bits) self.old.list }
+        ensures numbers { self.new.rings ≡ self.old.rings }
     {
         let key = key_of(&self.locations, &self.slab, number);
         self.slab[key].set_mask(kind, word, bits);
@@ -178,6 +184,7 @@ impl Clients {
         requires moment { now ≤ MOMENT_MAX }
         ensures set { self.new.list
             ≡ map_client number (after_clock clock now place) self.old.list }
+        ensures stored { stored_of self.new ≤ stored_of self.old + 1 }
     {
         let key = key_of(&self.locations, &self.slab, number);
         self.slab[key].set_clock(&mut self.store, clock, now, place);
@@ -203,6 +210,7 @@ impl Clients {
         ensures taken { let queue = events_of number (clients_on caps.now self.old.list) in
             out.new ≡ written (take result queue) out.old }
         ensures rest { self.new.list ≡ map_client number (after_take result) self.old.list }
+        ensures none_new { HoldNoneNew self.old self.new }
     {
         let key = key_of(&self.locations, &self.slab, number);
         self.slab[key].take(&mut self.store, caps, count, out)
@@ -213,6 +221,7 @@ impl Clients {
         requires open { has_client number self.old.list ≡ true }
         ensures count { result ≡ visible event_of_cell (events_of number self.old.list) }
         ensures rest { self.new.list ≡ map_client number (after_take result) self.old.list }
+        ensures none_new { HoldNoneNew self.old self.new }
     {
         let key = key_of(&self.locations, &self.slab, number);
         self.slab[key].discard(&mut self.store)
@@ -225,6 +234,7 @@ impl Clients {
         requires not_syn { kind ≢ EV_SYN }
         ensures flushed { self.new.list
             ≡ map_client number (after_flush event_of_cell (Codes kind)) self.old.list }
+        ensures none_new { HoldNoneNew self.old self.new }
     {
         let key = key_of(&self.locations, &self.slab, number);
         self.slab[key].flush(&mut self.store, kind);
@@ -235,6 +245,7 @@ impl Clients {
         requires open { has_client number self.old.list ≡ true }
         ensures flushed { self.new.list
             ≡ map_client number (after_flush event_of_cell Slots) self.old.list }
+        ensures none_new { HoldNoneNew self.old self.new }
     {
         let key = key_of(&self.locations, &self.slab, number);
         self.slab[key].flush_slots(&mut self.store);
@@ -256,6 +267,11 @@ impl Clients {
         requires moment { now ≤ MOMENT_MAX }
         ensures offered { self.new.list
             ≡ map (after_offer frame.now now place holder) self.old.list }
+
+        // Each event is kept once, and each client that loses its queue has one SYN_DROPPED more.
+        ensures once { IsStoredOnce frame.now now place holder self.old self.new }
+        ensures stored { stored_of self.new ≤ stored_of self.old + length frame.now
+            + count_by (loses frame.now now place holder) self.old.list }
     {
         if self.locations.is_empty() {
             return;
@@ -293,6 +309,8 @@ fn offer_frame(
     ensures offered { cells_in store.new (clients_in locations.now slab.new)
         ≡ map (after_offer frame.now now place holder)
         (cells_in store.old (clients_in locations.now slab.old)) }
+    ensures numbered { HaveNumbers frame.now now place holder
+        locations.now slab.old slab.new store.old }
     ensures wanted { wanted (clients_in locations.now slab.new)
         ≡ wanted (clients_in locations.now slab.old) }
     ensures capacity { slab.new.capacity ≡ slab.old.capacity }
@@ -387,6 +405,8 @@ fn offer_run(
     ensures offered { cells_in store.new (clients_in locations.now slab.new)
         ≡ map (after_offer frame.now now place holder)
         (cells_in store.old (clients_in locations.now slab.old)) }
+    ensures numbered { HaveNumbers frame.now now place holder
+        locations.now slab.old slab.new store.old }
     ensures wanted { wanted (clients_in locations.now slab.new)
         ≡ wanted (clients_in locations.now slab.old) }
     ensures capacity { slab.new.capacity ≡ slab.old.capacity }
@@ -462,6 +482,8 @@ fn offer_events(
     ensures offered { cells_in store.new (clients_in locations.now slab.new)
         ≡ map (after_offer frame.now now place holder)
         (cells_in store.old (clients_in locations.now slab.old)) }
+    ensures numbered { HaveNumbers frame.now now place holder
+        locations.now slab.old slab.new store.old }
     ensures wanted { wanted (clients_in locations.now slab.new)
         ≡ wanted (clients_in locations.now slab.old) }
     ensures capacity { slab.new.capacity ≡ slab.old.capacity }
@@ -491,6 +513,7 @@ fn offer_cell(
     ensures after { AreShared locations.now slab.new store.new }
     ensures offered { cells_in store.new (clients_in locations.now slab.new)
         ≡ map (after_event cell holder) (cells_in store.old (clients_in locations.now slab.old)) }
+    ensures numbered { HasNumber cell holder locations.now slab.old slab.new store.old }
     ensures wanted { wanted (clients_in locations.now slab.new)
         ≡ wanted (clients_in locations.now slab.old) }
     ensures capacity { slab.new.capacity ≡ slab.old.capacity }

@@ -7,10 +7,17 @@
 //! `inp_model`, `inp_bits`, `inp_caps` and `inp_ring`, and on the toolchain's `slab`, in which the clients lie.
 //!
 //! Its contract: a [`Clients`] is seen as the list of its open clients, ascending by number, each a `ClientView` of
-//! `specs/Client.antt` with a queue of cells, and the numbers of the cells that their rings hold. Each call changes the
+//! `specs/Client.antt` with a queue of cells, and the numbers of the cells that each ring holds. Each call changes the
 //! named client alone, by the definition there that is named after the call (`after_flush`, `after_mask`), and gives
 //! the exact result. What clients read of their cells is said in `specs/Read.antt`, and `proofs/OnClock.antt` has a
-//! lemma for each call. [`Clients::stored`] is how many different numbers there are.
+//! lemma for each call.
+//!
+//! That each event is kept once is said of the numbers (`specs/Numbers.antt`). [`Clients::stored`] is how many different
+//! ones there are. By [`Clients::offer`] each event of a frame has one number, whoever takes it (`IsStoredOnce`): a
+//! client that loses nothing has its old numbers, and behind them some of the frame's; one that loses its queue has
+//! those of the frame behind a SYN_DROPPED. So the different numbers grow by one at most for each event, and for each
+//! client that loses its queue. An open, a mask and a revocation leave all numbers as they are. Reading, a flush and
+//! a close bring none, and a change of clock brings one at most.
 //!
 //! [`Clients::open`] asks of its number only that no open client has it, and puts the client in its place by number; it
 //! answers `TooMany` exactly where 64 are open. [`Clients::offer`] puts into each queue what its masks admit, under the

@@ -12,7 +12,7 @@ pub moved_none : (s : StoreView) (q : List ℕ) → IsMoved s s q q
 moved_none s q = record { held = λ n. refl; kept = λ n h. refl; idle = λ n h. h; rest = λ n h e. refl; room = omega arith }
 
 pub taken_none : (s : StoreView) (q : List ℕ) → IsTakenOut s s q q
-taken_none s q = record { moved = moved_none s q; spare = omega arith; stay = λ n h. refl }
+taken_none s q = record { moved = moved_none s q; fewer = λ n. omega arith; spare = omega arith; stay = λ n h. refl }
 
 -- The ring stays held.
 pub held_moved : {old new : StoreView} {from to : List ℕ} → IsMoved old new from to → AreHeld old from → AreHeld new to
@@ -31,11 +31,12 @@ moved_then {a} {b} {c} {p} {q} {r} m k none = record {
   room = omega (arith, m.room, k.room);
 }
 
-pub taken_then : {a b c : StoreView} {p q r : List ℕ} → IsTakenOut a b p q → IsTakenOut b c q r → ((n : ℕ) → times n r ≤ times n q) → ((n : ℕ) → IsIdle a n → times n q ≡ 0) → IsTakenOut a c p r
-taken_then {a} {b} {c} {p} {q} {r} m k less none = record {
+pub taken_then : {a b c : StoreView} {p q r : List ℕ} → IsTakenOut a b p q → IsTakenOut b c q r → ((n : ℕ) → IsIdle a n → times n q ≡ 0) → IsTakenOut a c p r
+taken_then {a} {b} {c} {p} {q} {r} m k none = record {
   moved = moved_then m.moved k.moved (λ n i e. none n i);
+  fewer = λ n. omega (arith, m.fewer n, k.fewer n);
   spare = omega (arith, m.spare, k.spare);
-  stay = λ n h. let also : 1 ≤ times n q = omega (arith, less n) in k.stay n h ∙ m.stay n also;
+  stay = λ n h. let also : 1 ≤ times n q = omega (arith, k.fewer n) in k.stay n h ∙ m.stay n also;
 }
 
 -- A cell without holders has none.
@@ -96,6 +97,7 @@ taken_first {s} {new} x q h put spare room = record {
     ];
     room = room;
   };
+  fewer = λ n. omega arith;
   spare = spare;
   stay = λ n there. same n (λ e. omega (arith, there, ap (λ (k : ℕ). once k x) e, once_same x, h n, ap (λ (k : ℕ). holders s k) e));
 }
@@ -142,6 +144,7 @@ taken_beside {s} {new} p r h t = record {
     rest = λ n i none. t.moved.rest n i refl;
     room = t.moved.room;
   };
+  fewer = λ n. omega (arith, times-append n p r);
   spare = t.spare;
   stay = λ n there. t.moved.kept n (omega (arith, there, h n, times-append n p r));
 }
@@ -150,6 +153,7 @@ taken_beside {s} {new} p r h t = record {
 pub taken_same : (s : StoreView) (p q : List ℕ) → ((n : ℕ) → times n p ≡ times n q) → IsTakenOut s s p q
 taken_same s p q same = record {
   moved = record { held = λ n. omega (arith, same n); kept = λ n h. refl; idle = λ n h. h; rest = λ n h e. refl; room = omega arith };
+  fewer = λ n. omega (arith, same n);
   spare = omega arith;
   stay = λ n h. refl;
 }

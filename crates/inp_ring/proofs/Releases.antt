@@ -49,13 +49,12 @@ module _ {first s : StoreView} {q : List ℕ} {at : ℕ} (r : IsLetGo first q s 
   -- one more is let go
   pub let_go_more : (new : StoreView) → IsPut s new next (held_less (held_under s next)) → s.spare ≤ new.spare → cell_count s + s.spare ≤ cell_count new + new.spare → IsLetGo first q new (at + 1)
   let_go_more new put spare room =
-      let fewer : (n : ℕ) → times n (drop (at + 1) q) ≤ times n (drop at q) = λ n. omega (arith, ap (times n) left_is) in
       let subset : (n : ℕ) → times n (drop at q) ≤ times n q = λ n. times-drop-le n at q in
       let P : List ℕ → Type 0 = λ l. IsTakenOut s new l (drop (at + 1) q) in
       let H : List ℕ → Type 0 = λ l. AreHeld s l in
       let one : IsTakenOut s new (drop at q) (drop (at + 1) q) = subst P (sym left_is) (taken_first next (drop (at + 1) q) (subst H left_is left_held) put spare room) in
       record {
-        taken = taken_then r.taken one fewer (λ n i. omega (arith, subset n, idle_out first q n r.held i));
+        taken = taken_then r.taken one (λ n i. omega (arith, subset n, idle_out first q n r.held i));
         held = r.held;
       }
 
@@ -133,7 +132,6 @@ module _ (front back q : List ℕ) (all : front ++ back ≡ q) (count in_front :
           let Q : List ℕ → Type 0 = λ l. IsTakenOut s u q l in
           subst Q (sym e) (subst P (sym in_parts) (
           taken_then beside (taken_beside second_part (drop count q) rest_held second_out)
-          (λ n. omega (arith, times-append n second_part (drop count q)))
           (λ n i. omega (arith, idle_out s q n held i, ap (times n) in_parts, times-append n first_part (second_part ++ drop count q)))))
 
   module _ (s : StoreView) (fit : AreFit (queue_in s q)) where

@@ -1,14 +1,16 @@
 -- What holds of a ring and its queue after each change of its numbers.
-use Rattle.std.proofs.Common.{◌≡◌, ◌≤◌, ◌<◌, ℕ, zero, suc, ◌+◌, Bool, ◌||◌, List, [], ◌∷◌, ◌++◌, length, take, drop, ◌-◌, get_or, slice_get, Some, refl, sym, ap, ◌∙◌, arith}
+use Rattle.std.proofs.Common.{◌≡◌, ◌≢◌, ◌≤◌, ◌<◌, ◌⊎◌, ℕ, zero, suc, true, Option, ◌+◌, Bool, ◌||◌, List, [], ◌∷◌, ◌++◌, length, take, drop, ◌-◌, get_or, slice_get, Some, refl, sym, ap, ◌∙◌, inl, inr, arith}
 use Rattle.std.proofs.lemmas.List.{length-append, length-drop, length_push, drop-map}
 use Rattle.std.specs.Prelude.{min}
+use Rattle.std.proofs.lemmas.List.Elements.{All-get_or}
 use Rattle.std.proofs.Math.Seq.{take-length}
 use Rattle.circular_buffer.specs.Buffer.{Buffer, buffer, keep_last}
 use Rattle.inp_model.specs.declared.event.Event.{Event}
 use Rattle.inp_model.specs.Queue.{is_empty, ends_in_report, flush}
-use Rattle.inp_ring.specs.Store.{StoreView, event_of_cell, cell_in}
-use Rattle.inp_ring.specs.Ring.{times, ring_in, IsRing, AreDifferent, IsTakenOut, cell_at, some_cell, queue_in}
-use Rattle.inp_ring.proofs.Times.{times-drop-le, times-le-length, times_first, AreDifferent_push}
+use Rattle.inp_ring.specs.declared.cell.Held.{Held}
+use Rattle.inp_ring.specs.Store.{StoreView, event_of_cell, cell_in, holders, holders_of, IsPut}
+use Rattle.inp_ring.specs.Ring.{RingView, times, ring_in, IsRing, AreDifferent, AreHeldAlone, HoldsAllButOne, EntersAlone, IsLost, IsTakenOut, IsPutAtEnd, cell_at, some_cell, queue_in}
+use Rattle.inp_ring.proofs.Times.{once, once_same, times_push, times-drop-le, times-le-length, times_first, AreDifferent_push}
 use Rattle.inp_ring.proofs.Kept.{keep_last-push}
 use Rattle.inp_ring.proofs.Walks.{event_at, flush-length, flush-times, flush-map}
 
@@ -75,3 +77,30 @@ pub ends_map : (s : StoreView) (q : List ℕ) → (is_empty (queue_in s q) || en
 ends_map s [] = refl
 ends_map s (x ∷ []) = refl
 ends_map s (x ∷ y ∷ q) = ends_map s (y ∷ q)
+
+-- A ring was emptied for one number that no other ring holds.
+pub lost_all : (s : StoreView) (old new : RingView) → HoldsAllButOne old → length new.numbers ≡ 1 → AreHeldAlone s new.numbers → IsLost [] s old new
+lost_all s old new full one alone = record {
+  full = full;
+  loss = get_or new.numbers 0 0;
+  alone = All-get_or (λ (n : ℕ). holders s n ≡ 1) new.numbers 0 0 (omega (arith, one)) alone;
+  numbers = only new.numbers one;
+}
+  where
+    only : (q : List ℕ) → length q ≡ 1 → q ≡ get_or q 0 0 ∷ []
+    only [] e = absurd (omega (arith, e))
+    only (x ∷ []) e = refl
+    only (x ∷ y ∷ q) e = absurd (omega (arith, e))
+
+-- One more number stands behind the old ones, or behind SYN_DROPPED.
+pub lost_push : (number : ℕ) (s : StoreView) (old mid new : RingView) → (mid.numbers ≡ old.numbers) ⊎ IsLost [] s old mid → new.numbers ≡ mid.numbers ++ number ∷ [] → EntersAlone number old.numbers new.numbers ⊎ IsLost (number ∷ []) s old new
+lost_push number s old mid new (inl same) e = inl (inr (e ∙ ap (λ q. q ++ number ∷ []) same))
+lost_push number s old mid new (inr l) e = inr (record { full = l.full; loss = l.loss; alone = l.alone; numbers = e ∙ ap (λ q. q ++ number ∷ []) l.numbers })
+
+-- SYN_DROPPED has its one holder still once the number behind it has one more.
+pub lost_hold : {s t u : StoreView} (x : ℕ) (old new : RingView) (slot : Option Held) → IsPutAtEnd s t old.numbers new.numbers x true → times x old.numbers ≡ 0 → IsPut t u x slot → IsLost (x ∷ []) t old new → IsLost (x ∷ []) u old new
+lost_hold {s} {t} {u} x old new slot e absent put l =
+    let before : times x e.before ≡ 0 = omega (arith, absent, e.moved.held x, ap holders_of e.same) in
+    let here : times x new.numbers ≡ 1 = omega (arith, before, ap (times x) e.entered, times_push x x e.before, once_same x) in
+    let other : l.loss ≢ x = λ same. omega (arith, here, ap (times x) l.numbers, ap (λ k. once x k) same, once_same x) in
+    record { full = l.full; loss = l.loss; alone = ap holders_of (put.others l.loss other) ∙ l.alone; numbers = l.numbers }

@@ -159,8 +159,8 @@ module _ {drops : Event → Bool} {first s : StoreView} {q : List ℕ} {capacity
         ∙ ap (follows_kept (event_at first) drops) (newest_first-push [] (take at q) walked_number)
         ∙ ap (λ (b : Bool). if is_report (event_at first walked_number) then false else if drops (event_at first walked_number) then b else true) (sym w.flag)
 
-    walked_then : (new : StoreView) (rest : Buffer ℕ) → IsTakenOut s new numbers.items rest.items → ((n : ℕ) → times n rest.items ≤ times n numbers.items) → IsTakenOut first new q rest.items
-    walked_then new rest t fewer = taken_then w.taken t fewer (λ n i. omega (arith, walked_times n, idle_out first q n w.held i))
+    walked_then : (new : StoreView) (rest : Buffer ℕ) → IsTakenOut s new numbers.items rest.items → IsTakenOut first new q rest.items
+    walked_then new rest t = taken_then w.taken t (λ n i. omega (arith, walked_times n, idle_out first q n w.held i))
 
     -- a number that does not stay is released
     pub walked_dropped : (new : StoreView) (rest : Buffer ℕ) (stayed : Bool) → stayed ≡ (if is_report (event_at first walked_number) then report_stays else not (drops (event_at first walked_number))) → stayed ≡ false →
@@ -174,7 +174,7 @@ module _ {drops : Event → Bool} {first s : StoreView} {q : List ℕ} {capacity
         record {
           items = items ∙ ap (λ r. buffer (drop (at + 1) q ++ r) capacity) (sym none);
           flag = same_flag (is_report (event_at first walked_number)) (drops (event_at first walked_number)) report_stays (sym k ∙ gone) ∙ sym flag-more;
-          taken = walked_then new rest t (λ n. omega (arith, ap (λ (b : Buffer ℕ). times n b.items) e, times-take-drop n 1 numbers.items));
+          taken = walked_then new rest t;
           held = w.held;
         }
       where
@@ -199,7 +199,7 @@ module _ {drops : Event → Bool} {first s : StoreView} {q : List ℕ} {capacity
         record {
           items = items ∙ ap (λ r. buffer r capacity) (append_assoc (drop (at + 1) q) front (walked_number ∷ [])) ∙ ap (λ r. buffer (drop (at + 1) q ++ r) capacity) (sym one);
           flag = new_flag (is_report (event_at first walked_number)) (drops (event_at first walked_number)) report_stays (sym k ∙ stay) ∙ sym flag-more;
-          taken = walked_then s rest (taken_same s numbers.items rest.items (λ n. sym (turned n))) (λ n. omega (arith, turned n));
+          taken = walked_then s rest (taken_same s numbers.items rest.items (λ n. sym (turned n)));
           held = w.held;
         }
       where

@@ -43,6 +43,18 @@ HoldsAllButOne ring = length ring.numbers + 1 ≡ ring.places
 abbrev pub EntersAlone : ℕ → List ℕ → List ℕ → Type 0
 EntersAlone number old new = (new ≡ old) ⊎ (new ≡ old ++ number ∷ [])
 
+-- The queue of a full ring was lost: SYN_DROPPED stands in its place, in a cell that no other ring holds, and behind it
+-- these numbers.
+pub record IsLost (behind : List ℕ) (store : StoreView) (old new : RingView) : Type 0 where
+  pub full : HoldsAllButOne old
+  pub loss : ℕ
+  pub alone : holders store loss ≡ 1
+  pub numbers : new.numbers ≡ loss ∷ behind
+
+-- no other ring holds a cell of these
+abbrev pub AreHeldAlone : StoreView → List ℕ → Type 0
+AreHeldAlone s q = All (λ n. holders s n ≡ 1) q
+
 -- the cell of a slot, and any where it is empty
 abbrev pub some_cell : Option Cell → Cell
 some_cell None = record { event = syn_dropped; now = 0; place = 0 }
@@ -76,6 +88,7 @@ pub record IsMoved (old new : StoreView) (from to : List ℕ) : Type 0 where
 -- The same where numbers leave and none comes: those that stay keep their cells, and no less is spare.
 pub record IsTakenOut (old new : StoreView) (from to : List ℕ) : Type 0 where
   pub moved : IsMoved old new from to
+  pub fewer : (n : ℕ) → times n to ≤ times n from
   pub spare : old.spare ≤ new.spare
   pub stay : (n : ℕ) → 1 ≤ times n to → cell_in new n ≡ cell_in old n
 

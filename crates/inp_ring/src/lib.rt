@@ -14,8 +14,12 @@
 //! each number that comes has one holder more; and all else stays. So a store whose cells have as many holders as there
 //! are rings with their numbers stays so.
 //!
+//! Two calls are for who puts a number in several rings. [`Ring::enter`] gives the number that is put no holder
+//! (`IsPutAtEnd`), and [`Ring::append_all`] looks at no store: their caller adds all holders at once.
+//!
 //! SYN_DROPPED, where it is not the event that is put, enters only at a ring with one place left, or by a change of
-//! clock on a queue that is not empty.
+//! clock on a queue that is not empty. It is in a cell of its own, which no other ring holds (`IsLost`). Behind it
+//! stands the number that was put. A flush keeps the very numbers whose events stay, and reading leaves those behind.
 //!
 //! Memory is taken when a ring is made, and by [`Store::grow`], and never else. Putting an event and reading one take the
 //! same time at any length, but for a loss, which drops all events. A flush walks the queue once, in place. The events that

@@ -8,7 +8,7 @@ ghost use Rattle.inp_model.specs.Reply.{written};
 ghost use Rattle.inp_model.specs.Step.{is_part_of};
 ghost use Rattle.inp_ring.specs.Class.{query_of_class};
 ghost use Rattle.inp_ring.specs.Store.{event_of_cell, cell_taken, HasCell};
-ghost use Rattle.inp_ring.specs.Ring.{times, cell_at, queue_in, AreHeld, AreFit, IsMoved, IsTakenOut};
+ghost use Rattle.inp_ring.specs.Ring.{times, cell_at, queue_in, AreHeld, AreFit, AreHeldAlone, IsMoved, IsTakenOut};
 
 use crate::cell::Cell;
 use crate::class::Class;
@@ -98,6 +98,7 @@ pub fn replace_all(numbers: &mut HeapCircularBuffer<u32>, store: &mut Store, cel
     requires places { 64 ≤ numbers.old.capacity }
     requires held { AreHeld store.old numbers.old.items }
     ensures one { length numbers.new.items ≡ 1 }
+    ensures alone { AreHeldAlone store.new numbers.new.items }
     ensures cells { queue_in store.new numbers.new.items ≡ cell ∷ [] }
     ensures capacity { numbers.new.capacity ≡ numbers.old.capacity }
     ensures moved { IsMoved store.old store.new numbers.old.items numbers.new.items }

@@ -10,7 +10,7 @@ ghost use Rattle.inp_model.specs.Reply.{written};
 ghost use Rattle.inp_model.specs.Step.{is_part_of, Codes, Slots};
 ghost use Rattle.inp_ring.specs.Class.{query_of_class};
 ghost use Rattle.inp_ring.specs.Store.{held_under, cell_in, event_of_cell, dropped_cell, cell_taken, holders, HasCell};
-ghost use Rattle.inp_ring.specs.Ring.{times, cell_at, queue_in, IsRing, AreFit, AreHeld, AreDifferent, EntersAlone, HoldsAllButOne, IsMoved, IsTakenOut, IsPutAtEnd};
+ghost use Rattle.inp_ring.specs.Ring.{times, cell_at, queue_in, IsRing, AreFit, AreHeld, AreDifferent, EntersAlone, HoldsAllButOne, IsLost, AreHeldAlone, IsMoved, IsTakenOut, IsPutAtEnd};
 
 use crate::cell::Cell;
 use crate::class::Class;
@@ -93,9 +93,9 @@ impl Ring {
         ensures places { self.new.places ≡ self.old.places }
         ensures moved { IsMoved store.old store.new self.old.numbers self.new.numbers }
 
-        // SYN_DROPPED, where it is not the item itself, enters at a full ring alone.
+        // SYN_DROPPED, where it is not the item itself, enters at a full ring alone, and in a cell of its own.
         ensures lost { EntersAlone number self.old.numbers self.new.numbers
-            ⊎ HoldsAllButOne self.old }
+            ⊎ IsLost (number ∷ []) store.new self.old self.new }
     {
         let event = store.get(number).event;
         if self.enter(store, number, event) {
@@ -119,9 +119,9 @@ impl Ring {
         ensures entered { IsPutAtEnd store.old store.new self.old.numbers self.new.numbers
             number result }
 
-        // SYN_DROPPED, where it is not the item itself, enters at a full ring alone.
+        // SYN_DROPPED, where it is not the item itself, enters at a full ring alone, and in a cell of its own.
         ensures lost { EntersAlone number self.old.numbers self.new.numbers
-            ⊎ HoldsAllButOne self.old }
+            ⊎ IsLost (number ∷ []) store.new self.old self.new }
     {
         if event.is_report() && self.is_all_visible(store) {
             return false;
@@ -161,6 +161,8 @@ impl Ring {
         ensures flush { let queue = queue_in store.old self.old.numbers in
             queue_in store.new self.new.numbers
             ≡ flush event_of_cell (is_part_of (Codes kind)) queue }
+        ensures stay { self.new.numbers ≡ flush (λ n. event_of_cell (cell_at store.old n))
+            (is_part_of (Codes kind)) self.old.numbers }
         ensures places { self.new.places ≡ self.old.places }
         ensures moved { IsTakenOut store.old store.new self.old.numbers self.new.numbers }
     {
@@ -172,6 +174,8 @@ impl Ring {
         requires held { AreHeld store.old self.old.numbers }
         ensures flush { let queue = queue_in store.old self.old.numbers in
             queue_in store.new self.new.numbers ≡ flush event_of_cell (is_part_of Slots) queue }
+        ensures stay { self.new.numbers ≡ flush (λ n. event_of_cell (cell_at store.old n))
+            (is_part_of Slots) self.old.numbers }
         ensures places { self.new.places ≡ self.old.places }
         ensures moved { IsTakenOut store.old store.new self.old.numbers self.new.numbers }
     {
@@ -239,6 +243,7 @@ impl Ring {
         ensures changed { let queue = queue_in store.old self.old.numbers in
             queue_in store.new self.new.numbers
             ≡ clock_changed false (record { event = syn_dropped; now = now; place = place }) queue }
+        ensures alone { AreHeldAlone store.new self.new.numbers }
         ensures places { self.new.places ≡ self.old.places }
         ensures moved { IsMoved store.old store.new self.old.numbers self.new.numbers }
     {
@@ -310,7 +315,7 @@ impl Ring {
         ensures absent { times number self.new.numbers ≡ 0 }
         ensures same { held_under store.new number ≡ held_under store.old number }
         ensures moved { IsMoved store.old store.new self.old.numbers self.new.numbers }
-        ensures lost { (self.new.numbers ≡ self.old.numbers) ⊎ HoldsAllButOne self.old }
+        ensures lost { (self.new.numbers ≡ self.old.numbers) ⊎ IsLost [] store.new self.old self.new }
     {
         if self.has_room() {
             return;
@@ -342,6 +347,8 @@ impl Ring {
         ensures removed { let queue = queue_in store.old self.old.numbers in
             queue_in store.new self.new.numbers
             ≡ flush event_of_cell (is_part_of (query_of_class class)) queue }
+        ensures stay { self.new.numbers ≡ flush (λ n. event_of_cell (cell_at store.old n))
+            (is_part_of (query_of_class class)) self.old.numbers }
         ensures places { self.new.places ≡ self.old.places }
         ensures moved { IsTakenOut store.old store.new self.old.numbers self.new.numbers }
     {

@@ -1,7 +1,7 @@
 use Rattle.std.proofs.Common.{ap, ◌∙◌, map, arith}
 use Rattle.inp_client.specs.Client.{new_client}
 use Rattle.inp_client.specs.Member.{after_event}
-use Rattle.inp_client.proofs.Offering.{entered_all}
+use Rattle.inp_client.proofs.Offering.{entered_all, numbered_all}
 use Rattle.inp_client.proofs.Offers.{shared_spare, stored_add, cells_add, shared_free, cells_free, shared_hold, cells_hold}
 use Rattle.inp_client.proofs.clients.offer_cell.Goals as goal
 
@@ -31,3 +31,9 @@ returns-clause-offered c =
     cells_hold c.enter_each-taken.ensures.entered c.hold_many.new.self c.hold_many.ensures.held (omega arith)
     ∙ entered_all c.enter_each-taken.ensures.entered (omega arith)
     ∙ ap (map (after_event c.args.cell c.args.holder)) (cells_add c.requires.before c.add-number.result c.args.cell c.add-number.ensures.new c.add-number.ensures.added)
+
+pub returns-then-taken-eq0-clause-numbered : goal.returns-then-taken-eq0-clause-numbered
+returns-then-taken-eq0-clause-numbered c = numbered_all c.enter_each-taken.ensures.entered (omega arith) c.args.store.now (cells_add c.requires.before c.add-number.result c.args.cell c.add-number.ensures.new c.add-number.ensures.added)
+
+pub returns-clause-numbered : goal.returns-clause-numbered
+returns-clause-numbered c = numbered_all c.enter_each-taken.ensures.entered (omega arith) c.args.store.now (cells_add c.requires.before c.add-number.result c.args.cell c.add-number.ensures.new c.add-number.ensures.added)

@@ -7,7 +7,7 @@ use Rattle.inp_client.specs.Client.{new_client}
 use Rattle.inp_client.specs.Member.{Member}
 use Rattle.inp_client.specs.Locations.{clients_in}
 use Rattle.inp_client.specs.Offered.{TakesFrame}
-use Rattle.inp_client.proofs.Runs.{different_with, shared_with, offered_with, wanted_with}
+use Rattle.inp_client.proofs.Runs.{different_with, shared_with, offered_with, numbered_with, wanted_with}
 use Rattle.inp_client.proofs.clients.offer_run.Goals as goal
 
 pub append_each-requires-clause-room : goal.append_each-requires-clause-room
@@ -29,3 +29,6 @@ returns-clause-offered c = offered_with c.args.now c.args.place c.requires.befor
 
 pub returns-clause-wanted : goal.returns-clause-wanted
 returns-clause-wanted c = wanted_with c.args.now c.args.place c.requires.before c.requires.run c.add_cells.ensures.added c.append_each.ensures.located c.append_each.ensures.members c.requires.moment
+
+pub returns-clause-numbered : goal.returns-clause-numbered
+returns-clause-numbered c = numbered_with c.args.now c.args.place c.requires.before c.requires.run c.add_cells.ensures.added c.append_each.ensures.located c.append_each.ensures.members c.requires.moment

@@ -1,9 +1,10 @@
 use Rattle.std.proofs.Common.{◌≡◌, ◌≢◌, None, Some, IsSome, [], ◌∷◌, ◌++◌, List, ℕ, Option, arith, ap, ◌∙◌, sym, subst, refl}
 use Rattle.std.proofs.lemmas.List.{drop_all}
+use Rattle.std.proofs.lemmas.List.Elements.{All-cons, All-nil}
 use Rattle.circular_buffer.specs.Buffer.{Buffer, buffer, keep_last}
 use Rattle.inp_ring.specs.declared.cell.Held.{Held}
-use Rattle.inp_ring.specs.Store.{held_under}
-use Rattle.inp_ring.specs.Ring.{times, IsMoved}
+use Rattle.inp_ring.specs.Store.{held_under, holders, holders_of}
+use Rattle.inp_ring.specs.Ring.{times, AreHeldAlone, IsMoved}
 use Rattle.inp_ring.proofs.Kept.{keep_last-all}
 use Rattle.inp_ring.proofs.Times.{once_other}
 use Rattle.inp_ring.proofs.Moves.{moved_add, moved_then, entry_same}
@@ -30,6 +31,12 @@ pub returns-clause-moved : goal.returns-clause-moved
 returns-clause-moved c =
     let came = moved_add c.add_held-number.result c.args.cell c.add_held-number.ensures.new c.add_held-number.ensures.added (omega (arith, c.add_held-number.ensures.spare, c.add_held-number.ensures.count)) in
     rw (only c) (moved_then (emptied c) came (λ n i e. refl))
+
+pub returns-clause-alone : goal.returns-clause-alone
+returns-clause-alone c =
+    let store = c.add_held-number.new.self in
+    let P : List ℕ → Type 0 = λ q. AreHeldAlone store q in
+    subst P (sym (only c)) (All-cons (λ (n : ℕ). holders store n ≡ 1) c.add_held-number.result [] (ap holders_of c.add_held-number.ensures.added.changed) (All-nil (λ (n : ℕ). holders store n ≡ 1)))
 
 pub returns-clause-fresh : goal.returns-clause-fresh
 returns-clause-fresh c n there out =

@@ -5,7 +5,7 @@ use Rattle.inp_client.specs.Kept.{kept_view}
 use Rattle.inp_client.proofs.Locating.{has_client-clients_in, key_in_slab, located_after_removal}
 use Rattle.inp_client.proofs.Searching.{index_is_some, index_is}
 use Rattle.inp_client.proofs.Calling.{call_open}
-use Rattle.inp_client.proofs.Opening.{close_held, close_cells, stored_close, idle_close, counted_close, list_close}
+use Rattle.inp_client.proofs.Opening.{close_held, close_cells, stored_close, idle_close, counted_close, list_close, fewer_close}
 use Rattle.inp_client.proofs.clients.Clients.close.Goals as goal
 
 pub unwrap-index-requires : goal.unwrap-index-requires
@@ -68,4 +68,7 @@ returns c =
           (list_close c.self.inside c.self.invariant c.unwrap-index.result index.within c.remove-location.result c.remove-location.result.key c.remove-client.result at c.remove-client.ensures.value c.remove-client.new.self c.remove-client.ensures.updates c.clear.new.self c.clear.new.store c.clear.ensures.cleared c.clear.ensures.none
           ∙ ap (λ n. without_client n (kept_view c.self.inside).list) (index.numbered c.remove-location.result)
           ∙ ap (λ (v : ClientsView). without_client c.args.number v.list) c.self.view_is);
+      none_new = λ n.
+          rw c.remove-location.ensures.items
+          (rw (← c.self.view_is) (fewer_close c.self.inside c.self.invariant c.unwrap-index.result index.within c.remove-location.result c.remove-location.result.key c.remove-client.result at c.remove-client.ensures.value c.remove-client.new.self c.remove-client.ensures.updates c.clear.new.self c.clear.new.store c.clear.ensures.cleared c.clear.ensures.none n));
     }

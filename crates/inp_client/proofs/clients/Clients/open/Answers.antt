@@ -2,9 +2,10 @@ use Rattle.std.proofs.Common.{ap, ◌∙◌, refl, arith}
 use Rattle.std.proofs.lemmas.List.Edits.{length-insert}
 use Rattle.inp_client.specs.Client.{new_client}
 use Rattle.inp_client.specs.Clients.{ClientsView, with_client}
+use Rattle.inp_client.specs.Numbers.{numbers_of}
 use Rattle.inp_client.proofs.Locating.{located_after_insert}
 use Rattle.inp_client.proofs.Calling.{call_closed}
-use Rattle.inp_client.proofs.Opening.{new_ring, cells_few, stored_open, idle_open, counted_open, list_open}
+use Rattle.inp_client.proofs.Opening.{new_ring, cells_few, stored_open, idle_open, counted_open, list_open, numbers_open}
 use Rattle.inp_client.proofs.clients.Clients.open.Goals as goal
 
 pub overflow_add-cells : goal.overflow_add-cells
@@ -44,3 +45,13 @@ returns-clause-ok c =
     rw items
     (list_open c.self.inside c.self.invariant c.insert_reserved-key.result client c.insert_reserved-key.new.self c.place_for-place.result c.insert_reserved-key.ensures.was_vacant updates place c.grow.new.self c.grow.ensures.cells
     ∙ ap (λ (v : ClientsView). with_client (new_client c.args.number c.args.ring) v.list) c.self.view_is)
+
+pub returns-clause-numbers : goal.returns-clause-numbers
+returns-clause-numbers c =
+    let client = new_client c.args.number c.args.ring in
+    let place = rw c.deref.ensures.value at c.place_for-place.ensures.place in
+    let items = rw c.unwrap.ensures at c.insert.ensures.items in
+    let updates = rw c.in_ok-client.ensures.new at c.insert_reserved-key.ensures.updates in
+    rw items
+    (numbers_open c.self.inside c.self.invariant c.insert_reserved-key.result client c.insert_reserved-key.new.self c.place_for-place.result c.insert_reserved-key.ensures.was_vacant updates place c.grow.new.self c.grow.ensures.cells refl
+    ∙ ap numbers_of c.self.view_is)

@@ -13,3 +13,6 @@ pub returns-clause-removed : goal.returns-clause-removed
 returns-clause-removed c =
     rw (← c.self.view_is) (queue_flush c.args.store.now c.remove_class.new.store c.self.inside.numbers.items c.remove_class.new.numbers.items (is_part_of (query_of_class c.args.class))
     (ap (λ (b : Buffer ℕ). b.items) c.remove_class.ensures.rest) c.remove_class.ensures.moved)
+
+pub returns-clause-stay : goal.returns-clause-stay
+returns-clause-stay c = rw (← c.self.view_is) (ap (λ (b : Buffer ℕ). b.items) c.remove_class.ensures.rest)
