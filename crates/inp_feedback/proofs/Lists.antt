@@ -18,7 +18,7 @@ reverse-cons xs x =
 
 -- the steps
 
-steps-made : (past : List Step) → steps_in (map Made past) ≡ past
+pub steps-made : (past : List Step) → steps_in (map Made past) ≡ past
 steps-made [] = refl
 steps-made (x ∷ past) = ap (λ xs. x ∷ xs) (steps-made past)
 

@@ -1,8 +1,7 @@
 -- Each loss in a queue has its cause.
-use Rattle.std.proofs.lemmas.Bool.{true≢false}
-use Rattle.std.proofs.Common.{◌≡◌, ◌≤◌, ◌<◌, ◌⊎◌, ℕ, zero, suc, ◌*◌, Bool, true, false, ◌&&◌, ◌||◌, if◌then◌else◌, nat_eq, nat_lt, nat_le, min, List, [], ◌∷◌, ◌++◌, length, take, drop, refl, sym, ap, subst, ◌∙◌, inl, inr, Option, Some, None, arith, append_assoc, length-append}
+use Rattle.std.proofs.lemmas.Bool.{true≢false, cond_both, eqb-true}
+use Rattle.std.proofs.Common.{◌≡◌, ◌≤◌, ◌<◌, ◌⊎◌, ℕ, zero, suc, ◌*◌, Bool, true, false, ◌&&◌, ◌||◌, if◌then◌else◌, nat_eq, nat_lt, nat_le, min, List, [], ◌∷◌, ◌++◌, length, drop, refl, sym, ap, subst, ◌∙◌, inl, inr, Option, Some, None, arith, append_assoc, length-append}
 use Rattle.std.specs.List.{slice_get}
-use Rattle.std.proofs.lemmas.Bool.{eqb-true}
 use Rattle.std.proofs.lemmas.Bool.Decides.{nat_tests}
 use Rattle.inp_model.specs.declared.clock.Clock.{Clock}
 use Rattle.inp_model.specs.declared.event.Event.{Event}
@@ -24,11 +23,9 @@ use Rattle.inp_losses.proofs.Passing.{ComesAt, cuts-no_loss, entries-come}
 
 doubled-least : (times enough n : ℕ) → n ≤ doubled times enough n
 doubled-least zero enough n = omega arith
-doubled-least (suc times) enough n = by (nat_le enough n) (doubled-least times enough (2 * n))
-  where
-    by : (b : Bool) → 2 * n ≤ doubled times enough (2 * n) → n ≤ (if b then n else doubled times enough (2 * n))
-    by true h = omega arith
-    by false h = omega (arith, h)
+doubled-least (suc times) enough n =
+    (cond_both (nat_le enough n) _ _ (λ x. 2 * n ≤ doubled times enough (2 * n) → n ≤ x)
+    (λ _ h. omega arith) (λ _ h. omega (arith, h))) (doubled-least times enough (2 * n))
 
 ring-places : (d : Description) → 64 ≤ ring d
 ring-places d = doubled-least 6 (8 * d.hint) 64
@@ -71,11 +68,9 @@ drop-length (suc n) (x ∷ q) = omega (arith, drop-length n q)
 
 flush_behind-length : (drops : Event → Bool) (before q : List Entry) → length (flush_behind event_of drops before q) ≤ length q
 flush_behind-length drops before [] = omega arith
-flush_behind-length drops before (x ∷ q) = by (stays event_of drops before x) (flush_behind-length drops (x ∷ before) q)
-  where
-    by : (b : Bool) → length (flush_behind event_of drops (x ∷ before) q) ≤ length q → length ((if b then x ∷ [] else []) ++ flush_behind event_of drops (x ∷ before) q) ≤ suc (length q)
-    by true h = omega (arith, h)
-    by false h = omega (arith, h)
+flush_behind-length drops before (x ∷ q) =
+    (cond_both (stays event_of drops before x) _ _ (λ y. length (flush_behind event_of drops (x ∷ before) q) ≤ length q → length (y ++ flush_behind event_of drops (x ∷ before) q) ≤ suc (length q))
+    (λ _ h. omega (arith, h)) (λ _ h. omega (arith, h))) (flush_behind-length drops (x ∷ before) q)
 
 flush_for-length : (o : Option Query) (q : List Entry) → length (flush_for event_of o q) ≤ length q
 flush_for-length None q = omega arith
@@ -94,11 +89,8 @@ call-room d past (ToClock client clock now) q room = clock-room (is_same_clock (
 call-room d past x q room = omega (arith, room, flush_for-length (query_of x) q)
 
 before-room : (d : Description) (past : List Step) (client : ℕ) (x : Step) → length (queue d past client) < ring d → length (queue_before_frames d past client x) < ring d
-before-room d past client x room = by (is_call_of past client x)
-  where
-    by : (b : Bool) → length (if b then left_by_call d past x (queue d past client) else queue d past client) < ring d
-    by true = call-room d past x (queue d past client) room
-    by false = room
+before-room d past client x room =
+    cond_both (is_call_of past client x) _ _ (λ y. length y < ring d) (λ _. call-room d past x (queue d past client) room) (λ _. room)
 
 pub queue-room : (d : Description) (past : List Step) (client : ℕ) → length (queue d past client) < ring d
 unfolding queue_with
@@ -209,11 +201,10 @@ queue-caused d (x ∷ past) client =
     (before-caused d past client x older)
 
 taken-caused : (d : Description) (past : List Step) (client : ℕ) (x : Step) → AreCaused d (x ∷ past) client (queue d past client) → AreCaused d (x ∷ past) client (taken_by d past client x)
-taken-caused d past client (Read named count) h = by (nat_eq named client)
-  where
-    by : (b : Bool) → AreCaused d (Read named count ∷ past) client (if b then take (min count (visible event_of (queue d past client))) (queue d past client) else [])
-    by true = Each-take (IsCaused d (Read named count ∷ past) client) (min count (visible event_of (queue d past client))) (queue d past client) h
-    by false = tt
+taken-caused d past client (Read named count) h =
+    cond_both (nat_eq named client) _ _ (AreCaused d (Read named count ∷ past) client)
+    (λ _. Each-take (IsCaused d (Read named count ∷ past) client) (min count (visible event_of (queue d past client))) (queue d past client) h)
+    (λ _. tt)
 taken-caused d past client x h = tt
 
 pub took-caused : (d : Description) (past : List Step) (client : ℕ) → AreCaused d past client (took d past client)
@@ -237,22 +228,3 @@ queued-caused d past client i e at = each-at (IsCaused d past client) (queue d p
 
 pub all_taken-caused : AreTakenCaused
 all_taken-caused d past client i e at = each-at (IsCaused d past client) (took d past client) i e (took-caused d past client) at
-
--- what a read takes
-pub read-caused : (d : Description) (past : List Step) (client count : ℕ) → AreCaused d past client (taken_by d past client (Read client count))
-read-caused d past client count = by (nat_eq client client)
-  where
-    by : (b : Bool) → AreCaused d past client (if b then take (min count (visible event_of (queue d past client))) (queue d past client) else [])
-    by true = Each-take (IsCaused d past client) (min count (visible event_of (queue d past client))) (queue d past client) (queue-caused d past client)
-    by false = tt
-
--- a cause in a past is one in each longer past
-pub cause-later : (d : Description) (past more : List Step) (client place : ℕ) → IsCausedAt d past client place → IsCausedAt d (more ++ past) client place
-cause-later d past more client place c = record {
-  before = c.before;
-  step = c.step;
-  later = more ++ c.later;
-  whole = ap (λ (xs : List Step). more ++ xs) c.whole ∙ sym (append_assoc more c.later (c.step ∷ c.before));
-  at = c.at;
-  cause = c.cause;
-}

@@ -1,5 +1,6 @@
 -- No SYN_DROPPED is passed, and so none comes in a frame.
-use Rattle.std.proofs.Common.{◌≡◌, ◌⊎◌, ℕ, ℤ, Bool, true, false, if◌then◌else◌, cond, List, [], ◌∷◌, ◌++◌, length, map, filter, nat_le, refl, sym, subst, inl, inr, Option, Some, None, option_to_list, option_map}
+use Rattle.std.proofs.Common.{◌≡◌, ◌⊎◌, ℕ, ℤ, Bool, true, false, if◌then◌else◌, List, [], ◌∷◌, ◌++◌, length, map, filter, nat_le, refl, sym, subst, inl, inr, Option, Some, None, option_to_list, option_map}
+use Rattle.std.proofs.lemmas.Bool.{cond_both}
 use Rattle.inp_model.specs.declared.event.Event.{Event}
 use Rattle.inp_model.specs.declared.step.Step.{Step}
 use Rattle.inp_model.specs.RawItem.{RawItem, Occurred, Described, Cut}
@@ -80,11 +81,9 @@ pub record ComesAt (place : ℕ) (x : Entry) : Type 0 where
 
 admitted-come : (d : Description) (client : ℕ) (past : List Step) (s : Step) (c : Cut) (p : Event → Bool) (es : List Event) → Each IsNoLoss es → Each (ComesAt (length past)) (map (entry d client (frame_of past s c)) (filter p es))
 admitted-come d client past s c p [] h = tt
-admitted-come d client past s c p (e ∷ es) h = by (p e) (admitted-come d client past s c p es h.1)
-  where
-    by : (b : Bool) → Each (ComesAt (length past)) (map (entry d client (frame_of past s c)) (filter p es)) → Each (ComesAt (length past)) (map (entry d client (frame_of past s c)) (cond b (e ∷ filter p es) (filter p es)))
-    by true rest = (record { no_loss = h.0; at = refl }, rest)
-    by false rest = rest
+admitted-come d client past s c p (e ∷ es) h =
+    (cond_both (p e) _ _ (λ x. Each (ComesAt (length past)) (map (entry d client (frame_of past s c)) (filter p es)) → Each (ComesAt (length past)) (map (entry d client (frame_of past s c)) x))
+    (λ _ rest. (record { no_loss = h.0; at = refl }, rest)) (λ _ rest. rest)) (admitted-come d client past s c p es h.1)
 
 pub entries-come : (d : Description) (client : ℕ) (past : List Step) (s : Step) (cs : List Cut) → Each (λ (c : Cut). Each IsNoLoss c.events) cs → Each (ComesAt (length past)) (entries d client (map (frame_of past s) cs))
 entries-come d client past s [] h = tt

@@ -27,7 +27,7 @@ pub record IsAllowed (d : Description) (past : List Step) (x : Step) : Type 0 wh
   pub few : is_one_too_many past x ≡ false
   pub room : is_full d past ≡ false
 
-head_fails : (holds : Bool) (reply : Reply) (rest : Option Reply) → (if holds then Some reply else rest) ≡ None → holds ≡ false
+pub head_fails : (holds : Bool) (reply : Reply) (rest : Option Reply) → (if holds then Some reply else rest) ≡ None → holds ≡ false
 head_fails true reply rest h = absurd (cc h)
 head_fails false reply rest h = refl
 

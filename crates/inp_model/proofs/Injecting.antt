@@ -18,7 +18,6 @@ use Rattle.inp_model.specs.Step.{is_inject}
 use Rattle.inp_model.specs.Evdev.{EvdevView, BeginsWith, TurnsRise, TurnsStand, IsCall, own_after, agains_after}
 use Rattle.inp_model.specs.Leaves.{AreCalls}
 use Rattle.inp_model.specs.Injecting.{inject_of, entered_count, history_with, IsInjectAll, entered_call, full_call, calls_of}
-use Rattle.inp_model.proofs.Allowed.{IsAllowed, allowed}
 use Rattle.inp_model.proofs.Leaves.{BeginsWith-trans}
 use Rattle.inp_model.proofs.Telling.{called_by, turned}
 
@@ -34,13 +33,6 @@ history-shorter d history more h = past-shorter d (reverse more) (reverse histor
 
 not_full : (n limit : ℕ) → nat_le limit n ≡ false → n < limit
 not_full n limit h = grind (arith, nat_tests, h)
-
--- no history is longer than the limit
-pub history-within : (d : Description) (past : List Step) → IsHistory d past → length past ≤ d.log_limit
-history-within d [] h = omega arith
-history-within d (x ∷ past) h =
-    let free : IsAllowed d past x = allowed d past x h.1 in
-    omega (arith, not_full (length past) d.log_limit free.room)
 
 -- The answers to one event
 
@@ -254,7 +246,7 @@ injected-calls before after first events injected all =
 
 -- What the caller of a device is told of it
 
-range-append : (a m n : ℕ) → range_with_len a (m + n) ≡ range_with_len a m ++ range_with_len (a + m) n
+pub range-append : (a m n : ℕ) → range_with_len a (m + n) ≡ range_with_len a m ++ range_with_len (a + m) n
 range-append a zero n =
     let start : a ≡ a + 0 = omega arith in
     let all : zero + n ≡ n = omega arith in

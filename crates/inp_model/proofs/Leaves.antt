@@ -6,7 +6,7 @@ use Rattle.std.specs.List.{slice_get}
 use Rattle.inp_model.specs.declared.step.Step.{Step}
 use Rattle.inp_model.specs.declared.reply.Reply.{Reply}
 use Rattle.inp_model.specs.Description.{Description}
-use Rattle.inp_model.specs.Evdev.{EvdevView, IsCall, BeginsWith, own_after, agains_after}
+use Rattle.inp_model.specs.Evdev.{EvdevView, IsCall, BeginsWith, own_after}
 use Rattle.inp_model.specs.History.{IsHistory}
 use Rattle.inp_model.specs.Leaves.{AreCalls, places_of, agains_after_calls, Leaves, IsLeft}
 use Rattle.inp_model.specs.Past.{past_at}
@@ -45,12 +45,6 @@ own_more reply own = by_flag (is_accepted reply)
     by_flag true = refl
     by_flag false = sym (append-nil own)
 
-pub places_of-append : (calls more : List Call) → places_of (calls ++ more) ≡ places_of calls ++ places_of more
-places_of-append [] more = refl
-places_of-append (call ∷ calls) more =
-    let one : List ℕ = own_after call.answer.reply [] in
-    ap (λ (ps : List ℕ). one ++ ps) (places_of-append calls more) ∙ sym (append_assoc one (places_of calls) (places_of more))
-
 pub own-grown : (before after : EvdevView) (calls : List Call) → AreCalls before after calls → after.own ≡ before.own ++ places_of calls
 unfolding AreCalls
 own-grown before after [] h = ap (λ (v : EvdevView). v.own) h ∙ sym (append-nil before.own)
@@ -69,10 +63,6 @@ agains-counted before after [] h = ap (λ (v : EvdevView). v.agains) h
 agains-counted before after (call ∷ calls) h =
     let c : IsCall before h.0 call = h.1 in
     agains-counted h.0 after calls h.2 ∙ ap (λ (n : ℕ). agains_after_calls calls n) c.agains
-
-pub agains-append : (calls more : List Call) (n : ℕ) → agains_after_calls (calls ++ more) n ≡ agains_after_calls more (agains_after_calls calls n)
-agains-append [] more n = refl
-agains-append (call ∷ calls) more n = agains-append calls more (agains_after call.answer.reply n)
 
 -- Accepted steps
 

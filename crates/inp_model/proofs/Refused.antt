@@ -23,7 +23,7 @@ pub refused-not_accepted : (d : Description) (past : List Step) (x : Step) (repl
 refused-not_accepted d past x reply h =
     first_reply-refuses (refusals d past x) reply (refl, (refl, (refl, (refl, (refl, (refl, (refl, (refl, (refl, (refl, tt)))))))))) h
 
-unrefused_by : (d : Description) (past : List Step) (x : Step) (o : Option Reply) → refused d past x ≡ o → is_accepted (answer_by o (accepted d past x)).reply ≡ true → o ≡ None
+pub unrefused_by : (d : Description) (past : List Step) (x : Step) (o : Option Reply) → refused d past x ≡ o → is_accepted (answer_by o (accepted d past x)).reply ≡ true → o ≡ None
 unrefused_by d past x None h is = refl
 unrefused_by d past x (Some reply) h is = absurd (true≢false (sym is ∙ refused-not_accepted d past x reply h))
 

@@ -1,7 +1,7 @@
 -- The axes of a view follow the device. A query of an axis removes nothing from the queue: what is queued of it leads
 -- to its present value.
 use Rattle.std.proofs.Common.{◌≡◌, ◌<◌, ◌≤◌, ℕ, ℤ, pos, Bool, true, false, ◌&&◌, not, if◌then◌else◌, cond, nat_eq, List, [], ◌∷◌, ◌++◌, length, map, get_or, refl, sym, ap, subst, ◌∙◌, Some, arith}
-use Rattle.std.proofs.lemmas.Bool.{eqb-true, not-true}
+use Rattle.std.proofs.lemmas.Bool.{eqb-true, not-true, cond_both}
 use Rattle.inp_model.specs.declared.event.TheConstants.{EV_ABS}
 use Rattle.inp_model.specs.declared.multi_touch.TheConstants.{ABS_MT_SLOT}
 use Rattle.inp_model.specs.declared.event.Event.{Event}
@@ -187,11 +187,8 @@ module _ (eats : Eats) (d : Description) (client code : ℕ) (has : has_axis d c
 
   -- a query of the axis leaves the queue
   query_leaves : (past : List Step) (x : Step) → asks_for (OneAxis code) client x ≡ true → left_in_queue eats d past client x ≡ queue_with eats d past client
-  query_leaves past (GetAxis named asked) h = by (nat_eq named client)
-    where
-      by : (b : Bool) → (if b then queue_with eats d past client else queue_with eats d past client) ≡ queue_with eats d past client
-      by true = refl
-      by false = refl
+  query_leaves past (GetAxis named asked) h =
+      cond_both (nat_eq named client) _ _ (λ x. x ≡ queue_with eats d past client) (λ _. refl) (λ _. refl)
   query_leaves past x h = let bad : false ≡ true = h in absurd cc
 
   -- the batch leads back, where no axis was described anew since the last frame

@@ -254,7 +254,7 @@ axis-read eats d past client count described receives j f report followed code h
 
 -- ---- slots
 
-slot_code : (k : ℕ) → k < 14 → is_slot_code (48 + k) ≡ true
+pub slot_code : (k : ℕ) → k < 14 → is_slot_code (48 + k) ≡ true
 slot_code k h = and_from _ _ (le-leb ABS_MT_TOUCH_MAJOR (48 + k) (omega arith)) (le-leb (48 + k) ABS_MT_TOOL_Y (omega arith))
 
 cell-read : (eats : Eats) (d : Description) (past : List Step) (client count : ℕ) → Receives past client

@@ -84,15 +84,11 @@ module _ (d : Description) (kind : ℕ) (skips : ℤ → Bool) (on : List RawIte
       let is : behind ≡ (if has && not (skips value) then is_set e else before) =
       steps r e code
       ∙ ap (λ (c : Bool). if (has && c) && not (skips value) then is_set e else before) same
-      ∙ ap (λ (c : Bool). if c && not (skips value) then is_set e else before) (and-true has) in
+      ∙ ap (λ (c : Bool). if c && not (skips value) then is_set e else before) (elim has as (λ b. (b && true) ≡ b) [ true ↦ refl | false ↦ refl ]) in
       ap (over t before) (passes r code value)
       ∙ over_option t before (λ v. event kind code v) (has && (if skips value then true else differ before behind)) value
       ∙ ap (λ (c : Bool). if has && (if skips value then true else differ before behind) then (if c && not (skips value) then is_set e else before) else before) same
       ∙ flag_cases has (skips value) (is_set e) before behind is
-    where
-      and-true : (b : Bool) → (b && true) ≡ b
-      and-true true = refl
-      and-true false = refl
 
   pub flag-passes : (code : ℕ) (r : List RawItem) (e : Event) → over (set_by (sets_flag kind skips code) is_set) (on r code) (passed d r e) ≡ on (Occurred e ∷ r) code
   flag-passes code r e = by (nat_eq e.kind kind) refl (nat_eq e.code code) refl

@@ -75,16 +75,13 @@ module _ (eats : Eats) (d : Description) (client kind : ℕ) (skips : ℤ → Bo
       set_it : get_or (with_value_at count (flags v) e.code (is_set e)) code false ≡ (if nat_eq e.code code then is_set e else flag_of v)
       set_it = get_or-with_value_at count (flags v) e.code code (is_set e) false (c.long v h) within
 
-      none : (a : Bool) → flag_of v ≡ (if a && false then is_set e else flag_of v)
-      none true = refl
-      none false = refl
-
       all : (a : Bool) → (if a then is_set e else flag_of v) ≡ (if a && true then is_set e else flag_of v)
       all true = refl
       all false = refl
 
       by : (k s : Bool) → get_or (if k && not s then with_value_at count (flags v) e.code (is_set e) else flags v) code false ≡ (if (k && nat_eq e.code code) && not s then is_set e else flag_of v)
-      by true true = none (nat_eq e.code code)
+      by true true =
+          elim (nat_eq e.code code) as (λ a. flag_of v ≡ (if a && false then is_set e else flag_of v)) [ true ↦ refl | false ↦ refl ]
       by true false = set_it ∙ all (nat_eq e.code code)
       by false s = refl
 

@@ -1,6 +1,6 @@
 -- What comes to a client of a frame: all that its view follows, where nothing is kept from it.
 use Rattle.std.proofs.Common.{◌≡◌, ◌⊎◌, ℕ, suc, Bool, true, false, ◌&&◌, ◌||◌, not, if◌then◌else◌, cond, List, [], ◌∷◌, ◌++◌, map, filter, refl, sym, ap, ◌∙◌, inl, inr}
-use Rattle.std.proofs.lemmas.Bool.{and_from, not-true}
+use Rattle.std.proofs.lemmas.Bool.{and_from, not-true, cond_both}
 use Rattle.std.proofs.lemmas.List.{map-append}
 use Rattle.inp_model.specs.declared.event.Event.{Event}
 use Rattle.inp_model.specs.declared.step.Step.{Step}
@@ -35,14 +35,12 @@ offered past client h free = and_from _ _ (and_from _ _ h.is_there (ap not h.unr
 
 pub Each-left_from : (P : Event → Type 0) (eats : ℕ → Bool) (k : ℕ) (es : List Event) → Each P es → Each P (left_from eats k es)
 Each-left_from P eats k [] h = tt
-Each-left_from P eats k (e ∷ es) h = by (is_left eats k e) (Each-left_from P eats (suc k) es h.1)
+Each-left_from P eats k (e ∷ es) h =
+    (cond_both (is_left eats k e) _ _ (λ x. Each P (left_from eats (suc k) es) → Each P x)
+    (λ _ ih. (h.0, ih)) (λ _ ih. ih)) (Each-left_from P eats (suc k) es h.1)
   where
     rest : List Event
     rest = left_from eats (suc k) es
-
-    by : (b : Bool) → Each P (left_from eats (suc k) es) → Each P (if b then e ∷ rest else rest)
-    by true ih = (h.0, ih)
-    by false ih = ih
 
 -- a report that comes last is left
 left-end : (eats : ℕ → Bool) (k : ℕ) (body : List Event) (report : Event) → is_report report ≡ true → left_from eats k (body ++ report ∷ []) ≡ left_from eats k body ++ report ∷ []
@@ -108,11 +106,8 @@ filter-append p (x ∷ xs) ys = by (p x) (filter-append p xs ys)
 
 Each-filter : {X : Type 0} (P : X → Type 0) (p : X → Bool) (xs : List X) → Each P xs → Each P (filter p xs)
 Each-filter P p [] h = tt
-Each-filter P p (x ∷ xs) h = by (p x) (Each-filter P p xs h.1)
-  where
-    by : (b : Bool) → Each P (filter p xs) → Each P (cond b (x ∷ filter p xs) (filter p xs))
-    by true rest = (h.0, rest)
-    by false rest = rest
+Each-filter P p (x ∷ xs) h =
+    (cond_both (p x) _ _ (λ y. Each P (filter p xs) → Each P y) (λ _ rest. (h.0, rest)) (λ _ rest. rest)) (Each-filter P p xs h.1)
 
 -- the entries before the report
 pub quiet_entries : (d : Description) (client : ℕ) (f : Frame) (p : Event → Bool) (es : List Event) → Each IsNoReport es → Each (λ x. is_report (event_of x) ≡ false) (map (entry d client f) (filter p es))

@@ -1,5 +1,6 @@
 -- What holds of every event that is passed holds of every event that a client is queued and takes.
-use Rattle.std.proofs.Common.{◌≡◌, ◌⊎◌, ℕ, Bool, true, false, if◌then◌else◌, cond, List, [], ◌∷◌, ◌++◌, length, map, filter, take, min, nat_eq, nat_le, refl, sym, subst, inl, inr}
+use Rattle.std.proofs.Common.{◌≡◌, ◌⊎◌, ℕ, Bool, true, false, if◌then◌else◌, List, [], ◌∷◌, ◌++◌, length, map, filter, min, nat_eq, nat_le, refl, sym, subst, inl, inr}
+use Rattle.std.proofs.lemmas.Bool.{cond_both}
 use Rattle.inp_model.specs.declared.event.Event.{Event}
 use Rattle.inp_model.specs.declared.step.Step.{Step}
 use Rattle.inp_model.specs.declared.step.Step.TheVariants.{Read}
@@ -66,11 +67,9 @@ module _ (eats : Eats) (d : Description) (P : Event → Type 0) (syn : (e : Even
 
   kept_each : (client : ℕ) (f : Frame) (p : Event → Bool) (es : List Event) → Each P es → Each Q (map (entry d client f) (filter p es))
   kept_each client f p [] h = tt
-  kept_each client f p (e ∷ es) h = by (p e) (kept_each client f p es h.1)
-    where
-      by : (b : Bool) → Each Q (map (entry d client f) (filter p es)) → Each Q (map (entry d client f) (cond b (e ∷ filter p es) (filter p es)))
-      by true rest = (h.0, rest)
-      by false rest = rest
+  kept_each client f p (e ∷ es) h =
+      (cond_both (p e) _ _ (λ x. Each Q (map (entry d client f) (filter p es)) → Each Q (map (entry d client f) x))
+      (λ _ rest. (h.0, rest)) (λ _ rest. rest)) (kept_each client f p es h.1)
 
   entries_each : (client : ℕ) (past : List Step) (s : Step) (cs : List Cut) → Each (λ c. Each P c.events) cs → Each Q (entries_with eats d client (map (frame_of past s) cs))
   entries_each client past s [] h = tt
@@ -98,12 +97,8 @@ module _ (eats : Eats) (d : Description) (P : Event → Type 0) (syn : (e : Even
 
   pub taken-events : (past : List Step) (client : ℕ) (x : Step) → Each Q (taken_by_with eats d past client x)
   taken-events past client (Read reader count) =
-      by (nat_eq reader client)
+      cond_both (nat_eq reader client) _ _ (Each Q) (λ _. Each-take Q (min count (visible event_of q)) q (queue-events past client)) (λ _. tt)
     where
       q : List Entry
       q = queue_with eats d past client
-
-      by : (b : Bool) → Each Q (if b then take (min count (visible event_of q)) q else [])
-      by true = Each-take Q (min count (visible event_of q)) q (queue-events past client)
-      by false = tt
   taken-events past client x = tt

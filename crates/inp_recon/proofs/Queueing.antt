@@ -1,6 +1,6 @@
 -- What a value becomes by the entries of a queue: when entries are put, flushed, lost and read.
 use Rattle.std.proofs.Common.{◌≡◌, ℕ, suc, zero, Bool, true, false, ◌&&◌, ◌||◌, not, if◌then◌else◌, nat_lt, List, [], ◌∷◌, ◌++◌, length, map, take, drop, refl, sym, ap, subst, ◌∙◌}
-use Rattle.std.proofs.lemmas.Bool.{and_from, not-true}
+use Rattle.std.proofs.lemmas.Bool.{and_from, not-true, cond_both}
 use Rattle.std.proofs.lemmas.List.{map-append}
 use Rattle.inp_model.specs.declared.event.Event.{Event}
 use Rattle.inp_model.specs.Event.{is_report}
@@ -82,11 +82,7 @@ stays_or_idle {V} t idle drops out before x h = by (is_report (event_of x)) refl
   where
     by : (b : Bool) → is_report (event_of x) ≡ b → (if b then follows_kept event_of drops before else not (drops (event_of x))) ≡ false → IsIdle t (event_of x)
     by true e k = idle (event_of x) e
-    by false e k = out (event_of x) (dropped (drops (event_of x)) k)
-      where
-        dropped : (b : Bool) → not b ≡ false → b ≡ true
-        dropped true h = refl
-        dropped false h = cc
+    by false e k = out (event_of x) ((elim (drops (event_of x)) as (λ b. not b ≡ false → b ≡ true) [ true ↦ λ h. refl | false ↦ λ h. cc ]) k)
 
 over-kept_or_not : {V : Type 0} (t : V → Event → V) (b : Bool) (x : Entry) (rest : List Entry) (v : V) → (b ≡ false → IsIdle t (event_of x)) → over t v (map event_of ((if b then x ∷ [] else []) ++ rest)) ≡ over t (t v (event_of x)) (map event_of rest)
 over-kept_or_not t true x rest v idle = refl
@@ -103,11 +99,9 @@ flush-same t idle drops out q v = flush_behind-same t idle drops out [] q v
 
 -- what a flush keeps changes nothing
 kept_idle : {V : Type 0} (t : V → Event → V) → ReportsIdle t → (drops : Event → Bool) → ((e : Event) → drops e ≡ false → IsIdle t e) → (before : List Entry) (x : Entry) → stays event_of drops before x ≡ true → IsIdle t (event_of x)
-kept_idle {V} t idle drops out before x h = by (is_report (event_of x)) refl h
-  where
-    by : (b : Bool) → is_report (event_of x) ≡ b → (if b then follows_kept event_of drops before else not (drops (event_of x))) ≡ true → IsIdle t (event_of x)
-    by true e k = idle (event_of x) e
-    by false e k = out (event_of x) (not-true (drops (event_of x)) k)
+kept_idle {V} t idle drops out before x h =
+    (cond_both (is_report (event_of x)) _ _ (λ y. y ≡ true → IsIdle t (event_of x))
+    (λ e k. idle (event_of x) e) (λ e k. out (event_of x) (not-true (drops (event_of x)) k))) h
 
 over-kept_idle : {V : Type 0} (t : V → Event → V) (b : Bool) (x : Entry) (rest : List Entry) (v : V) → (b ≡ true → IsIdle t (event_of x)) → over t v (map event_of ((if b then x ∷ [] else []) ++ rest)) ≡ over t v (map event_of rest)
 over-kept_idle t true x rest v idle = ap (λ w. over t w (map event_of rest)) (idle refl v)

@@ -1,8 +1,8 @@
 -- No event and no answer changes how long the lists of a view are, and what a caller of `answer` has to show.
-use Rattle.std.proofs.Common.{◌≡◌, ℕ, ◌≤◌, Bool, true, false, ℤ, pos, List, [], ◌∷◌, length, cond, set, refl, ◌∙◌}
+use Rattle.std.proofs.Common.{◌≡◌, ℕ, Bool, true, false, ℤ, pos, List, [], ◌∷◌, length, cond, set, refl, ◌∙◌}
 use Rattle.std.proofs.lemmas.List.{length-set, length-replicate, length-take-le}
 use Rattle.std.proofs.lemmas.List.FromFn.{length-map-range_with_len}
-use Rattle.inp_model.specs.declared.event.TheConstants.{EV_SW, EV_LED, ABS_MAX}
+use Rattle.inp_model.specs.declared.event.TheConstants.{EV_SW, EV_LED}
 use Rattle.inp_model.specs.declared.event.Event.{Event}
 use Rattle.inp_model.specs.declared.step.Step.{Step}
 use Rattle.inp_model.specs.declared.step.Step.TheVariants.{GetKeys, GetSwitches, GetLeds, GetAxis, SyncSlots}
@@ -12,7 +12,7 @@ use Rattle.inp_model.specs.Description.{Description, is_multi_touch_code}
 use Rattle.inp_model.specs.Event.{is_set}
 use Rattle.inp_recon.specs.declared.view.View.{View}
 use Rattle.inp_recon.specs.Cells.{with_cell, cell_index}
-use Rattle.inp_recon.specs.View.{IsSizedFor, IsAxis, AreCells, HasAxis, HasCells, with_value_at, keys_after_event, bits_after_event, axes_after_event, cells_after_event, flags_after_reply, axes_after_reply, cells_after_reply, bit_in, bits_in, keys_after_answer, switches_after_answer, leds_after_answer, axes_after_answer, cells_after_answer, first_view, view_after_event, view_after_events, view_after_answer}
+use Rattle.inp_recon.specs.View.{IsSizedFor, AreCells, HasCells, with_value_at, keys_after_event, bits_after_event, axes_after_event, cells_after_event, flags_after_reply, axes_after_reply, cells_after_reply, bit_in, bits_in, keys_after_answer, switches_after_answer, leds_after_answer, axes_after_answer, cells_after_answer, first_view, view_after_event, view_after_events, view_after_answer}
 use Rattle.inp_recon.proofs.NoContact.{length-first_cells}
 
 -- a new view
@@ -114,20 +114,3 @@ IsSizedFor-after_answer slots v step reply buffer room h = record {
 }
 
 -- ---- what `answer` requires
-
--- the axis that was asked for is one that a device can have, whatever was answered
-pub IsAxis-within : (code : ℕ) (reply : Reply) → code ≤ ABS_MAX → IsAxis code reply
-IsAxis-within code (Axis at info) within = within
-IsAxis-within code _ within = tt
-
-pub HasAxis-within : (client code : ℕ) (reply : Reply) → code ≤ ABS_MAX → HasAxis (GetAxis client code) reply
-HasAxis-within client code reply within = IsAxis-within code reply within
-
--- the buffer has room for all values, whatever was asked and answered
-AreCells-room : (reply : Reply) (cells buffer : List ℤ) → length cells ≤ length buffer → AreCells reply cells buffer
-AreCells-room (Cells at count slot) cells buffer room = room
-AreCells-room _ cells buffer room = tt
-
-pub HasCells-room : (step : Step) (reply : Reply) (cells buffer : List ℤ) → length cells ≤ length buffer → HasCells step reply cells buffer
-HasCells-room (SyncSlots client) reply cells buffer room = AreCells-room reply cells buffer room
-HasCells-room _ reply cells buffer room = tt

@@ -19,6 +19,7 @@ use Rattle.inp_recon.proofs.Cutting.{NoCut, OneCut, cut_cases}
 use Rattle.inp_recon.proofs.CallsLeft.{LeftBy, ByRead, ByLoss, ByFlush, ByNone, left_by, left_in_queue}
 use Rattle.inp_recon.proofs.FrameEntries.{Receives}
 use Rattle.inp_recon.proofs.FrameSteps.{frames_by, offered_to}
+use Rattle.std.proofs.lemmas.Bool.{or_parts}
 
 pub raw-step : (d : Description) (past : List Step) (x : Step) → raw d (x ∷ past) ≡ raw_after (raw d past) (raw_of_step d past x)
 unfolding raw raw_and_timer raw_of_step
@@ -33,10 +34,6 @@ unfolding frames
 frames-step d past x = refl
 
 -- ---- a client's last start and last query
-
-or-false : (a b : Bool) → (a || b) ≡ false → (a ≡ false) × (b ≡ false)
-or-false true b h = absurd (let e : true ≡ false = h in cc)
-or-false false b h = (refl, h)
 
 pub start-same : (past : List Step) (client : ℕ) (x : Step) → is_start past client x ≡ false → start_place (x ∷ past) client ≡ start_place past client
 unfolding start_place
@@ -95,7 +92,7 @@ not_yet_revoked false before h = h
 pub receives-before : (past : List Step) (client : ℕ) (x : Step) → is_start past client x ≡ false → Receives (x ∷ past) client → Receives past client
 unfolding is_open is_revoked
 receives-before past client x start h = record {
-  is_there = still_open (is_opening past client x) (is_close_of client x) (is_open past client) (or-false _ _ start).0 h.is_there;
+  is_there = still_open (is_opening past client x) (is_close_of client x) (is_open past client) (or_parts _ _ start).0 h.is_there;
   unrevoked = not_yet_revoked (is_revoke_of client x) (is_revoked past client) h.unrevoked;
 }
 
