@@ -323,7 +323,7 @@ def compare_histories(one, other):
 
 
 def compare(first, second, ignores_times=False):
-    """The differences of two reports, those of a device in the order of their places."""
+    """The differences of two reports, device by device."""
     reports = [first, second]
     found = missing(reports)
     devices = {device.name: device for device in reports[1].devices}
@@ -332,12 +332,23 @@ def compare(first, second, ignores_times=False):
     for device in reports[0].devices:
         names = [part.name for part in device.parts if part.name in both]
         if device.name in devices:
-            here = compare_device(device, devices[device.name], names, reports, ignores_times)
-            found += sorted(here, key=lambda each: (each.place() is None, each.place() or 0))
+            found += in_order(compare_device(device, devices[device.name], names, reports, ignores_times))
     for name in both:
         if reports[0].parts[name].device is None:
             found += compare_device(None, None, [name], reports, ignores_times)
     return found
+
+
+def in_order(differences):
+    """Actor by actor, that which differs at the first place in front; those of an actor as they stand in its part."""
+    first = {}
+    for each in differences:
+        place = each.place()
+        if place is not None:
+            first[each.actor] = min(place, first.get(each.actor, place))
+    actors = list(dict.fromkeys(each.actor for each in differences))
+    actors.sort(key=lambda actor: (actor not in first, first.get(actor, 0)))
+    return sorted(differences, key=lambda each: (actors.index(each.actor), each.entry or 0))
 
 
 def missing(reports):
