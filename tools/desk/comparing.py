@@ -274,8 +274,8 @@ def out_of_order(parts):
     spots = [(spot(one.line), spot(other.line), part, one, other) for part in parts for one, other in part.same]
     spots = sorted((each for each in spots if each[0] is not None and each[1] is not None), key=lambda each: each[:2])
     kept = longest_ascending([each[1] for each in spots])
-    chain = [spots[index] for index in kept]
-    wrong = [each for index, each in enumerate(spots) if index not in set(kept)]
+    chain, are_kept = [spots[index] for index in kept], set(kept)
+    wrong = [each for index, each in enumerate(spots) if index not in are_kept]
     for before_it, each in zip(chain, chain[1:]):
         are_steps = before_it[0] % 2 == each[0] % 2 == 0
         if are_steps and (before_it[0] == each[0]) != (before_it[1] == each[1]):
