@@ -9,7 +9,7 @@ import stat
 import subprocess
 import time
 
-from desk_cases import PROGRAM, TOOLS, TOP, DeskCase
+from desk_cases import PROGRAM, TOOLS, TOP, DeskCase, needs_program
 from desk.slips import SLIPS
 
 EXAMPLES = TOP / "examples"
@@ -18,8 +18,7 @@ EXAMPLES = TOP / "examples"
 class PlayCase(DeskCase):
     def play_tool(self, *words, stdin=None, **environment):
         """Runs the tool: its status, its output, and its lines on standard error."""
-        if not os.access(PROGRAM, os.X_OK):
-            self.fail(f"no program at {PROGRAM}: build it, or name one in INPUTPLAY")
+        needs_program(self)
         env = {**os.environ, "INPUTPLAY": PROGRAM, **environment}
         words = [TOOLS / "play", *words]
         done = subprocess.run(words, env=env, capture_output=True, text=True, cwd=self.folder, stdin=stdin)
@@ -171,7 +170,7 @@ class Refused(PlayCase):
             data / "lid.evemu": f"this is what evemu writes: {made}",
             data / "lid.libinput.yml": f"this is a recording of libinput: {made}",
             data / "lid.proc": "this is /proc/bus/input/devices: tools/describe reads it",
-            data / "lid.bin": f"this is binary, as a raw capture of a device's events is: {made}",
+            data / "lid.bin": f"this is a raw capture of a device's events: {made}",
             self.file("packed", gzip.compress(b"inputrecord 1\n")): "this is a gzip file: unpack it with gunzip",
             self.file("shot", b"\x89PNG\r\n\x1a\n\0\0"): "this is a picture (PNG), and no record",
             TOP / "docs" / "stuck_key.svg": "this is a picture (SVG), as tools/draw writes one, and no record",
