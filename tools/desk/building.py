@@ -145,8 +145,8 @@ def build(program, stream):
             crates = needed_crates(file.read())
     except OSError as fault:
         raise Wrong(f"the program is not built, and crates.txt cannot be read: {fault.strerror}") from None
-    say(program, f"the program is not built: {len(crates)} crates are proved and built now, without tests, some 20 "
-                 "minutes on four processors; --unproved plays at once")
+    say(program, f"the program is not built: {len(crates)} crates are proved and built now, without tests, in some "
+                 "ten minutes on four processors; bin/inputplay --unproved FILE plays without that")
     teller = Teller(program, stream)
     try:
         Build(crates, teller).run()

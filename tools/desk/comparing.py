@@ -274,8 +274,8 @@ def out_of_order(parts):
     spots = [(spot(one.line), spot(other.line), part, one, other) for part in parts for one, other in part.same]
     spots = sorted((each for each in spots if each[0] is not None and each[1] is not None), key=lambda each: each[:2])
     kept = longest_ascending([each[1] for each in spots])
-    chain = [spots[index] for index in kept]
-    wrong = [each for index, each in enumerate(spots) if index not in set(kept)]
+    chain, are_kept = [spots[index] for index in kept], set(kept)
+    wrong = [each for index, each in enumerate(spots) if index not in are_kept]
     for before_it, each in zip(chain, chain[1:]):
         are_steps = before_it[0] % 2 == each[0] % 2 == 0
         if are_steps and (before_it[0] == each[0]) != (before_it[1] == each[1]):
@@ -323,7 +323,7 @@ def compare_histories(one, other):
 
 
 def compare(first, second, ignores_times=False):
-    """The differences of two reports, those of a device in the order of their places."""
+    """The differences of two reports, device by device."""
     reports = [first, second]
     found = missing(reports)
     devices = {device.name: device for device in reports[1].devices}
@@ -332,12 +332,23 @@ def compare(first, second, ignores_times=False):
     for device in reports[0].devices:
         names = [part.name for part in device.parts if part.name in both]
         if device.name in devices:
-            here = compare_device(device, devices[device.name], names, reports, ignores_times)
-            found += sorted(here, key=lambda each: (each.place() is None, each.place() or 0))
+            found += in_order(compare_device(device, devices[device.name], names, reports, ignores_times))
     for name in both:
         if reports[0].parts[name].device is None:
             found += compare_device(None, None, [name], reports, ignores_times)
     return found
+
+
+def in_order(differences):
+    """Actor by actor, that which differs at the first place in front; those of an actor as they stand in its part."""
+    first = {}
+    for each in differences:
+        place = each.place()
+        if place is not None:
+            first[each.actor] = min(place, first.get(each.actor, place))
+    actors = list(dict.fromkeys(each.actor for each in differences))
+    actors.sort(key=lambda actor: (actor not in first, first.get(actor, 0)))
+    return sorted(differences, key=lambda each: (actors.index(each.actor), each.entry or 0))
 
 
 def missing(reports):

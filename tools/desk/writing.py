@@ -76,8 +76,12 @@ class Record:
     def note_unpassed(self, unpassed):
         if unpassed:
             first = f"{event_text(unpassed[0][1:])} at {seconds(unpassed[0].time)}"
-            self.notes.append(f"{len(unpassed)} events change nothing and are not passed, the first being "
-                              f"{first}: the capture lost events before it, or hides keys")
+            why = "the capture lost events before it, or hides keys"
+            if len(unpassed) == 1:
+                self.notes.append(f"1 event changes nothing and is not passed, {first}: {why}")
+            else:
+                self.notes.append(f"{len(unpassed)} events change nothing and are not passed, the first being "
+                                  f"{first}: {why}")
 
     def note_small_rings(self):
         places = 64
