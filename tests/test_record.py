@@ -498,7 +498,7 @@ class WrongInput(DeskCase):
                 self.refused("record", DATA / "keyboard.evtest", path, because=because)
 
     def test_slots(self):
-        for number, because in ((4, "its slots are 4 to 4, and the description has 4"), (64, "in slot 64")):
+        for number, because in ((4, "its slots are 4 to 4, and the description has 4"), (256, "in slot 256")):
             path = self.file("c", raw_capture(frames([(3, SLOT, number), (3, X, 1)])))
             self.refused("record", self.file("h", SLOTS), path, because=because)
 
