@@ -171,7 +171,7 @@ class Refused(PlayCase):
             data / "lid.evemu": f"this is what evemu writes: {made}",
             data / "lid.libinput.yml": f"this is a recording of libinput: {made}",
             data / "lid.proc": "this is /proc/bus/input/devices: tools/describe reads it",
-            data / "lid.bin": f"this is binary, as a raw capture of a device's events is: {made}",
+            data / "lid.bin": f"this is a raw capture of a device's events: {made}",
             self.file("packed", gzip.compress(b"inputrecord 1\n")): "this is a gzip file: unpack it with gunzip",
             self.file("shot", b"\x89PNG\r\n\x1a\n\0\0"): "this is a picture (PNG), and no record",
             TOP / "docs" / "stuck_key.svg": "this is a picture (SVG), as tools/draw writes one, and no record",

@@ -1,13 +1,18 @@
 """tools/stuck: where a client's belief and its device part, since which place, and why."""
 
+import json
 import os
+import pty
+import random
 import re
 import stat
 import subprocess
 
 from desk_cases import PROGRAM, TOOLS, TOP, DeskCase
+from desk.played import play
+from desk.program import Player
 
-EXAMPLES = TOP / "examples"
+EXAMPLES, RECORDS = TOP / "examples", TOP / "tests" / "records"
 KEYBOARD = """inputrecord 1
 device kbd
 hint 8
@@ -423,6 +428,313 @@ class Records(StuckCase):
                     end = next(line for line in said[begin:] if line.startswith("  at the end"))
                     same = lines[-1 - len(state) : -1] == state
                     self.assertEqual(same, end == "  at the end: as the device", f"{name}: {end}")
+
+
+def filtered(*filters):
+    """A keyboard with filters, a reader and a client that may grab."""
+    lines = "".join(f"filter {each}\n" for each in filters)
+    described = KEYBOARD.replace("inputrecord 1", "inputrecord 2").replace("source s\n", lines + "source s\n")
+    return described + "client c\ntap g\ndo c open\ndo g open\n"
+
+
+class Filters(StuckCase):
+    def test_each_form(self):
+        forms = {
+            "eat EV_KEY KEY_A": frame(1, press("KEY_A")),
+            "chord KEY_B KEY_A": frame(1, press("KEY_B")) + frame(2, press("KEY_A")) + frame(3, release("KEY_B")),
+            "bounce KEY_A 9000": frame(1, press("KEY_A")) + frame(2, release("KEY_A")) + frame(9, press("KEY_A")),
+        }
+        for form, pressed in forms.items():
+            with self.subTest(form):
+                said = self.part(filtered("norepeat", form) + pressed + "do c follow\n", "c")
+                text = form.replace("eat EV_KEY", "eat")
+                self.assertIn(f"KEY_A: up for it, down on the device\n    since place", said)
+                self.assertIn(f": eaten by filter 2 ({text})\n", said)
+
+    def test_a_code_by_its_number(self):
+        said = self.part(filtered("eat 0x1 30") + frame(1, press("KEY_A")) + "do c follow\n", "c")
+        self.assertIn("eaten by filter 1 (eat KEY_A)\n", said)
+
+    def test_an_autorepeat_that_is_eaten_parts_nothing(self):
+        text = filtered("norepeat") + frame(1, press("KEY_A")) + frame(2, "EV_KEY KEY_A 2") + "do c follow\n"
+        self.says(text, "c", "at the end: as the device")
+
+    def test_under_a_grab_nothing_is_eaten(self):
+        text = filtered("eat EV_KEY KEY_A") + "do g grab\n" + frame(1, press("KEY_A")) + "do g read 9\ndo c follow\n"
+        self.says(text, "g", "at the end: as the device")
+        self.assertIn("since place 5: grab of g from place 3 on\n", self.part(text, "c"))
+
+    def test_a_filter_and_a_grab_that_meet(self):
+        for name in ("filters_decide_anew", "grab_passes_filters_by", "filters_stand_in_a_row"):
+            with self.subTest(name):
+                said = self.written("stuck", RECORDS / f"{name}.rec")
+                self.assertIn("eaten by filter ", said)
+                self.assertNotIn("its frame has not ended", said)
+                self.assertNotIn("it did not ask", said)
+
+    def test_a_slot_whose_announcement_is_eaten(self):
+        text = TOUCHPAD.replace("inputrecord 1", "inputrecord 2").replace("slots 2", "slots 2\nfilter eat EV_ABS ABS_MT_SLOT")
+        text += "client c\ndo c open\n" + frame(1, "EV_ABS ABS_MT_SLOT 1", "EV_ABS ABS_MT_TRACKING_ID 5") + "do c follow\n"
+        said = self.part(text, "c")
+        self.assertIn("the current slot: 0 for it, 1 on the device\n", said)
+        self.assertIn("eaten by filter 1 (eat ABS_MT_SLOT)\n", said)
+        self.assertIn("it took the value for slot 0, since that is the current one for it\n", said)
+
+    def test_what_is_left_is_what_the_program_leaves(self):
+        """Of random frames and filters: a tap beside no grab reads just what the filters here do not eat."""
+        for seed in range(12):
+            with self.subTest(seed):
+                text = random_filtered(random.Random(seed))
+                played = play(self.file("case.rec", text), Player())[0]
+                frames = played.state.frames
+                left = [e for f in frames for e, by in zip(f.events, f.eaten) if by is None and e[0] != "EV_SYN"]
+                taken = [entry[3] for entry in played.clients[0].part.sight if entry[0] == "took"]
+                self.assertEqual(left, [event for event in taken if event[0] != "EV_SYN"])
+                self.assertLess(len(left), sum(len(f.events) - 1 for f in frames))
+
+
+def random_filtered(r):
+    """A record with random filters and frames of three keys, some of them under a grab of the tap that reads."""
+    keys = ["KEY_A", "KEY_B", "KEY_C"]
+    forms = ["norepeat", "eat EV_REL REL_X", *(f"chord {a} {b}" for a in keys for b in keys if a != b)]
+    forms += [f"bounce {key} {micros}" for key in keys for micros in (5, 20)]
+    lines = KEYBOARD.replace("inputrecord 1", "inputrecord 2").splitlines()[:-1] + ["cap EV_KEY KEY_C", "type EV_REP"]
+    lines += [f"filter {form}" for form in r.sample(forms, r.randint(2, 5))] + ["source s", "tap t", "do t open"]
+    now, is_grabbed = 10, False
+    for _ in range(120):
+        now += r.choice([0, 1, 3, 7, 30, -4])
+        events = [f"EV_KEY {r.choice(keys)} {r.choice([0, 1, 2])}" for _ in range(r.choice([1, 1, 1, 2, 3]))]
+        lines += frame(max(now, 0), "EV_REL REL_X 1", *events).splitlines() + ["do t read 64"]
+        if r.random() < 0.1:
+            lines.append("do t ungrab" if is_grabbed else "do t grab")
+            is_grabbed = not is_grabbed
+    return "\n".join(lines) + "\n"
+
+
+STICK = """inputrecord 2
+device stick
+hint 8
+cap EV_KEY BTN_LEFT
+cap EV_KEY BTN_TRIGGER
+cap EV_KEY KEY_A
+axis ABS_X 5 0 100 0 0 0
+FILTER
+source s
+tap g
+joy j
+do g open
+do j open
+"""
+
+
+class Joysticks(StuckCase):
+    def joy(self, actions, filter_line=""):
+        return self.part(STICK.replace("FILTER\n", filter_line) + actions, "j")
+
+    def test_that_follows(self):
+        said = self.joy(frame(1, press("BTN_TRIGGER"), press("KEY_A"), "EV_ABS ABS_X 40000") + "do j read 99\n")
+        self.assertEqual("  at the end: as the device", said)
+
+    def test_under_a_grab(self):
+        said = self.joy("do j read 9\ndo g grab\n" + frame(2500, press("BTN_LEFT")) + "do j read 9\n")
+        wanted = """  BTN_LEFT (button 1): up for it, down on the device
+    since place 6: grab of g from place 4 on
+    seen at: nothing left to read at place 7; the end
+  at the end: not as the device in BTN_LEFT (button 1)"""
+        self.assertEqual(wanted, said)
+
+    def test_what_a_filter_eats(self):
+        said = self.joy(frame(1, press("BTN_TRIGGER")) + "do j read 9\n", "filter eat EV_KEY BTN_TRIGGER\n")
+        self.assertIn("BTN_TRIGGER (button 0): up for it, down on the device\n", said)
+        self.assertIn(": eaten by filter 1 (eat BTN_TRIGGER)\n", said)
+
+    def test_that_has_not_read(self):
+        said = self.joy("do j read 9\n" + frame(1, press("BTN_TRIGGER"), "EV_ABS ABS_X 9"))
+        self.assertIn("ABS_X (axis 0): 5 for it, 9 on the device\n", said)
+        wanted = "BTN_TRIGGER (button 0): up for it, down on the device\n    since place 6: not read yet\n"
+        self.assertIn(wanted, said)
+
+    def test_a_startup_that_was_not_read_to_its_end(self):
+        said = self.joy("do j read 2\n")
+        self.assertIn("ABS_X (axis 0): 0 for it, 5 on the device\n", said)
+        self.assertRegex(said, "since place [0-9]+: its startup of place [0-9]+ was not read to its end\n")
+
+    def test_a_loss(self):
+        moves = "".join(frame(5000 + x, f"EV_ABS ABS_X {x % 90}") for x in range(60))
+        said = self.joy("do j read 9\n" + moves + "do j read 200\n")
+        self.assertIn("  it synchronised anew: at place ", said)
+        self.assertTrue(said.endswith("  at the end: as the device"), said)
+        self.assertIn("loss (its ring was full), of which it has not read yet\n", self.joy("do j read 9\n" + moves))
+
+    def test_a_start_that_is_refused(self):
+        text = STICK.replace("FILTER\n", "log 3\n").replace("do g open\n", frame(1, press("BTN_TRIGGER")))
+        said = self.part(text, "j")
+        self.assertIn("BTN_TRIGGER (button 0): up for it, down on the device\n", said)
+        self.assertIn("its start was refused at place 3\n", said)
+
+    def test_records(self):
+        for record in sorted([*RECORDS.glob("joystick*.rec"), EXAMPLES / "joystick.rec"]):
+            with self.subTest(record.name):
+                self.assertIn("\njoy ", self.written("stuck", record))
+
+
+LAMP = """inputrecord 2
+udevice u
+cap EV_LED LED_CAPSL
+cap EV_SND SND_BELL
+tap t
+owner o
+do t open
+"""
+
+
+class Owners(StuckCase):
+    def lamp(self, *actions):
+        said = self.said(LAMP + "".join(f"do {action}\n" for action in actions))
+        return said.split("owner o\n")[1]
+
+    def test_that_was_told(self):
+        wanted = """  it was told 1 event by 2 calls: LED_CAPSL 1 of place 1
+  at the end: as the device
+"""
+        on = "t write 1 EV_LED LED_CAPSL 1"
+        self.assertEqual(wanted, self.lamp(on, on, "o feedback 8", "o feedback 8"))
+
+    def test_that_has_not_asked(self):
+        wanted = """  it was told 0 events by 0 calls
+  not taken at the end: 1 event: LED_CAPSL 1 of place 1
+  LED_CAPSL: off for it, on on the device
+    since place 1: it waits: the owner has not asked since
+    seen at: the end
+  at the end: not as the device in LED_CAPSL
+"""
+        self.assertEqual(wanted, self.lamp("t write 1 EV_LED LED_CAPSL 1"))
+
+    def test_what_was_lost(self):
+        bells = [f"t write {n} EV_SND SND_BELL {n}" for n in range(2, 18)]
+        said = self.lamp("t write 1 EV_LED LED_CAPSL 1", *bells, "o feedback 64")
+        self.assertIn("lost, since 15 wait at most: 2 events: LED_CAPSL 1 of place 1, SND_BELL 2 of place 2\n", said)
+        self.assertIn("LED_CAPSL: off for it, on on the device\n    since place 1: lost before it asked", said)
+
+    def test_records(self):
+        for record in sorted([*RECORDS.glob("*owner*.rec"), EXAMPLES / "feedback.rec"]):
+            with self.subTest(record.name):
+                self.assertIn("\nowner ", self.written("stuck", record))
+
+
+class Held(StuckCase):
+    def held(self, text):
+        """The lines on what the device itself holds."""
+        lines = self.all_said(text).split("the device at the end\n")[1].splitlines()
+        return [line[2:] for line in lines if "on the device itself" in line]
+
+    def test_a_key(self):
+        text = KEYBOARD + "client c\ndo c open\n" + frame(12300000, press("KEY_A")) + "do c follow\n"
+        self.says(text, "c", "at the end: as the device")
+        wanted = "KEY_A: down on the device itself since place 3 (12.3 s): no release followed"
+        self.assertEqual([wanted], self.held(text))
+        self.assertEqual([], self.held(text + frame(12400000, release("KEY_A"))))
+
+    def test_a_key_in_a_frame_that_has_not_ended(self):
+        text = KEYBOARD + "client c\ndo c open\n" + frame(1, "EV_REL REL_X 1") + "do s event 2 EV_KEY KEY_A 1\n"
+        wanted = "KEY_A: down on the device itself since place 4 (0.000002 s): no release followed"
+        self.assertEqual([wanted], self.held(text))
+
+    def test_touches(self):
+        text = TOUCHPAD + frame(500000, "EV_ABS ABS_MT_SLOT 1", "EV_ABS ABS_MT_TRACKING_ID 5")
+        wanted = "slot 1: touched on the device itself since place 2 (0.5 s): no release followed"
+        self.assertEqual([wanted], self.held(text))
+        lifted = frame(600000, "EV_ABS ABS_MT_TRACKING_ID -1")
+        self.assertEqual([], self.held(text + lifted))
+        self.assertIn("since place 6 (0.7 s)", self.held(text + lifted + frame(700000, "EV_ABS ABS_MT_TRACKING_ID 6"))[0])
+
+    def test_times_stand_beside_places(self):
+        text = KEYBOARD + "client c\ntap g\ndo c open\ndo g open\n" + frame(1500000, press("KEY_A"))
+        text += "do c follow\ndo g grab\n" + frame(2000000, release("KEY_A")) + "do c follow\n"
+        said = self.all_said(text)
+        self.assertIn("since place 8 (2.0 s): grab of g from place 6 (1.5 s) on\n", said)
+        self.assertIn("seen at: nothing left to read at place 9 (2.0 s); the end\n", said)
+
+
+class Ends(StuckCase):
+    """What --fail, --summary and --json make of a record, and other ways in which the tool ends."""
+
+    apart = KEYBOARD + "client c\ntap g\ndo c open\ndo g open\ndo g grab\n" + frame(1, press("KEY_A"))
+    apart += "do g read 9\ndo c follow\n"
+
+    def test_fail(self):
+        together = self.file("together.rec", self.apart + "do c force\ndo c follow\n")
+        apart = self.file("apart.rec", self.apart)
+        self.assertEqual((0, 1), (self.tool("stuck", "--fail", together)[0], self.tool("stuck", "--fail", apart)[0]))
+        self.assertEqual(0, self.tool("stuck", apart)[0])
+
+    def test_summary(self):
+        said = without_times(self.written("stuck", "--summary", self.file("apart.rec", self.apart)))
+        wanted = """summary: 1 of 2 readers apart from the device at the end
+  a grab of another: 1 parting: KEY_A 1
+  client c ends apart in KEY_A
+device kbd steps """
+        self.assertTrue(said.startswith(wanted), said)
+
+    def test_json(self):
+        text = self.written("stuck", "--json", self.file("apart.rec", self.apart))
+        objects = [json.loads(line) for line in text.splitlines()]
+        kinds = ["device", "reader", "parting", "end", "reader", "end", "held", "state"]
+        self.assertEqual(kinds, [each["kind"] for each in objects])
+        parting = objects[2]
+        told = {"device": "kbd", "role": "client", "name": "c", "thing": "KEY_A", "type": "EV_KEY", "code": "KEY_A"}
+        told.update(believed=0, present=1, since={"place": 5, "time": 1}, cause="grab", met=None)
+        self.assertEqual(told, {name: parting[name] for name in told})
+        self.assertEqual([{"at": "nothing-left", "place": 7, "time": 1}, {"at": "end"}], parting["seen"])
+        self.assertEqual({"place": 5, "time": 1}, objects[6]["since"])
+
+    def test_json_of_each_kind_of_reader(self):
+        for record in (EXAMPLES / "joystick.rec", EXAMPLES / "feedback.rec", RECORDS / "slot_255.rec"):
+            with self.subTest(record.name):
+                objects = [json.loads(line) for line in self.written("stuck", "--json", record).splitlines()]
+                readers = [each for each in objects if each["kind"] == "reader"]
+                self.assertEqual(len(readers), sum(each["kind"] == "end" for each in objects))
+
+    def run_tool(self, command, **more):
+        env = {**os.environ, "INPUTPLAY": PROGRAM}
+        done = subprocess.run(["sh", "-c", command], env=env, capture_output=True, text=True, cwd=TOP, **more)
+        return done.returncode, done.stdout, done.stderr.splitlines()
+
+    def test_standard_input(self):
+        whole = self.run_tool("tools/stuck examples/stuck_key.rec")
+        self.assertEqual(whole, self.run_tool("tools/stuck - < examples/stuck_key.rec"))
+        wrong = "stuck: standard input: line 1: bad-header"
+        self.assertTrue(self.run_tool("echo dear all | tools/stuck -")[2][0].startswith(wrong))
+
+    def test_an_output_that_takes_nothing(self):
+        said = ["stuck: standard output: No space left on device"]
+        self.assertEqual((4, "", said), self.run_tool("tools/stuck examples/stuck_key.rec > /dev/full"))
+        said = ["stuck: standard output is closed"]
+        self.assertEqual((4, "", said), self.run_tool("tools/stuck examples/stuck_key.rec >&-"))
+        self.assertEqual(2, self.run_tool("tools/stuck missing.rec 2>&-")[0])
+
+    def test_a_file_that_cannot_be_read(self):
+        said = self.run_tool("tools/stuck /proc/self/mem")
+        self.assertEqual((2, "", ["stuck: /proc/self/mem: Input/output error"]), said)
+
+    def test_a_file_that_is_no_record(self):
+        made = "make a record of it with tools/record"
+        self.refused("stuck", TOP / "tests" / "data" / "lid.evtest", because=f"this is what evtest prints: {made}")
+
+    def test_waiting_is_told_on_a_terminal_alone(self):
+        slow = self.file("slow", f"#!/bin/sh\nsleep 1.5\nexec '{PROGRAM}' \"$@\"\n")
+        slow.chmod(slow.stat().st_mode | stat.S_IXUSR)
+        env, words = {**os.environ, "INPUTPLAY": str(slow)}, [TOOLS / "stuck", EXAMPLES / "stuck_key.rec"]
+        quiet = subprocess.run(words, env=env, capture_output=True, text=True)
+        self.assertEqual((0, ""), (quiet.returncode, quiet.stderr))
+        terminal, other = pty.openpty()
+        done = subprocess.run(words, env=env, stdout=subprocess.PIPE, stderr=other, text=True)
+        os.close(other)
+        told = os.read(terminal, 65536).decode()
+        os.close(terminal)
+        self.assertEqual(quiet.stdout, done.stdout)
+        self.assertIn("\rstuck: the device's own state is asked for (", told.replace("\033[K", ""))
+        self.assertTrue(told.endswith("\r\033[K"), told)
 
 
 class Refusals(StuckCase):

@@ -359,7 +359,7 @@ def ask(states, player):
         path = os.path.join(folder, "state.rec")
         with open(path, "w", encoding="ascii") as file:
             file.write(text)
-        status, written = player.play(path, folder)
+        status, written = player.play(path, folder, what="the device's own state is asked for")
     if status != 0:
         raise Wrong(f"the record that asks for the device's state was not played: {written.strip()}")
     owners = {part.name: part for part in parts_behind(written)}

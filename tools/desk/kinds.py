@@ -2,6 +2,8 @@
 
 import re
 
+from desk import raw
+
 MAKE = "make a record of it with tools/record"
 
 # How files begin, and what is said of them.
@@ -41,6 +43,6 @@ def said_of(data):
     for pattern, said in TEXTS:
         if re.search(pattern, text, re.MULTILINE):
             return said
-    if b"\0" in data[:4096] and len(data) % 8 == 0:
-        return f"this is binary, as a raw capture of a device's events is: {MAKE}, or name it in a `stream` line"
+    if raw.is_raw(data) and any(raw.is_plausible(data, size) for size in raw.FORMS):
+        return f"this is a raw capture of a device's events: {MAKE}, or name it in a `stream` line"
     return None

@@ -9,6 +9,10 @@ end of the record, with the state then.
 from desk.belief import CURRENT, QUERIED_KIND, SLOT, Belief, first_difference, is_slot_code
 from desk.belief import value_text, view_of_lines
 from desk.command import Wrong
+from desk.progress import progress
+
+# How many entries of a sight are gone through between two words of how far it is.
+TOLD_EVERY = 4096
 
 
 class Point:
@@ -59,6 +63,8 @@ class Walk:
         """Goes through the whole sight; the partings are in `partings` then, and those at the end in
         `at_end`."""
         for number, entry in enumerate(self.part.sight):
+            if number % TOLD_EVERY == 0:
+                progress.tell(f"{self.part.name} is compared with its device", number, len(self.part.sight))
             getattr(self, "see_" + entry[0])(number, *entry[1:])
         self.check()
         return self.finish(len(self.part.sight))

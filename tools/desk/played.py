@@ -12,6 +12,7 @@ from desk.joysticks import JoyWalk
 from desk.owners import Owner
 from desk.partings import Walk
 from desk.program import PLAYED, folder_of
+from desk.progress import progress
 from desk.recordfile import RECORD_SIZES, Record, read_text
 from desk.report import parts_behind, read_report
 from desk.slips import refusal_text
@@ -126,10 +127,12 @@ def play(path, player):
     status, written = player.play(path, folder, ["--history"])
     if status not in PLAYED:
         raise Wrong(f"{name}: {refusal_text(text, written, status)}")
+    progress.tell(f"{name}: its report of {len(written)} bytes is read")
     record, report = Record(text), read_report(written)
     add_parts_behind(report, parts_behind(written), record)
     histories = [device.history for device in report]
     states = [devicestate.DeviceState(*pair) for pair in zip(record.devices, histories)]
+    progress.tell(f"{name}: the devices are played alone, {sum(map(len, histories))} steps")
     devicestate.ask(states, player)
     unread = Unread(text, record, folder, player, report)
     steps = [source_steps(record, number, device.history, folder) for number, device in enumerate(report)]

@@ -77,14 +77,14 @@ class Player:
             words += ["--data", word]
         return [*words, "--", *flags, f"./{name}"], SOURCE
 
-    def start(self, path, folder, flags):
+    def start(self, path, folder, flags, what=None):
         """The running program. What it says beside its output goes to a file, so that it never waits for a
         reader."""
         words, where = self.command(path, folder, flags)
         self.beside = tempfile.TemporaryFile()
         given = {"stdin": subprocess.DEVNULL, "stdout": subprocess.PIPE, "stderr": self.beside}
-        how = "the toolchain plays it, in one to three minutes" if self.by_toolchain else "it is played"
-        progress.tell(f"{os.path.basename(path)}: {how}")
+        how = " by the toolchain, which takes one to three minutes" if self.by_toolchain else ""
+        progress.tell((what or f"{os.path.basename(path)} is played") + how)
         try:
             return subprocess.Popen(words, cwd=where, **given)
         except OSError as fault:
@@ -123,9 +123,9 @@ class Player:
             raise Wrong(f"{self.who()} is not inputplay: it ended in status {status}")
         return status
 
-    def play(self, path, folder, flags=()):
-        """The status, and what was written."""
-        process = self.start(path, folder, flags)
+    def play(self, path, folder, flags=(), what=None):
+        """The status, and what was written. `what` says what it is played for."""
+        process = self.start(path, folder, flags, what)
         try:
             written, _ = process.communicate()
         except BaseException:
