@@ -1,12 +1,16 @@
 """A capture made ready for a record: its frames, timed from the first event on, and what to say of it."""
 
-from desk.command import Wrong
+from desk.command import Wrong, counted
 from desk.description import GREATEST_HINT, GREATEST_SLOTS, estimate, hint_of
 from desk.names import ABS, KEY, MSC, REP, SLOT, SYN, code_text, event_text, is_in_a_record, kernel_kind_text
 from desk.recording import Event, frames_of
 
 MSC_SCAN, REPEAT = 4, 2
 LATEST = 9000000000000000
+
+
+def is_or_are(count):
+    return "is" if count == 1 else "are"
 
 
 def seconds(micros):
@@ -30,7 +34,8 @@ class Capture:
         self.find_reports(device)
         self.note_losses(lost_at_end)
         if unfinished or recording.ends_in_a_line:
-            self.notes.append(f"the capture ends within a frame; its last {unfinished} events are left out")
+            last = f"{counted(unfinished, 'event')} {is_or_are(unfinished)} left out"
+            self.notes.append(f"the capture ends within a frame; its last {last}")
 
     def refuse_hidden_keys(self, recording, takes_hidden_keys):
         if recording.hides_keys and not takes_hidden_keys:
@@ -59,7 +64,8 @@ class Capture:
             names = [f"{kernel_kind_text(kind)} {code_text(kind, code)}" for kind, code in lacking[:4]]
             names += [".."] if len(lacking) > 4 else []
             count = len(events) - len(kept)
-            self.notes.append(f"{count} events are left out, since a record has no {', '.join(names)}")
+            what = f"{counted(count, 'event')} {is_or_are(count)} left out"
+            self.notes.append(f"{what}, since a record has no {', '.join(names)}")
         return kept
 
     def find_slots(self, device, events):

@@ -109,8 +109,10 @@ class Record:
     def note_unpassed(self, unpassed):
         if unpassed:
             first = f"{event_text(unpassed[0][1:])} at {seconds(unpassed[0].time)}"
-            self.notes.append(f"{len(unpassed)} events change nothing and are not passed, the first being "
-                              f"{first}: the capture lost events before it, or hides keys")
+            what = f"{len(unpassed)} events change nothing and are not passed"
+            what = "1 event changes nothing and is not passed" if len(unpassed) == 1 else what
+            why = "the capture lost events before it, or hides keys"
+            self.notes.append(f"{what}, the first being {first}: {why}")
 
     def note_small_rings(self):
         places = 64
