@@ -9,7 +9,7 @@ import subprocess
 import sys
 from importlib.machinery import SourceFileLoader
 
-from playing import PROGRAM, TOP, FolderCase
+from playing import PROGRAM, TOP, FolderCase, needs_program
 
 TOOLS, DATA = TOP / "tools", TOP / "tests" / "data"
 
@@ -76,8 +76,7 @@ class DeskCase(FolderCase):
 
     def play(self, text, folder=None):
         """The lines of the report that the program prints of a record."""
-        if not os.access(PROGRAM, os.X_OK):
-            self.fail(f"no program at {PROGRAM}: build it, or name one in INPUTPLAY")
+        needs_program(self)
         path = self.file("played.rec", text)
         done = subprocess.run([PROGRAM, path], cwd=folder or self.folder, capture_output=True, text=True)
         self.assertEqual((0, ""), (done.returncode, done.stderr), done.stdout[:200])

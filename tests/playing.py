@@ -31,6 +31,12 @@ class FolderCase(unittest.TestCase):
         self.folder = Path(folder.name)
 
 
+def needs_program(test):
+    """Ends a test that needs the program where it is not there; `tests/run` leaves it out then."""
+    if not os.access(PROGRAM, os.X_OK):
+        test.fail(f"no program at {PROGRAM}: build it, or name one in INPUTPLAY")
+
+
 class Run(NamedTuple):
     """What a run of the program came to."""
 

@@ -1,5 +1,6 @@
 """tools/describe: the lines of a record from what usual tools tell of a device."""
 
+import json
 import subprocess
 
 from desk_cases import DATA, TOOLS, DeskCase, without_comments
@@ -288,3 +289,46 @@ class Describe(DeskCase):
         done = subprocess.run([TOOLS / "describe", "/nothing/here"], capture_output=True, text=True)
         self.assertEqual((2, "", "describe: /nothing/here: No such file or directory\n"),
                          (done.returncode, done.stdout, done.stderr))
+
+
+class Ends(DeskCase):
+    def test_json(self):
+        lines = self.written("describe", DATA / "touchpad.evtest").splitlines()
+        objects = [json.loads(line) for line in self.written("describe", "--json", DATA / "touchpad.evtest").splitlines()]
+        self.assertEqual(len(lines), len(objects))
+        kinds = [line.split()[0] if not line.startswith("#") else "comment" for line in lines]
+        self.assertEqual(kinds, [each["kind"] for each in objects])
+        line = next(line for line in lines if line.startswith("axis ABS_MT_POSITION_X "))
+        axis = next(each for each in objects if each.get("code") == "ABS_MT_POSITION_X")
+        self.assertEqual(line.split()[2:], [str(axis[name]) for name in AXIS_NAMES])
+
+    def test_standard_input(self):
+        done = subprocess.run(
+            ["sh", "-c", f"'{TOOLS / 'describe'}' - < '{DATA / 'lid.evtest'}'"], capture_output=True, text=True
+        )
+        self.assertEqual((self.written("describe", DATA / "lid.evtest"), ""), (done.stdout, done.stderr))
+        done = subprocess.run(["sh", "-c", f"echo hello | '{TOOLS / 'describe'}' -"], capture_output=True, text=True)
+        self.assertTrue(done.stderr.startswith("describe: standard input: not in a form"), done.stderr)
+
+    def test_a_device_that_was_grabbed(self):
+        text = GAMEPAD.replace("Testing", "  This device is grabbed by another process.\nTesting")
+        self.written("describe", self.file("grabbed", text), notes=["another process has grabbed the device"])
+
+    def test_an_output_that_takes_nothing(self):
+        for target, said in (("> /dev/full", "No space left on device"), (">&-", "is closed")):
+            with self.subTest(target):
+                command = f"'{TOOLS / 'describe'}' '{DATA / 'lid.evtest'}' {target}"
+                done = subprocess.run(["sh", "-c", command], stderr=subprocess.PIPE, text=True)
+                self.assertEqual((4, 1), (done.returncode, len(done.stderr.splitlines())), done.stderr)
+                self.assertIn(said, done.stderr)
+
+    def test_other_kinds_of_file(self):
+        for content, said in (
+            (b"\x1f\x8b\x08\0", "this is a gzip file: unpack it with gunzip"),
+            (b"\xff\xd8\xff\xe0", "this is a picture (JPEG), and no capture"),
+        ):
+            with self.subTest(said):
+                self.refused("describe", self.file("other", content), because=said)
+
+
+AXIS_NAMES = ("value", "minimum", "maximum", "fuzz", "flat", "resolution")

@@ -60,10 +60,10 @@ class Gate(unittest.TestCase):
         path.write_text(f"#!/bin/sh\ncat <<'END'\n{text}END\nexit {status}\n")
         path.chmod(0o755)
 
-    def run_of(self, script, **variables):
+    def run_of(self, script, *words, **variables):
         path = f"{self.top / 'bin'}:{os.environ['PATH']}"
         return subprocess.run(
-            [self.top / script], env={**os.environ, "PATH": path, **variables}, capture_output=True, text=True
+            [self.top / script, *words], env={**os.environ, "PATH": path, **variables}, capture_output=True, text=True
         )
 
     def test_the_gate_counts_both_parts_and_fails_where_either_does(self):
@@ -94,7 +94,21 @@ class Gate(unittest.TestCase):
 
     def test_a_run_without_the_program_is_told_apart(self):
         shutil.copy(TOP / "tests" / "run", self.top / "tests" / "run")
-        done = self.run_of("tests/run", INPUTPLAY=str(self.top / "missing"))
+        done = self.run_of("tests/run", "--program", INPUTPLAY=str(self.top / "missing"))
         self.assertEqual((2, ""), (done.returncode, done.stdout))
         self.assertEqual(1, len(done.stderr.splitlines()))
         self.assertIn(str(self.top / "missing"), done.stderr)
+
+    def test_a_run_without_the_program_makes_the_checks_that_need_none(self):
+        """What fails since the program is not there is left out; what fails for another cause is not."""
+        shutil.copy(TOP / "tests" / "run", self.top / "tests" / "run")
+        needs = "import os, subprocess\n        subprocess.run([os.environ['INPUTPLAY']])\n"
+        for text, status, last in (
+            (TEST + "pass\n", 0, "1 passed, 0 failed"),
+            (TEST + needs, 0, "0 passed, 0 failed (1 left out, since the program is not there)"),
+            (TEST + "self.fail('another cause')\n", 1, "0 passed, 1 failed"),
+        ):
+            with self.subTest(text):
+                (self.top / "tests" / "test_it.py").write_text(text)
+                done = self.run_of("tests/run", INPUTPLAY=str(self.top / "missing"))
+                self.assertEqual((status, last), (done.returncode, done.stdout.splitlines()[-1]))

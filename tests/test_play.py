@@ -9,7 +9,7 @@ import stat
 import subprocess
 import time
 
-from desk_cases import PROGRAM, TOOLS, TOP, DeskCase
+from desk_cases import PROGRAM, TOOLS, TOP, DeskCase, needs_program
 from desk.slips import SLIPS
 
 EXAMPLES = TOP / "examples"
@@ -18,8 +18,7 @@ EXAMPLES = TOP / "examples"
 class PlayCase(DeskCase):
     def play_tool(self, *words, stdin=None, **environment):
         """Runs the tool: its status, its output, and its lines on standard error."""
-        if not os.access(PROGRAM, os.X_OK):
-            self.fail(f"no program at {PROGRAM}: build it, or name one in INPUTPLAY")
+        needs_program(self)
         env = {**os.environ, "INPUTPLAY": PROGRAM, **environment}
         words = [TOOLS / "play", *words]
         done = subprocess.run(words, env=env, capture_output=True, text=True, cwd=self.folder, stdin=stdin)

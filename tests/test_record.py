@@ -1,11 +1,12 @@
 """tools/record: a record from a description and a capture, played, has the capture's events and no others."""
 
+import gzip
 import re
 import struct
 import subprocess
 
 from desk_cases import (
-    DATA, TOOLS, DeskCase, belief, part_of, raw_capture, raw_events, taken, without_comments,
+    DATA, TOOLS, DeskCase, belief, needs_program, part_of, raw_capture, raw_events, taken, without_comments,
 )
 
 DEVICES = ("keyboard", "mouse", "touchpad", "lid")
@@ -95,6 +96,7 @@ class RoundTrip(DeskCase):
                     slack = 1 if source in ("evemu", "libinput") else 0
                     self.assert_same_events(self.wanted(name, source), taken(report), slack)
                     beliefs[source] = belief(report)
+            needs_program(self)
             told = beliefs.pop("proc and raw")
             self.assertEqual(beliefs["evtest"][0], told[0])
             for source, came in beliefs.items():
@@ -305,7 +307,7 @@ class Events(DeskCase):
 
     def test_an_unfinished_frame_is_left_out(self):
         events = frames([(1, 30, 1)]) + [(1500, 1, 30, 0)]
-        text = self.both(KEYS, events, notes=["ends within a frame; its last 1 event is left out"])
+        text = self.both(KEYS, events, notes=["ends within a frame; its last event is left out"])
         self.assertEqual(events[:2], taken(self.play(text)))
         cut = self.file("cut", KEYS + evtest_text(events)[:-9])
         self.assertEqual(text, self.written("record", cut, notes=["ends within a frame"]))
@@ -380,7 +382,7 @@ class Losses(DeskCase):
 
     def test_a_loss_that_a_form_does_not_tell(self):
         events = frames([(1, 30, 1)], [(1, 30, 1)])
-        note = "1 event changes nothing and is not passed, the first being EV_KEY KEY_A 1 at 0.001000 s"
+        note = "1 event changes nothing and is not passed, EV_KEY KEY_A 1 at 0.001000 s"
         self.written("record", self.file("h", KEYS), self.file("c", raw_capture(events)), notes=[note])
 
     def test_hidden_keys(self):
@@ -675,6 +677,20 @@ class Parts(DeskCase):
 MODIFIERS = {29, 42, 54, 56, 58, 69, 70, 97, 100, 125, 126}
 
 
+def bad_record(micros=0, kind=1, code=30):
+    """A record of 24 bytes of an event."""
+    return struct.pack("<QQHHi", 1764252211, micros, kind, code, 1)
+
+
+# What evtest prints of a device that another process has for itself.
+GRABBED = (DATA / "keyboard.evtest").read_text().split("Event: ")[0] + """***********************************************
+  This device is grabbed by another process.
+  No events are available to evtest while the
+  other grab is active.
+***********************************************
+"""
+
+
 class WrongInput(DeskCase):
     """Each ends in one line, and nothing is written."""
 
@@ -684,7 +700,13 @@ class WrongInput(DeskCase):
         for content, because in (
             (b"", "the file is empty"),
             (keyboard[:100], "100 bytes, which are 4 records of 24 bytes and 4 bytes more"),
-            (b"\x89PNG\r\n\x1a\n\0\0\0\rIHDR" + bytes(range(256)) * 3, "no raw capture"),
+            (b"\x89PNG\r\n\x1a\n\0\0\0\rIHDR" + bytes(range(256)) * 3, "this is a picture (PNG), and no capture"),
+            (bytes(range(256)) * 3, "no raw capture: its bytes are no records of 24 or 16 bytes"),
+            (gzip.compress(keyboard), "this is a gzip file: unpack it with gunzip"),
+            (keyboard[:48] + bad_record(micros=1000000), "record 3 of this raw capture, of 24 bytes from byte 48 on, is no event: its microseconds are 1000000"),
+            (keyboard[:72] + bad_record(kind=99) + keyboard, "record 4 of this raw capture, of 24 bytes from byte 72 on, is no event: there is no type 99"),
+            (keyboard[:24] + bad_record(code=0x300), "record 2 of this raw capture, of 24 bytes from byte 24 on, is no event: EV_KEY has no code 768"),
+            (GRABBED, "it has no events: evtest says that another process has grabbed the device"),
             (b"hello\n", "not in a form that is known"),
             ((DATA / "mouse.bin").read_bytes(), "EV_REL REL_X 1 at 0.000000 s, is of a code that the desc"),
             ((DATA / "keyboard.proc").read_bytes(), "2 devices"),
@@ -702,6 +724,22 @@ class WrongInput(DeskCase):
             with self.subTest(because=because):
                 path = self.file("wrong", content)
                 self.refused("record", DATA / "keyboard.evtest", path, because=because)
+
+    def test_of_a_grab_something_is_said_where_there_are_events_too(self):
+        text = (DATA / "keyboard.evtest").read_text().replace("Testing", GRABBED[GRABBED.index("****") :] + "Testing", 1)
+        status, _, lines = self.tool("record", self.file("grabbed.evtest", text))
+        self.assertEqual(0, status)
+        self.assertIn("evtest says that another process has grabbed the device", lines[0])
+
+    def test_one_of_two_is_standard_input(self):
+        command = f"'{TOOLS / 'record'}' '{DATA / 'keyboard.proc'}' - --device 1 < '{DATA / 'keyboard.bin'}'"
+        twice = f"'{TOOLS / 'record'}' - - < '{DATA / 'keyboard.evtest'}'"
+        done = subprocess.run(["sh", "-c", command], capture_output=True, text=True)
+        whole = self.tool("record", DATA / "keyboard.proc", DATA / "keyboard.bin", "--device", "1")
+        self.assertEqual((whole[0], whole[1]), (done.returncode, done.stdout), done.stderr)
+        done = subprocess.run(["sh", "-c", twice], capture_output=True, text=True)
+        said = "record: standard input can be read once: give one of both as a file\n"
+        self.assertEqual((2, "", said), (done.returncode, done.stdout, done.stderr))
 
     def test_slots(self):
         for number, because in ((4, "its slots are 4 to 4, and the description has 4"), (256, "in slot 256")):

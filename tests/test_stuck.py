@@ -8,7 +8,7 @@ import re
 import stat
 import subprocess
 
-from desk_cases import PROGRAM, TOOLS, TOP, DeskCase
+from desk_cases import PROGRAM, TOOLS, TOP, DeskCase, needs_program
 from desk.played import play
 from desk.program import Player
 
@@ -663,6 +663,7 @@ class Ends(StuckCase):
     apart += "do g read 9\ndo c follow\n"
 
     def test_fail(self):
+        needs_program(self)
         together = self.file("together.rec", self.apart + "do c force\ndo c follow\n")
         apart = self.file("apart.rec", self.apart)
         self.assertEqual((0, 1), (self.tool("stuck", "--fail", together)[0], self.tool("stuck", "--fail", apart)[0]))
@@ -701,6 +702,7 @@ device kbd steps """
         return done.returncode, done.stdout, done.stderr.splitlines()
 
     def test_standard_input(self):
+        needs_program(self)
         whole = self.run_tool("tools/stuck examples/stuck_key.rec")
         self.assertEqual(whole, self.run_tool("tools/stuck - < examples/stuck_key.rec"))
         wrong = "stuck: standard input: line 1: bad-header"
@@ -722,6 +724,7 @@ device kbd steps """
         self.refused("stuck", TOP / "tests" / "data" / "lid.evtest", because=f"this is what evtest prints: {made}")
 
     def test_waiting_is_told_on_a_terminal_alone(self):
+        needs_program(self)
         slow = self.file("slow", f"#!/bin/sh\nsleep 1.5\nexec '{PROGRAM}' \"$@\"\n")
         slow.chmod(slow.stat().st_mode | stat.S_IXUSR)
         env, words = {**os.environ, "INPUTPLAY": str(slow)}, [TOOLS / "stuck", EXAMPLES / "stuck_key.rec"]
@@ -756,6 +759,7 @@ class Refusals(StuckCase):
 
     def test_a_report_that_disagrees(self):
         """A program whose last lines are not what its events make is not believed, in either of its runs."""
+        needs_program(self)
         record = self.file("case.rec", KEYBOARD + "client c\ndo c open\n")
         for case, lies, tells in (("the record", "sed", "cat"), ("its device", "cat", "sed")):
             with self.subTest(case):

@@ -3,7 +3,7 @@
 import os
 import subprocess
 
-from desk_cases import PROGRAM, TOP, DeskCase
+from desk_cases import PROGRAM, TOP, DeskCase, needs_program
 
 PAGE = TOP / "docs" / "STUCK.md"
 PROMPT = "    $ "
@@ -22,8 +22,7 @@ def commands(text):
 
 class Page(DeskCase):
     def test_each_command(self):
-        if not os.access(PROGRAM, os.X_OK):
-            self.fail(f"no program at {PROGRAM}: build it, or name one in INPUTPLAY")
+        needs_program(self)
         for name in ("tools", "tests", "examples"):
             (self.folder / name).symlink_to(TOP / name)
         env = {**os.environ, "INPUTPLAY": PROGRAM}

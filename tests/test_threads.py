@@ -7,7 +7,7 @@ on one thread by a second program (bench/model/replay.py), which has to give the
 import sys
 import unittest
 
-from playing import EXAMPLES, RECORDS, TOP, FolderCase, assert_run, run
+from playing import EXAMPLES, RECORDS, TOP, FolderCase, assert_run, needs_program, run
 
 sys.path.insert(0, str(TOP / "bench" / "model"))
 
@@ -115,6 +115,7 @@ class Threads(FolderCase):
                 printed = self.runs_by_its_history("f", self.folder, (1, 2, 5, IDLE)[number % 4])
                 stops |= {line.split()[1] for line in printed if line.startswith("stop ")}
                 owners += sum(line.startswith("owner ") for line in printed)
+        needs_program(self)
         self.assertEqual({"finished", "full", "idle"}, stops, "each stop is shown")
         self.assertTrue(owners, "some records have an owner")
 

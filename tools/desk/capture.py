@@ -9,10 +9,6 @@ MSC_SCAN, REPEAT = 4, 2
 LATEST = 9000000000000000
 
 
-def is_or_are(count):
-    return "is" if count == 1 else "are"
-
-
 def seconds(micros):
     return f"{micros // 1000000}.{micros % 1000000:06d} s"
 
@@ -34,8 +30,8 @@ class Capture:
         self.find_reports(device)
         self.note_losses(lost_at_end)
         if unfinished or recording.ends_in_a_line:
-            last = f"{counted(unfinished, 'event')} {is_or_are(unfinished)} left out"
-            self.notes.append(f"the capture ends within a frame; its last {last}")
+            last = "its last event is" if unfinished == 1 else f"its last {unfinished} events are"
+            self.notes.append(f"the capture ends within a frame; {last} left out")
 
     def refuse_hidden_keys(self, recording, takes_hidden_keys):
         if recording.hides_keys and not takes_hidden_keys:
@@ -64,8 +60,8 @@ class Capture:
             names = [f"{kernel_kind_text(kind)} {code_text(kind, code)}" for kind, code in lacking[:4]]
             names += [".."] if len(lacking) > 4 else []
             count = len(events) - len(kept)
-            what = f"{counted(count, 'event')} {is_or_are(count)} left out"
-            self.notes.append(f"{what}, since a record has no {', '.join(names)}")
+            are = "1 event is" if count == 1 else f"{count} events are"
+            self.notes.append(f"{are} left out, since a record has no {', '.join(names)}")
         return kept
 
     def find_slots(self, device, events):
@@ -81,7 +77,7 @@ class Capture:
             device.slots = device.axes[SLOT].maximum + 1
         if not 0 <= min(named) <= max(named) < device.slot_count():
             raise Wrong(f"its slots are {min(named)} to {max(named)}, and the description has "
-                        f"{device.slot_count()} slots: is it another device's?")
+                        f"{counted(device.slot_count(), 'slot')}: is it another device's?")
 
     def find_reports(self, device):
         """Gives each SYN_REPORT whose value the form does not tell the one that it must have had.
@@ -109,7 +105,7 @@ class Capture:
         times = [frame.lost for frame in self.frames if frame.lost is not None]
         times += [lost_at_end] if lost_at_end is not None else []
         if times:
-            more = f" and at {len(times) - 1} places more" if len(times) > 1 else ""
+            more = f" and at {counted(len(times) - 1, 'place')} more" if len(times) > 1 else ""
             self.notes.append(f"the capture lost events at {seconds(times[0])}{more} (SYN_DROPPED); what "
                               f"they changed, as far as the events behind them tell, is set there")
 

@@ -22,6 +22,9 @@ HEXADECIMAL = {(MSC, 3), (MSC, 4)}
 RECOGNISED = re.compile(
     r"^(.*Input driver version is|Input device name: |Supported events:|.*Event: time \d)", re.MULTILINE
 )
+GRABBED = "This device is grabbed by another process"
+WHY_GRABBED = ("evtest says that another process has grabbed the device, and it is shown no events meanwhile: stop that "
+               "process, and capture again")
 END_OF_LISTING = re.compile(r"\s*(Testing|Properties:)")
 
 
@@ -61,6 +64,7 @@ def take_line(listing, recording, line, index, is_last):
         else:
             raise at_line(index, f"no event as evtest prints it: {line.strip()[:60]}")
         return
+    recording.was_grabbed = recording.was_grabbed or GRABBED in line
     name = NAME.search(line)
     if name:
         listing.device.name = name[1]

@@ -5,9 +5,9 @@ A record has 24 bytes on a 64-bit machine and 16 on a 32-bit one: seconds, micro
 
 import struct
 
-from desk.command import Wrong
+from desk.command import Wrong, counted
 from desk.names import GREATEST as GREATEST_CODES
-from desk.names import NOT_IN_A_RECORD, SYN
+from desk.names import NOT_IN_A_RECORD, SYN, kind_text
 from desk.recording import Event, Recording
 
 FORMS = {24: struct.Struct("<QQHHi"), 16: struct.Struct("<IIHHi")}
@@ -20,12 +20,26 @@ def is_raw(data):
 
 def is_plausible(data, size):
     """Are these records of this size? Times, types and codes are then such as there are."""
-    if len(data) % size:
-        return False
-    return all(
-        seconds < LATEST and micros < 1000000 and is_kind_and_code(kind, code)
-        for seconds, micros, kind, code, _ in FORMS[size].iter_unpack(data)
-    )
+    return len(data) % size == 0 and first_bad(data, size) is None
+
+
+def first_bad(data, size):
+    """The number of the first record that is no event, from 1, and why; or None."""
+    whole = data[: len(data) - len(data) % size]
+    for number, (seconds, micros, kind, code, _) in enumerate(FORMS[size].iter_unpack(whole), 1):
+        if not (seconds < LATEST and micros < 1000000 and is_kind_and_code(kind, code)):
+            return number, what_is_bad(seconds, micros, kind, code)
+    return None
+
+
+def what_is_bad(seconds, micros, kind, code):
+    if seconds >= LATEST:
+        return f"its time is {seconds} s"
+    if micros >= 1000000:
+        return f"its microseconds are {micros}"
+    if kind != SYN and kind not in GREATEST_CODES:
+        return f"there is no type {kind}"
+    return f"{kind_text(kind)} has no code {code}"
 
 
 def is_kind_and_code(kind, code):
@@ -45,10 +59,16 @@ def parse(data, size=None):
 
 
 def what_is_wrong(data, sizes):
-    names = " or ".join(str(size) for size in sizes)
+    """Why these bytes are no capture, by the size for which the most of them are."""
+    found = {size: first_bad(data, size) for size in sizes}
     for size in sizes:
         rest = len(data) % size
-        if rest and is_plausible(data[: len(data) - rest], size):
-            return (f"a raw capture of {len(data)} bytes, which are {len(data) // size} records of {size} "
-                    f"bytes and {rest} bytes more: it was cut off")
-    return f"no raw capture: its bytes are no records of {names} bytes"
+        if rest and found[size] is None:
+            return (f"a raw capture of {len(data)} bytes, which are {counted(len(data) // size, 'record')} of {size} "
+                    f"bytes and {counted(rest, 'byte')} more: it was cut off")
+    size = max(sizes, key=lambda each: (found[each][0] - 1) * each)
+    number, why = found[size]
+    if number == 1:
+        return f"no raw capture: its bytes are no records of {' or '.join(str(each) for each in sizes)} bytes"
+    at = (number - 1) * size
+    return f"record {number} of this raw capture, of {size} bytes from byte {at} on, is no event: {why}"

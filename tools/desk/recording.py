@@ -68,6 +68,7 @@ class Recording:
     hides_keys: bool = False
     hides_scan_codes: bool = False
     ends_in_a_line: bool = False
+    was_grabbed: bool = False
 
 
 @dataclass

@@ -6,6 +6,7 @@ import struct
 from desk.capture import Capture, seconds
 from desk.command import Wrong
 from desk.description import comments, description_lines, hint_of, slots_of, version_of
+from desk.evtest import WHY_GRABBED
 from desk.names import ABS, SYN, TRACKING_ID, event_text
 from desk.readers import DRIVER, Acts
 from desk.recording import Event
@@ -109,10 +110,12 @@ class Record:
     def note_unpassed(self, unpassed):
         if unpassed:
             first = f"{event_text(unpassed[0][1:])} at {seconds(unpassed[0].time)}"
-            what = f"{len(unpassed)} events change nothing and are not passed"
-            what = "1 event changes nothing and is not passed" if len(unpassed) == 1 else what
             why = "the capture lost events before it, or hides keys"
-            self.notes.append(f"{what}, the first being {first}: {why}")
+            if len(unpassed) == 1:
+                self.notes.append(f"1 event changes nothing and is not passed, {first}: {why}")
+            else:
+                self.notes.append(f"{len(unpassed)} events change nothing and are not passed, the first being "
+                                  f"{first}: {why}")
 
     def note_small_rings(self):
         places = 64
@@ -222,4 +225,6 @@ def record_of(recording, name, readers, options, base=None, driver=DRIVER):
     capture = Capture(recording, device, options.hidden_keys, base)
     if options.hide_keys:
         hide_keys(device, capture)
-    return Record(device, name, capture, readers, options.stream, options.window, driver)
+    record = Record(device, name, capture, readers, options.stream, options.window, driver)
+    record.notes += [WHY_GRABBED] if recording.was_grabbed else []
+    return record
