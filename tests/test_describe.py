@@ -198,8 +198,11 @@ class Describe(DeskCase):
         self.assertIn("hint 512\nslots 64\n", text)
         self.assertIn(f"# the kernel reckons with {8 + 64 + 13 * 64} events", text)
         text = self.written("describe", self.file("axes", axes_listing((47, 0, 99))))
-        self.assertIn("slots 64\n", text)
-        self.assertIn("# the device has 100 slots", text)
+        self.assertIn("slots 100\n", text)
+        self.assertIn("# 100 slots: the record must begin with `inputrecord 2`", text)
+        text = self.written("describe", self.file("axes", axes_listing((47, 0, 299))))
+        self.assertIn("slots 256\n", text)
+        self.assertIn("# the device has 300 slots; a record has at most 256", text)
 
     def test_numbered_axes_are_no_slots(self):
         text = self.written("describe", self.file("axes", axes_listing((46, 0, 9), (47, 0, 9), (48, 0, 9))))

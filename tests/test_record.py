@@ -465,10 +465,216 @@ class Readers(DeskCase):
             (["a:mask=KEY_NONE"], '"KEY_NONE" of a mask'), (["a:mask=EV_SYN"], '"EV_SYN" of a mask'),
             (["a", "a"], "two readers are named a"), (["a:grab", "b:grab"], "two readers grab"),
             ([f"r{number}" for number in range(65)], "65 readers"),
+            (["driver-2"], "the name driver-2 is"), (["a:open=x"], '"x" is no time in seconds'),
+            (["a:grab=1.5-"], '"" is no time in seconds'), (["a:revoke=1.1234567"], "is no time in seconds"),
+            (["a:grab=3-2"], 'the grab "3-2" does not end behind its begin'),
+            (["a:open=2:grab=1"], "a grabs before it opens"),
+            (["a:open=2:revoke=1"], "a is revoked before it opens"),
+            (["a:grab=1-3", "b:grab=2.9-4"], "two readers grab at one time"),
+            (["a:grab=1", "b:open=9:grab"], "two readers grab at one time"),
+            (["a:joy:grab"], "a is a joystick, which has no grab"),
+            (["a:joy:mask=EV_KEY"], "a is a joystick, which has no mask"),
+            (["a:revoke=2:joy"], "a is a joystick, which has no revoke"),
         ):
             with self.subTest(words=words[:2]):
                 options = [word for reader in words for word in ("--reader", reader)]
                 self.refused("record", path, *options, because=because)
+
+
+class TimedReaders(DeskCase):
+    """Readers that do something at a time of the capture, and joysticks."""
+
+    def record(self, *readers):
+        """Ten frames, from 0 to 9 seconds, in each of which KEY_A changes."""
+        events = frames(*([(1, 30, 1 - number % 2)] for number in range(10)))
+        path = self.file("keys", KEYS + evtest_text([(time * 1000, *event) for time, *event in events]))
+        return self.written("record", path, *(word for reader in readers for word in ("--reader", reader)))
+
+    def seconds_of(self, text, name):
+        """The seconds of the frames that a reader took."""
+        return [time // 1000000 for time, kind, *_ in taken(self.play(text), name) if kind == 1]
+
+    def test_what_a_reader_takes(self):
+        for readers, name, seconds in (
+            (["a:open=2.5"], "a", range(3, 10)),
+            (["a:open=3"], "a", range(3, 10)),
+            (["a:revoke=4.2"], "a", range(5)),
+            (["a:slow:revoke=4.2"], "a", range(5)),
+            (["g:grab=1.5-3.2", "a"], "a", [0, 1, 4, 5, 6, 7, 8, 9]),
+            (["g:grab=7", "a"], "a", range(7)),
+            (["g:grab=2:revoke=5", "a"], "a", [0, 1, 5, 6, 7, 8, 9]),
+            (["g:grab=2-5", "h:grab=5-8", "a"], "a", [0, 1, 8, 9]),
+            (["g:grab=2-5", "h:grab=5-8"], "h", [0, 1, 5, 6, 7, 8, 9]),
+            (["g:open=4:grab", "a"], "a", range(4)),
+        ):
+            with self.subTest(readers=readers, name=name):
+                self.assertEqual(list(seconds), self.seconds_of(self.record(*readers), name))
+
+    def test_a_time_behind_the_end(self):
+        """What is due behind the last frame is done at the end, and all that was read is read before."""
+        text = self.record("a:slow:revoke=100", "b:open=50")
+        lines = [line for line in text.splitlines() if line.startswith("do a ")]
+        self.assertEqual(["do a open", "do a follow", "do a revoke"], lines)
+        self.assertEqual(list(range(10)), self.seconds_of(text, "a"))
+        self.assertEqual("do b open", text.splitlines()[-3])
+
+    def test_a_joystick(self):
+        """It opens in the midst, is handed a startup at once, and the rest behind each frame."""
+        header = HEADER + "  Event type 1 (EV_KEY)\n    Event code 288 (BTN_TRIGGER)\n"
+        header += "  Event type 3 (EV_ABS)\n" + axis(0, 7, 0, 100)
+        events = frames([(1, 288, 1)], [(3, 0, 9)], [(1, 288, 0)])
+        path = self.file("stick", header + evtest_text([(time * 1000, *event) for time, *event in events]))
+        text = self.written("record", path, "--reader", "pad:joy:open=0.5")
+        self.assertEqual("inputrecord 2", text.splitlines()[0])
+        self.assertIn("joy pad\n", text)
+        report = self.play(text)
+        lines = report[report.index("joy pad") :]
+        records = [line.split()[2:] for line in lines if line.startswith("js ")]
+        self.assertEqual([["1", "129", "0"], ["7", "130", "0"], ["9", "2", "0"], ["0", "1", "0"]], records)
+
+    def test_a_stream_has_no_times(self):
+        words = ["--stream", self.folder / "s.bin", "--reader", "a:open=1"]
+        self.refused("record", DATA / "lid.evtest", *words, because="a can do nothing at a time in it")
+
+
+class Parts(DeskCase):
+    """A part of a capture, several devices, hidden keys, and what a play says of a record."""
+
+    def test_a_part_of_a_capture(self):
+        """Each part has the events of its times, at these times, and begins in the state that was then."""
+        for name in ("keyboard", "mouse", "touchpad"):
+            captured = raw_events((DATA / f"{name}.bin").read_bytes())
+            for begin, end in ((0, 300000), (200001, 600000), (450000, None)):
+                with self.subTest(name=name, begin=begin):
+                    words = ["--from", f"{begin / 1e6:.6f}"]
+                    words += ["--to", f"{end / 1e6:.6f}"] if end is not None else []
+                    text = self.written("record", DATA / f"{name}.evtest", *words)
+                    last = captured[-1][0] if end is None else end
+                    wanted = [event for event in captured if begin <= event[0] <= last]
+                    self.assertTrue(wanted)
+                    self.assertEqual(wanted, taken(self.play(text)))
+
+    def test_the_state_at_the_begin_of_a_part(self):
+        """A key that went down before is down, and one that went up before is up."""
+        events = frames([(1, 30, 1)], [(1, 48, 1)], [(1, 30, 0)], [(1, 48, 0)])
+        path = self.file("keys", KEYS + evtest_text([(time * 1000, *event) for time, *event in events]))
+        text = self.written("record", path, "--from", "2.5")
+        start = text.split("# What was on")[1].split("# The capture.")[0]
+        self.assertIn("do driver event 2500000 EV_KEY KEY_B 1\n", start)
+        self.assertNotIn("KEY_A", start)
+
+    def test_wrong_parts(self):
+        path = DATA / "touchpad.evtest"
+        for words, because in (
+            (["--from", "1", "--to", "0.5"], "--to 0.5 is before --from 1"),
+            (["--from", "x"], '"x" is no time in seconds'),
+            (["--to", "-1"], '"-1" is no time in seconds'),
+            (["--from", "100"], "touchpad.evtest: no frame is between 100.000000 s and its end; the last one"),
+        ):
+            with self.subTest(words=words):
+                self.refused("record", path, *words, because=because)
+
+    def test_all_devices_of_a_file(self):
+        """Both devices of one recording, by its clock: each reader takes its device's events."""
+        path, notes = DATA / "two.libinput.yml", ["logitech-m705: the capture ends within a frame"]
+        text = self.written("record", "--all-devices", path, notes=notes)
+        report, devices = self.play(text), []
+        form = r"^- node|- \[ *(\d+), *(\d+), *(\d+), *(\d+), *(-?\d+)\]"
+        for seconds, micros, *event in re.findall(form, path.read_text(), re.MULTILINE):
+            if not seconds:
+                devices.append([])
+                continue
+            time = int(seconds) * 1000000 + int(micros)
+            devices[-1].append((time, *map(int, event)))
+        base = min(event[0] for device in devices for event in device)
+        # (the second one ends within a frame)
+        devices[1].pop()
+        for number, device in enumerate(devices, 1):
+            wanted = [(time - base, *event) for time, *event in device]
+            came = taken(report, f"reader-{number}")
+            self.assertEqual([event[1:] for event in wanted], [event[1:] for event in came])
+            self.assertEqual([event[0] for event in wanted], [event[0] for event in came])
+        lines = text.split("# The captures.")[1].splitlines()
+        moments = [int(line.split()[3]) for line in lines if " event " in line]
+        self.assertEqual(sorted(moments), moments)
+
+    def test_all_devices_of_several_files(self):
+        """evtest tells times of one clock; the others do not, over several files."""
+        words = ["--all-devices", DATA / "keyboard.evtest", DATA / "keyboard.evtest", DATA / "lid.evtest"]
+        text = self.written("record", *words, "--reader", "a:grab=1-2")
+        names = [line for line in text.splitlines() if line.startswith(("device ", "source ", "client "))]
+        wanted = [("logitech-usb-keyboard", 1), ("logitech-usb-keyboard-2", 2), ("lid-switch", 3)]
+        self.assertEqual([line for name, number in wanted for line in
+                          (f"device {name}", f"source driver-{number}", f"client a-{number}")], names)
+        self.play(text)
+        for files, because in (
+            ([DATA / "keyboard.evemu"], "the times of evemu are no clock that several devices have"),
+            ([DATA / "two.libinput.yml", DATA / "lid.evtest"], "the times of libinput record are no clock"),
+            ([DATA / "keyboard.evtest", DATA / "keyboard.bin"], "keyboard.bin: it has a device without events"),
+            ([DATA / "lid.evtest"] * 9, "9 devices: a record has at most 8"),
+            ([DATA / "lid.evtest", "--device", "1"], "--device is of one device"),
+            ([DATA / "lid.evtest", "--stream", "x"], "--stream is of one device"),
+        ):
+            with self.subTest(because=because):
+                self.refused("record", "--all-devices", *files, because=because)
+        self.refused("record", *[DATA / "lid.evtest"] * 3, because="unrecognized arguments")
+
+    def test_keys_are_hidden(self):
+        """Each key is another one, one to one; modifiers, times and all else stay, and no scan code is left."""
+        path = DATA / "keyboard.evtest"
+        notes = ["29 keys renamed one to one, modifiers kept; 119 scan codes left out"]
+        text = self.written("record", path, "--hide-keys", notes=notes)
+        self.assertNotIn("MSC_SCAN 4", text)
+        came, names = taken(self.play(text)), {}
+        wanted = [event for event in raw_events((DATA / "keyboard.bin").read_bytes()) if event[1:3] != (4, 4)]
+        self.assertEqual(len(wanted), len(came))
+        for old, new in zip(wanted, came):
+            self.assertEqual((*old[:2], old[3]), (*new[:2], new[3]))
+            if old[1] == 1:
+                self.assertEqual(new[2], names.setdefault(old[2], new[2]))
+        self.assertEqual(len(names), len(set(names.values())))
+        self.assertEqual({42, 54, 58}, {old for old, new in names.items() if old == new} & {42, 54, 58})
+        self.assertLess(len([old for old, new in names.items() if old == new and old not in MODIFIERS]), 2)
+        # What was down at the start is hidden too: Enter is the first key that is told.
+        start = text.split("# What was on")[1].split("# The capture.")[0]
+        self.assertIn("EV_KEY KEY_ESC 1\n", start)
+        self.assertNotIn("KEY_ENTER", start)
+
+    def test_verify(self):
+        """A play of the record, with a reader of its own, says how many events came as captured."""
+        for words, note in (
+            ([DATA / "keyboard.evtest"], "logitech-usb-keyboard: 428 of 428 events as captured"),
+            ([DATA / "touchpad.evemu", "--from", "0.2", "--to", "0.5"], " of "),
+            ([DATA / "lid.evtest", "--reader", "g:grab", "--stream", self.folder / "l.bin"], "60 of 60 events"),
+        ):
+            with self.subTest(note=note):
+                count, total = re.search(r"(\d+) of (\d+) events", self.noted(0, *words)).groups()
+                self.assertEqual(count, total)
+                self.assertIn(note, self.noted(0, *words))
+        path = self.file("keys", KEYS + evtest_text(frames([(1, 30, 1)], [(1, 30, 1)])))
+        said = self.noted(1, path)
+        first = "the first that is not is EV_KEY KEY_A 1 at 0.001000 s"
+        self.assertIn(f"test: 2 of 4 events as captured; {first}", said)
+
+    def noted(self, wanted, *words):
+        """The last note of a record that is verified."""
+        status, text, lines = self.tool("record", *words, "--verify")
+        self.assertEqual(wanted, status, lines)
+        self.assertTrue(text.startswith("inputrecord "))
+        return lines[-1]
+
+    def test_more_slots_than_64(self):
+        """A device with 100 slots is in a record of version 2."""
+        header = SLOTS.replace(axis(47, 1, 0, 3), axis(47, 1, 0, 99))
+        events = frames([(3, SLOT, 99), (3, ID, 5), (3, X, 1)], [(3, X, 2)])
+        text = self.written("record", self.file("touch", header + evtest_text(events)))
+        self.assertEqual("inputrecord 2", text.splitlines()[0])
+        self.assertIn("\nslots 100\n", text)
+        self.assertEqual(events, taken(self.play(text)))
+        self.assertEqual("inputrecord 1", self.written("record", DATA / "touchpad.evtest").splitlines()[0])
+
+
+MODIFIERS = {29, 42, 54, 56, 58, 69, 70, 97, 100, 125, 126}
 
 
 def bad_record(micros=0, kind=1, code=30):
@@ -536,7 +742,7 @@ class WrongInput(DeskCase):
         self.assertEqual((2, "", said), (done.returncode, done.stdout, done.stderr))
 
     def test_slots(self):
-        for number, because in ((4, "its slots are 4 to 4, and the description has 4"), (64, "in slot 64")):
+        for number, because in ((4, "its slots are 4 to 4, and the description has 4"), (256, "in slot 256")):
             path = self.file("c", raw_capture(frames([(3, SLOT, number), (3, X, 1)])))
             self.refused("record", self.file("h", SLOTS), path, because=because)
 

@@ -16,10 +16,10 @@ def seconds(micros):
 class Capture:
     """The frames of a recording, for a device, and notes on what the record cannot have of it."""
 
-    def __init__(self, recording, device, takes_hidden_keys=False):
+    def __init__(self, recording, device, takes_hidden_keys=False, base=None):
         self.notes = []
         self.refuse_hidden_keys(recording, takes_hidden_keys)
-        events = self.without_what_a_record_lacks(self.from_the_first_on(recording.events))
+        events = self.without_what_a_record_lacks(self.from_the_first_on(recording.events, base))
         self.find_slots(device, events)
         if takes_hidden_keys and recording.hides_keys:
             device.add(KEY, {event.code for event in events if event.kind == KEY})
@@ -42,10 +42,12 @@ class Capture:
         elif recording.hides_scan_codes:
             self.notes.append("libinput record hid the scan codes: each MSC_SCAN is 30")
 
-    def from_the_first_on(self, events):
-        base = min(event.time for event in events)
-        if base != events[0].time:
-            back = seconds(events[0].time - base)
+    def from_the_first_on(self, events, base=None):
+        """The events with times from `base` on, or from their own least one."""
+        least = min(event.time for event in events)
+        base = least if base is None else base
+        if least != events[0].time:
+            back = seconds(events[0].time - least)
             self.notes.append(f"times go back by {back} behind the first event; they are told from the least")
         if max(event.time for event in events) - base > LATEST:
             raise Wrong(f"it lasts longer than a record can: {LATEST} us")

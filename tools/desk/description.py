@@ -9,7 +9,9 @@ from desk.names import (
 )
 from desk.recording import Axis
 
-LEAST_HINT, GREATEST_HINT, GREATEST_SLOTS, GREATEST_FUZZ = 2, 512, 64, 1 << 30
+LEAST_HINT, GREATEST_HINT, GREATEST_SLOTS, GREATEST_FUZZ = 2, 512, 256, 1 << 30
+# How many slots a record of version 1 may have.
+SLOTS_OF_VERSION_1 = 64
 POSITION_X = 0x35
 REPEAT_AT_FIRST = {0: 250, 1: 33}
 NAME = re.compile("[a-z0-9_-]{1,32}")
@@ -61,6 +63,12 @@ def hint_of(device):
 
 def slots_of(device):
     return min(device.slot_count(), GREATEST_SLOTS)
+
+
+def version_of(device):
+    """The first version of a record that has all that the device has."""
+    has_filters = any(line.startswith("filter ") for line in device.other_lines)
+    return 2 if has_filters or slots_of(device) > SLOTS_OF_VERSION_1 else 1
 
 
 def fuzz_of(code, axis, is_raw):
@@ -151,6 +159,8 @@ def limits(device):
                     f"most {GREATEST_HINT}")
     if device.slot_count() > GREATEST_SLOTS:
         said.append(f"the device has {device.slot_count()} slots; a record has at most {GREATEST_SLOTS}")
+    elif slots_of(device) > SLOTS_OF_VERSION_1:
+        said.append(f"{slots_of(device)} slots: the record must begin with `inputrecord 2`")
     if SLOT in device.axes and not device.slot_count():
         said.append("the axis ABS_MT_SLOT is one of many here, and the device has no slots")
     return said

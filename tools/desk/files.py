@@ -51,8 +51,18 @@ def refuse_other_kinds(data):
 
 def read(path, chosen=None, raw_size=None):
     """The recording of a file, the chosen one where it has several."""
+    return told_of(path, lambda: choose(recordings_of(read_bytes(path), raw_size), chosen))
+
+
+def read_all(path):
+    """All recordings of a file."""
+    return told_of(path, lambda: recordings_of(read_bytes(path)))
+
+
+def told_of(path, reads):
+    """What is read of a file. What is wrong with it is told with its name."""
     try:
-        return choose(recordings_of(read_bytes(path), raw_size), chosen)
+        return reads()
     except Wrong as wrong:
         text = str(wrong)
         name = source.shown(path)

@@ -5,10 +5,12 @@ import struct
 
 from desk.capture import Capture, seconds
 from desk.command import Wrong
-from desk.description import comments, description_lines, hint_of, slots_of
+from desk.description import comments, description_lines, hint_of, slots_of, version_of
+from desk.evtest import WHY_GRABBED
 from desk.names import ABS, SYN, TRACKING_ID, event_text
-from desk.readers import DRIVER
+from desk.readers import DRIVER, Acts
 from desk.recording import Event
+from desk.renamed import hide_keys
 from desk.start import State, events_between, state_before, state_described
 
 GREATEST_TEXT = 16 * 1024 * 1024
@@ -27,11 +29,30 @@ class Written:
         return self.events + [Event(self.time, SYN, 0, self.report)]
 
 
-class Record:
-    """A record of a device and of a capture of it."""
+class Window:
+    """Which part of a capture is taken: the frames from a time to another, both among them, in microseconds
+    from its first event on. None is no bound."""
 
-    def __init__(self, device, name, capture, readers, stream=None):
+    def __init__(self, begin=None, end=None):
+        self.begin, self.end = begin or 0, end
+
+    def has(self, time):
+        return self.begin <= time and (self.end is None or time <= self.end)
+
+    def refuse_none(self, frames, capture):
+        """Refuses to go on where no frame of the capture is in this part."""
+        if not frames:
+            last = seconds(capture.frames[-1].time)
+            end = "its end" if self.end is None else seconds(self.end)
+            raise Wrong(f"no frame is between {seconds(self.begin)} and {end}; the last one is at {last}")
+
+
+class Record:
+    """A record of a device and of a capture of it, or of a part of that."""
+
+    def __init__(self, device, name, capture, readers, stream=None, window=None, driver=DRIVER):
         self.device, self.name, self.readers, self.stream = copy.deepcopy(device), name, readers, stream
+        self.window, self.driver = window or Window(), driver
         self.notes = list(capture.notes)
         self.raise_hint(capture)
         self.find_start(capture)
@@ -46,31 +67,44 @@ class Record:
             self.device.hint = needed
 
     def find_start(self, capture):
-        """The state before the first frame, and the frames, with one more at each loss."""
+        """The state before the first frame that is taken, and the frames, with one more at each loss."""
         slots, ids = slots_of(self.device), ids_of(capture.frames)
         known = state_described(self.device, slots)
         parts = parts_between_losses(capture.frames)
         state = state_before(known, parts[0], ids)
-        fresh = State(slots, self.device.axes)
-        fresh.values = dict(state.values)
-        for code, axis in self.device.axes.items():
-            axis.value = state.values.get(code, axis.value)
-        self.start = events_between(fresh, state)
-        self.frames, unpassed = [], []
+        self.frames, self.before, unpassed = [], state.copy(), []
         for part in parts:
             if part is not parts[0]:
                 state = self.add_what_was_lost(state, part, ids)
             for frame in part:
-                unpassed += [event for event in frame.events if not state.take(event)]
-                self.frames.append(Written(frame.time, frame.events, frame.report))
+                left_out = [event for event in frame.events if not state.take(event)]
+                self.add(Written(frame.time, frame.events, frame.report), state)
+                unpassed += left_out if self.window.has(frame.time) else []
+        self.window.refuse_none(self.frames, capture)
+        self.set_start(slots)
         self.note_unpassed(unpassed)
+
+    def add(self, frame, state):
+        """Takes a frame, or the state behind one that comes before the part that is taken."""
+        if self.window.has(frame.time):
+            self.frames.append(frame)
+        elif not self.frames:
+            self.before = state.copy()
+
+    def set_start(self, slots):
+        """The events that lead from a fresh device to the state before the first frame."""
+        fresh = State(slots, self.device.axes)
+        fresh.values = dict(self.before.values)
+        for code, axis in self.device.axes.items():
+            axis.value = self.before.values.get(code, axis.value)
+        self.start = events_between(fresh, self.before)
 
     def add_what_was_lost(self, state, part, ids):
         after = state_before(state, part, ids)
         time = part[0].lost
         events = [Event(time, *event) for event in events_between(state, after)]
         if events:
-            self.frames.append(Written(time, events, 0, was_captured=False))
+            self.add(Written(time, events, 0, was_captured=False), after)
         return after
 
     def note_unpassed(self, unpassed):
@@ -100,44 +134,56 @@ class Record:
             self.device.other_lines.append(f"log {GREATEST_LOG}")
 
     def lines(self):
-        has_filters = any(line.startswith("filter ") for line in self.device.other_lines)
-        yield f"inputrecord {2 if has_filters else 1}"
-        yield from comments(self.device) + self.hint_comment
-        yield from description_lines(self.device, self.name)
-        yield f"source {DRIVER}"
-        yield from (f"client {reader.name}" for reader in self.readers)
-        if self.start:
-            yield "# What was on, down or there when the capture began."
-            yield from event_lines([Event(0, *event) for event in self.start + [(SYN, 0, 0)]])
-        for reader in self.readers:
-            yield from reader.opening_lines()
+        yield f"inputrecord {self.version()}"
+        yield from self.device_lines()
+        acts = Acts(self.readers)
+        yield from self.start_lines()
+        yield from acts.opening_lines()
         yield "# The capture."
-        yield from self.stream_lines() if self.stream else self.frame_lines()
+        yield from self.stream_lines() if self.stream else self.frame_lines(acts)
+        yield from acts.lines_before()
         for reader in self.readers:
             yield from reader.lines_at_the_end()
 
-    def frame_lines(self):
+    def version(self):
+        return 2 if any(reader.is_joy for reader in self.readers) else version_of(self.device)
+
+    def device_lines(self):
+        """The description and the actors."""
+        yield from comments(self.device) + self.hint_comment
+        yield from description_lines(self.device, self.name)
+        yield f"source {self.driver}"
+        yield from (f"{reader.role()} {reader.name}" for reader in self.readers)
+
+    def start_lines(self):
+        if self.start:
+            yield "# What was on, down or there when the capture began."
+            begin = self.window.begin
+            yield from self.event_lines([Event(begin, *event) for event in self.start + [(SYN, 0, 0)]])
+
+    def frame_lines(self, acts):
         for frame in self.frames:
-            if not frame.was_captured:
-                yield LOSS_COMMENT
-            yield from event_lines(frame.all_events())
-            for reader in self.readers:
-                yield from reader.lines_behind_a_frame()
+            yield from acts.lines_before(frame.time)
+            yield from self.lines_of_frame(frame)
+
+    def lines_of_frame(self, frame):
+        """A frame, and what the readers do behind it."""
+        if not frame.was_captured:
+            yield LOSS_COMMENT
+        yield from self.event_lines(frame.all_events())
+        for reader in self.readers:
+            yield from reader.lines_behind_a_frame()
 
     def stream_lines(self):
-        yield f"do {DRIVER} stream {self.stream}"
+        yield f"do {self.driver} stream {self.stream}"
         for reader in self.readers:
             reader.unread = 1
 
+    def event_lines(self, events):
+        return [f"do {self.driver} event {event.time} {event_text(event[1:])}" for event in events]
+
     def text(self):
-        parts, size = [], 0
-        for line in self.lines():
-            line = line.encode("ascii", "backslashreplace").decode() + "\n"
-            size += len(line)
-            if size > GREATEST_TEXT:
-                raise Wrong(f"the record would have more than {GREATEST_TEXT} bytes; try --stream")
-            parts.append(line)
-        return "".join(parts)
+        return text_of(self.lines())
 
     def stream_bytes(self):
         events = [event for frame in self.frames for event in frame.all_events()]
@@ -146,8 +192,16 @@ class Record:
         return b"".join(STREAM_RECORD.pack(*divmod(event.time, 1000000), *event[1:]) for event in events)
 
 
-def event_lines(events):
-    return [f"do {DRIVER} event {event.time} {event_text(event[1:])}" for event in events]
+def text_of(lines):
+    """The text of a record's lines."""
+    parts, size = [], 0
+    for line in lines:
+        line = line.encode("ascii", "backslashreplace").decode() + "\n"
+        size += len(line)
+        if size > GREATEST_TEXT:
+            raise Wrong(f"the record would have more than {GREATEST_TEXT} bytes; try --stream")
+        parts.append(line)
+    return "".join(parts)
 
 
 def ids_of(frames):
@@ -165,8 +219,12 @@ def parts_between_losses(frames):
     return parts
 
 
-def record_of(device, name, recording, readers, stream=None, takes_hidden_keys=False):
-    """The record of a device and a recording of it."""
-    device = copy.deepcopy(device)
-    capture = Capture(recording, device, takes_hidden_keys)
-    return Record(device, name, capture, readers, stream)
+def record_of(recording, name, readers, options, base=None, driver=DRIVER):
+    """The record of a recording's device and its events. `options` are what was asked for of it."""
+    device = copy.deepcopy(recording.device)
+    capture = Capture(recording, device, options.hidden_keys, base)
+    if options.hide_keys:
+        hide_keys(device, capture)
+    record = Record(device, name, capture, readers, options.stream, options.window, driver)
+    record.notes += [WHY_GRABBED] if recording.was_grabbed else []
+    return record
