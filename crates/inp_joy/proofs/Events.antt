@@ -3,6 +3,7 @@ use Rattle.std.proofs.Common.{◌≡◌, ℕ, ◌<◌, ◌≤◌, ℤ, pos, Bool
 use Rattle.std.specs.Prelude.{Option, slice_index_or}
 use Rattle.std.proofs.lemmas.Bool.Decides.{nat_tests, Decides-int_eq}
 use Rattle.std.proofs.lemmas.List.{get_or-set_same, get_or-set_other, length-map, set-get_or}
+use Rattle.std.proofs.lemmas.Bool.{cond_both}
 use Rattle.inp_model.specs.declared.event.Event.{Event}
 use Rattle.inp_model.specs.declared.event.TheConstants.{EV_SYN, EV_KEY, EV_ABS, SYN_REPORT}
 use Rattle.inp_model.specs.declared.taken.Taken.{Taken}
@@ -26,11 +27,9 @@ differ-from : (m n : ℕ) → nat_eq m n ≡ false → apart m n
 differ-from m n h e = grind (arith, nat_tests, h, e)
 
 at-other : {X : Type 0} (count : ℕ) (xs : List X) (i j : ℕ) (x filler : X) → nat_eq j i ≡ false → slice_index_or (with_value_at count xs i x) j filler ≡ slice_index_or xs j filler
-at-other {X = X} count xs i j x filler h = by_flag (nat_lt i count)
-  where
-    by_flag : (b : Bool) → slice_index_or (cond b (set xs i x) xs) j filler ≡ slice_index_or xs j filler
-    by_flag true = get_or-set_other xs i j x filler (differ-from j i h)
-    by_flag false = refl
+at-other {X = X} count xs i j x filler h =
+    cond_both (nat_lt i count) _ _ (λ y. slice_index_or y j filler ≡ slice_index_or xs j filler)
+    (λ _. get_or-set_other xs i j x filler (differ-from j i h)) (λ _. refl)
 
 at-same : {X : Type 0} (count : ℕ) (xs : List X) (i : ℕ) (x filler : X) → length xs ≡ count → i < count → slice_index_or (with_value_at count xs i x) i filler ≡ x
 at-same count xs i x filler long h =
@@ -40,11 +39,9 @@ at-same count xs i x filler long h =
 -- Keys
 
 key-other : (keys : List Bool) (e : Event) (c : ℕ) → nat_eq c e.code ≡ false → slice_index_or (keys_after_event keys e) c false ≡ slice_index_or keys c false
-key-other keys e c h = by_flag (nat_eq e.kind EV_KEY && not (is_repeat e))
-  where
-    by_flag : (b : Bool) → slice_index_or (cond b (with_flag 768 keys e) keys) c false ≡ slice_index_or keys c false
-    by_flag true = at-other 768 keys e.code c (is_set e) false h
-    by_flag false = refl
+key-other keys e c h =
+    cond_both (nat_eq e.kind EV_KEY && not (is_repeat e)) _ _ (λ x. slice_index_or x c false ≡ slice_index_or keys c false)
+    (λ _. at-other 768 keys e.code c (is_set e) false h) (λ _. refl)
 
 keys-kept : (keys : List Bool) (e : Event) (b : Bool) → nat_eq e.kind EV_KEY && not (is_repeat e) ≡ b → b ≡ false → keys_after_event keys e ≡ keys
 keys-kept keys e b is off = ap (λ (x : Bool). cond x (with_flag 768 keys e) keys) (is ∙ off)
@@ -56,11 +53,9 @@ keys-set keys e is once =
 -- Axes
 
 axis-other : (values : List ℤ) (e : Event) (c : ℕ) → nat_eq c e.code ≡ false → slice_index_or (axes_after_event values e) c (pos 0) ≡ slice_index_or values c (pos 0)
-axis-other values e c h = by_flag (nat_eq e.kind EV_ABS && not (is_multi_touch e))
-  where
-    by_flag : (b : Bool) → slice_index_or (cond b (with_value_at 64 values e.code e.value) values) c (pos 0) ≡ slice_index_or values c (pos 0)
-    by_flag true = at-other 64 values e.code c e.value (pos 0) h
-    by_flag false = refl
+axis-other values e c h =
+    cond_both (nat_eq e.kind EV_ABS && not (is_multi_touch e)) _ _ (λ x. slice_index_or x c (pos 0) ≡ slice_index_or values c (pos 0))
+    (λ _. at-other 64 values e.code c e.value (pos 0) h) (λ _. refl)
 
 axes-kept : (values : List ℤ) (e : Event) → nat_eq e.kind EV_ABS ≡ false → axes_after_event values e ≡ values
 axes-kept values e off = ap (λ (x : Bool). cond (x && not (is_multi_touch e)) (with_value_at 64 values e.code e.value) values) off

@@ -1,7 +1,7 @@
 -- What a turn leaves its reader to do.
-use Rattle.std.proofs.Common.{◌≡◌, ℕ, ◌≤◌, ◌<◌, Bool, true, false, if◌then◌else◌, Some, None, sym, subst, arith}
+use Rattle.std.proofs.Common.{◌≡◌, ℕ, ◌≤◌, ◌<◌, true, Some, None, sym, subst, arith}
 use Rattle.std.specs.Prelude.{Option}
-use Rattle.std.proofs.lemmas.Bool.{true≢false}
+use Rattle.std.proofs.lemmas.Bool.{true≢false, cond_both}
 use Rattle.inp_model.specs.Description.{Description}
 use Rattle.inp_model.specs.Event.{is_report}
 use Rattle.inp_reader.specs.declared.next.Next.{Next}
@@ -12,7 +12,7 @@ use Rattle.inp_joy.specs.declared.joy_read.JoyRead.TheVariants.{Frame, More}
 use Rattle.inp_joy.specs.declared.joy_record.JoyRecord.{JoyRecord}
 use Rattle.inp_joy.specs.declared.turn_end.TurnEnd.{TurnEnd}
 use Rattle.inp_joy.specs.declared.turn_end.TurnEnd.TheVariants.{Hands, Stops, GoesOn}
-use Rattle.inp_joy.specs.Joying.{Joying, JoyTurn, gives, goes_on, hand_out_record, stop_with, joy_read_of, is_lost, joy_record_of, record_or_on, joying_after_next}
+use Rattle.inp_joy.specs.Joying.{Joying, JoyTurn, gives, goes_on, hand_out_record, joy_read_of, is_lost, joy_record_of, record_or_on, joying_after_next}
 use Rattle.inp_joy.specs.Kept.{turn_of_end, IsTurnEndLess}
 use Rattle.inp_joy.specs.Reads.{IsReadLess}
 
@@ -57,11 +57,9 @@ record_or_on-less j None after before h = h
 record_or_on-less j (Some r) after before h = tt
 
 after_next-less : (d : Description) (j : Joying) (next : Next) (after before : ℕ) → IsLess next after before → IsTurnLess (joying_after_next d j next) after before
-after_next-less d j (Success taken) after before h = by_flag (is_report taken.event)
-  where
-    by_flag : (b : Bool) → IsTurnLess (if b then gives (stop_with (Frame taken.place) j) else record_or_on j (joy_record_of d j.picture taken)) after before
-    by_flag true = h
-    by_flag false = record_or_on-less j (joy_record_of d j.picture taken) after before h
+after_next-less d j (Success taken) after before h =
+    cond_both (is_report taken.event) _ _ (λ x. IsTurnLess x after before)
+    (λ _. h) (λ _. record_or_on-less j (joy_record_of d j.picture taken) after before h)
 after_next-less d j (Dropped taken) after before h = h
 after_next-less d j (Sync event) after before h = h
 after_next-less d j Synced after before h = h

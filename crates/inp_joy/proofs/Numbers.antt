@@ -4,6 +4,7 @@ use Rattle.std.specs.List.{range_with_len, filter, position_from}
 use Rattle.std.proofs.lemmas.Bool.Decides.{nat_tests}
 use Rattle.std.proofs.lemmas.Iterator.Adapters.{position_from-zero}
 use Rattle.std.proofs.lemmas.List.{set-append_left, length-set}
+use Rattle.std.proofs.lemmas.Bool.{cond_both}
 use Rattle.inp_model.specs.declared.event.TheConstants.{EV_KEY, EV_ABS}
 use Rattle.inp_model.specs.Description.{Description, supports}
 use Rattle.inp_joy.specs.Codes.{codes_among, buttons, axes, number_among}
@@ -44,11 +45,8 @@ occurs-filter code test (x ∷ xs) = by_flags (test x) (nat_eq x code) refl (occ
     by_flags false false is h = h
 
 none-if : (code x : ℕ) (n : ℕ) → (x ≡ code → ⊥) → cond (nat_eq x code) (suc n) n ≡ n
-none-if code x n apart = by_flag (nat_eq x code) refl
-  where
-    by_flag : (b : Bool) → nat_eq x code ≡ b → cond b (suc n) n ≡ n
-    by_flag true is = absurd (apart (grind (arith, nat_tests, is)))
-    by_flag false is = refl
+none-if code x n apart =
+    cond_both (nat_eq x code) _ _ (λ x. x ≡ n) (λ is. absurd (apart (grind (arith, nat_tests, is)))) (λ is. refl)
 
 -- none is in a range that is past it
 occurs-past : (code first n : ℕ) → code < first → occurs code (range_with_len first n) ≡ 0
@@ -134,11 +132,10 @@ axes-within d code h = by_cases (below code 47) (below code 62) (below code 64)
 
 pub map-same : {X : Type 0} (f g : ℕ → X) (code : ℕ) (codes : List ℕ) → occurs code codes ≡ 0 → ((c : ℕ) → nat_eq c code ≡ false → g c ≡ f c) → map g codes ≡ map f codes
 map-same f g code [] none same = refl
-map-same f g code (c ∷ cs) none same = by_flag (nat_eq c code) refl none (λ k. map-same f g code cs k same)
-  where
-    by_flag : (b : Bool) → nat_eq c code ≡ b → cond b (suc (occurs code cs)) (occurs code cs) ≡ 0 → (occurs code cs ≡ 0 → map g cs ≡ map f cs) → g c ∷ map g cs ≡ f c ∷ map f cs
-    by_flag true is k rest = absurd (omega (arith, k))
-    by_flag false is k rest = ap (λ x. x ∷ map g cs) (same c is) ∙ ap (λ xs. f c ∷ xs) (rest k)
+map-same f g code (c ∷ cs) none same =
+    (cond_both (nat_eq c code) _ _ (λ x. x ≡ 0 → (occurs code cs ≡ 0 → map g cs ≡ map f cs) → g c ∷ map g cs ≡ f c ∷ map f cs)
+    (λ is k rest. absurd (omega (arith, k)))
+    (λ is k rest. ap (λ x. x ∷ map g cs) (same c is) ∙ ap (λ xs. f c ∷ xs) (rest k))) none (λ k. map-same f g code cs k same)
 
 -- at the number of the code it is set
 pub record IsSetAt {X : Type 0} (f g : ℕ → X) (code : ℕ) (codes : List ℕ) (k : ℕ) : Type 0 where

@@ -1,6 +1,7 @@
 -- What a turn shows where a frame ended.
-use Rattle.std.proofs.Common.{◌≡◌, ℕ, reverse, Bool, true, false, if◌then◌else◌, Some, None, refl, sym, ap, subst, ◌∙◌}
+use Rattle.std.proofs.Common.{◌≡◌, ℕ, reverse, Some, None, refl, sym, ap, subst, ◌∙◌}
 use Rattle.std.specs.Prelude.{Option}
+use Rattle.std.proofs.lemmas.Bool.{cond_both}
 use Rattle.inp_model.specs.declared.taken.Taken.{Taken}
 use Rattle.inp_model.specs.Description.{Description}
 use Rattle.inp_model.specs.Event.{is_report}
@@ -14,7 +15,7 @@ use Rattle.inp_joy.specs.declared.joy_read.JoyRead.TheVariants.{Frame, Again, No
 use Rattle.inp_joy.specs.declared.joy_record.JoyRecord.{JoyRecord}
 use Rattle.inp_joy.specs.declared.turn_end.TurnEnd.{TurnEnd}
 use Rattle.inp_joy.specs.declared.turn_end.TurnEnd.TheVariants.{Hands, Stops, GoesOn}
-use Rattle.inp_joy.specs.Joying.{Joying, JoyTurn, gives, goes_on, hand_out_record, joy_read_of, joy_record_of, record_or_on, stop_with, joying_after_next}
+use Rattle.inp_joy.specs.Joying.{Joying, JoyTurn, gives, goes_on, hand_out_record, joy_read_of, joy_record_of, record_or_on, joying_after_next}
 use Rattle.inp_joy.specs.Kept.{turn_of_end, TurnEndShows, TurnEndPictures}
 use Rattle.inp_joy.specs.Picture.{picture_of_view}
 use Rattle.inp_joy.specs.Reads.{PicturesTheDevice}
@@ -42,11 +43,9 @@ record_or_on-shows told r j None = tt
 record_or_on-shows told r j (Some joy_record) = tt
 
 next-read_shows : (told : EvdevView) (r : ReaderView) (d : Description) (j : Joying) (next : Next) → AnswerShows told r next → TurnEndShows told r (Stops (read_of (joying_after_next d j next)))
-next-read_shows told r d j (Success taken) h = by_flag (is_report taken.event)
-  where
-    by_flag : (b : Bool) → TurnEndShows told r (Stops (read_of (if b then gives (stop_with (Frame taken.place) j) else record_or_on j (joy_record_of d j.picture taken))))
-    by_flag true = (taken, refl, h)
-    by_flag false = record_or_on-shows told r j (joy_record_of d j.picture taken)
+next-read_shows told r d j (Success taken) h =
+    cond_both (is_report taken.event) _ _ (λ x. TurnEndShows told r (Stops (read_of x)))
+    (λ _. (taken, refl, h)) (λ _. record_or_on-shows told r j (joy_record_of d j.picture taken))
 next-read_shows told r d j (NothingVisible at ends) h = tt
 next-read_shows told r d j Revoked h = tt
 next-read_shows told r d j NotOpen h = tt

@@ -6,6 +6,7 @@ use Rattle.std.specs.Int.RustNames.{FitsSigned}
 use Rattle.std.proofs.lemmas.Bool.Decides.{nat_tests}
 use Rattle.std.proofs.lemmas.Int.{to_z-of_z}
 use Rattle.std.proofs.lemmas.Nat.{from_le_bytes-to_le_bytes_2, from_le_bytes-to_le_bytes_4}
+use Rattle.std.proofs.lemmas.Bool.{cond_both}
 use Rattle.inp_model.specs.declared.taken.Taken.{Taken}
 use Rattle.inp_model.specs.declared.event.TheConstants.{EV_KEY, EV_ABS}
 use Rattle.inp_model.specs.Description.{Description}
@@ -19,9 +20,9 @@ use Rattle.inp_reader.specs.Talk.{EndsWith}
 use Rattle.inp_joy.specs.declared.joy_read.JoyRead.{JoyRead}
 use Rattle.inp_joy.specs.declared.joy_read.JoyRead.TheVariants.{Record, Frame, Again, NoDevice, Closed, Full, More}
 use Rattle.inp_joy.specs.declared.joy_record.JoyRecord.{JoyRecord}
-use Rattle.inp_joy.specs.JoyRecord.{bytes_of_record, record_in, within_16_bits, startup_button, startup_axis, button_record, axis_record}
+use Rattle.inp_joy.specs.JoyRecord.{bytes_of_record, record_in, within_16_bits, startup_button, startup_axis}
 use Rattle.inp_joy.specs.Codes.{buttons, axes, number_among}
-use Rattle.inp_joy.specs.Joying.{Joying, JoyAnswer, JoyTurn, gives, goes_on, hand_out_record, next_in_startup, map_numbered, startup, last_value, record_of_key, record_of_axis, joy_record_of, record_or_on, event_or_on, joy_read_of, event_handed_out, stop_or_event, joying_after_next, stop_or_startup, turns, stop_with, with_reading}
+use Rattle.inp_joy.specs.Joying.{Joying, JoyAnswer, JoyTurn, gives, goes_on, hand_out_record, next_in_startup, map_numbered, startup, last_value, record_of_key, record_of_axis, joy_record_of, record_or_on, event_or_on, joy_read_of, event_handed_out, stop_or_event, joying_after_next, stop_or_startup, turns, with_reading}
 use Rattle.inp_joy.specs.Picture.{PictureView, is_down_in, value_in}
 use Rattle.inp_joy.proofs.TurnCases.{Synchronises, TurnCase, of_startup, of_sync, of_loss, of_next, turn-case, turns-all}
 
@@ -43,16 +44,12 @@ record-back r h =
 -- Each record that a client makes
 
 within_16_bits-fits : (value : ℤ) → FitsSigned w16 (within_16_bits value)
-within_16_bits-fits (pos n) = by_flag (nat_lt 32767 n) refl
-  where
-    by_flag : (b : Bool) → nat_lt 32767 n ≡ b → FitsSigned w16 (if b then pos 32767 else pos n)
-    by_flag true is = record { sfits = omega arith }
-    by_flag false is = let most : n < 32768 = grind (arith, nat_tests, is) in record { sfits = omega (arith, most) }
-within_16_bits-fits (negsuc n) = by_flag (nat_lt 32766 n) refl
-  where
-    by_flag : (b : Bool) → nat_lt 32766 n ≡ b → FitsSigned w16 (if b then negsuc 32766 else negsuc n)
-    by_flag true is = record { sfits = omega arith }
-    by_flag false is = let most : n < 32767 = grind (arith, nat_tests, is) in record { sfits = omega (arith, most) }
+within_16_bits-fits (pos n) =
+    cond_both (nat_lt 32767 n) _ _ (FitsSigned w16)
+    (λ is. record { sfits = omega arith }) (λ is. let most : n < 32768 = grind (arith, nat_tests, is) in record { sfits = omega (arith, most) })
+within_16_bits-fits (negsuc n) =
+    cond_both (nat_lt 32766 n) _ _ (FitsSigned w16)
+    (λ is. record { sfits = omega arith }) (λ is. let most : n < 32767 = grind (arith, nat_tests, is) in record { sfits = omega (arith, most) })
 
 bit-fits : (b : Bool) → FitsSigned w16 (bit_value b)
 bit-fits true = record { sfits = omega arith }
@@ -92,19 +89,15 @@ milliseconds-below time = omega arith
 
 key-fits : (number : Option ℕ) (taken : Taken) → FitsIf (record_of_key number taken)
 key-fits None taken = tt
-key-fits (Some number) taken = by_flag (is_repeat taken.event)
-  where
-    by_flag : (b : Bool) → FitsIf (if b then None else Some (button_record number taken))
-    by_flag true = tt
-    by_flag false = record { time = milliseconds-below taken.time; value = bit-fits (is_set taken.event) }
+key-fits (Some number) taken =
+    cond_both (is_repeat taken.event) _ _ FitsIf
+    (λ _. tt) (λ _. record { time = milliseconds-below taken.time; value = bit-fits (is_set taken.event) })
 
 axis-fits : (p : PictureView) (number : Option ℕ) (taken : Taken) → FitsIf (record_of_axis p number taken)
 axis-fits p None taken = tt
-axis-fits p (Some number) taken = by_flag (int_eq (within_16_bits taken.event.value) (last_value p number))
-  where
-    by_flag : (b : Bool) → FitsIf (if b then None else Some (axis_record number taken))
-    by_flag true = tt
-    by_flag false = record { time = milliseconds-below taken.time; value = within_16_bits-fits taken.event.value }
+axis-fits p (Some number) taken =
+    cond_both (int_eq (within_16_bits taken.event.value) (last_value p number)) _ _ FitsIf
+    (λ _. tt) (λ _. record { time = milliseconds-below taken.time; value = within_16_bits-fits taken.event.value })
 
 pub event-fits : (d : Description) (p : PictureView) (taken : Taken) → FitsIf (joy_record_of d p taken)
 event-fits d p taken = by_flags (nat_eq taken.event.kind EV_KEY) (nat_eq taken.event.kind EV_ABS)
@@ -167,11 +160,8 @@ made-said j (Some r) h = h
 
 event-said : (d : Description) (j : Joying) (event : Option Taken) → IsTurnAsSaid (event_or_on d j event)
 event-said d j None = tt
-event-said d j (Some taken) = by_flag (is_report taken.event)
-  where
-    by_flag : (b : Bool) → IsTurnAsSaid (if b then gives (stop_with (Frame taken.place) j) else record_or_on j (joy_record_of d j.picture taken))
-    by_flag true = tt
-    by_flag false = made-said j (joy_record_of d j.picture taken) (event-fits d j.picture taken)
+event-said d j (Some taken) =
+    cond_both (is_report taken.event) _ _ IsTurnAsSaid (λ _. tt) (λ _. made-said j (joy_record_of d j.picture taken) (event-fits d j.picture taken))
 
 next-said : (d : Description) (j : Joying) (next : Next) (stop : Option JoyRead) (event : Option Taken) → joy_read_of next ≡ stop → IsTurnAsSaid (stop_or_event d j stop event)
 next-said d j next None event is = event-said d j event

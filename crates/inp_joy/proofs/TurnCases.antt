@@ -1,6 +1,7 @@
 -- How a turn of a read went, and what holds of a read since it holds of its turns.
 use Rattle.std.proofs.Common.{◌≡◌, ℕ, zero, suc, ◌+◌, Bool, true, false, if◌then◌else◌, List, [], ◌∷◌, ◌++◌, Some, None, refl, sym, ap, subst, ◌∙◌, append-nil}
 use Rattle.std.specs.Prelude.{Option, slice_get}
+use Rattle.std.proofs.lemmas.Bool.{cond_both}
 use Rattle.inp_model.specs.Description.{Description}
 use Rattle.inp_model.specs.Reply.{is_accepted}
 use Rattle.inp_model.specs.Run.{Call}
@@ -63,11 +64,9 @@ event_turn-case d j calls t plain h =
         of_next next r plain (subst (λ (cs : List Call). EndsWith (next_talk d Normal j.reading) cs (next, r)) (sym (alone calls first later whole f.0)) e) lost f.1
 
 case-of : (d : Description) (j : Joying) (o : Option JoyRecord) (calls : List Call) (t : JoyTurn) → slice_get (startup d j.reading.view) j.handed ≡ o → EndsWith (record_or_turn d j o) calls t → TurnCase d j calls t
-case-of d j None calls t is h = by_flag (is_needed j.reading.phase) refl h
-  where
-    by_flag : (b : Bool) → is_needed j.reading.phase ≡ b → EndsWith (if b then sync_turn d j else event_turn d j) calls t → TurnCase d j calls t
-    by_flag true needed k = of_sync needed (synchronises d j calls t k)
-    by_flag false plain k = event_turn-case d j calls t plain k
+case-of d j None calls t is h =
+    (cond_both (is_needed j.reading.phase) _ _ (λ x. EndsWith x calls t → TurnCase d j calls t)
+    (λ needed k. of_sync needed (synchronises d j calls t k)) (λ plain k. event_turn-case d j calls t plain k)) h
 case-of d j (Some r) calls t is h =
     let f = finished (gives (hand_out_record (next_in_startup j) r)) t calls h in of_startup r is f.0 f.1
 
@@ -106,8 +105,6 @@ turns-all d P last long more (suc n) count j calls answer h =
     by_turn : (t : JoyTurn) (m : ℕ) (first later : List Call) → ((i : ℕ) (k : Joying) → EndsWith (turns d n i k) later (Some answer) → P k later answer) → EndsWith (turn_talk d j) first t → EndsWith (after_turn d (turns d n) m t) later (Some answer)
         → P j (first ++ later) answer
     by_turn (gives a) m first later rest h e = nothing_more first later a (last j first a h) e
-    by_turn (goes_on k) m first later rest h e = by_flag (is_long d k m) e
-      where
-        by_flag : (b : Bool) → EndsWith (if b then finish (Some (stop_with More k)) else turns d n m k) later (Some answer) → P j (first ++ later) answer
-        by_flag true w = nothing_more first later (stop_with More k) (long j k first h) w
-        by_flag false w = more j k first later answer h (rest m k w)
+    by_turn (goes_on k) m first later rest h e =
+        (cond_both (is_long d k m) _ _ (λ x. EndsWith x later (Some answer) → P j (first ++ later) answer)
+        (λ _ w. nothing_more first later (stop_with More k) (long j k first h) w) (λ _ w. more j k first later answer h (rest m k w))) e

@@ -1,7 +1,7 @@
 -- What a turn leaves, by its talk.
 use Rattle.std.proofs.Common.{◌≡◌, ℕ, ◌≤◌, ◌<◌, Bool, true, false, if◌then◌else◌, nat_le, List, [], ◌∷◌, ◌++◌, length, Some, None, refl, sym, ap, subst, ◌∙◌, arith, inl, inr, ◌⊎◌}
 use Rattle.std.specs.Prelude.{Option, slice_get}
-use Rattle.std.proofs.lemmas.Bool.{true≢false}
+use Rattle.std.proofs.lemmas.Bool.{true≢false, cond_both}
 use Rattle.std.proofs.lemmas.Bool.Decides.{nat_tests}
 use Rattle.std.proofs.lemmas.Option.{slice_get-get_or}
 use Rattle.inp_model.specs.declared.taken.Taken.{Taken}
@@ -126,11 +126,10 @@ next-pictured d j NotOpen r sized over shown lost h = (shown-pictured d (with_re
 next-pictured d j (FullHistory at) r sized over shown lost h = (shown-pictured d (with_reading j r) over (shown ∙ ap (λ (v : View). picture_of_view d v) (sym h.0)), tt)
 
 normal-pictured : (d : Description) (j : Joying) (next : Next) (r : Reading) (later : List Call) (t : JoyTurn) → IsSizedFor d.slots j.reading.view → startup_len d ≤ j.handed → j.picture ≡ picture_of_view d j.reading.view → IsTaken j.reading.view next r → EndsWith (after_normal d j (next, r)) later t → IsTurnPictured d t
-normal-pictured d j next r later t sized over shown taken h = by_flag (is_lost next) refl h
-  where
-    by_flag : (b : Bool) → is_lost next ≡ b → EndsWith (if b then sync_turn d (with_reading j r) else finish (joying_after_next d (with_reading j r) next)) later t → IsTurnPictured d t
-    by_flag true is k = sync_turn-pictured d (with_reading j r) later t (lost-in j.reading.view next r is taken) k
-    by_flag false is k = turn-same d (joying_after_next d (with_reading j r) next) t (finished (joying_after_next d (with_reading j r) next) t later k).1 (next-pictured d j next r sized over shown is taken)
+normal-pictured d j next r later t sized over shown taken h =
+    (cond_both (is_lost next) _ _ (λ x. EndsWith x later t → IsTurnPictured d t)
+    (λ is k. sync_turn-pictured d (with_reading j r) later t (lost-in j.reading.view next r is taken) k)
+    (λ is k. turn-same d (joying_after_next d (with_reading j r) next) t (finished (joying_after_next d (with_reading j r) next) t later k).1 (next-pictured d j next r sized over shown is taken))) h
 
 event_turn-pictured : (d : Description) (j : Joying) (calls : List Call) (t : JoyTurn) → IsSizedFor d.slots j.reading.view → startup_len d ≤ j.handed → is_needed j.reading.phase ≡ false → IsPictured d j → EndsWith (event_turn d j) calls t → IsTurnPictured d t
 unfolding event_turn
@@ -141,11 +140,10 @@ event_turn-pictured d j calls t sized over plain pictured h =
 
 -- any turn
 pub turn-pictured : (d : Description) (j : Joying) (calls : List Call) (t : JoyTurn) → IsSizedFor d.slots j.reading.view → IsPictured d j → None ≡ slice_get (startup d j.reading.view) j.handed → EndsWith (record_or_turn d j None) calls t → IsTurnPictured d t
-turn-pictured d j calls t sized pictured none h = by_flag (is_needed j.reading.phase) refl h
-  where
-    by_flag : (b : Bool) → is_needed j.reading.phase ≡ b → EndsWith (if b then sync_turn d j else event_turn d j) calls t → IsTurnPictured d t
-    by_flag true needed k = sync_turn-pictured d j calls t needed k
-    by_flag false plain k = event_turn-pictured d j calls t sized (over-none d j.reading.view j.handed none) plain pictured k
+turn-pictured d j calls t sized pictured none h =
+    (cond_both (is_needed j.reading.phase) _ _ (λ x. EndsWith x calls t → IsTurnPictured d t)
+    (λ needed k. sync_turn-pictured d j calls t needed k)
+    (λ plain k. event_turn-pictured d j calls t sized (over-none d j.reading.view j.handed none) plain pictured k)) h
 
 -- as an outcome
 pub outcome-pictured : (d : Description) (k : Joying) (outcome : TurnEnd) → IsTurnPictured d (turn_of_end outcome k) → IsPictured d k
@@ -216,11 +214,9 @@ event_turn-accepted d j k calls h =
     subst (λ (cs : List Call). AreAccepted cs) (sym s.calls_are) (normal-accepted d j k s.between.0 s.between.1 s.first s.later s.first_ends s.later_ends)
 
 record_or-accepted : (d : Description) (j k : Joying) (o : Option JoyRecord) (calls : List Call) → EndsWith (record_or_turn d j o) calls (goes_on k) → AreAccepted calls
-record_or-accepted d j k None calls h = by_flag (is_needed j.reading.phase) h
-  where
-    by_flag : (b : Bool) → EndsWith (if b then sync_turn d j else event_turn d j) calls (goes_on k) → AreAccepted calls
-    by_flag true m = sync_turn-accepted d j k calls m
-    by_flag false m = event_turn-accepted d j k calls m
+record_or-accepted d j k None calls h =
+    (cond_both (is_needed j.reading.phase) _ _ (λ x. EndsWith x calls (goes_on k) → AreAccepted calls)
+    (λ _ m. sync_turn-accepted d j k calls m) (λ _ m. event_turn-accepted d j k calls m)) h
 record_or-accepted d j k (Some r) calls h =
     let answer : JoyAnswer = hand_out_record (next_in_startup j) r in absurd (gives-goes answer k (finished (gives answer) (goes_on k) calls h).1)
 

@@ -9,7 +9,6 @@ use Rattle.inp_reader.specs.declared.next.Next.{Next}
 use Rattle.inp_reader.specs.declared.started.Started.{Started}
 use Rattle.inp_reader.specs.Reading.{Reading, next_talk, start_talk}
 use Rattle.inp_reader.specs.Says.{Says}
-use Rattle.inp_reader.specs.Standing.{is_needed}
 use Rattle.inp_reader.specs.Talk.{Talk, finish}
 use Rattle.inp_reader.proofs.SaysInTurn.{says-nothing, says-then}
 use Rattle.inp_joy.specs.declared.joy_read.JoyRead.{JoyRead}
@@ -63,15 +62,6 @@ says-event before after old new d j k next r turn s kept_all kept is =
     ∙ ap (λ (t : JoyTurn). finish t) (sym is)))
 
 -- A turn
-
--- without a record of the startup
-pub says-needed : (before after : EvdevView) (old new : List CallMade) (d : Description) (j : Joying) (turn : JoyTurn) → is_needed j.reading.phase ≡ true → Says before after old new (sync_turn d j) turn → Says before after old new (record_or_turn d j None) turn
-says-needed before after old new d j turn needed s =
-    subst (λ (t : Talk JoyTurn). Says before after old new t turn) (ap (λ (b : Bool). if b then sync_turn d j else event_turn d j) (sym needed)) s
-
-pub says-plain : (before after : EvdevView) (old new : List CallMade) (d : Description) (j : Joying) (turn : JoyTurn) → is_needed j.reading.phase ≡ false → Says before after old new (event_turn d j) turn → Says before after old new (record_or_turn d j None) turn
-says-plain before after old new d j turn plain s =
-    subst (λ (t : Talk JoyTurn). Says before after old new t turn) (ap (λ (b : Bool). if b then sync_turn d j else event_turn d j) (sym plain)) s
 
 -- with one, or without
 pub says-turn : (before after : EvdevView) (old new : List CallMade) (d : Description) (j : Joying) (next : Option JoyRecord) (turn : JoyTurn) → next ≡ slice_get (startup d j.reading.view) j.handed → Says before after old new (record_or_turn d j next) turn → Says before after old new (turn_talk d j) turn

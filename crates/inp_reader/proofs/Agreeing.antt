@@ -24,8 +24,9 @@ use Rattle.inp_reader.specs.Spare.{IsSpare}
 use Rattle.inp_reader.specs.Standing.{steps_of, view_after_answers}
 use Rattle.inp_model.proofs.Refused.{refused-not_accepted}
 use Rattle.inp_reader.proofs.Calls.{AreAnswered, AreAccepted}
-use Rattle.inp_reader.proofs.SpareAgrees.{IsSpare-first_view, has-cells}
+use Rattle.inp_reader.proofs.SpareAgrees.{IsSpare-first_view}
 use Rattle.inp_reader.proofs.StandsAfterTalks.{IsMadeAnew}
+use Rattle.inp_reader.proofs.UnsetSlotAxes.{has_cells}
 
 -- What is asked for
 
@@ -192,13 +193,13 @@ agree-answer which d past x xs given v w are accepted sized a =
       left_long = length-axes_after_answer x given.reply v.axes ∙ a.left_long;
       right_long = length-axes_after_answer x given.reply w.axes ∙ a.right_long;
       cells_long =
-          length-cells_after_answer x given.reply given.cells v.cells (has-cells d past x given v.cells are sized) ∙ a.cells_long
-          ∙ sym (length-cells_after_answer x given.reply given.cells w.cells (has-cells d past x given w.cells are (sym a.cells_long ∙ sized)));
+          length-cells_after_answer x given.reply given.cells v.cells (has_cells d past x given v.cells are sized) ∙ a.cells_long
+          ∙ sym (length-cells_after_answer x given.reply given.cells w.cells (has_cells d past x given w.cells are (sym a.cells_long ∙ sized)));
     }
 
 pub sized-answer : (d : Description) (past : List Step) (x : Step) (given : Answer) (v : View) → IsAnswer d past x given → length v.cells ≡ 14 * d.slots → length (view_after_answer v x given.reply given.cells).cells ≡ 14 * d.slots
 unfolding view_after_answer
-sized-answer d past x given v are sized = length-cells_after_answer x given.reply given.cells v.cells (has-cells d past x given v.cells are sized) ∙ sized
+sized-answer d past x given v are sized = length-cells_after_answer x given.reply given.cells v.cells (has_cells d past x given v.cells are sized) ∙ sized
 
 -- All answers
 
@@ -233,10 +234,6 @@ agree-whole v w a =
 asked-if : (p : Step → Bool) (wanted : Bool) (x : Step) → p x ≡ true → list_any p (only_if wanted x) ≡ wanted
 asked-if p true x h = ap (λ (b : Bool). b || false) h
 asked-if p false x h = refl
-
-none-asked : (p : Step → Bool) (client : ℕ) (codes : List ℕ) → ((code : ℕ) → p (GetAxis client code) ≡ false) → list_any p (axis_queries client codes) ≡ false
-none-asked p client [] h = refl
-none-asked p client (code ∷ codes) h = ap (λ (b : Bool). b || list_any p (axis_queries client codes)) (h code) ∙ none-asked p client codes h
 
 -- what the parts of all queries ask for
 parts : (p : Step → Bool) (d : Description) (client : ℕ) → list_any p (queries d client) ≡ false

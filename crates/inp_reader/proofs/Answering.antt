@@ -1,9 +1,6 @@
 -- What a one-thread device answers to a query, as far as a view is set by it.
-use Rattle.std.proofs.Common.{◌≡◌, List, [], refl, sym, ap, subst, ◌∙◌, false, Option, Some, None, ℤ, ℕ, ◌*◌, ◌+◌, length, take, drop, inl, inr, arith, length-append, zero, suc}
-use Rattle.std.specs.Prelude.{flat_map}
+use Rattle.std.proofs.Common.{◌≡◌, List, [], refl, sym, ap, subst, ◌∙◌, false, Option, Some, None, ℤ, ℕ, ◌*◌, length, take, drop, inl, inr, arith}
 use Rattle.std.proofs.lemmas.List.{take-append-le}
-use Rattle.std.specs.List.{range_with_len}
-use Rattle.inp_model.specs.RawItem.{RawItem}
 use Rattle.inp_model.specs.declared.step.Step.{Step}
 use Rattle.inp_model.specs.declared.step.Step.TheVariants.{Open, SyncSlots}
 use Rattle.inp_model.specs.declared.reply.Reply.{Reply}
@@ -13,23 +10,13 @@ use Rattle.inp_model.specs.Evdev.{EvdevView, IsCall}
 use Rattle.inp_model.specs.Past.{past_at}
 use Rattle.inp_model.specs.Raw.{raw}
 use Rattle.inp_model.specs.Run.{place_of}
-use Rattle.inp_model.specs.Reply.{Answer, answer_by, accepted, refused, is_accepted, written, IsAnswer, rows, row}
+use Rattle.inp_model.specs.Reply.{Answer, answer_by, accepted, refused, is_accepted, written, IsAnswer, rows}
 use Rattle.inp_model.proofs.Refused.{refused-not_accepted}
 use Rattle.inp_recon.specs.declared.view.View.{View}
 use Rattle.inp_recon.specs.View.{view_after_answer, slot_after_reply, cells_after_reply}
+use Rattle.inp_recon.proofs.ViewSteps.{length-rows}
 
 -- All values of all slots
-
-length-row : (d : Description) (r : List RawItem) (slot : ℕ) → length (row d r slot) ≡ 14
-length-row d r slot = refl
-
-length-flat_map : (f : ℕ → List ℤ) (k first n : ℕ) → ((i : ℕ) → length (f i) ≡ k) → length (flat_map f (range_with_len first n)) ≡ k * n
-length-flat_map f k first zero h = omega arith
-length-flat_map f k first (suc n) h =
-    omega (arith, length-append (f first) (flat_map f (range_with_len (first + 1) n)), h first, length-flat_map f k (first + 1) n h)
-
-pub length-rows : (d : Description) (r : List RawItem) → length (rows d r) ≡ 14 * d.slots
-length-rows d r = length-flat_map (row d r) 14 0 d.slots (length-row d r)
 
 -- What an answer sets
 

@@ -1,5 +1,5 @@
 -- The queries of axes, code by code.
-use Rattle.std.proofs.Common.{◌≡◌, ℕ, zero, suc, ◌+◌, ◌-◌, ◌<◌, ◌≤◌, Bool, true, false, cond, [], ◌∷◌, ◌++◌, map, refl, sym, ap, ◌∙◌, arith}
+use Rattle.std.proofs.Common.{◌≡◌, ℕ, ◌+◌, ◌-◌, ◌<◌, ◌≤◌, Bool, true, false, cond, [], ◌∷◌, ◌++◌, map, refl, sym, ap, ◌∙◌, arith}
 use Rattle.std.specs.List.{range_with_len, filter}
 use Rattle.std.proofs.lemmas.List.{map-append}
 use Rattle.std.proofs.lemmas.List.Elements.{filter-append}
@@ -7,16 +7,7 @@ use Rattle.inp_model.specs.declared.event.TheConstants.{EV_ABS}
 use Rattle.inp_model.specs.declared.step.Step.TheVariants.{GetAxis}
 use Rattle.inp_model.specs.Description.{Description, supports}
 use Rattle.inp_reader.specs.Reading.{axes_among, axis_queries, only_if, plain_axes}
-
-pub range-append : (first n m : ℕ) → range_with_len first (n + m) ≡ range_with_len first n ++ range_with_len (first + n) m
-range-append first zero m =
-    let e : zero + m ≡ m = omega arith in let f : first + zero ≡ first = omega arith in
-    ap (λ k. range_with_len first k) e ∙ ap (λ i. range_with_len i m) (sym f)
-range-append first (suc n) m =
-    let e : suc n + m ≡ suc (n + m) = omega arith in
-    let f : first + 1 + n ≡ first + suc n = omega arith in
-    ap (λ k. range_with_len first k) e
-    ∙ ap (λ xs. first ∷ xs) (range-append (first + 1) n m ∙ ap (λ i. range_with_len (first + 1) n ++ range_with_len i m) f)
+pub use Rattle.inp_model.proofs.Injecting.{range-append}
 
 pub axis_queries-append : (d : Description) (client first n m : ℕ) → axis_queries client (axes_among d first (n + m)) ≡ axis_queries client (axes_among d first n) ++ axis_queries client (axes_among d (first + n) m)
 unfolding axes_among

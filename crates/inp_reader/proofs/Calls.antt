@@ -64,16 +64,6 @@ answered d before after (call ∷ calls) same h =
     let at : List Step = past_at between.seen (place_of call.answer.reply) in
     (at, subst (λ (k : Description). IsAnswer k at call.step call.answer) e c.placed.exact, answered d h.0 after calls e h.2)
 
-pub answered-first : (d : Description) (calls more : List Call) → AreAnswered d (calls ++ more) → AreAnswered d calls
-unfolding AreAnswered
-answered-first d [] more h = tt
-answered-first d (call ∷ calls) more h = (h.0, h.1, answered-first d calls more h.2)
-
-pub answered-later : (d : Description) (calls more : List Call) → AreAnswered d (calls ++ more) → AreAnswered d more
-unfolding AreAnswered
-answered-later d [] more h = h
-answered-later d (call ∷ calls) more h = answered-later d calls more h.2
-
 -- Their places.
 
 -- an accepted one of these calls has this place

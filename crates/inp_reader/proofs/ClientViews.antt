@@ -1,6 +1,6 @@
 -- The view that a client makes of a history, by what it read and asked for since its start.
 use Rattle.std.proofs.Common.{◌≡◌, ◌≤◌, ◌<◌, ◌⊎◌, inl, inr, ℕ, zero, suc, ◌+◌, ◌-◌, nat_eq, nat_lt, Bool, true, false, ◌&&◌, ◌||◌, List, [], ◌∷◌, ◌++◌, length, map, take, drop, refl, sym, ap, subst, ◌∙◌, arith, append-nil, append_assoc, length-append, if◌then◌else◌, ℤ, Option, Some, None}
-use Rattle.std.proofs.lemmas.Bool.{true≢false, false≢true, eqb-true, cond-false, cond-true, and_parts, cases_lt, lt-ltb, le-ltb, ltb-true, ltb-false}
+use Rattle.std.proofs.lemmas.Bool.{true≢false, false≢true, eqb-true, cond-false, cond-true, and_parts, cases_lt, lt-ltb, le-ltb, ltb-true, ltb-false, cond_both}
 use Rattle.std.proofs.lemmas.List.{map-append, take-append-le, length-map, take-map}
 use Rattle.std.proofs.lemmas.List.Concat.{flat_map-append}
 use Rattle.inp_model.specs.declared.event.Event.{Event}
@@ -102,18 +102,8 @@ start_of false c h = inr h
 start-idle : (d : Description) (past : List Step) (client : ℕ) (x : Step) (v : View) → is_start past client x ≡ true → (view_after_step d past client x v ≡ v) × (taken_by d past client x ≡ [])
 unfolding view_after_answer
 start-idle d past client Open v h = (refl, refl)
-start-idle d past client (Discard named) v h = (by (nat_eq named client), refl)
-  where
-    by : (b : Bool) → (if b then view_after_answer (view_after_events v []) (Discard named) (accepted d past (Discard named)).reply (accepted d past (Discard named)).cells else v) ≡ v
-    by true = no-events v
-    by false = refl
+start-idle d past client (Discard named) v h = (cond_both (nat_eq named client) _ _ (λ x. x ≡ v) (λ _. no-events v) (λ _. refl), refl)
 start-idle d past client _ v h = absurd (false≢true h)
-
--- what comes of one step: it is a start, another use, or neither
-step_if : {A : Type 0} (starts used : Bool) (a b c : A) (P : A → Type 0) → (starts ≡ true → P a) → (starts ≡ false → used ≡ true → P b) → (starts ≡ false → used ≡ false → P c) → P (if starts then a else if used then b else c)
-step_if true used a b c P h k l = h refl
-step_if false true a b c P h k l = k refl refl
-step_if false false a b c P h k l = l refl refl
 
 pub used-view : (d : Description) (past : List Step) (client : ℕ) (x : Step) (v : View) → refused d past x ≡ None → is_use_of client x ≡ true
     → view_after_step d past client x v ≡ view_after_answer (view_after_events v (taken_events (answer d past x).events)) x (answer d past x).reply (answer d past x).cells
@@ -322,14 +312,6 @@ unfoldable NoneTakes : List Call → Type 0
 NoneTakes [] = Unit {0}
 NoneTakes (call ∷ calls) = (call.answer.events ≡ []) × NoneTakes calls
 
-fold-asked : (v : View) (calls : List Call) → NoneTakes calls → fold_calls v calls ≡ view_after_answers v calls
-unfolding NoneTakes fold_calls
-fold-asked v [] h = refl
-fold-asked v (call ∷ calls) h =
-    let same : view_after_events v (taken_events call.answer.events) ≡ v = ap (λ (ts : List Taken). view_after_events v (taken_events ts)) h.0 ∙ no-events v in
-    ap (λ (w : View). fold_calls (view_after_answer w call.step call.answer.reply call.answer.cells) calls) same
-    ∙ fold-asked (view_after_answer v call.step call.answer.reply call.answer.cells) calls h.1
-
 upto-asked : (v : View) (calls more : List Call) (j : ℕ) → NoneTakes calls → view_upto v (calls ++ more) j ≡ view_upto (view_after_answers v calls) more j
 unfolding NoneTakes view_upto
 upto-asked v [] more j h = refl
@@ -494,8 +476,6 @@ good-first d (c ∷ calls) more h =
 pub sized-at-start : (d : Description) (past : List Step) (client : ℕ) → IsSizedFor d.slots (view_at_start d past client)
 unfolding view_at_start
 sized-at-start d [] client = IsSizedFor-first_view d
-sized-at-start d (x ∷ past) client = by (is_start past client x) (sized-at-start d past client)
-  where
-    by : (b : Bool) → IsSizedFor d.slots (view_at_start d past client) → IsSizedFor d.slots (if b then client_view d past client else view_at_start d past client)
-    by true h = client_view-sized d past client
-    by false h = h
+sized-at-start d (x ∷ past) client =
+    (cond_both (is_start past client x) _ _ (λ x. IsSizedFor d.slots (view_at_start d past client) → IsSizedFor d.slots x)
+    (λ _ h. client_view-sized d past client) (λ _ h. h)) (sized-at-start d past client)

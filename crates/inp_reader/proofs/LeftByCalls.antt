@@ -4,7 +4,7 @@ use Rattle.inp_model.specs.declared.step.Step.{Step}
 use Rattle.inp_model.specs.declared.reply.Reply.{Reply}
 use Rattle.inp_model.specs.declared.reply.Reply.TheVariants.{Again, Refused}
 use Rattle.inp_model.specs.Evdev.{EvdevView, own_after}
-use Rattle.inp_model.specs.Leaves.{AreCalls, IsLeft, places_of as places_of_calls}
+use Rattle.inp_model.specs.Leaves.{AreCalls, places_of as places_of_calls}
 use Rattle.inp_model.specs.Reply.{is_accepted}
 use Rattle.inp_model.specs.Run.{Call, place_of}
 use Rattle.inp_model.proofs.Leaves.{own-grown, calls-leave, AreCalls-append}
@@ -56,10 +56,6 @@ says-anew before after old new talk result h s = subst (λ (ms : List CallMade).
 
 pub says-left : {A : Type 0} (before after : EvdevView) (made : List CallMade) (talk : Talk A) (result : A) → Says before after [] made talk result → LeavesMade before after made
 says-left before after made talk result s = made-left before after s.calls made s.kept s.are_calls
-
--- the same, where the calls that were kept are not named
-pub leaves_made-left : (before after : EvdevView) (made : List CallMade) → LeavesMade before after made → IsLeft before after
-leaves_made-left before after made h = record { calls = h.calls; are_calls = h.are_calls; leaves = h.leaves }
 
 -- The law of two calls
 

@@ -79,17 +79,6 @@ unfolding LeadsTo Runs
 ends-meet R Q s (finish a) h = h s [] a refl refl
 ends-meet R Q s (ask x rest) h = (tt, λ t answer allowed. ends-meet R Q t (rest answer) (λ u calls a run ends. h u (record { step = x; answer = answer } ∷ calls) a (t, allowed, run) (refl, ends)))
 
--- each of the calls was one that the talk may make
-pub meets-calls : {S A : Type 0} (P : S → Step → Type 0) (R : S → Step → Answer → S → Type 0) (Q : S → A → Type 0) (s t : S) (talk : Talk A) (calls : List Call) (a : A)
-    → Meets P R Q s talk → Runs R s calls t → EndsWith talk calls a → Runs (λ u x answer v. P u x × R u x answer v) s calls t
-unfolding LeadsTo Runs
-meets-calls P R Q s t (finish b) [] a h run ends = run
-meets-calls P R Q s t (finish b) (call ∷ calls) a h run ends = elim ends [ ]
-meets-calls P R Q s t (ask x rest) [] a h run ends = absurd cc
-meets-calls P R Q s t (ask x rest) (call ∷ calls) a h run ends =
-    let allowed : R s x call.answer run.0 = subst (λ (y : Step). R s y call.answer run.0) ends.0 run.1 in
-    (run.0, (subst (λ (y : Step). P s y) (sym ends.0) h.0, run.1), meets-calls P R Q run.0 t (rest call.answer) calls a (h.1 run.0 call.answer allowed) run.2 ends.1)
-
 -- ---- properties of steps alone
 
 -- each step that the talk asks for has this property, whatever is answered
@@ -101,19 +90,9 @@ pub asks-then : {A B : Type 0} (P : Step → Type 0) (talk : Talk A) (next : A �
 asks-then P (finish a) next h more = more a
 asks-then P (ask x rest) next h more = (h.0, λ answer. asks-then P (rest answer) next (h.1 answer) more)
 
-pub asks-weaker : {A : Type 0} (P Q : Step → Type 0) (talk : Talk A) → ((x : Step) → P x → Q x) → Asks P talk → Asks Q talk
-asks-weaker P Q (finish a) f h = tt
-asks-weaker P Q (ask x rest) f h = (f x h.0, λ answer. asks-weaker P Q (rest answer) f (h.1 answer))
-
 pub meets-asks : {A : Type 0} (P : Step → Type 0) (talk : Talk A) → Meets (λ (s : Unit {0}) (x : Step). P x) AnyAnswer (λ (s : Unit {0}) (a : A). Unit {0}) tt talk → Asks P talk
 meets-asks P (finish a) h = tt
 meets-asks P (ask x rest) h = (h.0, λ answer. meets-asks P (rest answer) (h.1 tt answer tt))
-
--- what such steps keep is so of each end
-pub asks-meet : {S A : Type 0} (K : Step → Type 0) (P : S → Step → Type 0) (R : S → Step → Answer → S → Type 0) (Inv : S → Type 0) (s : S) (talk : Talk A)
-    → ((u : S) (x : Step) → Inv u → K x → P u x) → ((u v : S) (x : Step) (answer : Answer) → Inv u → K x → R u x answer v → Inv v) → Asks K talk → Inv s → Meets P R (λ (t : S) (a : A). Inv t) s talk
-asks-meet K P R Inv s (finish a) may keeps h i = i
-asks-meet K P R Inv s (ask x rest) may keeps h i = (may s x i h.0, λ t answer allowed. asks-meet K P R Inv t (rest answer) may keeps (h.1 answer) (keeps s t x answer i h.0 allowed))
 
 -- ---- calls that the one-thread device answered, each after some past
 

@@ -2,7 +2,7 @@
 use Rattle.std.proofs.Common.{◌≡◌, ◌≤◌, ◌<◌, ℕ, zero, suc, ◌+◌, nat_lt, nat_le, Bool, true, false, ◌&&◌, not, if◌then◌else◌, List, [], ◌∷◌, ◌++◌, refl, sym, ap, subst, ◌∙◌, arith}
 use Rattle.std.specs.Prelude.{Result, Ok, Err}
 use Rattle.std.specs.List.{range_with_len, filter}
-use Rattle.std.proofs.lemmas.Bool.{and_left, and_right, lt-leb}
+use Rattle.std.proofs.lemmas.Bool.{and_left, and_right, lt-leb, cond_both, true≢false}
 use Rattle.inp_model.specs.declared.event.Event.{Event}
 use Rattle.inp_model.specs.declared.event.TheConstants.{EV_KEY, EV_ABS, EV_SW, EV_LED}
 use Rattle.inp_model.specs.declared.taken.Taken.{Taken}
@@ -29,7 +29,6 @@ use Rattle.inp_reader.specs.declared.next.Next.{Next}
 use Rattle.inp_reader.specs.declared.next.Next.TheVariants.{Success, Dropped, Sync, Synced, Again, NoDevice, Closed, Full}
 use Rattle.inp_reader.specs.declared.started.Started.{Started}
 use Rattle.inp_reader.specs.Reading.{Reading, only_if, axes_among, plain_axes, bit_queries, axis_queries, slot_queries, queries, ask_each, start_stop_of, after_queries, after_open, start_talk, stop_of, hand_out_event, hand_out, after_read, read_or_hand_out, read_talk, hand_synthesised, handing, as_plain, after_full_sync, after_failed_sync, go_on, go_on_after, sync_talk, talk_in, next_talk}
-use Rattle.std.proofs.lemmas.Bool.{true≢false}
 use Rattle.inp_reader.specs.Standing.{is_needed}
 use Rattle.inp_reader.specs.Says.{Says}
 use Rattle.inp_reader.specs.Talk.{Talk, finish, EndsWith}
@@ -50,17 +49,15 @@ pub record OfQueries (d : Description) (client : ℕ) (P : Step → Type 0) : Ty
 own-range : (d : Description) (first count : ℕ) → ((code : ℕ) → first ≤ code → code < first + count → is_multi_touch_code code ≡ false) → Each (λ (code : ℕ). has_axis d code ≡ true) (filter (supports d EV_ABS) (range_with_len first count))
 own-range d first zero own = tt
 own-range d first (suc count) own =
-    by (supports d EV_ABS first) refl (own-range d (first + 1) count (λ code from below. own code (omega (arith, from)) (omega (arith, below))))
+    (cond_both (supports d EV_ABS first) _ _ (λ x. Each P rest → Each P x)
+    (λ is others. (ap (λ (b : Bool). b && not (is_multi_touch_code first)) is ∙ ap (λ (b : Bool). not b) (own first (omega arith) (omega arith)), others))
+    (λ is others. others)) (own-range d (first + 1) count (λ code from below. own code (omega (arith, from)) (omega (arith, below))))
   where
     P : ℕ → Type 0
     P code = has_axis d code ≡ true
 
     rest : List ℕ
     rest = filter (supports d EV_ABS) (range_with_len (first + 1) count)
-
-    by : (b : Bool) → supports d EV_ABS first ≡ b → Each P rest → Each P (if b then first ∷ rest else rest)
-    by true is others = (ap (λ (b : Bool). b && not (is_multi_touch_code first)) is ∙ ap (λ (b : Bool). not b) (own first (omega arith) (omega arith)), others)
-    by false is others = others
 
 own-axes : (d : Description) → Each (λ (code : ℕ). has_axis d code ≡ true) (plain_axes d)
 unfolding axes_among

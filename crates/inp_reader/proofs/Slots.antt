@@ -16,6 +16,7 @@ use Rattle.inp_reader.proofs.Synthesising.{where_below-skip, where_below-next, i
 use Rattle.inp_reader.proofs.Puts.{Each, Each-where_below, mixed, mixed-all, puts, puts-below, EachPutChanges-below}
 use Rattle.inp_reader.proofs.Parts.{SetsPart, leads-puts, EachChanges-puts}
 use Rattle.inp_reader.proofs.Classes.{LeadsTheView, LeadsTheView-behind, ints_differ, tells_ints}
+use Rattle.inp_recon.proofs.FaithfulReads.{slot_code}
 
 -- a view with this current slot and these values
 abbrev pub with_slots : View → ℤ → List ℤ → View
@@ -51,9 +52,6 @@ slots-of slots cells h = omega (arith, h)
 
 multi_touch : (k : ℕ) → k < 14 → is_multi_touch_code (48 + k) ≡ true
 multi_touch k h = and_from (leb 47 (48 + k)) (leb (48 + k) 61) (le-leb 47 (48 + k) (omega arith)) (le-leb (48 + k) 61 (omega (arith, h)))
-
-slot_code : (k : ℕ) → k < 14 → is_slot_code (48 + k) ≡ true
-slot_code k h = and_from (leb 48 (48 + k)) (leb (48 + k) 61) (le-leb 48 (48 + k) (omega arith)) (le-leb (48 + k) 61 (omega (arith, h)))
 
 axes-stay : (axes : List ℤ) (k : ℕ) (x : ℤ) → k < 14 → axes_after_event axes (record { kind = EV_ABS; code = 48 + k; value = x }) ≡ axes
 axes-stay axes k x h = cond-false (not (is_multi_touch_code (48 + k))) _ axes (ap not (multi_touch k h))

@@ -1,26 +1,24 @@
 -- A reader's view keeps what its device cannot have as in a new view, and two such views agree after all answers.
-use Rattle.std.proofs.Common.{◌≡◌, inl, inr, ℕ, zero, suc, ◌*◌, nat_eq, nat_lt, ℤ, pos, Bool, true, false, ◌&&◌, not, List, [], length, replicate, set, refl, sym, ap, subst, ◌∙◌, arith, if◌then◌else◌, Option, Some, None}
+use Rattle.std.proofs.Common.{◌≡◌, ℕ, zero, suc, nat_eq, nat_lt, ℤ, pos, Bool, true, false, ◌&&◌, not, List, replicate, refl, sym, ap, ◌∙◌, if◌then◌else◌}
 use Rattle.std.specs.Prelude.{slice_index_or}
-use Rattle.std.proofs.lemmas.Bool.{true≢false, false≢true, eqb-true, cond-false}
+use Rattle.std.proofs.lemmas.Bool.{true≢false, false≢true, eqb-true, cond-false, cond_both}
 use Rattle.std.proofs.lemmas.List.{get_or-set_other}
 use Rattle.inp_model.specs.declared.event.Event.{Event}
 use Rattle.inp_model.specs.declared.event.TheConstants.{EV_KEY, EV_ABS, EV_SW, EV_LED}
 use Rattle.inp_model.specs.declared.multi_touch.TheConstants.{ABS_MT_SLOT}
 use Rattle.inp_model.specs.declared.step.Step.{Step}
-use Rattle.inp_model.specs.declared.step.Step.TheVariants.{Open, GetKeys, GetSwitches, GetLeds, GetAxis, SyncSlots}
+use Rattle.inp_model.specs.declared.step.Step.TheVariants.{GetKeys, GetSwitches, GetLeds, GetAxis, SyncSlots}
 use Rattle.inp_model.specs.declared.reply.Reply.{Reply}
-use Rattle.inp_model.specs.declared.reply.Reply.TheVariants.{Axis, Cells}
+use Rattle.inp_model.specs.declared.reply.Reply.TheVariants.{Axis}
 use Rattle.inp_model.specs.Description.{Description, has_kind, has_code, supports, is_multi_touch_code}
 use Rattle.inp_model.specs.Event.{is_repeat}
-use Rattle.inp_model.specs.Raw.{raw}
-use Rattle.inp_model.specs.Reply.{Answer, IsAnswer, answer_by, accepted, refused, is_accepted}
+use Rattle.inp_model.specs.Reply.{Answer, IsAnswer}
 use Rattle.inp_recon.specs.declared.view.View.{View}
-use Rattle.inp_recon.specs.View.{key_count, code_count, AreCells, HasCells, with_value_at, with_flag, axes_after_event, slot_after_event, keys_after_answer, switches_after_answer, leds_after_answer, axes_after_answer, axes_after_reply, slot_after_answer, first_view, view_after_event, view_after_answer}
+use Rattle.inp_recon.specs.View.{key_count, code_count, with_value_at, with_flag, axes_after_event, slot_after_event, keys_after_answer, switches_after_answer, leds_after_answer, axes_after_answer, axes_after_reply, slot_after_answer, first_view, view_after_event, view_after_answer}
 use Rattle.inp_recon.proofs.Sizes.{IsSizedFor-first_view, IsSizedFor-after_event, IsSizedFor-after_answer}
 use Rattle.inp_recon.specs.Synchronised.{has_axis}
 use Rattle.inp_reader.specs.Spare.{IsSpare, is_event_of}
-use Rattle.inp_model.proofs.Refused.{refused-not_accepted}
-use Rattle.inp_reader.proofs.Answering.{length-rows}
+use Rattle.inp_reader.proofs.UnsetSlotAxes.{has_cells}
 
 -- An event of the device
 
@@ -70,11 +68,9 @@ axis-supported d code value is own = by (nat_eq code ABS_MT_SLOT) refl
 
 -- a value that is set elsewhere leaves this one
 value-elsewhere : (axes : List ℤ) (index code : ℕ) (value : ℤ) → (code ≡ index → ⊥) → slice_index_or (with_value_at code_count axes index value) code (pos 0) ≡ slice_index_or axes code (pos 0)
-value-elsewhere axes index code value h = by (nat_lt index code_count)
-  where
-    by : (b : Bool) → slice_index_or (if b then set axes index value else axes) code (pos 0) ≡ slice_index_or axes code (pos 0)
-    by true = get_or-set_other axes index code value (pos 0) h
-    by false = refl
+value-elsewhere axes index code value h =
+    cond_both (nat_lt index code_count) _ _ (λ x. slice_index_or x code (pos 0) ≡ slice_index_or axes code (pos 0))
+    (λ _. get_or-set_other axes index code value (pos 0) h) (λ _. refl)
 
 apart : (d : Description) (code other : ℕ) → has_axis d code ≡ false → has_axis d other ≡ true → code ≡ other → ⊥
 apart d code other h k e = true≢false (sym k ∙ ap (λ (n : ℕ). has_axis d n) (sym e) ∙ h)
@@ -119,19 +115,6 @@ IsWanted d (GetAxis client code) = has_axis d code ≡ true
 IsWanted d (SyncSlots client) = nat_lt 0 d.slots ≡ true
 IsWanted d _ = Unit {0}
 
-no_cells : (reply : Reply) (cells buffer : List ℤ) → is_accepted reply ≡ false → AreCells reply cells buffer
-no_cells (Cells at count slot) cells buffer h = absurd (true≢false h)
-no_cells _ cells buffer h = tt
-
-has-cells-by : (d : Description) (past : List Step) (client : ℕ) (cells : List ℤ) (o : Option Reply) → refused d past (SyncSlots client) ≡ o → length cells ≡ 14 * d.slots → (let given : Answer = answer_by o (accepted d past (SyncSlots client)) in AreCells given.reply cells given.cells)
-has-cells-by d past client cells None h sized = omega (arith, sized, length-rows d (raw d past))
-has-cells-by d past client cells (Some reply) h sized = no_cells reply cells [] (refused-not_accepted d past (SyncSlots client) reply h)
-
-pub has-cells : (d : Description) (past : List Step) (x : Step) (given : Answer) (cells : List ℤ) → IsAnswer d past x given → length cells ≡ 14 * d.slots → HasCells x given.reply cells given.cells
-has-cells d past (SyncSlots client) given cells (inl e) sized = subst (λ (a : Answer). AreCells a.reply cells a.cells) (sym e) (has-cells-by d past client cells (refused d past (SyncSlots client)) refl sized)
-has-cells d past (SyncSlots client) given cells (inr l) sized = let never : SyncSlots client ≡ Open = l.0 in absurd cc
-has-cells d past _ given cells are sized = tt
-
 spare-keys : (d : Description) (x : Step) (reply : Reply) (keys : List Bool) → IsWanted d x → has_kind d EV_KEY ≡ false → keys_after_answer x reply keys ≡ keys
 unfolding IsWanted
 spare-keys d (GetKeys client) reply keys wanted none = absurd (true≢false (sym wanted ∙ none))
@@ -148,11 +131,9 @@ spare-leds d (GetLeds client) reply leds wanted none = absurd (true≢false (sym
 spare-leds d _ reply leds wanted none = refl
 
 axis-after_reply : (axes : List ℤ) (index code : ℕ) (reply : Reply) → (code ≡ index → ⊥) → slice_index_or (axes_after_reply index reply axes) code (pos 0) ≡ slice_index_or axes code (pos 0)
-axis-after_reply axes index code (Axis at info) h = by (is_multi_touch_code index)
-  where
-    by : (b : Bool) → slice_index_or (if b then axes else with_value_at code_count axes index info.value) code (pos 0) ≡ slice_index_or axes code (pos 0)
-    by true = refl
-    by false = value-elsewhere axes index code info.value h
+axis-after_reply axes index code (Axis at info) h =
+    cond_both (is_multi_touch_code index) _ _ (λ x. slice_index_or x code (pos 0) ≡ slice_index_or axes code (pos 0))
+    (λ _. refl) (λ _. value-elsewhere axes index code info.value h)
 axis-after_reply axes index code _ h = refl
 
 spare-axes : (d : Description) (x : Step) (reply : Reply) (axes : List ℤ) (code : ℕ) → IsWanted d x → has_axis d code ≡ false → slice_index_or (axes_after_answer x reply axes) code (pos 0) ≡ slice_index_or axes code (pos 0)
@@ -168,7 +149,7 @@ spare-slot d _ reply slot wanted none = refl
 pub IsSpare-after_answer : (d : Description) (past : List Step) (v : View) (x : Step) (given : Answer) → IsWanted d x → IsAnswer d past x given → IsSpare d v → IsSpare d (view_after_answer v x given.reply given.cells)
 unfolding view_after_answer
 IsSpare-after_answer d past v x given wanted are s = record {
-  sized = IsSizedFor-after_answer d.slots v x given.reply given.cells (has-cells d past x given v.cells are s.sized.cells) s.sized;
+  sized = IsSizedFor-after_answer d.slots v x given.reply given.cells (has_cells d past x given v.cells are s.sized.cells) s.sized;
   keys = λ none. spare-keys d x given.reply v.keys wanted none ∙ s.keys none;
   switches = λ none. spare-switches d x given.reply v.switches wanted none ∙ s.switches none;
   leds = λ none. spare-leds d x given.reply v.leds wanted none ∙ s.leds none;

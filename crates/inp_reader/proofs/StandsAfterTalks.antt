@@ -540,7 +540,7 @@ started-same d past after x result same e h =
     let P : List Step → Type 0 = λ p. IsOpenInStep d p result.1 in
     subst P (sym same) (subst (λ (o : Started × Reading). IsOpenInStep d past o.1) e h)
 
-client-of-queried : (client ring : ℕ) (r : Reading) (asked : Result View Reply) → (after_queries client ring r asked).1.client ≡ client
+pub client-of-queried : (client ring : ℕ) (r : Reading) (asked : Result View Reply) → (after_queries client ring r asked).1.client ≡ client
 client-of-queried client ring r (Ok view) = refl
 client-of-queried client ring r (Err reply) = refl
 

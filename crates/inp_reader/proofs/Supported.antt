@@ -3,7 +3,7 @@ use Rattle.std.proofs.Common.{◌≡◌, inl, inr, ℕ, zero, suc, nat_eq, nat_l
 use Rattle.std.specs.Prelude.{int_lt, is_some, option_to_list, option_map}
 use Rattle.std.specs.Ordering.{int_eq}
 use Rattle.std.specs.List.{All}
-use Rattle.std.proofs.lemmas.Bool.{true≢false, false≢true, eqb-true, and_parts, lt-ltb}
+use Rattle.std.proofs.lemmas.Bool.{true≢false, false≢true, eqb-true, and_parts, lt-ltb, cond_both}
 use Rattle.std.proofs.lemmas.List.Elements.{All-nil, All-cons, All-append, All-map, All-filter, All-take, All-drop, All-head, All-tail}
 use Rattle.inp_model.specs.declared.event.Event.{Event}
 use Rattle.inp_model.specs.declared.event.TheConstants.{EV_SYN, EV_ABS}
@@ -68,11 +68,7 @@ announces-none : (d : Description) (r : List RawItem) (e : Event) → d.slots �
 announces-none d r e h =
     ap (λ (s : ℤ). passes_slot_value d r e && not (int_eq s (announced d r))) (staged-none d r h)
     ∙ ap (λ (s : ℤ). passes_slot_value d r e && not (int_eq (pos 0) s)) (announced-none d r h)
-    ∙ nothing (passes_slot_value d r e)
-  where
-    nothing : (b : Bool) → (b && false) ≡ false
-    nothing true = refl
-    nothing false = refl
+    ∙ elim (passes_slot_value d r e) as (λ b. (b && false) ≡ false) [ true ↦ refl | false ↦ refl ]
 
 has_slots : (d : Description) → (d.slots ≡ 0 → ⊥) → nat_lt 0 d.slots ≡ true
 has_slots d h = some (d.slots) h
@@ -82,11 +78,10 @@ has_slots d h = some (d.slots) h
     some (suc n) k = lt-ltb 0 (suc n) (omega arith)
 
 announcement-of : (d : Description) (r : List RawItem) (e : Event) → All (IsOf d) (announcement d r e)
-announcement-of d r e = by (announces d r e) refl
-  where
-    by : (b : Bool) → announces d r e ≡ b → All (IsOf d) (if b then slot_event (staged d r) ∷ [] else [])
-    by true is = All-cons (IsOf d) (slot_event (staged d r)) [] (has_slots d (λ none. true≢false (sym is ∙ announces-none d r e none))) (All-nil (IsOf d))
-    by false is = All-nil (IsOf d)
+announcement-of d r e =
+    cond_both (announces d r e) _ _ (All (IsOf d))
+    (λ is. All-cons (IsOf d) (slot_event (staged d r)) [] (has_slots d (λ none. true≢false (sym is ∙ announces-none d r e none))) (All-nil (IsOf d)))
+    (λ is. All-nil (IsOf d))
 
 -- What is passed
 

@@ -1,7 +1,6 @@
 -- The synthesised events, index by index.
 use Rattle.std.proofs.Common.{◌≡◌, ℕ, zero, suc, ◌+◌, ◌-◌, ◌<◌, ◌≤◌, ℤ, pos, Bool, true, false, cond, if◌then◌else◌, List, [], ◌∷◌, ◌++◌, length, map, take, drop, refl, sym, ap, ◌∙◌, arith, append-nil, append_assoc, zero-add, ◌||◌, Some, get_or, length-drop, length-append}
-use Rattle.std.specs.List.{slice_get}
-use Rattle.std.specs.List.{range_with_len, filter, list_any}
+use Rattle.std.specs.List.{slice_get, range_with_len, filter, list_any}
 use Rattle.std.proofs.lemmas.List.{map-append, take_more, get_or-drop, take-append-le}
 use Rattle.std.proofs.lemmas.List.Folds.{list_any-append}
 use Rattle.std.proofs.lemmas.Option.{get_or_from_slice_get}
@@ -14,7 +13,7 @@ use Rattle.inp_recon.specs.declared.view.View.{View}
 use Rattle.inp_recon.specs.View.{view_after_events, view_after_event}
 use Rattle.inp_model.specs.declared.event.TheConstants.{EV_SYN, SYN_REPORT}
 use Rattle.inp_reader.specs.Synthesis.{where_below, unless_same, to_slot, in_slots, with_report, lifts, class_changes, cell_changes, slot_changes, synth}
-use Rattle.inp_reader.proofs.Axes.{range-append}
+use Rattle.inp_model.proofs.Injecting.{range-append}
 
 -- One index more
 
@@ -89,9 +88,6 @@ where_below-next test n h = where_below-more n test ∙ ap (λ (b : Bool). where
 pub record IsWalked (f : ℕ → List Event) (test : ℕ → Bool) (n : ℕ) (start : ℤ) (before list : List Event) (current : Event) : Type 0 where
   pub added : list ≡ before ++ in_slots f (where_below n test) start
   pub slot : current ≡ slot_event (last_slot (where_below n test) start)
-
-pub IsWalked-none : (f : ℕ → List Event) (test : ℕ → Bool) (start : ℤ) (before : List Event) (current : Event) → current ≡ slot_event start → IsWalked f test 0 start before before current
-IsWalked-none f test start before current h = record { added = sym (append-nil before); slot = h }
 
 pub IsWalked-skip : (f : ℕ → List Event) (test : ℕ → Bool) (n : ℕ) (start : ℤ) (before list : List Event) (current : Event) → test n ≡ false → IsWalked f test n start before list current → IsWalked f test (n + 1) start before list current
 IsWalked-skip f test n start before list current h w = record {

@@ -21,7 +21,7 @@ use Rattle.inp_recon.proofs.Sizes.{IsSizedFor-first_view, IsSizedFor-after_event
 use Rattle.inp_reader.specs.Synthesis.{value_at}
 use Rattle.inp_reader.specs.KeptViews.{IsKeptView}
 use Rattle.inp_model.proofs.Refused.{refused-not_accepted}
-use Rattle.inp_reader.proofs.Answering.{length-rows}
+use Rattle.inp_recon.proofs.ViewSteps.{length-rows}
 
 -- ---- one axis
 
@@ -88,7 +88,7 @@ has_cells_by : (d : Description) (past : List Step) (client : ℕ) (cells : List
 has_cells_by d past client cells None e fits = omega (arith, fits, length-rows d (raw d past))
 has_cells_by d past client cells (Some reply) e fits = refused_cells reply cells [] (refused-not_accepted d past (SyncSlots client) reply e)
 
-has_cells : (d : Description) (past : List Step) (x : Step) (given : Answer) (cells : List ℤ) → IsAnswer d past x given → length cells ≡ 14 * d.slots → HasCells x given.reply cells given.cells
+pub has_cells : (d : Description) (past : List Step) (x : Step) (given : Answer) (cells : List ℤ) → IsAnswer d past x given → length cells ≡ 14 * d.slots → HasCells x given.reply cells given.cells
 has_cells d past (SyncSlots client) given cells (inl e) fits = let P : Answer → Type 0 = λ a. AreCells a.reply cells a.cells in subst P (sym e) (has_cells_by d past client cells (refused d past (SyncSlots client)) refl fits)
 has_cells d past (SyncSlots client) given cells (inr l) fits = let no : SyncSlots client ≡ Open = l.0 in absurd cc
 has_cells d past _ given cells h fits = tt

@@ -1,7 +1,5 @@
 use Rattle.std.proofs.Common.{◌++◌, ◌∙◌, ap, List}
 use Rattle.inp_reader.specs.declared.call_made.CallMade.{CallMade}
-use Rattle.inp_reader.specs.declared.next.Next.{Next}
-use Rattle.inp_reader.specs.Reading.{Reading}
 use Rattle.inp_reader.proofs.TalkResults.{next-kept}
 use Rattle.inp_joy.proofs.ReaderCalls.{calls-next}
 use Rattle.inp_joy.proofs.joy_state.JoyState.next.Goals as goal

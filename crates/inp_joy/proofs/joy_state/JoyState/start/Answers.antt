@@ -1,8 +1,6 @@
 use Rattle.std.proofs.Common.{◌≡◌, ◌≤◌, refl, List, [], ◌++◌, ◌∙◌, sym, ap, subst}
 use Rattle.inp_model.specs.Description.{Description}
 use Rattle.inp_reader.specs.declared.call_made.CallMade.{CallMade}
-use Rattle.inp_reader.specs.declared.started.Started.{Started}
-use Rattle.inp_reader.specs.Reading.{Reading}
 use Rattle.inp_reader.specs.Says.{Says}
 use Rattle.inp_reader.proofs.TalkResults.{start-kept}
 use Rattle.inp_joy.specs.declared.joy_state.JoyState.{JoyState}
