@@ -7,8 +7,8 @@
 //! [`Shared::close`] gives the value back once all passes were joined into one.
 //!
 //! It stands on the toolchain's `atomic_table`: one word says whether the turn is taken, and one slot holds the value while
-//! it is not. A try for the turn is one compare-exchange; a try that finds the turn taken yields the processor, and comes
-//! again. Nothing but [`Shared::new`] takes memory.
+//! it is not. A try for the turn is one compare-exchange. After a try that finds the turn taken the thread rests, longer each
+//! time up to a bound, and tries again. Nothing but [`Shared::new`] takes memory.
 //!
 //! Its contract: a pass is seen as a [`PassView`] (`view_of` in `specs/Pass.antt`), and each call says exactly what it leaves of
 //! it, by the definition of `specs/PassView.antt` that is named after the call (`view_after_take`, `view_after_join`).

@@ -15,6 +15,12 @@ use std::snapshot::Snapshot;
 use std::sync::Wait;
 use std::thread::yield_now;
 
+/// How often a thread yields the processor between two tries for the turn, at most (this project's choice).
+///
+/// A thread that tries again and again takes the cache line of the turn from the thread that has it, and costs it more than
+/// the wait gains. So a rest grows from one yield to this many.
+const MOST_RESTS: u32 = 64;
+
 /// A kept value that several passes use, one at a time. Threads share it by reference.
 ///
 /// A contract sees the value as it came in (`start_of` in `specs/Shared.antt`), which passes are its own (`IsPassOf`), and
@@ -76,8 +82,9 @@ impl<S: Kept> Shared<S> {
     /// Waits for the turn, and takes the value. It has the pass's base, and its entries begin with all that the pass had
     /// seen. The pass has then seen all of them, and its turns have risen by one.
     ///
-    /// A try is one compare-exchange. A try that finds the turn taken yields the processor, and another one follows. Nothing
-    /// says that one of them succeeds. The value moves out, and nothing is copied.
+    /// A try is one compare-exchange. After a try that finds the turn taken the thread rests, twice as long after each, up
+    /// to [`MOST_RESTS`] yields of the processor; then another try follows. Nothing says that one of them succeeds. The
+    /// value moves out, and nothing is copied.
     ///
     /// The pass must be one of this value, and have no turn yet: it would wait for itself.
     pub fn take<R: Wait>(&self, rt: &R, pass: &mut Pass<S>) -> Held<S>
@@ -90,11 +97,12 @@ impl<S: Kept> Shared<S> {
         ensures view { let found = S.entries result.state in
             view_of pass.new ≡ view_after_take (view_of pass.old) found }
     {
+        let mut rests = 1;
         for _ in rt.forever() {
             if let Some(state) = self.try_take(pass) {
                 return Held { state };
             }
-            yield_now();
+            rests = rest(rests);
         }
         unreachable!()
     }
@@ -191,4 +199,12 @@ impl<S: Kept> Shared<S> {
         closed.free();
         slot
     }
+}
+
+// Yields the processor so often, and says how often the next rest does: twice as often, up to `MOST_RESTS`.
+fn rest(rests: u32) -> u32 {
+    for _ in 0..rests {
+        yield_now();
+    }
+    if rests < MOST_RESTS { 2 * rests } else { rests }
 }
