@@ -151,6 +151,71 @@ def unindented(code):
     return "\n".join(line.strip() for line in code.strip("\n").split("\n"))
 
 
+# A row of the definitions: its name, the word or how many words stand before, for whom, and what its words are.
+TERM = r"(\((?:[^()]|\([^()]*\))*\)|\[\]|\w+)\s"
+COMMAND_ROW = re.compile(rf'^command_row stream role (\w+) =\s+verb_line \(codes "(\w+)"\) (\w+) {TERM}', re.M)
+LINE_ROW = re.compile(rf"^line_row (\w+) =\s+item_line \d {TERM}", re.M)
+KEYWORD = re.compile(r'\(codes "(\w+)", (\w+)\)')
+FIELDS = re.compile(r"^(\w+) = (.* ∷ \[\])$", re.M)
+GROUPS = {
+    "Sources": "source",
+    "Openers": "client, tap, joy",
+    "Callers": "client, tap",
+    "Taps": "tap",
+    "Clients": "client",
+    "Owners": "owner",
+}
+# A command that a page has in a row for each role.
+APART = {"Takers": ("tap", "joy")}
+FORMS = {
+    "any_moment": "MOMENT",
+    "Kind": "TYPE",
+    "Code": "CODE",
+    "CodeOf": "CODE",
+    "Signed": "SIGNED",
+    "count": "NUMBER",
+    "Number": "NUMBER",
+    "Positive": "NUMBER",
+    "Bits": "NUMBER",
+    "Clock": "CLOCK",
+    "Name": "NAME",
+    "File": "FILE",
+}
+# Lines that a page writes with the words that a field can have.
+WRITTEN = {"clock OtherClock NUMBER": {"clock realtime NUMBER", "clock boottime NUMBER"}}
+
+
+def forms(term, lists):
+    """The words of a line as a page has them, of the fields of its row."""
+    term = lists.get(term, term.strip("()"))
+    names = [part.strip().replace("field.", "").split(" ")[0] for part in term.split("∷")]
+    return [FORMS.get(name, name) for name in names if name != "[]"]
+
+
+def command_rows(verbs, fields):
+    """The commands of the definitions, as a page has them, each with the actors that have it."""
+    lists = dict(FIELDS.findall(fields) + FIELDS.findall(verbs))
+    for _, word, group, term in COMMAND_ROW.findall(verbs):
+        for role in APART.get(group, (GROUPS.get(group),)):
+            yield " ".join([word, *forms(term, lists)]), role
+
+
+def line_rows(lines, keywords, fields):
+    """The lines of the definitions that are no actions, as a page has them."""
+    lists, named, kinds = dict(FIELDS.findall(fields)), *map(KEYWORD.findall, keywords.split("filter_rows =", 1))
+    words = {key: word for word, key in named} | {key: f"filter {word}" for word, key in kinds}
+    for key, term in LINE_ROW.findall(lines):
+        if "Never" not in term and "Version" not in term:
+            line = " ".join([words[key], *forms(term, lists)])
+            yield from WRITTEN.get(line, {line})
+
+
+def table(page, heading):
+    """The rows of a table of a page, each as its cells, by the heading of its first column."""
+    rows = page.split(f"\n| {heading} |", 1)[1].split("\n\n", 1)[0].split("\n")[2:]
+    return [[cell.strip() for cell in row.strip("|").split(" | ")] for row in rows]
+
+
 def anchor(name):
     """How a link within a page names a section."""
     return re.sub(r"[^a-z0-9 -]", "", name.lower()).replace(" ", "-")
@@ -319,3 +384,36 @@ class Callers(unittest.TestCase):
     def test_what_it_finds_in_a_page(self):
         page = "A caller. From\n`a.rt`, `f`:\n\n```rust\nfn f() {\n    g();\n    // ..\n}\n\nfn g() {}\n```\n"
         self.assertEqual([("a.rt", "fn f() {\ng();"), ("a.rt", "}"), ("a.rt", "fn g() {}")], list(quoted(page)))
+
+
+class Tables(unittest.TestCase):
+    def setUp(self):
+        specs = TOP / "crates" / "inp_record" / "specs"
+        self.read = {name: (specs / f"{name}.antt").read_text() for name in ("Verb", "Line", "Keyword", "Field")}
+        self.page = (TOP / "docs" / "FORMATS.md").read_text()
+
+    def test_the_commands_of_the_page_are_the_rows_of_the_definition(self):
+        rows = set(command_rows(self.read["Verb"], self.read["Field"]))
+        said = {(command, of) for commands, of, *_ in table(self.page, "Command") for command in re.findall("`([^`]+)`", commands)}
+        self.assertEqual(said, rows)
+        self.assertEqual(30, len(rows))
+
+    def test_the_lines_of_the_page_are_the_rows_of_the_definition(self):
+        rows = set(line_rows(self.read["Line"], self.read["Keyword"], self.read["Field"]))
+        said = {line for lines, *_ in table(self.page, "Line") for line in re.findall("`([^`]+)`", lines)}
+        self.assertEqual(said, rows | {"do NAME .."})
+        self.assertEqual(19, len(rows))
+
+    def test_what_it_finds_of_rows(self):
+        verbs = '''event_fields = field.any_moment ∷ field.Kind ∷ []
+command_row stream role Event = verb_line (codes "event") Sources event_fields commands.Event
+command_row stream role Read =
+    verb_line (codes "read") Takers (field.Number (count_max role) ∷ []) commands.Read
+command_row stream role Open = verb_line (codes "open") Openers [] commands.Open
+'''
+        found = [("event MOMENT TYPE", "source"), ("read NUMBER", "tap"), ("read NUMBER", "joy"), ("open", "client, tap, joy")]
+        self.assertEqual(found, list(command_rows(verbs, "")))
+        keywords = '(codes "hint", Hint) ∷ []\nfilter_rows =\n    (codes "eat", Eat) ∷ []'
+        lines = "line_row Hint = item_line 1 (field.count ∷ []) items.Hint\nline_row Eat = item_line 2 (field.Kind ∷ []) (λ k. k)\n"
+        self.assertEqual(["hint NUMBER", "filter eat TYPE"], list(line_rows(lines, keywords, "")))
+        self.assertEqual([["`a`", "b"]], table("\n| A | B |\n|---|---|\n| `a` | b |\n\nC", "A"))

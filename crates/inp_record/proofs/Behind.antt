@@ -5,14 +5,14 @@ use Rattle.inp_record.specs.declared.line_fault.LineFault.{LineFault}
 use Rattle.inp_record.specs.declared.line_fault.LineFault.TheVariants as line
 use Rattle.inp_record.specs.declared.context.Context.{Context}
 use Rattle.inp_record.specs.declared.item.Item.{Item}
-use Rattle.inp_record.specs.Past.{Past, latest_description, context_of}
+use Rattle.inp_record.specs.Past.{Past, context_of}
 use Rattle.inp_record.specs.Meaning.{is_later_command, is_twice, is_too_many, has_too_many_slots, builder_refusal, unless_refused, checked, item_of_words, behind, behind_words, IsLineEntered, IsBehind}
 
 -- a line whose command its version has, that is said once, is not one too many and gives no more slots than there may be
 checked_once : (c : Context) (means : Result Item Cause) (item : Item) → means ≡ Ok item → is_later_command c item ≡ false → is_twice c item ≡ false → is_too_many c item ≡ false → has_too_many_slots c item ≡ false → checked c means ≡ unless_refused (builder_refusal c.builder item) item
 checked_once c means item e l t m w = rw (e, l, t, m, w) refl
 
-entered : (past : Past) (item : Item) (means : Result Item Cause) (result : Result (Unit {0}) LineFault) (now : Context) → means ≡ unless_refused (builder_refusal (latest_description past) item) item → IsLineEntered result past item now → IsBehind result (behind past means) now
+entered : (past : Past) (item : Item) (means : Result Item Cause) (result : Result (Unit {0}) LineFault) (now : Context) → means ≡ unless_refused (builder_refusal (context_of past).builder item) item → IsLineEntered result past item now → IsBehind result (behind past means) now
 entered past item means (Ok done) now e h = (item ∷ past, rw (e, h.0) refl, h.1)
 entered past item means (Err (line.Refused cause)) now e h = rw (e, h) refl
 entered past item means (Err line.NoMemory) now e h = tt

@@ -4,13 +4,13 @@ use Rattle.std.specs.List.{list_all, slice_split}
 use Rattle.std.specs.Str.Lines.{strip_carriage_return}
 use Rattle.std.proofs.lemmas.Bool.Decides.{nat_tests}
 use Rattle.std.proofs.lemmas.List.Folds.{list_all-append}
-use Rattle.std.proofs.lemmas.Bool.{and_parts}
+use Rattle.std.proofs.lemmas.Bool.{and_parts, and_from}
 use Rattle.inp_canon.specs.Words.{Words, further_text, line_text, lines_text}
 use Rattle.inp_words.specs.Line.{lines_of as text_lines, words_of, is_line_feed, is_blank, is_comment, is_text, is_text_byte, is_word}
 use Rattle.inp_record.specs.Past.{Past}
 use Rattle.inp_record.specs.Meaning.{behind_words, behind_line}
 use Rattle.inp_record.proofs.Sayable.{is_visible}
-use Rattle.inp_record.proofs.Texts.{together}
+use Rattle.inp_record.proofs.Texts.{all_weaker}
 
 -- not empty, and each byte visible
 abbrev pub is_plain : List ℕ → Bool
@@ -62,11 +62,10 @@ printed_visible : (b : ℕ) → is_visible b ≡ true → is_printed b ≡ true
 printed_visible b h = grind (arith, nat_tests)
 
 all_printed : (w : List ℕ) → list_all is_visible w ≡ true → list_all is_printed w ≡ true
-all_printed [] h = refl
-all_printed (b ∷ w) h = together (is_printed b) (list_all is_printed w) (printed_visible b (and_parts _ _ h).0) (all_printed w (and_parts _ _ h).1)
+all_printed w h = all_weaker is_visible is_printed printed_visible w h
 
 append_printed : (v w : List ℕ) → list_all is_printed v ≡ true → list_all is_printed w ≡ true → list_all is_printed (v ++ w) ≡ true
-append_printed v w h k = list_all-append is_printed v w ∙ together (list_all is_printed v) (list_all is_printed w) h k
+append_printed v w h k = list_all-append is_printed v w ∙ and_from (list_all is_printed v) (list_all is_printed w) h k
 
 plain_printed : (w : List ℕ) → is_plain w ≡ true → list_all is_printed w ≡ true
 plain_printed w h = all_printed w (and_parts (is_word w) (list_all is_visible w) h).1
@@ -151,8 +150,7 @@ printed_text_byte : (b : ℕ) → is_printed b ≡ true → is_text_byte b ≡ t
 printed_text_byte b h = grind (arith, nat_tests)
 
 printed_text : (t : List ℕ) → list_all is_printed t ≡ true → is_text t ≡ true
-printed_text [] h = refl
-printed_text (b ∷ t) h = together (is_text_byte b) (is_text t) (printed_text_byte b (and_parts _ _ h).0) (printed_text t (and_parts _ _ h).1)
+printed_text t h = all_weaker is_printed is_text_byte printed_text_byte t h
 
 -- a line of plain words means what its words mean
 pub line_read : (past : Past) (ws : Words) → IsPlainLine ws → behind_line past (line_of ws) ≡ behind_words past ws

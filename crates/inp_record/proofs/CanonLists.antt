@@ -1,10 +1,10 @@
 -- The canonical items of a record, and how they grow with its lists.
-use Rattle.std.proofs.Common.{◌≡◌, ◌<◌, ◌≤◌, ◌+◌, ℕ, suc, Bool, true, false, if◌then◌else◌, nat_eq, List, [], ◌∷◌, ◌++◌, length, map, reverse, Some, refl, sym, ap, ◌∙◌, arith, append_assoc, append-nil}
+use Rattle.std.proofs.Common.{◌≡◌, ◌<◌, ◌≤◌, ◌+◌, ℕ, suc, Bool, true, false, if◌then◌else◌, nat_eq, List, [], ◌∷◌, ◌++◌, length, map, Some, refl, sym, ap, ◌∙◌, arith, append_assoc, append-nil}
 use Rattle.std.specs.Prelude.{slice_get, flat_map}
 use Rattle.std.specs.List.{enumerate_from}
 use Rattle.std.proofs.lemmas.Bool.{ne_eqb, eq-eqb}
-use Rattle.std.proofs.lemmas.Grind.{flat_map-append, reverse_onto}
-use Rattle.std.proofs.lemmas.List.{reverse-append, map-append}
+use Rattle.std.proofs.lemmas.Grind.{flat_map-append}
+use Rattle.std.proofs.lemmas.List.{map-append}
 use Rattle.inp_actors.specs.declared.actor_text.ActorText.{ActorText}
 use Rattle.inp_actors.specs.declared.device_text.DeviceText.{DeviceText}
 use Rattle.inp_actors.specs.declared.line.Line.{Line}
@@ -103,14 +103,3 @@ pub all_action : (version : ℕ) (actors : List ActorText) (devices : List Devic
 all_action version actors devices lines l =
     ap (λ (x : List Item). head_items version actors devices ++ x) (map-append action_item_of lines (l ∷ []))
     ∙ sym (append_assoc (head_items version actors devices) (map action_item_of lines) (action_item_of l ∷ []))
-
--- the past behind items, the newest first
-
-pub past_of_more : {X : Type 0} (xs : List X) (y : X) (ys past : List X) → reverse (xs ++ y ∷ ys) ++ past ≡ reverse ys ++ y ∷ (reverse xs ++ past)
-past_of_more xs y ys past =
-    ap (λ l. l ++ past) (reverse-append xs (y ∷ ys) ∙ ap (λ l. l ++ reverse xs) (reverse_onto ys y []))
-    ∙ append_assoc (reverse ys ++ y ∷ []) (reverse xs) past
-    ∙ append_assoc (reverse ys) (y ∷ []) (reverse xs ++ past)
-
-pub past_of_two : {X : Type 0} (xs ys past : List X) → reverse (xs ++ ys) ++ past ≡ reverse ys ++ (reverse xs ++ past)
-past_of_two xs ys past = ap (λ l. l ++ past) (reverse-append xs ys) ∙ append_assoc (reverse ys) (reverse xs) past

@@ -12,6 +12,7 @@ use Rattle.inp_codes.specs.KindNames.{kind_name, kind_of}
 use Rattle.inp_codes.specs.CodeNames.{name_of, code_of}
 use Rattle.inp_codes.proofs.LawLemmas.{kind_name-iff_kind_of, is_name_word-kind_name, name_of-iff_code_of, is_name_word-name_of}
 use Rattle.inp_texts.specs.Texts.{kind_text, code_text, bits_text, clock_text}
+use Rattle.inp_record.proofs.Texts.{all_weaker}
 use Rattle.inp_actors.specs.Name.{is_name, is_name_byte}
 use Rattle.inp_words.specs.Line.{is_word}
 use Rattle.inp_words.specs.Number.{digit_of, is_digit, value_of, is_hexadecimal, numeral, number, signed_number}
@@ -154,15 +155,11 @@ upper_visible b h = grind (arith, nat_tests)
 byte_visible : (b : ℕ) → is_word_byte b ≡ true → is_visible b ≡ true
 byte_visible b h = grind (arith, nat_tests)
 
-bytes_visible : (w : List ℕ) → list_all is_word_byte w ≡ true → list_all is_visible w ≡ true
-bytes_visible [] h = refl
-bytes_visible (b ∷ w) h = let g = and_parts (is_word_byte b) (list_all is_word_byte w) h in rw (byte_visible b g.0, bytes_visible w g.1) refl
-
 name_plain : (w : List ℕ) → is_name_word w ≡ true → is_plain w ≡ true
 name_plain [] h = absurd (cc h)
 name_plain (b ∷ w) h =
     let g = and_parts (is_ascii_uppercase b) (list_all is_word_byte w) h in
-    rw (some_word (b ∷ w) (omega arith), upper_visible b g.0, bytes_visible w g.1) refl
+    rw (some_word (b ∷ w) (omega arith), upper_visible b g.0, all_weaker is_word_byte is_visible byte_visible w g.1) refl
 
 -- no number is a name
 digit_no_name : (c : ℕ) → digit_value c < 10 → is_ascii_uppercase c ≡ false
@@ -253,16 +250,12 @@ name_read w h = rw h refl
 name_byte_visible : (b : ℕ) → is_name_byte b ≡ true → is_visible b ≡ true
 name_byte_visible b h = grind (arith, nat_tests)
 
-name_bytes_visible : (w : List ℕ) → list_all is_name_byte w ≡ true → list_all is_visible w ≡ true
-name_bytes_visible [] h = refl
-name_bytes_visible (b ∷ w) h = let g = and_parts (is_name_byte b) (list_all is_name_byte w) h in rw (name_byte_visible b g.0, name_bytes_visible w g.1) refl
-
 pub is_plain-name : (w : List ℕ) → is_name w ≡ true → is_plain w ≡ true
 is_plain-name w h =
     let g = and_parts (nat_le 1 (length w) && nat_le (length w) 32) (list_all is_name_byte w) h in
     let long = (and_parts (nat_le 1 (length w)) (nat_le (length w) 32) g.0).0 in
     let some : 0 < length w = grind (arith, nat_tests) in
-    rw (some_word w some, name_bytes_visible w g.1) refl
+    rw (some_word w some, all_weaker is_name_byte is_visible name_byte_visible w g.1) refl
 
 pub is_plain-word : (w : List ℕ) → IsPlainWord w → is_plain w ≡ true
 is_plain-word w h = rw (h.some, h.visible) refl

@@ -11,11 +11,13 @@ use Rattle.inp_model.proofs.Descriptions.{get_or-replicate_same}
 use Rattle.inp_caps.specs.Builder.{with_kind, with_code, with_axis}
 use Rattle.inp_canon.specs.Device.{coded_kinds}
 use Rattle.inp_record.specs.declared.item.Item.{Item}
-use Rattle.inp_record.specs.declared.item.Item.TheVariants.{Device, Slots, Kind, Code, Axis}
-use Rattle.inp_record.specs.Past.{Past, latest_description}
+use Rattle.inp_record.specs.declared.item.Item.TheVariants.{Slots, Kind, Code, Axis}
+use Rattle.inp_record.specs.declared.context.Context.{Context}
+use Rattle.inp_record.specs.Past.{after}
 use Rattle.inp_record.specs.Spelling.{number_items, slots_items, kind_items, code_items, axis_items, plain_items}
 use Rattle.inp_record.proofs.MadeDescriptions.{IsMadeDescription, IsGathered, AreKnownKinds, AreKnownCodes, AreKnownAxes, set_again}
-use Rattle.inp_record.proofs.DescriptionItems.{behind_items, behind_items-append}
+use Rattle.inp_record.proofs.DescriptionItems.{undescribed, after_all-append}
+use Rattle.inp_record.proofs.Sayable.{after_all}
 
 -- truths that are written into a list one after another
 
@@ -152,35 +154,33 @@ infos_again kinds axes infos n a enough =
 
 -- what each section of items describes
 
--- what stands behind an item, if there is one
-abbrev behind_if : Bool → Item → Past → Past
-behind_if true i past = i ∷ past
-behind_if false i past = past
+-- what is behind an item, if there is one
+abbrev after_if : Bool → Item → Context → Context
+after_if true i c = after i c
+after_if false i c = c
 
-one_behind : (b : Bool) (i : Item) (more : List Item) (past : Past) → behind_items ((if b then i ∷ [] else []) ++ more) past ≡ behind_items more (behind_if b i past)
-one_behind true i more past = refl
-one_behind false i more past = refl
+one_after : (b : Bool) (i : Item) (more : List Item) (c : Context) → after_all ((if b then i ∷ [] else []) ++ more) c ≡ after_all more (after_if b i c)
+one_after true i more c = refl
+one_after false i more c = refl
 
-slots_by : (past : Past) (b : Bool) (count : ℕ) → (b ≡ true → (latest_description past).slots ≡ count)
-    → latest_description (behind_items (if b then [] else Slots count ∷ []) past) ≡ record (latest_description past) { slots = count }
-slots_by past true count h = ap (λ (n : ℕ). record (latest_description past) { slots = n }) (h refl)
-slots_by past false count h = refl
+slots_by : (c : Context) (b : Bool) (count : ℕ) → (b ≡ true → c.builder.slots ≡ count) → (after_all (if b then [] else Slots count ∷ []) c).builder ≡ record c.builder { slots = count }
+slots_by c true count h = ap (λ (n : ℕ). record c.builder { slots = n }) (h refl)
+slots_by c false count h = refl
 
-slots_behind : (d : Description) (past : Past) → (latest_description past).slots ≡ 0 → latest_description (behind_items (slots_items d) past) ≡ record (latest_description past) { slots = d.slots }
-slots_behind d past none = slots_by past (nat_eq d.slots 0) d.slots (λ e. none ∙ sym (eqb-true d.slots 0 e))
+slots_after : (d : Description) (c : Context) → c.builder.slots ≡ 0 → (after_all (slots_items d) c).builder ≡ record c.builder { slots = d.slots }
+slots_after d c none = slots_by c (nat_eq d.slots 0) d.slots (λ e. none ∙ sym (eqb-true d.slots 0 e))
 
-kind_if : (b : Bool) (kind : ℕ) (past : Past) → latest_description (behind_if b (Kind kind) past) ≡ record (latest_description past) { kinds = put_if b (latest_description past).kinds kind true }
-kind_if true kind past = refl
-kind_if false kind past = refl
+kind_if : (b : Bool) (kind : ℕ) (c : Context) → (after_if b (Kind kind) c).builder ≡ record c.builder { kinds = put_if b c.builder.kinds kind true }
+kind_if true kind c = refl
+kind_if false kind c = refl
 
-kinds_behind : (d : Description) (from n : ℕ) (past : Past) → latest_description (behind_items (flat_map (kind_items d) (range_with_len from n)) past)
-    ≡ record (latest_description past) { kinds = put_all (has_kind d) (λ k. true) from n (latest_description past).kinds }
+kinds_after : (d : Description) (from n : ℕ) (c : Context) → (after_all (flat_map (kind_items d) (range_with_len from n)) c).builder ≡ record c.builder { kinds = put_all (has_kind d) (λ k. true) from n c.builder.kinds }
 unfolding put_all
-kinds_behind d from zero past = refl
-kinds_behind d from (suc n) past =
-    ap latest_description (one_behind (has_kind d from) (Kind from) (flat_map (kind_items d) (range_with_len (from + 1) n)) past)
-    ∙ kinds_behind d (from + 1) n (behind_if (has_kind d from) (Kind from) past)
-    ∙ ap (λ (e : Description). record e { kinds = put_all (has_kind d) (λ k. true) (from + 1) n e.kinds }) (kind_if (has_kind d from) from past)
+kinds_after d from zero c = refl
+kinds_after d from (suc n) c =
+    ap (λ (x : Context). x.builder) (one_after (has_kind d from) (Kind from) (flat_map (kind_items d) (range_with_len (from + 1) n)) c)
+    ∙ kinds_after d (from + 1) n (after_if (has_kind d from) (Kind from) c)
+    ∙ ap (λ (e : Description). record e { kinds = put_all (has_kind d) (λ k. true) (from + 1) n e.kinds }) (kind_if (has_kind d from) from c)
 
 -- a description with codes of a type
 
@@ -207,20 +207,18 @@ coded_kinds_are d kind test from (suc n) = coded_kinds_are (with_code_if (test f
 kind_kept : (d e : Description) (kind : ℕ) → e.kinds ≡ d.kinds → has_kind d kind ≡ true → with_kind e kind ≡ e
 kind_kept d e kind same there = ap (λ (l : List Bool). record e { kinds = l }) (set_again e.kinds kind (ap (λ (l : List Bool). get_or l kind false) same ∙ there))
 
-code_if : (b : Bool) (kind code : ℕ) (past : Past) → (b ≡ true → with_kind (latest_description past) kind ≡ latest_description past) → latest_description (behind_if b (Code kind code) past) ≡ with_code_if b (latest_description past) kind code
-code_if true kind code past kept = ap (λ (e : Description). with_code e kind code) (kept refl)
-code_if false kind code past kept = refl
+code_if : (b : Bool) (kind code : ℕ) (c : Context) → (b ≡ true → with_kind c.builder kind ≡ c.builder) → (after_if b (Code kind code) c).builder ≡ with_code_if b c.builder kind code
+code_if true kind code c kept = ap (λ (e : Description). with_code e kind code) (kept refl)
+code_if false kind code c kept = refl
 
-codes_behind : (d : Description) (kind from n : ℕ) (past : Past) → (latest_description past).kinds ≡ d.kinds
-    → latest_description (behind_items (flat_map (code_items d kind) (range_with_len from n)) past) ≡ coded (latest_description past) kind (supports d kind) from n
+codes_after : (d : Description) (kind from n : ℕ) (c : Context) → c.builder.kinds ≡ d.kinds → (after_all (flat_map (code_items d kind) (range_with_len from n)) c).builder ≡ coded c.builder kind (supports d kind) from n
 unfolding coded
-codes_behind d kind from zero past same = refl
-codes_behind d kind from (suc n) past same =
+codes_after d kind from zero c same = refl
+codes_after d kind from (suc n) c same =
     let b : Bool = supports d kind from in
-    let here : latest_description (behind_if b (Code kind from) past) ≡ with_code_if b (latest_description past) kind from =
-    code_if b kind from past (λ e. kind_kept d (latest_description past) kind same (and_parts (has_kind d kind) _ e).0) in
-    ap latest_description (one_behind b (Code kind from) (flat_map (code_items d kind) (range_with_len (from + 1) n)) past)
-    ∙ codes_behind d kind (from + 1) n (behind_if b (Code kind from) past) (ap (λ (e : Description). e.kinds) here ∙ code_if_kinds b (latest_description past) kind from ∙ same)
+    let here : (after_if b (Code kind from) c).builder ≡ with_code_if b c.builder kind from = code_if b kind from c (λ e. kind_kept d c.builder kind same (and_parts (has_kind d kind) _ e).0) in
+    ap (λ (x : Context). x.builder) (one_after b (Code kind from) (flat_map (code_items d kind) (range_with_len (from + 1) n)) c)
+    ∙ codes_after d kind (from + 1) n (after_if b (Code kind from) c) (ap (λ (e : Description). e.kinds) here ∙ code_if_kinds b c.builder kind from ∙ same)
     ∙ ap (λ (e : Description). coded e kind (supports d kind) (from + 1) n) here
 
 -- the codes of several types
@@ -228,15 +226,14 @@ abbrev coded_each : Description → ℕ → List ℕ → Description → Descrip
 coded_each d n [] e = e
 coded_each d n (kind ∷ kinds) e = coded_each d n kinds (coded e kind (supports d kind) 0 n)
 
-caps_behind : (d : Description) (n : ℕ) (kinds : List ℕ) (past : Past) → (latest_description past).kinds ≡ d.kinds
-    → latest_description (behind_items (flat_map (λ kind. flat_map (code_items d kind) (range_with_len 0 n)) kinds) past) ≡ coded_each d n kinds (latest_description past)
-caps_behind d n [] past same = refl
-caps_behind d n (kind ∷ kinds) past same =
+caps_after : (d : Description) (n : ℕ) (kinds : List ℕ) (c : Context) → c.builder.kinds ≡ d.kinds → (after_all (flat_map (λ kind. flat_map (code_items d kind) (range_with_len 0 n)) kinds) c).builder ≡ coded_each d n kinds c.builder
+caps_after d n [] c same = refl
+caps_after d n (kind ∷ kinds) c same =
     let first : List Item = flat_map (code_items d kind) (range_with_len 0 n) in
     let more : List Item = flat_map (λ k. flat_map (code_items d k) (range_with_len 0 n)) kinds in
-    let here : latest_description (behind_items first past) ≡ coded (latest_description past) kind (supports d kind) 0 n = codes_behind d kind 0 n past same in
-    ap latest_description (behind_items-append first more past)
-    ∙ caps_behind d n kinds (behind_items first past) (ap (λ (e : Description). e.kinds) here ∙ coded_kinds_are (latest_description past) kind (supports d kind) 0 n ∙ same)
+    let here : (after_all first c).builder ≡ coded c.builder kind (supports d kind) 0 n = codes_after d kind 0 n c same in
+    ap (λ (x : Context). x.builder) (after_all-append first more c)
+    ∙ caps_after d n kinds (after_all first c) (ap (λ (e : Description). e.kinds) here ∙ coded_kinds_are c.builder kind (supports d kind) 0 n ∙ same)
     ∙ ap (coded_each d n kinds) here
 
 -- the codes of one type are one list
@@ -244,129 +241,72 @@ caps_behind d n (kind ∷ kinds) past same =
 abbrev put_codes : (ℕ → Bool) → ℕ → ℕ → List Bool → List Bool
 put_codes test from n l = put_all test (λ k. true) from n l
 
-key_if : (b : Bool) (e : Description) (code : ℕ) → with_code_if b e EV_KEY code ≡ record e { keys = put_if b e.keys code true }
-key_if true e code = refl
-key_if false e code = refl
+-- the codes of this type are read and written so
+record IsListOf (kind : ℕ) (get : Description → List Bool) (put : Description → List Bool → Description) : Type 0 where
+  code : (e : Description) (code : ℕ) → with_code e kind code ≡ put e (set (get e) code true)
+  kept : (e : Description) → put e (get e) ≡ e
+  again : (e : Description) (l : List Bool) → get (put e l) ≡ l
+  over : (e : Description) (l m : List Bool) → put (put e l) m ≡ put e m
 
-keys_coded : (e : Description) (test : ℕ → Bool) (from n : ℕ) → coded e EV_KEY test from n ≡ record e { keys = put_codes test from n e.keys }
+coded_list : (kind : ℕ) (get : Description → List Bool) (put : Description → List Bool → Description) → IsListOf kind get put → (e : Description) (test : ℕ → Bool) (from n : ℕ) → coded e kind test from n ≡ put e (put_codes test from n (get e))
 unfolding coded put_all
-keys_coded e test from zero = refl
-keys_coded e test from (suc n) =
-    keys_coded (with_code_if (test from) e EV_KEY from) test (from + 1) n
-    ∙ ap (λ (x : Description). record x { keys = put_codes test (from + 1) n x.keys }) (key_if (test from) e from)
+coded_list kind get put is e test from zero = sym (is.kept e)
+coded_list kind get put is e test from (suc n) = coded_list kind get put is (with_code_if (test from) e kind from) test (from + 1) n ∙ by_test (test from)
+  where
+    by_test : (b : Bool) → put (with_code_if b e kind from) (put_codes test (from + 1) n (get (with_code_if b e kind from))) ≡ put e (put_codes test (from + 1) n (put_if b (get e) from true))
+    by_test true =
+        let l = set (get e) from true in
+        ap (λ (x : Description). put x (put_codes test (from + 1) n (get x))) (is.code e from)
+        ∙ is.over e l (put_codes test (from + 1) n (get (put e l)))
+        ∙ ap (λ (m : List Bool). put e (put_codes test (from + 1) n m)) (is.again e l)
+    by_test false = refl
 
-relative_if : (b : Bool) (e : Description) (code : ℕ) → with_code_if b e EV_REL code ≡ record e { relatives = put_if b e.relatives code true }
-relative_if true e code = refl
-relative_if false e code = refl
+keys_list : IsListOf EV_KEY (λ e. e.keys) (λ e l. record e { keys = l })
+keys_list = record { code = λ e code. refl; kept = λ e. refl; again = λ e l. refl; over = λ e l m. refl }
 
-relatives_coded : (e : Description) (test : ℕ → Bool) (from n : ℕ) → coded e EV_REL test from n ≡ record e { relatives = put_codes test from n e.relatives }
-unfolding coded put_all
-relatives_coded e test from zero = refl
-relatives_coded e test from (suc n) =
-    relatives_coded (with_code_if (test from) e EV_REL from) test (from + 1) n
-    ∙ ap (λ (x : Description). record x { relatives = put_codes test (from + 1) n x.relatives }) (relative_if (test from) e from)
+relatives_list : IsListOf EV_REL (λ e. e.relatives) (λ e l. record e { relatives = l })
+relatives_list = record { code = λ e code. refl; kept = λ e. refl; again = λ e l. refl; over = λ e l m. refl }
 
-misc_if : (b : Bool) (e : Description) (code : ℕ) → with_code_if b e EV_MSC code ≡ record e { miscs = put_if b e.miscs code true }
-misc_if true e code = refl
-misc_if false e code = refl
+miscs_list : IsListOf EV_MSC (λ e. e.miscs) (λ e l. record e { miscs = l })
+miscs_list = record { code = λ e code. refl; kept = λ e. refl; again = λ e l. refl; over = λ e l m. refl }
 
-miscs_coded : (e : Description) (test : ℕ → Bool) (from n : ℕ) → coded e EV_MSC test from n ≡ record e { miscs = put_codes test from n e.miscs }
-unfolding coded put_all
-miscs_coded e test from zero = refl
-miscs_coded e test from (suc n) =
-    miscs_coded (with_code_if (test from) e EV_MSC from) test (from + 1) n
-    ∙ ap (λ (x : Description). record x { miscs = put_codes test (from + 1) n x.miscs }) (misc_if (test from) e from)
+switches_list : IsListOf EV_SW (λ e. e.switches) (λ e l. record e { switches = l })
+switches_list = record { code = λ e code. refl; kept = λ e. refl; again = λ e l. refl; over = λ e l m. refl }
 
-switch_if : (b : Bool) (e : Description) (code : ℕ) → with_code_if b e EV_SW code ≡ record e { switches = put_if b e.switches code true }
-switch_if true e code = refl
-switch_if false e code = refl
+leds_list : IsListOf EV_LED (λ e. e.leds) (λ e l. record e { leds = l })
+leds_list = record { code = λ e code. refl; kept = λ e. refl; again = λ e l. refl; over = λ e l m. refl }
 
-switches_coded : (e : Description) (test : ℕ → Bool) (from n : ℕ) → coded e EV_SW test from n ≡ record e { switches = put_codes test from n e.switches }
-unfolding coded put_all
-switches_coded e test from zero = refl
-switches_coded e test from (suc n) =
-    switches_coded (with_code_if (test from) e EV_SW from) test (from + 1) n
-    ∙ ap (λ (x : Description). record x { switches = put_codes test (from + 1) n x.switches }) (switch_if (test from) e from)
-
-led_if : (b : Bool) (e : Description) (code : ℕ) → with_code_if b e EV_LED code ≡ record e { leds = put_if b e.leds code true }
-led_if true e code = refl
-led_if false e code = refl
-
-leds_coded : (e : Description) (test : ℕ → Bool) (from n : ℕ) → coded e EV_LED test from n ≡ record e { leds = put_codes test from n e.leds }
-unfolding coded put_all
-leds_coded e test from zero = refl
-leds_coded e test from (suc n) =
-    leds_coded (with_code_if (test from) e EV_LED from) test (from + 1) n
-    ∙ ap (λ (x : Description). record x { leds = put_codes test (from + 1) n x.leds }) (led_if (test from) e from)
-
-sound_if : (b : Bool) (e : Description) (code : ℕ) → with_code_if b e EV_SND code ≡ record e { sounds = put_if b e.sounds code true }
-sound_if true e code = refl
-sound_if false e code = refl
-
-sounds_coded : (e : Description) (test : ℕ → Bool) (from n : ℕ) → coded e EV_SND test from n ≡ record e { sounds = put_codes test from n e.sounds }
-unfolding coded put_all
-sounds_coded e test from zero = refl
-sounds_coded e test from (suc n) =
-    sounds_coded (with_code_if (test from) e EV_SND from) test (from + 1) n
-    ∙ ap (λ (x : Description). record x { sounds = put_codes test (from + 1) n x.sounds }) (sound_if (test from) e from)
+sounds_list : IsListOf EV_SND (λ e. e.sounds) (λ e l. record e { sounds = l })
+sounds_list = record { code = λ e code. refl; kept = λ e. refl; again = λ e l. refl; over = λ e l m. refl }
 
 -- the axes
 
-axis_if : (b : Bool) (code : ℕ) (i : AxisInfo) (past : Past) → (b ≡ true → with_kind (latest_description past) EV_ABS ≡ latest_description past)
-    → latest_description (behind_if b (Axis code i) past) ≡ record (latest_description past) { axes = put_if b (latest_description past).axes code true; infos = put_if b (latest_description past).infos code i }
-axis_if true code i past kept = ap (λ (e : Description). with_axis e code i) (kept refl)
-axis_if false code i past kept = refl
+axis_if : (b : Bool) (code : ℕ) (i : AxisInfo) (c : Context) → (b ≡ true → with_kind c.builder EV_ABS ≡ c.builder)
+    → (after_if b (Axis code i) c).builder ≡ record c.builder { axes = put_if b c.builder.axes code true; infos = put_if b c.builder.infos code i }
+axis_if true code i c kept = ap (λ (e : Description). with_axis e code i) (kept refl)
+axis_if false code i c kept = refl
 
-axes_behind : (d : Description) (from n : ℕ) (past : Past) → (latest_description past).kinds ≡ d.kinds
-    → latest_description (behind_items (flat_map (axis_items d) (range_with_len from n)) past)
-    ≡ record (latest_description past) { axes = put_codes (supports d EV_ABS) from n (latest_description past).axes; infos = put_all (supports d EV_ABS) (info d) from n (latest_description past).infos }
+axes_after : (d : Description) (from n : ℕ) (c : Context) → c.builder.kinds ≡ d.kinds
+    → (after_all (flat_map (axis_items d) (range_with_len from n)) c).builder ≡ record c.builder { axes = put_codes (supports d EV_ABS) from n c.builder.axes; infos = put_all (supports d EV_ABS) (info d) from n c.builder.infos }
 unfolding put_all
-axes_behind d from zero past same = refl
-axes_behind d from (suc n) past same =
+axes_after d from zero c same = refl
+axes_after d from (suc n) c same =
     let b : Bool = supports d EV_ABS from in
-    let here : latest_description (behind_if b (Axis from (info d from)) past) ≡ record (latest_description past) { axes = put_if b (latest_description past).axes from true; infos = put_if b (latest_description past).infos from (info d from) } =
-    axis_if b from (info d from) past (λ e. kind_kept d (latest_description past) EV_ABS same (and_parts (has_kind d EV_ABS) _ e).0) in
-    ap latest_description (one_behind b (Axis from (info d from)) (flat_map (axis_items d) (range_with_len (from + 1) n)) past)
-    ∙ axes_behind d (from + 1) n (behind_if b (Axis from (info d from)) past) (ap (λ (e : Description). e.kinds) here ∙ same)
+    let here : (after_if b (Axis from (info d from)) c).builder ≡ record c.builder { axes = put_if b c.builder.axes from true; infos = put_if b c.builder.infos from (info d from) } =
+    axis_if b from (info d from) c (λ e. kind_kept d c.builder EV_ABS same (and_parts (has_kind d EV_ABS) _ e).0) in
+    ap (λ (x : Context). x.builder) (one_after b (Axis from (info d from)) (flat_map (axis_items d) (range_with_len (from + 1) n)) c)
+    ∙ axes_after d (from + 1) n (after_if b (Axis from (info d from)) c) (ap (λ (e : Description). e.kinds) here ∙ same)
     ∙ ap (λ (e : Description). record e { axes = put_codes (supports d EV_ABS) (from + 1) n e.axes; infos = put_all (supports d EV_ABS) (info d) (from + 1) n e.infos }) here
 
--- all codes but the axes
-with_lists : Description → (keys relatives miscs switches leds sounds : List Bool) → Description
-with_lists e keys relatives miscs switches leds sounds = record e { keys = keys; relatives = relatives; miscs = miscs; switches = switches; leds = leds; sounds = sounds }
-
-caps_coded : (d : Description) (n : ℕ) (e : Description) → coded_each d n coded_kinds e
-    ≡ with_lists e (put_codes (supports d EV_KEY) 0 n e.keys) (put_codes (supports d EV_REL) 0 n e.relatives) (put_codes (supports d EV_MSC) 0 n e.miscs) (put_codes (supports d EV_SW) 0 n e.switches) (put_codes (supports d EV_LED) 0 n e.leds) (put_codes (supports d EV_SND) 0 n e.sounds)
-unfolding with_lists
-caps_coded d n e =
-    let e1 : Description = record e { keys = put_codes (supports d EV_KEY) 0 n e.keys } in
-    let e2 : Description = record e1 { relatives = put_codes (supports d EV_REL) 0 n e.relatives } in
-    let e3 : Description = record e2 { miscs = put_codes (supports d EV_MSC) 0 n e.miscs } in
-    let e4 : Description = record e3 { switches = put_codes (supports d EV_SW) 0 n e.switches } in
-    let e5 : Description = record e4 { leds = put_codes (supports d EV_LED) 0 n e.leds } in
-    ap (coded_each d n (EV_REL ∷ EV_MSC ∷ EV_SW ∷ EV_LED ∷ EV_SND ∷ [])) (keys_coded e (supports d EV_KEY) 0 n)
-    ∙ ap (coded_each d n (EV_MSC ∷ EV_SW ∷ EV_LED ∷ EV_SND ∷ [])) (relatives_coded e1 (supports d EV_REL) 0 n)
-    ∙ ap (coded_each d n (EV_SW ∷ EV_LED ∷ EV_SND ∷ [])) (miscs_coded e2 (supports d EV_MSC) 0 n)
-    ∙ ap (coded_each d n (EV_LED ∷ EV_SND ∷ [])) (switches_coded e3 (supports d EV_SW) 0 n)
-    ∙ ap (coded_each d n (EV_SND ∷ [])) (leds_coded e4 (supports d EV_LED) 0 n)
-    ∙ sounds_coded e5 (supports d EV_SND) 0 n
-
-with_lists_again : (d e : Description) (keys relatives miscs switches leds sounds : List Bool) → keys ≡ d.keys → relatives ≡ d.relatives → miscs ≡ d.miscs → switches ≡ d.switches → leds ≡ d.leds → sounds ≡ d.sounds
-    → with_lists e keys relatives miscs switches leds sounds ≡ with_lists e d.keys d.relatives d.miscs d.switches d.leds d.sounds
-with_lists_again d e keys relatives miscs switches leds sounds p q r s t u = λ i. with_lists e (p i) (q i) (r i) (s i) (t i) (u i)
-
 -- from the device line on: the numbers, the slots, the types, the codes, the axes
+
 numbers_of : Description → Description
 numbers_of d = record syn_alone { hint = d.hint; log_limit = d.log_limit; realtime = d.realtime; boottime = d.boottime; slots = d.slots }
 
-numbers_behind : (d : Description) (requested : Bool) (name : List ℕ) (past : Past) → latest_description (behind_items (slots_items d) (behind_items (number_items d) (Device requested name ∷ past))) ≡ numbers_of d
+types_after : (d : Description) (c : Context) → AreKnownKinds d.kinds → c.builder ≡ numbers_of d → (after_all (flat_map (kind_items d) (range_with_len 1 EV_MAX)) c).builder ≡ record (numbers_of d) { kinds = d.kinds }
 unfolding numbers_of
-numbers_behind d requested name past = slots_behind d (behind_items (number_items d) (Device requested name ∷ past)) refl
-
-types_behind : (d : Description) (past : Past) → AreKnownKinds d.kinds → latest_description past ≡ numbers_of d
-    → latest_description (behind_items (flat_map (kind_items d) (range_with_len 1 EV_MAX)) past) ≡ record (numbers_of d) { kinds = d.kinds }
-unfolding numbers_of
-types_behind d past known before =
-    kinds_behind d 1 EV_MAX past
+types_after d c known before =
+    kinds_after d 1 EV_MAX c
     ∙ ap (λ (e : Description). record e { kinds = put_all (has_kind d) (λ k. true) 1 EV_MAX e.kinds }) before
     ∙ ap (λ (l : List Bool). record (numbers_of d) { kinds = l }) (kinds_again d.kinds known)
 
@@ -374,52 +314,55 @@ types_behind d past known before =
 without_axes : Description → Description
 without_axes d = record d { axes = replicate 64 false; infos = replicate 64 no_info; filters = [] }
 
-all_caps_behind : (d : Description) (n : ℕ) (past : Past) → IsGathered d → 768 ≤ n → latest_description past ≡ record (numbers_of d) { kinds = d.kinds }
-    → latest_description (behind_items (flat_map (λ kind. flat_map (code_items d kind) (range_with_len 0 n)) coded_kinds) past)
-    ≡ without_axes d
-unfolding numbers_of with_lists without_axes
-all_caps_behind d n past g enough before =
-    let e : Description = record (numbers_of d) { kinds = d.kinds } in
+all_caps_after : (d : Description) (n : ℕ) (c : Context) → IsGathered d → 768 ≤ n → c.builder ≡ record (numbers_of d) { kinds = d.kinds } → (after_all (flat_map (λ kind. flat_map (code_items d kind) (range_with_len 0 n)) coded_kinds) c).builder ≡ without_axes d
+unfolding numbers_of without_axes
+all_caps_after d n c g enough before =
+    let e0 : Description = record (numbers_of d) { kinds = d.kinds } in
+    let e1 : Description = record e0 { keys = d.keys } in
+    let e2 : Description = record e1 { relatives = d.relatives } in
+    let e3 : Description = record e2 { miscs = d.miscs } in
+    let e4 : Description = record e3 { switches = d.switches } in
+    let e5 : Description = record e4 { leds = d.leds } in
     let l = g.lists in
-    caps_behind d n coded_kinds past (ap (λ (x : Description). x.kinds) before)
+    caps_after d n coded_kinds c (ap (λ (x : Description). x.kinds) before)
     ∙ ap (coded_each d n coded_kinds) before
-    ∙ caps_coded d n e
-    ∙ with_lists_again d e (put_codes (supports d EV_KEY) 0 n e.keys) (put_codes (supports d EV_REL) 0 n e.relatives) (put_codes (supports d EV_MSC) 0 n e.miscs) (put_codes (supports d EV_SW) 0 n e.switches) (put_codes (supports d EV_LED) 0 n e.leds) (put_codes (supports d EV_SND) 0 n e.sounds)
-    (codes_again d.kinds EV_KEY 768 n d.keys l.keys enough)
-    (codes_again d.kinds EV_REL 64 n d.relatives l.relatives (omega arith))
-    (codes_again d.kinds EV_MSC 64 n d.miscs l.miscs (omega arith))
-    (codes_again d.kinds EV_SW 64 n d.switches l.switches (omega arith))
-    (codes_again d.kinds EV_LED 64 n d.leds l.leds (omega arith))
-    (codes_again d.kinds EV_SND 64 n d.sounds l.sounds (omega arith))
+    ∙ ap (coded_each d n (EV_REL ∷ EV_MSC ∷ EV_SW ∷ EV_LED ∷ EV_SND ∷ [])) (coded_list EV_KEY _ _ keys_list e0 (supports d EV_KEY) 0 n ∙ ap (λ (m : List Bool). record e0 { keys = m }) (codes_again d.kinds EV_KEY 768 n d.keys l.keys enough))
+    ∙ ap (coded_each d n (EV_MSC ∷ EV_SW ∷ EV_LED ∷ EV_SND ∷ [])) (coded_list EV_REL _ _ relatives_list e1 (supports d EV_REL) 0 n ∙ ap (λ (m : List Bool). record e1 { relatives = m }) (codes_again d.kinds EV_REL 64 n d.relatives l.relatives (omega arith)))
+    ∙ ap (coded_each d n (EV_SW ∷ EV_LED ∷ EV_SND ∷ [])) (coded_list EV_MSC _ _ miscs_list e2 (supports d EV_MSC) 0 n ∙ ap (λ (m : List Bool). record e2 { miscs = m }) (codes_again d.kinds EV_MSC 64 n d.miscs l.miscs (omega arith)))
+    ∙ ap (coded_each d n (EV_LED ∷ EV_SND ∷ [])) (coded_list EV_SW _ _ switches_list e3 (supports d EV_SW) 0 n ∙ ap (λ (m : List Bool). record e3 { switches = m }) (codes_again d.kinds EV_SW 64 n d.switches l.switches (omega arith)))
+    ∙ ap (coded_each d n (EV_SND ∷ [])) (coded_list EV_LED _ _ leds_list e4 (supports d EV_LED) 0 n ∙ ap (λ (m : List Bool). record e4 { leds = m }) (codes_again d.kinds EV_LED 64 n d.leds l.leds (omega arith)))
+    ∙ coded_list EV_SND _ _ sounds_list e5 (supports d EV_SND) 0 n
+    ∙ ap (λ (m : List Bool). record e5 { sounds = m }) (codes_again d.kinds EV_SND 64 n d.sounds l.sounds (omega arith))
 
-all_axes_behind : (d : Description) (n : ℕ) (past : Past) → IsGathered d → 64 ≤ n → latest_description past ≡ without_axes d → latest_description (behind_items (flat_map (axis_items d) (range_with_len 0 n)) past) ≡ record d { filters = [] }
+all_axes_after : (d : Description) (n : ℕ) (c : Context) → IsGathered d → 64 ≤ n → c.builder ≡ without_axes d → (after_all (flat_map (axis_items d) (range_with_len 0 n)) c).builder ≡ record d { filters = [] }
 unfolding without_axes
-all_axes_behind d n past g enough before =
+all_axes_after d n c g enough before =
     let axes = axes_again d.kinds d.axes d.infos n g.axes enough in
     let infos = infos_again d.kinds d.axes d.infos n g.axes enough in
-    axes_behind d 0 n past (ap (λ (x : Description). x.kinds) before)
+    axes_after d 0 n c (ap (λ (x : Description). x.kinds) before)
     ∙ ap (λ (x : Description). record x { axes = put_codes (supports d EV_ABS) 0 n x.axes; infos = put_all (supports d EV_ABS) (info d) 0 n x.infos }) before
     ∙ λ i. record d { axes = axes i; infos = infos i; filters = [] }
 
-sections_again : (d : Description) (requested : Bool) (name : List ℕ) (past : Past) (codes axes : ℕ) → IsGathered d → 768 ≤ codes → 64 ≤ axes
-    → latest_description (behind_items (number_items d ++ (slots_items d ++ (flat_map (kind_items d) (range_with_len 1 EV_MAX) ++ (flat_map (λ kind. flat_map (code_items d kind) (range_with_len 0 codes)) coded_kinds ++ flat_map (axis_items d) (range_with_len 0 axes))))) (Device requested name ∷ past)) ≡ record d { filters = [] }
-sections_again d requested name past codes axes g enough_codes enough_axes =
+sections_again : (d : Description) (c : Context) (codes axes : ℕ) → IsGathered d → 768 ≤ codes → 64 ≤ axes
+    → (after_all (number_items d ++ (slots_items d ++ (flat_map (kind_items d) (range_with_len 1 EV_MAX) ++ (flat_map (λ kind. flat_map (code_items d kind) (range_with_len 0 codes)) coded_kinds ++ flat_map (axis_items d) (range_with_len 0 axes))))) (undescribed c)).builder ≡ record d { filters = [] }
+unfolding numbers_of
+sections_again d c codes axes g enough_codes enough_axes =
     let kinds_section : List Item = flat_map (kind_items d) (range_with_len 1 EV_MAX) in
     let caps_section : List Item = flat_map (λ kind. flat_map (code_items d kind) (range_with_len 0 codes)) coded_kinds in
     let axes_section : List Item = flat_map (axis_items d) (range_with_len 0 axes) in
-    let numbers : Past = behind_items (number_items d) (Device requested name ∷ past) in
-    let slots : Past = behind_items (slots_items d) numbers in
-    let types : Past = behind_items kinds_section slots in
-    let caps : Past = behind_items caps_section types in
-    ap latest_description
-    (behind_items-append (number_items d) (slots_items d ++ (kinds_section ++ (caps_section ++ axes_section))) (Device requested name ∷ past)
-    ∙ behind_items-append (slots_items d) (kinds_section ++ (caps_section ++ axes_section)) numbers
-    ∙ behind_items-append kinds_section (caps_section ++ axes_section) slots
-    ∙ behind_items-append caps_section axes_section types)
-    ∙ all_axes_behind d axes caps g enough_axes
-    (all_caps_behind d codes types g enough_codes
-    (types_behind d slots g.kinds (numbers_behind d requested name past)))
+    let numbers = after_all (number_items d) (undescribed c) in
+    let slots = after_all (slots_items d) numbers in
+    let types = after_all kinds_section slots in
+    let caps = after_all caps_section types in
+    ap (λ (x : Context). x.builder)
+    (after_all-append (number_items d) (slots_items d ++ (kinds_section ++ (caps_section ++ axes_section))) (undescribed c)
+    ∙ after_all-append (slots_items d) (kinds_section ++ (caps_section ++ axes_section)) numbers
+    ∙ after_all-append kinds_section (caps_section ++ axes_section) slots
+    ∙ after_all-append caps_section axes_section types)
+    ∙ all_axes_after d axes caps g enough_axes
+    (all_caps_after d codes types g enough_codes
+    (types_after d slots g.kinds (slots_after d numbers refl)))
 
-pub plain-again : (d : Description) (requested : Bool) (name : List ℕ) (past : Past) → IsMadeDescription d → latest_description (behind_items (plain_items d) (Device requested name ∷ past)) ≡ record d { filters = [] }
+pub plain-again : (d : Description) (c : Context) → IsMadeDescription d → (after_all (plain_items d) (undescribed c)).builder ≡ record d { filters = [] }
 unfolding plain_items
-plain-again d requested name past made = sections_again d requested name past (KEY_MAX + 1) (ABS_MAX + 1) made.gathered (omega arith) (omega arith)
+plain-again d c made = sections_again d c (KEY_MAX + 1) (ABS_MAX + 1) made.gathered (omega arith) (omega arith)

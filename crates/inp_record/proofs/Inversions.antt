@@ -1,6 +1,5 @@
 -- What it takes for a line to have a meaning.
-use Rattle.std.proofs.Common.{◌≡◌, ◌≤◌, ◌<◌, ℕ, suc, Bool, true, false, ◌&&◌, not, if◌then◌else◌, bytes_eq, List, [], ◌∷◌, length, Option, Some, None, nat_eq, ◌+◌, ◌-◌, Result, Ok, Err, refl, sym, ap, ◌∙◌, subst, arith}
-use Rattle.std.specs.Prelude.{slice_get}
+use Rattle.std.proofs.Common.{◌≡◌, ◌≤◌, ◌<◌, ℕ, Bool, true, false, ◌&&◌, not, if◌then◌else◌, List, length, Option, Some, None, ◌+◌, ◌-◌, Result, Ok, Err, refl, sym, ap, ◌∙◌, subst, arith}
 use Rattle.std.specs.List.{range_with_len}
 use Rattle.inp_caps.specs.declared.caps_refused.CapsRefused.{CapsRefused}
 use Rattle.inp_caps.specs.declared.caps_refused.CapsRefused.TheVariants.{BadSlots}
@@ -17,11 +16,10 @@ use Rattle.inp_record.specs.declared.item.Item as item
 use Rattle.inp_record.specs.declared.item.Item.TheVariants as items
 use Rattle.inp_record.specs.Keyword.{keyword_of}
 use Rattle.inp_record.specs.Place.{is_first_place, is_out_of_place}
-use Rattle.inp_record.specs.Verb.{command_row, is_verb_of, argument_count, with_arguments, verb_of, verb_rows}
-use Rattle.inp_record.specs.Words.{word, is_header, command_of, actor_from, action_of, action_by, action_with, action_item, item_of}
+use Rattle.inp_record.specs.Verb.{command_row, is_verb_of, argument_count, verb_of}
+use Rattle.inp_record.specs.Words.{word, is_header, command_of, actor_from, action_of, action_by, action_with, action_item, or_bad_word, item_of}
 use Rattle.inp_record.specs.Past.{streams_in}
 use Rattle.inp_record.specs.Meaning.{is_later_command, is_twice, is_too_many, has_too_many_slots, builder_refusal, unless_refused, checked, placed, item_of_words}
-use Rattle.inp_words.specs.Table.{named}
 use Rattle.inp_record.proofs.Fields.{made_fits}
 use Rattle.inp_record.proofs.Rows.{IsOfRow, row_count, row_read, row_role, row_range, row_stream}
 
@@ -81,14 +79,6 @@ words_are c ws i e =
     let k : Option keyword.Keyword = keyword_of c.version (word 0 ws) (word 1 ws) (length ws) in
     placed_is c k ws i refl (unheaded (is_first_place c.place && not (is_header ws)) (placed c k ws) i e)
 
--- what an action is of these actors, behind so many streams
-pub record IsAct (actors : List ActorText) (streams : ℕ) (actor : ℕ) (c : command.Command) : Type 0 where
-  pub who : ActorText
-  pub named : slice_get actors actor ≡ Some who
-  pub command : is_command_of who.role c ≡ true
-  pub range : is_in_range who.role c ≡ true
-  pub stream : stream_of c ≡ range_with_len streams (streams_in c)
-
 -- a command that was read is of a row
 pub of_row : (P : List ℕ → Type 0) (s : ℕ) (by : role.Role) (v : verb.Verb) (ws : List (List ℕ)) (c : command.Command) → is_verb_of by v ≡ true → ((k : ℕ) → 3 ≤ k → k < 3 + argument_count v → P (word k ws)) → command_of s by v ws ≡ Some c → IsOfRow P s by c
 unfolding command_of
@@ -110,63 +100,22 @@ row_fits P s by c h = let Q : command.Command → Type 0 = λ x. IsFit s by x in
   stream = row_stream s by h.verb h.values;
 })
 
-if_some : {A : Type 0} (b : Bool) (x y : A) → (if b then Some x else None) ≡ Some y → (b ≡ true) × (x ≡ y)
-if_some true x y e = (refl, cc e)
-if_some false x y e = absurd (cc e)
-
-both_first : (a b : Bool) → (a && b) ≡ true → a ≡ true
-both_first true b h = refl
-both_first false b h = absurd (cc h)
-
-pub with_is : (r : role.Role) (count : ℕ) (o : Option verb.Verb) (v : verb.Verb) → with_arguments r count o ≡ Some v → is_verb_of r v ≡ true
-with_is r count None v e = absurd (cc e)
-with_is r count (Some u) v e =
-    let h = if_some (is_verb_of r u && nat_eq (argument_count u) count) u v e in
-    subst (λ (x : verb.Verb). is_verb_of r x ≡ true) h.1 (both_first (is_verb_of r u) (nat_eq (argument_count u) count) h.0)
-
-pub verb_is : (r : role.Role) (w : List ℕ) (count : ℕ) (v : verb.Verb) → verb_of r w count ≡ Some v → is_verb_of r v ≡ true
-unfolding verb_of
-verb_is r w count v e = with_is r count (named verb_rows w) v e
-
-pub actor_is : (n : ℕ) (actors : List ActorText) (w : List ℕ) (a : ℕ × role.Role) → actor_from n actors w ≡ Some a → (i : ℕ) × (who : ActorText) × (a.0 ≡ n + i) × (slice_get actors i ≡ Some who) × (who.role ≡ a.1)
-unfolding actor_from
-actor_is n [] w a e = absurd (cc e)
-actor_is n (actor ∷ actors) w a e = by_name (bytes_eq actor.name w) (actor_is (suc n) actors w a) e
-  where
-    by_name : (is : Bool) → (actor_from (suc n) actors w ≡ Some a → (i : ℕ) × (who : ActorText) × (a.0 ≡ suc n + i) × (slice_get actors i ≡ Some who) × (who.role ≡ a.1))
-        → (if is then Some (n, actor.role) else actor_from (suc n) actors w) ≡ Some a → (i : ℕ) × (who : ActorText) × (a.0 ≡ n + i) × (slice_get (actor ∷ actors) i ≡ Some who) × (who.role ≡ a.1)
-    by_name true more e = let same : (n, actor.role) ≡ a = cc e in (0, actor, (rw (← same) (omega arith)), refl, ap (λ (x : ℕ × role.Role). x.1) same)
-    by_name false more e = let h = more e in (suc h.0, h.1, omega (arith, h.2), h.3, h.4)
-
 pub action_of_is : (actor : ℕ) (o : Option command.Command) (i : item.Item) → action_of actor o ≡ Ok i → (c : command.Command) × (o ≡ Some c) × (items.Action actor c ≡ i)
 action_of_is actor None i e = absurd (cc e)
 action_of_is actor (Some c) i e = (c, refl, cc e)
 
--- the meaning of an action line
-pub act_is : (actors : List ActorText) (s : ℕ) (ws : List (List ℕ)) (i : item.Item) → action_item actors s ws ≡ Ok i → (actor : ℕ) × (c : command.Command) × (i ≡ items.Action actor c) × IsAct actors s actor c
-act_is actors s ws i e = by_actor (actor_from 0 actors (word 1 ws)) refl e
+-- an action line means an action
+pub act_is : (actors : List ActorText) (s : ℕ) (ws : List (List ℕ)) (i : item.Item) → action_item actors s ws ≡ Ok i → (actor : ℕ) × (c : command.Command) × (i ≡ items.Action actor c)
+act_is actors s ws i e = by_actor (actor_from 0 actors (word 1 ws)) e
   where
-    by_verb : (a : ℕ × role.Role) → actor_from 0 actors (word 1 ws) ≡ Some a → (o : Option verb.Verb) → verb_of a.1 (word 2 ws) (length ws - 3) ≡ o → action_by s a o ws ≡ Ok i → (actor : ℕ) × (c : command.Command) × (i ≡ items.Action actor c) × IsAct actors s actor c
-    by_verb a h None g e = absurd (cc e)
-    by_verb a h (Some v) g e =
-        let k = action_of_is a.0 (command_of s a.1 v ws) i e in
-        let c = k.0 in
-        let P : List ℕ → Type 0 = λ w. Unit {0} in
-        let f = row_fits P s a.1 c (of_row P s a.1 v ws c (verb_is a.1 (word 2 ws) (length ws - 3) v g) (λ k le lt. tt) k.1) in
-        let who = actor_is 0 actors (word 1 ws) a h in
-        let at : a.0 ≡ who.0 = omega (arith, who.2) in (
-          a.0,
-          c,
-          sym k.2,
-          record {
-            who = who.1;
-            named = subst (λ (k : ℕ). slice_get actors k ≡ Some who.1) (sym at) who.3;
-            command = rw who.4 f.role;
-            range = rw who.4 f.range;
-            stream = f.stream;
-          },
-        )
+    by_verb : (a : ℕ × role.Role) (o : Option verb.Verb) → action_by s a o ws ≡ Ok i → (actor : ℕ) × (c : command.Command) × (i ≡ items.Action actor c)
+    by_verb a None e = absurd (cc e)
+    by_verb a (Some v) e = let k = action_of_is a.0 (command_of s a.1 v ws) i e in (a.0, k.0, sym k.2)
 
-    by_actor : (o : Option (ℕ × role.Role)) → actor_from 0 actors (word 1 ws) ≡ o → action_with s o ws ≡ Ok i → (actor : ℕ) × (c : command.Command) × (i ≡ items.Action actor c) × IsAct actors s actor c
-    by_actor None h e = absurd (cc e)
-    by_actor (Some a) h e = by_verb a h (verb_of a.1 (word 2 ws) (length ws - 3)) refl e
+    by_actor : (o : Option (ℕ × role.Role)) → action_with s o ws ≡ Ok i → (actor : ℕ) × (c : command.Command) × (i ≡ items.Action actor c)
+    by_actor None e = absurd (cc e)
+    by_actor (Some a) e = by_verb a (verb_of a.1 (word 2 ws) (length ws - 3)) e
+
+pub or_bad_is : (o : Option item.Item) (i : item.Item) → or_bad_word o ≡ Ok i → o ≡ Some i
+or_bad_is None i e = absurd (cc e)
+or_bad_is (Some j) i e = cc e

@@ -34,3 +34,4 @@ pub mod SayableWords
 pub mod Stamps
 pub mod Streamless
 pub mod Texts
+pub mod Verbs

@@ -1,30 +1,26 @@
 -- The numbers of action lines, line by line.
-use Rattle.std.proofs.Common.{◌≡◌, ℕ, zero, suc, ◌+◌, ◌-◌, ◌<◌, Bool, true, false, ◌&&◌, not, if◌then◌else◌, cond, nat_eq, codes, List, [], ◌∷◌, length, drop, filter, Option, Some, None, Result, Ok, Err, refl, sym, ap, ◌∙◌, add-one, arith, length-append}
+use Rattle.std.proofs.Common.{◌≡◌, ℕ, zero, suc, ◌+◌, ◌-◌, ◌<◌, Bool, true, false, not, if◌then◌else◌, cond, nat_eq, codes, List, [], ◌∷◌, length, drop, filter, Some, None, Result, Ok, Err, refl, sym, ap, ◌∙◌, add-one, arith, length-append}
 use Rattle.std.specs.Prelude.{slice_get}
 use Rattle.std.specs.List.{slice_split, onto_first}
 use Rattle.std.proofs.lemmas.Option.{slice_get-get_or}
 use Rattle.std.proofs.lemmas.Bool.Decides.{nat_tests}
-use Rattle.inp_model.specs.declared.filter.Filter.TheVariants as filters
 use Rattle.inp_actors.specs.declared.actor_text.ActorText.{ActorText}
 use Rattle.inp_actors.specs.declared.line.Line.{Line}
-use Rattle.inp_actors.specs.declared.role.Role.TheVariants as roles
 use Rattle.inp_actors.specs.Record.{RecordView}
 use Rattle.inp_words.specs.Line.{lines_of as text_lines, words_of, is_blank, is_comment, is_text, is_word}
 use Rattle.inp_record.specs.declared.cause.Cause.{Cause}
-use Rattle.inp_record.specs.declared.cause.Cause.TheVariants.{NotText, BadHeader, OutOfPlace}
+use Rattle.inp_record.specs.declared.cause.Cause.TheVariants.{NotText}
 use Rattle.inp_record.specs.declared.refused.Refused.{Refused}
 use Rattle.inp_record.specs.declared.context.Context.{Context}
 use Rattle.inp_record.specs.declared.item.Item as item
-use Rattle.inp_record.specs.declared.item.Item.TheVariants.{Header, Device, Hint, Log, Realtime, Boottime, Slots, Kind, Code, Axis, Filter, Actor, Action}
+use Rattle.inp_record.specs.declared.item.Item.TheVariants.{Action}
 use Rattle.inp_record.specs.declared.keyword.Keyword as keyword
-use Rattle.inp_record.specs.Keyword.{keyword_of}
-use Rattle.inp_record.specs.Place.{is_first_place, is_out_of_place}
-use Rattle.inp_record.specs.Words.{word, has_word, is_header, is_action, or_bad_word, action_item, plain_item, item_of}
-use Rattle.inp_record.specs.Past.{Past, lines_in, context_of}
-use Rattle.inp_record.specs.Meaning.{placed, checked, item_of_words, behind, behind_words, behind_line, then_lines, behind_lines, record_of_past, as_record, meaning}
+use Rattle.inp_record.specs.Words.{word, has_word, is_action, or_bad_word, action_item, plain_item, item_of}
+use Rattle.inp_record.specs.Past.{Past, after, context_of}
+use Rattle.inp_record.specs.Meaning.{checked, item_of_words, behind, behind_words, behind_line, then_lines, behind_lines, record_of_past, as_record, meaning}
 use Rattle.inp_record.specs.LineNumber.{is_action_line, action_numbers}
-use Rattle.inp_record.proofs.Inversions.{checked_is, act_is}
-use Rattle.inp_record.proofs.Sayable.{keyword_for}
+use Rattle.inp_record.proofs.Inversions.{checked_is, words_are, act_is, or_bad_is}
+use Rattle.inp_record.proofs.Sayable.{keyword_for, is_action_item, acts}
 use Rattle.inp_record.proofs.Lines.{plain_keyword}
 use Rattle.inp_record.proofs.Keywords.{action_is_do}
 
@@ -63,32 +59,9 @@ not_missed all lines n line left h z e =
 -- how many action lines there are
 
 -- an item adds a line exactly where its keyword is that of an action
-item_adds : (past : Past) (i : item.Item) → length (lines_in (i ∷ past)) ≡ length (lines_in past) + (if is_action (keyword_for i) then 1 else 0)
-item_adds past (Header version) = omega arith
-item_adds past (Device true name) = omega arith
-item_adds past (Device false name) = omega arith
-item_adds past (Hint count) = omega arith
-item_adds past (Log count) = omega arith
-item_adds past (Realtime offset) = omega arith
-item_adds past (Boottime offset) = omega arith
-item_adds past (Slots count) = omega arith
-item_adds past (Kind kind) = omega arith
-item_adds past (Code kind code) = omega arith
-item_adds past (Axis code info) = omega arith
-item_adds past (Filter (filters.Eat kind code)) = omega arith
-item_adds past (Filter filters.Norepeat) = omega arith
-item_adds past (Filter (filters.Chord first second)) = omega arith
-item_adds past (Filter (filters.Bounce code micros)) = omega arith
-item_adds past (Actor roles.Source name) = omega arith
-item_adds past (Actor roles.Client name) = omega arith
-item_adds past (Actor roles.Tap name) = omega arith
-item_adds past (Actor roles.Joy name) = omega arith
-item_adds past (Actor roles.Owner name) = omega arith
-item_adds past (Action actor command) = omega (arith, length-append (lines_in past) (record { actor = actor; command = command } ∷ []))
-
-or_bad_is : (o : Option item.Item) (i : item.Item) → or_bad_word o ≡ Ok i → o ≡ Some i
-or_bad_is None i e = absurd (cc e)
-or_bad_is (Some j) i e = cc e
+item_adds : (c : Context) (i : item.Item) → length (after i c).lines ≡ length c.lines + (if is_action_item i then 1 else 0)
+item_adds c (Action actor command) = omega (arith, length-append c.lines (record { actor = actor; command = command } ∷ []))
+item_adds c i = omega arith
 
 keyword_is : (actors : List ActorText) (s : ℕ) (k : keyword.Keyword) (ws : List (List ℕ)) (i : item.Item) → item_of actors s k ws ≡ Ok i → is_action (keyword_for i) ≡ is_action k
 unfolding item_of
@@ -98,31 +71,16 @@ keyword_is actors s k ws i e = by_action (is_action k) refl e
     by_action true h e = let act = act_is actors s ws i e in ap (λ (j : item.Item). is_action (keyword_for j)) act.2 ∙ sym h
     by_action false h e = ap is_action (plain_keyword k ws i (or_bad_is (plain_item k ws) i e))
 
-placed_adds : (c : Context) (o : Option keyword.Keyword) (ws : List (List ℕ)) (i : item.Item) → ((k : keyword.Keyword) → o ≡ Some k → is_action k ≡ has_word ws 0 (codes "do")) → placed c o ws ≡ Ok i → is_action (keyword_for i) ≡ has_word ws 0 (codes "do")
-placed_adds c None ws i is e = absurd (cc e)
-placed_adds c (Some k) ws i is e = by_place (is_out_of_place c.place c.requested k) e
-  where
-    by_place : (out : Bool) → (if out then Err OutOfPlace else item_of c.actors c.streams k ws) ≡ Ok i → is_action (keyword_for i) ≡ has_word ws 0 (codes "do")
-    by_place true e = absurd (cc e)
-    by_place false e = keyword_is c.actors c.streams k ws i e ∙ is k refl
-
-header_passed : (bad : Bool) (means : Result item.Item Cause) (i : item.Item) → (if bad then Err BadHeader else means) ≡ Ok i → means ≡ Ok i
-header_passed true means i e = absurd (cc e)
-header_passed false means i e = e
-
 words_add : (c : Context) (ws : List (List ℕ)) (i : item.Item) → item_of_words c ws ≡ Ok i → is_action (keyword_for i) ≡ has_word ws 0 (codes "do")
-unfolding item_of_words
-words_add c ws i e =
-    let k : Option keyword.Keyword = keyword_of c.version (word 0 ws) (word 1 ws) (length ws) in
-    placed_adds c k ws i (λ k h. action_is_do c.version (word 0 ws) (word 1 ws) (length ws) k h) (header_passed (is_first_place c.place && not (is_header ws)) (placed c k ws) i e)
+words_add c ws i e = let p = words_are c ws i e in keyword_is c.actors c.streams p.keyword ws i p.item ∙ action_is_do c.version (word 0 ws) (word 1 ws) (length ws) p.keyword p.named
 
-behind_adds : (past now : Past) (means : Result item.Item Cause) (does : Bool) → ((i : item.Item) → means ≡ Ok i → is_action (keyword_for i) ≡ does) → behind past means ≡ Ok now → length (lines_in now) ≡ length (lines_in past) + (if does then 1 else 0)
+behind_adds : (past now : Past) (means : Result item.Item Cause) (does : Bool) → ((i : item.Item) → means ≡ Ok i → is_action (keyword_for i) ≡ does) → behind past means ≡ Ok now → length (context_of now).lines ≡ length (context_of past).lines + (if does then 1 else 0)
 behind_adds past now (Err cause) does is e = absurd (cc e)
 behind_adds past now (Ok i) does is e =
     let same : i ∷ past ≡ now = cc e in
-    rw (← same, ← is i refl) (item_adds past i)
+    rw (← same, ← is i refl, acts i) (item_adds (context_of past) i)
 
-all_words_add : (past now : Past) (ws : List (List ℕ)) → behind_words past ws ≡ Ok now → length (lines_in now) ≡ length (lines_in past) + (if has_word ws 0 (codes "do") then 1 else 0)
+all_words_add : (past now : Past) (ws : List (List ℕ)) → behind_words past ws ≡ Ok now → length (context_of now).lines ≡ length (context_of past).lines + (if has_word ws 0 (codes "do") then 1 else 0)
 all_words_add past now [] e = let same : past ≡ now = cc e in rw (← same) (omega arith)
 all_words_add past now (w ∷ ws) e =
     behind_adds past now (checked (context_of past) (item_of_words (context_of past) (w ∷ ws))) (has_word (w ∷ ws) 0 (codes "do"))
@@ -145,16 +103,16 @@ comment_does_nothing (b ∷ line) h = by_blank (is_blank b) (comment_does_nothin
     by_blank true more h = more h
     by_blank false more h = comment_begins (slice_split is_blank line) b h
 
-line_adds : (past now : Past) (line : List ℕ) → behind_line past line ≡ Ok now → length (lines_in now) ≡ length (lines_in past) + (if is_action_line line then 1 else 0)
+line_adds : (past now : Past) (line : List ℕ) → behind_line past line ≡ Ok now → length (context_of now).lines ≡ length (context_of past).lines + (if is_action_line line then 1 else 0)
 unfolding behind_line
 line_adds past now line e = by_tests (is_comment line) (is_text line) refl e
   where
-    by_tests : (comment text : Bool) → is_comment line ≡ comment → (if comment then Ok past else if not text then Err NotText else behind_words past (words_of line)) ≡ Ok now → length (lines_in now) ≡ length (lines_in past) + (if is_action_line line then 1 else 0)
+    by_tests : (comment text : Bool) → is_comment line ≡ comment → (if comment then Ok past else if not text then Err NotText else behind_words past (words_of line)) ≡ Ok now → length (context_of now).lines ≡ length (context_of past).lines + (if is_action_line line then 1 else 0)
     by_tests true text h e = let same : past ≡ now = cc e in rw (← same, comment_does_nothing line h) (omega arith)
     by_tests false true h e = all_words_add past now (words_of line) e
     by_tests false false h e = absurd (cc e)
 
-lines_add : (lines : List (List ℕ)) (k n : ℕ) (past now : Past) → behind_lines k lines past ≡ Ok now → length (lines_in now) ≡ length (lines_in past) + length (action_numbers n lines)
+lines_add : (lines : List (List ℕ)) (k n : ℕ) (past now : Past) → behind_lines k lines past ≡ Ok now → length (context_of now).lines ≡ length (context_of past).lines + length (action_numbers n lines)
 unfolding behind_lines action_numbers
 lines_add [] k n past now e = let same : past ≡ now = cc e in rw (← same) (omega arith)
 lines_add (line ∷ lines) k n past now e = by_line (behind_line past line) (λ after h. line_adds past after line h) (λ after h. lines_add lines (suc k) (suc n) after now h) e
@@ -163,10 +121,10 @@ lines_add (line ∷ lines) k n past now e = by_line (behind_line past line) (λ 
     by_action true a b c one more = omega arith
     by_action false a b c one more = omega arith
 
-    by_line : (means : Result Past Cause) → ((after : Past) → means ≡ Ok after → length (lines_in after) ≡ length (lines_in past) + (if is_action_line line then 1 else 0)) → ((after : Past) → behind_lines (suc k) lines after ≡ Ok now → length (lines_in now) ≡ length (lines_in after) + length (action_numbers (suc n) lines))
-        → then_lines k means (λ x. behind_lines (suc k) lines x) ≡ Ok now → length (lines_in now) ≡ length (lines_in past) + length (action_numbers n (line ∷ lines))
+    by_line : (means : Result Past Cause) → ((after : Past) → means ≡ Ok after → length (context_of after).lines ≡ length (context_of past).lines + (if is_action_line line then 1 else 0)) → ((after : Past) → behind_lines (suc k) lines after ≡ Ok now → length (context_of now).lines ≡ length (context_of after).lines + length (action_numbers (suc n) lines))
+        → then_lines k means (λ x. behind_lines (suc k) lines x) ≡ Ok now → length (context_of now).lines ≡ length (context_of past).lines + length (action_numbers n (line ∷ lines))
     by_line (Err cause) one more e = absurd (cc e)
-    by_line (Ok after) one more e = by_action (is_action_line line) (length (lines_in after)) (length (lines_in past)) (length (lines_in now)) (one after refl) (more after e)
+    by_line (Ok after) one more e = by_action (is_action_line line) (length (context_of after).lines) (length (context_of past).lines) (length (context_of now).lines) (one after refl) (more after e)
 
 record_adds : (count : ℕ) (means : Result Past Refused) (r : RecordView) → as_record count means ≡ Ok r → (past : Past) × (means ≡ Ok past) × (record_of_past past ≡ r)
 record_adds count (Err refused) r e = absurd (cc e)
@@ -179,5 +137,5 @@ unfolding meaning
 action_count bytes r e =
     let h = record_adds (length (text_lines bytes)) (behind_lines 1 (text_lines bytes) []) r e in
     let more = lines_add (text_lines bytes) 1 1 [] h.0 h.1 in
-    let same : lines_in h.0 ≡ r.lines = ap (λ (x : RecordView). x.lines) h.2 in
+    let same : (context_of h.0).lines ≡ r.lines = ap (λ (x : RecordView). x.lines) h.2 in
     omega (arith, more, ap (λ (l : List Line). length l) same)

@@ -1,5 +1,5 @@
 -- What a description is like that the accepted lines of a device give.
-use Rattle.std.proofs.Common.{◌≡◌, ℕ, zero, suc, ◌-◌, ◌<◌, ◌≤◌, ℤ, pos, Bool, true, false, ◌&&◌, not, if◌then◌else◌, nat_eq, nat_le, nat_lt, FitsSigned, w32, List, [], ◌∷◌, ◌++◌, length, replicate, get_or, set, slice_get, Option, Some, None, Ok, Err, refl, sym, ap, subst, ◌∙◌, ◌⊎◌, inl, inr, arith}
+use Rattle.std.proofs.Common.{◌≡◌, ℕ, zero, suc, ◌-◌, ◌<◌, ◌≤◌, ℤ, pos, Bool, true, false, ◌&&◌, not, if◌then◌else◌, nat_eq, nat_le, nat_lt, FitsSigned, w32, List, [], ◌∷◌, length, replicate, get_or, set, Some, None, Ok, Err, refl, sym, ap, subst, ◌∙◌, ◌⊎◌, inl, inr, arith}
 use Rattle.std.proofs.lemmas.Bool.{cases_eq, cond_both, cond-true, eqb-true, leb-true, ltb-false, and_parts}
 use Rattle.std.proofs.lemmas.Bool.Decides.{nat_tests}
 use Rattle.std.proofs.lemmas.Int.{ints}
@@ -15,22 +15,12 @@ use Rattle.inp_model.proofs.Descriptions.{get_or-replicate_same, is_bad_axis-no_
 use Rattle.inp_caps.specs.declared.caps_refused.CapsRefused.TheVariants.{BadCode, BadAxis, BadFilter}
 use Rattle.inp_caps.specs.Builder.{is_code, with_kind, with_code, with_axis, with_filter, filter_answer, with_default_axis, with_slot_axes, built}
 use Rattle.inp_caps.proofs.Filters.{AreFilters-more}
-use Rattle.inp_actors.specs.declared.device_text.DeviceText.{DeviceText}
 use Rattle.inp_record.specs.declared.item.Item.{Item}
-use Rattle.inp_record.specs.declared.item.Item.TheVariants.{Header, Device, Hint, Log, Realtime, Boottime, Slots, Kind, Code, Axis, Filter, Actor, Action}
-use Rattle.inp_record.specs.Past.{Past, latest_name, is_requested, latest_description, former_devices, devices_of, with_latest}
+use Rattle.inp_record.specs.declared.item.Item.TheVariants.{Device, Hint, Log, Realtime, Boottime, Slots, Kind, Code, Axis, Filter}
+use Rattle.inp_record.specs.declared.context.Context.{Context}
+use Rattle.inp_record.specs.Past.{after}
 use Rattle.inp_record.specs.Meaning.{refused_by, builder_refusal}
-use Rattle.inp_record.proofs.Sayable.{IsSayableInfo}
-
--- the data of an axis can be said, where a line describes one
-abbrev pub IsSaid : Item → Type 0
-IsSaid (Axis code info) = IsSayableInfo info
-IsSaid _ = Unit {0}
-
--- no description refuses what these lines say
-abbrev pub AreDescribed : Past → Type 0
-AreDescribed [] = Unit {0}
-AreDescribed (i ∷ past) = (builder_refusal (latest_description past) i ≡ None) × IsSaid i × AreDescribed past
+use Rattle.inp_record.proofs.Sayable.{IsSayableInfo, IsAccepted}
 
 -- sixty-four types, none of them unknown, EV_SYN among them
 pub record AreKnownKinds (kinds : List Bool) : Type 0 where
@@ -233,7 +223,7 @@ known_alone : (n kind : ℕ) → get_or (true ∷ replicate n false) kind false 
 known_alone n zero e = refl
 known_alone n (suc kind) e = let none : get_or (replicate n false) kind false ≡ false = get_or-replicate_same n kind false in absurd (cc (none, e))
 
-gathered_alone : IsGathered syn_alone
+pub gathered_alone : IsGathered syn_alone
 gathered_alone = record {
   kinds = record { length_is = refl; known = known_alone 63; syn = refl };
   lists = lists_none (true ∷ replicate 63 false);
@@ -289,37 +279,22 @@ with_filtered d f g e =
     let room : length d.filters < FILTERS_MAX = grind (arith, nat_tests, passed.1, most) in
     record { kinds = g.kinds; lists = g.lists; axes = g.axes; filters = AreFilters-more d.filters f g.filters room passed.0; numbers = g.numbers }
 
-gathered : (past : Past) → AreDescribed past → IsGathered (latest_description past)
-gathered [] h = gathered_alone
-gathered (Header version ∷ past) h = gathered past h.2
-gathered (Device requested name ∷ past) h = gathered_alone
-gathered (Hint count ∷ past) h =
-    let g = gathered past h.2 in
+-- a description behind a line that is accepted
+pub gathered_after : (c : Context) (i : Item) → IsAccepted c i → IsGathered c.builder → IsGathered (after i c).builder
+gathered_after c (Device requested name) a g = gathered_alone
+gathered_after c (Hint count) a g = let n = g.numbers in gathered_numbers c.builder _ count _ _ _ g (record { slots = n.slots; hint = passes _ _ a.fits; log_limit = n.log_limit; realtime = n.realtime; boottime = n.boottime })
+gathered_after c (Log count) a g = let n = g.numbers in gathered_numbers c.builder _ _ count _ _ g (record { slots = n.slots; hint = n.hint; log_limit = passes _ _ a.fits; realtime = n.realtime; boottime = n.boottime })
+gathered_after c (Realtime offset) a g = let n = g.numbers in gathered_numbers c.builder _ _ _ offset _ g (record { slots = n.slots; hint = n.hint; log_limit = n.log_limit; realtime = passes _ _ a.fits; boottime = n.boottime })
+gathered_after c (Boottime offset) a g = let n = g.numbers in gathered_numbers c.builder _ _ _ _ offset g (record { slots = n.slots; hint = n.hint; log_limit = n.log_limit; realtime = n.realtime; boottime = passes _ _ a.fits })
+gathered_after c (Slots count) a g =
     let n = g.numbers in
-    gathered_numbers (latest_description past) _ count _ _ _ g (record { slots = n.slots; hint = passes _ _ h.0; log_limit = n.log_limit; realtime = n.realtime; boottime = n.boottime })
-gathered (Log count ∷ past) h =
-    let g = gathered past h.2 in
-    let n = g.numbers in
-    gathered_numbers (latest_description past) _ _ count _ _ g (record { slots = n.slots; hint = n.hint; log_limit = passes _ _ h.0; realtime = n.realtime; boottime = n.boottime })
-gathered (Realtime offset ∷ past) h =
-    let g = gathered past h.2 in
-    let n = g.numbers in
-    gathered_numbers (latest_description past) _ _ _ offset _ g (record { slots = n.slots; hint = n.hint; log_limit = n.log_limit; realtime = passes _ _ h.0; boottime = n.boottime })
-gathered (Boottime offset ∷ past) h =
-    let g = gathered past h.2 in
-    let n = g.numbers in
-    gathered_numbers (latest_description past) _ _ _ _ offset g (record { slots = n.slots; hint = n.hint; log_limit = n.log_limit; realtime = n.realtime; boottime = passes _ _ h.0 })
-gathered (Slots count ∷ past) h =
-    let g = gathered past h.2 in
-    let n = g.numbers in
-    let range = and_parts (nat_le 1 count) (nat_le count SLOTS_MAX) (passes _ _ h.0) in
-    gathered_numbers (latest_description past) count _ _ _ _ g (record { slots = range.1; hint = n.hint; log_limit = n.log_limit; realtime = n.realtime; boottime = n.boottime })
-gathered (Kind kind ∷ past) h = gathered_kind (latest_description past) kind (gathered past h.2) (passes _ _ h.0)
-gathered (Code kind code ∷ past) h = with_coded (latest_description past) kind code (gathered past h.2) (passes _ _ h.0)
-gathered (Axis code info ∷ past) h = with_described (latest_description past) code info (gathered past h.2) h.0 h.1
-gathered (Filter filter ∷ past) h = with_filtered (latest_description past) filter (gathered past h.2) h.0
-gathered (Actor role name ∷ past) h = gathered past h.2
-gathered (Action actor command ∷ past) h = gathered past h.2
+    let range = and_parts (nat_le 1 count) (nat_le count SLOTS_MAX) (passes _ _ a.fits) in
+    gathered_numbers c.builder count _ _ _ _ g (record { slots = range.1; hint = n.hint; log_limit = n.log_limit; realtime = n.realtime; boottime = n.boottime })
+gathered_after c (Kind kind) a g = gathered_kind c.builder kind g (passes _ _ a.fits)
+gathered_after c (Code kind code) a g = with_coded c.builder kind code g (passes _ _ a.fits)
+gathered_after c (Axis code info) a g = with_described c.builder code info g a.fits a.sayable.1
+gathered_after c (Filter filter) a g = with_filtered c.builder filter g a.fits
+gathered_after c i a g = g
 
 -- the axes that slots need
 
@@ -397,49 +372,8 @@ with_slots d g =
 built_again : (d : Description) → with_slot_axes d ≡ d → built d ≡ d
 built_again d e = cond_both (nat_eq d.slots 0) d (with_slot_axes d) (λ (x : Description). x ≡ d) (λ _. refl) (λ _. e)
 
-made_of : (d : Description) → IsGathered d → IsMadeDescription (built d)
+pub made_of : (d : Description) → IsGathered d → IsMadeDescription (built d)
 made_of d g =
     cond_both (nat_eq d.slots 0) d (with_slot_axes d) IsMadeDescription
     (λ e. record { gathered = g; whole = cond-true (nat_eq d.slots 0) d (with_slot_axes d) e })
     (λ e. let w = with_slots d g in record { gathered = w.0; whole = built_again (with_slot_axes d) (slot_axes_again (with_slot_axes d) w.1) })
-
--- what the lines of the latest device describe
-pub made : (past : Past) → AreDescribed past → IsMadeDescription (built (latest_description past))
-made past h = made_of (latest_description past) (gathered past h)
-
--- what the lines of each device describe
-
-push_get : {X : Type 0} (xs : List X) (y : X) (i : ℕ) (a : X) → slice_get (xs ++ y ∷ []) i ≡ Some a → (slice_get xs i ≡ Some a) ⊎ (a ≡ y)
-push_get [] y zero a e = inr (cc e)
-push_get [] y (suc i) a e = absurd (cc e)
-push_get (x ∷ xs) y zero a e = inl e
-push_get (x ∷ xs) y (suc i) a e = push_get xs y i a e
-
-abbrev AreMade : List DeviceText → Type 0
-AreMade devices = (i : ℕ) (t : DeviceText) → slice_get devices i ≡ Some t → IsMadeDescription t.caps
-
-latest_made : (former : List DeviceText) (name : Option (List ℕ)) (requested : Bool) (d : Description) → AreMade former → IsMadeDescription (built d) → AreMade (with_latest former name requested d)
-latest_made former None requested d old new = old
-latest_made former (Some name) requested d old new = λ i t e. elim (push_get former (record { name = name; caps = built d; requested = requested }) i t e) [
-  | inl before ↦ old i t before
-  | inr is ↦ subst IsMadeDescription (sym (ap (λ (x : DeviceText). x.caps) is)) new
-]
-
-former_made : (past : Past) → AreDescribed past → AreMade (former_devices past)
-former_made [] h = λ i t e. absurd (cc e)
-former_made (Header version ∷ past) h = former_made past h.2
-former_made (Device requested name ∷ past) h = latest_made (former_devices past) (latest_name past) (is_requested past) (latest_description past) (former_made past h.2) (made past h.2)
-former_made (Hint count ∷ past) h = former_made past h.2
-former_made (Log count ∷ past) h = former_made past h.2
-former_made (Realtime offset ∷ past) h = former_made past h.2
-former_made (Boottime offset ∷ past) h = former_made past h.2
-former_made (Slots count ∷ past) h = former_made past h.2
-former_made (Kind kind ∷ past) h = former_made past h.2
-former_made (Code kind code ∷ past) h = former_made past h.2
-former_made (Axis code info ∷ past) h = former_made past h.2
-former_made (Filter filter ∷ past) h = former_made past h.2
-former_made (Actor role name ∷ past) h = former_made past h.2
-former_made (Action actor command ∷ past) h = former_made past h.2
-
-pub all_made : (past : Past) → AreDescribed past → (i : ℕ) (t : DeviceText) → slice_get (devices_of past) i ≡ Some t → IsMadeDescription t.caps
-all_made past h = latest_made (former_devices past) (latest_name past) (is_requested past) (latest_description past) (former_made past h) (made past h)

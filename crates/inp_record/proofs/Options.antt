@@ -1,6 +1,6 @@
--- What an option holds.
-use Rattle.std.proofs.Common.{◌≡◌, Option, Some, None, option_map, refl}
-use Rattle.std.specs.Prelude.{option_and_then}
+-- What an option holds, and what a list that grew.
+use Rattle.std.proofs.Common.{◌≡◌, ℕ, zero, suc, ◌<◌, List, [], ◌∷◌, ◌++◌, length, Option, Some, None, option_map, refl, ap, arith, ◌⊎◌, inl, inr}
+use Rattle.std.specs.Prelude.{option_and_then, slice_get}
 
 -- what an option holds that is mapped
 pub map_is : {A B : Type 0} (f : A → B) (o : Option A) (y : B) → option_map f o ≡ Some y → (x : A) × (o ≡ Some x) × (y ≡ f x)
@@ -10,3 +10,21 @@ map_is f (Some x) y e = (x, refl, cc)
 pub and_then_is : {A B : Type 0} (f : A → Option B) (o : Option A) (y : B) → option_and_then f o ≡ Some y → (x : A) × (o ≡ Some x) × (f x ≡ Some y)
 and_then_is f None y e = absurd (cc)
 and_then_is f (Some x) y e = (x, refl, e)
+
+-- the item that was pushed stands at the end
+pub push_at : {X : Type 0} (xs : List X) (y : X) (i : ℕ) (a : X) → slice_get (xs ++ y ∷ []) i ≡ Some a → (slice_get xs i ≡ Some a) ⊎ ((i ≡ length xs) × (a ≡ y))
+push_at [] y zero a e = inr (refl, cc e)
+push_at [] y (suc i) a e = absurd (cc e)
+push_at (x ∷ xs) y zero a e = inl e
+push_at (x ∷ xs) y (suc i) a e = elim (push_at xs y i a e) [
+  | inl g ↦ inl g
+  | inr g ↦ inr (ap (λ (k : ℕ). suc k) g.0, g.1)
+]
+
+pub push_get : {X : Type 0} (xs : List X) (y : X) (i : ℕ) (a : X) → slice_get (xs ++ y ∷ []) i ≡ Some a → (slice_get xs i ≡ Some a) ⊎ (a ≡ y)
+push_get xs y i a e = elim (push_at xs y i a e) [ inl g ↦ inl g | inr g ↦ inr g.1 ]
+
+pub front_get : {X : Type 0} (xs ys : List X) (i : ℕ) (a : X) → i < length xs → slice_get (xs ++ ys) i ≡ Some a → slice_get xs i ≡ Some a
+front_get [] ys i a h e = absurd (omega arith)
+front_get (x ∷ xs) ys zero a h e = e
+front_get (x ∷ xs) ys (suc i) a h e = front_get xs ys i a (omega arith) e

@@ -11,13 +11,13 @@ use Rattle.inp_record.specs.declared.line_fault.LineFault.TheVariants as line
 use Rattle.inp_record.specs.declared.refused.ParseFault.{ParseFault}
 use Rattle.inp_record.specs.declared.refused.ParseFault.TheVariants as fault
 use Rattle.inp_record.specs.declared.context.Context.{Context}
-use Rattle.inp_record.specs.declared.item.Item.TheVariants.{Header, Device, Hint, Log, Realtime, Boottime, Slots, Kind, Code, Axis, Filter, Actor, Action}
+use Rattle.inp_record.specs.declared.item.Item.TheVariants.{Header}
 use Rattle.inp_record.specs.declared.place.Place.TheVariants.{Start}
 use Rattle.std.proofs.lemmas.List.Splits.{length-slice_split}
 use Rattle.std.proofs.lemmas.List.Sums.{count_by-le-length}
 use Rattle.inp_words.specs.Line.{is_line_feed, lines_of}
 use Rattle.inp_record.specs.Fault.{fault_at, IsParsing}
-use Rattle.inp_record.specs.Past.{Past, place_of_next_line, context_of}
+use Rattle.inp_record.specs.Past.{Past, context_of}
 use Rattle.inp_record.specs.Meaning.{behind_line, then_lines, behind_lines, record_of_past, as_record, meaning, IsBehind, AreLinesRead}
 
 -- the line at a place, and those behind it
@@ -31,6 +31,16 @@ line_at (part ∷ parts) (suc n) piece h e =
 pub lines_length : (parts : List (List ℕ)) → length (map strip_carriage_return parts) ≡ length parts
 lines_length [] = refl
 lines_length (part ∷ parts) = omega (arith, lines_length parts)
+
+-- the piece that a turn is given, behind so many, and the line that it is
+pub record IsTurn (parts : List (List ℕ)) (n : ℕ) (piece : List ℕ) : Type 0 where
+  pub below : n < length (map strip_carriage_return parts)
+  pub line : drop n (map strip_carriage_return parts) ≡ strip_carriage_return piece ∷ drop (n + 1) (map strip_carriage_return parts)
+
+pub turn_is : (parts : List (List ℕ)) (n k : ℕ) (piece : List ℕ) → n ≡ k → (k < length parts) × (piece ≡ get_or parts k piece) → IsTurn parts n piece
+turn_is parts n k piece e t =
+    let within : n < length parts = omega (arith, t.0) in
+    record { below = omega (arith, lines_length parts); line = line_at parts n piece within (rw e t.1) }
 
 -- a text has at most one line more than bytes
 pub few_lines : (text : List ℕ) → length (lines_of text) ≤ length text + 1
@@ -73,25 +83,14 @@ unfolding meaning
 meaning_read text past h = ap (as_record (length (lines_of text))) h
 
 -- nothing was read before the first line alone
-pub start_is : (past : Past) → place_of_next_line past ≡ Start → past ≡ []
+pub start_is : (past : Past) → (context_of past).place ≡ Start → past ≡ []
 start_is [] e = refl
 start_is (Header version ∷ past) e = absurd (cc)
-start_is (Device requested name ∷ past) e = absurd (cc)
-start_is (Hint count ∷ past) e = absurd (cc)
-start_is (Log count ∷ past) e = absurd (cc)
-start_is (Realtime offset ∷ past) e = absurd (cc)
-start_is (Boottime offset ∷ past) e = absurd (cc)
-start_is (Slots count ∷ past) e = absurd (cc)
-start_is (Kind kind ∷ past) e = absurd (cc)
-start_is (Code kind code ∷ past) e = absurd (cc)
-start_is (Axis code info ∷ past) e = absurd (cc)
-start_is (Filter filter ∷ past) e = absurd (cc)
-start_is (Actor role name ∷ past) e = absurd (cc)
-start_is (Action actor command ∷ past) e = absurd (cc)
+start_is (i ∷ past) e = absurd (cc)
 
-pub headless : (past : Past) (n : ℕ) → place_of_next_line past ≡ Start → as_record n (Ok past) ≡ Err (record { line = n; cause = BadHeader })
+pub headless : (past : Past) (n : ℕ) → (context_of past).place ≡ Start → as_record n (Ok past) ≡ Err (record { line = n; cause = BadHeader })
 headless past n e = ap (λ (p : Past). as_record n (Ok p)) (start_is past e)
 
-pub headed : (past : Past) (n : ℕ) → (place_of_next_line past ≡ Start → ⊥) → as_record n (Ok past) ≡ Ok (record_of_past past)
+pub headed : (past : Past) (n : ℕ) → ((context_of past).place ≡ Start → ⊥) → as_record n (Ok past) ≡ Ok (record_of_past past)
 headed [] n h = absurd (h refl)
 headed (item ∷ past) n h = refl

@@ -14,13 +14,13 @@ use Rattle.std.proofs.lemmas.Bool.Decides.{nat_tests}
 pub closed_length : (devices : List DeviceText) (name : Option (List ℕ)) (requested : Bool) (d : Description) → length (with_latest devices name requested d) ≡ length devices + (if is_some name then 1 else 0)
 closed_length devices None requested d = omega arith
 closed_length devices (Some name) requested d =
-    omega (arith, length-append devices (record { name = name; caps = built d; requested = requested } ∷ []))
+    omega (arith, length-append devices (record { name = name; caps = d; requested = requested } ∷ []))
 
 -- there is room behind a device that is begun
 pub begun_room : (c : Context) (requested : Bool) (name : List ℕ) → IsWithinCounts c → nat_le DEVICES_MAX (device_count c) ≡ false
     → IsWithinCounts (record (closed c) { place = Describing; name = Some name; requested = requested; given = no_given; sources = 0; readers = 0; owners = 0 })
 begun_room c requested name room h =
-    let count = closed_length c.devices c.name c.requested c.builder in
+    let count = closed_length c.devices c.name c.requested (built c.builder) in
     let less : device_count c < 8 = grind (arith, nat_tests) in
     record {
       devices = omega arith;

@@ -16,7 +16,7 @@ use Rattle.inp_record.specs.declared.verb.Verb as verb
 use Rattle.inp_record.specs.declared.verb.Verb.TheVariants as verbs
 use Rattle.inp_record.specs.Field.{made}
 use Rattle.inp_record.specs.Past.{streams_in}
-use Rattle.inp_record.specs.Verb.{Row, command_row, verb_rows, is_verb_of, argument_count, count_max}
+use Rattle.inp_record.specs.Verb.{Row, command_row, verb_row, verb_rows, is_verb_of, argument_count, count_max}
 use Rattle.inp_record.proofs.FieldFits.{is_sound, Values, FitsFields, of_values, written}
 
 -- the command that a row makes of values
@@ -39,7 +39,7 @@ row_words stream r verbs.Event vs = refl
 row_words stream r v vs = refl
 
 -- each row is found by its word
-pub row_named : (stream : ℕ) (r : role.Role) (v : verb.Verb) → named verb_rows (command_row stream r v).word ≡ Some v
+pub row_named : (stream : ℕ) (r : role.Role) (v : verb.Verb) → named verb_rows (command_row stream r v).word ≡ Some (verb_row v).1
 unfolding command_row verb_rows
 row_named stream r verbs.Event = refl
 row_named stream r v = refl

@@ -1,5 +1,5 @@
--- When an item can be said by words, and when a line that says it is accepted behind a past.
-use Rattle.std.proofs.Common.{◌≡◌, ◌<◌, ◌≤◌, ◌^◌, ℕ, Bool, true, false, ◌&&◌, ◌||◌, nat_eq, nat_le, List, [], ◌∷◌, slice_get, Some, None, FitsSigned, w32}
+-- When an item can be said by words, and when a line that says it is accepted behind others.
+use Rattle.std.proofs.Common.{◌≡◌, ◌<◌, ◌≤◌, ◌^◌, ℕ, Bool, true, false, ◌&&◌, ◌||◌, not, nat_eq, nat_le, List, [], ◌∷◌, slice_get, Some, None, FitsSigned, w32, refl}
 use Rattle.std.specs.List.{list_all}
 use Rattle.inp_model.specs.declared.axis_info.AxisInfo.{AxisInfo}
 use Rattle.inp_model.specs.declared.limits.TheConstants.{BOUNCE_MAX}
@@ -17,9 +17,11 @@ use Rattle.inp_record.specs.declared.item.Item.{Item}
 use Rattle.inp_record.specs.declared.item.Item.TheVariants.{Header, Device, Hint, Log, Realtime, Boottime, Slots, Kind, Code, Axis, Filter, Actor, Action}
 use Rattle.inp_record.specs.declared.keyword.Keyword as keyword
 use Rattle.inp_record.specs.declared.keyword.Keyword.TheVariants as keywords
-use Rattle.inp_record.specs.Past.{Past, place_of_next_line, version_of, is_requested, latest_description, actors_in, context_of, stream_count}
-use Rattle.inp_record.specs.Place.{is_first_place, is_out_of_place}
-use Rattle.inp_record.specs.Words.{actor_from}
+use Rattle.inp_record.specs.Past.{Past, first_context, after, context_of}
+use Rattle.inp_record.specs.declared.context.Context.{Context}
+use Rattle.inp_record.specs.declared.place.Place.{Place}
+use Rattle.inp_record.specs.Place.{is_first_place, is_describing, is_out_of_place}
+use Rattle.inp_record.specs.Words.{actor_from, is_action}
 use Rattle.inp_record.specs.Meaning.{is_later_command, is_twice, is_too_many, has_too_many_slots, builder_refusal}
 use Rattle.inp_record.proofs.Rows.{IsOfRow}
 
@@ -113,29 +115,77 @@ abbrev pub are_early : ℕ → List filter.Filter → Bool
 are_early version [] = false
 are_early version (filter ∷ more) = nat_eq version 1
 
--- a header stands first, and each other item behind one, where a line with its keyword may stand; a device made by
--- requests, a filter, a joystick and an owner under a later version than 1
-abbrev pub IsInPlace : Past → Item → Type 0
-IsInPlace past (Header version) = is_first_place (place_of_next_line past) ≡ true
-IsInPlace past (Device requested name) =
-    (is_first_place (place_of_next_line past) ≡ false) × (is_out_of_place (place_of_next_line past) (is_requested past) (keyword_for_device requested) ≡ false) × ((requested && nat_eq (version_of past) 1) ≡ false)
-IsInPlace past (Filter filter) =
-    (is_first_place (place_of_next_line past) ≡ false) × (is_out_of_place (place_of_next_line past) (is_requested past) (keyword_for_filter filter) ≡ false) × (nat_eq (version_of past) 1 ≡ false)
-IsInPlace past (Actor role name) =
-    (is_first_place (place_of_next_line past) ≡ false) × (is_out_of_place (place_of_next_line past) (is_requested past) (keyword_for_role role) ≡ false) × ((is_later_role role && nat_eq (version_of past) 1) ≡ false)
-IsInPlace past i = (is_first_place (place_of_next_line past) ≡ false) × (is_out_of_place (place_of_next_line past) (is_requested past) (keyword_for i) ≡ false)
+abbrev pub is_header_item : Item → Bool
+is_header_item (Header version) = true
+is_header_item _ = false
 
--- A line that says the item is accepted behind the past.
-pub record IsAccepted (past : Past) (i : Item) : Type 0 where
-  pub sayable : IsSayable (actors_in past) (stream_count past) i
-  pub in_place : IsInPlace past i
-  pub in_version : is_later_command (context_of past) i ≡ false
-  pub once : is_twice (context_of past) i ≡ false
-  pub few : is_too_many (context_of past) i ≡ false
-  pub few_slots : has_too_many_slots (context_of past) i ≡ false
-  pub fits : builder_refusal (latest_description past) i ≡ None
+abbrev pub is_action_item : Item → Bool
+is_action_item (Action actor does) = true
+is_action_item _ = false
 
--- lines that say these items, one after another, are accepted behind the past
-abbrev pub AreAccepted : Past → List Item → Type 0
-AreAccepted past [] = Unit {0}
-AreAccepted past (i ∷ more) = IsAccepted past i × AreAccepted (i ∷ past) more
+-- items that describe the latest device
+abbrev pub is_describing_item : Item → Bool
+is_describing_item (Header version) = false
+is_describing_item (Device requested name) = false
+is_describing_item (Actor role name) = false
+is_describing_item (Action actor does) = false
+is_describing_item _ = true
+
+-- a device made by requests, a filter, a joystick and an owner are read under a later version than 1 alone
+abbrev pub is_later_item : Item → Bool
+is_later_item (Device requested name) = requested
+is_later_item (Filter filter) = true
+is_later_item (Actor role name) = is_later_role role
+is_later_item _ = false
+
+-- A line that says the item is accepted where what came before is this.
+pub record IsAccepted (c : Context) (i : Item) : Type 0 where
+  pub sayable : IsSayable c.actors c.streams i
+  pub headed : is_header_item i ≡ false → is_first_place c.place ≡ false
+  pub in_place : is_out_of_place c.place c.requested (keyword_for i) ≡ false
+  pub later : (is_later_item i && nat_eq c.version 1) ≡ false
+  pub in_version : is_later_command c i ≡ false
+  pub once : is_twice c i ≡ false
+  pub few : is_too_many c i ≡ false
+  pub few_slots : has_too_many_slots c i ≡ false
+  pub fits : builder_refusal c.builder i ≡ None
+
+-- what these items leave, one after another
+abbrev pub after_all : List Item → Context → Context
+after_all [] c = c
+after_all (i ∷ more) c = after_all more (after i c)
+
+-- lines that say these items, one after another, are accepted
+abbrev pub AreAccepted : Context → List Item → Type 0
+AreAccepted c [] = Unit {0}
+AreAccepted c (i ∷ more) = IsAccepted c i × AreAccepted (after i c) more
+
+-- the items of a past were accepted one after another, the newest last
+abbrev pub WereAccepted : Past → Type 0
+WereAccepted [] = Unit {0}
+WereAccepted (i ∷ past) = IsAccepted (context_of past) i × WereAccepted past
+
+-- what holds before the first line, and with each accepted line goes on to hold, holds behind accepted lines
+pub always : (P : Context → Type 0) → P first_context → ((c : Context) (i : Item) → IsAccepted c i → P c → P (after i c)) → (past : Past) → WereAccepted past → P (context_of past)
+always P start step [] were = start
+always P start step (i ∷ past) were = step (context_of past) i were.0 (always P start step past were.1)
+
+-- an item has the keyword of an action where it is one
+pub acts : (i : Item) → is_action (keyword_for i) ≡ is_action_item i
+acts (Device true name) = refl
+acts (Device false name) = refl
+acts (Filter (filters.Eat kind code)) = refl
+acts (Filter f) = refl
+acts (Actor roles.Source name) = refl
+acts (Actor role name) = refl
+acts i = refl
+
+-- what describes a device may stand in a description alone
+pub describes_place : (p : Place) (requested : Bool) (i : Item) → is_describing_item i ≡ true → is_out_of_place p requested (keyword_for i) ≡ not (is_describing p)
+describes_place p requested (Header version) d = absurd (cc d)
+describes_place p requested (Device made name) d = absurd (cc d)
+describes_place p requested (Actor role name) d = absurd (cc d)
+describes_place p requested (Action actor does) d = absurd (cc d)
+describes_place p requested (Filter (filters.Eat kind code)) d = refl
+describes_place p requested (Filter f) d = refl
+describes_place p requested i d = refl

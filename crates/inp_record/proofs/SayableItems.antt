@@ -1,7 +1,8 @@
 -- What lines mean can be said again: each item by the words that it was read from.
-use Rattle.std.proofs.Common.{◌≡◌, ◌<◌, ◌+◌, ◌-◌, ℕ, zero, suc, Bool, true, false, ◌&&◌, if◌then◌else◌, nat_eq, nat_le, cond, List, [], ◌∷◌, length, filter, Option, Some, None, bytes_eq, Ok, refl, sym, ap, ◌∙◌, subst, arith}
+use Rattle.std.proofs.Common.{◌≡◌, ◌<◌, ◌+◌, ◌-◌, ℕ, zero, suc, Bool, true, false, if◌then◌else◌, nat_le, cond, List, [], ◌∷◌, length, filter, Option, Some, None, bytes_eq, Ok, refl, sym, ap, subst, arith, ◌⊎◌, inl, inr}
 use Rattle.std.specs.Prelude.{slice_get}
-use Rattle.std.specs.List.{list_all, slice_split, onto_first}
+use Rattle.inp_actors.specs.declared.command.Command as command
+use Rattle.std.specs.List.{list_all, slice_split}
 use Rattle.std.proofs.lemmas.Bool.Decides.{nat_tests}
 use Rattle.std.proofs.lemmas.Bool.{and_parts, and_from}
 use Rattle.std.proofs.lemmas.Slice.Eq.{bytes_eq-Decides}
@@ -11,17 +12,17 @@ use Rattle.inp_actors.specs.declared.role.Role as role
 use Rattle.inp_actors.specs.declared.actor_text.ActorText.{ActorText}
 use Rattle.inp_actors.specs.Name.{is_name}
 use Rattle.inp_words.specs.Line.{is_blank, is_text, is_text_byte, is_word, words_of}
-use Rattle.inp_words.specs.Table.{named}
 use Rattle.inp_record.specs.declared.keyword.Keyword as keyword
 use Rattle.inp_record.specs.declared.verb.Verb as verb
 use Rattle.inp_record.specs.declared.item.Item as item
 use Rattle.inp_record.specs.declared.item.Item.TheVariants as items
-use Rattle.inp_record.specs.Verb.{argument_count, is_verb_of, with_arguments, verb_of, verb_rows}
+use Rattle.inp_record.specs.Verb.{verb_of}
 use Rattle.inp_record.specs.Words.{word, has_micros, plain_item, command_of, actor_from, action_by, action_with, action_item, or_bad_word, is_action, item_of}
-use Rattle.inp_record.proofs.Good.{or_bad_is}
-use Rattle.inp_record.proofs.Inversions.{of_row, verb_is, action_of_is, act_is}
-use Rattle.inp_record.proofs.Sayable.{is_visible, IsPlainWord, IsSayable}
-use Rattle.inp_record.proofs.Lines.{plain_said}
+use Rattle.inp_record.proofs.Inversions.{of_row, action_of_is, act_is, or_bad_is}
+use Rattle.inp_record.proofs.Texts.{words_all}
+use Rattle.inp_record.proofs.Verbs.{verb_found}
+use Rattle.inp_record.proofs.Sayable.{is_visible, keyword_for, IsPlainWord, IsSayable}
+use Rattle.inp_record.proofs.Lines.{plain_keyword, plain_said}
 
 -- the words of a line of text
 
@@ -30,22 +31,6 @@ are_visible ws = list_all (λ w. list_all is_visible w) ws
 
 text_visible : (b : ℕ) → is_text_byte b ≡ true → is_blank b ≡ false → is_visible b ≡ true
 text_visible b h k = grind (arith, nat_tests)
-
-onto_visible : (b : ℕ) (ws : List (List ℕ)) → is_visible b ≡ true → are_visible ws ≡ true → are_visible (onto_first b ws) ≡ true
-onto_visible b [] h k = rw h refl
-onto_visible b (w ∷ ws) h k =
-    let g = and_parts (list_all is_visible w) (are_visible ws) k in
-    rw (h, g.0, g.1) refl
-
-split_visible : (line : List ℕ) → is_text line ≡ true → are_visible (slice_split is_blank line) ≡ true
-split_visible [] h = refl
-split_visible (b ∷ line) h =
-    let parts = and_parts (is_text_byte b) (is_text line) h in
-    by_blank (is_blank b) refl parts.0 (split_visible line parts.1)
-  where
-    by_blank : (blank : Bool) → is_blank b ≡ blank → is_text_byte b ≡ true → are_visible (slice_split is_blank line) ≡ true → are_visible (cond blank ([] ∷ slice_split is_blank line) (onto_first b (slice_split is_blank line))) ≡ true
-    by_blank true k t more = more
-    by_blank false k t more = onto_visible b (slice_split is_blank line) (text_visible b t k) more
 
 abbrev pub are_words : List (List ℕ) → Bool
 are_words ws = list_all is_word ws
@@ -58,16 +43,6 @@ filter_words (w ∷ ws) = by_word (is_word w) refl (filter_words ws)
     by_word true h more = and_from (is_word w) (are_words (filter is_word ws)) h more
     by_word false h more = more
 
-filter_visible : (ws : List (List ℕ)) → are_visible ws ≡ true → are_visible (filter is_word ws) ≡ true
-filter_visible [] h = refl
-filter_visible (w ∷ ws) h =
-    let parts = and_parts (list_all is_visible w) (are_visible ws) h in
-    by_word (is_word w) parts.0 (filter_visible ws parts.1)
-  where
-    by_word : (is : Bool) → list_all is_visible w ≡ true → are_visible (filter is_word ws) ≡ true → are_visible (cond is (w ∷ filter is_word ws) (filter is_word ws)) ≡ true
-    by_word true h more = and_from (list_all is_visible w) (are_visible (filter is_word ws)) h more
-    by_word false h more = more
-
 pub record ArePlain (ws : List (List ℕ)) : Type 0 where
   pub words : are_words ws ≡ true
   pub visible : are_visible ws ≡ true
@@ -75,7 +50,7 @@ pub record ArePlain (ws : List (List ℕ)) : Type 0 where
 pub line_plain : (line : List ℕ) → is_text line ≡ true → ArePlain (words_of line)
 line_plain line h = record {
   words = filter_words (slice_split is_blank line);
-  visible = filter_visible (slice_split is_blank line) (split_visible line h);
+  visible = words_all is_text_byte is_visible text_visible line h;
 }
 
 plain_at : (ws : List (List ℕ)) (i : ℕ) → ArePlain ws → i < length ws → IsPlainWord (word i ws)
@@ -92,20 +67,6 @@ plain_at (w ∷ ws) (suc i) p h =
 
 say : (actors : List ActorText) (s : ℕ) (i j : item.Item) → i ≡ j → IsSayable actors s j → IsSayable actors s i
 say actors s i j e h = let P : item.Item → Type 0 = λ x. IsSayable actors s x in subst P (sym e) h
-
--- a command has as many words as its verb takes
-arguments_are : (r : role.Role) (count : ℕ) (o : Option verb.Verb) (v : verb.Verb) → with_arguments r count o ≡ Some v → argument_count v ≡ count
-arguments_are r count None v e = absurd (cc e)
-arguments_are r count (Some u) v e = by_tests (is_verb_of r u) (nat_eq (argument_count u) count) refl e
-  where
-    by_tests : (of right : Bool) → nat_eq (argument_count u) count ≡ right → (if of && right then Some u else None) ≡ Some v → argument_count v ≡ count
-    by_tests true true h e = let same : u ≡ v = cc e in let right : argument_count u ≡ count = grind (arith, nat_tests) in ap argument_count (sym same) ∙ right
-    by_tests true false h e = absurd (cc e)
-    by_tests false right h e = absurd (cc e)
-
-verb_arguments : (r : role.Role) (w : List ℕ) (count : ℕ) (v : verb.Verb) → verb_of r w count ≡ Some v → argument_count v ≡ count
-unfolding verb_of
-verb_arguments r w count v e = arguments_are r count (named verb_rows w) v e
 
 -- the actor that was found has this name
 named_is : (n : ℕ) (actors : List ActorText) (w : List ℕ) (a : ℕ × role.Role) → actor_from n actors w ≡ Some a
@@ -131,8 +92,8 @@ action_said actors s ws i names plain e = by_actor (actor_from 0 actors (word 1 
     by_verb a h (Some v) g e =
         let k = action_of_is a.0 (command_of s a.1 v ws) i e in
         let c = k.0 in
-        let count = verb_arguments a.1 (word 2 ws) (length ws - 3) v g in
-        let row = of_row IsPlainWord s a.1 v ws c (verb_is a.1 (word 2 ws) (length ws - 3) v g) (λ k le lt. plain_at ws k plain (omega (arith, count))) k.1 in
+        let found = verb_found a.1 (word 2 ws) (length ws - 3) v g in
+        let row = of_row IsPlainWord s a.1 v ws c found.allowed (λ k le lt. plain_at ws k plain (omega (arith, found.given))) k.1 in
         let who = named_is 0 actors (word 1 ws) a h in
         let at : who.0 ≡ a.0 = omega (arith, who.2) in
         let there : slice_get actors a.0 ≡ Some who.1 = subst (λ (k : ℕ). slice_get actors k ≡ Some who.1) at who.3 in
@@ -147,6 +108,16 @@ action_said actors s ws i names plain e = by_actor (actor_from 0 actors (word 1 
     by_actor : (o : Option (ℕ × role.Role)) → actor_from 0 actors (word 1 ws) ≡ o → action_with s o ws ≡ Ok i → IsSayable actors s i
     by_actor None h e = absurd (cc e)
     by_actor (Some a) h e = by_verb a h (verb_of a.1 (word 2 ws) (length ws - 3)) refl e
+
+-- a line with a meaning is an action, or another line with its keyword
+pub item_is : (actors : List ActorText) (s : ℕ) (k : keyword.Keyword) (ws : List (List ℕ)) (i : item.Item) → item_of actors s k ws ≡ Ok i
+    → ((actor : ℕ) × (c : command.Command) × (i ≡ items.Action actor c)) ⊎ (keyword_for i ≡ k)
+unfolding item_of
+item_is actors s k ws i e = by_action (is_action k) e
+  where
+    by_action : (is : Bool) → (if is then action_item actors s ws else or_bad_word (plain_item k ws)) ≡ Ok i → ((actor : ℕ) × (c : command.Command) × (i ≡ items.Action actor c)) ⊎ (keyword_for i ≡ k)
+    by_action true e = inl (act_is actors s ws i e)
+    by_action false e = inr (plain_keyword k ws i (or_bad_is (plain_item k ws) i e))
 
 -- what words mean can be said
 pub item_said : (actors : List ActorText) (s : ℕ) (k : keyword.Keyword) (ws : List (List ℕ)) (i : item.Item) → AreNamed actors → ArePlain ws → item_of actors s k ws ≡ Ok i → IsSayable actors s i

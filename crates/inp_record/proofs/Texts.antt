@@ -1,10 +1,10 @@
--- Words of text are ASCII.
-use Rattle.std.proofs.Common.{◌≡◌, ℕ, ◌<◌, ◌≤◌, Bor, Bool, true, false, ◌&&◌, cond, length, List, [], ◌∷◌, filter, refl, arith}
+-- Words of text: ASCII, and text.
+use Rattle.std.proofs.Common.{◌≡◌, ℕ, ◌<◌, ◌≤◌, Bor, Bool, true, false, cond, length, List, [], ◌∷◌, filter, refl, arith}
 use Rattle.std.specs.List.{list_all, slice_split, onto_first}
 use Rattle.std.specs.Str.{IsUtf8}
 use Rattle.std.proofs.lemmas.Str.{IsUtf8-from_ascii}
 use Rattle.std.proofs.lemmas.Bool.Decides.{nat_tests}
-use Rattle.std.proofs.lemmas.Bool.{and_parts}
+use Rattle.std.proofs.lemmas.Bool.{and_parts, and_from}
 use Rattle.inp_words.specs.Line.{is_text, is_text_byte, is_blank, is_word, words_of, AreText}
 use Rattle.inp_codes.specs.ByNumber.{texts}
 use Rattle.inp_words.proofs.NameWords.{bytes_are_ascii}
@@ -15,33 +15,43 @@ byte_is_ascii b h = grind (arith, nat_tests)
 pub IsUtf8-from_text : (word : List ℕ) → is_text word ≡ true → IsUtf8 word
 IsUtf8-from_text word h = IsUtf8-from_ascii word (bytes_are_ascii is_text_byte byte_is_ascii word h)
 
-pub together : (a b : Bool) → a ≡ true → b ≡ true → (a && b) ≡ true
-together true b h k = k
-together false b h k = absurd (cc)
+-- what passes one test passes a weaker one
+pub all_weaker : {X : Type 0} (p q : X → Bool) → ((x : X) → p x ≡ true → q x ≡ true) → (xs : List X) → list_all p xs ≡ true → list_all q xs ≡ true
+all_weaker p q fits [] h = refl
+all_weaker p q fits (x ∷ xs) h = let parts = and_parts (p x) (list_all p xs) h in and_from (q x) (list_all q xs) (fits x parts.0) (all_weaker p q fits xs parts.1)
 
-onto_text : (b : ℕ) (parts : List (List ℕ)) → is_text_byte b ≡ true → AreText parts → AreText (onto_first b parts)
-onto_text b [] h a = together (is_text (b ∷ [])) true (together (is_text_byte b) true h refl) refl
-onto_text b (part ∷ parts) h a = together (is_text (b ∷ part)) (list_all is_text parts) (together (is_text_byte b) (is_text part) h (and_parts _ _ a).0) (and_parts _ _ a).1
-
-pieces_are_text : (line : List ℕ) → is_text line ≡ true → AreText (slice_split is_blank line)
-pieces_are_text [] h = refl
-pieces_are_text (b ∷ line) h = by_blank (is_blank b) (pieces_are_text line (and_parts _ _ h).1)
+kept_all : (test : List ℕ → Bool) (ws : List (List ℕ)) → list_all test ws ≡ true → list_all test (filter is_word ws) ≡ true
+kept_all test [] h = refl
+kept_all test (w ∷ ws) h =
+    let parts = and_parts (test w) (list_all test ws) h in
+    by_word (is_word w) parts.0 (kept_all test ws parts.1)
   where
-    by_blank : (blank : Bool) → AreText (slice_split is_blank line) → AreText (cond blank ([] ∷ slice_split is_blank line) (onto_first b (slice_split is_blank line)))
-    by_blank true a = a
-    by_blank false a = onto_text b (slice_split is_blank line) (and_parts _ _ h).0 a
+    by_word : (is : Bool) → test w ≡ true → list_all test (filter is_word ws) ≡ true → list_all test (cond is (w ∷ filter is_word ws) (filter is_word ws)) ≡ true
+    by_word true k more = and_from (test w) (list_all test (filter is_word ws)) k more
+    by_word false k more = more
 
-filter_text : (parts : List (List ℕ)) → AreText parts → AreText (filter is_word parts)
-filter_text [] h = refl
-filter_text (part ∷ parts) h = by_word (is_word part) (filter_text parts (and_parts _ _ h).1)
-  where
-    by_word : (is : Bool) → AreText (filter is_word parts) → AreText (cond is (part ∷ filter is_word parts) (filter is_word parts))
-    by_word true a = together (is_text part) (list_all is_text (filter is_word parts)) (and_parts _ _ h).0 a
-    by_word false a = a
+-- the words of a line have what its bytes have that are no blanks
+module _ (p q : ℕ → Bool) (fits : (b : ℕ) → p b ≡ true → is_blank b ≡ false → q b ≡ true) where
+  onto_all : (b : ℕ) (ws : List (List ℕ)) → q b ≡ true → list_all (λ w. list_all q w) ws ≡ true → list_all (λ w. list_all q w) (onto_first b ws) ≡ true
+  onto_all b [] h k = rw h refl
+  onto_all b (w ∷ ws) h k = let parts = and_parts (list_all q w) (list_all (λ v. list_all q v) ws) k in rw (h, parts.0, parts.1) refl
+
+  pieces_all : (line : List ℕ) → list_all p line ≡ true → list_all (λ w. list_all q w) (slice_split is_blank line) ≡ true
+  pieces_all [] h = refl
+  pieces_all (b ∷ line) h =
+      let parts = and_parts (p b) (list_all p line) h in
+      by_blank (is_blank b) refl parts.0 (pieces_all line parts.1)
+    where
+      by_blank : (blank : Bool) → is_blank b ≡ blank → p b ≡ true → list_all (λ w. list_all q w) (slice_split is_blank line) ≡ true → list_all (λ w. list_all q w) (cond blank ([] ∷ slice_split is_blank line) (onto_first b (slice_split is_blank line))) ≡ true
+      by_blank true k t more = more
+      by_blank false k t more = onto_all b (slice_split is_blank line) (fits b t k) more
+
+  pub words_all : (line : List ℕ) → list_all p line ≡ true → list_all (λ w. list_all q w) (words_of line) ≡ true
+  words_all line h = kept_all (λ w. list_all q w) (slice_split is_blank line) (pieces_all line h)
 
 -- the words of a line of text are text
 pub words_are_text : (line : List ℕ) → is_text line ≡ true → AreText (words_of line)
-words_are_text line h = filter_text (slice_split is_blank line) (pieces_are_text line h)
+words_are_text line h = words_all is_text_byte is_text_byte (λ b t k. t) line h
 
 pub some_texts : (ws : List (Bor (List ℕ))) → 0 < length ws → 1 ≤ length (texts ws)
 some_texts [] h = absurd (omega arith)

@@ -37,8 +37,8 @@ pub data Field : Type 0 where
   -- no word
   Never : Field
 
-abbrev pub moment : Field
-moment = Number MOMENT_MAX
+abbrev pub any_moment : Field
+any_moment = Number MOMENT_MAX
 
 -- a number of 32 bits
 abbrev pub count : Field

@@ -20,8 +20,8 @@ pub record LineRow : Type 0 where
   -- what the words of a line say, if they have their forms
   pub read : List (List ℕ) → Option item.Item
 
-abbrev pub line : ℕ → (fields : List Field) → Makes item.Item fields → LineRow
-line first fields make =
+abbrev pub item_line : ℕ → (fields : List Field) → Makes item.Item fields → LineRow
+item_line first fields make =
     record { first = first; fields = fields; make = make; read = λ ws. made item.Item fields 0 first ws make }
 
 -- the offset of a clock other than the monotonic one
@@ -31,26 +31,26 @@ offset_item false offset = items.Realtime offset
 
 -- each line that is no action
 unfoldable pub line_row : Keyword → LineRow
-line_row Header = line 1 (field.Version ∷ []) items.Header
-line_row Device = line 1 (field.Name ∷ []) (λ name. items.Device false name)
-line_row Udevice = line 1 (field.Name ∷ []) (λ name. items.Device true name)
-line_row Hint = line 1 (field.count ∷ []) items.Hint
-line_row Log = line 1 (field.count ∷ []) items.Log
-line_row Clock = line 1 (field.OtherClock ∷ field.Number (2 ^ 64 - 1) ∷ []) offset_item
-line_row Slots = line 1 (field.count ∷ []) items.Slots
-line_row Kind = line 1 (field.Kind ∷ []) items.Kind
-line_row Code = line 1 (field.Kind ∷ field.Code ∷ []) items.Code
+line_row Header = item_line 1 (field.Version ∷ []) items.Header
+line_row Device = item_line 1 (field.Name ∷ []) (λ name. items.Device false name)
+line_row Udevice = item_line 1 (field.Name ∷ []) (λ name. items.Device true name)
+line_row Hint = item_line 1 (field.count ∷ []) items.Hint
+line_row Log = item_line 1 (field.count ∷ []) items.Log
+line_row Clock = item_line 1 (field.OtherClock ∷ field.Number (2 ^ 64 - 1) ∷ []) offset_item
+line_row Slots = item_line 1 (field.count ∷ []) items.Slots
+line_row Kind = item_line 1 (field.Kind ∷ []) items.Kind
+line_row Code = item_line 1 (field.Kind ∷ field.Code ∷ []) items.Code
 line_row Axis =
-    line 1 axis_fields
+    item_line 1 axis_fields
     (λ code value minimum maximum fuzz flat resolution. items.Axis code (record { value = value; minimum = minimum; maximum = maximum; fuzz = fuzz; flat = flat; resolution = resolution }))
-line_row Filter = line 1 (field.Never ∷ []) (λ never. absurd never)
-line_row Eat = line 2 (field.Kind ∷ field.Code ∷ []) (λ kind code. items.Filter (filters.Eat kind code))
-line_row Norepeat = line 2 [] (items.Filter filters.Norepeat)
-line_row Chord = line 2 (field.CodeOf EV_KEY ∷ field.CodeOf EV_KEY ∷ []) (λ first second. items.Filter (filters.Chord first second))
-line_row Bounce = line 2 (field.CodeOf EV_KEY ∷ field.Positive BOUNCE_MAX ∷ []) (λ code micros. items.Filter (filters.Bounce code micros))
-line_row Source = line 1 (field.Name ∷ []) (λ name. items.Actor roles.Source name)
-line_row Client = line 1 (field.Name ∷ []) (λ name. items.Actor roles.Client name)
-line_row Tap = line 1 (field.Name ∷ []) (λ name. items.Actor roles.Tap name)
-line_row Joy = line 1 (field.Name ∷ []) (λ name. items.Actor roles.Joy name)
-line_row Owner = line 1 (field.Name ∷ []) (λ name. items.Actor roles.Owner name)
-line_row Action = line 1 (field.Never ∷ []) (λ never. absurd never)
+line_row Filter = item_line 1 (field.Never ∷ []) (λ never. absurd never)
+line_row Eat = item_line 2 (field.Kind ∷ field.Code ∷ []) (λ kind code. items.Filter (filters.Eat kind code))
+line_row Norepeat = item_line 2 [] (items.Filter filters.Norepeat)
+line_row Chord = item_line 2 (field.CodeOf EV_KEY ∷ field.CodeOf EV_KEY ∷ []) (λ first second. items.Filter (filters.Chord first second))
+line_row Bounce = item_line 2 (field.CodeOf EV_KEY ∷ field.Positive BOUNCE_MAX ∷ []) (λ code micros. items.Filter (filters.Bounce code micros))
+line_row Source = item_line 1 (field.Name ∷ []) (λ name. items.Actor roles.Source name)
+line_row Client = item_line 1 (field.Name ∷ []) (λ name. items.Actor roles.Client name)
+line_row Tap = item_line 1 (field.Name ∷ []) (λ name. items.Actor roles.Tap name)
+line_row Joy = item_line 1 (field.Name ∷ []) (λ name. items.Actor roles.Joy name)
+line_row Owner = item_line 1 (field.Name ∷ []) (λ name. items.Actor roles.Owner name)
+line_row Action = item_line 1 (field.Never ∷ []) (λ never. absurd never)

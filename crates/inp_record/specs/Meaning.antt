@@ -27,7 +27,7 @@ use Rattle.inp_record.specs.declared.item.Item.TheVariants.{Device, Hint, Log, R
 use Rattle.inp_record.specs.Keyword.{keyword_of}
 use Rattle.inp_record.specs.Place.{is_first_place, is_out_of_place}
 use Rattle.inp_record.specs.Words.{word, is_header, item_of}
-use Rattle.inp_record.specs.Past.{Past, streams_in, is_later, version_of, latest_description, with_latest, devices_of, actors_in, lines_in, stream_count, context_of}
+use Rattle.inp_record.specs.Past.{Past, streams_in, is_later, devices_of, context_of}
 
 -- the text is there and is this one
 abbrev pub is_text_of : List ℕ → Option (List ℕ) → Bool
@@ -159,30 +159,24 @@ unfoldable pub behind_lines : ℕ → List (List ℕ) → Past → Result Past R
 behind_lines n [] past = Ok past
 behind_lines n (line ∷ lines) past = then_lines n (behind_line past line) (λ now. behind_lines (suc n) lines now)
 
--- the record of a past
-abbrev pub record_of_past : Past → RecordView
-record_of_past past = record {
-  version = version_of past;
-  devices = devices_of past;
-  actors = actors_in past;
-  lines = lines_in past;
-  streams = replicate (stream_count past) [];
-}
-
 -- the latest device stands behind those before it
 abbrev pub closed : Context → Context
 closed c =
-    record c { name = None; builder = syn_alone; devices = with_latest c.devices c.name c.requested c.builder }
+    record c { name = None; builder = syn_alone; devices = devices_of c }
 
 -- the record of what is in a context
 abbrev pub record_of_context : Context → RecordView
 record_of_context c = record {
   version = c.version;
-  devices = with_latest c.devices c.name c.requested c.builder;
+  devices = devices_of c;
   actors = c.actors;
   lines = c.lines;
   streams = replicate c.streams [];
 }
+
+-- the record of a past
+abbrev pub record_of_past : Past → RecordView
+record_of_past past = record_of_context (context_of past)
 
 -- the record of what so many lines mean; without a header the last one is refused
 abbrev pub as_record : ℕ → Result Past Refused → Result RecordView Refused
@@ -196,9 +190,9 @@ meaning bytes = as_record (length (text_lines bytes)) (behind_lines 1 (text_line
 
 -- what a line leaves, where it is entered into what was before it, unless memory ran out
 abbrev pub IsLineEntered : Result (Unit {0}) LineFault → Past → Item → Context → Type 0
-IsLineEntered (Ok done) past item now = (builder_refusal (latest_description past) item ≡ None) × (now ≡ context_of (item ∷ past))
+IsLineEntered (Ok done) past item now = (builder_refusal (context_of past).builder item ≡ None) × (now ≡ context_of (item ∷ past))
 IsLineEntered (Err (line.Refused cause)) past item now =
-    unless_refused (builder_refusal (latest_description past) item) item ≡ Err cause
+    unless_refused (builder_refusal (context_of past).builder item) item ≡ Err cause
 IsLineEntered (Err line.NoMemory) past item now = Unit {0}
 
 -- what a line leaves behind these lines, unless memory ran out

@@ -11,10 +11,10 @@
 //! the description, and else takes it in.
 //!
 //! Its contract: `meaning` of `specs/Meaning.antt` says what bytes mean, and [`parse`] gives just that, unless memory
-//! ran out (`IsParsing`). `meaning` never speaks of a context that changes: what came before a line is the list of the
-//! items before it, a past, and each thing that the next line depends on is read off that list (`specs/Past.antt`). The
-//! causes stand in `specs/Meaning.antt` as one chain in their order, and what the words of each line are in
-//! `specs/Words.antt`. `specs/Spelling.antt` says what the lines of the canonical text mean, and that the text of each
+//! ran out (`IsParsing`). What came before a line is the list of the items before it, a past, and what the line depends on
+//! is a fold over that list, with what each kind of line changes (`specs/Past.antt`). The causes stand in
+//! `specs/Meaning.antt` as one chain in their order, and what the words of each line are in `specs/Line.antt` and
+//! `specs/Verb.antt`, a row for each. `specs/Spelling.antt` says what the lines of the canonical text mean, and that the text of each
 //! record that some bytes are is read again as that record, which [`print`] promises (`RoundTrips`): so [`parse`] gives
 //! the record of a printed text, or want of memory.
 //!

@@ -1,4 +1,4 @@
-use Rattle.std.proofs.Common.{◌≡◌, ◌<◌, true, false, length, get_or, [], drop, rules, tests, arith, ◌∙◌}
+use Rattle.std.proofs.Common.{◌≡◌, true, false, [], drop, rules, tests, arith, ◌∙◌}
 use Rattle.std.specs.List.{slice_split}
 use Rattle.std.specs.Str.Lines.{strip_carriage_return}
 use Rattle.std.proofs.lemmas.List.{length_push, drop_all}
@@ -7,57 +7,34 @@ use Rattle.std.proofs.lemmas.Iterator.Consumers.{YieldsList-at, YieldsList-turn,
 use Rattle.inp_words.specs.Line.{is_line_feed, lines_of}
 use Rattle.inp_record.specs.LineNumber.{is_action_line}
 use Rattle.inp_record.proofs.LineNumbers.{here, another, none_here, not_missed}
-use Rattle.inp_record.proofs.Reading.{line_at, lines_length}
+use Rattle.inp_record.proofs.Reading.{turn_is, lines_length}
 use Rattle.inp_record.proofs.line_numbers.line_number.Goals as goal
 
 pub overflow_add-number : goal.overflow_add-number
 overflow_add-number c =
-    let t = YieldsList-turn (YieldsList-at c.into_iter-piece-iterator.ensures.into_iter_gives (YieldsList-from_slice_split _ is_line_feed c.args.text.now c.split-piece-items.ensures.rest c.split-piece-items.ensures.done c.split-piece-items.ensures.closure (λ x b q k. search (rules, tests)))) c.loop-piece.yielded _ c.loop-piece.yielded_by _ _ c.in-Some.piece c.in-Some.is c.next.ensures.steps in
-    let n = c.loop-piece.number in let parts = slice_split is_line_feed c.args.text.now in
-    let size = lines_length parts in
-    let below : n < length parts = omega (arith, t.0, c.loop-piece.invariant.counted) in
-    omega (arith, c.requires.few)
+    let t = turn_is (slice_split is_line_feed c.args.text.now) c.loop-piece.number _ c.in-Some.piece.now c.loop-piece.invariant.counted (YieldsList-turn (YieldsList-at c.into_iter-piece-iterator.ensures.into_iter_gives (YieldsList-from_slice_split _ is_line_feed c.args.text.now c.split-piece-items.ensures.rest c.split-piece-items.ensures.done c.split-piece-items.ensures.closure (λ x b q k. search (rules, tests)))) c.loop-piece.yielded _ c.loop-piece.yielded_by _ _ c.in-Some.piece c.in-Some.is c.next.ensures.steps) in
+    omega (arith, t.below, c.requires.few)
 
 pub returns-then-left-eq0 : goal.returns-then-left-eq0
 returns-then-left-eq0 c =
-    let t = YieldsList-turn (YieldsList-at c.into_iter-piece-iterator.ensures.into_iter_gives (YieldsList-from_slice_split _ is_line_feed c.args.text.now c.split-piece-items.ensures.rest c.split-piece-items.ensures.done c.split-piece-items.ensures.closure (λ x b q k. search (rules, tests)))) c.loop-piece.yielded _ c.loop-piece.yielded_by _ _ c.in-Some.piece c.in-Some.is c.next.ensures.steps in
-    let n = c.loop-piece.number in let parts = slice_split is_line_feed c.args.text.now in
-    let size = lines_length parts in
-    let below : n < length parts = omega (arith, t.0, c.loop-piece.invariant.counted) in
-    let here_is : c.in-Some.piece.now ≡ get_or parts n c.in-Some.piece.now = rw (← c.loop-piece.invariant.counted) at t.1 in
-    let line = line_at parts n c.in-Some.piece.now below here_is in
-    let lines = lines_of c.args.text.now in let x = strip_carriage_return c.in-Some.piece.now in
-    let stripped : c.strip_carriage_return.result.now ≡ x = c.strip_carriage_return.ensures.stripped in
-    let is : is_action_line x ≡ true = cc in
-    record { number = c.loop-piece.invariant.left ∙ here lines n c.loop-piece.left x line is (omega arith) }
+    let t = turn_is (slice_split is_line_feed c.args.text.now) c.loop-piece.number _ c.in-Some.piece.now c.loop-piece.invariant.counted (YieldsList-turn (YieldsList-at c.into_iter-piece-iterator.ensures.into_iter_gives (YieldsList-from_slice_split _ is_line_feed c.args.text.now c.split-piece-items.ensures.rest c.split-piece-items.ensures.done c.split-piece-items.ensures.closure (λ x b q k. search (rules, tests)))) c.loop-piece.yielded _ c.loop-piece.yielded_by _ _ c.in-Some.piece c.in-Some.is c.next.ensures.steps) in
+    let stripped : c.strip_carriage_return.result.now ≡ strip_carriage_return c.in-Some.piece.now = c.strip_carriage_return.ensures.stripped in
+    let is : is_action_line (strip_carriage_return c.in-Some.piece.now) ≡ true = cc in
+    record { number = c.loop-piece.invariant.left ∙ here (lines_of c.args.text.now) c.loop-piece.number c.loop-piece.left (strip_carriage_return c.in-Some.piece.now) t.line is (omega arith) }
 
 pub loop-piece-preserved-then-is_action_line : goal.loop-piece-preserved-then-is_action_line
 loop-piece-preserved-then-is_action_line c =
-    let t = YieldsList-turn (YieldsList-at c.into_iter-piece-iterator.ensures.into_iter_gives (YieldsList-from_slice_split _ is_line_feed c.args.text.now c.split-piece-items.ensures.rest c.split-piece-items.ensures.done c.split-piece-items.ensures.closure (λ x b q k. search (rules, tests)))) c.loop-piece.yielded _ c.loop-piece.yielded_by _ _ c.in-Some.piece c.in-Some.is c.next.ensures.steps in
-    let n = c.loop-piece.number in let parts = slice_split is_line_feed c.args.text.now in
-    let size = lines_length parts in
-    let below : n < length parts = omega (arith, t.0, c.loop-piece.invariant.counted) in
-    let here_is : c.in-Some.piece.now ≡ get_or parts n c.in-Some.piece.now = rw (← c.loop-piece.invariant.counted) at t.1 in
-    let line = line_at parts n c.in-Some.piece.now below here_is in
-    let lines = lines_of c.args.text.now in let x = strip_carriage_return c.in-Some.piece.now in
-    let stripped : c.strip_carriage_return.result.now ≡ x = c.strip_carriage_return.ensures.stripped in
-    let pushed = length_push c.loop-piece.yielded c.in-Some.piece in
-    let is : is_action_line x ≡ true = cc in
-    record { counted = omega (arith, pushed, c.loop-piece.invariant.counted); within = omega arith; left = c.loop-piece.invariant.left ∙ another lines n c.loop-piece.left x line is (omega arith) }
+    let t = turn_is (slice_split is_line_feed c.args.text.now) c.loop-piece.number _ c.in-Some.piece.now c.loop-piece.invariant.counted (YieldsList-turn (YieldsList-at c.into_iter-piece-iterator.ensures.into_iter_gives (YieldsList-from_slice_split _ is_line_feed c.args.text.now c.split-piece-items.ensures.rest c.split-piece-items.ensures.done c.split-piece-items.ensures.closure (λ x b q k. search (rules, tests)))) c.loop-piece.yielded _ c.loop-piece.yielded_by _ _ c.in-Some.piece c.in-Some.is c.next.ensures.steps) in
+    let stripped : c.strip_carriage_return.result.now ≡ strip_carriage_return c.in-Some.piece.now = c.strip_carriage_return.ensures.stripped in
+    let is : is_action_line (strip_carriage_return c.in-Some.piece.now) ≡ true = cc in
+    record { counted = omega (arith, length_push c.loop-piece.yielded c.in-Some.piece, c.loop-piece.invariant.counted); within = omega (arith, t.below); left = c.loop-piece.invariant.left ∙ another (lines_of c.args.text.now) c.loop-piece.number c.loop-piece.left (strip_carriage_return c.in-Some.piece.now) t.line is (omega arith) }
 
 pub loop-piece-preserved : goal.loop-piece-preserved
 loop-piece-preserved c =
-    let t = YieldsList-turn (YieldsList-at c.into_iter-piece-iterator.ensures.into_iter_gives (YieldsList-from_slice_split _ is_line_feed c.args.text.now c.split-piece-items.ensures.rest c.split-piece-items.ensures.done c.split-piece-items.ensures.closure (λ x b q k. search (rules, tests)))) c.loop-piece.yielded _ c.loop-piece.yielded_by _ _ c.in-Some.piece c.in-Some.is c.next.ensures.steps in
-    let n = c.loop-piece.number in let parts = slice_split is_line_feed c.args.text.now in
-    let size = lines_length parts in
-    let below : n < length parts = omega (arith, t.0, c.loop-piece.invariant.counted) in
-    let here_is : c.in-Some.piece.now ≡ get_or parts n c.in-Some.piece.now = rw (← c.loop-piece.invariant.counted) at t.1 in
-    let line = line_at parts n c.in-Some.piece.now below here_is in
-    let lines = lines_of c.args.text.now in let x = strip_carriage_return c.in-Some.piece.now in
-    let stripped : c.strip_carriage_return.result.now ≡ x = c.strip_carriage_return.ensures.stripped in
-    let pushed = length_push c.loop-piece.yielded c.in-Some.piece in
-    let is : is_action_line x ≡ false = cc in
-    record { counted = omega (arith, pushed, c.loop-piece.invariant.counted); within = omega arith; left = c.loop-piece.invariant.left ∙ none_here lines n c.loop-piece.left x line is }
+    let t = turn_is (slice_split is_line_feed c.args.text.now) c.loop-piece.number _ c.in-Some.piece.now c.loop-piece.invariant.counted (YieldsList-turn (YieldsList-at c.into_iter-piece-iterator.ensures.into_iter_gives (YieldsList-from_slice_split _ is_line_feed c.args.text.now c.split-piece-items.ensures.rest c.split-piece-items.ensures.done c.split-piece-items.ensures.closure (λ x b q k. search (rules, tests)))) c.loop-piece.yielded _ c.loop-piece.yielded_by _ _ c.in-Some.piece c.in-Some.is c.next.ensures.steps) in
+    let stripped : c.strip_carriage_return.result.now ≡ strip_carriage_return c.in-Some.piece.now = c.strip_carriage_return.ensures.stripped in
+    let is : is_action_line (strip_carriage_return c.in-Some.piece.now) ≡ false = cc in
+    record { counted = omega (arith, length_push c.loop-piece.yielded c.in-Some.piece, c.loop-piece.invariant.counted); within = omega (arith, t.below); left = c.loop-piece.invariant.left ∙ none_here (lines_of c.args.text.now) c.loop-piece.number c.loop-piece.left (strip_carriage_return c.in-Some.piece.now) t.line is }
 
 pub returns : goal.returns
 returns c =

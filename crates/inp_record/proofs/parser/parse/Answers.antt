@@ -4,7 +4,6 @@ use Rattle.inp_words.specs.Line.{lines_of}
 use Rattle.inp_record.specs.declared.context.Context.{Context}
 use Rattle.inp_record.specs.Fault.{IsParsing}
 use Rattle.inp_record.specs.Meaning.{record_of_context, as_record}
-use Rattle.inp_record.proofs.CanonPasts.{version-read}
 use Rattle.inp_record.proofs.Good.{IsRecord-read}
 use Rattle.inp_record.proofs.Reading.{fault_parsed, meaning_read}
 use Rattle.inp_record.proofs.parser.parse.Goals as goal
@@ -13,7 +12,7 @@ pub into_record-requires : goal.into_record-requires
 into_record-requires c =
     let read = c.in-Ok.ensures in
     let P : Context → Type 0 = λ x. IsRecord (record_of_context x) in
-    record { «record» = subst P (sym read.2) (IsRecord-read (lines_of c.args.text.now) read.0 c.requires.few read.1 (version-read (lines_of c.args.text.now) read.0 read.1)) }
+    record { «record» = subst P (sym read.2) (IsRecord-read (lines_of c.args.text.now) read.0 c.requires.few read.1) }
 
 pub returns-in-Ok : goal.returns-in-Ok
 returns-in-Ok c =
