@@ -5,7 +5,7 @@ import os
 import subprocess
 import xml.etree.ElementTree as ElementTree
 
-from desk_cases import PROGRAM, TOOLS, TOP, DeskCase
+from desk_cases import PROGRAM, TOOLS, TOP, DeskCase, needs_program
 
 EXAMPLES = TOP / "examples"
 
@@ -218,6 +218,7 @@ class Wrongly(CheckCase):
         self.refused("check", path, "--junit", self.folder / "no" / "x.xml", because="x.xml: No such file")
 
     def test_the_others_are_checked_all_the_same(self):
+        needs_program(self)
         good = self.record(STICKS, "desktop takes KEY_A", "desktop never KEY_A", name="good.rec")
         status, written, lines = self.tool("check", self.folder / "missing.rec", good)
         self.assertEqual((2, 1), (status, len(lines)))
@@ -228,6 +229,7 @@ class Wrongly(CheckCase):
 class Forms(CheckCase):
     def setUp(self):
         super().setUp()
+        needs_program(self)
         self.path = self.record(STICKS, "desktop takes KEY_A", "desktop never KEY_A", "desktop never KEY_A 0")
         self.missing = str(self.folder / "missing.rec")
         self.came = "'took 9 1000000 EV_KEY KEY_A 1' came"

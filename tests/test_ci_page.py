@@ -3,7 +3,7 @@
 import os
 import subprocess
 
-from desk_cases import PROGRAM, TOP, DeskCase
+from desk_cases import PROGRAM, TOP, DeskCase, needs_program
 from test_stuck_page import commands
 
 PAGE = TOP / "docs" / "CI.md"
@@ -11,6 +11,7 @@ PAGE = TOP / "docs" / "CI.md"
 
 class CiPage(DeskCase):
     def test_each_command(self):
+        needs_program(self)
         for name in ("tools", "tests", "docs"):
             (self.folder / name).symlink_to(TOP / name)
         env = {**os.environ, "INPUTPLAY": PROGRAM}

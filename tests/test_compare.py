@@ -3,7 +3,7 @@
 import json
 import random
 
-from desk_cases import DATA, TOP, DeskCase
+from desk_cases import DATA, TOP, DeskCase, needs_program
 from desk.comparing import longest_ascending, pairs_of
 
 EXAMPLES = TOP / "examples"
@@ -119,6 +119,7 @@ class Differences(CompareCase):
 
 class Records(CompareCase):
     def test_an_event_more_is_one_difference(self):
+        needs_program(self)
         text = self.written("record", DATA / "mouse.evemu")
         lines = text.splitlines(keepends=True)
         at = next(i for i, line in enumerate(lines) if i > 200 and "REL_X" in line)

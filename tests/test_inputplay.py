@@ -4,7 +4,7 @@ import os
 import shutil
 import subprocess
 
-from desk_cases import PROGRAM, TOOLS, TOP, DeskCase
+from desk_cases import PROGRAM, TOOLS, TOP, DeskCase, needs_program
 from desk.building import needed_crates
 from desk.unproved import file_of
 
@@ -149,6 +149,7 @@ class Install(TreeCase):
         self.assertEqual((0, written, []), self.install(prefix))
 
     def test_what_is_installed_runs(self):
+        needs_program(self)
         self.install("here", "--program", PROGRAM)
         moved = self.folder / "moved"
         (self.folder / "here").rename(moved)

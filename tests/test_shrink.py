@@ -1,6 +1,6 @@
 """tools/shrink: the shortest record for which a command still ends with the same status."""
 
-from desk_cases import PROGRAM, TOOLS, DeskCase
+from desk_cases import PROGRAM, TOOLS, DeskCase, needs_program
 from desk.shrinking import frames_of, shorter
 
 HEAD = "inputrecord 1\ndevice d\ncap EV_KEY KEY_A\ncap EV_KEY KEY_B\nsource s\nclient c\n# A comment.\ndo c open\n"
@@ -38,6 +38,7 @@ class Shrink(DeskCase):
         self.refused("shrink", "--says", "KEY_C", self.file("case.rec", RECORD), "--", "cat", because="does not say 'KEY_C'")
 
     def test_a_loss(self):
+        needs_program(self)
         loses = HEAD.replace("device d\n", "device d\nhint 2\n")
         loses += "".join(frame(n, press("KEY_A", n % 2)) for n in range(1, 60)) + "do c follow\n"
         text = self.shrunk(loses, "sh", "-c", f"{PROGRAM} $1 | grep -q SYN_DROPPED", "sh", "{}")
@@ -45,6 +46,7 @@ class Shrink(DeskCase):
         self.assertEqual(64, text.count(" event "), text)
 
     def test_a_failing_expectation(self):
+        needs_program(self)
         text = HEAD.replace("device d\n", "device d\n#= c never KEY_A 1\n") + frame(1, press("KEY_A")) + "do c follow\n"
         short = self.shrunk(text, TOOLS / "check")
         self.assertEqual(1, self.tool("check", self.file("short.rec", short))[0])
