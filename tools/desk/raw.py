@@ -64,8 +64,9 @@ def what_is_wrong(data, sizes):
     for size in sizes:
         rest = len(data) % size
         if rest and found[size] is None:
-            return (f"a raw capture of {len(data)} bytes, which are {counted(len(data) // size, 'record')} of {size} "
-                    f"bytes and {counted(rest, 'byte')} more: it was cut off")
+            records = counted(len(data) // size, "record")
+            return (f"a raw capture of {len(data)} bytes, which are {records} of {size} bytes and "
+                    f"{counted(rest, 'byte')} more: it was cut off")
     size = max(sizes, key=lambda each: (found[each][0] - 1) * each)
     number, why = found[size]
     if number == 1:
