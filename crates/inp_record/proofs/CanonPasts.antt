@@ -4,7 +4,6 @@ use Rattle.std.specs.Prelude.{codes, option_and_then}
 use Rattle.std.proofs.lemmas.Bool.{and_parts, false_from_ne_true}
 use Rattle.std.proofs.lemmas.Bool.Decides.{nat_tests}
 use Rattle.std.proofs.lemmas.Slice.Eq.{bytes_eq-Decides}
-use Rattle.inp_model.specs.declared.filter.Filter as filter
 use Rattle.inp_model.specs.declared.filter.Filter.TheVariants as filters
 use Rattle.inp_actors.specs.declared.actor_text.ActorText.{ActorText}
 use Rattle.inp_actors.specs.declared.role.Role.TheVariants as roles
@@ -76,14 +75,9 @@ keyword_allowed c ws i p = elim (item_is c.actors c.streams p.keyword ws i p.ite
   | inr h ↦ rw h p.in_place
 ]
 
-filter_keyworded : (f : filter.Filter) → is_later_keyword (keyword_for (Filter f)) ≡ true
-filter_keyworded (filters.Eat kind code) = refl
-filter_keyworded filters.Norepeat = refl
-filter_keyworded (filters.Chord first second) = refl
-filter_keyworded (filters.Bounce code micros) = refl
-
 item_keyworded : (i : Item) → is_later_item i ≡ true → is_later_keyword (keyword_for i) ≡ true
-item_keyworded (Filter f) h = filter_keyworded f
+item_keyworded (Filter (filters.Eat kind code)) h = refl
+item_keyworded (Filter f) h = refl
 item_keyworded (Device true name) h = refl
 item_keyworded (Actor roles.Joy name) h = refl
 item_keyworded (Actor roles.Owner name) h = refl

@@ -1,16 +1,47 @@
--- What the calls of a builder answer and leave.
-use Rattle.std.proofs.Common.{◌≡◌, ℕ, Bool, true, false, ◌&&◌, if◌then◌else◌, ◌∷◌, Ok, Err, Some, None, unwrap_or, refl}
+-- What the calls of a builder answer and leave, and a line behind what was before it.
+use Rattle.std.proofs.Common.{◌≡◌, ℕ, [], ◌∷◌, refl, ◌∙◌, unwrap_or, arith, Bool, true, false, ◌&&◌, if◌then◌else◌, Ok, Err, Some, None, List, Result, length, ◌≤◌, subst}
+use Rattle.std.proofs.lemmas.Bool.Decides.{nat_tests}
 use Rattle.inp_model.specs.Description.{Description}
+use Rattle.inp_record.specs.declared.item.Item.TheVariants.{Device, Realtime, Boottime, Code}
+use Rattle.inp_caps.specs.Builder.{with_kind, with_code}
+use Rattle.inp_record.specs.Past.{Past, context_of}
 use Rattle.inp_caps.specs.declared.caps_refused.CapsRefused.{CapsRefused}
 use Rattle.inp_caps.specs.declared.caps_refused.CapsRefused.TheVariants.{BadCode, BadAxis, BadOffset}
 use Rattle.inp_record.specs.declared.cause.Cause.TheVariants.{Caps}
 use Rattle.inp_record.specs.declared.context.Context.{Context}
 use Rattle.inp_record.specs.declared.item.Item.{Item}
-use Rattle.inp_record.specs.declared.item.Item.TheVariants.{Realtime, Boottime}
 use Rattle.inp_record.specs.declared.place.Place.TheVariants.{Describing}
-use Rattle.inp_record.specs.Past.{Past, context_of}
-use Rattle.inp_record.specs.Meaning.{unless_refused}
-use Rattle.inp_record.proofs.Pasts.{realtime_is, boottime_is}
+use Rattle.inp_record.specs.Meaning.{unless_refused, is_later_command, is_twice, is_too_many, has_too_many_slots, builder_refusal, checked, item_of_words, behind, behind_words, IsLineEntered, IsBehind}
+use Rattle.inp_record.specs.declared.cause.Cause.{Cause}
+use Rattle.inp_record.specs.declared.line_fault.LineFault.{LineFault}
+use Rattle.inp_record.specs.declared.line_fault.LineFault.TheVariants as line
+
+code_realtime : (d : Description) (kind code : ℕ) → (with_code d kind code).realtime ≡ d.realtime
+code_realtime d kind code = grind (arith, nat_tests)
+
+code_boottime : (d : Description) (kind code : ℕ) → (with_code d kind code).boottime ≡ d.boottime
+code_boottime d kind code = grind (arith, nat_tests)
+
+pub code_slots : (d : Description) (kind code : ℕ) → (with_code d kind code).slots ≡ d.slots
+code_slots d kind code = grind (arith, nat_tests)
+
+pub code_filters : (d : Description) (kind code : ℕ) → (with_code d kind code).filters ≡ d.filters
+code_filters d kind code = grind (arith, nat_tests)
+
+-- the offsets of the latest description are those that its device gave
+pub realtime_is : (past : Past) → (context_of past).builder.realtime ≡ unwrap_or (context_of past).given.realtime 0
+realtime_is [] = refl
+realtime_is (Device requested name ∷ past) = refl
+realtime_is (Realtime offset ∷ past) = refl
+realtime_is (Code kind code ∷ past) = code_realtime (with_kind (context_of past).builder kind) kind code ∙ realtime_is past
+realtime_is (i ∷ past) = realtime_is past
+
+pub boottime_is : (past : Past) → (context_of past).builder.boottime ≡ unwrap_or (context_of past).given.boottime 0
+boottime_is [] = refl
+boottime_is (Device requested name ∷ past) = refl
+boottime_is (Boottime offset ∷ past) = refl
+boottime_is (Code kind code ∷ past) = code_boottime (with_kind (context_of past).builder kind) kind code ∙ boottime_is past
+boottime_is (i ∷ past) = boottime_is past
 
 pub axis_refused : (over bad : Bool) (item : Item) (why : CapsRefused) → (if over then Err BadCode else if bad then Err BadAxis else Ok (tt {0})) ≡ Err why
     → unless_refused (if over then Some BadCode else if bad then Some BadAxis else None) item ≡ Err (Caps why)
@@ -46,3 +77,20 @@ pub offset_taken-2 : (within other : Bool) → (done : Unit {0}) → other ≡ t
 offset_taken-2 true other done h e = refl
 offset_taken-2 false true done h e = absurd (cc)
 offset_taken-2 false false done h e = absurd (cc)
+
+-- a line whose command its version has, that is said once, is not one too many and gives no more slots than there may be
+checked_once : (c : Context) (means : Result Item Cause) (item : Item) → means ≡ Ok item → is_later_command c item ≡ false → is_twice c item ≡ false → is_too_many c item ≡ false → has_too_many_slots c item ≡ false → checked c means ≡ unless_refused (builder_refusal c.builder item) item
+checked_once c means item e l t m w = rw (e, l, t, m, w) refl
+
+entered : (past : Past) (item : Item) (means : Result Item Cause) (result : Result (Unit {0}) LineFault) (now : Context) → means ≡ unless_refused (builder_refusal (context_of past).builder item) item → IsLineEntered result past item now → IsBehind result (behind past means) now
+entered past item means (Ok done) now e h = (item ∷ past, rw (e, h.0) refl, h.1)
+entered past item means (Err (line.Refused cause)) now e h = rw (e, h) refl
+entered past item means (Err line.NoMemory) now e h = tt
+
+pub entered_behind : (past : Past) (c : Context) (ws : List (List ℕ)) (item : Item) (result : Result (Unit {0}) LineFault) (now : Context)
+    → c ≡ context_of past → 1 ≤ length ws → item_of_words c ws ≡ Ok item → is_later_command c item ≡ false → is_twice c item ≡ false → is_too_many c item ≡ false → has_too_many_slots c item ≡ false → IsLineEntered result past item now
+    → IsBehind result (behind_words past ws) now
+entered_behind past c [] item result now e some i l t m wide h = absurd (omega arith)
+entered_behind past c (w ∷ ws) item result now e some i l t m wide h =
+    let once : (x : Context) → c ≡ x → checked x (item_of_words x (w ∷ ws)) ≡ unless_refused (builder_refusal x.builder item) item = λ x p. subst (λ (y : Context). checked y (item_of_words y (w ∷ ws)) ≡ unless_refused (builder_refusal y.builder item) item) p (checked_once c (item_of_words c (w ∷ ws)) item i l t m wide) in
+    entered past item (checked (context_of past) (item_of_words (context_of past) (w ∷ ws))) result now (once (context_of past) e) h

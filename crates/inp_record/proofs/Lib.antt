@@ -1,15 +1,12 @@
-pub mod Behind
 pub mod CanonCommands
 pub mod CanonItems
 pub mod CanonLines
 pub mod CanonLists
 pub mod CanonPasts
-pub mod CanonRead
 pub mod CanonRecords
 pub mod CanonWords
 pub mod Computing
 pub mod DescriptionAgain
-pub mod DescriptionFilters
 pub mod DescriptionItems
 pub mod DescriptionLines
 pub mod Entries
@@ -22,7 +19,6 @@ pub mod LineNumbers
 pub mod Lines
 pub mod MadeDescriptions
 pub mod Options
-pub mod Pasts
 pub mod RaisedPasts
 pub mod Reading
 pub mod Rooms
@@ -34,4 +30,3 @@ pub mod SayableWords
 pub mod Stamps
 pub mod Streamless
 pub mod Texts
-pub mod Verbs

@@ -69,10 +69,7 @@ of_line actors s (Filter filters.Norepeat) n h = record { values = tt; fits = tt
 of_line actors s (Filter (filters.Chord first second)) n h = record { values = (first, (second, tt)); fits = (h.0, (h.1, tt)); is = refl; rest = refl; front = refl; small = refl }
 of_line actors s (Filter (filters.Bounce code micros)) n h = record { values = (code, (micros, tt)); fits = (h.0, ((h.1, h.2), tt)); is = refl; rest = refl; front = refl; small = refl }
 of_line actors s (Actor roles.Source name) n h = record { values = (name, tt); fits = (h, tt); is = refl; rest = refl; front = refl; small = refl }
-of_line actors s (Actor roles.Client name) n h = record { values = (name, tt); fits = (h, tt); is = refl; rest = refl; front = refl; small = refl }
-of_line actors s (Actor roles.Tap name) n h = record { values = (name, tt); fits = (h, tt); is = refl; rest = refl; front = refl; small = refl }
-of_line actors s (Actor roles.Joy name) n h = record { values = (name, tt); fits = (h, tt); is = refl; rest = refl; front = refl; small = refl }
-of_line actors s (Actor roles.Owner name) n h = record { values = (name, tt); fits = (h, tt); is = refl; rest = refl; front = refl; small = refl }
+of_line actors s (Actor r name) n h = record { values = (name, tt); fits = (h, tt); is = refl; rest = refl; front = refl; small = refl }
 of_line actors s (Action actor does) n h = absurd (cc n)
 
 -- its words are read again

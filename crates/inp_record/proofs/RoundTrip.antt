@@ -22,13 +22,13 @@ use Rattle.inp_record.specs.Spelling.{item_words, description_items, actor_items
 use Rattle.inp_record.proofs.Reading.{meaning_read, headed}
 use Rattle.inp_record.proofs.Texts.{all_weaker}
 use Rattle.inp_record.proofs.Sayable.{is_action_item, is_describing_item, after_all, WereAccepted}
-use Rattle.inp_record.proofs.CanonRead.{AreBehindActors, behind_items, context_behind, items_read}
+use Rattle.inp_record.proofs.CanonItems.{AreBehindActors, behind_items, context_behind, items_read}
 use Rattle.inp_record.proofs.CanonPasts.{meaning_of_past}
 use Rattle.inp_record.proofs.CanonLists.{head_items, all_items}
 use Rattle.inp_record.proofs.CanonRecords.{canon, settled, not_first, kept}
 use Rattle.inp_record.proofs.DescriptionLines.{description-lines}
 use Rattle.inp_record.proofs.DescriptionItems.{after_all-append, all_if, all_both, all_each}
-use Rattle.inp_record.proofs.DescriptionFilters.{description-describes}
+use Rattle.inp_record.proofs.DescriptionAgain.{description-describes}
 
 -- the canonical lines say the canonical items
 

@@ -20,7 +20,7 @@ use Rattle.inp_record.specs.Verb.{verb_of}
 use Rattle.inp_record.specs.Words.{word, has_micros, plain_item, command_of, actor_from, action_by, action_with, action_item, or_bad_word, is_action, item_of}
 use Rattle.inp_record.proofs.Inversions.{of_row, action_of_is, act_is, or_bad_is}
 use Rattle.inp_record.proofs.Texts.{words_all}
-use Rattle.inp_record.proofs.Verbs.{verb_found}
+use Rattle.inp_record.proofs.Rows.{verb_found}
 use Rattle.inp_record.proofs.Sayable.{is_visible, keyword_for, IsPlainWord, IsSayable}
 use Rattle.inp_record.proofs.Lines.{plain_keyword, plain_said}
 

@@ -1,7 +1,7 @@
 use Rattle.std.proofs.Common.{◌<◌, length, rules}
 use Rattle.inp_codes.specs.ByNumber.{texts}
 use Rattle.inp_record.proofs.Texts.{some_texts}
-use Rattle.inp_record.proofs.Behind.{entered_behind}
+use Rattle.inp_record.proofs.Entries.{entered_behind}
 use Rattle.inp_record.proofs.Inversions.{words_are}
 use Rattle.inp_record.proofs.SayableItems.{has_micros-read}
 use Rattle.inp_record.proofs.line_parser.read_words.Goals as goal

@@ -1,6 +1,6 @@
 use Rattle.std.proofs.Common.{◌≡◌, rules}
 use Rattle.inp_record.specs.Verb.{verb_rows, verb_of}
-use Rattle.inp_record.proofs.Verbs.{count_found}
+use Rattle.inp_record.proofs.Rows.{count_found}
 use Rattle.inp_record.proofs.verb.verb_of.Goals as goal
 
 pub returns-clause-given : goal.returns-clause-given
