@@ -147,6 +147,46 @@ def quoted(text):
                 yield path, unindented(piece)
 
 
+# A definition of a reader's talks, and the files of proofs that may unfold it: the one that walks the talks, and those in
+# which code follows a talk, an example is computed, or queries are spoken of and no talk is.
+WALK = "inp_reader/proofs/NextWalk.antt"
+UNFOLDED = {
+    "read_talk": {"inp_reader/proofs/Computing.antt", "inp_reader/proofs/SaysSessions.antt"},
+    "sync_talk": {
+        "inp_reader/proofs/Computing.antt",
+        "inp_reader/proofs/StandsAfterTalks.antt",
+        "inp_reader/proofs/session/Session/synchronise/Answers.antt",
+    },
+    "ask_each": {
+        "inp_reader/proofs/Computing.antt",
+        "inp_reader/proofs/SaysInTurn.antt",
+        "inp_reader/proofs/StandsAfterTalks.antt",
+        "inp_reader/proofs/Talks.antt",
+    },
+    "queries": {
+        "inp_reader/proofs/Agreeing.antt",
+        "inp_reader/proofs/Computing.antt",
+        "inp_reader/proofs/asker/Asker/query_all/Answers.antt",
+        "inp_tool/proofs/MadeBounds.antt",
+    },
+}
+UNFOLDING = re.compile(r"^\s*unfolding (.*)$", re.M)
+# Two files that are still to become instances.
+WALKING = ["inp_play/proofs/Follows.antt", "inp_play/proofs/Limits.antt"]
+# The code of a page that is antt, with the file that it is from.
+ANTT_QUOTED = re.compile(r"From\s`([^`]+)`[^:]*:\n\n```antt\n(.*?)^```$", re.M | re.S)
+
+
+def unfolded(text):
+    """The definitions that a file of proofs unfolds."""
+    return {name for names in UNFOLDING.findall(text) for name in names.split()}
+
+
+def told(text):
+    """What a file of proofs says besides its imports and its comments."""
+    return "\n".join(line for line in text.splitlines() if not re.match(r"\s*(?:(?:pub )?use |--)", line))
+
+
 def unindented(code):
     return "\n".join(line.strip() for line in code.strip("\n").split("\n"))
 
@@ -337,6 +377,37 @@ class Names(unittest.TestCase):
         self.assertNotIn("is_opened", given()["Past"])
         self.assertIn("is_open", given()["Past"])
         self.assertIn("within", given()["IsRun"])
+
+
+class Walks(unittest.TestCase):
+    def proofs(self):
+        for path in sorted(TOP.glob("crates/*/proofs/**/*.antt")):
+            yield str(path.relative_to(TOP / "crates")), path.read_text()
+
+    def test_no_other_file_takes_a_talk_apart(self):
+        found = {name: set() for name in UNFOLDED}
+        for path, text in self.proofs():
+            for name in unfolded(text) & UNFOLDED.keys():
+                found[name].add(path)
+        for path in WALKING:
+            for files in found.values():
+                files.discard(path)
+        self.assertEqual({name: files | {WALK} for name, files in UNFOLDED.items()}, found)
+
+    def test_no_other_file_speaks_of_the_phase_of_a_talk(self):
+        found = [path for path, text in self.proofs() if re.search(r"\btalk_in\b", told(text))]
+        self.assertEqual([*WALKING, WALK], found)
+
+    def test_the_instance_is_quoted_as_it_stands(self):
+        pieces = ANTT_QUOTED.findall((TOP / "docs" / "ARCHITECTURE.md").read_text())
+        self.assertEqual(1, len(pieces))
+        for path, code in pieces:
+            self.assertIn(code, (TOP / path).read_text(), path)
+
+    def test_what_it_finds_of_a_file(self):
+        text = "use A.{talk_in}\n-- talk_in\npub f : T\nunfolding a b\nf = x\n  unfolding c\n"
+        self.assertEqual({"a", "b", "c"}, unfolded(text))
+        self.assertNotIn("talk_in", told(text))
 
 
 class Sections(unittest.TestCase):

@@ -1,6 +1,7 @@
 -- What an owner was told so far, by what its device keeps.
 use Rattle.std.proofs.Common.{◌≡◌, ℕ, Bool, true, false, if◌then◌else◌, List, [], ◌∷◌, ◌++◌, length, take, map, reverse, refl, sym, ap, subst, ◌∙◌, arith, append_assoc, inl, inr, Some, None}
 use Rattle.std.proofs.lemmas.List.{map-append}
+use Rattle.std.proofs.lemmas.Bool.{cond_both}
 use Rattle.inp_model.specs.declared.event.Event.{Event}
 use Rattle.inp_model.specs.declared.step.Step.{Step}
 use Rattle.inp_model.specs.Description.{Description}
@@ -17,6 +18,7 @@ use Rattle.inp_script.specs.declared.stop.Stop.{Stop}
 use Rattle.inp_script.specs.Owner.{Owning, first_owning, stop_after_answer, after_feedback}
 use Rattle.inp_runs.specs.Owner.{HasFed, IsRefusedAtLimit, EndsFed}
 use Rattle.inp_order.specs.Play.{feedback_calls_after}
+use Rattle.inp_runs.proofs.OwnerLaws.{fed-goes_on}
 
 -- An owner did the feedback calls with room for so many events each, on a device that keeps this: all of them, or those up
 -- to one that was refused.
@@ -69,25 +71,6 @@ so-far-steps d past after more calls rooms last within grown s =
 
 -- Whether the owner stopped
 
--- a call that is kept stops nobody
-fed-unstopped : (d : Description) (kept : List UEntry) (rooms : List ℕ) (o : Owning) → HasFed d kept rooms o → o.stop ≡ None
-unfolding HasFed
-fed-unstopped d [] [] o h = ap (λ (w : Owning). w.stop) h
-fed-unstopped d [] (room ∷ rooms) o h = absurd h
-fed-unstopped d (Made x ∷ kept) rooms o h = fed-unstopped d kept rooms o h
-fed-unstopped d (Feedback count ∷ kept) [] o h = absurd h
-fed-unstopped d (Feedback count ∷ kept) (room ∷ rooms) o h = ap (λ (w : Owning). w.stop) h.3 ∙ by_flag (is_full_of_feedback d kept) h.2
-  where
-    at : ℕ
-    at = length (steps_in kept)
-
-    taken : List Event
-    taken = taken_by_feedback d kept room
-
-    by_flag : (b : Bool) → Feedback count ∷ kept ≡ (if b then kept else Feedback (length taken) ∷ kept) → stop_after_answer (if b then Full at else Took at (length taken)) ≡ None
-    by_flag true e = absurd (omega (arith, ap length e))
-    by_flag false e = refl
-
 -- a refused call stops the owner
 refused-stops : (d : Description) (kept : List UEntry) (rooms done : List ℕ) (before last : Owning) → IsRefusedAtLimit d kept rooms done before last → last.stop ≡ None → ⊥
 refused-stops d kept rooms done before last refused none = by_flag (is_full_of_feedback d refused.found) refused.full (sym (ap (λ (w : Owning). w.stop) refused.told) ∙ none)
@@ -110,7 +93,7 @@ so-far-stopped d kept rooms last room stop is s = record { done = s.done; before
   where
     by_end : EndsFed d kept rooms s.done s.before last → EndsFed d kept (rooms ++ room ∷ []) s.done s.before last
     by_end (inl all) =
-        let none : last.stop ≡ None = ap (λ (w : Owning). w.stop) all.1 ∙ fed-unstopped d kept s.done s.before s.fed in
+        let none : last.stop ≡ None = ap (λ (w : Owning). w.stop) all.1 ∙ fed-goes_on d kept s.done s.before s.fed in
         absurd (let both : Some stop ≡ None = sym is ∙ none in cc)
     by_end (inr refused) = inr (record {
       room = refused.room;
@@ -125,17 +108,15 @@ so-far-stopped d kept rooms last room stop is s = record { done = s.done; before
 
 -- a call stands behind the steps that were kept when it was made
 pub called-within : (d : Description) (past : List Step) (calls : List FeedbackCall) (room : ℕ) → StandsWithin (length past) calls → StandsWithin (length past) (feedback_calls_after (fed d (kept_of past calls) room) calls)
-called-within d past calls room within = by_flag (is_full_of_feedback d (kept_of past calls))
+called-within d past calls room within =
+    cond_both (is_full_of_feedback d (kept_of past calls)) _ _ (λ x. StandsWithin (length past) (feedback_calls_after x calls))
+    (λ _. within) (λ _. omega (arith, ap length (steps_in-kept_of past calls)))
   where
     at : ℕ
     at = length (steps_in (kept_of past calls))
 
     count : ℕ
     count = length (taken_by_feedback d (kept_of past calls) room)
-
-    by_flag : (b : Bool) → StandsWithin (length past) (feedback_calls_after (if b then Full at else Took at count) calls)
-    by_flag true = within
-    by_flag false = omega (arith, ap length (steps_in-kept_of past calls))
 
 -- the owner made its call
 pub so-far-called : (d : Description) (past : List Step) (calls : List FeedbackCall) (rooms : List ℕ) (last : Owning) (room : ℕ) → last.stop ≡ None → IsFedSoFar d (kept_of past calls) rooms last

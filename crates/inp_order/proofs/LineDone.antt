@@ -12,7 +12,7 @@ use Rattle.inp_actors.specs.declared.command.Command.TheVariants.{Feedback}
 use Rattle.inp_actors.specs.declared.line.Line.{Line}
 use Rattle.inp_actors.specs.declared.role.Role.{Role}
 use Rattle.inp_actors.specs.declared.role.Role.TheVariants.{Owner}
-use Rattle.inp_actors.specs.Command.{is_command_of, is_owner, feedback_room}
+use Rattle.inp_actors.specs.Command.{is_command_of, feedback_room}
 use Rattle.inp_actors.specs.Record.{RecordView}
 use Rattle.inp_feedback.specs.declared.feedback_call.FeedbackCall.{FeedbackCall}
 use Rattle.inp_feedback.specs.declared.u_entry.UEntry.{UEntry}
@@ -30,6 +30,7 @@ use Rattle.inp_order.proofs.Calls.{AreExact, talk_with-ends, talk_with-exact, ex
 use Rattle.inp_runs.proofs.LeftByTalks.{leaves-ends}
 use Rattle.inp_runs.proofs.LineTalks.{IsKept, IsKeptIfSome, leaves-line}
 use Rattle.inp_runs.proofs.Listing.{IsImage, option_map-some}
+use Rattle.inp_runs.proofs.JobEnds.{owner-role}
 
 -- An owner that did not stop made its feedback call on a device that kept these steps and calls; one that stopped did
 -- nothing.
@@ -104,10 +105,6 @@ talked r rounds stage now line text a past is_text is_actor is_past no_room h =
     }
 
 -- a line of a feedback call
-
-owner-role : (role : Role) → is_owner role ≡ true → role ≡ Owner
-owner-role Owner h = refl
-owner-role _ h = absurd cc
 
 -- only owners make feedback calls
 pub feedback-of : (role : Role) (command : Command) (room : ℕ) → feedback_room command ≡ Some room → is_command_of role command ≡ true → role ≡ Owner

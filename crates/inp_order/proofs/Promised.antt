@@ -1,11 +1,12 @@
 -- What comes of a record keeps what is promised.
-use Rattle.std.proofs.Common.{◌≡◌, ℕ, zero, suc, ◌+◌, ◌*◌, ◌<◌, Bool, true, false, if◌then◌else◌, List, [], ◌∷◌, length, map, reverse, refl, sym, ap, subst, ◌∙◌, arith, Option, Some, None}
+use Rattle.std.proofs.Common.{◌≡◌, ℕ, zero, suc, ◌+◌, ◌*◌, ◌<◌, Bool, true, List, [], ◌∷◌, length, map, reverse, refl, sym, ap, subst, ◌∙◌, arith, Option, Some, None}
 use Rattle.std.specs.Prelude.{filter, slice_get, option_map, Result, Ok, Err, IfOk}
 use Rattle.std.specs.List.{enumerate_from, range_with_len, sum_by}
 use Rattle.std.proofs.lemmas.Bool.Decides.{nat_tests}
 use Rattle.std.proofs.lemmas.List.{length-map, length-reverse, map-id}
 use Rattle.std.proofs.lemmas.List.FromFn.{length-enumerate_from}
 use Rattle.std.proofs.lemmas.Option.{get_or_from_slice_get, same_Some, slice_get_within, slice_get-map}
+use Rattle.std.proofs.lemmas.Bool.{cond_both, eqb-true}
 use Rattle.inp_model.specs.declared.step.Step.{Step}
 use Rattle.inp_model.specs.Description.{Description, syn_alone}
 use Rattle.inp_actors.specs.declared.actor_text.ActorText.{ActorText}
@@ -32,7 +33,7 @@ use Rattle.inp_runs.specs.Job.{lines_by, lines_talk, AreDescribed, ArePromised}
 use Rattle.inp_runs.specs.Owner.{rooms_of, HasOwned}
 use Rattle.inp_order.specs.Play.{Stage, description_at, first_actor, first_stage, after_lines, jobs_on, run_of, runs_of, play, IsPlay}
 use Rattle.inp_runs.proofs.Done.{device-promised}
-use Rattle.inp_runs.proofs.Listing.{option_map-some, slice_get-filter, slice_get-numbered, map-filter, sum_by-kept, sum_by-none, eq_same}
+use Rattle.inp_runs.proofs.Listing.{option_map-some, slice_get-filter, slice_get-numbered, map-filter, sum_by-kept, sum_by-none}
 use Rattle.inp_runs.proofs.Entries.{entries, below}
 use Rattle.inp_runs.proofs.Played.{all-promised}
 use Rattle.inp_order.proofs.Feeding.{IsFedSoFar, fed-nothing}
@@ -71,11 +72,8 @@ first_is r i a text is_a is_text =
     (sym (slice_get-map (first_actor r) (enumerate_from 0 r.actors) i ∙ ap (λ (o : Option (ℕ × ActorText)). option_map (first_actor r) o) numbered) ∙ is_a)
 
 none_weighs : (r : RecordView) (device place : ℕ) (numbered : ℕ × ActorText) → weight r device place (first_actor r numbered) ≡ 0
-none_weighs r device place numbered = by_flag (is_on_device device (slice_get r.actors numbered.0))
-  where
-    by_flag : (b : Bool) → (if b then entries place [] else 0) ≡ entries place []
-    by_flag true = refl
-    by_flag false = refl
+none_weighs r device place numbered =
+    cond_both (is_on_device device (slice_get r.actors numbered.0)) _ _ (λ x. x ≡ entries place []) (λ _. refl) (λ _. refl)
 
 none_below : (place : ℕ) → 0 ≡ below place 0
 none_below place = grind (arith, nat_tests)
@@ -135,7 +133,7 @@ run_at r stage i run h =
       same = ap (λ (n : ℕ). run_of r stage (n, past.from)) (sym same) ∙ ap (λ (p : ℕ × List Step). run_of r stage p) past.same ∙ image.same;
     }
 
-description_is : (r : RecordView) (i : ℕ) (device : DeviceText) → slice_get r.devices i ≡ Some device → description_at r i ≡ device.caps
+pub description_is : (r : RecordView) (i : ℕ) (device : DeviceText) → slice_get r.devices i ≡ Some device → description_at r i ≡ device.caps
 description_is r i device h =
     let caps : DeviceText → Description = λ (text : DeviceText). text.caps in
     get_or_from_slice_get (map caps r.devices) i device.caps syn_alone (slice_get-map caps r.devices i ∙ ap (λ (o : Option DeviceText). option_map caps o) h)
@@ -149,7 +147,7 @@ so_far_on r rounds stage i device past a text s is_device is_past is_actor is_te
     subst (λ (d : Description). IsSoFar r rounds r.lines d text.role past a) caps (s.actors a.actor a text past is_actor is_text there)
 
 on_this : (device : ℕ) (o : Option ActorText) (text : ActorText) → is_on_device device o ≡ true → o ≡ Some text → text.device ≡ device
-on_this device o text h is = eq_same text.device device (sym (ap (λ (x : Option ActorText). is_on_device device x) is) ∙ h)
+on_this device o text h is = eqb-true text.device device (sym (ap (λ (x : Option ActorText). is_on_device device x) is) ∙ h)
 
 below_one : (place n : ℕ) → place < n → below place n ≡ 1
 below_one place n h = grind (arith, nat_tests, h)
@@ -162,7 +160,7 @@ ended_cells d Client a cells = cells
 ended_cells d Tap a cells = cells
 ended_cells d Owner a cells = tt
 
-there-is : {X : Type 0} (xs : List X) (i : ℕ) → i < length xs → (x : X) × (slice_get xs i ≡ Some x)
+pub there-is : {X : Type 0} (xs : List X) (i : ℕ) → i < length xs → (x : X) × (slice_get xs i ≡ Some x)
 there-is [] i h = absurd (omega (arith, h))
 there-is (x ∷ xs) zero h = (x, refl)
 there-is (x ∷ xs) (suc i) h = there-is xs i (omega (arith, h))

@@ -1,7 +1,7 @@
 -- The events that a reader has at hand are the last ones that its client took, and the index of the next is its own.
 use Rattle.std.proofs.Common.{◌≡◌, ◌⊎◌, inl, inr, ℕ, zero, suc, ◌+◌, ◌-◌, Bool, true, false, if◌then◌else◌, List, [], ◌∷◌, ◌++◌, length, map, drop, reverse, refl, sym, ap, subst, ◌∙◌, arith, append-nil, append_assoc, length-append, Option, Some, None}
 use Rattle.std.specs.Prelude.{slice_get, option_map}
-use Rattle.std.proofs.lemmas.Bool.{true≢false, false≢true, eq-eqb}
+use Rattle.std.proofs.lemmas.Bool.{false≢true, eq-eqb}
 use Rattle.std.proofs.lemmas.List.{length-map, map-append}
 use Rattle.inp_model.specs.declared.taken.Taken.{Taken}
 use Rattle.inp_model.specs.declared.step.Step.{Step}
@@ -10,14 +10,14 @@ use Rattle.inp_model.specs.declared.reply.Reply.{Reply}
 use Rattle.inp_model.specs.Description.{Description}
 use Rattle.inp_model.specs.Past.{past_at}
 use Rattle.inp_model.specs.Queue.{Entry, taken_by, took, took_with}
-use Rattle.inp_model.specs.Reply.{Answer, IsAnswer, answer, answer_by, accepted, refused, is_accepted, taken_of}
+use Rattle.inp_model.specs.Reply.{Answer, IsAnswer, answer, accepted, refused, is_accepted, taken_of}
 use Rattle.inp_model.specs.Run.{Call, HasPlace, place_of, next_place}
 use Rattle.inp_recon.specs.declared.view.View.{View}
 use Rattle.inp_recon.specs.Synchronised.{is_dropped}
 use Rattle.inp_losses.specs.Losses.{IsCausedAt}
 use Rattle.inp_losses.proofs.Causes.{all_taken-caused}
 use Rattle.inp_reader.specs.Standing.{is_use_of}
-use Rattle.inp_model.proofs.Refused.{refused-not_accepted}
+use Rattle.inp_model.proofs.Refused.{unrefused_by}
 use Rattle.inp_reader.proofs.ClientViews.{idle-taken, used-taken}
 use Rattle.inp_reader.proofs.PastsAtCalls.{AreQuiet, IsMet}
 use Rattle.inp_script.specs.declared.sight.Sight.{Sight}
@@ -28,7 +28,8 @@ use Rattle.inp_runs.specs.JobViews.{LastRead, IsOwnEvent, reads_as, is_read_as, 
 use Rattle.inp_runs.specs.Losses.{HasLossCause}
 use Rattle.inp_runs.proofs.LastReads.{one_event_more, read_after-append, read_after-took, read_after-read, read_after-call, read_after-takens}
 use Rattle.inp_runs.proofs.QueueSources.{ComeFrom}
-use Rattle.inp_runs.proofs.Reports.{get-front, whole-past, AreToCome, to-come-behind, past-entered, place_behind, place_behind-append}
+use Rattle.inp_runs.proofs.Reports.{whole-past, AreToCome, to-come-behind, past-entered, place_behind, place_behind-append}
+use Rattle.inp_joy.proofs.Lists.{slice_get-left}
 
 -- ---- an event that a job took
 
@@ -77,13 +78,8 @@ index-read d h client sight x reply taken reads own good =
 
 -- ---- accepted answers
 
--- an answer that is accepted is the one-thread device's
-accepted-exact-by : (d : Description) (past : List Step) (x : Step) (o : Option Reply) → refused d past x ≡ o → is_accepted (answer_by o (accepted d past x)).reply ≡ true → o ≡ None
-accepted-exact-by d past x None h is = refl
-accepted-exact-by d past x (Some reply) h is = absurd (true≢false (sym is ∙ refused-not_accepted d past x reply h))
-
 pub accepted-exact : (d : Description) (past : List Step) (x : Step) (given : Answer) → IsAnswer d past x given → is_accepted given.reply ≡ true → (given ≡ answer d past x) × (refused d past x ≡ None)
-accepted-exact d past x given (inl e) h = (e, accepted-exact-by d past x (refused d past x) refl (ap (λ (a : Answer). is_accepted a.reply) (sym e) ∙ h))
+accepted-exact d past x given (inl e) h = (e, unrefused_by d past x (refused d past x) refl (ap (λ (a : Answer). is_accepted a.reply) (sym e) ∙ h))
 accepted-exact d past x given (inr l) h = absurd (false≢true (ap (λ (a : Answer). is_accepted a.reply) (sym l.2) ∙ h))
 
 -- ---- what a client took
@@ -104,7 +100,7 @@ taken-later d h at client i taken is =
     ap (λ (p : List Step). slice_get (map taken_of (took d p client)) i) (whole-past h at)
     ∙ ap (λ (es : List Entry). slice_get (map taken_of es) i) r.1
     ∙ ap (λ (ts : List Taken). slice_get ts i) (map-append taken_of (took d past client) r.0)
-    ∙ get-front (map taken_of (took d past client)) (map taken_of r.0) i taken is
+    ∙ slice_get-left (map taken_of (took d past client)) (map taken_of r.0) i taken is
 
 -- steps of others take nothing from it
 quiet-took : (d : Description) (client : ℕ) (others past : List Step) → AreQuiet client others → took d (others ++ past) client ≡ took d past client

@@ -31,7 +31,7 @@ use Rattle.inp_reader.specs.Spare.{IsSpare, HasSpare}
 use Rattle.inp_reader.specs.Standing.{is_use_of, calls_since}
 use Rattle.inp_reader.specs.Talk.{Talk, finish, LeadsTo, EndsWith}
 use Rattle.inp_reader.proofs.Agreeing.{spare-made_anew}
-use Rattle.inp_reader.proofs.Calls.{AreAnswered}
+use Rattle.inp_reader.proofs.Calls.{AreAnswered, finished, split-and_then}
 use Rattle.inp_reader.proofs.Meets.{Any, Runs}
 use Rattle.inp_reader.proofs.NextWalk.{sync-by_parts, Renewed, NextRules, next-ends, stop-cases}
 use Rattle.inp_reader.proofs.PastsAtCalls.{AreMet, IsMet}
@@ -39,16 +39,16 @@ use Rattle.inp_reader.proofs.StandsByCalls.{client-next}
 use Rattle.inp_reader.proofs.ShowsDevice.{handed-is-taken, agree-then}
 use Rattle.inp_reader.proofs.TalksKeepSpare.{keeps-next, keeps-start}
 use Rattle.inp_reader.proofs.StandsAfterTalks.{IsHandedOut, HandsOut, IsOpenInStep, Leaves, met-opens, met-unused, in-step-kept, stands-after-next, stands-queried, open-step, open-opens}
-use Rattle.inp_script.proofs.LastAgain.{finish-only, and_then-parts}
 use Rattle.inp_script.specs.declared.sight.Sight.{Sight}
 use Rattle.inp_script.specs.Sight.{call_sight}
 use Rattle.inp_script.proofs.Told.{noted_sight}
 use Rattle.inp_runs.specs.JobViews.{LastRead, AgreesIn, ShowsAt, is_read_as, read_after_sight}
 use Rattle.inp_runs.proofs.AtHand.{AreAtHand, hand-kept, met-took}
 use Rattle.inp_runs.proofs.LastReads.{read_after-other}
-use Rattle.inp_runs.proofs.Owners.{opened-exact, not-refused, past-next}
+use Rattle.inp_runs.proofs.Owners.{opened-exact, past-next}
 use Rattle.inp_runs.proofs.OwnUses.{names-open}
 use Rattle.inp_runs.proofs.Reports.{HasNoOthers, no-others-at, agrees-had, sized-at, shows-later, whole-past, history-at, place_behind, AreToCome, to-come-next, call-met, calls-met}
+use Rattle.inp_model.proofs.Refused.{accepted-unrefused}
 
 -- An event that was handed out
 
@@ -105,7 +105,7 @@ shut-call d h call short placed names = by (is_accepted call.answer.reply) refl
 
     by : (b : Bool) → is_accepted call.answer.reply ≡ b → is_accepted call.answer.reply ≡ false
     by true e =
-        let accepts : refused d past call.step ≡ None = not-refused d past call.step call.answer placed.exact e in
+        let accepts : refused d past call.step ≡ None = accepted-unrefused d past call.step call.answer placed.exact e in
         let below : NO_CLIENT < opens past = is_open-lt past NO_CLIENT (names-open d past call.step NO_CLIENT accepts names) in
         absurd (omega (arith, short, below, few, opens-le past))
     by false e = e
@@ -279,12 +279,12 @@ module _ (d : Description) (h : List Step) (Q : ℕ → Type 0) where
   start-opened least at client ring r s started call calls more c is spare ends =
       let n : ℕ = next_place call.answer.reply in
       let next : Result View Reply → Talk (Started × Reading) = λ asked. finish (after_queries client ring r asked) in
-      let p = and_then-parts (ask_each (queries d client) r.view) next calls (started, s) ends in
-      let f = finish-only (after_queries client ring r p.mid) (started, s) p.second p.second_ends in
-      let whole : calls ≡ p.first = p.whole ∙ ap (λ (cs : List Call). p.first ++ cs) f.0 ∙ append-nil p.first in
-      let t = opened-stands least at client ring r call p.first more p.mid (subst (λ (cs : List Call). AreToCome d h Q least (call ∷ cs ++ more)) whole c) is spare p.first_ends in
-      let same : (after_queries client ring r p.mid).1 ≡ s = ap (λ (o : Started × Reading). o.1) f.1 in
-      let own : Q (after_queries client ring r p.mid).1.client = subst Q (sym (client-queried client ring r p.mid)) t.0 in
+      let p = split-and_then (ask_each (queries d client) r.view) next calls (started, s) ends in
+      let f = finished (after_queries client ring r p.between) (started, s) p.later p.later_ends in
+      let whole : calls ≡ p.first = p.calls_are ∙ ap (λ (cs : List Call). p.first ++ cs) f.0 ∙ append-nil p.first in
+      let t = opened-stands least at client ring r call p.first more p.between (subst (λ (cs : List Call). AreToCome d h Q least (call ∷ cs ++ more)) whole c) is spare p.first_ends in
+      let same : (after_queries client ring r p.between).1 ≡ s = ap (λ (o : Started × Reading). o.1) f.1 in
+      let own : Q (after_queries client ring r p.between).1.client = subst Q (sym (client-queried client ring r p.between)) t.0 in
       subst (λ (cs : List Call). Q s.client × IsOpenInStep d (past_at h (place_behind n cs)) s) (sym whole)
       (subst (λ (x : Reading). Q x.client × IsOpenInStep d (past_at h (place_behind n p.first)) x) same (own, t.1))
 
@@ -302,7 +302,7 @@ module _ (d : Description) (h : List Step) (Q : ℕ → Type 0) where
       by : (reply : Reply) → call.answer.reply ≡ reply → EndsWith (after_open d r reply) calls (started, s) → IsReadingAt (place_behind n calls) s
       by (Opened at client ring) is e = record { spare = spare; stands = inl (start-opened least at client ring r s started call calls more c is reads.spare e) }
       by reply is e =
-          let f = finish-only (start_stop_of reply, r) (started, s) calls e in
+          let f = finished (start_stop_of reply, r) (started, s) calls e in
           let same : r ≡ s = ap (λ (o : Started × Reading). o.1) f.1 in
           let quiet : IsReadingAt n r = quiet-reads least r call (calls ++ more) c (ap (λ (x : Step). is_use_of r.client x) ends.0) reads in
           subst (IsReadingAt (place_behind n calls)) same (subst (λ (cs : List Call). IsReadingAt (place_behind n cs) r) (sym f.0) quiet)
@@ -324,11 +324,11 @@ module _ (d : Description) (h : List Step) (Q : ℕ → Type 0) where
       by : (reply : Reply) → EndsWith (after_open d r reply) calls (started, s) → AreAtHand d h (place_behind n calls) s.client (read_after_sight s.client (last s.client) (noted_sight (call ∷ calls))) s.queue
       by (Opened at client ring) e =
           let next : Result View Reply → Talk (Started × Reading) = λ asked. finish (after_queries client ring r asked) in
-          let p = and_then-parts (ask_each (queries d client) r.view) next calls (started, s) e in
-          let f = finish-only (after_queries client ring r p.mid) (started, s) p.second p.second_ends in
-          inl (ap (λ (o : Started × Reading). o.1.queue) (sym f.1) ∙ no-queue client ring r p.mid)
+          let p = split-and_then (ask_each (queries d client) r.view) next calls (started, s) e in
+          let f = finished (after_queries client ring r p.between) (started, s) p.later p.later_ends in
+          inl (ap (λ (o : Started × Reading). o.1.queue) (sym f.1) ∙ no-queue client ring r p.between)
       by reply e =
-          let f = finish-only (start_stop_of reply, r) (started, s) calls e in
+          let f = finished (start_stop_of reply, r) (started, s) calls e in
           let same : r ≡ s = ap (λ (o : Started × Reading). o.1) f.1 in
           let quiet : AreAtHand d h n r.client (last r.client) r.queue = quiet-hand least r call (calls ++ more) (last r.client) c (ap (λ (x : Step). is_use_of r.client x) ends.0) reads hand in
           let other : is_read_as r.client call.step ≡ false = ap (λ (x : Step). is_read_as r.client x) ends.0 in

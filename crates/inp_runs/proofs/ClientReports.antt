@@ -1,7 +1,7 @@
 -- The view of a client's job at each report that it took.
-use Rattle.std.proofs.Common.{◌≡◌, ◌<◌, ◌⊎◌, inl, inr, ℕ, zero, suc, Bool, true, false, ◌&&◌, if◌then◌else◌, nat_eq, nat_le, List, [], ◌∷◌, ◌++◌, length, map, reverse, refl, sym, ap, subst, ◌∙◌, arith, append-nil, append_assoc, Option, Some, None}
+use Rattle.std.proofs.Common.{◌≡◌, ◌<◌, ◌⊎◌, inl, inr, ℕ, zero, suc, Bool, true, false, ◌&&◌, nat_eq, nat_le, List, [], ◌∷◌, ◌++◌, length, map, reverse, refl, sym, ap, subst, ◌∙◌, arith, append-nil, append_assoc, Option, Some, None}
 use Rattle.std.specs.Prelude.{slice_get}
-use Rattle.std.proofs.lemmas.Bool.{true≢false}
+use Rattle.std.proofs.lemmas.Bool.{true≢false, cond_both, eqb-true}
 use Rattle.inp_model.specs.declared.event.Event.{Event}
 use Rattle.inp_model.specs.declared.event.TheConstants.{EV_SYN, SYN_DROPPED, SYN_REPORT}
 use Rattle.inp_model.specs.declared.taken.Taken.{Taken}
@@ -13,7 +13,7 @@ use Rattle.inp_model.specs.Description.{Description}
 use Rattle.inp_model.specs.Event.{is_report}
 use Rattle.inp_model.specs.Past.{past_at}
 use Rattle.inp_model.specs.Queue.{took}
-use Rattle.inp_model.specs.Reply.{Answer, IsAnswer, accepted, taken_of}
+use Rattle.inp_model.specs.Reply.{Answer, accepted, taken_of}
 use Rattle.inp_model.specs.Run.{Call, HasPlace, place_of, next_place}
 use Rattle.inp_model.specs.Step.{client_of, is_same, is_open_step}
 use Rattle.inp_actors.specs.declared.command.Command.{Command}
@@ -49,7 +49,7 @@ use Rattle.inp_script.specs.Line.{after_call, call_talk, tap_client_after}
 use Rattle.inp_script.specs.Sight.{noted, call_sight, again_sight, taken_sight, start_lacks_memory}
 use Rattle.inp_script.proofs.ClientFolds.{next-folds, entries_of_next}
 use Rattle.inp_script.proofs.Folds.{ArePlaced}
-use Rattle.inp_script.proofs.LastAgain.{finish-only, and_then-parts}
+use Rattle.inp_reader.proofs.Calls.{finished, split-and_then}
 use Rattle.inp_script.proofs.LineFolds.{IsClientFold, folds-on, start_job-folds, IsSilent, no_events, silent-fold}
 use Rattle.inp_script.proofs.LineTold.{memory_there}
 use Rattle.inp_script.proofs.Told.{noted-back, noted_sight}
@@ -59,7 +59,6 @@ use Rattle.inp_runs.proofs.ClientReadings.{IsUnopened, IsReadingAt, NextReads, H
 use Rattle.inp_runs.proofs.Folded.{legal-placed}
 use Rattle.inp_runs.proofs.JobClients.{Drops, last_opened, next-names, start-names}
 use Rattle.inp_runs.proofs.LastReads.{read_after-append, read_after-took, read_after-made, read_after-again, read_after-told, unused-unread}
-use Rattle.inp_runs.proofs.Listing.{eq_same}
 use Rattle.inp_runs.proofs.QueueSources.{with_handed, next-sources}
 use Rattle.inp_runs.proofs.Reports.{AtEach, at_each-append, at_each-call, at_each-again, at_each-noted, place_behind, place_behind-append, AreToCome, to-come-behind}
 use Rattle.inp_runs.proofs.TapViews.{client_after-append, client_after-none, client_after-taking, client_after-kept}
@@ -86,8 +85,8 @@ pub record IsClientJob (d : Description) (h : List Step) (Q : ℕ → Type 0) (l
 -- a loss is no report
 not-both : (e : Event) → is_dropped e ≡ true → is_report e ≡ true → ⊥
 not-both e lost report =
-    let one : e.code ≡ SYN_DROPPED = eq_same e.code SYN_DROPPED (and-right (nat_eq e.kind EV_SYN) (nat_eq e.code SYN_DROPPED) lost) in
-    let other : e.code ≡ SYN_REPORT = eq_same e.code SYN_REPORT (and-right (nat_eq e.kind EV_SYN) (nat_eq e.code SYN_REPORT) report) in
+    let one : e.code ≡ SYN_DROPPED = eqb-true e.code SYN_DROPPED (and-right (nat_eq e.kind EV_SYN) (nat_eq e.code SYN_DROPPED) lost) in
+    let other : e.code ≡ SYN_REPORT = eqb-true e.code SYN_REPORT (and-right (nat_eq e.kind EV_SYN) (nat_eq e.code SYN_REPORT) report) in
     omega (arith, one, other)
 
 -- the client that the entries of calls lead to
@@ -206,19 +205,13 @@ module _ (d : Description) (h : List Step) (Q : ℕ → Type 0) (history : IsHis
   OfTurn least (ends_with j) = IsAt least j
 
   turn-handed : (least : ℕ) (left : Option ℕ) (j : Job) → IsAt least j → OfTurn least (handed left j)
-  turn-handed least left j s = by (is_done left)
-    where
-      by : (b : Bool) → OfTurn least (if b then ends_with j else goes_on (record { job = j; left = left; agains = 0 }))
-      by true = s
-      by false = s
+  turn-handed least left j s = cond_both (is_done left) _ _ (OfTurn least) (λ _. s) (λ _. s)
 
   turn-again : (least : ℕ) (patient left : Option ℕ) (agains at ends : ℕ) (j : Job) → IsAt least j → OfTurn least (after_again patient left agains at ends j)
   turn-again least None left agains at ends j s = again-job least at ends j s
-  turn-again least (Some idle) left agains at ends j s = by (nat_le idle agains)
-    where
-      by : (b : Bool) → OfTurn least (if b then ends_with (with_stop (with_sight j (AgainSight at ends)) (Idle idle at)) else goes_on (record { job = j; left = left; agains = agains }))
-      by true = stop-job least (with_sight j (AgainSight at ends)) (Idle idle at) (again-job least at ends j s)
-      by false = s
+  turn-again least (Some idle) left agains at ends j s =
+      cond_both (nat_le idle agains) _ _ (OfTurn least)
+      (λ _. stop-job least (with_sight j (AgainSight at ends)) (Idle idle at) (again-job least at ends j s)) (λ _. s)
 
   -- no entry is added
   bare-job : (least : ℕ) (j : Job) → IsReadingAt d h Q least j.reading → client_fold d h (settled (first_view d)) (j.sight ++ []) ≡ settled j.reading.view → reads_as j.sight ≡ j.reading.client → HasAtHand d h least j j.reading.queue → AtEach (ClientSaw d h) [] j.sight → IsAt least j
@@ -274,56 +267,55 @@ module _ (d : Description) (h : List Step) (Q : ℕ → Type 0) (history : IsHis
       let r : Reading = g.job.reading in
       let mode : Mode = mode_of skips r.phase in
       let next : (Next × Reading) × List Sight → Talk Turn = λ o. finish (after_next wait g o) in
-      let p = and_then-parts (noted (next_talk d mode r) g.job.sight) next calls turn ends in
-      let f = finish-only (after_next wait g p.mid) turn p.second p.second_ends in
-      let b = noted-back (next_talk d mode r) g.job.sight p.first p.mid p.first_ends in
-      let here : AreToCome d h Q least (p.first ++ (p.second ++ more)) = split-come d h Q least calls p.first p.second more p.whole c in
-      let reads : NextReads d h Q (place_behind least p.first) p.mid.0.0 p.mid.0.1 = next-reads d h Q least mode r p.mid.0.1 p.mid.0.0 p.first (p.second ++ more) history short here s.reading b.0 in
-      let names = next-names d mode r p.mid.0.1 p.mid.0.0 p.first b.0 in
-      let told = folds-on d h (first_view d) g.job (noted_sight p.first ++ entries_of_next p.mid.0.0) s.folded ∙ next-folds d h mode r p.mid.0.1 p.mid.0.0 p.first (placed least p.first (p.second ++ more) here) b.0 in
-      let folded : client_fold d h (settled (first_view d)) (p.mid.1 ++ entries_of_next p.mid.0.0) ≡ settled p.mid.0.1.view =
-      ap (λ (es : List Sight). client_fold d h (settled (first_view d)) (es ++ entries_of_next p.mid.0.0)) b.1
-      ∙ ap (λ (es : List Sight). client_fold d h (settled (first_view d)) es) (append_assoc g.job.sight (noted_sight p.first) (entries_of_next p.mid.0.0))
+      let p = split-and_then (noted (next_talk d mode r) g.job.sight) next calls turn ends in
+      let f = finished (after_next wait g p.between) turn p.later p.later_ends in
+      let b = noted-back (next_talk d mode r) g.job.sight p.first p.between p.first_ends in
+      let here : AreToCome d h Q least (p.first ++ (p.later ++ more)) = split-come d h Q least calls p.first p.later more p.calls_are c in
+      let reads : NextReads d h Q (place_behind least p.first) p.between.0.0 p.between.0.1 = next-reads d h Q least mode r p.between.0.1 p.between.0.0 p.first (p.later ++ more) history short here s.reading b.0 in
+      let names = next-names d mode r p.between.0.1 p.between.0.0 p.first b.0 in
+      let told = folds-on d h (first_view d) g.job (noted_sight p.first ++ entries_of_next p.between.0.0) s.folded ∙ next-folds d h mode r p.between.0.1 p.between.0.0 p.first (placed least p.first (p.later ++ more) here) b.0 in
+      let folded : client_fold d h (settled (first_view d)) (p.between.1 ++ entries_of_next p.between.0.0) ≡ settled p.between.0.1.view =
+      ap (λ (es : List Sight). client_fold d h (settled (first_view d)) (es ++ entries_of_next p.between.0.0)) b.1
+      ∙ ap (λ (es : List Sight). client_fold d h (settled (first_view d)) es) (append_assoc g.job.sight (noted_sight p.first) (entries_of_next p.between.0.0))
       ∙ told in
-      let now : reads_as p.mid.1 ≡ p.mid.0.1.client = ap reads_as b.1 ∙ noted-reads g.job p.first p.mid.0.1.client s.reads names.0 in
-      let seen : AtEach (ClientSaw d h) [] p.mid.1 = subst (AtEach (ClientSaw d h) []) (sym b.1) (noted-seen g.job p.first s.seen) in
-      let job : Job = record g.job { reading = p.mid.0.1; sight = p.mid.1 } in
-      let same : p.mid.0.1.client ≡ r.client = client-next d mode r p.first p.mid.0 b.0 in
-      let left_hand : AreAtHand d h (place_behind least p.first) r.client (read_after_sight r.client (read_after_sight r.client None g.job.sight) (noted_sight p.first)) (with_handed p.mid.0.0 p.mid.0.1.queue) =
-      next-hand d h Q least r.client (read_after_sight r.client None g.job.sight) r.queue (with_handed p.mid.0.0 p.mid.0.1.queue) p.first (p.second ++ more) here s.hand (next-sources d mode r p.mid.0.1 p.mid.0.0 p.first b.0) in
-      let hand : HasAtHand d h (place_behind least p.first) job (with_handed p.mid.0.0 p.mid.0.1.queue) =
-      noted-hand (place_behind least p.first) r.client p.mid.0.1.client g.job.sight p.mid.1 p.first (with_handed p.mid.0.0 p.mid.0.1.queue) same b.1 left_hand in
-      subst (λ (cs : List Call). OfTurn (place_behind least cs) turn) (none-behind calls p.first p.second p.whole f.0)
+      let now : reads_as p.between.1 ≡ p.between.0.1.client = ap reads_as b.1 ∙ noted-reads g.job p.first p.between.0.1.client s.reads names.0 in
+      let seen : AtEach (ClientSaw d h) [] p.between.1 = subst (AtEach (ClientSaw d h) []) (sym b.1) (noted-seen g.job p.first s.seen) in
+      let job : Job = record g.job { reading = p.between.0.1; sight = p.between.1 } in
+      let same : p.between.0.1.client ≡ r.client = client-next d mode r p.first p.between.0 b.0 in
+      let left_hand : AreAtHand d h (place_behind least p.first) r.client (read_after_sight r.client (read_after_sight r.client None g.job.sight) (noted_sight p.first)) (with_handed p.between.0.0 p.between.0.1.queue) =
+      next-hand d h Q least r.client (read_after_sight r.client None g.job.sight) r.queue (with_handed p.between.0.0 p.between.0.1.queue) p.first (p.later ++ more) here s.hand (next-sources d mode r p.between.0.1 p.between.0.0 p.first b.0) in
+      let hand : HasAtHand d h (place_behind least p.first) job (with_handed p.between.0.0 p.between.0.1.queue) =
+      noted-hand (place_behind least p.first) r.client p.between.0.1.client g.job.sight p.between.1 p.first (with_handed p.between.0.0 p.between.0.1.queue) same b.1 left_hand in
+      subst (λ (cs : List Call). OfTurn (place_behind least cs) turn) (none-behind calls p.first p.later p.calls_are f.0)
       (subst (OfTurn (place_behind least p.first)) f.1
-      (turn-job (place_behind least p.first) wait g.left g.agains p.mid.0.0 job reads.reading folded now hand seen reads.hands names.1))
+      (turn-job (place_behind least p.first) wait g.left g.agains p.between.0.0 job reads.reading folded now hand seen reads.hands names.1))
 
   same-job : (least : ℕ) (j k : Job) (calls : List Call) → EndsWith (finish (Some j)) calls (Some k) → IsAt least j → IsAt (place_behind least calls) k
   same-job least j k calls ends s =
-      let f = finish-only (Some j) (Some k) calls ends in
+      let f = finished (Some j) (Some k) calls ends in
       let same : j ≡ k = (let e = f.1 in cc) in
       subst (λ (cs : List Call). IsAt (place_behind least cs) k) (sym f.0) (subst (IsAt least) same s)
 
   rounds-job : (least : ℕ) (wait : Option Waiting) (skips : Bool) (n : ℕ) (g : Going) (k : Job) (calls more : List Call) → AreToCome d h Q least (calls ++ more) → EndsWith (rounds d wait skips n g) calls (Some k) → IsAt least g.job → IsAt (place_behind least calls) k
   unfolding rounds
-  rounds-job least wait skips zero g k calls more c ends s = let f = finish-only None (Some k) calls ends in absurd cc
+  rounds-job least wait skips zero g k calls more c ends s = let f = finished None (Some k) calls ends in absurd cc
   rounds-job least wait skips (suc n) g k calls more c ends s =
-      let p = and_then-parts (next_round d wait skips g) (on_turn (rounds d wait skips n)) calls (Some k) ends in
-      let here : AreToCome d h Q least (p.first ++ (p.second ++ more)) = split-come d h Q least calls p.first p.second more p.whole c in
-      let t : OfTurn (place_behind least p.first) p.mid = round-job least wait skips g p.mid p.first (p.second ++ more) here p.first_ends s in
-      let later : AreToCome d h Q (place_behind least p.first) (p.second ++ more) = to-come-behind d h Q least p.first (p.second ++ more) here in
-      subst (λ (m : ℕ). IsAt m k) (split-place least calls p.first p.second p.whole)
-      (by (place_behind least p.first) p.mid p.second t (λ (next : Going) u e. rounds-job (place_behind least p.first) wait skips n next k p.second more later e u) p.second_ends)
+      let p = split-and_then (next_round d wait skips g) (on_turn (rounds d wait skips n)) calls (Some k) ends in
+      let here : AreToCome d h Q least (p.first ++ (p.later ++ more)) = split-come d h Q least calls p.first p.later more p.calls_are c in
+      let t : OfTurn (place_behind least p.first) p.between = round-job least wait skips g p.between p.first (p.later ++ more) here p.first_ends s in
+      let later : AreToCome d h Q (place_behind least p.first) (p.later ++ more) = to-come-behind d h Q least p.first (p.later ++ more) here in
+      subst (λ (m : ℕ). IsAt m k) (split-place least calls p.first p.later p.calls_are)
+      (by (place_behind least p.first) p.between p.later t (λ (next : Going) u e. rounds-job (place_behind least p.first) wait skips n next k p.later more later e u) p.later_ends)
     where
       by : (at : ℕ) (turn : Turn) (second : List Call) → OfTurn at turn → ((next : Going) → IsAt at next.job → EndsWith (rounds d wait skips n next) second (Some k) → IsAt (place_behind at second) k) → EndsWith (on_turn (rounds d wait skips n) turn) second (Some k) → IsAt (place_behind at second) k
       by at (goes_on next) second t rest e = rest next t e
       by at (ends_with j) second t rest e = same-job at j k second e t
 
   hand-job : (least : ℕ) (wait : Option Waiting) (skips : Bool) (left : Option ℕ) (n : ℕ) (j k : Job) (calls more : List Call) → AreToCome d h Q least (calls ++ more) → EndsWith (hand_talk d wait skips left n j) calls (Some k) → IsAt least j → IsAt (place_behind least calls) k
-  hand-job least wait skips left n j k calls more c ends s = by (is_done left) ends
-    where
-      by : (b : Bool) → EndsWith (if b then finish (Some j) else rounds d wait skips n (record { job = j; left = left; agains = 0 })) calls (Some k) → IsAt (place_behind least calls) k
-      by true e = same-job least j k calls e s
-      by false e = rounds-job least wait skips n (record { job = j; left = left; agains = 0 }) k calls more c e s
+  hand-job least wait skips left n j k calls more c ends s =
+      (cond_both (is_done left) _ _ (λ x. EndsWith x calls (Some k) → IsAt (place_behind least calls) k)
+      (λ _ e. same-job least j k calls e s)
+      (λ _ e. rounds-job least wait skips n (record { job = j; left = left; agains = 0 }) k calls more c e s)) ends
 
   -- Starts
 
@@ -337,21 +329,21 @@ module _ (d : Description) (h : List Step) (Q : ℕ → Type 0) (history : IsHis
   unfolding start_job
   start-job least j k calls more c ends s =
       let next : (Started × Reading) × List Sight → Talk (Option Job) = λ o. finish (start_ends o) in
-      let p = and_then-parts (noted (start_talk d j.reading) j.sight) next calls (Some k) ends in
-      let f = finish-only (start_ends p.mid) (Some k) p.second p.second_ends in
-      let b = noted-back (start_talk d j.reading) j.sight p.first p.mid p.first_ends in
-      let new : Job = job_after_start p.mid.0.0 p.mid.0.1 p.mid.1 in
-      let same : new ≡ k = memory_there (start_lacks_memory p.mid.0.0) new k f.1 in
-      let here : AreToCome d h Q least (p.first ++ (p.second ++ more)) = split-come d h Q least calls p.first p.second more p.whole c in
+      let p = split-and_then (noted (start_talk d j.reading) j.sight) next calls (Some k) ends in
+      let f = finished (start_ends p.between) (Some k) p.later p.later_ends in
+      let b = noted-back (start_talk d j.reading) j.sight p.first p.between p.first_ends in
+      let new : Job = job_after_start p.between.0.0 p.between.0.1 p.between.1 in
+      let same : new ≡ k = memory_there (start_lacks_memory p.between.0.0) new k f.1 in
+      let here : AreToCome d h Q least (p.first ++ (p.later ++ more)) = split-come d h Q least calls p.first p.later more p.calls_are c in
       let folded : IsClientFold d h (first_view d) k = start_job-folds d h (first_view d) j k calls (placed least calls more c) ends s.folded in
       let one : IsAt (place_behind least p.first) new = record {
-        reading = start-reads d h Q least j.reading p.mid.0.1 p.mid.0.0 p.first (p.second ++ more) here s.reading b.0;
+        reading = start-reads d h Q least j.reading p.between.0.1 p.between.0.0 p.first (p.later ++ more) here s.reading b.0;
         folded = subst (IsClientFold d h (first_view d)) (sym same) folded;
-        reads = ap reads_as b.1 ∙ noted-reads j p.first p.mid.0.1.client s.reads (start-names d j.reading p.mid.0.1 p.mid.0.0 p.first b.0);
-        hand = start-job-hand least j p.mid.0.1 p.mid.0.0 p.mid.1 p.first (p.second ++ more) here s.reading b.0 b.1 s.hand;
+        reads = ap reads_as b.1 ∙ noted-reads j p.first p.between.0.1.client s.reads (start-names d j.reading p.between.0.1 p.between.0.0 p.first b.0);
+        hand = start-job-hand least j p.between.0.1 p.between.0.0 p.between.1 p.first (p.later ++ more) here s.reading b.0 b.1 s.hand;
         seen = subst (AtEach (ClientSaw d h) []) (sym b.1) (noted-seen j p.first s.seen);
       } in
-      subst (λ (cs : List Call). IsAt (place_behind least cs) k) (none-behind calls p.first p.second p.whole f.0) (subst (IsAt (place_behind least p.first)) same one)
+      subst (λ (cs : List Call). IsAt (place_behind least cs) k) (none-behind calls p.first p.later p.calls_are f.0) (subst (IsAt (place_behind least p.first)) same one)
 
   -- Single calls, which ask for nothing and read nothing
 
@@ -381,17 +373,15 @@ module _ (d : Description) (h : List Step) (Q : ℕ → Type 0) (history : IsHis
   call-job least j k x [] more idle c ends s = absurd cc
   call-job least j k x (call ∷ calls) more idle c ends s =
       let a : Answer = call.answer in
-      let f = finish-only (Some (after_call j x a)) (Some k) calls ends.1 in
+      let f = finished (Some (after_call j x a)) (Some k) calls ends.1 in
       let same : after_call j x a ≡ k = (let e = f.1 in cc) in
-      let folded : IsClientFold d h (first_view d) k = silent-fold d h (first_view d) j k x (call ∷ calls) idle.silent (placed least (call ∷ calls) more c) ends s.folded in
-      let there : HasPlace d h call = c.legal.1 in
-      let is : IsAnswer d (past_at h (place_of a.reply)) x a = subst (λ (y : Step). IsAnswer d (past_at h (place_of a.reply)) y a) ends.0 there.exact in
-      let none : a.events ≡ [] = no_events d (past_at h (place_of a.reply)) x a idle.silent is in
+      let there : HasPlace d h (record { step = x; answer = a }) = subst (λ (y : Step). HasPlace d h (record { step = y; answer = a })) ends.0 c.legal.1 in
+      let none : a.events ≡ [] = no_events d (past_at h (place_of a.reply)) x a idle.silent there.exact in
       let front : List Sight = call_sight x a.reply ++ again_sight a.reply in
       let unused : is_use_of j.reading.client call.step ≡ false = ap (λ (y : Step). is_use_of j.reading.client y) ends.0 ∙ not-used j.reading.client x idle.unused in
       let one : IsAt (next_place a.reply) (after_call j x a) = record {
         reading = quiet-reads d h Q least j.reading call (calls ++ more) c unused s.reading;
-        folded = subst (IsClientFold d h (first_view d)) (sym same) folded;
+        folded = silent-fold d h (first_view d) j x a idle.silent there s.folded;
         reads =
             client_after-append NO_CLIENT j.sight (front ++ map taken_sight a.events)
             ∙ ap (λ (n : ℕ). client_after_sight n (front ++ map taken_sight a.events)) s.reads

@@ -1,6 +1,6 @@
 -- The lines of an actor, one after another, over any evdev.
 use Rattle.std.proofs.Common.{◌≡◌, ℕ, zero, suc, ◌+◌, Bool, true, false, cond, nat_eq, List, [], ◌∷◌, ◌++◌, length, drop, refl, sym, ap, subst, ◌∙◌, append_assoc, inl, inr, Option, Some, None}
-use Rattle.std.specs.Prelude.{is_some, slice_get, IfSome, ◌⊎◌}
+use Rattle.std.specs.Prelude.{is_some, slice_get, ◌⊎◌}
 use Rattle.std.proofs.lemmas.Option.{same_Some}
 use Rattle.inp_model.specs.Evdev.{EvdevView}
 use Rattle.inp_model.specs.Leaves.{AreCalls}
@@ -13,7 +13,7 @@ use Rattle.inp_actors.specs.declared.role.Role.TheVariants.{Source, Client, Tap,
 use Rattle.inp_actors.specs.Record.{RecordView}
 use Rattle.inp_reader.specs.Talk.{finish, EndsWith}
 use Rattle.inp_script.specs.declared.waiting.Waiting.{Waiting}
-use Rattle.inp_script.specs.Doing.{DoesLine, HasActor, Holds, IsWaiting}
+use Rattle.inp_script.specs.Doing.{DoesLine, HasActor, Holds}
 use Rattle.inp_script.specs.Job.{ActorView, Job}
 use Rattle.inp_runs.specs.DoingAll.{DoesAll, DoesOwn, LeavesOthers, DoesIfOwn}
 use Rattle.inp_runs.specs.Job.{lines_by, last_talk, lines_talk}
@@ -91,16 +91,6 @@ first-all before mid after r wait old count job new s end h =
     }
 
 -- An actor stays the record's, whatever its job is
-
-pub actor-with : (r : RecordView) (a b : ActorView) → b ≡ record a { job = b.job } → HasActor r a → HasActor r b
-actor-with r a b same h =
-    subst (HasActor r) (sym same)
-    (record { text = h.text; device = h.device; is_text = h.is_text; role = h.role; is_device = h.is_device; description = h.description })
-
-pub waiting-with : (r : RecordView) (a b : ActorView) (wait : Option Waiting) → b ≡ record a { job = b.job } → IfSome wait (IsWaiting r a) → IfSome wait (IsWaiting r b)
-waiting-with r a b None same h = h
-waiting-with r a b (Some waiting) same h =
-    subst (λ (c : ActorView). IsWaiting r c waiting) (sym same) (record { idle = h.idle; text = h.text; is_text = h.is_text; sources = h.sources })
 
 pub its-role : (r : RecordView) (a : ActorView) (number : ℕ) (text : ActorText) → HasActor r a → a.actor ≡ number → slice_get r.actors number ≡ Some text → text.role ≡ a.role
 its-role r a number text h same is =

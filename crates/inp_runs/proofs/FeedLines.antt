@@ -73,7 +73,7 @@ fed-room feeds before after None old new h = h
 fed-room feeds before after (Some room) old new h = (after, new, h, (refl, refl))
 
 -- a command that is no feedback call
-no-room : (command : Command) → ((count : ℕ) → command ≡ Feedback count → ⊥) → feedback_room command ≡ None
+pub no-room : (command : Command) → ((count : ℕ) → command ≡ Feedback count → ⊥) → feedback_room command ≡ None
 no-room (Feedback count) other = absurd (other count refl)
 no-room _ other = refl
 

@@ -1,6 +1,7 @@
 -- The view of a job is the fold of its whole sight.
-use Rattle.std.proofs.Common.{◌≡◌, ℕ, suc, Bool, true, false, cond, nat_eq, List, [], ◌∷◌, ◌++◌, refl, ap, subst, ◌∙◌, Option, Some, None}
+use Rattle.std.proofs.Common.{◌≡◌, ℕ, suc, true, nat_eq, List, [], ◌∷◌, ◌++◌, refl, ap, subst, ◌∙◌, Option, Some, None}
 use Rattle.std.specs.Prelude.{slice_get}
+use Rattle.std.proofs.lemmas.Bool.{cond_both, eqb-true}
 use Rattle.inp_model.specs.declared.stamped.Stamped.{Stamped}
 use Rattle.inp_model.specs.declared.step.Step.{Step}
 use Rattle.inp_model.specs.Description.{Description}
@@ -20,10 +21,9 @@ use Rattle.inp_script.specs.Fold.{IsFolded}
 use Rattle.inp_script.specs.Job.{Job, first_job}
 use Rattle.inp_script.proofs.ClientFolds.{placed-left, placed-right}
 use Rattle.inp_script.proofs.Folds.{ArePlaced}
-use Rattle.inp_script.proofs.LastAgain.{finish-only, and_then-parts}
+use Rattle.inp_reader.proofs.Calls.{finished, split-and_then}
 use Rattle.inp_script.proofs.LineFolds.{line_talk-folds, end-folds, is_folded-first}
 use Rattle.inp_runs.specs.Job.{lines_by, on_job, last_talk, lines_talk}
-use Rattle.inp_runs.proofs.Listing.{eq_same}
 
 -- each call of a legal run has its place
 pub legal-placed : (d : Description) (h : List Step) (least : ℕ) (calls : List Call) → IsLegalFrom d h least calls → ArePlaced d h calls
@@ -36,7 +36,7 @@ AreOfRole role lines = Each (λ (line : Line). is_command_of role line.command �
 
 same-folded : (role : Role) (d : Description) (h : List Step) (j k : Job) (calls : List Call) → EndsWith (finish (Some j)) calls (Some k) → IsFolded role d h j → IsFolded role d h k
 same-folded role d h j k calls ends fold =
-    let f = finish-only (Some j) (Some k) calls ends in
+    let f = finished (Some j) (Some k) calls ends in
     let same : j ≡ k = (let e = f.1 in cc) in
     subst (λ (x : Job). IsFolded role d h x) same fold
 
@@ -57,15 +57,15 @@ unfolding lines_talk
 lines-folded role d h streams wait rounds [] j k calls of_role placed ends fold = last-folded wait role d h j k calls ends fold
 lines-folded role d h streams wait rounds (line ∷ lines) j k calls of_role placed ends fold =
     let talk : Talk (Option Job) = line_talk role d streams wait rounds line.command j in
-    let p = and_then-parts talk (on_job (lines_talk role d streams wait rounds lines)) calls (Some k) ends in
-    let placed_here : ArePlaced d h (p.first ++ p.second) = subst (λ (cs : List Call). ArePlaced d h cs) p.whole placed in
-    by p.mid p.second
-    (λ (mid : Job) is e. lines-folded role d h streams wait rounds lines mid k p.second of_role.1 (placed-right d h p.first p.second placed_here) e
-    (line_talk-folds role d h streams wait rounds line.command j mid p.first of_role.0 (placed-left d h p.first p.second placed_here) (subst (λ (o : Option Job). EndsWith talk p.first o) is p.first_ends) fold))
-    p.second_ends
+    let p = split-and_then talk (on_job (lines_talk role d streams wait rounds lines)) calls (Some k) ends in
+    let placed_here : ArePlaced d h (p.first ++ p.later) = subst (λ (cs : List Call). ArePlaced d h cs) p.calls_are placed in
+    by p.between p.later
+    (λ (mid : Job) is e. lines-folded role d h streams wait rounds lines mid k p.later of_role.1 (placed-right d h p.first p.later placed_here) e
+    (line_talk-folds role d h streams wait rounds line.command j mid p.first of_role.0 (placed-left d h p.first p.later placed_here) (subst (λ (o : Option Job). EndsWith talk p.first o) is p.first_ends) fold))
+    p.later_ends
   where
     by : (o : Option Job) (second : List Call) → ((mid : Job) → o ≡ Some mid → EndsWith (lines_talk role d streams wait rounds lines mid) second (Some k) → IsFolded role d h k) → EndsWith (on_job (lines_talk role d streams wait rounds lines) o) second (Some k) → IsFolded role d h k
-    by None second more e = let f = finish-only None (Some k) second e in absurd cc
+    by None second more e = let f = finished None (Some k) second e in absurd cc
     by (Some mid) second more e = more mid refl e
 
 -- the lines of an actor are such
@@ -74,11 +74,9 @@ pub its_lines : (r : RecordView) (actor : ℕ) (text : ActorText) → slice_get 
     → AreOfRole text.role (lines_by actor lines)
 its_lines r actor text is [] h = tt
 its_lines r actor text is (line ∷ lines) h =
-    by (nat_eq line.actor actor) refl (its_lines r actor text is lines (λ i l its e. h (suc i) l its e))
-  where
-    by : (b : Bool) → nat_eq line.actor actor ≡ b → AreOfRole text.role (lines_by actor lines) → AreOfRole text.role (cond b (line ∷ lines_by actor lines) (lines_by actor lines))
-    by true e more = (h 0 line text refl (ap (λ (n : ℕ). slice_get r.actors n) (eq_same line.actor actor e) ∙ is), more)
-    by false e more = more
+    (cond_both (nat_eq line.actor actor) _ _ (λ x. AreOfRole text.role (lines_by actor lines) → AreOfRole text.role x)
+    (λ e more. (h 0 line text refl (ap (λ (n : ℕ). slice_get r.actors n) (eqb-true line.actor actor e) ∙ is), more))
+    (λ e more. more)) (its_lines r actor text is lines (λ i l its e. h (suc i) l its e))
 
 pub view-folded : (r : RecordView) (d : Description) (h : List Step) (wait : Option Waiting) (rounds actor : ℕ) (text : ActorText) (last : Job) (calls : List Call) → IsRecord r → slice_get r.actors actor ≡ Some text → IsLegalRun d h calls
     → EndsWith (lines_talk text.role d r.streams wait rounds (lines_by actor r.lines) (first_job text.role d)) calls (Some last) → IsFolded text.role d h last

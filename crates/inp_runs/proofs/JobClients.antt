@@ -1,7 +1,7 @@
 -- Which clients the calls of a job name: each names none, or the one that the job opened last.
 use Rattle.std.proofs.Common.{◌≡◌, ◌⊎◌, ℕ, zero, suc, ◌+◌, Bool, true, false, if◌then◌else◌, nat_le, List, [], ◌∷◌, ◌++◌, refl, sym, ap, subst, ◌∙◌, inl, inr, Option, Some, None}
 use Rattle.std.specs.Prelude.{Result, Ok, Err, slice_get}
-use Rattle.std.proofs.lemmas.Bool.{true≢false}
+use Rattle.std.proofs.lemmas.Bool.{true≢false, cond_both}
 use Rattle.std.proofs.lemmas.Option.{same_Some}
 use Rattle.inp_model.specs.declared.stamped.Stamped.{Stamped}
 use Rattle.inp_model.specs.declared.taken.Taken.{Taken}
@@ -36,17 +36,16 @@ use Rattle.inp_joy.specs.declared.joy_read.JoyRead.{JoyRead}
 use Rattle.inp_joy.specs.declared.joy_read.JoyRead.TheVariants.{Record as HandedOut, Frame, Again as NothingToRead, NoDevice as Revoked, Closed as NotOpen, Full as FullHistory, More}
 use Rattle.inp_joy.specs.declared.joy_record.JoyRecord.{JoyRecord}
 use Rattle.inp_joy.specs.Joying as joy
-use Rattle.inp_joy.specs.Joying.{Joying, JoyAnswer, JoyTurn, gives, goes_on as reads_on, startup, with_reading, without_startup, joy_started, joy_start, stop_with, is_lost, event_handed_out, joy_record_of, record_or_on, stop_or_event, stop_or_startup, joying_after_sync, sync_turn, after_normal, event_turn, record_or_turn, turn_talk, with_count, is_long, after_turn, turns}
+use Rattle.inp_joy.specs.Joying.{Joying, JoyAnswer, JoyTurn, gives, goes_on as reads_on, startup, with_reading, joy_started, joy_start, is_lost, event_handed_out, joy_record_of, record_or_on, stop_or_event, stop_or_startup, joying_after_sync, sync_turn, after_normal, event_turn, record_or_turn, turn_talk, with_count, is_long, after_turn, turns}
 use Rattle.inp_reader.specs.Standing.{is_needed}
 use Rattle.inp_reader.proofs.Meets.{Meets}
 use Rattle.inp_reader.proofs.NextWalk.{OfQueries, each-query, each-sync, AskRules, asked-meets, sync-meets, Queried, start-meets, Renewed, NextRules, next-meets}
 use Rattle.inp_reader.specs.Talk.{Talk, finish, ask, and_then, LeadsTo, EndsWith}
 use Rattle.inp_script.specs.declared.sight.Sight.{Sight}
-use Rattle.inp_script.specs.declared.sight.Sight.TheVariants.{Took, Made, Again as AgainSight}
+use Rattle.inp_script.specs.declared.sight.Sight.TheVariants.{Took, Made}
 use Rattle.inp_script.specs.declared.stop.Stop.{Stop}
-use Rattle.inp_script.specs.declared.stop.Stop.TheVariants.{Idle}
 use Rattle.inp_script.specs.declared.waiting.Waiting.{Waiting}
-use Rattle.inp_script.specs.Client.{Going, Turn, goes_on, ends_with, start_job, start_ends, job_after_start, handed, one_less, is_done, patience, after_again, turn_after, after_next, mode_of, with_sight, with_stop, next_round, on_turn, rounds, hand_talk, client_talk}
+use Rattle.inp_script.specs.Client.{Going, Turn, goes_on, ends_with, start_job, start_ends, job_after_start, handed, one_less, is_done, patience, after_again, turn_after, after_next, mode_of, with_sight, next_round, on_turn, rounds, hand_talk, client_talk}
 use Rattle.inp_script.specs.Doing.{command_talk, unless_stopped, line_talk}
 use Rattle.inp_script.specs.Job.{Job, first_job, joying_of, with_joying}
 use Rattle.inp_script.specs.Joystick.{Reach, handed_out, line_ends, after_joy_start, start_joystick, after_joy_answer, after_joy_read, after_turns, read_on, on_reach, read_records, joystick_talk}
@@ -319,19 +318,11 @@ OfTurn now (goes_on g) = now ≡ g.job.reading.client
 OfTurn now (ends_with j) = now ≡ j.reading.client
 
 turn-handed : (left : Option ℕ) (j : Job) (now : ℕ) → now ≡ j.reading.client → OfTurn now (handed left j)
-turn-handed left j now h = by (is_done left)
-  where
-    by : (b : Bool) → OfTurn now (if b then ends_with j else goes_on (record { job = j; left = left; agains = 0 }))
-    by true = h
-    by false = h
+turn-handed left j now h = cond_both (is_done left) _ _ (OfTurn now) (λ _. h) (λ _. h)
 
 turn-again : (patient left : Option ℕ) (agains at ends : ℕ) (j : Job) (now : ℕ) → now ≡ j.reading.client → OfTurn now (after_again patient left agains at ends j)
 turn-again None left agains at ends j now h = h
-turn-again (Some idle) left agains at ends j now h = by (nat_le idle agains)
-  where
-    by : (b : Bool) → OfTurn now (if b then ends_with (with_stop (with_sight j (AgainSight at ends)) (Idle idle at)) else goes_on (record { job = j; left = left; agains = agains }))
-    by true = h
-    by false = h
+turn-again (Some idle) left agains at ends j now h = cond_both (nat_le idle agains) _ _ (OfTurn now) (λ _. h) (λ _. h)
 
 turn-names : (wait : Option Waiting) (left : Option ℕ) (agains : ℕ) (next : Next) (j : Job) (now : ℕ) → now ≡ j.reading.client → OfTurn now (turn_after wait left agains next j)
 turn-names wait left agains (Success taken) j now h = turn-handed (one_less left) (with_sight j (Took taken)) now h
@@ -363,11 +354,9 @@ names-rounds d wait skips (suc n) g last is =
     by (ends_with j) now e more = e
 
 names-hand : (d : Description) (wait : Option Waiting) (skips : Bool) (left : Option ℕ) (n : ℕ) (j : Job) (last : ℕ) → last ≡ j.reading.client → Names last (hand_talk d wait skips left n j) (OfLeft Client)
-names-hand d wait skips left n j last is = by (is_done left)
-  where
-    by : (b : Bool) → Names last (if b then finish (Some j) else rounds d wait skips n (record { job = j; left = left; agains = 0 })) (OfLeft Client)
-    by true = is
-    by false = names-rounds d wait skips n (record { job = j; left = left; agains = 0 }) last is
+names-hand d wait skips left n j last is =
+    cond_both (is_done left) _ _ (λ x. Names last x (OfLeft Client))
+    (λ _. is) (λ _. names-rounds d wait skips n (record { job = j; left = left; agains = 0 }) last is)
 
 names-client : (d : Description) (wait : Option Waiting) (n : ℕ) (command : Command) (j : Job) (last : ℕ) → last ≡ j.reading.client → Names last (client_talk d wait n command j) (OfLeft Client)
 names-client d wait n Open j last is = names-start_job d j last is
@@ -386,11 +375,8 @@ OfJoyStart now o = now ≡ o.1.reading.client
 
 joy_start-client : (d : Description) (k : Joying) (started : Started) (now : ℕ) → now ≡ k.reading.client → now ≡ (joy.joying_after_start d k started).reading.client
 joy_start-client d k (StartedOn client ring) now e = e
-joy_start-client d k (Refused at why) now e = by (is_needed k.reading.phase)
-  where
-    by : (b : Bool) → now ≡ (if b then without_startup d k else k).reading.client
-    by true = e
-    by false = e
+joy_start-client d k (Refused at why) now e =
+    cond_both (is_needed k.reading.phase) _ _ (λ (x : Joying). now ≡ x.reading.client) (λ _. e) (λ _. e)
 
 names-joy_start : (d : Description) (k : Joying) (last : ℕ) → last ≡ k.reading.client → Names last (joy_start d k) OfJoyStart
 unfolding joy_start
@@ -419,18 +405,13 @@ turn-record k (Some r) now e = e
 turn-event : (d : Description) (k : Joying) (stop : Option JoyRead) (event : Option Taken) (now : ℕ) → now ≡ k.reading.client → OfJoyTurn now (stop_or_event d k stop event)
 turn-event d k (Some read) event now e = e
 turn-event d k None None now e = e
-turn-event d k None (Some taken) now e = by (is_report taken.event)
-  where
-    by : (b : Bool) → OfJoyTurn now (if b then gives (stop_with (Frame taken.place) k) else record_or_on k (joy_record_of d k.picture taken))
-    by true = e
-    by false = turn-record k (joy_record_of d k.picture taken) now e
+turn-event d k None (Some taken) now e =
+    cond_both (is_report taken.event) _ _ (OfJoyTurn now) (λ _. e) (λ _. turn-record k (joy_record_of d k.picture taken) now e)
 
 names-normal : (d : Description) (k : Joying) (next : Next) (last : ℕ) → last ≡ k.reading.client → Names last (if is_lost next then sync_turn d k else finish (joy.joying_after_next d k next)) OfJoyTurn
-names-normal d k next last is = by (is_lost next)
-  where
-    by : (b : Bool) → Names last (if b then sync_turn d k else finish (joy.joying_after_next d k next)) OfJoyTurn
-    by true = names-sync_turn d k last is
-    by false = turn-event d k (joy.joy_read_of next) (event_handed_out next) last is
+names-normal d k next last is =
+    cond_both (is_lost next) _ _ (λ x. Names last x OfJoyTurn)
+    (λ _. names-sync_turn d k last is) (λ _. turn-event d k (joy.joy_read_of next) (event_handed_out next) last is)
 
 names-event_turn : (d : Description) (k : Joying) (last : ℕ) → last ≡ k.reading.client → Names last (event_turn d k) OfJoyTurn
 unfolding event_turn
@@ -440,11 +421,8 @@ names-event_turn d k last is =
 
 names-joy_turn : (d : Description) (k : Joying) (out : Option JoyRecord) (last : ℕ) → last ≡ k.reading.client → Names last (record_or_turn d k out) OfJoyTurn
 names-joy_turn d k (Some r) last is = is
-names-joy_turn d k None last is = by (is_needed k.reading.phase)
-  where
-    by : (b : Bool) → Names last (if b then sync_turn d k else event_turn d k) OfJoyTurn
-    by true = names-sync_turn d k last is
-    by false = names-event_turn d k last is
+names-joy_turn d k None last is =
+    cond_both (is_needed k.reading.phase) _ _ (λ x. Names last x OfJoyTurn) (λ _. names-sync_turn d k last is) (λ _. names-event_turn d k last is)
 
 names-counted : {A : Type 0} (last : ℕ) (talk : Talk A) (n : ℕ) (P : ℕ → A → Type 0) → Names last talk P → Names last (with_count talk n) (λ (now : ℕ) (o : ℕ × A). P now o.1)
 names-counted last (finish a) n P h = h
@@ -465,11 +443,7 @@ names-turns d (suc most) n k last is =
   where
     by : (m : ℕ) (turn : JoyTurn) (now : ℕ) → OfJoyTurn now turn → ((m : ℕ) (here : Joying) → now ≡ here.reading.client → Names now (turns d most m here) OfJoyRead) → Names now (after_turn d (turns d most) m turn) OfJoyRead
     by m (gives answer) now e more = e
-    by m (reads_on here) now e more = long (is_long d here m)
-      where
-        long : (b : Bool) → Names now (if b then finish (Some (stop_with More here)) else turns d most m here) OfJoyRead
-        long true = e
-        long false = more m here e
+    by m (reads_on here) now e more = cond_both (is_long d here m) _ _ (λ x. Names now x OfJoyRead) (λ _. e) (λ _. more m here e)
 
 abbrev OfReach : ℕ → Option Reach → Type 0
 OfReach now None = Unit {0}
@@ -564,12 +538,6 @@ names-lines role d streams wait n (line ∷ lines) j last is =
     by : (o : Option Job) (now : ℕ) → OfLeft role now o → ((mid : Job) → ReadsAs role now mid → Names now (lines_talk role d streams wait n lines mid) (OfLeft role)) → Names now (on_job (lines_talk role d streams wait n lines) o) (OfLeft role)
     by None now e more = tt
     by (Some mid) now e more = more mid e
-
--- the calls of a line name the client that was opened last
-pub line-name : (role : Role) (d : Description) (streams : List (List Stamped)) (wait : Option Waiting) (n : ℕ) (command : Command) (j k : Job) (calls : List Call) (last : ℕ) → EndsWith (line_talk role d streams wait n command j) calls (Some k)
-    → ReadsAs role last j → NameLast last calls × ReadsAs role (last_opened last calls) k
-line-name role d streams wait n command j k calls last h is =
-    names-ends last (line_talk role d streams wait n command j) (OfLeft role) calls (Some k) (names-line role d streams wait n command j last is) h
 
 -- the calls of lines do
 pub lines-name : (role : Role) (d : Description) (streams : List (List Stamped)) (wait : Option Waiting) (n : ℕ) (lines : List Line) (j k : Job) (calls : List Call) (last : ℕ) → EndsWith (lines_talk role d streams wait n lines j) calls (Some k)

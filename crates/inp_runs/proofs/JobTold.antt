@@ -8,26 +8,20 @@ use Rattle.inp_actors.specs.declared.line.Line.{Line}
 use Rattle.inp_actors.specs.declared.role.Role.{Role}
 use Rattle.inp_actors.specs.declared.role.Role.TheVariants.{Source, Client, Tap, Joy, Owner}
 use Rattle.inp_recon.proofs.Sizes.{IsSizedFor-first_view}
-use Rattle.inp_reader.specs.Talk.{Talk, finish, EndsWith}
+use Rattle.inp_reader.specs.Talk.{Talk, EndsWith}
 use Rattle.inp_script.specs.declared.sight.Sight.{Sight}
 use Rattle.inp_script.specs.declared.waiting.Waiting.{Waiting}
 use Rattle.inp_script.specs.Doing.{line_talk}
 use Rattle.inp_script.specs.Job.{Job, first_job}
 use Rattle.inp_script.specs.Legal.{is_call_entry}
-use Rattle.inp_script.proofs.LastAgain.{finish-only, and_then-parts}
+use Rattle.inp_reader.proofs.Calls.{finished, split-and_then}
 use Rattle.inp_script.proofs.LineTold.{line-told, end-told}
-use Rattle.inp_script.proofs.Told.{Tells, tells-none, tells-then}
+use Rattle.inp_script.proofs.Told.{Tells, tells-then, same-told}
 use Rattle.inp_runs.specs.Job.{on_job, last_talk, lines_talk, AreTold}
 use Rattle.inp_runs.proofs.LeftByTalks.{AreAnswered, leaves-ends}
 use Rattle.inp_runs.proofs.LineTalks.{IsKept, IsKeptIfSome, leaves-lines}
 
 -- Where lines wait
-
-same-told : (j k : Job) (calls : List Call) → EndsWith (finish (Some j)) calls (Some k) → Tells calls j.sight k.sight
-same-told j k calls h =
-    let f = finish-only (Some j) (Some k) calls h in
-    let same : j ≡ k = (let e = f.1 in cc) in
-    subst (λ (cs : List Call). Tells cs j.sight k.sight) (sym f.0) (subst (λ (x : Job). Tells [] j.sight x.sight) same (tells-none j.sight))
 
 last-told : (wait : Option Waiting) (role : Role) (j k : Job) (calls : List Call) → EndsWith (last_talk wait role j) calls (Some k) → Tells calls j.sight k.sight
 last-told None role j k calls h = same-told j k calls h
@@ -42,16 +36,16 @@ unfolding lines_talk
 lines-told role d streams wait n [] j k calls h = last-told wait role j k calls h
 lines-told role d streams wait n (line ∷ lines) j k calls h =
     let talk : Talk (Option Job) = line_talk role d streams wait n line.command j in
-    let p = and_then-parts talk (on_job (lines_talk role d streams wait n lines)) calls (Some k) h in
-    subst (λ (cs : List Call). Tells cs j.sight k.sight) (sym p.whole)
-    (by p.mid p.second
-    (λ (mid : Job) is e. tells-then p.first p.second j.sight mid.sight k.sight
+    let p = split-and_then talk (on_job (lines_talk role d streams wait n lines)) calls (Some k) h in
+    subst (λ (cs : List Call). Tells cs j.sight k.sight) (sym p.calls_are)
+    (by p.between p.later
+    (λ (mid : Job) is e. tells-then p.first p.later j.sight mid.sight k.sight
     (line-told role d streams wait n line.command j mid p.first (subst (λ (o : Option Job). EndsWith talk p.first o) is p.first_ends))
-    (lines-told role d streams wait n lines mid k p.second e))
-    p.second_ends)
+    (lines-told role d streams wait n lines mid k p.later e))
+    p.later_ends)
   where
     by : {R : Type 0} (o : Option Job) (second : List Call) → ((mid : Job) → o ≡ Some mid → EndsWith (lines_talk role d streams wait n lines mid) second (Some k) → R) → EndsWith (on_job (lines_talk role d streams wait n lines) o) second (Some k) → R
-    by None second more e = let f = finish-only None (Some k) second e in absurd cc
+    by None second more e = let f = finished None (Some k) second e in absurd cc
     by (Some mid) second more e = more mid refl e
 
 -- Whether they wait or not

@@ -44,7 +44,7 @@ use Rattle.inp_script.specs.Joystick.{Reach, handed_out, line_ends, record_sight
 use Rattle.inp_script.specs.Line.{step_of, after_call, call_if, stream_talk, stream_numbered, source_talk, end_talk}
 use Rattle.inp_script.specs.Client.{with_sight, with_stop}
 use Rattle.inp_script.specs.Sight.{call_sight, again_sight, taken_sight, noted, stop_after_start, start_lacks_memory}
-use Rattle.inp_script.proofs.LastAgain.{finish-only, and_then-parts}
+use Rattle.inp_reader.proofs.Calls.{finished, split-and_then}
 use Rattle.inp_script.proofs.LineTold.{memory_there}
 use Rattle.inp_script.proofs.Told.{noted-back, noted_sight}
 use Rattle.inp_runs.specs.Job.{lines_by, on_job, last_talk, lines_talk, AreTold}
@@ -92,7 +92,7 @@ module _ (P : List Sight → Taken → Type 0) (d : Description) (h : List Step)
 
   source-same : (j k : Job) (calls : List Call) → EndsWith (finish (Some j)) calls (Some k) → AtEach P [] j.sight → AtEach P [] k.sight
   source-same j k calls ends s =
-      let f = finish-only (Some j) (Some k) calls ends in
+      let f = finished (Some j) (Some k) calls ends in
       let same : j ≡ k = (let e = f.1 in cc) in
       subst (λ (y : Job). AtEach P [] y.sight) same s
 
@@ -140,11 +140,11 @@ module _ (P : List Sight → Taken → Type 0) (d : Description) (h : List Step)
   joystick-start : (j k : Job) (calls : List Call) → EndsWith (start_joystick d j) calls (Some k) → AtEach P [] j.sight → AtEach P [] k.sight
   unfolding start_joystick
   joystick-start j k calls ends s =
-      let p = and_then-parts (noted (joy_start d (joying_of j)) j.sight) (λ o. finish (after_joy_start j o)) calls (Some k) ends in
-      let last : Job = record (with_joying j p.mid.0.1) { sight = p.mid.1; stop = stop_after_start p.mid.0.0 } in
-      let f = finish-only (after_joy_start j p.mid) (Some k) p.second p.second_ends in
-      let same : last ≡ k = memory_there (start_lacks_memory p.mid.0.0) last k f.1 in
-      subst (λ (y : Job). AtEach P [] y.sight) same (joystick-noted (joy_start d (joying_of j)) j.sight p.first p.mid p.first_ends s)
+      let p = split-and_then (noted (joy_start d (joying_of j)) j.sight) (λ o. finish (after_joy_start j o)) calls (Some k) ends in
+      let last : Job = record (with_joying j p.between.0.1) { sight = p.between.1; stop = stop_after_start p.between.0.0 } in
+      let f = finished (after_joy_start j p.between) (Some k) p.later p.later_ends in
+      let same : last ≡ k = memory_there (start_lacks_memory p.between.0.0) last k f.1 in
+      subst (λ (y : Job). AtEach P [] y.sight) same (joystick-noted (joy_start d (joying_of j)) j.sight p.first p.between p.first_ends s)
 
   abbrev AtReach : Option Reach → Type 0
   AtReach None = Unit {0}
@@ -152,15 +152,15 @@ module _ (P : List Sight → Taken → Type 0) (d : Description) (h : List Step)
   AtReach (Some (line_ends j)) = AtEach P [] j.sight
 
   joystick-ends : {A : Type 0} (Q : A → Type 0) (o result : A) (calls : List Call) → EndsWith (finish o) calls result → Q o → Q result
-  joystick-ends Q o result calls ends s = let f = finish-only o result calls ends in subst Q f.1 s
+  joystick-ends Q o result calls ends s = let f = finished o result calls ends in subst Q f.1 s
 
   joystick-read_on : (most n : ℕ) (j : Job) (reach : Option Reach) (calls : List Call) → EndsWith (read_on d most n j) calls reach → AtEach P [] j.sight → AtReach reach
   unfolding read_on
   joystick-read_on most zero j reach calls ends s = joystick-ends AtReach None reach calls ends tt
   joystick-read_on most (suc n) j reach calls ends s =
-      let p = and_then-parts (noted (turns d most 0 (joying_of j)) j.sight) (λ o. after_turns (read_on d most n) j o.0 o.1) calls reach ends in
-      by_answer p.mid.0 p.mid.1 p.second (λ (here : Job) e t. joystick-read_on most n here reach p.second e t) p.second_ends
-      (joystick-noted (turns d most 0 (joying_of j)) j.sight p.first p.mid p.first_ends s)
+      let p = split-and_then (noted (turns d most 0 (joying_of j)) j.sight) (λ o. after_turns (read_on d most n) j o.0 o.1) calls reach ends in
+      by_answer p.between.0 p.between.1 p.later (λ (here : Job) e t. joystick-read_on most n here reach p.later e t) p.later_ends
+      (joystick-noted (turns d most 0 (joying_of j)) j.sight p.first p.between p.first_ends s)
     where
       by_read : (read : JoyRead) (here : Job) (second : List Call) → (EndsWith (read_on d most n here) second reach → AtReach reach) → EndsWith (after_joy_read (read_on d most n) read here) second reach → AtEach P [] here.sight → AtReach reach
       by_read HandedOut here second more e t = joystick-ends AtReach (Some (handed_out here)) reach second e t
@@ -182,11 +182,11 @@ module _ (P : List Sight → Taken → Type 0) (d : Description) (h : List Step)
   unfolding read_records
   joystick-records n zero j k calls ends s = source-same j k calls ends s
   joystick-records n (suc count) j k calls ends s =
-      let p = and_then-parts (read_on d n n j) (on_reach (read_records d n count)) calls (Some k) ends in
-      by_reach p.mid p.second (λ (here : Job) e t. joystick-records n count here k p.second e t) p.second_ends (joystick-read_on n n j p.mid p.first p.first_ends s)
+      let p = split-and_then (read_on d n n j) (on_reach (read_records d n count)) calls (Some k) ends in
+      by_reach p.between p.later (λ (here : Job) e t. joystick-records n count here k p.later e t) p.later_ends (joystick-read_on n n j p.between p.first p.first_ends s)
     where
       by_reach : (reach : Option Reach) (second : List Call) → ((here : Job) → EndsWith (read_records d n count here) second (Some k) → AtEach P [] here.sight → AtEach P [] k.sight) → EndsWith (on_reach (read_records d n count) reach) second (Some k) → AtReach reach → AtEach P [] k.sight
-      by_reach None second more e t = let f = finish-only None (Some k) second e in absurd cc
+      by_reach None second more e t = let f = finished None (Some k) second e in absurd cc
       by_reach (Some (handed_out here)) second more e t = more here e t
       by_reach (Some (line_ends here)) second more e t = source-same here k second e t
 
@@ -213,7 +213,7 @@ JobStands Owner d h Q least j = AtEach TookNothing [] j.sight
 module _ (d : Description) (h : List Step) (Q : ℕ → Type 0) (history : IsHistory d (reverse h)) (short : length h < NO_CLIENT) where
   same-stands : (role : Role) (least : ℕ) (j k : Job) (calls : List Call) → EndsWith (finish (Some j)) calls (Some k) → JobStands role d h Q least j → JobStands role d h Q (place_behind least calls) k
   same-stands role least j k calls ends s =
-      let f = finish-only (Some j) (Some k) calls ends in
+      let f = finished (Some j) (Some k) calls ends in
       let same : j ≡ k = (let e = f.1 in cc) in
       subst (λ (cs : List Call). JobStands role d h Q (place_behind least cs) k) (sym f.0) (subst (JobStands role d h Q least) same s)
 
@@ -253,16 +253,16 @@ module _ (d : Description) (h : List Step) (Q : ℕ → Type 0) (history : IsHis
   lines-stand role streams wait n [] least j k calls of_role c ends s = last-stands wait role least j k calls c ends s
   lines-stand role streams wait n (line ∷ lines) least j k calls of_role c ends s =
       let talk : Talk (Option Job) = line_talk role d streams wait n line.command j in
-      let p = and_then-parts talk (on_job (lines_talk role d streams wait n lines)) calls (Some k) ends in
-      let here : AreToCome d h Q least (p.first ++ p.second) = subst (AreToCome d h Q least) p.whole c in
-      subst (λ (m : ℕ). JobStands role d h Q m k) (sym (ap (λ (cs : List Call). place_behind least cs) p.whole ∙ place_behind-append least p.first p.second))
-      (by p.mid p.second
-      (λ (mid : Job) is e. lines-stand role streams wait n lines (place_behind least p.first) mid k p.second of_role.1 (to-come-behind d h Q least p.first p.second here) e
-      (line-stands role streams wait n line.command least j mid p.first p.second of_role.0 here (subst (λ (o : Option Job). EndsWith talk p.first o) is p.first_ends) s))
-      p.second_ends)
+      let p = split-and_then talk (on_job (lines_talk role d streams wait n lines)) calls (Some k) ends in
+      let here : AreToCome d h Q least (p.first ++ p.later) = subst (AreToCome d h Q least) p.calls_are c in
+      subst (λ (m : ℕ). JobStands role d h Q m k) (sym (ap (λ (cs : List Call). place_behind least cs) p.calls_are ∙ place_behind-append least p.first p.later))
+      (by p.between p.later
+      (λ (mid : Job) is e. lines-stand role streams wait n lines (place_behind least p.first) mid k p.later of_role.1 (to-come-behind d h Q least p.first p.later here) e
+      (line-stands role streams wait n line.command least j mid p.first p.later of_role.0 here (subst (λ (o : Option Job). EndsWith talk p.first o) is p.first_ends) s))
+      p.later_ends)
     where
       by : {R : Type 0} (o : Option Job) (second : List Call) → ((mid : Job) → o ≡ Some mid → EndsWith (lines_talk role d streams wait n lines mid) second (Some k) → R) → EndsWith (on_job (lines_talk role d streams wait n lines) o) second (Some k) → R
-      by None second more e = let f = finish-only None (Some k) second e in absurd cc
+      by None second more e = let f = finished None (Some k) second e in absurd cc
       by (Some mid) second more e = more mid refl e
 
   first-stands : (role : Role) → JobStands role d h Q 0 (first_job role d)

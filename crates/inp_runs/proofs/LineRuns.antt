@@ -10,7 +10,7 @@ use Rattle.inp_reader.specs.Talk.{Talk, finish, and_then, EndsWith}
 use Rattle.inp_reader.proofs.Talks.{LeadsTo-append, LeadsTo-and_then}
 use Rattle.inp_script.specs.Doing.{line_talk}
 use Rattle.inp_script.specs.Job.{Job}
-use Rattle.inp_script.proofs.LastAgain.{finish-only, and_then-parts}
+use Rattle.inp_reader.proofs.Calls.{finished, split-and_then}
 use Rattle.inp_runs.specs.Job.{lines_by, on_job, lines_talk}
 
 -- the calls of one line more, where nobody waits
@@ -19,7 +19,7 @@ pub lines_talk-more : (role : Role) (d : Description) (streams : List (List Stam
     → EndsWith (lines_talk role d streams None rounds (lines ++ line ∷ []) first) (calls ++ more) (Some last)
 unfolding lines_talk
 lines_talk-more role d streams rounds [] line first mid last calls more h k =
-    let f = finish-only (Some first) (Some mid) calls h in
+    let f = finished (Some first) (Some mid) calls h in
     let same : first ≡ mid = (let e = f.1 in cc) in
     let next : Option Job → Talk (Option Job) = on_job (lines_talk role d streams None rounds []) in
     subst (λ (j : Job). EndsWith (and_then (line_talk role d streams None rounds line.command j) next) (calls ++ more) (Some last)) (sym same)
@@ -27,16 +27,16 @@ lines_talk-more role d streams rounds [] line first mid last calls more h k =
     (LeadsTo-and_then (line_talk role d streams None rounds line.command mid) (finish (Some last)) next more k))
 lines_talk-more role d streams rounds (other ∷ lines) line first mid last calls more h k =
     let talk : Talk (Option Job) = line_talk role d streams None rounds other.command first in
-    let p = and_then-parts talk (on_job (lines_talk role d streams None rounds lines)) calls (Some mid) h in
+    let p = split-and_then talk (on_job (lines_talk role d streams None rounds lines)) calls (Some mid) h in
     let long : Option Job → Talk (Option Job) = on_job (lines_talk role d streams None rounds (lines ++ line ∷ [])) in
-    let rest : EndsWith (long p.mid) (p.second ++ more) (Some last) = by_job p.mid p.second (λ (j : Job) e. lines_talk-more role d streams rounds lines line j mid last p.second more e k) p.second_ends in
-    subst (λ (cs : List Call). EndsWith (and_then talk long) (cs ++ more) (Some last)) (sym p.whole)
-    (subst (λ (cs : List Call). EndsWith (and_then talk long) cs (Some last)) (sym (append_assoc p.first p.second more))
-    (LeadsTo-append (and_then talk long) (long p.mid) (finish (Some last)) p.first (p.second ++ more) (LeadsTo-and_then talk (finish p.mid) long p.first p.first_ends) rest))
+    let rest : EndsWith (long p.between) (p.later ++ more) (Some last) = by_job p.between p.later (λ (j : Job) e. lines_talk-more role d streams rounds lines line j mid last p.later more e k) p.later_ends in
+    subst (λ (cs : List Call). EndsWith (and_then talk long) (cs ++ more) (Some last)) (sym p.calls_are)
+    (subst (λ (cs : List Call). EndsWith (and_then talk long) cs (Some last)) (sym (append_assoc p.first p.later more))
+    (LeadsTo-append (and_then talk long) (long p.between) (finish (Some last)) p.first (p.later ++ more) (LeadsTo-and_then talk (finish p.between) long p.first p.first_ends) rest))
   where
     by_job : (o : Option Job) (second : List Call) → ((j : Job) → EndsWith (lines_talk role d streams None rounds lines j) second (Some mid) → EndsWith (lines_talk role d streams None rounds (lines ++ line ∷ []) j) (second ++ more) (Some last))
         → EndsWith (on_job (lines_talk role d streams None rounds lines) o) second (Some mid) → EndsWith (on_job (lines_talk role d streams None rounds (lines ++ line ∷ [])) o) (second ++ more) (Some last)
-    by_job None second longer e = let f = finish-only None (Some mid) second e in absurd cc
+    by_job None second longer e = let f = finished None (Some mid) second e in absurd cc
     by_job (Some j) second longer e = longer j e
 
 -- a line more of this actor, or of another one

@@ -5,22 +5,17 @@ use Rattle.std.specs.List.{enumerate_from, range_with_len, sum_by}
 use Rattle.std.proofs.lemmas.Bool.Decides.{nat_tests}
 use Rattle.std.proofs.lemmas.List.Sums.{sum_by-cons, sum_by-set}
 use Rattle.std.proofs.lemmas.Option.{get_or_from_slice_get, slice_get_within, same_Some}
+use Rattle.std.proofs.lemmas.Bool.{eqb-true, eqb-false}
 
 pub eq_same : (m n : ℕ) → nat_eq m n ≡ true → m ≡ n
-eq_same m n h = grind (arith, nat_tests, h)
-
-pub eq_other : (m n : ℕ) → nat_eq m n ≡ false → m ≡ n → ⊥
-eq_other m n h e = grind (arith, nat_tests, h, e)
+eq_same m n h = eqb-true m n h
 
 pub eq_true : (m n : ℕ) → m ≡ n → nat_eq m n ≡ true
 eq_true m n e = grind (arith, nat_tests, e)
 
 pub eq_false : (m n : ℕ) → (m ≡ n → ⊥) → nat_eq m n ≡ false
-eq_false m n other = by_flag (nat_eq m n) refl
-  where
-    by_flag : (b : Bool) → nat_eq m n ≡ b → nat_eq m n ≡ false
-    by_flag true e = absurd (other (eq_same m n e))
-    by_flag false e = e
+eq_false m n other =
+    (elim (nat_eq m n) as (λ b. nat_eq m n ≡ b → nat_eq m n ≡ false) [ true ↦ λ e. absurd (other (eqb-true m n e)) | false ↦ λ e. e ]) refl
 
 -- One element
 
@@ -42,9 +37,9 @@ slice_get-set xs i k x y z h e = by_flag (nat_eq k i) refl
   where
     by_flag : (b : Bool) → nat_eq k i ≡ b → ((k ≡ i) × (z ≡ y)) ⊎ ((k ≡ i → ⊥) × (slice_get xs k ≡ Some z))
     by_flag true t =
-        let same : k ≡ i = eq_same k i t in
+        let same : k ≡ i = eqb-true k i t in
         inl (same, same_Some z y (sym e ∙ ap (λ (j : ℕ). slice_get (slice_set xs i y) j) same ∙ slice_get-set_same xs i x y h))
-    by_flag false f = inr (eq_other k i f, sym (slice_get-set_other xs i k y (eq_other k i f)) ∙ e)
+    by_flag false f = inr (eqb-false k i f, sym (slice_get-set_other xs i k y (eqb-false k i f)) ∙ e)
 
 pub map-set_same : {X Y : Type 0} (f : X → Y) (xs : List X) (i : ℕ) (x y : X) → slice_get xs i ≡ Some x → f y ≡ f x → map f (slice_set xs i y) ≡ map f xs
 map-set_same f [] i x y h e = refl

@@ -2,6 +2,7 @@
 use Rattle.std.proofs.Common.{◌≡◌, ℕ, zero, suc, ◌+◌, Bool, true, false, if◌then◌else◌, List, [], ◌∷◌, ◌++◌, length, Option, Some, None, refl, sym, ap, subst, ◌∙◌, inl, inr}
 use Rattle.std.specs.Prelude.{Result, slice_get}
 use Rattle.std.specs.List.{list_any}
+use Rattle.std.proofs.lemmas.Bool.{cond_both}
 use Rattle.inp_model.specs.declared.stamped.Stamped.{Stamped}
 use Rattle.inp_model.specs.declared.step.Step.{Step}
 use Rattle.inp_model.specs.declared.step.Step.TheVariants.{Open as ToOpen, Inject, End}
@@ -30,7 +31,7 @@ use Rattle.inp_joy.specs.declared.joy_read.JoyRead.{JoyRead}
 use Rattle.inp_joy.specs.declared.joy_read.JoyRead.TheVariants.{Frame, More}
 use Rattle.inp_joy.specs.declared.joy_record.JoyRecord.{JoyRecord}
 use Rattle.inp_joy.specs.Joying as joy
-use Rattle.inp_joy.specs.Joying.{Joying, JoyAnswer, JoyTurn, gives, goes_on as reads_on, startup, with_reading, joy_started, joy_start, stop_with, is_lost, joying_after_sync, sync_turn, after_normal, event_turn, record_or_turn, turn_talk, with_count, is_long, after_turn, turns}
+use Rattle.inp_joy.specs.Joying.{Joying, JoyAnswer, JoyTurn, gives, goes_on as reads_on, startup, with_reading, joy_started, joy_start, is_lost, joying_after_sync, sync_turn, after_normal, event_turn, record_or_turn, turn_talk, with_count, is_long, after_turn, turns}
 use Rattle.inp_reader.specs.Standing.{is_needed}
 use Rattle.inp_reader.specs.Talk.{Talk, finish, ask, and_then, LeadsTo, EndsWith}
 use Rattle.inp_reader.proofs.Meets.{Asks, asks-then}
@@ -100,11 +101,8 @@ no_open-rounds d wait skips (suc n) g = asks-then opens_none (next_round d wait 
     by_turn more (ends_with j) = tt
 
 no_open-hand : (d : Description) (wait : Option Waiting) (skips : Bool) (left : Option ℕ) (n : ℕ) (j : Job) → NoOpen (hand_talk d wait skips left n j)
-no_open-hand d wait skips left n j = by_flag (is_done left)
-  where
-    by_flag : (b : Bool) → NoOpen (if b then finish (Some j) else rounds d wait skips n (record { job = j; left = left; agains = 0 }))
-    by_flag true = tt
-    by_flag false = no_open-rounds d wait skips n (record { job = j; left = left; agains = 0 })
+no_open-hand d wait skips left n j =
+    cond_both (is_done left) _ _ NoOpen (λ _. tt) (λ _. no_open-rounds d wait skips n (record { job = j; left = left; agains = 0 }))
 
 -- a start asks for nothing more where its Open was refused
 gives_up-start : (d : Description) (j : Job) → GivesUp (start_job d j)
@@ -181,11 +179,8 @@ no_open-event_turn d k =
 
 no_open-joy_turn : (d : Description) (k : Joying) (out : Option JoyRecord) → NoOpen (record_or_turn d k out)
 no_open-joy_turn d k (Some r) = tt
-no_open-joy_turn d k None = by_flag (is_needed k.reading.phase)
-  where
-    by_flag : (b : Bool) → NoOpen (if b then sync_turn d k else event_turn d k)
-    by_flag true = no_open-sync_turn d k
-    by_flag false = no_open-event_turn d k
+no_open-joy_turn d k None =
+    cond_both (is_needed k.reading.phase) _ _ NoOpen (λ _. no_open-sync_turn d k) (λ _. no_open-event_turn d k)
 
 no_open-counted : {A : Type 0} (talk : Talk A) (n : ℕ) → NoOpen talk → NoOpen (with_count talk n)
 no_open-counted (finish a) n h = tt
@@ -201,11 +196,7 @@ no_open-turns d (suc most) n k =
   where
     by_turn : (m : ℕ) (turn : JoyTurn) → ((m : ℕ) (here : Joying) → NoOpen (turns d most m here)) → NoOpen (after_turn d (turns d most) m turn)
     by_turn m (gives answer) more = tt
-    by_turn m (reads_on here) more = by_flag (is_long d here m)
-      where
-        by_flag : (b : Bool) → NoOpen (if b then finish (Some (stop_with More here)) else turns d most m here)
-        by_flag true = tt
-        by_flag false = more m here
+    by_turn m (reads_on here) more = cond_both (is_long d here m) _ _ NoOpen (λ _. tt) (λ _. more m here)
 
 no_open-read_on : (d : Description) (most n : ℕ) (j : Job) → NoOpen (read_on d most n j)
 unfolding read_on

@@ -15,7 +15,7 @@ use Rattle.inp_script.specs.Client.{Going, Turn, goes_on, ends_with, is_done, ne
 use Rattle.inp_script.specs.Doing.{command_talk, unless_stopped, line_talk}
 use Rattle.inp_script.specs.Job.{Job}
 use Rattle.inp_script.proofs.JoyLonger.{ends-then, joystick-longer}
-use Rattle.inp_script.proofs.LastAgain.{finish-only, and_then-parts}
+use Rattle.inp_reader.proofs.Calls.{finished, split-and_then}
 use Rattle.inp_runs.specs.Job.{on_job, lines_talk}
 
 -- One line
@@ -26,14 +26,14 @@ Lasts talk longer = (calls : List Call) (j : Job) → EndsWith talk calls (Some 
 
 rounds-longer : (d : Description) (wait : Option Waiting) (skips : Bool) (n more : ℕ) (g : Going) → Lasts (rounds d wait skips n g) (rounds d wait skips (n + more) g)
 unfolding rounds
-rounds-longer d wait skips zero more g calls j h = let f = finish-only None (Some j) calls h in absurd cc
+rounds-longer d wait skips zero more g calls j h = let f = finished None (Some j) calls h in absurd cc
 rounds-longer d wait skips (suc n) more g calls j h =
-    let p = and_then-parts (next_round d wait skips g) (on_turn (rounds d wait skips n)) calls (Some j) h in
+    let p = split-and_then (next_round d wait skips g) (on_turn (rounds d wait skips n)) calls (Some j) h in
     let same : suc n + more ≡ suc (n + more) = omega arith in
     subst (λ (m : ℕ). EndsWith (rounds d wait skips m g) calls (Some j)) (sym same)
-    (subst (λ (cs : List Call). EndsWith (and_then (next_round d wait skips g) (on_turn (rounds d wait skips (n + more)))) cs (Some j)) (sym p.whole)
-    (ends-then (next_round d wait skips g) (on_turn (rounds d wait skips (n + more))) p.mid (Some j) p.first p.second p.first_ends
-    (by_turn p.mid p.second (λ (here : Going) e. rounds-longer d wait skips n more here p.second j e) p.second_ends)))
+    (subst (λ (cs : List Call). EndsWith (and_then (next_round d wait skips g) (on_turn (rounds d wait skips (n + more)))) cs (Some j)) (sym p.calls_are)
+    (ends-then (next_round d wait skips g) (on_turn (rounds d wait skips (n + more))) p.between (Some j) p.first p.later p.first_ends
+    (by_turn p.between p.later (λ (here : Going) e. rounds-longer d wait skips n more here p.later j e) p.later_ends)))
   where
     by_turn : (turn : Turn) (second : List Call) → ((here : Going) → EndsWith (rounds d wait skips n here) second (Some j) → EndsWith (rounds d wait skips (n + more) here) second (Some j))
         → EndsWith (on_turn (rounds d wait skips n) turn) second (Some j) → EndsWith (on_turn (rounds d wait skips (n + more)) turn) second (Some j)
@@ -85,15 +85,15 @@ lines-longer role d streams wait n more (line ∷ lines) old calls j h =
     let next : Option Job → Talk (Option Job) = on_job (lines_talk role d streams wait n lines) in
     let long : Option Job → Talk (Option Job) = on_job (lines_talk role d streams wait (n + more) lines) in
     let talk : Talk (Option Job) = line_talk role d streams wait n line.command old in
-    let p = and_then-parts talk next calls (Some j) h in
-    subst (λ (cs : List Call). EndsWith (and_then (line_talk role d streams wait (n + more) line.command old) long) cs (Some j)) (sym p.whole)
-    (by p.mid p.second (λ (mid : Job) is e.
-    ends-then (line_talk role d streams wait (n + more) line.command old) long (Some mid) (Some j) p.first p.second
+    let p = split-and_then talk next calls (Some j) h in
+    subst (λ (cs : List Call). EndsWith (and_then (line_talk role d streams wait (n + more) line.command old) long) cs (Some j)) (sym p.calls_are)
+    (by p.between p.later (λ (mid : Job) is e.
+    ends-then (line_talk role d streams wait (n + more) line.command old) long (Some mid) (Some j) p.first p.later
     (line-longer role d streams wait n more line.command old p.first mid (subst (λ (o : Option Job). EndsWith talk p.first o) is p.first_ends))
-    (lines-longer role d streams wait n more lines mid p.second j e)) p.second_ends)
+    (lines-longer role d streams wait n more lines mid p.later j e)) p.later_ends)
   where
     by : {R : Type 0} (o : Option Job) (second : List Call) → ((mid : Job) → o ≡ Some mid → EndsWith (lines_talk role d streams wait n lines mid) second (Some j) → R) → EndsWith (on_job (lines_talk role d streams wait n lines) o) second (Some j) → R
-    by None second longer e = let f = finish-only None (Some j) second e in absurd cc
+    by None second longer e = let f = finished None (Some j) second e in absurd cc
     by (Some mid) second longer e = longer mid refl e
 
 -- a line in so many rounds, and the lines behind it in so many

@@ -2,7 +2,7 @@
 use Rattle.std.proofs.Common.{◌≡◌, ◌<◌, ℕ, Bool, true, false, not, if◌then◌else◌, List, [], ◌∷◌, length, refl, sym, ap, ◌∙◌, arith, Option, Some, None}
 use Rattle.std.specs.Prelude.{slice_get}
 use Rattle.std.specs.List.{list_any}
-use Rattle.std.proofs.lemmas.Bool.{true≢false, and_parts}
+use Rattle.std.proofs.lemmas.Bool.{true≢false, and_parts, eqb-true}
 use Rattle.inp_model.specs.declared.stamped.Stamped.{Stamped}
 use Rattle.inp_model.specs.declared.step.Step.{Step}
 use Rattle.inp_model.specs.Description.{Description}
@@ -12,7 +12,7 @@ use Rattle.inp_model.specs.Run.{Call, IsLegalRun}
 use Rattle.inp_model.specs.Step.{client_of, is_same}
 use Rattle.inp_actors.specs.declared.line.Line.{Line}
 use Rattle.inp_actors.specs.declared.role.Role.{Role}
-use Rattle.inp_model.proofs.Opens.{is_open-lt, opens-le}
+use Rattle.inp_model.proofs.Opens.{opens-le}
 use Rattle.inp_reader.specs.declared.reader.TheConstants.{NO_CLIENT}
 use Rattle.inp_reader.specs.Standing.{is_use, is_use_of}
 use Rattle.inp_reader.specs.Talk.{EndsWith}
@@ -22,7 +22,6 @@ use Rattle.inp_script.specs.Job.{Job, JobView, first_job}
 use Rattle.inp_runs.specs.Job.{lines_talk, AreTold}
 use Rattle.inp_runs.proofs.Entries.{told-counts}
 use Rattle.inp_runs.proofs.JobClients.{job-names}
-use Rattle.inp_runs.proofs.Listing.{eq_same}
 use Rattle.inp_runs.proofs.Owners.{HasOwners, is_opened_as, own-steps}
 
 -- each use of a client that these calls opened is one of them
@@ -32,7 +31,7 @@ OwnsItsUses history calls =
 
 same-client : (o : Option ℕ) (client : ℕ) → is_same o client ≡ true → o ≡ Some client
 same-client None client h = absurd (true≢false (sym h))
-same-client (Some named) client h = ap (λ (n : ℕ). Some n) (eq_same named client h)
+same-client (Some named) client h = ap (λ (n : ℕ). Some n) (eqb-true named client h)
 
 -- a use of a client names it
 pub use-names : (client : ℕ) (x : Step) → is_use_of client x ≡ true → client_of x ≡ Some client
@@ -66,10 +65,6 @@ names-open d past x client accepts names =
     by : (b : Bool) → not b ≡ false → b ≡ true
     by true h = refl
     by false h = absurd (true≢false h)
-
--- a use of a client that is not refused is one of a client that was opened
-pub use-opened : (d : Description) (past : List Step) (x : Step) (client : ℕ) → refused d past x ≡ None → is_use_of client x ≡ true → client < opens past
-use-opened d past x client accepts used = is_open-lt past client (names-open d past x client accepts (use-names client x used))
 
 -- no client of a short history has the last number
 pub opened-number : (past : List Step) (client : ℕ) → length past < NO_CLIENT → client < opens past → client < NO_CLIENT

@@ -1,7 +1,7 @@
 -- What an owner was told, as its device goes on.
-use Rattle.std.proofs.Common.{◌≡◌, ℕ, Bool, true, false, if◌then◌else◌, List, [], ◌∷◌, ◌++◌, length, map, reverse, take, refl, sym, ap, subst, ◌∙◌, append_assoc, append-nil, arith, inl, inr, Option, Some, None}
+use Rattle.std.proofs.Common.{◌≡◌, ℕ, Bool, true, false, if◌then◌else◌, List, [], ◌∷◌, ◌++◌, length, map, reverse, take, refl, sym, ap, subst, ◌∙◌, append_assoc, arith, inl, inr, Option, Some, None}
 use Rattle.std.specs.Prelude.{min}
-use Rattle.std.proofs.lemmas.List.{map-append, reverse-reverse}
+use Rattle.std.proofs.lemmas.List.{map-append}
 use Rattle.inp_model.specs.declared.event.Event.{Event}
 use Rattle.inp_model.specs.declared.step.Step.{Step}
 use Rattle.inp_model.specs.Description.{Description}
@@ -17,9 +17,8 @@ use Rattle.inp_feedback.proofs.Few.{room-enough, room-enough-kept, room-enough-t
 use Rattle.inp_feedback.proofs.Lists.{reverse-cons}
 use Rattle.inp_script.specs.declared.stop.Stop.{Stop}
 use Rattle.inp_script.specs.declared.stop.Stop.TheVariants.{Full as FullList}
-use Rattle.inp_script.specs.Owner.{Owning, FeedsUnless, FeedsLine, first_owning, stop_after_answer, after_feedback}
-use Rattle.inp_runs.specs.Feeding.{AreFed}
-use Rattle.inp_runs.specs.Owner.{HasFed, EndsFed, HasOwned}
+use Rattle.inp_script.specs.Owner.{Owning, FeedsUnless, FeedsLine, stop_after_answer, after_feedback}
+use Rattle.inp_runs.specs.Owner.{HasFed, EndsFed}
 
 -- Steps
 
@@ -28,10 +27,6 @@ pub fed-steps : (d : Description) (kept : List UEntry) (rooms : List ℕ) (o : O
 unfolding HasFed
 fed-steps d kept rooms o [] h = h
 fed-steps d kept rooms o (x ∷ xs) h = fed-steps d kept rooms o xs h
-
-pub steps-made : (xs : List Step) → steps_in (map Made xs) ≡ xs
-steps-made [] = refl
-steps-made (x ∷ xs) = ap (λ ys. x ∷ ys) (steps-made xs)
 
 -- Calls
 
@@ -69,16 +64,6 @@ pub record IsToldByLines (d : Description) (kept : List UEntry) (rooms : List �
   pub fed : HasFed d kept done before
   pub ends : EndsFed d kept rooms done before last
 
--- before its first line, whatever steps were made
-pub told-first : (d : Description) (xs : List Step) → IsToldByLines d (map Made xs) [] first_owning
-unfolding HasFed
-told-first d xs = record {
-  done = [];
-  before = first_owning;
-  fed = subst (λ (ks : List UEntry). HasFed d ks [] first_owning) (append-nil (map Made xs)) (fed-steps d [] [] first_owning xs refl);
-  ends = inl (refl, refl);
-}
-
 ends-steps : (d : Description) (kept : List UEntry) (rooms done : List ℕ) (before last : Owning) (xs : List Step) → EndsFed d kept rooms done before last → EndsFed d (map Made xs ++ kept) rooms done before last
 ends-steps d kept rooms done before last xs (inl all) = inl all
 ends-steps d kept rooms done before last xs (inr f) =
@@ -95,15 +80,6 @@ ends-steps d kept rooms done before last xs (inr f) =
       full = f.full;
       told = f.told;
     })
-
--- behind further steps
-pub told-steps : (d : Description) (kept : List UEntry) (rooms : List ℕ) (o : Owning) (xs : List Step) → IsToldByLines d kept rooms o → IsToldByLines d (map Made xs ++ kept) rooms o
-told-steps d kept rooms o xs t = record {
-  done = t.done;
-  before = t.before;
-  fed = fed-steps d kept t.done t.before xs t.fed;
-  ends = ends-steps d kept rooms t.done t.before o xs t.ends;
-}
 
 -- a refused call stops, and one that was made does not
 full-stops : (d : Description) (kept : List UEntry) (room : ℕ) → is_full_of_feedback d kept ≡ true → stop_after_answer (fed d kept room) ≡ Some (FullList (length (steps_in kept)))
@@ -206,16 +182,6 @@ told-stopped d kept rooms room o stop stops t = record { done = t.done; before =
           told = f.told;
         })
 
--- what an owner was told by its lines is so at their end
-pub told-end : (d : Description) (kept : List UEntry) (rooms : List ℕ) (o : Owning) → IsToldByLines d kept rooms o → HasOwned d (reverse (steps_in kept)) rooms o
-told-end d kept rooms o t = record { kept = kept; steps = refl; done = t.done; before = t.before; fed = t.fed; ends = t.ends }
-
--- an owner with no line
-pub owned-none : (d : Description) (history : List Step) → HasOwned d history [] first_owning
-owned-none d history =
-    let past : List Step = reverse history in
-    subst (λ (xs : List Step). HasOwned d xs [] first_owning) (ap reverse (steps-made past) ∙ reverse-reverse history) (told-end d (map Made past) [] first_owning (told-first d past))
-
 -- Over what answers feedback calls by what it keeps
 
 -- A call is answered by what was kept before it, and is kept.
@@ -238,13 +204,3 @@ told-line {S = S} feeds d kept before after rooms room old new answers line t = 
     by (Some stop) e h =
         subst (λ (s : S). IsToldByLines d (kept s) (rooms ++ room ∷ []) new) (sym h.0)
         (subst (λ (o : Owning). IsToldByLines d (kept before) (rooms ++ room ∷ []) o) (sym h.1) (told-stopped d (kept before) rooms room old stop e t))
-
--- lines, one after another, with no step between them
-pub told-lines : {S : Type 0} (feeds : Feeding S) (d : Description) (kept : S → List UEntry) (before after : S) (rooms more : List ℕ) (old new : Owning) → AnswersByKept feeds d kept → AreFed feeds before after more old new → IsToldByLines d (kept before) rooms old → IsToldByLines d (kept after) (rooms ++ more) new
-unfolding AreFed
-told-lines {S = S} feeds d kept before after rooms [] old new answers h t =
-    subst (λ (s : S). IsToldByLines d (kept s) (rooms ++ []) new) (sym h.0)
-    (subst (λ (o : Owning). IsToldByLines d (kept before) (rooms ++ []) o) (sym h.1) (subst (λ (ns : List ℕ). IsToldByLines d (kept before) ns old) (sym (append-nil rooms)) t))
-told-lines feeds d kept before after rooms (room ∷ more) old new answers h t =
-    subst (λ (ns : List ℕ). IsToldByLines d (kept after) ns new) (append_assoc rooms (room ∷ []) more)
-    (told-lines feeds d kept h.0 after (rooms ++ room ∷ []) more h.1 new answers h.3 (told-line feeds d kept before h.0 rooms room old h.1 answers h.2 t))

@@ -10,7 +10,7 @@ use Rattle.inp_script.specs.declared.stop.Stop.{Stop}
 use Rattle.inp_script.specs.declared.waiting.Waiting.{Waiting}
 use Rattle.inp_script.specs.Doing.{unless_stopped, line_talk}
 use Rattle.inp_script.specs.Job.{Job, first_job}
-use Rattle.inp_script.proofs.LastAgain.{finish-only}
+use Rattle.inp_reader.proofs.Calls.{finished}
 use Rattle.inp_runs.specs.Job.{last_talk, on_job, lines_talk}
 
 last-nothing : (wait : Option Waiting) (j : Job) → last_talk wait Owner j ≡ finish (Some j)
@@ -34,6 +34,6 @@ pub owner-silent : (d : Description) (streams : List (List Stamped)) (wait : Opt
 owner-silent d streams wait n lines k calls h =
     let first : Job = first_job Owner d in
     let ends : EndsWith (finish (Some first)) calls (Some k) = subst (λ (t : Talk (Option Job)). EndsWith t calls (Some k)) (lines-nothing d streams wait n lines first) h in
-    let f = finish-only (Some first) (Some k) calls ends in
+    let f = finished (Some first) (Some k) calls ends in
     let same : first ≡ k = (let e = f.1 in cc) in
     ap (λ (j : Job). j.sight) (sym same)

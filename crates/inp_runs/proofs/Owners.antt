@@ -2,7 +2,7 @@
 use Rattle.std.proofs.Common.{◌≡◌, ◌⊎◌, ℕ, zero, suc, ◌+◌, ◌<◌, ◌≤◌, Bool, true, false, ◌&&◌, ◌||◌, if◌then◌else◌, nat_eq, nat_lt, List, [], ◌∷◌, ◌++◌, length, take, reverse, refl, sym, ap, subst, ◌∙◌, arith, inl, inr, Option, Some, None}
 use Rattle.std.specs.Prelude.{slice_get}
 use Rattle.std.specs.List.{list_any, sum_by}
-use Rattle.std.proofs.lemmas.Bool.{true≢false, cases_lt, cond-true, lt-ltb}
+use Rattle.std.proofs.lemmas.Bool.{true≢false, cases_lt, cond-true, lt-ltb, eqb-true}
 use Rattle.std.proofs.lemmas.List.{reverse-append, length-reverse, length-take, take_all}
 use Rattle.std.proofs.lemmas.List.Sums.{sum_by-cons}
 use Rattle.std.proofs.lemmas.Option.{slice_get_within, same_Some}
@@ -24,7 +24,7 @@ use Rattle.inp_model.proofs.Opens.{opens-le}
 use Rattle.inp_model.specs.History.{IsHistory}
 use Rattle.inp_reader.specs.declared.reader.TheConstants.{NO_CLIENT}
 use Rattle.inp_reader.specs.Talk.{EndsWith}
-use Rattle.inp_model.proofs.Refused.{refused-not_accepted}
+use Rattle.inp_model.proofs.Refused.{refused-not_accepted, accepted-unrefused}
 use Rattle.inp_reader.proofs.Calls.{IsPlaceOf}
 use Rattle.inp_script.specs.declared.waiting.Waiting.{Waiting}
 use Rattle.inp_script.specs.Job.{Job, JobView, first_job}
@@ -33,7 +33,7 @@ use Rattle.inp_script.specs.Line.{tap_client_after}
 use Rattle.inp_runs.specs.Job.{lines_talk, entries_at, AreTold}
 use Rattle.inp_runs.proofs.Entries.{entries, entries-cons_call, told-counts}
 use Rattle.inp_runs.proofs.JobClients.{NameLast, job-names}
-use Rattle.inp_runs.proofs.Listing.{eq_same, eq_true}
+use Rattle.inp_runs.proofs.Listing.{eq_true}
 
 -- The calls of a job: a legal run of the history, with the places of those that its sight tells of, and each names no client
 -- but the one that the job opened last.
@@ -126,7 +126,7 @@ counts-place place (call ∷ calls) h =
   where
     by : (a b : Bool) → is_accepted call.answer.reply ≡ a → nat_eq (place_of call.answer.reply) place ≡ b → (n : ℕ) → (1 ≤ n → IsPlaceOf place calls) → 1 ≤ (if a && b then 1 else 0) + n
         → ((is_accepted call.answer.reply ≡ true) × (place_of call.answer.reply ≡ place)) ⊎ IsPlaceOf place calls
-    by true true e f n more k = inl (e, eq_same (place_of call.answer.reply) place f)
+    by true true e f n more k = inl (e, eqb-true (place_of call.answer.reply) place f)
     by true false e f n more k = inr (more (omega (arith, k)))
     by false b e f n more k = inr (more (omega (arith, k)))
 
@@ -176,7 +176,7 @@ opened-here d history client call calls (Opened at opened ring) is placed same =
       place = place;
       of_calls = inl (accepted_it, refl);
       is_open = placed.entered accepted_it ∙ ap (λ (x : Step). Some x) e.0;
-      number = sym (eq_same opened client same) ∙ e.1;
+      number = sym (eqb-true opened client same) ∙ e.1;
     }
 opened-here d history client call calls _ is placed same = absurd (true≢false (sym same))
 
@@ -364,16 +364,6 @@ own-steps d history jobs i job a client place x owners is_job opened at names =
 
 -- Steps that nothing refused
 
-pub not-refused : (d : Description) (past : List Step) (x : Step) (given : Answer) → IsAnswer d past x given → is_accepted given.reply ≡ true → refused d past x ≡ None
-not-refused d past x given (inl e) ok = by (refused d past x) refl
-  where
-    by : (o : Option Reply) → refused d past x ≡ o → refused d past x ≡ None
-    by None k = k
-    by (Some reply) k =
-        let same : given.reply ≡ reply = ap (λ (a : Answer). a.reply) e ∙ ap (λ (o : Option Reply). (answer_by o (accepted d past x)).reply) k in
-        absurd (true≢false (sym ok ∙ ap is_accepted same ∙ refused-not_accepted d past x reply k))
-not-refused d past x given (inr l) ok = l.1
-
 placed-accepted : (d : Description) (history : List Step) (least place : ℕ) (x : Step) (calls : List Call) → IsLegalFrom d history least calls → IsPlaceOf place calls → slice_get history place ≡ Some x → refused d (past_at history place) x ≡ None
 unfolding IsPlaceOf
 placed-accepted d history least place x [] legal h at = absurd h
@@ -383,7 +373,7 @@ placed-accepted d history least place x (call ∷ calls) legal (inl same) at =
     let step : call.step ≡ x = same_Some call.step x (sym (placed.entered same.0) ∙ ap (λ (n : ℕ). slice_get history n) same.1 ∙ at) in
     ap (λ (n : ℕ). refused d (past_at history n) x) (sym same.1)
     ∙ ap (λ (y : Step). refused d (past_at history (place_of reply)) y) (sym step)
-    ∙ not-refused d (past_at history (place_of reply)) call.step call.answer placed.exact same.0
+    ∙ accepted-unrefused d (past_at history (place_of reply)) call.step call.answer placed.exact same.0
 placed-accepted d history least place x (call ∷ calls) legal (inr h) at = placed-accepted d history (next_place call.answer.reply) place x calls legal.2 h at
 
 -- each step of such a history was accepted after those before it

@@ -16,7 +16,8 @@ use Rattle.inp_script.specs.Runs.{is_on_device, is_joystick, is_owning, actors_o
 use Rattle.inp_runs.specs.Done.{IsRunAsPromised}
 use Rattle.inp_runs.specs.Job.{lines_by, IsRun, ArePromised, joys_on, wait_of}
 use Rattle.inp_runs.specs.Owner.{rooms_of, IsOwner}
-use Rattle.inp_runs.proofs.Listing.{IsAt, IsImage, eq_false, eq_same, filter-all, filter-none, option_map-some, slice_get-filter}
+use Rattle.inp_runs.proofs.Listing.{IsAt, IsImage, eq_false, filter-all, filter-none, option_map-some, slice_get-filter}
+use Rattle.std.proofs.lemmas.Bool.{eqb-true}
 
 -- Parts of what came of each device, whose numbers are these of a device's number
 
@@ -113,7 +114,7 @@ owner-on_device actors number owners k owner same is =
 -- and on no other one
 on-one : (o : Option ActorText) (one other : ℕ) → (one ≡ other → ⊥) → is_on_device one o ≡ true → is_on_device other o ≡ false
 on-one None one other apart h = absurd cc
-on-one (Some text) one other apart h = eq_false text.device other (λ e. apart (sym (eq_same text.device one h) ∙ e))
+on-one (Some text) one other apart h = eq_false text.device other (λ e. apart (sym (eqb-true text.device one h) ∙ e))
 
 kept-here : (actors : List ActorText) (number : ℕ) (joys : List JoyJobView) → joy_actors joys ≡ joysticks_of actors number → filter (is_joy_on actors number) joys ≡ joys
 kept-here actors number joys same = filter-all (is_joy_on actors number) joys (λ k joy is. on-device actors number joys k joy same is)
@@ -163,7 +164,7 @@ text-at (z ∷ xs) (y ∷ ys) (suc i) x long h = text-at xs ys i x (omega (arith
 -- an actor's device is the one that it is on
 its-device : (number : ℕ) (o : Option ActorText) (text : ActorText) → o ≡ Some text → is_on_device number o ≡ true → text.device ≡ number
 its-device number None text h on = absurd cc
-its-device number (Some other) text h on = let same : other ≡ text = cc in ap (λ (x : ActorText). x.device) (sym same) ∙ eq_same other.device number on
+its-device number (Some other) text h on = let same : other ≡ text = cc in ap (λ (x : ActorText). x.device) (sym same) ∙ eqb-true other.device number on
 
 -- what came of an owner of the record
 is_owner_of : (idle : Option ℕ) (r : RecordView) (done : List DeviceRun) (k : ℕ) (owner : OwnerView) (text : ActorText) (device : DeviceText) (run : Run) → length done ≡ length r.devices → AllRunsPromised idle r done → slice_get (flat_map its_owners done) k ≡ Some owner

@@ -2,7 +2,7 @@
 use Rattle.std.proofs.Common.{◌≡◌, ◌≤◌, ◌<◌, inl, inr, ℕ, zero, suc, ◌+◌, ◌-◌, nat_eq, nat_lt, Bool, true, false, not, if◌then◌else◌, ℤ, List, [], ◌∷◌, ◌++◌, length, map, take, drop, reverse, replicate, get_or, refl, sym, ap, subst, ◌∙◌, arith, append-nil, append_assoc, take-append-drop, Option, Some, None}
 use Rattle.std.specs.Prelude.{slice_get}
 use Rattle.std.specs.List.{All}
-use Rattle.std.proofs.lemmas.Bool.{true≢false, cond-false, cond-true, cases_lt, lt-ltb, false_from_ne_true}
+use Rattle.std.proofs.lemmas.Bool.{true≢false, cond-false, cond-true, cases_lt, lt-ltb, false_from_ne_true, cond_both}
 use Rattle.std.proofs.lemmas.List.{ext_get_or, length-map, length-replicate, length-take, map-append, nil_from_length, reverse-append, take_more}
 use Rattle.std.proofs.lemmas.List.Elements.{All-nil, All-head, All-tail, All-take}
 use Rattle.std.proofs.lemmas.List.FromFn.{length-map-range_with_len}
@@ -46,6 +46,9 @@ use Rattle.inp_script.specs.declared.sight.Sight.TheVariants.{Call as CallSight,
 use Rattle.inp_script.specs.Sight.{call_sight, again_sight}
 use Rattle.inp_script.proofs.Told.{noted_sight}
 use Rattle.inp_runs.specs.JobViews.{AgreesIn, ShowsAt}
+use Rattle.inp_joy.proofs.Lists.{slice_get-left}
+use Rattle.inp_script.proofs.Runs.{next_place-within}
+use Rattle.inp_model.proofs.Injecting.{past-shorter}
 
 -- ---- what a sight took
 
@@ -75,11 +78,7 @@ at_each-at P before (entry ∷ sight) (suc k) taken h at =
     subst (λ (s : List Sight). P s taken) (append_assoc before (entry ∷ []) (take (suc k) sight)) (at_each-at P (before ++ entry ∷ []) sight k taken h.1 at)
 
 pub at_each-call : (P : List Sight → Taken → Type 0) (before : List Sight) (x : Step) (reply : Reply) → AtEach P before (call_sight x reply)
-at_each-call P before x reply = by (is_again reply)
-  where
-    by : (b : Bool) → AtEach P before (if b then [] else CallSight x reply ∷ [])
-    by true = tt
-    by false = (tt, tt)
+at_each-call P before x reply = cond_both (is_again reply) _ _ (AtEach P before) (λ _. tt) (λ _. (tt, tt))
 
 pub at_each-again : (P : List Sight → Taken → Type 0) (before : List Sight) (reply : Reply) → AtEach P before (again_sight reply)
 at_each-again P before (NothingVisible at ends) = (tt, tt)
@@ -92,11 +91,6 @@ at_each-noted P before (call ∷ calls) =
     (at_each-noted P (before ++ call_sight call.step call.answer.reply) calls)
 
 -- ---- a history that grows
-
-pub get-front : {X : Type 0} (xs ys : List X) (i : ℕ) (x : X) → slice_get xs i ≡ Some x → slice_get (xs ++ ys) i ≡ Some x
-get-front [] ys i x h = absurd cc
-get-front (y ∷ xs) ys zero x h = h
-get-front (y ∷ xs) ys (suc i) x h = get-front xs ys i x h
 
 shows-one : (d : Description) (past : List Step) (client : ℕ) (own : Option ℕ) (taken : Taken) (view : View) (x : Step) → ShowsAt d past client own taken view → ShowsAt d (x ∷ past) client own taken view
 unfolding took_with past_before_read_with
@@ -115,7 +109,7 @@ shows-one d past client own taken view x s =
     record {
       index = i;
       is_own = s.is_own;
-      is_taken = ap (λ (ts : List Taken). slice_get ts i) (map-append taken_of T E) ∙ get-front (map taken_of T) (map taken_of E) i taken s.is_taken;
+      is_taken = ap (λ (ts : List Taken). slice_get ts i) (map-append taken_of T E) ∙ slice_get-left (map taken_of T) (map taken_of E) i taken s.is_taken;
       agrees = λ h. subst (λ (v : View). AgreesIn d view v) (sym (at-earlier d past client i x within)) (s.agrees (sym synchronised ∙ h));
     }
   where
@@ -129,15 +123,11 @@ pub shows-later : (d : Description) (more past : List Step) (client : ℕ) (own 
 shows-later d [] past client own taken view s = s
 shows-later d (x ∷ more) past client own taken view s = shows-one d (more ++ past) client own taken view x (shows-later d more past client own taken view s)
 
-pub history-later : (d : Description) (more past : List Step) → IsHistory d (more ++ past) → IsHistory d past
-history-later d [] past h = h
-history-later d (x ∷ more) past h = history-later d more past h.0
-
 pub whole-past : (h : List Step) (at : ℕ) → reverse h ≡ reverse (drop at h) ++ past_at h at
 whole-past h at = ap (λ (xs : List Step). reverse xs) (sym (take-append-drop at h)) ∙ reverse-append (take at h) (drop at h)
 
 pub history-at : (d : Description) (h : List Step) (at : ℕ) → IsHistory d (reverse h) → IsHistory d (past_at h at)
-history-at d h at k = history-later d (reverse (drop at h)) (past_at h at) (subst (IsHistory d) (whole-past h at) k)
+history-at d h at k = past-shorter d (reverse (drop at h)) (past_at h at) (subst (IsHistory d) (whole-past h at) k)
 
 -- ---- keys, switches and LEDs of a device that has none
 
@@ -306,20 +296,13 @@ past-next h at x there =
     ∙ ap (λ (xs : List Step). reverse xs) (take_more h at x within ∙ ap (λ (y : Step). take at h ++ y ∷ []) last)
     ∙ reverse-append (take at h) (x ∷ [])
 
-next-within : (d : Description) (h : List Step) (call : Call) → HasPlace d h call → next_place call.answer.reply ≤ length h
-next-within d h call placed = by (is_accepted call.answer.reply) (λ is. slice_get_within h (place_of call.answer.reply) call.step (placed.entered is))
-  where
-    by : (b : Bool) → (b ≡ true → place_of call.answer.reply < length h) → (if b then suc (place_of call.answer.reply) else place_of call.answer.reply) ≤ length h
-    by true below = omega (arith, below refl)
-    by false below = placed.within
-
 at_most_next : (reply : Reply) (b : Bool) → place_of reply ≤ (if b then suc (place_of reply) else place_of reply)
 at_most_next reply true = omega arith
 at_most_next reply false = omega arith
 
 pub to-come-next : (d : Description) (h : List Step) (Q : ℕ → Type 0) (least : ℕ) (call : Call) (calls : List Call) → AreToCome d h Q least (call ∷ calls) → AreToCome d h Q (next_place call.answer.reply) calls
 to-come-next d h Q least call calls c = record {
-  within = next-within d h call c.legal.1;
+  within = next_place-within d h call c.legal.1;
   legal = c.legal.2;
   own = λ client q. later_own client h (next_place call.answer.reply) call calls least (omega (arith, c.legal.0, at_most_next call.answer.reply (is_accepted call.answer.reply))) refl (c.own client q);
   opened = c.opened.1;

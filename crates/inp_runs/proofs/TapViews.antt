@@ -19,7 +19,7 @@ use Rattle.inp_model.specs.Queue.{Entry, taken_by, took, took_with}
 use Rattle.inp_model.specs.Reply.{Answer, IsAnswer, answer, answer_by, accepted, refused, is_accepted, is_bad_client, past_after, taken_of}
 use Rattle.inp_model.specs.Run.{Call, HasPlace, place_of, next_place}
 use Rattle.inp_model.specs.Step.{client_of, is_open_step, is_same}
-use Rattle.inp_model.proofs.Allowed.{named_open}
+use Rattle.inp_model.proofs.Allowed.{named_open, head_fails}
 use Rattle.inp_model.proofs.Opens.{is_open-lt, opens-le}
 use Rattle.inp_actors.specs.declared.command.Command.{Command}
 use Rattle.inp_actors.specs.declared.command.Command.TheVariants.{Event as ToEvent, Tick, Inhibit, Uninhibit, Stream, Stream16, Open, Next, Skip, Follow, Force, Feedback}
@@ -41,7 +41,6 @@ use Rattle.inp_reader.proofs.Agreeing.{Compared, AgreeBut, is_get_keys, is_get_s
 use Rattle.inp_reader.proofs.ClientViews.{accepted-answer, accepted-accepts, at-last, idle-step, no-events, no_read-takes, read-view, taken-events, used-taken, used-view}
 use Rattle.inp_reader.proofs.PastsAtCalls.{AreQuiet}
 use Rattle.inp_reader.proofs.ShowsDevice.{what_is_had, agree-events, at-it}
-use Rattle.inp_reader.proofs.SpareAgrees.{has-cells}
 use Rattle.inp_reader.proofs.StandsAfterTalks.{open-opens, opens-step}
 use Rattle.inp_reader.proofs.Supported.{events-of}
 use Rattle.inp_script.specs.declared.sight.Sight.{Sight}
@@ -50,12 +49,14 @@ use Rattle.inp_script.specs.Fold.{tap_fold}
 use Rattle.inp_script.specs.Job.{Job, first_job}
 use Rattle.inp_script.specs.Line.{step_of, tap_client_after, event_of_taken, view_after_call, after_tap_call, tap_call_if, tap_talk, unless_lacking}
 use Rattle.inp_script.specs.Sight.{call_sight, again_sight, taken_sight, lacks_memory}
-use Rattle.inp_script.proofs.Folds.{tap_fold-append, call-folds, entries-fold, fold-taken, again_sets_nothing, tap_memory}
-use Rattle.inp_script.proofs.LastAgain.{finish-only}
+use Rattle.inp_script.proofs.Folds.{tap_fold-append, call-folds, entries-fold, fold-taken, again_sets_nothing}
+use Rattle.inp_reader.proofs.Calls.{finished}
 use Rattle.inp_runs.specs.JobViews.{client_after_sight, reads_as, index_in_history, ShowsAt, IsSeenAt}
 use Rattle.inp_runs.proofs.AtHand.{accepted-exact, index-read}
 use Rattle.inp_runs.proofs.LastReads.{read-as}
 use Rattle.inp_runs.proofs.Reports.{AtEach, at_each-append, at_each-call, at_each-again, shows-later, history-at, whole-past, HasNoOthers, no-others-first, no-others-events, no-others-answer, no-others-at, agrees-had, sized-at, AreToCome, quiet-before, past-entered, place_behind}
+use Rattle.inp_script.proofs.Told.{memory_there}
+use Rattle.inp_reader.proofs.UnsetSlotAxes.{has_cells}
 
 -- ---- what was asked for since the client's start
 
@@ -430,14 +431,10 @@ opened-asked d past v sized =
 abbrev pub IsTapStep : ℕ → Step → Type 0
 IsTapStep client x = (x ≡ ToOpen) ⊎ (client_of x ≡ Some client)
 
-none-holds : (b : Bool) (reply : Reply) (o : Option Reply) → (if b then Some reply else o) ≡ None → b ≡ false
-none-holds true reply o h = absurd cc
-none-holds false reply o h = refl
-
 -- a client that a step names is open, where the step is not refused
 pub opened-there : (d : Description) (past : List Step) (x : Step) (client : ℕ) → refused d past x ≡ None → client_of x ≡ Some client → client < opens past
 opened-there d past x client accepts named =
-    is_open-lt past client (named_open past x client named (none-holds (is_bad_client past (client_of x)) _ _ accepts))
+    is_open-lt past client (named_open past x client named (head_fails (is_bad_client past (client_of x)) _ _ accepts))
 
 read-is_use : (client : ℕ) (x : Step) → is_read x ≡ true → client_of x ≡ Some client → is_use_of client x ≡ true
 read-is_use client (Read named count) h is = let same : named ≡ client = (let e : Some named ≡ Some client = is in cc) in eq-eqb named client same
@@ -633,7 +630,7 @@ module _ (d : Description) (h : List Step) (Q : ℕ → Type 0) (history : IsHis
       let supported : All (λ (t : Taken). is_event_of d t.event ≡ true) given.events = events-of d past x given placed.exact in
       let answered : View = view_after_answer v x reply given.cells in
       let sized : IsSizedFor d.slots (view_after_call v x given) =
-      IsSizedFor-after_events d.slots answered (map event_of_taken given.events) (IsSizedFor-after_answer d.slots v x reply given.cells (has-cells d past x given v.cells placed.exact s.sized.cells) s.sized) in
+      IsSizedFor-after_events d.slots answered (map event_of_taken given.events) (IsSizedFor-after_answer d.slots v x reply given.cells (has_cells d past x given v.cells placed.exact s.sized.cells) s.sized) in
       record {
         seen =
             at_each-append (TapSaw d h) [] j.sight (told ++ map taken_sight given.events) s.seen
@@ -670,13 +667,13 @@ module _ (d : Description) (h : List Step) (Q : ℕ → Type 0) (history : IsHis
   tap-if : (least : ℕ) (j k : Job) (o : Option Step) (calls more : List Call) → IsTapStepOf j.reading.client o → AreToCome d h Q least (calls ++ more) → EndsWith (tap_call_if j o) calls (Some k) → TapStands d h Q least j → TapStands d h Q (place_behind least calls) k
   unfolding LeadsTo
   tap-if least j k None calls more step c ends s =
-      let f = finish-only (Some j) (Some k) calls ends in
+      let f = finished (Some j) (Some k) calls ends in
       let same : j ≡ k = (let e = f.1 in cc) in
       subst (λ (cs : List Call). TapStands d h Q (place_behind least cs) k) (sym f.0) (subst (TapStands d h Q least) same s)
   tap-if least j k (Some x) [] more step c ends s = absurd cc
   tap-if least j k (Some x) (call ∷ calls) more step c ends s =
-      let f = finish-only (unless_lacking call.answer.reply (after_tap_call j x call.answer)) (Some k) calls ends.1 in
-      let same : after_tap_call j x call.answer ≡ k = tap_memory (lacks_memory call.answer.reply) (after_tap_call j x call.answer) k f.1 in
+      let f = finished (unless_lacking call.answer.reply (after_tap_call j x call.answer)) (Some k) calls ends.1 in
+      let same : after_tap_call j x call.answer ≡ k = memory_there (lacks_memory call.answer.reply) (after_tap_call j x call.answer) k f.1 in
       let one : TapStands d h Q (next_place call.answer.reply) (after_tap_call j call.step call.answer) = tap-call least j call (calls ++ more) c s (subst (IsTapStep j.reading.client) (sym ends.0) step) in
       subst (λ (cs : List Call). TapStands d h Q (place_behind (next_place call.answer.reply) cs) k) (sym f.0)
       (subst (TapStands d h Q (next_place call.answer.reply)) (ap (λ (y : Step). after_tap_call j y call.answer) ends.0 ∙ same) one)

@@ -13,17 +13,12 @@ use Rattle.inp_model.specs.Run.{Call}
 use Rattle.inp_model.proofs.Injecting.{injected-calls}
 use Rattle.inp_script.specs.declared.notes.Notes.{Notes}
 use Rattle.inp_script.specs.Noting.{notes_after, entered_calls, AreMade, AreNoted}
+use Rattle.std.proofs.lemmas.Bool.{lt-ltb, le-ltb}
 
 abbrev pub no_stamped : Stamped
 no_stamped = record { event = record { kind = 0; code = 0; value = pos 0 }; now = 0 }
 
 -- Which calls they are
-
-below : (m n : ℕ) → m < n → nat_lt m n ≡ true
-below m n h = grind (arith, nat_tests, h)
-
-not_below : (m n : ℕ) → n ≤ m → nat_lt m n ≡ false
-not_below m n h = grind (arith, nat_tests, h)
 
 -- the calls for a list that is not empty, by whether there is room
 abbrev by_room : ℕ → ℕ → Stamped → List Stamped → Bool → List Call
@@ -43,17 +38,17 @@ calls-limit limit count from (stamped ∷ events) is = by (nat_lt from limit) re
         let later : calls_of limit (suc from) events ≡ calls_of (from + count) (suc from) events =
         rest (omega (arith, is, there)) ∙ ap (λ (n : ℕ). calls_of n (suc from) events) same in
         ap (by_room limit from stamped events) room ∙ ap (λ (calls : List Call). entered_call from stamped ∷ calls) later
-        ∙ sym (ap (by_room (from + count) from stamped events) (below from (from + count) (omega (arith, more))))
+        ∙ sym (ap (by_room (from + count) from stamped events) (lt-ltb from (from + count) (omega (arith, more))))
     by false room rest =
         let full : limit ≤ from = grind (arith, nat_tests, room) in
         let none : count ≡ 0 = omega (arith, is, full) in
-        ap (by_room limit from stamped events) room ∙ sym (ap (by_room (from + count) from stamped events) (not_below from (from + count) (omega (arith, none))))
+        ap (by_room limit from stamped events) room ∙ sym (ap (by_room (from + count) from stamped events) (le-ltb from (from + count) (omega (arith, none))))
 
 -- all are entered
 pub calls-entered : (limit from : ℕ) (events : List Stamped) → from + length events ≤ limit → calls_of limit from events ≡ entered_calls from events
 calls-entered limit from [] h = refl
 calls-entered limit from (stamped ∷ events) h =
-    ap (by_room limit from stamped events) (below from limit (omega (arith, h)))
+    ap (by_room limit from stamped events) (lt-ltb from limit (omega (arith, h)))
     ∙ ap (λ (calls : List Call). entered_call from stamped ∷ calls) (calls-entered limit (suc from) events (omega (arith, h)))
 
 -- or one is refused behind those that are entered
@@ -65,9 +60,9 @@ calls-refused limit zero from (first ∷ events) stamped is h =
     let same : Some first ≡ Some stamped = h in
     let one : first ≡ stamped = cc same in
     let here : from ≡ limit = omega (arith, is) in
-    ap (by_room limit from first events) (not_below from limit (omega (arith, is))) ∙ (λ i. full_call (here i) (one i) ∷ [])
+    ap (by_room limit from first events) (le-ltb from limit (omega (arith, is))) ∙ (λ i. full_call (here i) (one i) ∷ [])
 calls-refused limit (suc count) from (first ∷ events) stamped is h =
-    ap (by_room limit from first events) (below from limit (omega (arith, is)))
+    ap (by_room limit from first events) (lt-ltb from limit (omega (arith, is)))
     ∙ ap (λ (calls : List Call). entered_call from first ∷ calls) (calls-refused limit count (suc from) events stamped (omega (arith, is)) h)
 
 made-calls : (before after : EvdevView) (events : List Stamped) (injected : Injected) → 1 ≤ length events → IsInjectAll before after events injected → AreCalls before after (calls_of (injected.from + injected.count) injected.from events)

@@ -1,7 +1,7 @@
 -- The view of a client is the fold of its sight.
-use Rattle.std.proofs.Common.{◌≡◌, ℕ, Bool, true, false, if◌then◌else◌, List, [], ◌∷◌, ◌++◌, refl, sym, ap, subst, ◌∙◌}
+use Rattle.std.proofs.Common.{◌≡◌, ℕ, Bool, false, if◌then◌else◌, List, [], ◌∷◌, ◌++◌, refl, sym, ap, subst, ◌∙◌}
 use Rattle.std.specs.Prelude.{Result, Ok, Err}
-use Rattle.std.proofs.lemmas.Bool.{cond-true, cond-false}
+use Rattle.std.proofs.lemmas.Bool.{cond-true, cond-false, cond_both}
 use Rattle.inp_model.specs.declared.step.Step.{Step}
 use Rattle.inp_model.specs.declared.step.Step.TheVariants.{Open, Read, Discard}
 use Rattle.inp_model.specs.declared.reply.Reply.{Reply}
@@ -67,11 +67,8 @@ once d h f g e x a is no_read by = by.1 ∙ called d h f x a.reply (not_again d 
 
 read_once : (d : Description) (h : List Step) (v : View) (client count : ℕ) (reply : Reply) → client_fold d h (settled v) (call_sight (Read client count) reply) ≡ settled v
 unfolding client_fold
-read_once d h v client count reply = by_flag (is_again reply)
-  where
-    by_flag : (b : Bool) → client_fold d h (settled v) (if b then [] else Called (Read client count) reply ∷ []) ≡ settled v
-    by_flag true = refl
-    by_flag false = refl
+read_once d h v client count reply =
+    cond_both (is_again reply) _ _ (λ x. client_fold d h (settled v) x ≡ settled v) (λ _. refl) (λ _. refl)
 
 nothing_more : (d : Description) (h : List Step) (f : Folding) → client_fold d h f [] ≡ f
 unfolding client_fold

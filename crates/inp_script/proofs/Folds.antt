@@ -1,5 +1,5 @@
 -- The view of a tap is the fold of its sight.
-use Rattle.std.proofs.Common.{◌≡◌, ℕ, Bool, true, false, if◌then◌else◌, List, [], ◌∷◌, ◌++◌, map, refl, sym, ap, subst, ◌∙◌, Option, Some, None, inl, inr, ℤ}
+use Rattle.std.proofs.Common.{◌≡◌, ℕ, List, [], ◌∷◌, ◌++◌, map, refl, sym, ap, subst, ◌∙◌, inl, inr, ℤ}
 use Rattle.inp_model.specs.declared.taken.Taken.{Taken}
 use Rattle.inp_model.specs.declared.step.Step.{Step}
 use Rattle.inp_model.specs.declared.step.Step.TheVariants.{Open, GetKeys, GetSwitches, GetLeds, GetAxis, SyncSlots}
@@ -9,16 +9,14 @@ use Rattle.inp_model.specs.Description.{Description}
 use Rattle.inp_model.specs.Past.{past_at}
 use Rattle.inp_model.specs.Reply.{Answer, answer, IsAnswer}
 use Rattle.inp_model.specs.Run.{Call, HasPlace, place_of}
-use Rattle.inp_actors.specs.declared.command.Command.{Command}
 use Rattle.inp_recon.specs.declared.view.View.{View}
 use Rattle.inp_recon.specs.View.{view_after_answer, view_after_event, view_after_events}
-use Rattle.inp_reader.specs.Talk.{LeadsTo, EndsWith}
 use Rattle.inp_script.specs.declared.sight.Sight.{Sight}
 use Rattle.inp_script.specs.Fold.{view_told, view_after_entry, tap_fold}
 use Rattle.inp_script.specs.Job.{Job}
-use Rattle.inp_script.specs.Line.{event_of_taken, after_tap_call, unless_lacking, tap_call_if, tap_talk, step_of}
-use Rattle.inp_script.specs.Sight.{call_sight, again_sight, taken_sight, lacks_memory}
-use Rattle.inp_script.proofs.LastAgain.{finish-only}
+use Rattle.inp_script.specs.Line.{event_of_taken, after_tap_call}
+use Rattle.inp_script.specs.Sight.{call_sight, again_sight, taken_sight}
+use Rattle.inp_reader.proofs.Meets.{Runs}
 
 pub tap_fold-append : (d : Description) (h : List Step) (v : View) (sight more : List Sight) → tap_fold d h v (sight ++ more) ≡ tap_fold d h (tap_fold d h v sight) more
 unfolding tap_fold
@@ -80,22 +78,16 @@ abbrev pub ArePlaced : Description → List Step → List Call → Type 0
 ArePlaced d h [] = Unit {0}
 ArePlaced d h (call ∷ calls) = HasPlace d h call × ArePlaced d h calls
 
-pub tap_memory : (lacks : Bool) (j k : Job) → (if lacks then None else Some j) ≡ Some k → j ≡ k
-tap_memory true j k h = absurd cc
-tap_memory false j k h = cc
+-- a call has its place in this history
+abbrev pub Placed : Description → List Step → Unit {0} → Step → Answer → Unit {0} → Type 0
+Placed d h s x a t = HasPlace d h (record { step = x; answer = a })
 
-tap_step-folds : (d : Description) (h : List Step) (v : View) (j k : Job) (o : Option Step) (calls : List Call) → ArePlaced d h calls → EndsWith (tap_call_if j o) calls (Some k) → tap_fold d h v j.sight ≡ j.reading.view → tap_fold d h v k.sight ≡ k.reading.view
-unfolding LeadsTo
-tap_step-folds d h v j k None calls placed ends fold =
-    let f = finish-only (Some j) (Some k) calls ends in
-    let same : j ≡ k = (let e = f.1 in cc) in
-    subst (λ (y : Job). tap_fold d h v y.sight ≡ y.reading.view) same fold
-tap_step-folds d h v j k (Some x) [] placed ends fold = absurd cc
-tap_step-folds d h v j k (Some x) (call ∷ calls) placed ends fold =
-    let f = finish-only (unless_lacking call.answer.reply (after_tap_call j x call.answer)) (Some k) calls ends.1 in
-    let same : after_tap_call j x call.answer ≡ k = tap_memory (lacks_memory call.answer.reply) (after_tap_call j x call.answer) k f.1 in
-    call-folds d h v j k x call placed.0 ends.0 same fold
+pub placed-run : (d : Description) (h : List Step) (calls : List Call) → ArePlaced d h calls → Runs (Placed d h) tt calls tt
+unfolding Runs
+placed-run d h [] placed = refl
+placed-run d h (call ∷ calls) placed = (tt, placed.0, placed-run d h calls placed.1)
 
--- a tap's view is the fold of its sight after each command, where it was before
-pub tap-folds : (d : Description) (h : List Step) (v : View) (j k : Job) (command : Command) (calls : List Call) → ArePlaced d h calls → EndsWith (tap_talk command j) calls (Some k) → tap_fold d h v j.sight ≡ j.reading.view → tap_fold d h v k.sight ≡ k.reading.view
-tap-folds d h v j k command calls placed ends fold = tap_step-folds d h v j k (step_of j.reading.client command) calls placed ends fold
+pub run-placed : (d : Description) (h : List Step) (s t : Unit {0}) (calls : List Call) → Runs (Placed d h) s calls t → ArePlaced d h calls
+unfolding Runs
+run-placed d h s t [] run = tt
+run-placed d h s t (call ∷ calls) run = (run.1, run-placed d h run.0 t calls run.2)

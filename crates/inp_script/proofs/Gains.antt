@@ -1,7 +1,8 @@
 -- What a line leaves of the history's places and of the legal run, by the calls that its sight tells of.
-use Rattle.std.proofs.Common.{◌≡◌, ℕ, Bool, true, false, if◌then◌else◌, List, [], ◌∷◌, ◌++◌, refl, sym, ap, ◌∙◌, append_assoc, append-nil, Option, Some, inl, inr}
+use Rattle.std.proofs.Common.{◌≡◌, ℕ, true, List, [], ◌∷◌, ◌++◌, refl, sym, ap, ◌∙◌, append_assoc, append-nil, Option, Some, inl, inr}
 use Rattle.std.specs.Prelude.{filter}
 use Rattle.std.proofs.lemmas.List.Elements.{filter-append}
+use Rattle.std.proofs.lemmas.Bool.{cond_both}
 use Rattle.inp_model.specs.declared.step.Step.{Step}
 use Rattle.inp_model.specs.declared.reply.Reply.{Reply}
 use Rattle.inp_model.specs.declared.reply.Reply.TheVariants.{Again as NothingVisible}
@@ -56,11 +57,8 @@ again_sight-places (NothingVisible at ends) = refl
 again_sight-places _ = refl
 
 call_sight-places : (x : Step) (reply : Reply) → places_in (call_sight x reply) ≡ own_after reply []
-call_sight-places x reply = by_flag (is_again reply) refl
-  where
-    by_flag : (b : Bool) → is_again reply ≡ b → places_in (if b then [] else Called x reply ∷ []) ≡ own_after reply []
-    by_flag true e = sym (again_has_none reply e)
-    by_flag false e = append-nil (own_after reply [])
+call_sight-places x reply =
+    cond_both (is_again reply) _ _ (λ y. places_in y ≡ own_after reply []) (λ e. sym (again_has_none reply e)) (λ e. append-nil (own_after reply []))
 
 entries-places : (calls : List Call) → places_in (sight_of_calls calls) ≡ places_of calls
 entries-places [] = refl

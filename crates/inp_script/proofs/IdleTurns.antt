@@ -1,6 +1,7 @@
 -- A job that stops as idle made as many calls that were answered Again as it says.
 use Rattle.std.proofs.Common.{◌≡◌, ℕ, suc, ◌+◌, ◌-◌, ◌^◌, ◌≤◌, ◌⊎◌, inl, inr, ◌&&◌, Bool, true, false, if◌then◌else◌, List, [], ◌∷◌, refl, sym, ap, subst, ◌∙◌, arith, Option, Some, None, nat_le, nat_lt}
 use Rattle.std.proofs.lemmas.Bool.Decides.{nat_tests}
+use Rattle.std.proofs.lemmas.Bool.{cond_both}
 use Rattle.inp_model.specs.declared.stamped.Stamped.{Stamped}
 use Rattle.inp_model.specs.declared.step.Step.{Step}
 use Rattle.inp_model.specs.declared.reply.Reply.{Reply}
@@ -30,11 +31,12 @@ use Rattle.inp_model.specs.declared.step.Step.TheVariants.{Read}
 use Rattle.inp_model.specs.Reply.{Answer}
 use Rattle.inp_recon.specs.declared.view.View.{View}
 use Rattle.inp_reader.specs.declared.mode.Mode.{Mode}
-use Rattle.inp_reader.proofs.Meets.{Any, Runs, meets-ends, ends-meet, meets-always, meets-weaker}
+use Rattle.inp_reader.proofs.Meets.{Any, Runs, meets-ends, meets-always, meets-weaker}
 use Rattle.inp_reader.proofs.NextWalk.{sync-meets, Renewed, NextRules, next-meets, stop-cases}
 use Rattle.inp_script.specs.Joystick.{joystick_talk}
 use Rattle.inp_script.proofs.LineWalk.{NotedBy, OfJob, OfTurn, read_so, LineRules, start_job-meets, round-meets, line-meets}
-use Rattle.inp_script.proofs.JoyStops.{IsNotIdle, reply-not_idle, started-not_idle, joystick-not_idle}
+use Rattle.inp_script.proofs.JoyStops.{IsNotIdle, NotIdle, none-not_idle, reply-not_idle, started-not_idle, joy-stops}
+use Rattle.inp_script.proofs.JoyWalk.{joystick-meets}
 
 -- how many calls were answered Again
 again_count : List Call → ℕ
@@ -102,11 +104,7 @@ idles-turn : (n before : ℕ) (wait : Option Waiting) (left : Option ℕ) (next 
 idles-turn n before wait left next j i one = by next (λ at ends e. one at ends e)
   where
     handed-idles : (left : Option ℕ) (k : Job) → IdlesOf n k → OfTurn IdlesOf IdlesGoing n (handed left k)
-    handed-idles left k h = by_flag (is_done left)
-      where
-        by_flag : (b : Bool) → OfTurn IdlesOf IdlesGoing n (if b then ends_with k else goes_on (record { job = k; left = left; agains = 0 }))
-        by_flag true = h
-        by_flag false = (omega arith, h)
+    handed-idles left k h = cond_both (is_done left) _ _ (OfTurn IdlesOf IdlesGoing n) (λ _. h) (λ _. (omega arith, h))
 
     again-idles : (patient : Option ℕ) (at ends : ℕ) → suc before ≤ n → OfTurn IdlesOf IdlesGoing n (after_again patient left (suc before) at ends j)
     again-idles None at ends h = i
@@ -165,33 +163,35 @@ risen-rules n d mode = record {
 
 -- A line
 
-idles-line : (d : Description) (role : Role) (command : Command) → LineRules AgainBy IdlesOf IdlesGoing d role command
-idles-line d role command = record {
+idles-line : (d : Description) (role : Role) (command : Command) (wait : Option Waiting) → LineRules AgainBy IdlesOf IdlesGoing d role command wait
+idles-line d role command wait = record {
   injects = λ e s t j x a i by. not_idle t (stop_after a.reply) (reply-not_idle a.reply);
-  calls = λ e s t j x a is i by. not_idle t (stop_after a.reply) (reply-not_idle a.reply);
+  calls = λ e one s t j x a is i by. not_idle t (stop_after a.reply) (reply-not_idle a.reply);
   taps = λ e s t j x a i by. not_idle t (stop_after a.reply) (reply-not_idle a.reply);
   starts = λ e s j i.
       start_job-meets AgainBy IdlesOf d s j
       (meets-always (NotedBy AgainBy) (λ (u : ℕ × List Sight) (o : Started × Reading). IdlesOf u.0 (job_after_start o.0 o.1 u.1)) (s, j.sight) (start_talk d j.reading) (λ u o. not_idle u.0 (stop_after_start o.0) (started-not_idle o.0)));
   begins = λ e s j left i. (omega arith, i);
-  rounds = λ e s wait skips g i.
+  rounds = λ e s waits skips g none i.
       let mode : Mode = mode_of skips g.job.reading.phase in
-      round-meets AgainBy IdlesOf IdlesGoing d s wait skips g
-      (meets-weaker Any (NotedBy AgainBy) (HasRisen s) (λ (u : ℕ × List Sight) (o : Next × Reading). OfTurn IdlesOf IdlesGoing u.0 (after_next wait g (o, u.1))) (s, g.job.sight) (next_talk d mode g.job.reading)
+      round-meets AgainBy IdlesOf IdlesGoing d s waits skips g
+      (meets-weaker Any (NotedBy AgainBy) (HasRisen s) (λ (u : ℕ × List Sight) (o : Next × Reading). OfTurn IdlesOf IdlesGoing u.0 (after_next waits g (o, u.1))) (s, g.job.sight) (next_talk d mode g.job.reading)
       (next-meets Any (NotedBy AgainBy) (λ (u : ℕ × List Sight) (r : Reading). s ≤ u.0) (HasRisen s) d mode (risen-rules s d mode) (s, g.job.sight) g.job.reading (omega arith))
-      (λ u o h. idles-turn u.0 g.agains wait g.left o.0 (read_so g.job o.1 u.1) (idles-more s u.0 g.job.stop h.0 i.1) (λ at ends is. omega (arith, h.1 at ends is, i.0))));
+      (λ u o h. idles-turn u.0 g.agains waits g.left o.0 (read_so g.job o.1 u.1) (idles-more s u.0 g.job.stop h.0 i.1) (λ at ends is. omega (arith, h.1 at ends is, i.0))));
   forces = λ e s j i. i;
-  joys = λ e s j n none i. ends-meet AgainBy (OfJob IdlesOf) s (joystick_talk d n command j) (λ t calls o run ends. of_joy t j n calls o none ends);
+  joys = λ e s j n none i.
+      meets-weaker Any AgainBy (OfJob NotIdle) (OfJob IdlesOf) s (joystick_talk d n command j)
+      (joystick-meets AgainBy NotIdle d command (joy-stops AgainBy d command) n s j (none-not_idle j.stop none)) (λ t o h. of_joy t o h);
 }
   where
-    of_joy : (t : ℕ) (j : Job) (n : ℕ) (calls : List Call) (o : Option Job) → j.stop ≡ None → EndsWith (joystick_talk d n command j) calls o → OfJob IdlesOf t o
-    of_joy t j n calls None none ends = tt
-    of_joy t j n calls (Some k) none ends = not_idle t k.stop (joystick-not_idle d n command j k calls none ends)
+    of_joy : (t : ℕ) (o : Option Job) → OfJob NotIdle t o → OfJob IdlesOf t o
+    of_joy t None h = tt
+    of_joy t (Some k) h = not_idle t k.stop h
 
 line-idles : (role : Role) (d : Description) (streams : List (List Stamped)) (wait : Option Waiting) (n : ℕ) (command : Command) (j k : Job) (calls : List Call) → j.stop ≡ None → EndsWith (line_talk role d streams wait n command j) calls (Some k) → Idles (again_count calls) k.stop
 line-idles role d streams wait n command j k calls none h =
     idles-more (0 + again_count calls) (again_count calls) k.stop (omega arith) (meets-ends Any AgainBy (OfJob IdlesOf) 0 (0 + again_count calls) (line_talk role d streams wait n command j) calls (Some k)
-    (line-meets AgainBy IdlesOf IdlesGoing d role command (idles-line d role command) streams wait n 0 j (λ turns at e. (let no : None ≡ Some (Idle turns at) = sym none ∙ e in absurd cc))) (again-run 0 calls) h)
+    (line-meets AgainBy IdlesOf IdlesGoing d role command wait (idles-line d role command wait) streams n 0 j (λ turns at e. (let no : None ≡ Some (Idle turns at) = sym none ∙ e in absurd cc))) (again-run 0 calls) h)
 
 pub counts-turns : (a b : EvdevView) (actor : ActorView) (r : RecordView) (wait : Option Waiting) (number : ℕ) (new : Job) → DoesLine a b actor r wait number new → CountsTurns a b actor.job new
 counts-turns a b actor r wait number new does turns at none idle =

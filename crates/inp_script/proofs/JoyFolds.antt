@@ -1,7 +1,7 @@
 -- The picture of a joystick's job is the fold of its sight.
-use Rattle.std.proofs.Common.{◌≡◌, ℕ, zero, suc, Bool, true, false, if◌then◌else◌, List, [], ◌∷◌, ◌++◌, map, refl, sym, ap, subst, ◌∙◌, append-nil, append_assoc, Option, Some, None}
+use Rattle.std.proofs.Common.{◌≡◌, ℕ, Bool, true, false, if◌then◌else◌, List, [], ◌∷◌, ◌++◌, map, refl, sym, ap, subst, ◌∙◌, append-nil, append_assoc, Option, Some, None}
 use Rattle.std.specs.Prelude.{Result, Ok, Err}
-use Rattle.std.proofs.lemmas.Bool.{true≢false}
+use Rattle.std.proofs.lemmas.Bool.{true≢false, cond_both, cond-true, cond-false}
 use Rattle.inp_model.specs.declared.taken.Taken.{Taken}
 use Rattle.inp_model.specs.declared.step.Step.{Step}
 use Rattle.inp_model.specs.declared.step.Step.TheVariants.{Open as ToOpen, Read as ToRead, Discard, Close as ToClose}
@@ -14,14 +14,14 @@ use Rattle.inp_model.specs.Past.{past_at}
 use Rattle.inp_model.specs.Reply.{Answer, is_accepted, IsAnswer}
 use Rattle.inp_model.specs.Run.{Call, place_of}
 use Rattle.inp_actors.specs.declared.command.Command.{Command}
-use Rattle.inp_actors.specs.declared.command.Command.TheVariants.{Open, Close, Read}
+use Rattle.inp_actors.specs.declared.command.Command.TheVariants.{Close}
 use Rattle.inp_actors.specs.declared.role.Role.TheVariants.{Joy}
 use Rattle.inp_actors.specs.Command.{is_command_of}
 use Rattle.inp_joy.specs.declared.joy_read.JoyRead.{JoyRead}
-use Rattle.inp_joy.specs.declared.joy_read.JoyRead.TheVariants.{Record as HandedOut, Frame, Again, NoDevice, Closed, Full, More}
+use Rattle.inp_joy.specs.declared.joy_read.JoyRead.TheVariants.{Again}
 use Rattle.inp_joy.specs.declared.joy_record.JoyRecord.{JoyRecord}
 use Rattle.inp_joy.specs.JoyRecord.{bytes_of_record}
-use Rattle.inp_joy.specs.Joying.{Joying, JoyAnswer, JoyTurn, gives, goes_on, hand_out_record, next_in_startup, stop_with, joy_read_of, event_handed_out, joy_record_of, record_or_on, event_or_on, stop_or_event, joying_after_next, stop_or_startup, turn_talk, turns, with_reading, without_startup, joying_after_start, joy_started, joy_start}
+use Rattle.inp_joy.specs.Joying.{Joying, JoyAnswer, JoyTurn, gives, goes_on, hand_out_record, next_in_startup, joy_read_of, event_handed_out, joy_record_of, record_or_on, event_or_on, stop_or_event, joying_after_next, stop_or_startup, turn_talk, turns, with_reading, without_startup, joying_after_start, joy_started, joy_start}
 use Rattle.inp_joy.specs.Picture.{PictureView, blank_picture, picture_after}
 use Rattle.inp_joy.proofs.Nexts.{lost-needed}
 use Rattle.inp_joy.proofs.Records.{FitsBytes, record-back, startup-fits, FitsIf, event-fits}
@@ -33,25 +33,25 @@ use Rattle.inp_reader.specs.declared.phase.Phase.TheVariants.{Needed}
 use Rattle.inp_reader.specs.declared.started.Started.{Started}
 use Rattle.inp_reader.specs.Reading.{Reading, queries, start_talk, after_queries, start_stop_of, stop_of as reader_stop, hand_synthesised, after_full_sync, next_talk}
 use Rattle.inp_reader.specs.Standing.{is_needed}
-use Rattle.inp_reader.specs.Talk.{Talk, finish, LeadsTo, EndsWith}
+use Rattle.inp_reader.specs.Talk.{Talk, finish, EndsWith}
 use Rattle.inp_script.specs.declared.sight.Sight.{Sight}
 use Rattle.inp_script.specs.declared.sight.Sight.TheVariants.{Call as Called, Again as AgainSight, Record}
-use Rattle.inp_script.specs.declared.stop.Stop.TheVariants.{Full as FullHistory}
-use Rattle.inp_script.specs.Client.{with_sight, with_stop}
+use Rattle.inp_script.specs.Client.{with_sight}
 use Rattle.inp_script.specs.Job.{Job, joying_of}
-use Rattle.inp_script.specs.Joystick.{Reach, handed_out, line_ends, start_joystick, record_sight, after_joy_answer, after_joy_read, after_turns, read_on, on_reach, read_records, joystick_talk}
+use Rattle.inp_script.specs.Joystick.{start_joystick, record_sight, after_joy_answer, joystick_talk}
 use Rattle.inp_script.specs.JoyFold.{Showing, shown, asking, blank_shown, asked_on, after_joy_call, after_joy_entry, joy_fold}
-use Rattle.inp_script.specs.Line.{after_call, call_talk}
+use Rattle.inp_script.specs.Line.{after_call, step_of}
 use Rattle.inp_script.specs.Sight.{call_sight, again_sight, taken_sight, sight_of_call, noted}
-use Rattle.std.proofs.lemmas.Bool.{cond-true, cond-false}
 use Rattle.inp_recon.proofs.Each.{Each}
-use Rattle.inp_reader.proofs.Meets.{Any, Runs, meets-ends}
+use Rattle.inp_reader.proofs.Meets.{Any, Runs, meets-ends, ends-meet}
 use Rattle.inp_reader.proofs.NextWalk.{AskRules, asked-meets, sync-by_parts, Queried, start-meets, Handed, needed-meets, NextRules, next-ends, stop-cases}
 use Rattle.inp_reader.proofs.AgainCounts.{IsNoRead, no_read-queries, not_again}
 use Rattle.inp_script.proofs.ClientFolds.{placed-left, placed-right}
-use Rattle.inp_script.proofs.Folds.{ArePlaced}
-use Rattle.inp_script.proofs.JoyTold.{job_of_reach, starts}
-use Rattle.inp_script.proofs.LastAgain.{finish-only, and_then-parts}
+use Rattle.inp_script.proofs.Folds.{Placed, placed-run, run-placed, ArePlaced}
+use Rattle.inp_script.proofs.LineWalk.{OfJob, job-ends-meet}
+use Rattle.inp_script.proofs.JoyWalk.{AfterRead, AfterTurns, is_joy_call, JoyRules, joystick-meets}
+use Rattle.inp_script.proofs.JoyTold.{starts}
+use Rattle.inp_reader.proofs.Calls.{finished, split-and_then}
 use Rattle.inp_script.proofs.Told.{noted-back, noted_sight, noted_sight-append}
 
 pub joy_fold-append : (d : Description) (s : Showing) (sight more : List Sight) → joy_fold d s (sight ++ more) ≡ joy_fold d (joy_fold d s sight) more
@@ -104,11 +104,8 @@ shows-asks d h p Q so = record {
 
 -- a start that was refused leaves the picture
 refused-picture : (d : Description) (j : Joying) (r : Reading) (reply : Reply) → (joying_after_start d (with_reading j r) (start_stop_of reply)).picture ≡ j.picture
-refused-picture d j r (StepRefused at why) = by_flag (is_needed r.phase)
-  where
-    by_flag : (b : Bool) → (if b then without_startup d (with_reading j r) else with_reading j r).picture ≡ j.picture
-    by_flag true = refl
-    by_flag false = refl
+refused-picture d j r (StepRefused at why) =
+    cond_both (is_needed r.phase) _ _ (λ (x : Joying). x.picture ≡ j.picture) (λ _. refl) (λ _. refl)
 refused-picture d j r _ = by_flag (is_needed r.phase)
   where
     by_flag : (b : Bool) → (if b then without_startup d (with_reading j r) else with_reading j r).picture ≡ j.picture
@@ -141,11 +138,11 @@ joy_start-shows : (d : Description) (h : List Step) (j : Joying) (o : Started ×
 unfolding joy_start
 joy_start-shows d h j o calls placed ends =
     let next : Started × Reading → Talk (Started × Joying) = λ q. finish (joy_started d j q) in
-    let p = and_then-parts (start_talk d j.reading) next calls o ends in
-    let f = finish-only (joy_started d j p.mid) o p.second p.second_ends in
-    let first : ArePlaced d h p.first = placed-left d h p.first p.second (subst (λ (cs : List Call). ArePlaced d h cs) p.whole placed) in
-    ap (λ (cs : List Call). joy_fold d (shown j.picture) (noted_sight cs)) (p.whole ∙ ap (λ (cs : List Call). p.first ++ cs) f.0 ∙ append-nil p.first)
-    ∙ reader_start-shows d h j p.mid p.first first p.first_ends
+    let p = split-and_then (start_talk d j.reading) next calls o ends in
+    let f = finished (joy_started d j p.between) o p.later p.later_ends in
+    let first : ArePlaced d h p.first = placed-left d h p.first p.later (subst (λ (cs : List Call). ArePlaced d h cs) p.calls_are placed) in
+    ap (λ (cs : List Call). joy_fold d (shown j.picture) (noted_sight cs)) (p.calls_are ∙ ap (λ (cs : List Call). p.first ++ cs) f.0 ∙ append-nil p.first)
+    ∙ reader_start-shows d h j p.between p.first first p.first_ends
     ∙ ap (λ (q : Started × Joying). shown q.1.picture) f.1
 
 -- A synchronisation
@@ -235,11 +232,9 @@ made-shows d j (Some r) fits = record-shows d j.picture r fits
 event-shows : (d : Description) (j : Joying) (event : Option Taken) → Shows d j.picture [] (event_or_on d j event)
 unfolding joy_fold
 event-shows d j None = refl
-event-shows d j (Some taken) = by_flag (is_report taken.event)
-  where
-    by_flag : (b : Bool) → Shows d j.picture [] (if b then gives (stop_with (Frame taken.place) j) else record_or_on j (joy_record_of d j.picture taken))
-    by_flag true = refl
-    by_flag false = made-shows d j (joy_record_of d j.picture taken) (event-fits d j.picture taken)
+event-shows d j (Some taken) =
+    cond_both (is_report taken.event) _ _ (Shows d j.picture [])
+    (λ _. refl) (λ _. made-shows d j (joy_record_of d j.picture taken) (event-fits d j.picture taken))
 
 after_next-shows : (d : Description) (j : Joying) (stop : Option JoyRead) (event : Option Taken) → Shows d j.picture [] (stop_or_event d j stop event)
 unfolding joy_fold
@@ -260,11 +255,7 @@ shown_by-run d s (call ∷ calls) =
 
 read_once : (d : Description) (p : PictureView) (client count : ℕ) (reply : Reply) → joy_fold d (shown p) (call_sight (ToRead client count) reply) ≡ shown p
 unfolding joy_fold
-read_once d p client count reply = by_flag (is_again reply)
-  where
-    by_flag : (b : Bool) → joy_fold d (shown p) (if b then [] else Called (ToRead client count) reply ∷ []) ≡ shown p
-    by_flag true = refl
-    by_flag false = refl
+read_once d p client count reply = cond_both (is_again reply) _ _ (λ x. joy_fold d (shown p) x ≡ shown p) (λ _. refl) (λ _. refl)
 
 abbrev IsStill : PictureView → Showing → Reading → Type 0
 IsStill p s r = (s ≡ shown p) × (is_needed r.phase ≡ false)
@@ -346,66 +337,10 @@ start_joystick-shows d h j k calls placed ends fold =
     let s = starts d j k calls ends in
     subst (λ (x : Job). IsShown d x) (sym s.is) (shows-on d j (noted_sight calls) fold ∙ joy_start-shows d h (joying_of j) (s.started, s.joying) calls placed s.talk_ends)
 
-same-shown : (d : Description) (j k : Job) (calls : List Call) → EndsWith (finish (Some j)) calls (Some k) → IsShown d j → IsShown d k
-same-shown d j k calls ends fold =
-    let f = finish-only (Some j) (Some k) calls ends in
-    let same : j ≡ k = (let e = f.1 in cc) in subst (λ (y : Job). IsShown d y) same fold
-
-reach-shown : (d : Description) (left reach : Reach) (calls : List Call) → EndsWith (finish (Some left)) calls (Some reach) → IsShown d (job_of_reach left) → IsShown d (job_of_reach reach)
-reach-shown d left reach calls ends fold =
-    let f = finish-only (Some left) (Some reach) calls ends in
-    let same : left ≡ reach = (let e = f.1 in cc) in subst (λ (y : Reach). IsShown d (job_of_reach y)) same fold
-
 -- an answer Again tells nothing of the picture
 again-shown : (d : Description) (j : Job) (at ends : ℕ) → IsShown d j → IsShown d (with_sight j (AgainSight at ends))
 unfolding joy_fold
 again-shown d j at ends fold = shows-on d j (AgainSight at ends ∷ []) fold
-
-answer-shown : (d : Description) (go_on : Job → Talk (Option Reach)) (read : JoyRead) (j : Job) (reach : Reach) (calls : List Call) → ((k : Job) → EndsWith (go_on k) calls (Some reach) → IsShown d k → IsShown d (job_of_reach reach)) → EndsWith (after_joy_read go_on read j) calls (Some reach) → IsShown d j → IsShown d (job_of_reach reach)
-answer-shown d go_on HandedOut j reach calls more ends fold = reach-shown d (handed_out j) reach calls ends fold
-answer-shown d go_on (Frame place) j reach calls more ends fold = more j ends fold
-answer-shown d go_on More j reach calls more ends fold = more j ends fold
-answer-shown d go_on (Again at n) j reach calls more ends fold = reach-shown d (line_ends (with_sight j (AgainSight at n))) reach calls ends (again-shown d j at n fold)
-answer-shown d go_on NoDevice j reach calls more ends fold = reach-shown d (line_ends j) reach calls ends fold
-answer-shown d go_on Closed j reach calls more ends fold = reach-shown d (line_ends j) reach calls ends fold
-answer-shown d go_on (Full at) j reach calls more ends fold = reach-shown d (line_ends (with_stop j (FullHistory at))) reach calls ends fold
-
-read_on-shown : (d : Description) (h : List Step) (most n : ℕ) (j : Job) (reach : Reach) (calls : List Call) → ArePlaced d h calls → EndsWith (read_on d most n j) calls (Some reach) → IsShown d j → IsShown d (job_of_reach reach)
-unfolding read_on
-read_on-shown d h most zero j reach calls placed ends fold = let f = finish-only None (Some reach) calls ends in absurd cc
-read_on-shown d h most (suc n) j reach calls placed ends fold =
-    let talk : Talk (Option JoyAnswer × List Sight) = noted (turns d most 0 (joying_of j)) j.sight in
-    let p = and_then-parts talk (λ o. after_turns (read_on d most n) j o.0 o.1) calls (Some reach) ends in
-    let b = noted-back (turns d most 0 (joying_of j)) j.sight p.first p.mid p.first_ends in
-    let both : ArePlaced d h (p.first ++ p.second) = subst (λ (cs : List Call). ArePlaced d h cs) p.whole placed in
-    by_answer p.mid.0 p.mid.1 p.first p.second b.0 b.1 (placed-left d h p.first p.second both)
-    (λ k e w. read_on-shown d h most n k reach p.second (placed-right d h p.first p.second both) e w) p.second_ends
-  where
-    by_answer : (o : Option JoyAnswer) (sight : List Sight) (first second : List Call) → EndsWith (turns d most 0 (joying_of j)) first o → sight ≡ j.sight ++ noted_sight first → ArePlaced d h first
-        → ((k : Job) → EndsWith (read_on d most n k) second (Some reach) → IsShown d k → IsShown d (job_of_reach reach)) → EndsWith (after_turns (read_on d most n) j o sight) second (Some reach) → IsShown d (job_of_reach reach)
-    by_answer None sight first second e seen there more k = let f = finish-only None (Some reach) second k in absurd cc
-    by_answer (Some answer) sight first second e seen there more k =
-        let out : List Sight = record_sight answer.record_out in
-        let told : joy_fold d blank_shown (sight ++ out) ≡ shown answer.joying.picture =
-        ap (λ (es : List Sight). joy_fold d blank_shown (es ++ out)) seen
-        ∙ ap (λ (es : List Sight). joy_fold d blank_shown es) (append_assoc j.sight (noted_sight first) out)
-        ∙ shows-on d j (noted_sight first ++ out) fold
-        ∙ turns-shows d h most 0 (joying_of j) first answer e there in
-        answer-shown d (read_on d most n) answer.read (after_joy_answer j answer sight) reach second more k told
-
-read_records-shown : (d : Description) (h : List Step) (n count : ℕ) (j k : Job) (calls : List Call) → ArePlaced d h calls → EndsWith (read_records d n count j) calls (Some k) → IsShown d j → IsShown d k
-unfolding read_records
-read_records-shown d h n zero j k calls placed ends fold = same-shown d j k calls ends fold
-read_records-shown d h n (suc count) j k calls placed ends fold =
-    let p = and_then-parts (read_on d n n j) (on_reach (read_records d n count)) calls (Some k) ends in
-    let both : ArePlaced d h (p.first ++ p.second) = subst (λ (cs : List Call). ArePlaced d h cs) p.whole placed in
-    by_reach p.mid p.first p.second p.first_ends (placed-left d h p.first p.second both)
-    (λ i e w. read_records-shown d h n count i k p.second (placed-right d h p.first p.second both) e w) p.second_ends
-  where
-    by_reach : (o : Option Reach) (first second : List Call) → EndsWith (read_on d n n j) first o → ArePlaced d h first → ((i : Job) → EndsWith (read_records d n count i) second (Some k) → IsShown d i → IsShown d k) → EndsWith (on_reach (read_records d n count) o) second (Some k) → IsShown d k
-    by_reach None first second e there more w = let f = finish-only None (Some k) second w in absurd cc
-    by_reach (Some (handed_out i)) first second e there more w = more i w (read_on-shown d h n n j (handed_out i) first there e fold)
-    by_reach (Some (line_ends i)) first second e there more w = same-shown d i k second w (read_on-shown d h n n j (line_ends i) first there e fold)
 
 -- a close tells nothing of the picture, nor do the events that a call read
 taken-shown : (d : Description) (s : Showing) (events : List Taken) → joy_fold d s (map taken_sight events) ≡ s
@@ -430,18 +365,43 @@ close_entry d p client reply events =
     again (NothingVisible at n) = refl
     again _ = refl
 
-close-shown : (d : Description) (j k : Job) (client : ℕ) (calls : List Call) → EndsWith (call_talk j (ToClose client)) calls (Some k) → IsShown d j → IsShown d k
-unfolding LeadsTo
-close-shown d j k client [] ends fold = absurd cc
-close-shown d j k client (call ∷ calls) ends fold =
-    let left : Job = after_call j (ToClose client) call.answer in
-    let f = finish-only (Some left) (Some k) calls ends.1 in
-    let same : left ≡ k = (let e = f.1 in cc) in
-    subst (λ (y : Job). IsShown d y) same (shows-on d j (sight_of_call (ToClose client) call.answer.reply call.answer.events) fold ∙ close_entry d j.stick.picture client call.answer.reply call.answer.events)
-
 -- a joystick's line
+
+abbrev IsShownAt : Description → Unit {0} → Job → Type 0
+IsShownAt d s j = IsShown d j
+
+joy-shown : (d : Description) (h : List Step) (command : Command) → is_command_of Joy command ≡ true → JoyRules (Placed d h) (IsShownAt d) d command
+joy-shown d h command of_role = record {
+  starts = λ s j fold. job-ends-meet (Placed d h) (IsShownAt d) s (start_joystick d j) (λ t calls k run ends. start_joystick-shows d h j k calls (run-placed d h s t calls run) ends fold);
+  reads = λ s j most fold.
+      ends-meet (Placed d h) (λ (t : Unit {0}) (o : Option JoyAnswer × List Sight). AfterTurns (IsShownAt d) j t o.0 o.1) s (noted (turns d most 0 (joying_of j)) j.sight)
+      (λ t calls o run ends.
+      let b = noted-back (turns d most 0 (joying_of j)) j.sight calls o ends in
+      of_turns t j most calls o.0 o.1 (run-placed d h s t calls run) b.0 b.1 fold);
+  calls = λ one s t j x a is fold by. of_call command of_role one j x a is fold;
+}
+  where
+    of_read : (t : Unit {0}) (read : JoyRead) (j : Job) → IsShown d j → AfterRead (IsShownAt d) t read j
+    of_read t (Again at n) j fold = again-shown d j at n fold
+    of_read t _ j fold = fold
+
+    of_turns : (t : Unit {0}) (j : Job) (most : ℕ) (calls : List Call) (o : Option JoyAnswer) (sight : List Sight) → ArePlaced d h calls → EndsWith (turns d most 0 (joying_of j)) calls o → sight ≡ j.sight ++ noted_sight calls → IsShown d j → AfterTurns (IsShownAt d) j t o sight
+    of_turns t j most calls None sight placed ends seen fold = tt
+    of_turns t j most calls (Some answer) sight placed ends seen fold =
+        let out : List Sight = record_sight answer.record_out in
+        of_read t answer.read (after_joy_answer j answer sight)
+        (ap (λ (es : List Sight). joy_fold d blank_shown (es ++ out)) seen
+        ∙ ap (λ (es : List Sight). joy_fold d blank_shown es) (append_assoc j.sight (noted_sight calls) out)
+        ∙ shows-on d j (noted_sight calls ++ out) fold
+        ∙ turns-shows d h most 0 (joying_of j) calls answer ends placed)
+
+    of_call : (c : Command) → is_command_of Joy c ≡ true → is_joy_call c ≡ true → (j : Job) (x : Step) (a : Answer) → step_of j.reading.client c ≡ Some x → IsShown d j → IsShown d (after_call j x a)
+    of_call Close joy one j x a is fold =
+        let close : ToClose j.reading.client ≡ x = cc in
+        subst (λ (y : Step). IsShown d (after_call j y a)) close
+        (shows-on d j (sight_of_call (ToClose j.reading.client) a.reply a.events) fold ∙ close_entry d j.stick.picture j.reading.client a.reply a.events)
+    of_call c joy one j x a is fold = absurd cc
+
 pub joystick-folds : (d : Description) (h : List Step) (n : ℕ) (command : Command) (j k : Job) (calls : List Call) → is_command_of Joy command ≡ true → ArePlaced d h calls → EndsWith (joystick_talk d n command j) calls (Some k) → IsShown d j → IsShown d k
-joystick-folds d h n Open j k calls of_role placed ends fold = start_joystick-shows d h j k calls placed ends fold
-joystick-folds d h n (Read count) j k calls of_role placed ends fold = read_records-shown d h n count j k calls placed ends fold
-joystick-folds d h n Close j k calls of_role placed ends fold = close-shown d j k j.reading.client calls ends fold
-joystick-folds d h n command j k calls of_role placed ends fold = absurd cc
+joystick-folds d h n command j k calls of_role placed ends fold =
+    meets-ends Any (Placed d h) (OfJob (IsShownAt d)) tt tt (joystick_talk d n command j) calls (Some k) (joystick-meets (Placed d h) (IsShownAt d) d command (joy-shown d h command of_role) n tt j fold) (placed-run d h calls placed) ends

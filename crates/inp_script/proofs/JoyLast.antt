@@ -1,14 +1,15 @@
 -- Where a joystick client answers Again, its last call was answered so.
-use Rattle.std.proofs.Common.{◌≡◌, ℕ, Bool, true, false, if◌then◌else◌, List, ◌++◌, Option, Some, None, refl, sym, subst}
+use Rattle.std.proofs.Common.{◌≡◌, ℕ, List, ◌++◌, Option, Some, None, refl, sym, subst}
+use Rattle.std.proofs.lemmas.Bool.{cond_both}
 use Rattle.inp_model.specs.declared.reply.Reply.TheVariants.{Again as NothingVisible}
 use Rattle.inp_model.specs.declared.taken.Taken.{Taken}
 use Rattle.inp_model.specs.Description.{Description}
 use Rattle.inp_model.specs.Event.{is_report}
 use Rattle.inp_model.specs.Run.{Call}
 use Rattle.inp_joy.specs.declared.joy_read.JoyRead.{JoyRead}
-use Rattle.inp_joy.specs.declared.joy_read.JoyRead.TheVariants.{Frame, Again, NoDevice, Closed, Full}
+use Rattle.inp_joy.specs.declared.joy_read.JoyRead.TheVariants.{Again, NoDevice, Closed, Full}
 use Rattle.inp_joy.specs.declared.joy_record.JoyRecord.{JoyRecord}
-use Rattle.inp_joy.specs.Joying.{Joying, JoyAnswer, JoyTurn, gives, goes_on, stop_with, joy_read_of, event_handed_out, joy_record_of, record_or_on, event_or_on, stop_or_event, joying_after_next, stop_or_startup, turns, with_reading}
+use Rattle.inp_joy.specs.Joying.{Joying, JoyAnswer, JoyTurn, gives, goes_on, joy_read_of, event_handed_out, joy_record_of, record_or_on, event_or_on, stop_or_event, joying_after_next, stop_or_startup, turns, with_reading}
 use Rattle.inp_joy.proofs.TurnCases.{Synchronises, TurnCase, of_startup, of_sync, of_loss, of_next, turn-case, turns-all}
 use Rattle.inp_reader.specs.declared.mode.Mode.TheVariants.{Normal, Sync as Synchronising}
 use Rattle.inp_reader.specs.declared.next.Next.{Next}
@@ -64,11 +65,8 @@ made-last calls j (Some r) = tt
 
 event-last : (d : Description) (calls : List Call) (j : Joying) (event : Option Taken) → TurnLastIsAgain calls (event_or_on d j event)
 event-last d calls j None = tt
-event-last d calls j (Some taken) = by_flag (is_report taken.event)
-  where
-    by_flag : (b : Bool) → TurnLastIsAgain calls (if b then gives (stop_with (Frame taken.place) j) else record_or_on j (joy_record_of d j.picture taken))
-    by_flag true = tt
-    by_flag false = made-last calls j (joy_record_of d j.picture taken)
+event-last d calls j (Some taken) =
+    cond_both (is_report taken.event) _ _ (TurnLastIsAgain calls) (λ _. tt) (λ _. made-last calls j (joy_record_of d j.picture taken))
 
 after_next-last : (d : Description) (calls : List Call) (j : Joying) (next : Next) (stop : Option JoyRead) → joy_read_of next ≡ stop → ((at ends : ℕ) → next ≡ ReaderAgain at ends → EndsIn calls (NothingVisible at ends)) → TurnLastIsAgain calls (stop_or_event d j stop (event_handed_out next))
 after_next-last d calls j next None is last = event-last d calls j (event_handed_out next)

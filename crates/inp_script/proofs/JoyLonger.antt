@@ -15,7 +15,7 @@ use Rattle.inp_script.specs.declared.sight.Sight.{Sight}
 use Rattle.inp_script.specs.Job.{Job, joying_of}
 use Rattle.inp_script.specs.Joystick.{Reach, handed_out, line_ends, after_joy_answer, after_joy_read, after_turns, read_on, on_reach, read_records, joystick_talk}
 use Rattle.inp_script.specs.Sight.{made_sight, noted}
-use Rattle.inp_script.proofs.LastAgain.{finish-only, and_then-parts}
+use Rattle.inp_reader.proofs.Calls.{finished, split-and_then}
 use Rattle.inp_script.proofs.Noted.{noted-ends}
 use Rattle.inp_script.proofs.Told.{noted-back, noted_sight}
 
@@ -46,12 +46,12 @@ answer-longer short long (Full at) j reach calls more h = h
 
 read_on-longer : (d : Description) (most max n m : ℕ) (j : Job) (reach : Reach) (calls : List Call) → most ≤ max → n ≤ m → EndsWith (read_on d most n j) calls (Some reach) → EndsWith (read_on d max m j) calls (Some reach)
 unfolding read_on
-read_on-longer d most max zero m j reach calls turns_le le h = let f = finish-only None (Some reach) calls h in absurd cc
+read_on-longer d most max zero m j reach calls turns_le le h = let f = finished None (Some reach) calls h in absurd cc
 read_on-longer d most max (suc n) zero j reach calls turns_le le h = absurd (omega (arith, le))
 read_on-longer d most max (suc n) (suc m) j reach calls turns_le le h =
     let short : Option JoyAnswer × List Sight → Talk (Option Reach) = λ o. after_turns (read_on d most n) j o.0 o.1 in
-    let p = and_then-parts (noted (turns d most 0 (joying_of j)) j.sight) short calls (Some reach) h in
-    by_answer p.mid.0 p.mid p.first p.second refl p.whole p.first_ends (λ k e. read_on-longer d most max n m k reach p.second turns_le (omega (arith, le)) e) p.second_ends
+    let p = split-and_then (noted (turns d most 0 (joying_of j)) j.sight) short calls (Some reach) h in
+    by_answer p.between.0 p.between p.first p.later refl p.calls_are p.first_ends (λ k e. read_on-longer d most max n m k reach p.later turns_le (omega (arith, le)) e) p.later_ends
   where
     long : Option JoyAnswer × List Sight → Talk (Option Reach)
     long = λ o. after_turns (read_on d max m) j o.0 o.1
@@ -62,7 +62,7 @@ read_on-longer d most max (suc n) (suc m) j reach calls turns_le le h =
     by_answer : (a : Option JoyAnswer) (o : Option JoyAnswer × List Sight) (first second : List Call) → a ≡ o.0 → calls ≡ first ++ second → EndsWith (noted (turns d most 0 (joying_of j)) j.sight) first o
         → ((k : Job) → EndsWith (read_on d most n k) second (Some reach) → EndsWith (read_on d max m k) second (Some reach))
         → EndsWith (after_turns (read_on d most n) j a o.1) second (Some reach) → EndsWith (and_then talk long) calls (Some reach)
-    by_answer None o first second is whole e more k = let f = finish-only None (Some reach) second k in absurd cc
+    by_answer None o first second is whole e more k = let f = finished None (Some reach) second k in absurd cc
     by_answer (Some answer) o first second is whole e more k =
         subst (λ (cs : List Call). EndsWith (and_then talk long) cs (Some reach)) (sym whole)
         (ends-then talk long o (Some reach) first second (read-longer d most max (joying_of j) j.sight first o answer is turns_le e)
@@ -73,13 +73,13 @@ read_records-longer : (d : Description) (n m count : ℕ) (j k : Job) (calls : L
 unfolding read_records
 read_records-longer d n m zero j k calls le h = h
 read_records-longer d n m (suc count) j k calls le h =
-    let p = and_then-parts (read_on d n n j) (on_reach (read_records d n count)) calls (Some k) h in
-    subst (λ (cs : List Call). EndsWith (and_then (read_on d m m j) (on_reach (read_records d m count))) cs (Some k)) (sym p.whole)
-    (by_reach p.mid p.first p.second p.first_ends (λ i e. read_records-longer d n m count i k p.second le e) p.second_ends)
+    let p = split-and_then (read_on d n n j) (on_reach (read_records d n count)) calls (Some k) h in
+    subst (λ (cs : List Call). EndsWith (and_then (read_on d m m j) (on_reach (read_records d m count))) cs (Some k)) (sym p.calls_are)
+    (by_reach p.between p.first p.later p.first_ends (λ i e. read_records-longer d n m count i k p.later le e) p.later_ends)
   where
     by_reach : (o : Option Reach) (first second : List Call) → EndsWith (read_on d n n j) first o → ((i : Job) → EndsWith (read_records d n count i) second (Some k) → EndsWith (read_records d m count i) second (Some k))
         → EndsWith (on_reach (read_records d n count) o) second (Some k) → EndsWith (and_then (read_on d m m j) (on_reach (read_records d m count))) (first ++ second) (Some k)
-    by_reach None first second e more w = let f = finish-only None (Some k) second w in absurd cc
+    by_reach None first second e more w = let f = finished None (Some k) second w in absurd cc
     by_reach (Some (handed_out i)) first second e more w =
         ends-then (read_on d m m j) (on_reach (read_records d m count)) (Some (handed_out i)) (Some k) first second (read_on-longer d n m n m j (handed_out i) first le le e) (more i w)
     by_reach (Some (line_ends i)) first second e more w =

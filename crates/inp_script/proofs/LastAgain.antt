@@ -11,7 +11,7 @@ use Rattle.inp_reader.specs.declared.mode.Mode.{Mode}
 use Rattle.inp_reader.specs.declared.next.Next.{Next}
 use Rattle.inp_reader.specs.declared.next.Next.TheVariants.{Again}
 use Rattle.inp_reader.specs.Reading.{Reading, stop_of, next_talk}
-use Rattle.inp_reader.specs.Talk.{Talk, finish, ask, and_then, LeadsTo, EndsWith}
+use Rattle.inp_reader.specs.Talk.{EndsWith}
 use Rattle.inp_reader.proofs.Meets.{Any, Runs}
 use Rattle.inp_reader.proofs.NextWalk.{sync-meets, Renewed, NextRules, next-ends, stop-cases}
 
@@ -32,29 +32,6 @@ ends_in-behind before calls reply e = record {
 
 ends_in-one : (call : Call) (reply : Reply) → call.answer.reply ≡ reply → EndsIn (call ∷ []) reply
 ends_in-one call reply h = record { front = []; last = call; whole = refl; replied = h }
-
--- nothing is called where nothing is asked
-pub finish-only : {A : Type 0} (o result : A) (calls : List Call) → EndsWith (finish o) calls result → (calls ≡ []) × (o ≡ result)
-unfolding LeadsTo
-finish-only o result [] h = (refl, cc)
-finish-only o result (call ∷ calls) h = elim h [ ]
-
--- the calls of a talk, and those of the one that its result says
-pub record Parts {A B : Type 0} (talk : Talk A) (next : A → Talk B) (calls : List Call) (result : B) : Type 0 where
-  pub mid : A
-  pub first : List Call
-  pub second : List Call
-  pub whole : calls ≡ first ++ second
-  pub first_ends : EndsWith talk first mid
-  pub second_ends : EndsWith (next mid) second result
-
-pub and_then-parts : {A B : Type 0} (talk : Talk A) (next : A → Talk B) (calls : List Call) (result : B) → EndsWith (and_then talk next) calls result → Parts talk next calls result
-unfolding LeadsTo
-and_then-parts (finish o) next calls result h = record { mid = o; first = []; second = calls; whole = refl; first_ends = refl; second_ends = h }
-and_then-parts (ask x rest) next [] result h = absurd cc
-and_then-parts (ask x rest) next (call ∷ calls) result h =
-    let p = and_then-parts (rest call.answer) next calls result h.1 in
-    record { mid = p.mid; first = call ∷ p.first; second = p.second; whole = ap (λ (cs : List Call). call ∷ cs) p.whole; first_ends = (h.0, p.first_ends); second_ends = p.second_ends }
 
 -- only an answer Again stops so
 stopped_again : (reply : Reply) (at ends : ℕ) → stop_of reply ≡ Again at ends → reply ≡ NothingVisible at ends

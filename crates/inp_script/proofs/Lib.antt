@@ -14,6 +14,7 @@ pub mod Runs
 pub mod Told
 pub mod LastAgain
 pub mod LineWalk
+pub mod JoyWalk
 pub mod JoyLast
 pub mod JoyTold
 pub mod JoyStops

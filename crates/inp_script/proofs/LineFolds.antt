@@ -1,18 +1,17 @@
 -- Each line keeps that a job's view is the fold of its sight.
-use Rattle.std.proofs.Common.{◌≡◌, ℕ, zero, suc, Bool, true, false, if◌then◌else◌, nat_le, List, [], ◌∷◌, ◌++◌, map, refl, sym, ap, subst, ◌∙◌, Option, Some, None, append-nil, append_assoc}
+use Rattle.std.proofs.Common.{◌≡◌, ℕ, Bool, true, false, if◌then◌else◌, List, [], ◌∷◌, ◌++◌, map, refl, sym, ap, subst, ◌∙◌, Option, Some, None, append-nil, append_assoc}
 use Rattle.inp_model.specs.declared.stamped.Stamped.{Stamped}
 use Rattle.inp_model.specs.declared.taken.Taken.{Taken}
 use Rattle.inp_model.specs.declared.step.Step.{Step}
-use Rattle.inp_model.specs.declared.step.Step.TheVariants.{Inject, End, Close as ToClose, Grab as ToGrab, Ungrab as ToUngrab, Revoke as ToRevoke, Mask as ToMask, Clock as ToClock, Write as ToWrite, SetAxis as ToSetAxis}
 use Rattle.inp_model.specs.declared.reply.Reply.{Reply}
 use Rattle.inp_model.specs.declared.reply.Reply.TheVariants.{Again as Nothing}
 use Rattle.inp_model.specs.Description.{Description}
 use Rattle.inp_model.specs.Evdev.{EvdevView, BeginsWith, is_again}
 use Rattle.inp_model.specs.Past.{past_at}
-use Rattle.inp_model.specs.Reply.{Answer, accepted, is_accepted, IsAnswer}
+use Rattle.inp_model.specs.Reply.{Answer, accepted, IsAnswer}
 use Rattle.inp_model.specs.Run.{Call, HasPlace, place_of}
 use Rattle.inp_actors.specs.declared.command.Command.{Command}
-use Rattle.inp_actors.specs.declared.command.Command.TheVariants.{Stream, Stream16, Open as OpenLine, Close, Grab, Ungrab, Revoke, Mask, Clock, Write, SetAxis, Next as NextLine, Skip, Follow, Force}
+use Rattle.inp_actors.specs.declared.command.Command.TheVariants.{Close, Grab, Ungrab, Revoke, Mask, Clock, Write, SetAxis}
 use Rattle.inp_actors.specs.declared.role.Role.{Role}
 use Rattle.inp_actors.specs.declared.role.Role.TheVariants.{Source, Client, Tap, Joy, Owner}
 use Rattle.inp_actors.specs.Command.{is_command_of}
@@ -21,32 +20,32 @@ use Rattle.inp_recon.specs.declared.view.View.{View}
 use Rattle.inp_recon.specs.View.{first_view}
 use Rattle.inp_reader.specs.declared.mode.Mode.{Mode}
 use Rattle.inp_reader.specs.declared.next.Next.{Next}
-use Rattle.inp_reader.specs.declared.next.Next.TheVariants.{Success, Dropped, Sync, Again, Synced, NoDevice, Closed, Full}
-use Rattle.inp_reader.specs.declared.reader.TheConstants.{NO_CLIENT}
+use Rattle.inp_reader.specs.declared.next.Next.TheVariants.{Success, Dropped, Sync, Again}
 use Rattle.inp_reader.specs.declared.started.Started.{Started}
 use Rattle.inp_reader.specs.Reading.{Reading, start_talk, next_talk}
 use Rattle.inp_model.specs.Leaves.{AreCalls}
-use Rattle.inp_reader.specs.Talk.{Talk, finish, LeadsTo, EndsWith}
+use Rattle.inp_reader.specs.Talk.{Talk, finish, EndsWith}
 use Rattle.inp_script.specs.declared.sight.Sight.{Sight}
-use Rattle.inp_script.specs.declared.sight.Sight.TheVariants.{Call as Called, Took, Made, Again as AgainSight}
-use Rattle.inp_script.specs.declared.stop.Stop.{Stop}
-use Rattle.inp_script.specs.declared.stop.Stop.TheVariants.{Idle}
+use Rattle.inp_script.specs.declared.sight.Sight.TheVariants.{Call as Called, Again as AgainSight}
 use Rattle.inp_script.specs.declared.waiting.Waiting.{Waiting}
-use Rattle.inp_script.specs.Client.{Going, Turn, goes_on, ends_with, start_job, start_ends, job_after_start, handed, one_less, is_done, patience, after_again, turn_after, after_next, mode_of, with_sight, with_stop, next_round, on_turn, rounds, hand_talk, forced, client_talk}
-use Rattle.inp_script.specs.Doing.{command_talk, unless_stopped, line_talk, DoesLine}
+use Rattle.inp_script.specs.Client.{Going, Turn, start_job, start_ends, job_after_start, after_next, mode_of, next_round, rounds, forced}
+use Rattle.inp_script.specs.Doing.{line_talk, DoesLine}
 use Rattle.inp_script.specs.JoyFold.{joy_fold}
 use Rattle.inp_script.specs.Fold.{Folding, settled, after_first_call, client_fold, tap_fold, IsFolded, StaysFolded}
 use Rattle.inp_script.specs.Job.{Job, ActorView, first_job}
-use Rattle.inp_script.specs.Line.{step_of, after_call, call_talk, call_if, stream_talk, stream_numbered, source_talk, end_talk}
-use Rattle.inp_script.specs.Sight.{noted, call_sight, again_sight, taken_sight, sight_of_call, start_lacks_memory}
-use Rattle.inp_script.proofs.ClientFolds.{client_fold-append, start-folds, next-folds, entries_of_next, placed-left, placed-right}
-use Rattle.inp_script.proofs.Folds.{ArePlaced, tap-folds}
+use Rattle.inp_script.specs.Line.{step_of, after_call, end_talk, after_tap_call}
+use Rattle.inp_script.specs.Sight.{noted, call_sight, again_sight, taken_sight, start_lacks_memory}
+use Rattle.inp_script.proofs.ClientFolds.{client_fold-append, start-folds, next-folds, entries_of_next, placed-left}
+use Rattle.inp_script.proofs.Folds.{Placed, placed-run, run-placed, ArePlaced, call-folds}
 use Rattle.inp_script.proofs.JoyFolds.{joystick-folds}
-use Rattle.inp_script.proofs.LastAgain.{finish-only, and_then-parts}
+use Rattle.inp_reader.proofs.Calls.{finished, split-and_then}
 use Rattle.inp_script.proofs.LineTold.{memory_there}
 use Rattle.inp_script.proofs.Replies.{is_answer_has}
 use Rattle.inp_model.proofs.Leaves.{BeginsWith-trans, HasPlace-longer, seen-kept}
 use Rattle.inp_script.proofs.Told.{noted-back, noted_sight}
+use Rattle.inp_reader.proofs.Meets.{Meets, Any, AnyAnswer, meets-ends, ends-meet, any-run}
+use Rattle.inp_script.specs.Joystick.{joystick_talk}
+use Rattle.inp_script.proofs.LineWalk.{job-ends-meet, OfJob, OfTurn, OfGoing, AfterNext, read_so, is_one_call, LineRules, turn-of, line-meets, end-meets}
 
 -- calls on an evdev have their places in each history that begins with what was seen
 pub are_placed : (d : Description) (a b : EvdevView) (h : List Step) (calls : List Call) → a.description ≡ d → BeginsWith b.seen h → AreCalls a b calls → ArePlaced d h calls
@@ -56,33 +55,6 @@ are_placed d a b h (call ∷ calls) same begins are =
     let same_mid : are.0.description ≡ d = are.1.description ∙ same in
     let placed : HasPlace d are.0.seen call = subst (λ (e : Description). HasPlace e are.0.seen call) same_mid are.1.placed in
     (HasPlace-longer d are.0.seen h call (BeginsWith-trans are.0.seen b.seen h (seen-kept are.0 b calls are.2) begins) placed, are_placed d are.0 b h calls same_mid begins are.2)
-
--- Sources
-
-source_call-view : (j k : Job) (o : Option Step) (calls : List Call) → EndsWith (call_if j o) calls (Some k) → k.reading ≡ j.reading
-unfolding LeadsTo
-source_call-view j k None calls h = let f = finish-only (Some j) (Some k) calls h in let same : j ≡ k = (let e = f.1 in cc) in ap (λ (y : Job). y.reading) (sym same)
-source_call-view j k (Some x) [] h = absurd cc
-source_call-view j k (Some x) (call ∷ calls) h =
-    let f = finish-only (Some (after_call j x call.answer)) (Some k) calls h.1 in
-    let same : after_call j x call.answer ≡ k = (let e = f.1 in cc) in ap (λ (y : Job). y.reading) (sym same)
-
-stream-view : (stream : List Stamped) (j k : Job) (calls : List Call) → EndsWith (stream_talk stream j) calls (Some k) → k.reading ≡ j.reading
-unfolding LeadsTo stream_talk
-stream-view [] j k calls h = let f = finish-only (Some j) (Some k) calls h in let same : j ≡ k = (let e = f.1 in cc) in ap (λ (y : Job). y.reading) (sym same)
-stream-view (stamped ∷ stream) j k [] h = absurd cc
-stream-view (stamped ∷ stream) j k (call ∷ calls) h =
-    let mid : Job = after_call j (Inject stamped.event stamped.now) call.answer in
-    by_flag (is_accepted call.answer.reply) mid (λ e. stream-view stream mid k calls e) h.1
-  where
-    by_flag : (b : Bool) (mid : Job) → (EndsWith (stream_talk stream mid) calls (Some k) → k.reading ≡ mid.reading) → EndsWith (if b then stream_talk stream mid else finish (Some mid)) calls (Some k) → k.reading ≡ mid.reading
-    by_flag true mid more e = more e
-    by_flag false mid more e = let f = finish-only (Some mid) (Some k) calls e in let same : mid ≡ k = (let w = f.1 in cc) in ap (λ (y : Job). y.reading) (sym same)
-
-source-view : (streams : List (List Stamped)) (command : Command) (j k : Job) (calls : List Call) → EndsWith (source_talk streams command j) calls (Some k) → k.reading ≡ j.reading
-source-view streams (Stream file index) j k calls h = stream-view (stream_numbered streams index) j k calls h
-source-view streams (Stream16 file index) j k calls h = stream-view (stream_numbered streams index) j k calls h
-source-view streams command j k calls h = source_call-view j k (step_of NO_CLIENT command) calls h
 
 -- Clients
 
@@ -96,93 +68,56 @@ pub start_job-folds : (d : Description) (h : List Step) (v : View) (j k : Job) (
 unfolding start_job
 start_job-folds d h v j k calls placed ends fold =
     let next : (Started × Reading) × List Sight → Talk (Option Job) = λ o. finish (start_ends o) in
-    let p = and_then-parts (noted (start_talk d j.reading) j.sight) next calls (Some k) ends in
-    let f = finish-only (start_ends p.mid) (Some k) p.second p.second_ends in
-    let b = noted-back (start_talk d j.reading) j.sight p.first p.mid p.first_ends in
-    let same : job_after_start p.mid.0.0 p.mid.0.1 p.mid.1 ≡ k = memory_there (start_lacks_memory p.mid.0.0) (job_after_start p.mid.0.0 p.mid.0.1 p.mid.1) k f.1 in
-    let first : ArePlaced d h p.first = placed-left d h p.first p.second (subst (λ (cs : List Call). ArePlaced d h cs) p.whole placed) in
+    let p = split-and_then (noted (start_talk d j.reading) j.sight) next calls (Some k) ends in
+    let f = finished (start_ends p.between) (Some k) p.later p.later_ends in
+    let b = noted-back (start_talk d j.reading) j.sight p.first p.between p.first_ends in
+    let same : job_after_start p.between.0.0 p.between.0.1 p.between.1 ≡ k = memory_there (start_lacks_memory p.between.0.0) (job_after_start p.between.0.0 p.between.0.1 p.between.1) k f.1 in
+    let first : ArePlaced d h p.first = placed-left d h p.first p.later (subst (λ (cs : List Call). ArePlaced d h cs) p.calls_are placed) in
     ap (λ (y : Job). client_fold d h (settled v) y.sight) (sym same)
     ∙ ap (λ (es : List Sight). client_fold d h (settled v) es) b.1
     ∙ folds-on d h v j (noted_sight p.first) fold
-    ∙ start-folds d h j.reading p.mid.0.1 p.mid.0.0 p.first first b.0
+    ∙ start-folds d h j.reading p.between.0.1 p.between.0.0 p.first first b.0
     ∙ ap (λ (y : Job). settled y.reading.view) same
 
-abbrev job_of_turn : Turn → Job
-job_of_turn (goes_on g) = g.job
-job_of_turn (ends_with j) = j
+abbrev OfRole : Role → Description → List Step → Unit {0} → Job → Type 0
+OfRole role d h s j = IsFolded role d h j
 
-handed-fold : (d : Description) (h : List Step) (v : View) (left : Option ℕ) (j : Job) → IsClientFold d h v j → IsClientFold d h v (job_of_turn (handed left j))
-handed-fold d h v left j fold = by_flag (is_done left)
-  where
-    by_flag : (b : Bool) → IsClientFold d h v (job_of_turn (if b then ends_with j else goes_on (record { job = j; left = left; agains = 0 })))
-    by_flag true = fold
-    by_flag false = fold
-
-again-fold : (d : Description) (h : List Step) (v : View) (patient : Option ℕ) (left : Option ℕ) (agains at ends : ℕ) (j : Job) → IsClientFold d h v j → IsClientFold d h v (job_of_turn (after_again patient left agains at ends j))
-unfolding client_fold
-again-fold d h v None left agains at ends j fold = folds-on d h v j (AgainSight at ends ∷ []) fold
-again-fold d h v (Some idle) left agains at ends j fold = by_flag (nat_le idle agains)
-  where
-    by_flag : (b : Bool) → IsClientFold d h v (job_of_turn (if b then ends_with (with_stop (with_sight j (AgainSight at ends)) (Idle idle at)) else goes_on (record { job = j; left = left; agains = agains })))
-    by_flag true = folds-on d h v j (AgainSight at ends ∷ []) fold
-    by_flag false = fold
+abbrev GoesOnFolded : Role → Description → List Step → Unit {0} → Turn → Type 0
+GoesOnFolded role d h = OfTurn (OfRole role d h) (OfGoing (OfRole role d h))
 
 -- no entry
 bare : (d : Description) (h : List Step) (v : View) (j : Job) → client_fold d h (settled v) (j.sight ++ []) ≡ settled j.reading.view → IsClientFold d h v j
 bare d h v j fold = ap (λ (es : List Sight). client_fold d h (settled v) es) (sym (append-nil j.sight)) ∙ fold
 
-turn-fold : (d : Description) (h : List Step) (v : View) (wait : Option Waiting) (left : Option ℕ) (agains : ℕ) (next : Next) (j : Job) → client_fold d h (settled v) (j.sight ++ entries_of_next next) ≡ settled j.reading.view → IsClientFold d h v (job_of_turn (turn_after wait left agains next j))
-turn-fold d h v wait left agains (Success taken) j fold = handed-fold d h v (one_less left) (with_sight j (Took taken)) fold
-turn-fold d h v wait left agains (Dropped taken) j fold = handed-fold d h v (one_less left) (with_sight j (Took taken)) fold
-turn-fold d h v wait left agains (Sync event) j fold = handed-fold d h v (one_less left) (with_sight j (Made event)) fold
-turn-fold d h v wait left agains Synced j fold = bare d h v j fold
-turn-fold d h v wait left agains (Again at ends) j fold = again-fold d h v (patience wait ends) left (suc agains) at ends j (bare d h v j fold)
-turn-fold d h v wait left agains NoDevice j fold = bare d h v j fold
-turn-fold d h v wait left agains Closed j fold = bare d h v j fold
-turn-fold d h v wait left agains (Full at) j fold = bare d h v j fold
+after-fold : (d : Description) (h : List Step) (next : Next) (j : Job) → client_fold d h (settled (first_view d)) (j.sight ++ entries_of_next next) ≡ settled j.reading.view → AfterNext (OfRole Client d h) tt next j
+unfolding client_fold
+after-fold d h (Success taken) j fold = fold
+after-fold d h (Dropped taken) j fold = fold
+after-fold d h (Sync event) j fold = fold
+after-fold d h (Again at ends) j fold =
+    let none : IsClientFold d h (first_view d) j = bare d h (first_view d) j fold in
+    (none, folds-on d h (first_view d) j (AgainSight at ends ∷ []) none)
+after-fold d h next j fold = bare d h (first_view d) j fold
 
-pub round-fold : (d : Description) (h : List Step) (v : View) (wait : Option Waiting) (skips : Bool) (g : Going) (turn : Turn) (calls : List Call) → ArePlaced d h calls → EndsWith (next_round d wait skips g) calls turn → IsClientFold d h v g.job → IsClientFold d h v (job_of_turn turn)
+round-fold : (d : Description) (h : List Step) (wait : Option Waiting) (skips : Bool) (g : Going) (turn : Turn) (calls : List Call) → ArePlaced d h calls → EndsWith (next_round d wait skips g) calls turn → IsFolded Client d h g.job → GoesOnFolded Client d h tt turn
 unfolding next_round
-round-fold d h v wait skips g turn calls placed ends fold =
+round-fold d h wait skips g turn calls placed ends fold =
+    let v : View = first_view d in
     let mode : Mode = mode_of skips g.job.reading.phase in
     let next : (Next × Reading) × List Sight → Talk Turn = λ o. finish (after_next wait g o) in
-    let p = and_then-parts (noted (next_talk d mode g.job.reading) g.job.sight) next calls turn ends in
-    let f = finish-only (after_next wait g p.mid) turn p.second p.second_ends in
-    let b = noted-back (next_talk d mode g.job.reading) g.job.sight p.first p.mid p.first_ends in
-    let first : ArePlaced d h p.first = placed-left d h p.first p.second (subst (λ (cs : List Call). ArePlaced d h cs) p.whole placed) in
-    let j : Job = record g.job { reading = p.mid.0.1; sight = p.mid.1 } in
-    let entries : List Sight = entries_of_next p.mid.0.0 in
+    let p = split-and_then (noted (next_talk d mode g.job.reading) g.job.sight) next calls turn ends in
+    let f = finished (after_next wait g p.between) turn p.later p.later_ends in
+    let b = noted-back (next_talk d mode g.job.reading) g.job.sight p.first p.between p.first_ends in
+    let first : ArePlaced d h p.first = placed-left d h p.first p.later (subst (λ (cs : List Call). ArePlaced d h cs) p.calls_are placed) in
+    let j : Job = read_so g.job p.between.0.1 p.between.1 in
+    let entries : List Sight = entries_of_next p.between.0.0 in
     let told : client_fold d h (settled v) (j.sight ++ entries) ≡ settled j.reading.view =
     ap (λ (es : List Sight). client_fold d h (settled v) (es ++ entries)) b.1
     ∙ ap (λ (es : List Sight). client_fold d h (settled v) es) (append_assoc g.job.sight (noted_sight p.first) entries)
     ∙ folds-on d h v g.job (noted_sight p.first ++ entries) fold
-    ∙ next-folds d h mode g.job.reading p.mid.0.1 p.mid.0.0 p.first first b.0 in
-    subst (λ (t : Turn). IsClientFold d h v (job_of_turn t)) f.1 (turn-fold d h v wait g.left g.agains p.mid.0.0 j told)
-
-pub same-fold : (d : Description) (h : List Step) (v : View) (j k : Job) (calls : List Call) → EndsWith (finish (Some j)) calls (Some k) → IsClientFold d h v j → IsClientFold d h v k
-same-fold d h v j k calls ends fold =
-    let f = finish-only (Some j) (Some k) calls ends in
-    let same : j ≡ k = (let e = f.1 in cc) in subst (λ (y : Job). IsClientFold d h v y) same fold
-
-rounds-fold : (d : Description) (h : List Step) (v : View) (wait : Option Waiting) (skips : Bool) (n : ℕ) (g : Going) (k : Job) (calls : List Call) → ArePlaced d h calls → EndsWith (rounds d wait skips n g) calls (Some k) → IsClientFold d h v g.job → IsClientFold d h v k
-unfolding rounds
-rounds-fold d h v wait skips zero g k calls placed ends fold = let f = finish-only None (Some k) calls ends in absurd cc
-rounds-fold d h v wait skips (suc n) g k calls placed ends fold =
-    let p = and_then-parts (next_round d wait skips g) (on_turn (rounds d wait skips n)) calls (Some k) ends in
-    let whole : ArePlaced d h (p.first ++ p.second) = subst (λ (cs : List Call). ArePlaced d h cs) p.whole placed in
-    let t = round-fold d h v wait skips g p.mid p.first (placed-left d h p.first p.second whole) p.first_ends fold in
-    by_turn p.mid p.second (λ (here : Going) e w. rounds-fold d h v wait skips n here k p.second (placed-right d h p.first p.second whole) e w) p.second_ends t
-  where
-    by_turn : (turn : Turn) (second : List Call) → ((here : Going) → EndsWith (rounds d wait skips n here) second (Some k) → IsClientFold d h v here.job → IsClientFold d h v k) → EndsWith (on_turn (rounds d wait skips n) turn) second (Some k) → IsClientFold d h v (job_of_turn turn) → IsClientFold d h v k
-    by_turn (goes_on here) second more e w = more here e w
-    by_turn (ends_with j) second more e w = same-fold d h v j k second e w
-
-hand-fold : (d : Description) (h : List Step) (v : View) (wait : Option Waiting) (skips : Bool) (left : Option ℕ) (n : ℕ) (j k : Job) (calls : List Call) → ArePlaced d h calls → EndsWith (hand_talk d wait skips left n j) calls (Some k) → IsClientFold d h v j → IsClientFold d h v k
-hand-fold d h v wait skips left n j k calls placed ends fold = by_flag (is_done left) ends
-  where
-    by_flag : (b : Bool) → EndsWith (if b then finish (Some j) else rounds d wait skips n (record { job = j; left = left; agains = 0 })) calls (Some k) → IsClientFold d h v k
-    by_flag true e = same-fold d h v j k calls e fold
-    by_flag false e = rounds-fold d h v wait skips n (record { job = j; left = left; agains = 0 }) k calls placed e fold
+    ∙ next-folds d h mode g.job.reading p.between.0.1 p.between.0.0 p.first first b.0 in
+    subst (GoesOnFolded Client d h tt) f.1
+    (turn-of (OfRole Client d h) (λ s k stop i. i) tt wait g.left g.agains p.between.0.0 j (after-fold d h p.between.0.0 j told))
 
 -- Single calls of clients, which ask for nothing and read nothing
 
@@ -210,61 +145,70 @@ silent-entry d h v x reply silent =
     no_entry (Nothing at n) = refl
     no_entry _ = refl
 
-pub silent-fold : (d : Description) (h : List Step) (v : View) (j k : Job) (x : Step) (calls : List Call) → IsSilent d x → ArePlaced d h calls → EndsWith (call_talk j x) calls (Some k) → IsClientFold d h v j → IsClientFold d h v k
-unfolding LeadsTo client_fold
-silent-fold d h v j k x [] silent placed ends fold = absurd cc
-silent-fold d h v j k x (call ∷ calls) silent placed ends fold =
-    let a : Answer = call.answer in
-    let f = finish-only (Some (after_call j x a)) (Some k) calls ends.1 in
-    let same : after_call j x a ≡ k = (let e = f.1 in cc) in
-    let is : IsAnswer d (past_at h (place_of a.reply)) x a = subst (λ (y : Step). IsAnswer d (past_at h (place_of a.reply)) y a) ends.0 placed.0.exact in
-    let none : a.events ≡ [] = no_events d (past_at h (place_of a.reply)) x a silent is in
+pub silent-fold : (d : Description) (h : List Step) (v : View) (j : Job) (x : Step) (a : Answer) → IsSilent d x → HasPlace d h (record { step = x; answer = a }) → IsClientFold d h v j → IsClientFold d h v (after_call j x a)
+silent-fold d h v j x a silent placed fold =
+    let none : a.events ≡ [] = no_events d (past_at h (place_of a.reply)) x a silent placed.exact in
     let front : List Sight = call_sight x a.reply ++ again_sight a.reply in
-    let kept : client_fold d h (settled v) (j.sight ++ sight_of_call x a.reply a.events) ≡ settled j.reading.view =
     ap (λ (es : List Taken). client_fold d h (settled v) (j.sight ++ (front ++ map taken_sight es))) none
     ∙ ap (λ (es : List Sight). client_fold d h (settled v) (j.sight ++ es)) (append-nil front)
     ∙ folds-on d h v j front fold
-    ∙ silent-entry d h j.reading.view x a.reply silent in
-    subst (λ (y : Job). IsClientFold d h v y) same kept
+    ∙ silent-entry d h j.reading.view x a.reply silent
 
--- a client's line
-pub client-fold : (d : Description) (h : List Step) (v : View) (wait : Option Waiting) (n : ℕ) (command : Command) (j k : Job) (calls : List Call) → is_command_of Client command ≡ true → ArePlaced d h calls → EndsWith (client_talk d wait n command j) calls (Some k) → IsClientFold d h v j → IsClientFold d h v k
-client-fold d h v wait n OpenLine j k calls of_role placed ends fold = start_job-folds d h v j k calls placed ends fold
-client-fold d h v wait n (NextLine count) j k calls of_role placed ends fold = hand-fold d h v None false (Some count) n j k calls placed ends fold
-client-fold d h v wait n (Skip count) j k calls of_role placed ends fold = hand-fold d h v None true (Some count) n j k calls placed ends fold
-client-fold d h v wait n Follow j k calls of_role placed ends fold = hand-fold d h v wait false None n j k calls placed ends fold
-client-fold d h v wait n Force j k calls of_role placed ends fold = same-fold d h v (forced j) k calls ends fold
-client-fold d h v wait n Close j k calls of_role placed ends fold = silent-fold d h v j k (ToClose j.reading.client) calls (record { alone = λ view reply. refl; unread = λ past. refl }) placed ends fold
-client-fold d h v wait n Grab j k calls of_role placed ends fold = silent-fold d h v j k (ToGrab j.reading.client) calls (record { alone = λ view reply. refl; unread = λ past. refl }) placed ends fold
-client-fold d h v wait n Ungrab j k calls of_role placed ends fold = silent-fold d h v j k (ToUngrab j.reading.client) calls (record { alone = λ view reply. refl; unread = λ past. refl }) placed ends fold
-client-fold d h v wait n Revoke j k calls of_role placed ends fold = silent-fold d h v j k (ToRevoke j.reading.client) calls (record { alone = λ view reply. refl; unread = λ past. refl }) placed ends fold
-client-fold d h v wait n (Mask kind word bits) j k calls of_role placed ends fold = silent-fold d h v j k (ToMask j.reading.client kind word bits) calls (record { alone = λ view reply. refl; unread = λ past. refl }) placed ends fold
-client-fold d h v wait n (Clock clock moment) j k calls of_role placed ends fold = silent-fold d h v j k (ToClock j.reading.client clock moment) calls (record { alone = λ view reply. refl; unread = λ past. refl }) placed ends fold
-client-fold d h v wait n (Write moment kind code value) j k calls of_role placed ends fold = silent-fold d h v j k (ToWrite j.reading.client (record { kind = kind; code = code; value = value }) moment) calls (record { alone = λ view reply. refl; unread = λ past. refl }) placed ends fold
-client-fold d h v wait n (SetAxis code info) j k calls of_role placed ends fold = silent-fold d h v j k (ToSetAxis j.reading.client code info) calls (record { alone = λ view reply. refl; unread = λ past. refl }) placed ends fold
-client-fold d h v wait n command j k calls of_role placed ends fold = absurd cc
+abbrev IsSilentIf : Description → Option Step → Type 0
+IsSilentIf d None = Unit {0}
+IsSilentIf d (Some x) = IsSilent d x
 
-command-fold : (role : Role) (d : Description) (h : List Step) (streams : List (List Stamped)) (wait : Option Waiting) (n : ℕ) (command : Command) (j k : Job) (calls : List Call) → is_command_of role command ≡ true → ArePlaced d h calls → EndsWith (command_talk role d streams wait n command j) calls (Some k) → IsFolded role d h j → IsFolded role d h k
-command-fold Source d h streams wait n command j k calls of_role placed ends fold = ap (λ (r : Reading). r.view) (source-view streams command j k calls ends) ∙ fold
-command-fold Client d h streams wait n command j k calls of_role placed ends fold = client-fold d h (first_view d) wait n command j k calls of_role placed ends fold
-command-fold Tap d h streams wait n command j k calls of_role placed ends fold = tap-folds d h (first_view d) j k command calls placed ends fold
-command-fold Joy d h streams wait n command j k calls of_role placed ends fold = joystick-folds d h n command j k calls of_role placed ends fold
-command-fold Owner d h streams wait n command j k calls of_role placed ends fold =
-    let f = finish-only (Some j) (Some k) calls ends in
-    let same : j ≡ k = (let e = f.1 in cc) in subst (λ (y : Job). IsFolded Owner d h y) same fold
+silent_step : (d : Description) (client : ℕ) (command : Command) → is_command_of Client command ≡ true → is_one_call command ≡ true → IsSilentIf d (step_of client command)
+silent_step d client Close of_role one = record { alone = λ view reply. refl; unread = λ past. refl }
+silent_step d client Grab of_role one = record { alone = λ view reply. refl; unread = λ past. refl }
+silent_step d client Ungrab of_role one = record { alone = λ view reply. refl; unread = λ past. refl }
+silent_step d client Revoke of_role one = record { alone = λ view reply. refl; unread = λ past. refl }
+silent_step d client (Mask kind word bits) of_role one = record { alone = λ view reply. refl; unread = λ past. refl }
+silent_step d client (Clock clock moment) of_role one = record { alone = λ view reply. refl; unread = λ past. refl }
+silent_step d client (Write moment kind code value) of_role one = record { alone = λ view reply. refl; unread = λ past. refl }
+silent_step d client (SetAxis code info) of_role one = record { alone = λ view reply. refl; unread = λ past. refl }
+silent_step d client command of_role one = absurd cc
 
-stopped-fold : (role : Role) (d : Description) (h : List Step) (stop : Option Stop) (j k : Job) (talk : Talk (Option Job)) (calls : List Call) → (EndsWith talk calls (Some k) → IsFolded role d h j → IsFolded role d h k) → EndsWith (unless_stopped stop j talk) calls (Some k) → IsFolded role d h j → IsFolded role d h k
-stopped-fold role d h None j k talk calls more ends fold = more ends fold
-stopped-fold role d h (Some stop) j k talk calls more ends fold =
-    let f = finish-only (Some j) (Some k) calls ends in
-    let same : j ≡ k = (let e = f.1 in cc) in subst (λ (y : Job). IsFolded role d h y) same fold
+-- Lines
+
+-- what is shown of the role that it is
+at_role : (role r : Role) (d : Description) (h : List Step) (j k : Job) → role ≡ r → (IsFolded r d h j → IsFolded r d h k) → IsFolded role d h j → IsFolded role d h k
+at_role role r d h j k e more fold = subst (λ (q : Role). IsFolded q d h k) (sym e) (more (subst (λ (q : Role). IsFolded q d h j) e fold))
+
+-- and of each job that a talk leaves
+each_end : (role r : Role) (d : Description) (h : List Step) (s : Unit {0}) (j : Job) (talk : Talk (Option Job)) → role ≡ r
+    → ((k : Job) (calls : List Call) → ArePlaced d h calls → EndsWith talk calls (Some k) → IsFolded r d h j → IsFolded r d h k) → IsFolded role d h j → Meets Any (Placed d h) (OfJob (OfRole role d h)) s talk
+each_end role r d h s j talk e more fold =
+    job-ends-meet (Placed d h) (OfRole role d h) s talk (λ t calls k run ends. at_role role r d h j k e (more k calls (run-placed d h s t calls run) ends) fold)
+
+fold-rules : (role : Role) (d : Description) (h : List Step) (command : Command) (wait : Option Waiting) → is_command_of role command ≡ true → LineRules (Placed d h) (OfRole role d h) (OfGoing (OfRole role d h)) d role command wait
+fold-rules role d h command wait of_role = record {
+  injects = λ e s t j x a fold there. at_role role Source d h j (after_call j x a) e (λ f. f) fold;
+  calls = λ e one s t j x a is fold there.
+      let silent : IsSilent d x = subst (IsSilentIf d) is (silent_step d j.reading.client command (of_this Client e) one) in
+      at_role role Client d h j (after_call j x a) e (silent-fold d h (first_view d) j x a silent there) fold;
+  taps = λ e s t j x a fold there.
+      at_role role Tap d h j (after_tap_call j x a) e (call-folds d h (first_view d) j (after_tap_call j x a) x (record { step = x; answer = a }) there refl refl) fold;
+  starts = λ e s j fold. each_end role Client d h s j (start_job d j) e (λ k calls. start_job-folds d h (first_view d) j k calls) fold;
+  begins = λ e s j left fold. fold;
+  rounds = λ e s waits skips g none fold.
+      ends-meet (Placed d h) (GoesOnFolded role d h) s (next_round d waits skips g) (λ t calls turn run ends.
+      subst (λ (q : Role). GoesOnFolded q d h t turn) (sym e)
+      (round-fold d h waits skips g turn calls (run-placed d h s t calls run) ends (subst (λ (q : Role). IsFolded q d h g.job) e fold)));
+  forces = λ e s j fold. at_role role Client d h j (forced j) e (λ f. f) fold;
+  joys = λ e s j n none fold.
+      each_end role Joy d h s j (joystick_talk d n command j) e (λ k calls. joystick-folds d h n command j k calls (of_this Joy e)) fold;
+}
+  where
+    of_this : (r : Role) → role ≡ r → is_command_of r command ≡ true
+    of_this r e = subst (λ (q : Role). is_command_of q command ≡ true) e of_role
 
 -- a line, whoever does it
 pub line_talk-folds : (role : Role) (d : Description) (h : List Step) (streams : List (List Stamped)) (wait : Option Waiting) (n : ℕ) (command : Command) (j k : Job) (calls : List Call) → is_command_of role command ≡ true → ArePlaced d h calls → EndsWith (line_talk role d streams wait n command j) calls (Some k) → IsFolded role d h j → IsFolded role d h k
-unfolding line_talk
 line_talk-folds role d h streams wait n command j k calls of_role placed ends fold =
-    stopped-fold role d h j.stop j k (command_talk role d streams wait n command j) calls
-    (λ e w. command-fold role d h streams wait n command j k calls of_role placed e w) ends fold
+    meets-ends Any (Placed d h) (OfJob (OfRole role d h)) tt tt (line_talk role d streams wait n command j) calls (Some k)
+    (line-meets (Placed d h) (OfRole role d h) (OfGoing (OfRole role d h)) d role command wait (fold-rules role d h command wait of_role) streams n tt j fold)
+    (placed-run d h calls placed) ends
 
 pub line-folds : (a b : EvdevView) (actor : ActorView) (r : RecordView) (wait : Option Waiting) (number : ℕ) (new : Job) → a.description ≡ actor.description → (does : DoesLine a b actor r wait number new) → is_command_of actor.role does.line.command ≡ true → StaysFolded actor.role actor.description b actor.job new
 line-folds a b actor r wait number new same does of_role = λ h begins fold.
@@ -274,12 +218,10 @@ line-folds a b actor r wait number new same does of_role = λ h begins fold.
 -- the end of a source
 pub end-folds : (b : EvdevView) (role : Role) (d : Description) (old new : Job) (calls : List Call) → role ≡ Source → EndsWith (end_talk old.stop old) calls (Some new) → StaysFolded role d b old new
 end-folds b role d old new calls source ends =
-    let same : new.reading ≡ old.reading = by_stop old.stop ends in
+    let Same : Unit {0} → Job → Type 0 = λ s j. j.reading ≡ old.reading in
+    let same : new.reading ≡ old.reading =
+    meets-ends Any AnyAnswer (OfJob Same) tt tt (end_talk old.stop old) calls (Some new) (end-meets AnyAnswer Same (λ s t j x a i any. i) old.stop tt old refl) (any-run calls) ends in
     subst (λ (r : Role). StaysFolded r d b old new) (sym source) (λ h begins fold. ap (λ (r : Reading). r.view) same ∙ fold)
-  where
-    by_stop : (stop : Option Stop) → EndsWith (end_talk stop old) calls (Some new) → new.reading ≡ old.reading
-    by_stop None e = source_call-view old new (Some End) calls e
-    by_stop (Some stop) e = let f = finish-only (Some old) (Some new) calls e in let same : old ≡ new = (let w = f.1 in cc) in ap (λ (y : Job). y.reading) (sym same)
 
 -- before its first line
 first_folded : (role : Role) (d : Description) (h : List Step) → IsFolded role d h (first_job role d)

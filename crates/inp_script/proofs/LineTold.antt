@@ -1,5 +1,5 @@
 -- What each line adds to a sight tells of its calls.
-use Rattle.std.proofs.Common.{◌≡◌, ℕ, false, List, [], ◌∷◌, ◌++◌, refl, sym, ap, subst, ◌∙◌, append-nil, Option, Some, None}
+use Rattle.std.proofs.Common.{◌≡◌, ℕ, false, List, [], ◌∷◌, ◌++◌, refl, sym, ap, subst, ◌∙◌, append-nil, Option, Some}
 use Rattle.inp_model.specs.declared.stamped.Stamped.{Stamped}
 use Rattle.inp_model.specs.declared.step.Step.{Step}
 use Rattle.inp_model.specs.declared.step.Step.TheVariants.{Read}
@@ -15,7 +15,7 @@ use Rattle.inp_reader.specs.declared.mode.Mode.{Mode}
 use Rattle.inp_reader.specs.declared.next.Next.{Next}
 use Rattle.inp_reader.specs.Reading.{Reading, stop_of, start_talk, next_talk}
 use Rattle.inp_reader.specs.Talk.{Talk, EndsWith}
-use Rattle.inp_reader.proofs.Meets.{Listed, listed-run, run-listed, Meets, Any, Runs, meets-ends, ends-meet, meets-keeps, meets-weaker}
+use Rattle.inp_reader.proofs.Meets.{Listed, listed-run, Meets, Any, meets-ends, meets-keeps, meets-weaker}
 use Rattle.inp_reader.proofs.NextWalk.{sync-meets, Renewed, NextRules, next-meets, stop-cases}
 use Rattle.inp_script.specs.declared.sight.Sight.{Sight}
 use Rattle.inp_script.specs.declared.sight.Sight.TheVariants.{Took, Made, Again as AgainSight}
@@ -24,21 +24,18 @@ use Rattle.inp_script.specs.declared.waiting.Waiting.{Waiting}
 use Rattle.inp_script.specs.Client.{mode_of, after_next}
 use Rattle.inp_script.specs.Doing.{line_talk}
 use Rattle.inp_script.specs.Job.{Job}
-use Rattle.inp_script.specs.Joystick.{joystick_talk}
 use Rattle.inp_script.specs.Legal.{is_call_entry}
 use Rattle.inp_script.specs.Line.{after_call, end_talk}
 use Rattle.inp_script.specs.Sight.{call_sight, sight_of_call}
 use Rattle.inp_script.proofs.LineWalk.{NotedBy, OfJob, OfTurn, OfGoing, AfterNext, read_so, LineRules, start_job-meets, round-meets, turn-of, line-meets, end-meets}
 use Rattle.inp_script.proofs.Told.{Tells, tells-none, tells-then, tells-event, tells-call, tells-noted, tells-again}
 pub use Rattle.inp_script.proofs.Told.{memory_there}
-use Rattle.inp_script.proofs.JoyTold.{joystick-told}
+use Rattle.inp_script.proofs.JoyTold.{TellsOf, joy-told, told-after}
+use Rattle.inp_script.proofs.JoyWalk.{joystick-meets}
 
 -- what is told of them, from this sight on
 abbrev Told : List Sight → List Call → List Sight → Type 0
 Told old calls sight = Tells calls old sight
-
-abbrev TellsOf : List Sight → List Call → Job → Type 0
-TellsOf old calls j = Told old calls j.sight
 
 told-entry : (old : List Sight) (calls : List Call) (sight : List Sight) (entry : Sight) → is_call_entry entry ≡ false → Told old calls sight → Told old calls (sight ++ entry ∷ [])
 told-entry old calls sight entry e t =
@@ -46,8 +43,7 @@ told-entry old calls sight entry e t =
 
 -- one call more, as it is noted
 told-more : (old sight new : List Sight) (before after : List Call) (x : Step) (a : Answer) → Listed before x a after → Tells (record { step = x; answer = a } ∷ []) sight new → Told old before sight → Told old after new
-told-more old sight new before after x a is one t =
-    subst (λ (cs : List Call). Tells cs old new) (sym is) (tells-then before (record { step = x; answer = a } ∷ []) old sight new t one)
+told-more old sight new before after x a is one t = told-after old sight new before (record { step = x; answer = a } ∷ []) after is t one
 
 entry-is : (x : Step) (reply : Reply) (sight new : List Sight) → new ≡ sight ++ call_sight x reply → new ≡ sight ++ (call_sight x reply ++ [])
 entry-is x reply sight new e = e ∙ ap (λ (es : List Sight). sight ++ es) (sym (append-nil (call_sight x reply)))
@@ -96,28 +92,23 @@ told-rules old j d mode = record {
 told-call : (old : List Sight) (s t : List Call) (j : Job) (x : Step) (a : Answer) → TellsOf old s j → Listed s x a t → TellsOf old t (after_call j x a)
 told-call old s t j x a i is = told-more old j.sight (j.sight ++ sight_of_call x a.reply a.events) s t x a is (tells-call x (record { step = x; answer = a }) j.sight refl) i
 
-told-line : (old : List Sight) (d : Description) (role : Role) (command : Command) → LineRules Listed (TellsOf old) (OfGoing (TellsOf old)) d role command
-told-line old d role command = record {
+told-line : (old : List Sight) (d : Description) (role : Role) (command : Command) (wait : Option Waiting) → LineRules Listed (TellsOf old) (OfGoing (TellsOf old)) d role command wait
+told-line old d role command wait = record {
   injects = λ e. told-call old;
-  calls = λ e s t j x a is. told-call old s t j x a;
+  calls = λ e one s t j x a is. told-call old s t j x a;
   taps = λ e. told-call old;
   starts = λ e s j i. start_job-meets Listed (TellsOf old) d s j (meets-keeps (NotedBy Listed) (λ (u : List Call × List Sight). Told old u.0 u.1) (s, j.sight) (start_talk d j.reading) (λ u v x a t by. told-noted old u v x a t by) i);
   begins = λ e s j left i. i;
-  rounds = λ e s wait skips g i.
+  rounds = λ e s waits skips g none i.
       let mode : Mode = mode_of skips g.job.reading.phase in
-      round-meets Listed (TellsOf old) (OfGoing (TellsOf old)) d s wait skips g
-      (meets-weaker Any (NotedBy Listed) (λ (u : List Call × List Sight) (o : Next × Reading). AfterNext (TellsOf old) u.0 o.0 (read_so g.job o.1 u.1)) (λ (u : List Call × List Sight) (o : Next × Reading). OfTurn (TellsOf old) (OfGoing (TellsOf old)) u.0 (after_next wait g (o, u.1)))
+      round-meets Listed (TellsOf old) (OfGoing (TellsOf old)) d s waits skips g
+      (meets-weaker Any (NotedBy Listed) (λ (u : List Call × List Sight) (o : Next × Reading). AfterNext (TellsOf old) u.0 o.0 (read_so g.job o.1 u.1)) (λ (u : List Call × List Sight) (o : Next × Reading). OfTurn (TellsOf old) (OfGoing (TellsOf old)) u.0 (after_next waits g (o, u.1)))
       (s, g.job.sight) (next_talk d mode g.job.reading)
       (next-meets Any (NotedBy Listed) (λ (u : List Call × List Sight) (r : Reading). Told old u.0 u.1) (λ (u : List Call × List Sight) (o : Next × Reading). AfterNext (TellsOf old) u.0 o.0 (read_so g.job o.1 u.1)) d mode (told-rules old g.job d mode) (s, g.job.sight) g.job.reading i)
-      (λ u o h. turn-of (TellsOf old) (λ t j stop k. k) u.0 wait g.left g.agains o.0 (read_so g.job o.1 u.1) h));
+      (λ u o h. turn-of (TellsOf old) (λ t j stop k. k) u.0 waits g.left g.agains o.0 (read_so g.job o.1 u.1) h));
   forces = λ e s j i. i;
-  joys = λ e s j n none i. ends-meet Listed (OfJob (TellsOf old)) s (joystick_talk d n command j) (λ t calls o run ends. of_joy s t j n command calls o i run ends);
+  joys = λ e s j n none i. joystick-meets Listed (TellsOf old) d command (joy-told old d command) n s j i;
 }
-  where
-    of_joy : (s t : List Call) (j : Job) (n : ℕ) (command : Command) (calls : List Call) (o : Option Job) → TellsOf old s j → Runs Listed s calls t → EndsWith (joystick_talk d n command j) calls o → OfJob (TellsOf old) t o
-    of_joy s t j n command calls None i run ends = tt
-    of_joy s t j n command calls (Some k) i run ends =
-        subst (λ (cs : List Call). Tells cs old k.sight) (sym (run-listed s t calls run)) (tells-then s calls old j.sight k.sight i (joystick-told d n command j k calls ends))
 
 told-by : (j k : Job) (talk : Talk (Option Job)) (calls : List Call) → Meets Any Listed (OfJob (TellsOf j.sight)) [] talk → EndsWith talk calls (Some k) → Tells calls j.sight k.sight
 told-by j k talk calls h ends = meets-ends Any Listed (OfJob (TellsOf j.sight)) [] calls talk calls (Some k) h (listed-run [] calls) ends
@@ -127,4 +118,4 @@ end-told stop j k calls h = told-by j k (end_talk stop j) calls (end-meets Liste
 
 pub line-told : (role : Role) (d : Description) (streams : List (List Stamped)) (wait : Option Waiting) (n : ℕ) (command : Command) (j k : Job) (calls : List Call) → EndsWith (line_talk role d streams wait n command j) calls (Some k) → Tells calls j.sight k.sight
 line-told role d streams wait n command j k calls h =
-    told-by j k (line_talk role d streams wait n command j) calls (line-meets Listed (TellsOf j.sight) (OfGoing (TellsOf j.sight)) d role command (told-line j.sight d role command) streams wait n [] j (tells-none j.sight)) h
+    told-by j k (line_talk role d streams wait n command j) calls (line-meets Listed (TellsOf j.sight) (OfGoing (TellsOf j.sight)) d role command wait (told-line j.sight d role command wait) streams n [] j (tells-none j.sight)) h

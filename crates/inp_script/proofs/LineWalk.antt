@@ -1,5 +1,6 @@
 -- The talks of lines, walked once: what has to be shown of one call, of a start and of a `next`, for `Meets` of a whole line.
 use Rattle.std.proofs.Common.{◌≡◌, ℕ, zero, suc, Bool, true, false, if◌then◌else◌, List, [], ◌∷◌, ◌++◌, refl, Option, Some, None, nat_le}
+use Rattle.std.proofs.lemmas.Bool.{cond_both}
 use Rattle.inp_model.specs.declared.stamped.Stamped.{Stamped}
 use Rattle.inp_model.specs.declared.step.Step.{Step}
 use Rattle.inp_model.specs.declared.step.Step.TheVariants.{Inject, End}
@@ -14,8 +15,8 @@ use Rattle.inp_reader.specs.declared.next.Next.TheVariants.{Success, Dropped, Sy
 use Rattle.inp_reader.specs.declared.started.Started.{Started}
 use Rattle.inp_reader.specs.declared.reader.TheConstants.{NO_CLIENT}
 use Rattle.inp_reader.specs.Reading.{Reading, start_talk, next_talk}
-use Rattle.inp_reader.specs.Talk.{Talk, finish, ask}
-use Rattle.inp_reader.proofs.Meets.{Meets, Any, meets-then, meets-if}
+use Rattle.inp_reader.specs.Talk.{Talk, finish, ask, EndsWith}
+use Rattle.inp_reader.proofs.Meets.{Meets, Any, meets-then, meets-if, Runs, ends-meet}
 use Rattle.inp_script.specs.declared.sight.Sight.{Sight}
 use Rattle.inp_script.specs.declared.sight.Sight.TheVariants.{Took, Made, Again as AgainSight}
 use Rattle.inp_script.specs.declared.stop.Stop.{Stop}
@@ -27,6 +28,7 @@ use Rattle.inp_script.specs.Job.{Job}
 use Rattle.inp_script.specs.Joystick.{joystick_talk}
 use Rattle.inp_script.specs.Line.{step_of, after_call, call_if, stream_talk, stream_numbered, source_talk, end_talk, after_tap_call, tap_call_if}
 use Rattle.inp_script.specs.Sight.{noted, call_sight, lacks_memory, start_lacks_memory}
+use Rattle.inp_model.specs.Run.{Call}
 
 -- ---- a talk whose calls are noted
 
@@ -39,11 +41,24 @@ pub meets-noted : {S A : Type 0} (R : S → Step → Answer → S → Type 0) (Q
 meets-noted R Q s sight (finish a) h = h
 meets-noted R Q s sight (ask x rest) h = (tt, λ t answer allowed. meets-noted R Q t (sight ++ call_sight x answer.reply) (rest answer) (h.1 (t, sight ++ call_sight x answer.reply) answer (allowed, refl)))
 
+-- what needs no note
+pub note-meets : {S A : Type 0} (R : S → Step → Answer → S → Type 0) (Q : S → A → Type 0) (s : S) (sight : List Sight) (talk : Talk A) → Meets Any R Q s talk → Meets Any (NotedBy R) (λ (u : S × List Sight) (a : A). Q u.0 a) (s, sight) talk
+note-meets R Q s sight (finish a) h = h
+note-meets R Q s sight (ask x rest) h = (tt, λ u a by. note-meets R Q u.0 u.1 (rest a) (h.1 u.0 a by.0))
+
 -- ---- what is known of a job
 
 abbrev pub OfJob : {S : Type 0} → (S → Job → Type 0) → S → Option Job → Type 0
 OfJob I s None = Unit {0}
 OfJob I s (Some j) = I s j
+
+-- the same of each job that a talk ends with
+pub job-ends-meet : {S : Type 0} (R : S → Step → Answer → S → Type 0) (I : S → Job → Type 0) (s : S) (talk : Talk (Option Job)) → ((t : S) (calls : List Call) (k : Job) → Runs R s calls t → EndsWith talk calls (Some k) → I t k) → Meets Any R (OfJob I) s talk
+job-ends-meet {S} R I s talk each = ends-meet R (OfJob I) s talk (λ t calls o run ends. by t calls o run ends)
+  where
+    by : (t : S) (calls : List Call) (o : Option Job) → Runs R s calls t → EndsWith talk calls o → OfJob I t o
+    by t calls None run ends = tt
+    by t calls (Some k) run ends = each t calls k run ends
 
 abbrev pub OfTurn : {S : Type 0} → (S → Job → Type 0) → (S → Going → Type 0) → S → Turn → Type 0
 OfTurn I G s (goes_on g) = G s g
@@ -67,24 +82,34 @@ AfterNext I s (Full at) j = I s j
 abbrev pub read_so : Job → Reading → List Sight → Job
 read_so j r sight = record j { reading = r; sight = sight }
 
+-- a client's command that is a call, and no more
+abbrev pub is_one_call : Command → Bool
+is_one_call Open = false
+is_one_call (ToNext count) = false
+is_one_call (Skip count) = false
+is_one_call Follow = false
+is_one_call Force = false
+is_one_call _ = true
+
 -- What is known of a job, I, stays so on each way through a line; and so does what is known of one in the midst of a line, G.
-pub record LineRules {S : Type 0} (R : S → Step → Answer → S → Type 0) (I : S → Job → Type 0) (G : S → Going → Type 0) (d : Description) (role : Role) (command : Command) : Type 0 where
+pub record LineRules {S : Type 0} (R : S → Step → Answer → S → Type 0) (I : S → Job → Type 0) (G : S → Going → Type 0) (d : Description) (role : Role) (command : Command) (wait : Option Waiting) : Type 0 where
   pub injects : role ≡ Source → (s t : S) (j : Job) (x : Step) (a : Answer) → I s j → R s x a t → I t (after_call j x a)
-  pub calls : role ≡ Client → (s t : S) (j : Job) (x : Step) (a : Answer) → step_of j.reading.client command ≡ Some x → I s j → R s x a t → I t (after_call j x a)
+  pub calls : role ≡ Client → is_one_call command ≡ true → (s t : S) (j : Job) (x : Step) (a : Answer) → step_of j.reading.client command ≡ Some x → I s j → R s x a t → I t (after_call j x a)
   pub taps : role ≡ Tap → (s t : S) (j : Job) (x : Step) (a : Answer) → I s j → R s x a t → I t (after_tap_call j x a)
   pub starts : role ≡ Client → (s : S) (j : Job) → I s j → Meets Any R (OfJob I) s (start_job d j)
   pub begins : role ≡ Client → (s : S) (j : Job) (left : Option ℕ) → I s j → G s (record { job = j; left = left; agains = 0 })
-  pub rounds : role ≡ Client → (s : S) (wait : Option Waiting) (skips : Bool) (g : Going) → G s g → Meets Any R (OfTurn I G) s (next_round d wait skips g)
+  -- a line that does not wait has no round that does
+  pub rounds : role ≡ Client → (s : S) (waits : Option Waiting) (skips : Bool) (g : Going) → (wait ≡ None → waits ≡ None) → G s g → Meets Any R (OfTurn I G) s (next_round d waits skips g)
   pub forces : role ≡ Client → (s : S) (j : Job) → I s j → I s (forced j)
   pub joys : role ≡ Joy → (s : S) (j : Job) (n : ℕ) → j.stop ≡ None → I s j → Meets Any R (OfJob I) s (joystick_talk d n command j)
 
 -- ---- single calls
 
-call_if-meets : {S : Type 0} (R : S → Step → Answer → S → Type 0) (I : S → Job → Type 0) (j : Job) (o : Option Step) → ((u v : S) (y : Step) (b : Answer) → o ≡ Some y → I u j → R u y b v → I v (after_call j y b)) → (s : S) → I s j → Meets Any R (OfJob I) s (call_if j o)
+pub call_if-meets : {S : Type 0} (R : S → Step → Answer → S → Type 0) (I : S → Job → Type 0) (j : Job) (o : Option Step) → ((u v : S) (y : Step) (b : Answer) → o ≡ Some y → I u j → R u y b v → I v (after_call j y b)) → (s : S) → I s j → Meets Any R (OfJob I) s (call_if j o)
 call_if-meets R I j None calls s i = i
 call_if-meets R I j (Some x) calls s i = (tt, λ t a allowed. calls s t x a refl i allowed)
 
-tap-meets : {S : Type 0} (R : S → Step → Answer → S → Type 0) (I : S → Job → Type 0) → ((u v : S) (k : Job) (y : Step) (b : Answer) → I u k → R u y b v → I v (after_tap_call k y b)) → (s : S) (j : Job) (o : Option Step) → I s j → Meets Any R (OfJob I) s (tap_call_if j o)
+pub tap-meets : {S : Type 0} (R : S → Step → Answer → S → Type 0) (I : S → Job → Type 0) → ((u v : S) (k : Job) (y : Step) (b : Answer) → I u k → R u y b v → I v (after_tap_call k y b)) → (s : S) (j : Job) (o : Option Step) → I s j → Meets Any R (OfJob I) s (tap_call_if j o)
 tap-meets R I calls s j None i = i
 tap-meets {S} R I calls s j (Some x) i = (tt, λ t a allowed. by (lacks_memory a.reply) t (after_tap_call j x a) (calls s t j x a i allowed))
   where
@@ -141,19 +166,12 @@ pub turn-of : {S : Type 0} (I : S → Job → Type 0) → ((s : S) (j : Job) (st
 turn-of {S} I stops s wait left agains next j h = by next h
   where
     handed-of : (left : Option ℕ) (k : Job) → I s k → OfTurn I (OfGoing I) s (handed left k)
-    handed-of left k i = by_flag (is_done left)
-      where
-        by_flag : (b : Bool) → OfTurn I (OfGoing I) s (if b then ends_with k else goes_on (record { job = k; left = left; agains = 0 }))
-        by_flag true = i
-        by_flag false = i
+    handed-of left k i = cond_both (is_done left) _ _ (OfTurn I (OfGoing I) s) (λ _. i) (λ _. i)
 
     again-of : (patient : Option ℕ) (more at ends : ℕ) → I s j → I s (with_sight j (AgainSight at ends)) → OfTurn I (OfGoing I) s (after_again patient left more at ends j)
     again-of None more at ends i k = k
-    again-of (Some idle) more at ends i k = by_flag (nat_le idle more)
-      where
-        by_flag : (b : Bool) → OfTurn I (OfGoing I) s (if b then ends_with (with_stop (with_sight j (AgainSight at ends)) (Idle idle at)) else goes_on (record { job = j; left = left; agains = more }))
-        by_flag true = stops s (with_sight j (AgainSight at ends)) (Idle idle at) k
-        by_flag false = i
+    again-of (Some idle) more at ends i k =
+        cond_both (nat_le idle more) _ _ (OfTurn I (OfGoing I) s) (λ _. stops s (with_sight j (AgainSight at ends)) (Idle idle at) k) (λ _. i)
 
     by : (n : Next) → AfterNext I s n j → OfTurn I (OfGoing I) s (turn_after wait left agains n j)
     by (Success taken) i = handed-of (one_less left) (with_sight j (Took taken)) i
@@ -165,44 +183,47 @@ turn-of {S} I stops s wait left agains next j h = by next h
     by Closed i = i
     by (Full at) i = stops s j (FullStop at) i
 
-rounds-meets : {S : Type 0} (R : S → Step → Answer → S → Type 0) (I : S → Job → Type 0) (G : S → Going → Type 0) (d : Description) (command : Command) → LineRules R I G d Client command → (wait : Option Waiting) (skips : Bool) (n : ℕ) (s : S) (g : Going) → G s g → Meets Any R (OfJob I) s (rounds d wait skips n g)
+pub rounds-meets : {S : Type 0} (R : S → Step → Answer → S → Type 0) (I : S → Job → Type 0) (G : S → Going → Type 0) (d : Description) (wait : Option Waiting) (skips : Bool)
+    → ((s : S) (g : Going) → G s g → Meets Any R (OfTurn I G) s (next_round d wait skips g)) → (n : ℕ) (s : S) (g : Going) → G s g → Meets Any R (OfJob I) s (rounds d wait skips n g)
 unfolding rounds
-rounds-meets R I G d command rules wait skips zero s g i = tt
-rounds-meets {S} R I G d command rules wait skips (suc n) s g i =
-    meets-then Any R (OfTurn I G) (OfJob I) s (next_round d wait skips g) (on_turn (rounds d wait skips n)) (rules.rounds refl s wait skips g i) (λ t turn h. by t turn h (λ here k. rounds-meets R I G d command rules wait skips n t here k))
+rounds-meets R I G d wait skips round zero s g i = tt
+rounds-meets {S} R I G d wait skips round (suc n) s g i =
+    meets-then Any R (OfTurn I G) (OfJob I) s (next_round d wait skips g) (on_turn (rounds d wait skips n)) (round s g i) (λ t turn h. by t turn h (λ here k. rounds-meets R I G d wait skips round n t here k))
   where
     by : (t : S) (turn : Turn) → OfTurn I G t turn → ((here : Going) → G t here → Meets Any R (OfJob I) t (rounds d wait skips n here)) → Meets Any R (OfJob I) t (on_turn (rounds d wait skips n) turn)
     by t (goes_on here) h more = more here h
     by t (ends_with j) h more = h
 
-hand-meets : {S : Type 0} (R : S → Step → Answer → S → Type 0) (I : S → Job → Type 0) (G : S → Going → Type 0) (d : Description) (command : Command) → LineRules R I G d Client command → (wait : Option Waiting) (skips : Bool) (left : Option ℕ) (n : ℕ) (s : S) (j : Job) → I s j → Meets Any R (OfJob I) s (hand_talk d wait skips left n j)
-hand-meets R I G d command rules wait skips left n s j i =
+hand-meets : {S : Type 0} (R : S → Step → Answer → S → Type 0) (I : S → Job → Type 0) (G : S → Going → Type 0) (d : Description) (command : Command) (wait : Option Waiting) → LineRules R I G d Client command wait
+    → (waits : Option Waiting) (skips : Bool) (left : Option ℕ) (n : ℕ) (s : S) (j : Job) → (wait ≡ None → waits ≡ None) → I s j → Meets Any R (OfJob I) s (hand_talk d waits skips left n j)
+hand-meets R I G d command wait rules waits skips left n s j none i =
     let start : Going = record { job = j; left = left; agains = 0 } in
-    meets-if Any R (OfJob I) s (is_done left) (finish (Some j)) (rounds d wait skips n start) (λ is. i) (λ is. rounds-meets R I G d command rules wait skips n s start (rules.begins refl s j left i))
+    meets-if Any R (OfJob I) s (is_done left) (finish (Some j)) (rounds d waits skips n start) (λ is. i)
+    (λ is. rounds-meets R I G d waits skips (λ t g h. rules.rounds refl t waits skips g none h) n s start (rules.begins refl s j left i))
 
-client-meets : {S : Type 0} (R : S → Step → Answer → S → Type 0) (I : S → Job → Type 0) (G : S → Going → Type 0) (d : Description) (command : Command) → LineRules R I G d Client command → (wait : Option Waiting) (n : ℕ) (s : S) (j : Job) → I s j → Meets Any R (OfJob I) s (client_talk d wait n command j)
-client-meets R I G d Open rules wait n s j i = rules.starts refl s j i
-client-meets R I G d (ToNext count) rules wait n s j i = hand-meets R I G d (ToNext count) rules None false (Some count) n s j i
-client-meets R I G d (Skip count) rules wait n s j i = hand-meets R I G d (Skip count) rules None true (Some count) n s j i
-client-meets R I G d Follow rules wait n s j i = hand-meets R I G d Follow rules wait false None n s j i
-client-meets R I G d Force rules wait n s j i = rules.forces refl s j i
-client-meets R I G d command rules wait n s j i = call_if-meets R I j (step_of j.reading.client command) (λ u v y b is. rules.calls refl u v j y b is) s i
+client-meets : {S : Type 0} (R : S → Step → Answer → S → Type 0) (I : S → Job → Type 0) (G : S → Going → Type 0) (d : Description) (command : Command) (wait : Option Waiting) → LineRules R I G d Client command wait → (n : ℕ) (s : S) (j : Job) → I s j → Meets Any R (OfJob I) s (client_talk d wait n command j)
+client-meets R I G d Open wait rules n s j i = rules.starts refl s j i
+client-meets R I G d (ToNext count) wait rules n s j i = hand-meets R I G d (ToNext count) wait rules None false (Some count) n s j (λ e. refl) i
+client-meets R I G d (Skip count) wait rules n s j i = hand-meets R I G d (Skip count) wait rules None true (Some count) n s j (λ e. refl) i
+client-meets R I G d Follow wait rules n s j i = hand-meets R I G d Follow wait rules wait false None n s j (λ e. e) i
+client-meets R I G d Force wait rules n s j i = rules.forces refl s j i
+client-meets R I G d command wait rules n s j i = call_if-meets R I j (step_of j.reading.client command) (λ u v y b is. rules.calls refl refl u v j y b is) s i
 
 -- ---- a line
 
-command-meets : {S : Type 0} (R : S → Step → Answer → S → Type 0) (I : S → Job → Type 0) (G : S → Going → Type 0) (d : Description) (role : Role) (command : Command) → LineRules R I G d role command → (streams : List (List Stamped)) (wait : Option Waiting) (n : ℕ) (s : S) (j : Job) → j.stop ≡ None → I s j
-    → Meets Any R (OfJob I) s (command_talk role d streams wait n command j)
-command-meets R I G d Source command rules streams wait n s j none i = source-meets R I (rules.injects refl) streams command s j i
-command-meets R I G d Client command rules streams wait n s j none i = client-meets R I G d command rules wait n s j i
-command-meets R I G d Tap command rules streams wait n s j none i = tap-meets R I (rules.taps refl) s j (step_of j.reading.client command) i
-command-meets R I G d Joy command rules streams wait n s j none i = rules.joys refl s j n none i
-command-meets R I G d Owner command rules streams wait n s j none i = i
+command-meets : {S : Type 0} (R : S → Step → Answer → S → Type 0) (I : S → Job → Type 0) (G : S → Going → Type 0) (d : Description) (role : Role) (command : Command) (wait : Option Waiting) → LineRules R I G d role command wait
+    → (streams : List (List Stamped)) (n : ℕ) (s : S) (j : Job) → j.stop ≡ None → I s j → Meets Any R (OfJob I) s (command_talk role d streams wait n command j)
+command-meets R I G d Source command wait rules streams n s j none i = source-meets R I (rules.injects refl) streams command s j i
+command-meets R I G d Client command wait rules streams n s j none i = client-meets R I G d command wait rules n s j i
+command-meets R I G d Tap command wait rules streams n s j none i = tap-meets R I (rules.taps refl) s j (step_of j.reading.client command) i
+command-meets R I G d Joy command wait rules streams n s j none i = rules.joys refl s j n none i
+command-meets R I G d Owner command wait rules streams n s j none i = i
 
-pub line-meets : {S : Type 0} (R : S → Step → Answer → S → Type 0) (I : S → Job → Type 0) (G : S → Going → Type 0) (d : Description) (role : Role) (command : Command) → LineRules R I G d role command → (streams : List (List Stamped)) (wait : Option Waiting) (n : ℕ) (s : S) (j : Job) → I s j
-    → Meets Any R (OfJob I) s (line_talk role d streams wait n command j)
+pub line-meets : {S : Type 0} (R : S → Step → Answer → S → Type 0) (I : S → Job → Type 0) (G : S → Going → Type 0) (d : Description) (role : Role) (command : Command) (wait : Option Waiting) → LineRules R I G d role command wait
+    → (streams : List (List Stamped)) (n : ℕ) (s : S) (j : Job) → I s j → Meets Any R (OfJob I) s (line_talk role d streams wait n command j)
 unfolding line_talk
-line-meets {S} R I G d role command rules streams wait n s j i = by j.stop refl
+line-meets {S} R I G d role command wait rules streams n s j i = by j.stop refl
   where
     by : (stop : Option Stop) → j.stop ≡ stop → Meets Any R (OfJob I) s (unless_stopped stop j (command_talk role d streams wait n command j))
-    by None none = command-meets R I G d role command rules streams wait n s j none i
+    by None none = command-meets R I G d role command wait rules streams n s j none i
     by (Some stop) is = i

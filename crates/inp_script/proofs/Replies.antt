@@ -90,7 +90,3 @@ events-counted d past x given h =
 memory_when_accepted : (d : Description) (past : List Step) (x : Step) → lacks_memory (accepted d past x).reply ≡ false
 memory_when_accepted d past Open = refl
 memory_when_accepted d past _ = refl
-
-pub memory-but_open : (d : Description) (past : List Step) (x : Step) (given : Answer) → IsAnswer d past x given → (x ≡ Open → ⊥) → lacks_memory given.reply ≡ false
-memory-but_open d past x given h other =
-    is_answer_has (λ a. lacks_memory a.reply ≡ false) d past x given h (λ refusal is. is.memory) (λ none. memory_when_accepted d past x) (λ opened lack not_in none. absurd (other opened))

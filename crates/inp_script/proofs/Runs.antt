@@ -16,7 +16,7 @@ legal-weaker : (d : Description) (h : List Step) (least lower : ℕ) (calls : Li
 legal-weaker d h least lower [] less l = tt
 legal-weaker d h least lower (call ∷ calls) less l = (omega (arith, l.0, less), l.1, l.2)
 
-next_place-within : (d : Description) (h : List Step) (call : Call) → HasPlace d h call → next_place call.answer.reply ≤ length h
+pub next_place-within : (d : Description) (h : List Step) (call : Call) → HasPlace d h call → next_place call.answer.reply ≤ length h
 next_place-within d h call p = by_flag (is_accepted call.answer.reply) p.entered
   where
     by_flag : (b : Bool) → (IsTrue b → slice_get h (place_of call.answer.reply) ≡ Some call.step) → (if b then suc (place_of call.answer.reply) else place_of call.answer.reply) ≤ length h

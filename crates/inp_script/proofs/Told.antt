@@ -1,7 +1,8 @@
 -- What a line adds to a sight tells of its calls: of each, but for some that were answered Again.
-use Rattle.std.proofs.Common.{◌≡◌, ℕ, inl, inr, Bool, true, false, cond, if◌then◌else◌, List, [], ◌∷◌, ◌++◌, map, refl, sym, ap, subst, ◌∙◌, append_assoc, append-nil, Option, Some, None}
+use Rattle.std.proofs.Common.{◌≡◌, ℕ, inl, inr, Bool, true, false, cond, if◌then◌else◌, List, [], ◌∷◌, ◌++◌, map, refl, sym, ap, subst, ◌∙◌, append_assoc, append-nil, Some, None}
 use Rattle.std.specs.Prelude.{filter}
 use Rattle.std.proofs.lemmas.List.Elements.{filter-append}
+use Rattle.std.proofs.lemmas.Bool.{cond_both}
 use Rattle.inp_model.specs.declared.taken.Taken.{Taken}
 use Rattle.inp_model.specs.declared.step.Step.{Step}
 use Rattle.inp_model.specs.declared.reply.Reply.{Reply}
@@ -13,9 +14,8 @@ use Rattle.inp_script.specs.declared.sight.Sight.{Sight}
 use Rattle.inp_script.specs.declared.sight.Sight.TheVariants.{Call as Called, Again}
 use Rattle.inp_script.specs.Legal.{sight_of_calls, is_call_entry, LeavesOut}
 use Rattle.inp_script.specs.Job.{Job}
-use Rattle.inp_script.specs.Line.{after_call, call_talk, call_if}
 use Rattle.inp_script.specs.Sight.{call_sight, again_sight, taken_sight, sight_of_call, noted}
-use Rattle.inp_script.proofs.LastAgain.{finish-only}
+use Rattle.inp_reader.proofs.Calls.{finished}
 use Rattle.inp_script.proofs.Runs.{leaves_out-append, leaves_out-none}
 
 -- these calls made the one sight of the other
@@ -118,11 +118,9 @@ noted-back (ask x rest) sight (call ∷ calls) o h =
 
 leaves_agains_out : (calls : List Call) → LeavesOut (without_agains calls) calls
 leaves_agains_out [] = refl
-leaves_agains_out (call ∷ calls) = by_flag (is_again call.answer.reply) refl (leaves_agains_out calls)
-  where
-    by_flag : (b : Bool) → is_again call.answer.reply ≡ b → LeavesOut (without_agains calls) calls → LeavesOut (if b then without_agains calls else call ∷ without_agains calls) (call ∷ calls)
-    by_flag true e out = inr (e, out)
-    by_flag false e out = inl (without_agains calls, refl, out)
+leaves_agains_out (call ∷ calls) =
+    (cond_both (is_again call.answer.reply) _ _ (λ x. LeavesOut (without_agains calls) calls → LeavesOut x (call ∷ calls))
+    (λ e out. inr (e, out)) (λ e out. inl (without_agains calls, refl, out))) (leaves_agains_out calls)
 
 pub not_again : (reply : Reply) → is_again reply ≡ false → again_sight reply ≡ []
 not_again (NothingVisible at ends) h = absurd cc
@@ -168,31 +166,11 @@ tells-again calls front last old new at ends whole again h =
 -- no call, and nothing is added
 pub same-told : (j k : Job) (calls : List Call) → EndsWith (finish (Some j)) calls (Some k) → Tells calls j.sight k.sight
 same-told j k calls h =
-    let f = finish-only (Some j) (Some k) calls h in
+    let f = finished (Some j) (Some k) calls h in
     let same : j ≡ k = (let e = f.1 in cc) in
     subst (λ (cs : List Call). Tells cs j.sight k.sight) (sym f.0) (subst (λ (x : Job). Tells [] j.sight x.sight) same (tells-none j.sight))
-
-pub call-told : (j k : Job) (x : Step) (calls : List Call) → EndsWith (call_talk j x) calls (Some k) → Tells calls j.sight k.sight
-unfolding LeadsTo
-call-told j k x [] h = absurd cc
-call-told j k x (call ∷ calls) h =
-    let f = finish-only (Some (after_call j x call.answer)) (Some k) calls h.1 in
-    let same : after_call j x call.answer ≡ k = (let e = f.1 in cc) in
-    subst (λ (cs : List Call). Tells (call ∷ cs) j.sight k.sight) (sym f.0) (subst (λ (y : Job). Tells (call ∷ []) j.sight y.sight) same (tells-call x call j.sight h.0))
-
-pub call_if-told : (j k : Job) (o : Option Step) (calls : List Call) → EndsWith (call_if j o) calls (Some k) → Tells calls j.sight k.sight
-call_if-told j k None calls h = same-told j k calls h
-call_if-told j k (Some x) calls h = call-told j k x calls h
 
 -- memory did not run out
 pub memory_there : (lacks : Bool) (j k : Job) → (if lacks then None else Some j) ≡ Some k → j ≡ k
 memory_there true j k h = absurd cc
 memory_there false j k h = cc
-
--- no call follows
-pub calls_alone : (first second : List Call) (old new : List Sight) → second ≡ [] → Tells first old new → Tells (first ++ second) old new
-calls_alone first second old new none t = subst (λ (cs : List Call). Tells (first ++ cs) old new) (sym none) (subst (λ (cs : List Call). Tells cs old new) (sym (nil_behind first)) t)
-  where
-    nil_behind : (cs : List Call) → cs ++ [] ≡ cs
-    nil_behind [] = refl
-    nil_behind (c ∷ cs) = ap (λ (ds : List Call). c ∷ ds) (nil_behind cs)

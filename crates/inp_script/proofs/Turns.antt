@@ -2,6 +2,7 @@
 use Rattle.std.proofs.Common.{◌≡◌, ℕ, suc, ◌+◌, ◌<◌, ◌≤◌, Bool, true, false, if◌then◌else◌, nat_le, nat_lt, Option, Some, None, refl, sym, ap, arith}
 use Rattle.std.proofs.lemmas.Bool.Decides.{nat_tests}
 use Rattle.std.proofs.Math.Nat.{mul-le-mul_right}
+use Rattle.std.proofs.lemmas.Bool.{cond_both}
 use Rattle.inp_reader.specs.declared.next.Next.{Next}
 use Rattle.inp_reader.specs.declared.next.Next.TheVariants.{Success, Dropped, Sync, Again, Synced, NoDevice, Closed, Full}
 use Rattle.inp_script.specs.declared.client.Progress.{Progress}
@@ -40,11 +41,9 @@ same_agains g h e = let same : g ≡ h = cc in ap (λ (x : Going). x.agains) (sy
 
 -- a line that goes on after an event was handed out counts answers Again anew
 handed-anew : (left : Option ℕ) (j k : Job) (progress : Progress) → handed left j ≡ goes_on (going progress k) → progress.agains ≡ 0
-handed-anew left j k progress h = by_flag (is_done left) h
-  where
-    by_flag : (b : Bool) → (if b then ends_with j else goes_on (record { job = j; left = left; agains = 0 })) ≡ goes_on (going progress k) → progress.agains ≡ 0
-    by_flag true e = absurd cc
-    by_flag false e = same_agains (record { job = j; left = left; agains = 0 }) (going progress k) e
+handed-anew left j k progress h =
+    (cond_both (is_done left) _ _ (λ x. x ≡ goes_on (going progress k) → progress.agains ≡ 0)
+    (λ _ e. absurd cc) (λ _ e. same_agains (record { job = j; left = left; agains = 0 }) (going progress k) e)) h
 
 -- one that goes on after an answer Again may wait once more
 again-waits : (patient : Option ℕ) (wait : Option Waiting) (left : Option ℕ) (agains at ends : ℕ) (j k : Job) (progress : Progress) → ((n : ℕ) → patient ≡ Some n → n ≡ idle_of wait) → after_again patient left agains at ends j ≡ goes_on (going progress k) → (progress.agains ≡ agains) × (agains < idle_of wait)
@@ -57,11 +56,8 @@ again-waits (Some n) wait left agains at ends j k progress idle h = by_flag (wit
 
 patience-idle : (wait : Option Waiting) (ends n : ℕ) → patience wait ends ≡ Some n → n ≡ idle_of wait
 patience-idle None ends n h = absurd cc
-patience-idle (Some waiting) ends n h = by_flag (nat_lt ends waiting.sources) h
-  where
-    by_flag : (b : Bool) → (if b then Some waiting.idle else None) ≡ Some n → n ≡ waiting.idle
-    by_flag true e = cc
-    by_flag false e = absurd cc
+patience-idle (Some waiting) ends n h =
+    (cond_both (nat_lt ends waiting.sources) _ _ (λ x. x ≡ Some n → n ≡ waiting.idle) (λ _ e. cc) (λ _ e. absurd cc)) h
 
 less_anew : (wait : Option Waiting) (after before agains : ℕ) (progress : Progress) → after < before → progress.agains ≡ 0 → total_effort wait after progress.agains < total_effort wait before agains
 less_anew wait after before agains progress h e = omega (arith, total-less wait after before agains h, ap (λ (n : ℕ). total_effort wait after n) e)

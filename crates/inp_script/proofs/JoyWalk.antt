@@ -1,0 +1,80 @@
+-- What a joystick does at a line, walked once: what has to be shown of a start, of a read and of a single call, for `Meets` of the whole.
+use Rattle.std.proofs.Common.{◌≡◌, ℕ, zero, suc, Bool, true, false, List, refl, Option, Some, None}
+use Rattle.inp_model.specs.declared.step.Step.{Step}
+use Rattle.inp_model.specs.Description.{Description}
+use Rattle.inp_model.specs.Reply.{Answer}
+use Rattle.inp_actors.specs.declared.command.Command.{Command}
+use Rattle.inp_actors.specs.declared.command.Command.TheVariants.{Open, Read}
+use Rattle.inp_joy.specs.declared.joy_read.JoyRead.{JoyRead}
+use Rattle.inp_joy.specs.declared.joy_read.JoyRead.TheVariants.{Frame, Again, Full, More}
+use Rattle.inp_joy.specs.Joying.{JoyAnswer, turns}
+use Rattle.inp_reader.proofs.Meets.{Meets, Any, meets-then}
+use Rattle.inp_script.specs.declared.sight.Sight.{Sight}
+use Rattle.inp_script.specs.declared.sight.Sight.TheVariants.{Again as NothingVisible}
+use Rattle.inp_script.specs.declared.stop.Stop.TheVariants.{Full as FullHistory}
+use Rattle.inp_script.specs.Client.{with_sight, with_stop}
+use Rattle.inp_script.specs.Job.{Job, joying_of}
+use Rattle.inp_script.specs.Joystick.{Reach, handed_out, line_ends, start_joystick, after_joy_answer, after_joy_read, after_turns, read_on, on_reach, read_records, joystick_talk}
+use Rattle.inp_script.specs.Line.{step_of, after_call}
+use Rattle.inp_script.specs.Sight.{noted}
+use Rattle.inp_script.proofs.LineWalk.{OfJob, call_if-meets}
+
+-- of a job behind an answer of its client, with what the answer adds
+abbrev pub AfterRead : {S : Type 0} → (S → Job → Type 0) → S → JoyRead → Job → Type 0
+AfterRead I s (Again at ends) j = I s (with_sight j (NothingVisible at ends))
+AfterRead I s (Full at) j = I s (with_stop j (FullHistory at))
+AfterRead I s _ j = I s j
+
+abbrev pub AfterTurns : {S : Type 0} → (S → Job → Type 0) → Job → S → Option JoyAnswer → List Sight → Type 0
+AfterTurns I j s None sight = Unit {0}
+AfterTurns I j s (Some answer) sight = AfterRead I s answer.read (after_joy_answer j answer sight)
+
+abbrev OfReach : {S : Type 0} → (S → Job → Type 0) → S → Option Reach → Type 0
+OfReach I s None = Unit {0}
+OfReach I s (Some (handed_out j)) = I s j
+OfReach I s (Some (line_ends j)) = I s j
+
+-- a joystick's command that is a call, and no more
+abbrev pub is_joy_call : Command → Bool
+is_joy_call Open = false
+is_joy_call (Read count) = false
+is_joy_call _ = true
+
+-- What is known of a job, I, stays so on each way through a joystick's line.
+pub record JoyRules {S : Type 0} (R : S → Step → Answer → S → Type 0) (I : S → Job → Type 0) (d : Description) (command : Command) : Type 0 where
+  pub starts : (s : S) (j : Job) → I s j → Meets Any R (OfJob I) s (start_joystick d j)
+  pub reads : (s : S) (j : Job) (most : ℕ) → I s j → Meets Any R (λ (t : S) (o : Option JoyAnswer × List Sight). AfterTurns I j t o.0 o.1) s (noted (turns d most 0 (joying_of j)) j.sight)
+  pub calls : is_joy_call command ≡ true → (s t : S) (j : Job) (x : Step) (a : Answer) → step_of j.reading.client command ≡ Some x → I s j → R s x a t → I t (after_call j x a)
+
+read_on-meets : {S : Type 0} (R : S → Step → Answer → S → Type 0) (I : S → Job → Type 0) (d : Description) (command : Command) → JoyRules R I d command → (most n : ℕ) (s : S) (j : Job) → I s j → Meets Any R (OfReach I) s (read_on d most n j)
+unfolding read_on
+read_on-meets R I d command rules most zero s j i = tt
+read_on-meets {S} R I d command rules most (suc n) s j i =
+    meets-then Any R (λ (t : S) (o : Option JoyAnswer × List Sight). AfterTurns I j t o.0 o.1) (OfReach I) s (noted (turns d most 0 (joying_of j)) j.sight) (λ o. after_turns (read_on d most n) j o.0 o.1)
+    (rules.reads s j most i) (λ t o k. of_turns t o.0 o.1 (λ here m. read_on-meets R I d command rules most n t here m) k)
+  where
+    of_read : (t : S) (read : JoyRead) (here : Job) → ((k : Job) → I t k → Meets Any R (OfReach I) t (read_on d most n k)) → AfterRead I t read here → Meets Any R (OfReach I) t (after_joy_read (read_on d most n) read here)
+    of_read t (Frame place) here more k = more here k
+    of_read t More here more k = more here k
+    of_read t read here more k = k
+
+    of_turns : (t : S) (o : Option JoyAnswer) (sight : List Sight) → ((k : Job) → I t k → Meets Any R (OfReach I) t (read_on d most n k)) → AfterTurns I j t o sight → Meets Any R (OfReach I) t (after_turns (read_on d most n) j o sight)
+    of_turns t None sight more k = tt
+    of_turns t (Some answer) sight more k = of_read t answer.read (after_joy_answer j answer sight) more k
+
+read_records-meets : {S : Type 0} (R : S → Step → Answer → S → Type 0) (I : S → Job → Type 0) (d : Description) (command : Command) → JoyRules R I d command → (n count : ℕ) (s : S) (j : Job) → I s j → Meets Any R (OfJob I) s (read_records d n count j)
+unfolding read_records
+read_records-meets R I d command rules n zero s j i = i
+read_records-meets {S} R I d command rules n (suc count) s j i =
+    meets-then Any R (OfReach I) (OfJob I) s (read_on d n n j) (on_reach (read_records d n count)) (read_on-meets R I d command rules n n s j i)
+    (λ t o k. of_reach t o (λ here m. read_records-meets R I d command rules n count t here m) k)
+  where
+    of_reach : (t : S) (o : Option Reach) → ((here : Job) → I t here → Meets Any R (OfJob I) t (read_records d n count here)) → OfReach I t o → Meets Any R (OfJob I) t (on_reach (read_records d n count) o)
+    of_reach t None more k = tt
+    of_reach t (Some (handed_out here)) more k = more here k
+    of_reach t (Some (line_ends here)) more k = k
+
+pub joystick-meets : {S : Type 0} (R : S → Step → Answer → S → Type 0) (I : S → Job → Type 0) (d : Description) (command : Command) → JoyRules R I d command → (n : ℕ) (s : S) (j : Job) → I s j → Meets Any R (OfJob I) s (joystick_talk d n command j)
+joystick-meets R I d Open rules n s j i = rules.starts s j i
+joystick-meets R I d (Read count) rules n s j i = read_records-meets R I d (Read count) rules n count s j i
+joystick-meets R I d command rules n s j i = call_if-meets R I j (step_of j.reading.client command) (λ u v y b is. rules.calls refl u v j y b is) s i
