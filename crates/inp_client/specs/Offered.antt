@@ -37,7 +37,7 @@ takers_in holder ms = count_by (is_offered_to holder) ms
 
 -- A frame can be put in one run into the rings of the clients that it is offered to, which are so many.
 pub record FitsInOneRun (locations : List Location) (slab : Slab Member) (store : StoreView) (frame : List Event) (holder : Option ℕ) (takers : ℕ) : Type 0 where
-  pub short : length frame ≤ 16
+  pub short : length frame ≤ 64
   pub spare : length frame ≤ store.spare
   pub apart : are_reports_apart true frame ≡ true
   pub some : 0 < takers

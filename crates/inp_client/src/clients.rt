@@ -149,7 +149,7 @@ impl Clients {
     /// How many events are kept: each event of a frame that at least one queue holds, once, and each SYN_DROPPED.
     ///
     /// It is as many as there are different numbers in the rings. So it is at least the length of the longest queue, and at
-    /// most that of all queues together.
+    /// least how many steps the queued events came from. It is at most the length of all queues together.
     pub fn stored(&self) -> u32
         ensures stored { result ≡ stored_of self.now }
         ensures places { length (places_of self.now.list) ≤ result }
@@ -289,7 +289,7 @@ impl Clients {
 }
 
 // A frame of at most so many events is put into the rings in one run.
-const RUN_MAX: usize = 16;
+const RUN_MAX: usize = 64;
 
 // Offers a frame to the client in each location, in one run where it can be. There must be a client.
 fn offer_frame(

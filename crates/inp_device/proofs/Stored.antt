@@ -1,6 +1,6 @@
 -- How many events are kept, by the queues of a past.
-use Rattle.std.proofs.Common.{◌≡◌, ◌≤◌, ℕ, ◌↔◌, List, [], ◌∷◌, length, map, get_or, refl, sym, ap, ◌∙◌, subst, arith}
-use Rattle.std.specs.Prelude.{All, sum_by, sum}
+use Rattle.std.proofs.Common.{◌≡◌, ◌≤◌, ℕ, ◌↔◌, List, [], ◌∷◌, ◌++◌, length, map, get_or, refl, sym, ap, ◌∙◌, subst, arith}
+use Rattle.std.specs.Prelude.{All, sum_by, sum, flat_map}
 use Rattle.std.proofs.lemmas.List.{length-map, get_or-map, nil_from_length}
 use Rattle.std.proofs.lemmas.List.Sums.{sum-map, sum_by-le}
 use Rattle.std.proofs.lemmas.List.Elements.{All-map}
@@ -8,15 +8,17 @@ use Rattle.inp_model.specs.declared.step.Step.{Step}
 use Rattle.inp_model.specs.declared.taken.Taken.{Taken}
 use Rattle.inp_model.specs.Description.{Description, offset}
 use Rattle.inp_model.specs.Past.{open_clients}
-use Rattle.inp_model.specs.Queue.{queue}
+use Rattle.inp_model.specs.Queue.{Entry, queue}
 use Rattle.inp_model.specs.Reply.{taken_of}
 use Rattle.inp_ring.specs.declared.cell.Cell.{Cell}
 use Rattle.inp_ring.specs.Store as store
 use Rattle.inp_client.specs.Client.{ClientView}
+use Rattle.inp_client.specs.Clients.{distinct}
+use Rattle.inp_client.specs.Numbers.{places_of}
 use Rattle.inp_client.specs.Read.{client_on, clients_on}
 use Rattle.inp_device.specs.declared.handler.Handler.{Handler}
 use Rattle.inp_device.specs.declared.present.Present.{Present}
-use Rattle.inp_device.specs.Present.{client_after, HandlerStandsFor}
+use Rattle.inp_device.specs.Present.{client_after, queued_places, HandlerStandsFor}
 
 -- how long the queues are, as they are kept, and as they follow from the past
 lengths : (clients : List (ClientView Cell)) (d : Description) → map (λ c. length c.ring.events) clients ≡ map (λ (c : ClientView Taken). length c.ring.events) (clients_on d clients)
@@ -27,6 +29,33 @@ lengths_after : (d : Description) (past : List Step) (ns : List ℕ) → map (λ
 lengths_after d past [] = refl
 lengths_after d past (n ∷ ns) = ap (λ k. k ∷ map (λ (c : ClientView Taken). length c.ring.events) (map (client_after d past) ns)) (length-map (queue d past n) taken_of) ∙ ap (λ ks. length (queue d past n) ∷ ks) (lengths_after d past ns)
 
+-- the places of the queued events, as they are kept, and as they follow from the past
+abbrev places_in : List (ClientView Cell) → List ℕ
+places_in clients = flat_map (λ c. map (λ (cell : Cell). cell.place) c.ring.events) clients
+
+abbrev places_on : List (ClientView Taken) → List ℕ
+places_on clients = flat_map (λ c. map (λ (t : Taken). t.place) c.ring.events) clients
+
+places_read : (offset : ℕ) (q : List Cell) → map (λ (cell : Cell). cell.place) q ≡ map (λ (t : Taken). t.place) (map (store.cell_taken offset) q)
+places_read offset [] = refl
+places_read offset (x ∷ q) = ap (λ (ps : List ℕ). x.place ∷ ps) (places_read offset q)
+
+places_kept : (clients : List (ClientView Cell)) (d : Description) → places_in clients ≡ places_on (clients_on d clients)
+places_kept [] d = refl
+places_kept (c ∷ clients) d =
+    ap (λ (ps : List ℕ). ps ++ places_in clients) (places_read (offset d c.clock) c.ring.events)
+    ∙ ap (λ (ps : List ℕ). map (λ (t : Taken). t.place) (client_on d c).ring.events ++ ps) (places_kept clients d)
+
+places_taken : (q : List Entry) → map (λ (t : Taken). t.place) (map taken_of q) ≡ map (λ (e : Entry). e.taken.place) q
+places_taken [] = refl
+places_taken (x ∷ q) = ap (λ (ps : List ℕ). x.taken.place ∷ ps) (places_taken q)
+
+places_after : (d : Description) (past : List Step) (ns : List ℕ) → places_on (map (client_after d past) ns) ≡ flat_map (λ n. map (λ (e : Entry). e.taken.place) (queue d past n)) ns
+places_after d past [] = refl
+places_after d past (n ∷ ns) =
+    ap (λ (ps : List ℕ). ps ++ places_on (map (client_after d past) ns)) (places_taken (queue d past n))
+    ∙ ap (λ (ps : List ℕ). map (λ (e : Entry). e.taken.place) (queue d past n) ++ ps) (places_after d past ns)
+
 All-of_map : {X : Type 0} (f : X → ℕ) (m : ℕ) (xs : List X) → All (λ k. k ≤ m) (map f xs) → All (λ x. f x ≤ m) xs
 All-of_map f m xs all i d in_i = omega (arith, all i 0 (omega (arith, in_i, length-map xs f)), get_or-map f xs i d 0 in_i)
 
@@ -36,6 +65,9 @@ least_of lent p stored same all = subst (λ (q : Present). All (λ c. length c.r
 
 pub most_of : (lent p : Present) (stored : ℕ) → lent ≡ p → stored ≤ sum_by (λ c. length c.ring.events) lent.handler.clients.list → stored ≤ sum_by (λ c. length c.ring.events) p.handler.clients.list
 most_of lent p stored same few = subst (λ (q : Present). stored ≤ sum_by (λ c. length c.ring.events) q.handler.clients.list) same few
+
+pub places_of_lent : (lent p : Present) (stored : ℕ) → lent ≡ p → length (places_of lent.handler.clients.list) ≤ stored → length (places_of p.handler.clients.list) ≤ stored
+places_of_lent lent p stored same few = subst (λ (q : Present). length (places_of q.handler.clients.list) ≤ stored) same few
 
 module _ (d : Description) (past : List Step) (h : Handler) (stands : HandlerStandsFor d past h) (stored : ℕ) where
   abbrev long : ℕ → ℕ
@@ -51,6 +83,12 @@ module _ (d : Description) (past : List Step) (h : Handler) (stands : HandlerSta
 
   pub stored_most : stored ≤ sum_by (λ c. length c.ring.events) h.clients.list → stored ≤ sum_by (λ n. length (queue d past n)) (open_clients past)
   stored_most few = omega (arith, few, sum-map (λ (c : ClientView Cell). length c.ring.events) h.clients.list, ap sum same_lengths, sum-map long (open_clients past))
+
+  pub stored_places : length (places_of h.clients.list) ≤ stored → length (queued_places d past) ≤ stored
+  stored_places few =
+      let same : places_in h.clients.list ≡ flat_map (λ n. map (λ (e : Entry). e.taken.place) (queue d past n)) (open_clients past) =
+      places_kept h.clients.list d ∙ ap places_on stands.clients ∙ places_after d past (open_clients past) in
+      omega (arith, few, ap (λ (ps : List ℕ). length (distinct ps)) same)
 
   pub stored_none : All (λ n. length (queue d past n) ≤ stored) (open_clients past) → stored ≤ sum_by (λ n. length (queue d past n)) (open_clients past) → (stored ≡ 0) ↔ All (λ n. queue d past n ≡ []) (open_clients past)
   stored_none least most = (

@@ -1,5 +1,5 @@
 -- What a device keeps stands for its past, and what a step leaves of it.
-use Rattle.std.specs.Prelude.{◌≡◌, ℕ, ◌*◌, ◌≤◌, ◌<◌, ◌⊎◌, ℤ, Bool, true, false, ◌&&◌, nat_lt, List, ◌∷◌, length, map, reverse, Option, Some, None, Result, Ok, Err}
+use Rattle.std.specs.Prelude.{◌≡◌, ℕ, ◌*◌, ◌≤◌, ◌<◌, ◌⊎◌, ℤ, Bool, true, false, ◌&&◌, nat_lt, List, ◌∷◌, length, map, flat_map, reverse, Option, Some, None, Result, Ok, Err}
 use Rattle.inp_model.specs.declared.event.TheConstants.{EV_KEY, EV_SW, EV_LED, EV_SND}
 use Rattle.inp_model.specs.declared.limits.TheConstants.{LOG_MAX}
 use Rattle.inp_model.specs.declared.clock.Clock.TheVariants.{Realtime}
@@ -20,7 +20,7 @@ use Rattle.inp_filter.specs.FilterState.{FiltersStandFor}
 use Rattle.inp_client.specs.Masks.{masks_with}
 use Rattle.inp_ring.specs.declared.cell.Cell.{Cell}
 use Rattle.inp_client.specs.Client.{ClientView}
-use Rattle.inp_client.specs.Clients.{has_client}
+use Rattle.inp_client.specs.Clients.{has_client, distinct}
 use Rattle.inp_client.specs.Read.{clients_on}
 use Rattle.inp_device.specs.declared.handler.Handler.{Handler}
 use Rattle.inp_device.specs.declared.present.Present.{Present}
@@ -38,6 +38,10 @@ client_after d past client = record {
 -- the open clients after a past
 abbrev pub clients_after : Description → List Step → List (ClientView Taken)
 clients_after d past = map (client_after d past) (open_clients past)
+
+-- the places in the history of all queued events, each once: events of different steps are kept apart
+abbrev pub queued_places : Description → List Step → List ℕ
+queued_places d past = distinct (flat_map (λ client. map (λ e. e.taken.place) (queue d past client)) (open_clients past))
 
 -- a bit that there is of a mask that there is
 abbrev pub is_mask_bit : ℕ → ℕ → Bool

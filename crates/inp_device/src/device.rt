@@ -11,6 +11,7 @@ ghost use Rattle.inp_model.specs.Queue.{queue};
 ghost use Rattle.inp_model.specs.Step.{moment_of};
 ghost use Rattle.inp_model.specs.Reply.{HasRoom, IsDeviceStep, is_accepted};
 ghost use Rattle.inp_model.specs.Evdev.{agains_after};
+ghost use Rattle.inp_device.specs.Present.{queued_places};
 
 use crate::present::Present;
 use crate::replies::{count_again, refuse};
@@ -215,14 +216,15 @@ impl Device {
 
     /// How many events are kept: each event of a frame that at least one queue holds, once, and each SYN_DROPPED.
     ///
-    /// It is 0 exactly where all queues are empty. It is at least the length of the longest queue, and at most that of all
-    /// queues together.
+    /// It is 0 exactly where all queues are empty. It is at least the length of the longest queue, and at least how many
+    /// steps the queued events came from. It is at most the length of all queues together.
     pub fn stored(&self) -> u32
         ensures none { (result ≡ 0)
             ↔ All (λ client. queue self.now.description self.now.past client ≡ [])
             (open_clients self.now.past) }
         ensures least { All (λ client. length (queue self.now.description self.now.past client) ≤ result)
             (open_clients self.now.past) }
+        ensures places { length (queued_places self.now.description self.now.past) ≤ result }
         ensures most { result
             ≤ sum_by (λ client. length (queue self.now.description self.now.past client))
             (open_clients self.now.past) }

@@ -1,5 +1,5 @@
 //! The values of all slots.
-ghost use Rattle.std.specs.Prelude.{◌≡◌, ◌<◌, ◌≤◌, ◌*◌, pos, true, length, take, IfOk};
+ghost use Rattle.std.specs.Prelude.{◌≡◌, ◌<◌, ◌≤◌, ◌*◌, pos, true, length, take, slice_get, nat_eq, Some, IfOk};
 ghost use Rattle.inp_model.specs.Description.{is_slot_code};
 ghost use Rattle.inp_recon.specs.Cells.{first_cells, slot_count, cell_index, cell_of, with_cell};
 
@@ -41,6 +41,28 @@ impl Cells {
             cells.extend_from_slice(&NO_CONTACT)?;
         }
         Ok(Cells { cells })
+    }
+
+    /// How many values there are: fourteen a slot.
+    pub fn len(&self) -> usize
+        ensures length { result ≡ length self.now }
+    {
+        self.cells.len()
+    }
+
+    /// Whether there is no slot.
+    pub fn is_empty(&self) -> bool
+        ensures empty { result ≡ nat_eq (length self.now) 0 }
+    {
+        self.cells.is_empty()
+    }
+
+    /// The value at an index below the length. [`value`](Cells::value) finds one by its slot and code.
+    pub fn get(&self, index: usize) -> &i32
+        requires within { index < length self.now }
+        ensures value { slice_get self.now index ≡ Some result.now }
+    {
+        &self.cells[index]
     }
 
     /// How many slots there are.
