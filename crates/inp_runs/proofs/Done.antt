@@ -21,6 +21,7 @@ use Rattle.inp_actors.specs.Record.{RecordView, IsRecord}
 use Rattle.inp_recon.specs.View.{IsSizedFor}
 use Rattle.inp_recon.proofs.FaithfulHistories.{faithful_by_reads}
 use Rattle.inp_recon.proofs.FaithfulReads.{reads-faithful}
+use Rattle.inp_losses.proofs.Causes.{all_taken-caused}
 use Rattle.inp_reader.specs.Talk.{Talk, EndsWith}
 use Rattle.inp_reader.proofs.Calls.{IsPlaceOf}
 use Rattle.inp_reader.proofs.LessEffort.{place-below}
@@ -224,6 +225,7 @@ is_run idle r i d history actors is_record described s =
           (is_joy_job r d wait history e.actor its.text is_record its.is_text its.followed (sym its.followed.is_role ∙ joy-role e.actor.role e.passes));
       accepted = past;
       faithful = λ client. faithful_by_reads reads-faithful (eaten d) d (reverse history) client described past;
+      losses = λ client. all_taken-caused d (reverse history) client;
       seen = λ k job text h is_text.
           let e : IsEndOf job_end is_other actors job = job-end_of actors k job h in
           let its : IsActorOf r i d wait history e.actor = actor_of idle r i d history actors e.index e.actor s e.is in

@@ -33,7 +33,7 @@ use Rattle.inp_script.specs.Sight as script
 use Rattle.inp_script.specs.Runs.{is_on_device, AreRunsOf, AreJoysOf, AreOwnersOf}
 use Rattle.inp_runs.specs.JobViews.{AreEventsOwn, AreReportsSeen, ShowsTheState, reads_as, index_in_history, sight_view}
 use Rattle.inp_runs.specs.Owner.{rooms_of, IsOwner}
-use Rattle.inp_runs.specs.Losses.{AreLossesCaused}
+use Rattle.inp_runs.specs.Losses.{AreLossesCaused, AreClientsLossesCaused}
 
 -- the action lines of an actor, in file order
 abbrev pub lines_by : ℕ → List Line → List Line
@@ -132,6 +132,8 @@ pub record IsRun (r : RecordView) (d : Description) (wait : Option Waiting) (run
   pub accepted : IsHistory d (reverse run.history)
   -- the history is faithful to each client
   pub faithful : (client : ℕ) → IsFaithful d (reverse run.history) client
+  -- each loss that a client took has its cause, a joystick's client too
+  pub losses : (client : ℕ) → AreClientsLossesCaused d (reverse run.history) client
   -- at each report that a job took, its view is the one that its client has in the history
   pub seen : (i : ℕ) (job : JobView) (text : ActorText) → slice_get run.jobs i ≡ Some job → slice_get r.actors job.actor ≡ Some text → AreReportsSeen d run.history text.role job.sight
   pub once : (place : ℕ) → entries_at place run.jobs + joy_entries_at place joy_jobs ≡ (if nat_lt place (length run.history) then 1 else 0)
