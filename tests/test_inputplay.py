@@ -1,0 +1,179 @@
+"""bin/inputplay and tools/install: the program by its name, built where it is not there; in a tree of its own."""
+
+import os
+import shutil
+import subprocess
+
+from desk_cases import PROGRAM, TOOLS, TOP, DeskCase
+from desk.building import needed_crates
+from desk.unproved import file_of
+
+# A toolchain that says what it was asked for, and builds programs that say their words.
+TOOLCHAIN = """#!/bin/sh
+echo "$(basename "$PWD"): $*" >> "$ASKED"
+case "$1" in
+run) mkdir -p out; printf '#!/bin/sh\\necho "played: $*"\\nexit 6\\n' > out/inp_main; chmod +x out/inp_main;;
+lib) test "$(basename "$PWD")" != "$FAILS" || { echo 'error: it is not proved'; exit 1; };;
+try) echo 'device d steps 0'; echo 'run=ended status=0 runners=1 proved=no' >&2;;
+esac
+"""
+CRATES = "# the crates\nlow:\nmiddle: low bitflags\naside: low\nother_tests: middle\ninp_main: middle aside\nhigh: inp_main\n"
+
+
+class TreeCase(DeskCase):
+    """A tree with the tools, and crates that are empty."""
+
+    def setUp(self):
+        super().setUp()
+        self.tree = self.folder / "tree"
+        for name in ("tools", "bin"):
+            shutil.copytree(TOP / name, self.tree / name, ignore=shutil.ignore_patterns("__pycache__"))
+        (self.tree / "docs").mkdir()
+        shutil.copy(TOP / "docs" / "inputplay.1", self.tree / "docs")
+        (self.tree / "crates.txt").write_text(CRATES)
+        for name in needed_crates(CRATES):
+            (self.tree / "crates" / name).mkdir(parents=True)
+        self.asked = self.folder / "asked"
+        commands = self.folder / "commands"
+        commands.mkdir()
+        (commands / "rt").write_text(TOOLCHAIN)
+        (commands / "rt").chmod(0o755)
+        self.path = f"{commands}:{os.environ['PATH']}"
+
+    def run_tree(self, *words, path=None, **more):
+        """Runs a command of the tree: its status, its output, and the lines that it says."""
+        env = {**os.environ, "PATH": path or self.path, "ASKED": str(self.asked), "FAILS": "", "PYTHONDONTWRITEBYTECODE": "1", **more}
+        env.pop("INPUTPLAY", None)
+        done = subprocess.run([self.tree / words[0], *words[1:]], env=env, cwd=self.folder, capture_output=True, text=True)
+        return done.returncode, done.stdout, done.stderr.splitlines()
+
+    def asked_for(self):
+        return self.asked.read_text().splitlines() if self.asked.exists() else []
+
+    def built(self, script="#!/bin/sh\necho \"played: $*\"\nexit 3\n"):
+        program = self.tree / "crates" / "inp_main" / "out" / "inp_main"
+        program.parent.mkdir()
+        program.write_text(script)
+        program.chmod(0o755)
+        return program
+
+
+class Inputplay(TreeCase):
+    def test_the_built_program(self):
+        self.built()
+        self.assertEqual((3, "played: --history a b\n", []), self.run_tree("bin/inputplay", "--history", "a b"))
+        self.assertEqual([], self.asked_for())
+        # by a link, and from anywhere
+        (self.folder / "link").symlink_to(self.tree / "bin" / "inputplay")
+        done = subprocess.run([self.folder / "link", "x"], cwd="/", capture_output=True, text=True)
+        self.assertEqual((3, "played: x\n", ""), (done.returncode, done.stdout, done.stderr))
+
+    def test_it_is_built_first(self):
+        status, written, lines = self.run_tree("bin/inputplay", "x.rec")
+        self.assertEqual((6, "played: x.rec\n", 1), (status, written, len(lines)), lines)
+        self.assertIn("inputplay: the program is not built: 4 crates are proved and built now, without tests", lines[0])
+        asked = self.asked_for()
+        self.assertEqual("low: lib", asked[0])
+        self.assertEqual({"middle: lib", "aside: lib"}, set(asked[1:3]))
+        self.assertEqual(["inp_main: run -- --make 1 --count 1"], asked[3:])
+        # and once
+        self.run_tree("bin/inputplay", "x.rec")
+        self.assertEqual(4, len(self.asked_for()))
+
+    def test_a_build_that_fails(self):
+        status, written, lines = self.run_tree("bin/inputplay", "x.rec", FAILS="middle")
+        self.assertEqual((2, ""), (status, written), lines)
+        self.assertIn("inputplay: middle was not built (rt ended with 1): error: it is not proved; all that was said is in ", lines[1])
+        log = lines[1].rsplit(" in ", 1)[1]
+        self.addCleanup(shutil.rmtree, os.path.dirname(log))
+        self.assertEqual("error: it is not proved\n", open(log, encoding="ascii").read())
+        self.assertNotIn("inp_main: run -- --make 1 --count 1", self.asked_for())
+
+    def test_no_toolchain(self):
+        commands = self.folder / "few"
+        commands.mkdir()
+        (commands / "python3").symlink_to(shutil.which("python3"))
+        (commands / "env").symlink_to(shutil.which("env"))
+        for words in (["x.rec"], ["--unproved", "x.rec"]):
+            (self.folder / "x.rec").write_text("")
+            status, written, lines = self.run_tree("bin/inputplay", *words, path=str(commands))
+            self.assertEqual((2, "", 1), (status, written, len(lines)), lines)
+            self.assertIn("there is no toolchain (rt)", lines[0])
+
+    def test_unproved(self):
+        (self.folder / "x.rec").write_text("inputrecord 1\n")
+        status, written, lines = self.run_tree("bin/inputplay", "--unproved", "--history", "x.rec")
+        self.assertEqual((0, "device d steps 0\n", []), (status, written, lines))
+        self.assertEqual([f"inp_main: try --data x.rec={self.folder}/x.rec -- --history ./x.rec"], self.asked_for())
+        self.run_tree("bin/inputplay", "--unproved", "--make", "7")
+        self.assertEqual("inp_main: try -- --make 7", self.asked_for()[-1])
+        status, _, lines = self.run_tree("bin/inputplay", "--unproved", "missing.rec")
+        self.assertEqual((2, ["inputplay: missing.rec: no such file"]), (status, lines))
+
+    def test_help(self):
+        status, written, _ = self.run_tree("bin/inputplay", "--help")
+        self.assertEqual(0, status)
+        self.assertIn("usage: bin/inputplay [--unproved]", written)
+
+    def test_needed_crates(self):
+        self.assertEqual({"low": [], "middle": ["low"], "aside": ["low"], "inp_main": ["middle", "aside"]}, needed_crates(CRATES))
+        crates = needed_crates((TOP / "crates.txt").read_text())
+        self.assertEqual("inp_main", list(crates)[-1])
+        self.assertFalse([name for name in crates if name.endswith("_tests") or name == "inp_turn_bench"])
+
+    def test_the_record_among_the_words(self):
+        self.assertEqual(("f", ["--history"]), file_of(["--history", "f"]))
+        self.assertEqual(("f", ["--threads", "--idle", "5"]), file_of(["--threads", "--idle", "5", "f"]))
+        self.assertEqual(("--f", []), file_of(["--", "--f"]))
+        self.assertEqual((None, ["--make", "7"]), file_of(["--make", "7"]))
+        self.assertEqual((None, ["a", "b"]), file_of(["a", "b"]))
+
+
+class Install(TreeCase):
+    def install(self, *words, **more):
+        return self.run_tree("tools/install", *words, **more)
+
+    def test_what_is_installed(self):
+        self.built()
+        prefix = self.folder / "prefix"
+        status, written, lines = self.install(prefix)
+        self.assertEqual((0, []), (status, lines))
+        listed = set(written.splitlines())
+        self.assertEqual({str(path) for path in prefix.rglob("*") if path.is_file()}, listed)
+        tools = {path.name for path in TOOLS.iterdir() if path.is_file()} - {"install"}
+        programs = {path.name for path in (prefix / "bin").iterdir()}
+        self.assertEqual({"inputplay"} | {f"inputplay-{tool}" for tool in tools}, programs)
+        self.assertEqual((TOP / "docs" / "inputplay.1").read_bytes(), (prefix / "share" / "man" / "man1" / "inputplay.1").read_bytes())
+        self.assertFalse([path for path in prefix.rglob("*") if path.name.endswith(".new") or path.suffix == ".pyc"])
+        # again, over it
+        self.assertEqual((0, written, []), self.install(prefix))
+
+    def test_what_is_installed_runs(self):
+        self.install("here", "--program", PROGRAM)
+        moved = self.folder / "moved"
+        (self.folder / "here").rename(moved)
+        record = self.file("x.rec", "inputrecord 1\n#= status 0\ndevice d\n")
+        env = {key: value for key, value in os.environ.items() if key != "INPUTPLAY"}
+        for words, wanted in ((["inputplay", record], "device d steps 0\n"), (["inputplay-play", record], "device d steps 0\n"),
+                              (["inputplay-check", record], "1 of 1 expectation held, in 1 record\n")):
+            with self.subTest(words[0]):
+                done = subprocess.run([moved / "bin" / words[0], *words[1:]], env=env, cwd="/", capture_output=True, text=True)
+                self.assertEqual((0, wanted), (done.returncode, done.stdout), done.stderr)
+
+    def test_it_is_built_first(self):
+        status, written, lines = self.install("prefix")
+        self.assertEqual((0, 1), (status, len(lines)), lines)
+        self.assertIn("install: the program is not built", lines[0])
+        self.assertIn("inp_main: run -- --make 1 --count 1", self.asked_for())
+
+    def test_wrong_input(self):
+        for words, because in (([], "required: PREFIX"), ([""], "PREFIX is empty"), (["p", "--program", "no"], "no is no program")):
+            with self.subTest(words):
+                status, written, lines = self.install(*words)
+                self.assertEqual((2, "", 1), (status, written, len(lines)), lines)
+                self.assertIn(because, lines[0])
+        self.built()
+        (self.folder / "file").write_text("")
+        status, written, lines = self.install("file")
+        self.assertEqual((2, "", 1), (status, written, len(lines)), lines)
+        self.assertIn("Not a directory", lines[0])

@@ -1,0 +1,50 @@
+"""Plays by the toolchain, without proof: what bin/inputplay --unproved does."""
+
+import os
+import shutil
+import sys
+
+from desk.command import Wrong
+from desk.program import SOURCE, Player, folder_of
+
+WITH_VALUE = ("--idle", "--make", "--count")
+
+
+def file_of(words):
+    """The record among the program's words, or None; and the other words."""
+    rest, files, is_behind, waits = [], [], False, False
+    for word in words:
+        if is_behind or (not word.startswith("--") and not waits):
+            files.append(word)
+        elif word == "--" and not waits:
+            is_behind = True
+        else:
+            rest.append(word)
+            waits = not waits and word in WITH_VALUE
+    return (files[0] if len(files) == 1 else None), (rest if len(files) == 1 else list(words))
+
+
+class Toolchain(Player):
+    """The toolchain as the player, also where the program is built."""
+
+    def __init__(self):
+        if shutil.which("rt") is None:
+            raise Wrong("there is no toolchain (rt) on the path")
+        self.by_toolchain, self.name = True, "rt try"
+
+    def command(self, path, folder, flags):
+        return super().command(path, folder, flags) if path else (["rt", "try", "--", *flags], SOURCE)
+
+
+def play(words):
+    """Plays by the toolchain; the status."""
+    path, flags = file_of(words)
+    if path is not None and not os.path.isfile(path):
+        raise Wrong(f"{path}: no such file")
+    player = Toolchain()
+    process = player.start(path or "", folder_of(path or "record"), flags)
+    written, _ = process.communicate()
+    status = player.status(process)
+    sys.stdout.buffer.write(written)
+    sys.stdout.flush()
+    return status
