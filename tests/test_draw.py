@@ -1,10 +1,12 @@
 """tools/draw: what its page and its picture have, that they stand alone, and that they stay small."""
 
+import os
 import re
+import subprocess
 import xml.etree.ElementTree as ElementTree
 from html.parser import HTMLParser
 
-from desk_cases import TOP, DeskCase
+from desk_cases import PROGRAM, TOP, DeskCase
 
 from desk.paper import COLOURS, RULES, UPON
 
@@ -12,6 +14,7 @@ EXAMPLES = TOP / "examples"
 RECORDS = TOP / "tests" / "records"
 SVG = "{http://www.w3.org/2000/svg}"
 VOID = ("meta", "input")
+ENV = {**os.environ, "INPUTPLAY": PROGRAM}
 
 
 class Balanced(HTMLParser):
@@ -409,6 +412,16 @@ def luminance(colour):
 def contrast(one, other):
     lower, higher = sorted((luminance(one), luminance(other)))
     return (higher + 0.05) / (lower + 0.05)
+
+
+class Input(DrawCase):
+    def test_standard_input(self):
+        command = [TOP / "tools" / "draw", "-"]
+        with open(EXAMPLES / "stuck_key.rec") as file:
+            done = subprocess.run(command, stdin=file, capture_output=True, text=True, env=ENV)
+        self.assertEqual((0, ""), (done.returncode, done.stderr))
+        self.assertIn("<h1>standard input</h1>", done.stdout)
+        self.assertEqual(self.page(EXAMPLES / "stuck_key.rec").split("</h1>")[1], done.stdout.split("</h1>")[1])
 
 
 class Refusals(DrawCase):
