@@ -616,6 +616,10 @@ class Owners(StuckCase):
         self.assertIn("lost, since 15 wait at most: 2 events: LED_CAPSL 1 of place 1, SND_BELL 2 of place 2\n", said)
         self.assertIn("LED_CAPSL: off for it, on on the device\n    since place 1: lost before it asked", said)
 
+    def test_that_may_not_ask_any_more(self):
+        said = without_times(self.written("stuck", RECORDS / "owner_of_a_full_list.rec"))
+        self.assertIn("since place 1: it waits: no more of the owner's calls are kept\n", said)
+
     def test_records(self):
         for record in sorted([*RECORDS.glob("*owner*.rec"), EXAMPLES / "feedback.rec"]):
             with self.subTest(record.name):
@@ -695,6 +699,12 @@ device kbd steps """
                 objects = [json.loads(line) for line in self.written("stuck", "--json", record).splitlines()]
                 readers = [each for each in objects if each["kind"] == "reader"]
                 self.assertEqual(len(readers), sum(each["kind"] == "end" for each in objects))
+
+    def test_who_never_opened_the_device_does_not_end_apart(self):
+        record = self.file("never.rec", KEYBOARD + "tap t\n" + frame(1, press("KEY_A")))
+        said = self.written("stuck", "--fail", "--summary", record)
+        self.assertTrue(said.startswith("summary: 0 of 0 readers"), said)
+        self.assertNotIn('"end"', self.written("stuck", "--json", record))
 
     def run_tool(self, command, **more):
         env = {**os.environ, "INPUTPLAY": PROGRAM}

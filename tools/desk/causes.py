@@ -88,7 +88,8 @@ class Causes:
     def of_description(self, place):
         client = int(self.state.history[place][1])
         who = self.openers.get(client, client)
-        return Cause("described", f"{who} described the axis anew at {self.at.text(place)}, which no event tells")
+        where = self.at.text(place)
+        return Cause("described", f"{who} described the axis anew at {where}, which no event tells")
 
     def description_behind(self, thing, frame):
         """The place of the description that gave the axis its value at the end of a frame which has no event
@@ -117,7 +118,8 @@ class Causes:
         kind, code = event_of_thing(thing)
         taken_for = walk.slot_of_taken.get((place, code))
         if thing[0] == "slot" and taken_for not in (None, thing[1]):
-            return Cause("slot", f"it took the value for slot {taken_for}, since that is the current one for it")
+            text = f"it took the value for slot {taken_for}, since that is the current one for it"
+            return Cause("slot", text)
         before = [client for opened, client in walk.clients if opened < place]
         if not before:
             return self.of_no_client(walk)
@@ -149,7 +151,8 @@ class Causes:
         number = self.state.eater_of(thing, frame)
         if number is None:
             return None
-        return Cause("filter", f"eaten by filter {number} ({self.state.description.filters[number - 1].text})")
+        text = self.state.description.filters[number - 1].text
+        return Cause("filter", f"eaten by filter {number} ({text})")
 
     def of_mask(self, client, place, kind, code):
         """Which of its masks left the event out, or None."""

@@ -29,7 +29,8 @@ def say(program, text):
     line = " ".join(text.split())
     if sys.stderr is not None:
         try:
-            print(f"{program}: {line.encode('ascii', 'backslashreplace').decode()}", file=sys.stderr, flush=True)
+            plain = line.encode("ascii", "backslashreplace").decode()
+            print(f"{program}: {plain}", file=sys.stderr, flush=True)
         except OSError:
             pass
 

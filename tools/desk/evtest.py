@@ -23,8 +23,8 @@ RECOGNISED = re.compile(
     r"^(.*Input driver version is|Input device name: |Supported events:|.*Event: time \d)", re.MULTILINE
 )
 GRABBED = "This device is grabbed by another process"
-WHY_GRABBED = ("evtest says that another process has grabbed the device, and it is shown no events meanwhile: stop that "
-               "process, and capture again")
+WHY_GRABBED = ("evtest says that another process has grabbed the device, and it is shown no events meanwhile: "
+               "stop that process, and capture again")
 END_OF_LISTING = re.compile(r"\s*(Testing|Properties:)")
 
 

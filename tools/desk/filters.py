@@ -91,10 +91,11 @@ def filters_of(lines):
 
 
 def eater(filters, event, now):
-    """The number of the filter that eats an event, from 1, or None. Each is given what the one before left."""
+    """The number of the filter that eats an event, from 1, or None. Each is given what those before left."""
     if event[0] == "EV_SYN":
         return None
-    return next((number for number, each in enumerate(filters, 1) if each.eats(event, now)), None)
+    eaters = (number for number, each in enumerate(filters, 1) if each.eats(event, now))
+    return next(eaters, None)
 
 
 def filter_frames(frames, filters, is_grabbed):

@@ -1,10 +1,10 @@
-"""What a device itself holds at its end: keys that are down, and slots with a contact, with no release behind."""
+"""What a device itself holds at its end: keys that are down and slots with a contact, with no release."""
 
 from desk.belief import TRACKING_ID, thing_text
 
 
 class Held:
-    """A key or a slot that is held: the thing, its value, and the place at which it was pressed or touched."""
+    """A key or a slot that is held: the thing, its value, and the place at which that began."""
 
     def __init__(self, thing, value, since):
         self.thing, self.value, self.since = thing, value, since

@@ -1,5 +1,5 @@
-"""A joystick's picture against its device: which buttons and axes it has, what its records tell, and where both
-part.
+"""A joystick's picture against its device: which buttons and axes it has, what its records tell, and where
+both part.
 
 The rules are in docs/RULES.md, "Joystick clients". A joystick's records have no place, so its picture is
 compared where it found nothing more to read, and at the end.

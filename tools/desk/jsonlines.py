@@ -35,7 +35,8 @@ class ReportLines:
         if words[0] == "step":
             return self.of("step", place=int(words[1]), step=words[2:])
         if words[0] == "source":
-            return self.of("source", role="source", name=words[1], calls=int(words[3]), stop=" ".join(words[5:]))
+            told = {"calls": int(words[3]), "stop": " ".join(words[5:])}
+            return self.of("source", role="source", name=words[1], **told)
         if words[0] in ("client", "tap", "joy", "owner"):
             self.device = None if words[0] in ("joy", "owner") else self.device
             self.place = {"role": words[0], "name": words[1]}
@@ -143,11 +144,12 @@ def stuck_lines(devices):
         lines.append(line_of("device", device=device.name, steps=device.report.steps))
         for reader in device.readers():
             lines.append(reader_line(device, reader))
-            lines += [parting_line(device, reader, parting) for parting in reader.partings]
-            lines.append(end_line(device, reader))
+            if reader.role == "owner" or reader.walk.clients:
+                lines += [parting_line(device, reader, parting) for parting in reader.partings]
+                lines.append(end_line(device, reader))
         for held in held_of(device.state):
-            since = moment_fields(device.state.at, held.since)
-            lines.append(line_of("held", device=device.name, **thing_fields(held.thing), value=held.value, since=since))
+            more = {"value": held.value, "since": moment_fields(device.state.at, held.since)}
+            lines.append(line_of("held", device=device.name, **thing_fields(held.thing), **more))
         views = [{"what": words[0], "words": words[1:]} for words in device.state.view]
         lines += [line_of("state", device=device.name, **view) for view in views]
     return lines

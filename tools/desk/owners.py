@@ -63,7 +63,7 @@ class Owner:
         for thing, (place, value) in sorted(last.items()):
             believed = told.get(thing, FIRST_SETTINGS.get(thing[1], 0))
             if thing[0] in LASTING and believed != value:
-                cause = LOST if place in lost else WAITS
+                cause = LOST if place in lost else FULL if self.part.stop.startswith("full") else WAITS
                 partings.append(Parting(thing, believed, value, place, cause))
                 partings[-1].points.append(point)
         return partings
@@ -71,3 +71,4 @@ class Owner:
 
 LOST = Cause("owner-lost", f"lost before it asked: {MOST_WAITING} events wait for an owner at most")
 WAITS = Cause("owner-waits", "it waits: the owner has not asked since")
+FULL = Cause("owner-waits", "it waits: no more of the owner's calls are kept")

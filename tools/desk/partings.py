@@ -154,7 +154,11 @@ class Walk:
 
     def differing_at_end(self):
         things = set(self.belief.values) | set(self.state.end)
-        return {thing for thing in things if self.belief.value(thing) != self.seen(thing, self.state.end_value(thing))}
+        return {thing for thing in things if self.belief.value(thing) != self.end_seen(thing)}
+
+    def end_seen(self, thing):
+        """As what the client is told the device's value at the end."""
+        return self.seen(thing, self.state.end_value(thing))
 
     # What the client saw
 

@@ -12,6 +12,7 @@ from desk.recording import Event, Recording
 
 FORMS = {24: struct.Struct("<QQHHi"), 16: struct.Struct("<IIHHi")}
 LATEST = 2**40  # seconds
+LATEST_MOMENT = 9000000000000000
 
 
 def is_raw(data):
@@ -58,14 +59,27 @@ def parse(data, size=None):
     raise Wrong(what_is_wrong(data, sizes))
 
 
+def stream_fault(data, size):
+    """Why these bytes are no stream of a record, or None: any type and code may stand in one."""
+    rest = len(data) % size
+    for number, (seconds, micros, *_) in enumerate(FORMS[size].iter_unpack(data[: len(data) - rest]), 1):
+        if micros >= 1000000 or seconds * 1000000 + micros > LATEST_MOMENT:
+            why = f"its microseconds are {micros}" if micros >= 1000000 else f"its time is {seconds} s"
+            return f"its record {number}, of {size} bytes from byte {(number - 1) * size} on, is no event: {why}"
+    if rest:
+        return f"it has {counted(len(data) // size, 'record')} of {size} bytes and {counted(rest, 'byte')} more"
+    return None
+
+
 def what_is_wrong(data, sizes):
     """Why these bytes are no capture, by the size for which the most of them are."""
     found = {size: first_bad(data, size) for size in sizes}
     for size in sizes:
         rest = len(data) % size
         if rest and found[size] is None:
-            return (f"a raw capture of {len(data)} bytes, which are {counted(len(data) // size, 'record')} of {size} "
-                    f"bytes and {counted(rest, 'byte')} more: it was cut off")
+            records = counted(len(data) // size, "record")
+            return (f"a raw capture of {len(data)} bytes, which are {records} of {size} bytes and "
+                    f"{counted(rest, 'byte')} more: it was cut off")
     size = max(sizes, key=lambda each: (found[each][0] - 1) * each)
     number, why = found[size]
     if number == 1:

@@ -1,5 +1,5 @@
-"""The count that `tools/stuck --summary` writes first: who ends apart from its device, and the partings by their
-causes and keys."""
+"""The count that `tools/stuck --summary` writes first: who ends apart from its device, and the partings by
+their causes and keys."""
 
 from collections import Counter
 
@@ -15,7 +15,7 @@ CAUSES = {
     "not-read": "not read yet",
     "closed": "it closed the device",
     "revoked": "it was revoked",
-    "never-opened": "it never opened the device",
+    "never-opened": "it had not opened the device",
     "opened-later": "it opened the device later, and did not ask",
     "opened-anew": "it opened the device anew, and left its events unread",
     "not-asked": "it did not ask at its start",
@@ -31,22 +31,34 @@ CAUSES = {
 }
 
 
+def readers_of(devices):
+    """All who may part from their device: who never opened it has nothing to part from."""
+    readers = (reader for device in devices for reader in device.readers())
+    return [reader for reader in readers if reader.role == "owner" or reader.walk.clients]
+
+
 def ends_apart(devices):
     """The readers that end apart from their device."""
-    return [reader for device in devices for reader in device.readers() if reader.at_end]
+    return [reader for reader in readers_of(devices) if reader.at_end]
 
 
 def things_text(counts):
-    return ", ".join(f"{name} {count}" for name, count in sorted(counts.items(), key=lambda each: (-each[1], each[0])))
+    return ", ".join(f"{name} {count}" for name, count in ordered(counts))
+
+
+def ordered(counts):
+    """What was counted, the most first."""
+    return sorted(counts.items(), key=lambda each: (-each[1], each[0]))
 
 
 def summary_lines(devices):
     """The lines of the count."""
-    readers = [reader for device in devices for reader in device.readers()]
+    readers = readers_of(devices)
     partings = [parting for reader in readers for parting in reader.partings]
-    lines = [f"summary: {len(ends_apart(devices))} of {counted(len(readers), 'reader')} apart from the device at the end"]
+    apart = f"{len(ends_apart(devices))} of {counted(len(readers), 'reader')}"
+    lines = [f"summary: {apart} apart from the device at the end"]
     causes = Counter(parting.cause.kind for parting in partings)
-    for kind, count in sorted(causes.items(), key=lambda each: (-each[1], each[0])):
+    for kind, count in ordered(causes):
         things = Counter(thing_text(parting.thing) for parting in partings if parting.cause.kind == kind)
         lines.append(f"  {CAUSES[kind]}: {counted(count, 'parting')}: {things_text(things)}")
     for reader in ends_apart(devices):

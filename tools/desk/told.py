@@ -3,6 +3,7 @@
 from itertools import groupby
 
 from desk.belief import thing_text
+from desk.command import counted
 from desk.held import held_of
 
 MOST_SHOWN = 4
@@ -30,10 +31,14 @@ def met_text(partings, at):
     places = sorted({parting.met[1] for parting in partings}, key=lambda place: -1 if place is None else place)
     if places == [None]:
         return "the device came back to it"
-    where = at.text(places[0]) if len(places) == 1 else f"places {at.bare(places[0])} to {at.bare(places[-1])}"
+    where = at.text(places[0])
+    if len(places) > 1:
+        where = f"places {at.bare(places[0])} to {at.bare(places[-1])}"
     if how == "asked":
         return f"it asked at {where}"
-    return f"it took the event of {where}" if how == "event" else f"the device came back to it at {where}"
+    if how == "event":
+        return f"it took the event of {where}"
+    return f"the device came back to it at {where}"
 
 
 def group_of(parting):
@@ -60,7 +65,8 @@ def parting_lines(client, partings, at):
     for parting in partings:
         believed, present = parting.value_texts()
         lines.append(f"  {name_of(client, parting.thing)}: {believed} for it, {present} on the device")
-    lines += [f"    {since_text(first.since, at)}: {first.cause}", f"    seen at: {points_text(first.points, at)}"]
+    lines.append(f"    {since_text(first.since, at)}: {first.cause}")
+    lines.append(f"    seen at: {points_text(first.points, at)}")
     return lines + ([f"    until {met_text(partings, at)}"] if first.met[0] else [])
 
 
@@ -73,8 +79,9 @@ def all_parting_lines(client, at):
 
 def loss_lines(client, at):
     """The losses that a client read, which part no belief where it asked at once."""
-    if client.walk.losses:
-        return ["  it lost events: " + at.several("SYN_DROPPED of place", "SYN_DROPPED of places", client.walk.losses)]
+    losses = client.walk.losses
+    if losses:
+        return ["  it lost events: " + at.several("SYN_DROPPED of place", "SYN_DROPPED of places", losses)]
     if client.role == "joy" and client.walk.synchronised:
         return ["  it synchronised anew: " + at.several("at place", "at places", client.walk.synchronised)]
     return []
@@ -85,7 +92,8 @@ def end_text(client):
     things = [parting.thing for parting in client.at_end]
     if not things:
         return "as the device"
-    return "not as the device in " + (name_of(client, things[0]) if len(things) == 1 else f"{len(things)} things")
+    what = name_of(client, things[0]) if len(things) == 1 else f"{len(things)} things"
+    return f"not as the device in {what}"
 
 
 def client_lines(client, at):
@@ -93,14 +101,11 @@ def client_lines(client, at):
     lines = [f"{client.role} {client.name}"]
     if not client.walk.clients:
         return lines + ["  it never opened the device"]
-    return lines + loss_lines(client, at) + all_parting_lines(client, at) + [f"  at the end: {end_text(client)}"]
+    lines += loss_lines(client, at) + all_parting_lines(client, at)
+    return lines + [f"  at the end: {end_text(client)}"]
 
 
 # Owners
-
-
-def count_text(count, one):
-    return f"1 {one}" if count == 1 else f"{count} {one}s"
 
 
 def sent_text(sent, at):
@@ -114,13 +119,14 @@ def sent_text(sent, at):
 def owner_lines(owner, at):
     """What an owner was told of what was sent to its device."""
     told = owner.told()
-    calls = count_text(len(owner.calls), "call")
-    lines = [f"owner {owner.name}", f"  it was told {count_text(len(told), 'event')} by {calls}"]
+    calls = counted(len(owner.calls), "call")
+    lines = [f"owner {owner.name}", f"  it was told {counted(len(told), 'event')} by {calls}"]
     lines[-1] += f": {sent_text(told, at)}" if told else ""
     if owner.lost:
-        lines.append(f"  lost, since 15 wait at most: {count_text(len(owner.lost), 'event')}: {sent_text(owner.lost, at)}")
+        lost = counted(len(owner.lost), "event")
+        lines.append(f"  lost, since 15 wait at most: {lost}: {sent_text(owner.lost, at)}")
     if owner.waiting:
-        waiting = count_text(len(owner.waiting), "event")
+        waiting = counted(len(owner.waiting), "event")
         lines.append(f"  not taken at the end: {waiting}: {sent_text(owner.waiting, at)}")
     return lines + all_parting_lines(owner, at) + [f"  at the end: {end_text(owner)}"]
 
