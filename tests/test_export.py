@@ -120,6 +120,12 @@ class Raw(DeskCase):
                               env={**os.environ, "INPUTPLAY": PROGRAM}, capture_output=True, check=False)
         self.assertEqual((0, 48), (done.returncode, len(done.stdout)), done.stderr)
 
+    def test_a_full_stdout(self):
+        with open("/dev/full", "w") as full:
+            done = subprocess.run([TOOLS / "export", EXAMPLES / "one_key.rec", "--raw", "t"], stdout=full,
+                                  env={**os.environ, "INPUTPLAY": PROGRAM}, stderr=subprocess.PIPE, text=True, check=False)
+        self.assertEqual((4, "export: standard output: No space left on device\n"), (done.returncode, done.stderr))
+
     def test_wrong_words(self):
         record = EXAMPLES / "stuck_key.rec"
         self.refused("export", record, because="one of the arguments --evemu --raw is required")

@@ -6,6 +6,7 @@ import os
 import shutil
 import signal
 import stat
+import struct
 import subprocess
 import time
 
@@ -110,6 +111,23 @@ class Refused(PlayCase):
         status, text, lines = self.play_tool(self.file("letter.rec", "dear all\n"))
         self.assertEqual((1, "", "inputplay: line 1: bad-header"), (status, text, lines[1]))
         self.assertTrue(lines[2].endswith("letter.rec:1: dear all"), lines[2])
+
+    def test_a_stream_that_is_none(self):
+        """What is wrong with its file is told, by the number of the record."""
+        keyboard = (TOP / "tests" / "data" / "keyboard.bin").read_bytes()
+        record = self.file("s.rec", "inputrecord 1\ndevice d\ncap EV_KEY KEY_A\nsource s\ndo s stream keys.bin\n")
+        bad = struct.pack("<QQHHi", 5, 1000000, 1, 30, 1)
+        late = struct.pack("<QQHHi", 9000000001, 0, 1, 30, 1)
+        for data, said in (
+            (keyboard[:24] + bad, "its record 2, of 24 bytes from byte 24 on, is no event: its microseconds are 1000000"),
+            (late, "its record 1, of 24 bytes from byte 0 on, is no event: its time is 9000000001 s"),
+            (keyboard[:25], "it has 1 record of 24 bytes and 1 byte more"),
+        ):
+            with self.subTest(said):
+                self.file("keys.bin", data)
+                status, _, lines = self.play_tool(record)
+                self.assertEqual((1, f"  of keys.bin: {said}"), (status, lines[-1]))
+                self.refused("stuck", record, because=f"of keys.bin: {said}")
 
     def test_bytes_that_are_no_text(self):
         status, text, lines = self.play_tool(self.file("raw.rec", bytes(range(128, 256))))

@@ -82,7 +82,7 @@ def outcomes_of(path, player):
     expectations = list(played.expectations)
     if all(each.kind != "status" for each in expectations):
         if played.status not in PLAYED:
-            raise Wrong(refusal_text(played.text, played.written, played.status))
+            raise Wrong(refusal_text(played.text, played.written, played.status, played.folder))
         if played.status:
             expectations.insert(0, EndsWell)
     return [outcome_of(played, each) for each in expectations]
@@ -92,7 +92,7 @@ def outcome_of(played, expectation):
     if expectation.kind == "status":
         return of_status(played, expectation)
     if played.report is None:
-        refusal = refusal_text(played.text, played.written, played.status)
+        refusal = refusal_text(played.text, played.written, played.status, played.folder)
         return Outcome(expectation, came=f"the record was not played: {refusal}")
     if expectation.kind == "report":
         return of_report(played, expectation)
@@ -118,7 +118,7 @@ def of_status(played, expectation):
         return Outcome(expectation)
     came = f"status {played.status} came"
     if played.status not in PLAYED:
-        return Outcome(expectation, came=f"{came}: {refusal_text(played.text, played.written, played.status)}")
+        return Outcome(expectation, came=f"{came}: {refusal_text(played.text, played.written, played.status, played.folder)}")
     return Outcome(expectation, came=came + full_text(played.report))
 
 

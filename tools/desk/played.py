@@ -126,7 +126,7 @@ def play(path, player):
     text = read_text(path)
     status, written = player.play(path, folder, ["--history"])
     if status not in PLAYED:
-        raise Wrong(f"{name}: {refusal_text(text, written, status)}")
+        raise Wrong(f"{name}: {refusal_text(text, written, status, folder)}")
     progress.tell(f"{name}: its report of {len(written)} bytes is read")
     record, report = Record(text), read_report(written)
     add_parts_behind(report, parts_behind(written), record)

@@ -12,6 +12,7 @@ from desk.recording import Event, Recording
 
 FORMS = {24: struct.Struct("<QQHHi"), 16: struct.Struct("<IIHHi")}
 LATEST = 2**40  # seconds
+LATEST_MOMENT = 9000000000000000
 
 
 def is_raw(data):
@@ -56,6 +57,18 @@ def parse(data, size=None):
             records = FORMS[each].iter_unpack(data)
             return [Recording(events=[Event(s * 1000000 + micros, *event) for s, micros, *event in records])]
     raise Wrong(what_is_wrong(data, sizes))
+
+
+def stream_fault(data, size):
+    """Why these bytes are no stream of a record, or None: any type and code may stand in one."""
+    rest = len(data) % size
+    for number, (seconds, micros, *_) in enumerate(FORMS[size].iter_unpack(data[: len(data) - rest]), 1):
+        if micros >= 1000000 or seconds * 1000000 + micros > LATEST_MOMENT:
+            why = f"its microseconds are {micros}" if micros >= 1000000 else f"its time is {seconds} s"
+            return f"its record {number}, of {size} bytes from byte {(number - 1) * size} on, is no event: {why}"
+    if rest:
+        return f"it has {counted(len(data) // size, 'record')} of {size} bytes and {counted(rest, 'byte')} more"
+    return None
 
 
 def what_is_wrong(data, sizes):

@@ -1,8 +1,11 @@
 """What is usually wrong with a line that the program refuses, for each cause of docs/FORMATS.md."""
 
+import os
 import re
 
 from desk.kinds import said_of
+from desk.raw import stream_fault
+from desk.recordfile import RECORD_SIZES
 
 REFUSAL = re.compile(r"inputplay: line (\d+): ([a-z-]+)$")
 
@@ -80,7 +83,21 @@ def other_kind(text, cause):
     return said_of(text.encode("latin-1")) if is_other else None
 
 
-def refusal_text(text, written, status):
+def hint_of(text, refused, folder):
+    """What is usually wrong with a line that was refused; of a stream what is wrong with its file."""
+    number, cause = refused
+    words = text.split("\n")[number - 1].split()
+    if cause == "bad-stream" and len(words) == 4 and words[2] in RECORD_SIZES:
+        try:
+            with open(os.path.join(folder, words[3]), "rb") as file:
+                fault = stream_fault(file.read(), RECORD_SIZES[words[2]])
+        except OSError:
+            fault = None
+        return f"of {words[3]}: {fault}" if fault else SLIPS[cause]
+    return SLIPS.get(cause, "no hint")
+
+
+def refusal_text(text, written, status, folder):
     """One line on why a record was not played."""
     refused = refused_line(written)
     if refused is None:
@@ -89,4 +106,5 @@ def refusal_text(text, written, status):
     other = other_kind(text, cause)
     if other:
         return other
-    return f"line {number}: {cause}: {line_text(text, number).strip()!r}: {SLIPS.get(cause, 'no hint')}"
+    shown = line_text(text, number).strip()
+    return f"line {number}: {cause}: {shown!r}: {hint_of(text, refused, folder)}"

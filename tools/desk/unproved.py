@@ -2,9 +2,9 @@
 
 import os
 import shutil
-import sys
 
 from desk.command import Wrong
+from desk.output import write_bytes
 from desk.program import SOURCE, Player, folder_of
 
 WITH_VALUE = ("--idle", "--make", "--count")
@@ -45,6 +45,4 @@ def play(words):
     process = player.start(path or "", folder_of(path or "record"), flags)
     written, _ = process.communicate()
     status = player.status(process)
-    sys.stdout.buffer.write(written)
-    sys.stdout.flush()
-    return status
+    return write_bytes("inputplay", written) or status
