@@ -30,7 +30,7 @@ use Rattle.inp_client.specs.Kept.{kept_view, AreKept}
 use Rattle.inp_client.proofs.Locating.{client_at_found, located_after_write, members_after_write, members_long, member_in_location, member_number, members_apart}
 use Rattle.inp_client.proofs.Sharing.{member_held, member_timed, member_ring, spare_some, others_stay, stored_after_write, cells_after_write, client_named-cells_in}
 use Rattle.inp_client.proofs.OnClock.{client_named-on}
-use Rattle.inp_client.proofs.RingsLeft.{rings_of, numbers_of-rings, fewer_set, stored_set}
+use Rattle.inp_client.proofs.RingsLeft.{rings_of, held_numbers-rings, fewer_set, stored_set}
 
 -- a client is open whatever its cells are
 pub has_client-cells_in : (s : StoreView) (ms : List Member) (number : ℕ) → has_client number (cells_in s ms) ≡ has_client number ms
@@ -188,8 +188,8 @@ module _ (k : Inside) (kept : AreKept k) (number key : ℕ) (location : Contains
     stored_after_call (inr one) =
         omega (
           arith,
-          ap (λ (q : List ℕ). length (distinct q)) (numbers_of-rings (clients_in k.locations.items (with_value k.slab key new))),
+          ap (λ (q : List ℕ). length (distinct q)) (held_numbers-rings (clients_in k.locations.items (with_value k.slab key new))),
           ap (λ (ms : List Member). length (distinct (numbers_in ms))) members_next,
           stored_set members location.0 new (new_client 0 0) in_members one,
-          ap (λ (q : List ℕ). length (distinct q)) (numbers_of-rings members),
+          ap (λ (q : List ℕ). length (distinct q)) (held_numbers-rings members),
         )

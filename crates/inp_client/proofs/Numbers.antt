@@ -12,7 +12,7 @@ use Rattle.inp_ring.proofs.Times.{times-append}
 use Rattle.inp_client.specs.Masks.{MaskView, admits_of, full_masks}
 use Rattle.inp_client.specs.Client.{ClientView, new_client}
 use Rattle.inp_client.specs.Clients.{ClientsView, distinct}
-use Rattle.inp_client.specs.Numbers.{numbers_of, stored_of, loses, admitted_numbers, IsPutBehind, IsStoredOnce}
+use Rattle.inp_client.specs.Numbers.{held_numbers, stored_of, loses, admitted_numbers, IsPutBehind, IsStoredOnce}
 use Rattle.inp_client.proofs.Counting.{distinct_few, distinct_there}
 use Rattle.inp_client.proofs.MaskBits.{admits_of-full_masks}
 
@@ -143,19 +143,19 @@ stored_few {frame} {now} {place} {holder} old new a b is =
     let losses = losses_of frame now place holder is.given old.list old.rings new.rings a b is.each in
     omega (
       arith,
-      distinct_few (numbers_of new) (distinct (numbers_of old) ++ (is.given ++ losses.losses)) (λ n there. in_all n there),
-      length-append (distinct (numbers_of old)) (is.given ++ losses.losses),
+      distinct_few (held_numbers new) (distinct (held_numbers old) ++ (is.given ++ losses.losses)) (λ n there. in_all n there),
+      length-append (distinct (held_numbers old)) (is.given ++ losses.losses),
       length-append is.given losses.losses,
       is.long,
       losses.long,
     )
   where
-    in_all : (n : ℕ) → 1 ≤ times n (numbers_of new) → 1 ≤ times n (distinct (numbers_of old) ++ (is.given ++ (losses_of frame now place holder is.given old.list old.rings new.rings a b is.each).losses))
+    in_all : (n : ℕ) → 1 ≤ times n (held_numbers new) → 1 ≤ times n (distinct (held_numbers old) ++ (is.given ++ (losses_of frame now place holder is.given old.list old.rings new.rings a b is.each).losses))
     in_all n there =
         let losses = losses_of frame now place holder is.given old.list old.rings new.rings a b is.each in
-        let parts : times n (distinct (numbers_of old) ++ (is.given ++ losses.losses)) ≡ times n (distinct (numbers_of old)) + (times n is.given + times n losses.losses) =
-        omega (arith, times-append n (distinct (numbers_of old)) (is.given ++ losses.losses), times-append n is.given losses.losses) in
-        elim (cases_lt 0 (times n (numbers_of old))) [
-          | inl had ↦ omega (arith, parts, distinct_there n (numbers_of old) (omega (arith, had)))
+        let parts : times n (distinct (held_numbers old) ++ (is.given ++ losses.losses)) ≡ times n (distinct (held_numbers old)) + (times n is.given + times n losses.losses) =
+        omega (arith, times-append n (distinct (held_numbers old)) (is.given ++ losses.losses), times-append n is.given losses.losses) in
+        elim (cases_lt 0 (times n (held_numbers old))) [
+          | inl had ↦ omega (arith, parts, distinct_there n (held_numbers old) (omega (arith, had)))
           | inr had_not ↦ omega (arith, parts, had_not, losses.among n there)
         ]

@@ -12,11 +12,11 @@ use Rattle.inp_client.specs.declared.location.Location.{Location}
 use Rattle.inp_client.specs.Client.{new_client, with_events}
 use Rattle.inp_client.specs.Clients.{without_client, with_client}
 use Rattle.inp_client.specs.Member.{Member, ring_of, client_in, cells_in, numbers_in, wanted, AreStored, IsMemberChanged}
-use Rattle.inp_client.specs.Numbers.{numbers_of}
+use Rattle.inp_client.specs.Numbers.{held_numbers}
 use Rattle.inp_client.specs.Locations.{client_at, clients_in, IsPlaceFor}
 use Rattle.inp_client.specs.Kept.{kept_view, AreKept}
 use Rattle.inp_client.proofs.Counting.{wanted_few}
-use Rattle.inp_client.proofs.RingsLeft.{rings_of, numbers_of-rings, fewer_remove, numbers_in-insert}
+use Rattle.inp_client.proofs.RingsLeft.{rings_of, held_numbers-rings, fewer_remove, numbers_in-insert}
 use Rattle.inp_client.proofs.Locating.{client_at_found, members_long, member_in_location, member_number, members_apart, members_after_removal, members_after_insert, place_of_member}
 use Rattle.inp_client.proofs.Sharing.{member_held, others_stay, stored_after_removal, cells_after_removal, stored_after_insert, cells_after_insert, cells_same}
 
@@ -73,9 +73,9 @@ module _ (k : Inside) (kept : AreKept k) (i : ℕ) (in_i : i < length k.location
         ∙ cells_after_removal k.store after members i (new_client 0 0) in_members (others_stay kept.stored (new_client 0 0) i in_members after new.ring.events moved.moved (λ n some. absurd (omega (arith, some)))) apart
         ∙ ap (λ (n : ℕ). without_client n (cells_in k.store members)) (member_number kept.located i d (new_client 0 0) in_i)
 
-    pub fewer_close : (n : ℕ) → times n (flat_map (λ (q : List ℕ). q) (rings_of (clients_in (remove k.locations.items i) slab))) ≤ times n (numbers_of (kept_view k))
+    pub fewer_close : (n : ℕ) → times n (flat_map (λ (q : List ℕ). q) (rings_of (clients_in (remove k.locations.items i) slab))) ≤ times n (held_numbers (kept_view k))
     fewer_close n =
-        omega (arith, ap (times n) (numbers_of-rings (clients_in (remove k.locations.items i) slab)), ap (λ (ms : List Member). times n (numbers_in ms)) members_left, fewer_remove members i (new_client 0 0) n in_members, ap (times n) (numbers_of-rings members))
+        omega (arith, ap (times n) (held_numbers-rings (clients_in (remove k.locations.items i) slab)), ap (λ (ms : List Member). times n (numbers_in ms)) members_left, fewer_remove members i (new_client 0 0) n in_members, ap (times n) (held_numbers-rings members))
 
 -- A client comes in, for which the store has grown.
 module _ (k : Inside) (kept : AreKept k) (key : ℕ) (new : Member) (slab : Slab Member) (i : ℕ) (vacant : get k.slab key ≡ None) (inserted : Updates k.slab slab key (Some new)) (place : IsPlaceFor k.locations.items new.number i) (after : StoreView) (same : after.slots ≡ k.store.slots) where
@@ -106,9 +106,9 @@ module _ (k : Inside) (kept : AreKept k) (key : ℕ) (new : Member) (slab : Slab
       ∙ cells_after_insert after (clients_in k.locations.items k.slab) i new within at.lower at.others
       ∙ ap (with_client (client_in after new)) (cells_same k.store after (clients_in k.locations.items k.slab) same)
 
-  pub numbers_open : new.ring.events ≡ [] → flat_map (λ (q : List ℕ). q) (rings_of (clients_in locations slab)) ≡ numbers_of (kept_view k)
+  pub numbers_open : new.ring.events ≡ [] → flat_map (λ (q : List ℕ). q) (rings_of (clients_in locations slab)) ≡ held_numbers (kept_view k)
   numbers_open none =
-      numbers_of-rings (clients_in locations slab)
+      held_numbers-rings (clients_in locations slab)
       ∙ ap numbers_in members_more
       ∙ numbers_in-insert (clients_in k.locations.items k.slab) i new within none
-      ∙ sym (numbers_of-rings (clients_in k.locations.items k.slab))
+      ∙ sym (held_numbers-rings (clients_in k.locations.items k.slab))

@@ -26,9 +26,9 @@ abbrev pub rings_of : List Member → List (List ℕ)
 rings_of ms = map (λ (m : Member). m.ring.events) ms
 
 -- the numbers of all rings
-pub numbers_of-rings : (ms : List Member) → flat_map (λ (q : List ℕ). q) (rings_of ms) ≡ numbers_in ms
-numbers_of-rings [] = refl
-numbers_of-rings (m ∷ ms) = ap (λ (q : List ℕ). m.ring.events ++ q) (numbers_of-rings ms)
+pub held_numbers-rings : (ms : List Member) → flat_map (λ (q : List ℕ). q) (rings_of ms) ≡ numbers_in ms
+held_numbers-rings [] = refl
+held_numbers-rings (m ∷ ms) = ap (λ (q : List ℕ). m.ring.events ++ q) (held_numbers-rings ms)
 
 -- A ring of which only numbers are taken has none that it did not have, and the others stay.
 pub fewer_set : (ms : List Member) (i : ℕ) (new d : Member) (client n : ℕ) → i < length ms → HasFewer (get_or ms i d) new → times n (get_or (rings_of (set ms i new)) client []) ≤ times n (get_or (rings_of ms) client [])

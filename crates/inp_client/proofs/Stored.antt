@@ -11,13 +11,13 @@ use Rattle.inp_ring.proofs.Moves.{held_there}
 use Rattle.inp_client.specs.declared.clients.Clients.TheInside.{Inside}
 use Rattle.inp_client.specs.Client.{ClientView}
 use Rattle.inp_client.specs.Clients.{distinct}
-use Rattle.inp_client.specs.Numbers.{stored_of, places_of}
+use Rattle.inp_client.specs.Numbers.{stored_of, held_places}
 use Rattle.inp_client.specs.Member.{Member, ring_of, client_in, cells_in, times_in, numbers_in}
 use Rattle.inp_client.specs.Locations.{clients_in}
 use Rattle.inp_client.specs.Kept.{kept_view, AreKept}
 use Rattle.inp_client.proofs.Counting.{cells_few, cells_many, cells_exactly, distinct-map, times-numbers_in, length-numbers_in}
 use Rattle.inp_client.proofs.Calling.{kept_known}
-use Rattle.inp_client.proofs.RingsLeft.{numbers_of-rings}
+use Rattle.inp_client.proofs.RingsLeft.{held_numbers-rings}
 
 module _ (k : Inside) (kept : AreKept k) where
   abbrev members : List Member
@@ -35,7 +35,7 @@ module _ (k : Inside) (kept : AreKept k) where
   pub stored_exactly : cell_count k.store ≡ stored_of (kept_view k)
   stored_exactly =
       cells_exactly k.store (numbers_in members) in_some (λ n there. has_cell n (omega (arith, there, times-numbers_in n members)))
-      ∙ ap (λ (q : List ℕ). length (distinct q)) (sym (numbers_of-rings members))
+      ∙ ap (λ (q : List ℕ). length (distinct q)) (sym (held_numbers-rings members))
 
   -- not fewer than a queue has events
   pub stored_least : All (λ c. length c.ring.events ≤ cell_count k.store) (kept_view k).list
@@ -61,14 +61,14 @@ module _ (k : Inside) (kept : AreKept k) where
           omega (arith, sum_by-cons (λ (c : ClientView Cell). length c.ring.events) (client_in k.store m) (cells_in k.store ms), sum_by-cons (λ (m : Member). length m.ring.events) m ms, length-map m.ring.events (cell_at k.store), lengths ms)
 
   -- events of different places are different cells
-  pub stored_places : length (places_of (kept_view k).list) ≤ cell_count k.store
+  pub stored_places : length (held_places (kept_view k).list) ≤ cell_count k.store
   stored_places =
       omega (
         arith,
         ap (λ (q : List ℕ). length (distinct q)) (places members),
         distinct-map (λ n. (cell_at k.store n).place) (numbers_in members),
         stored_exactly,
-        ap (λ (q : List ℕ). length (distinct q)) (numbers_of-rings members),
+        ap (λ (q : List ℕ). length (distinct q)) (held_numbers-rings members),
       )
     where
       of_ring : (q : List ℕ) → map (λ (cell : Cell). cell.place) (map (cell_at k.store) q) ≡ map (λ n. (cell_at k.store n).place) q

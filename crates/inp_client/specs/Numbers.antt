@@ -9,16 +9,16 @@ use Rattle.inp_client.specs.Clients.{ClientsView, distinct}
 use Rattle.inp_client.specs.Member.{after_event}
 
 -- the numbers of all rings, so that a cell's stands there as often as rings hold it
-abbrev pub numbers_of : ClientsView → List ℕ
-numbers_of clients = flat_map (λ q. q) clients.rings
+abbrev pub held_numbers : ClientsView → List ℕ
+held_numbers clients = flat_map (λ q. q) clients.rings
 
 -- how many cells are kept: as many as there are different numbers
 abbrev pub stored_of : ClientsView → ℕ
-stored_of clients = length (distinct (numbers_of clients))
+stored_of clients = length (distinct (held_numbers clients))
 
 -- the places in the history of all queued events, each once: events of different steps are different cells
-abbrev pub places_of : List (ClientView Cell) → List ℕ
-places_of clients = distinct (flat_map (λ c. map (λ cell. cell.place) c.ring.events) clients)
+abbrev pub held_places : List (ClientView Cell) → List ℕ
+held_places clients = distinct (flat_map (λ c. map (λ cell. cell.place) c.ring.events) clients)
 
 -- no ring has a number that it did not have, and none oftener
 abbrev pub HoldNoneNew : ClientsView → ClientsView → Type 0

@@ -15,7 +15,7 @@ ghost use Rattle.inp_client.specs.Read.{clients_on};
 ghost use Rattle.inp_client.specs.Locations.{clients_in, AreLocated};
 ghost use Rattle.inp_client.specs.Member.{cells_in, wanted, after_event, AreStored};
 ghost use Rattle.inp_ring.specs.Ring.{times, AreDifferent};
-ghost use Rattle.inp_client.specs.Numbers.{numbers_of, stored_of, places_of, loses, HoldNoneNew, IsStoredOnce};
+ghost use Rattle.inp_client.specs.Numbers.{held_numbers, stored_of, held_places, loses, HoldNoneNew, IsStoredOnce};
 ghost use Rattle.inp_client.specs.Offered.{AreShared, IsEnteredTo, HasNumber, HaveNumbers, owing, FitsInOneRun, AreAdded, TakesFrame, takers_in, with_run, are_reports_apart};
 ghost use Rattle.inp_client.specs.declared.open_refused.OpenRefused.TheVariants.{TooMany};
 
@@ -81,7 +81,7 @@ impl Clients {
         ensures ok { OnOk result
             (self.new.list ≡ with_client (new_client number ring) self.old.list) }
         ensures err { OnErr result (self.new ≡ self.old) }
-        ensures numbers { numbers_of self.new ≡ numbers_of self.old }
+        ensures numbers { held_numbers self.new ≡ held_numbers self.old }
     {
         if self.locations.len() == CLIENTS_MAX as usize {
             return Err(OpenRefused::TooMany);
@@ -102,7 +102,7 @@ impl Clients {
     pub fn close(&mut self, number: u32)
         requires open { has_client number self.old.list ≡ true }
         ensures closed { self.new.list ≡ without_client number self.old.list }
-        ensures none_new { (n : ℕ) → times n (numbers_of self.new) ≤ times n (numbers_of self.old) }
+        ensures none_new { (n : ℕ) → times n (held_numbers self.new) ≤ times n (held_numbers self.old) }
     {
         let index = index_of(&self.locations, number).unwrap();
         let location = self.locations.remove(index);
@@ -152,7 +152,7 @@ impl Clients {
     /// least how many steps the queued events came from. It is at most the length of all queues together.
     pub fn stored(&self) -> u32
         ensures stored { result ≡ stored_of self.now }
-        ensures places { length (places_of self.now.list) ≤ result }
+        ensures places { length (held_places self.now.list) ≤ result }
         ensures least { All (λ c. length c.ring.events ≤ result) self.now.list }
         ensures most { result ≤ sum_by (λ c. length c.ring.events) self.now.list }
     {

@@ -14,7 +14,7 @@ use Rattle.inp_ring.specs.declared.cell.Cell.{Cell}
 use Rattle.inp_ring.specs.Store as store
 use Rattle.inp_client.specs.Client.{ClientView}
 use Rattle.inp_client.specs.Clients.{distinct}
-use Rattle.inp_client.specs.Numbers.{places_of}
+use Rattle.inp_client.specs.Numbers.{held_places}
 use Rattle.inp_client.specs.Read.{client_on, clients_on}
 use Rattle.inp_device.specs.declared.handler.Handler.{Handler}
 use Rattle.inp_device.specs.declared.present.Present.{Present}
@@ -66,8 +66,8 @@ least_of lent p stored same all = subst (λ (q : Present). All (λ c. length c.r
 pub most_of : (lent p : Present) (stored : ℕ) → lent ≡ p → stored ≤ sum_by (λ c. length c.ring.events) lent.handler.clients.list → stored ≤ sum_by (λ c. length c.ring.events) p.handler.clients.list
 most_of lent p stored same few = subst (λ (q : Present). stored ≤ sum_by (λ c. length c.ring.events) q.handler.clients.list) same few
 
-pub places_of_lent : (lent p : Present) (stored : ℕ) → lent ≡ p → length (places_of lent.handler.clients.list) ≤ stored → length (places_of p.handler.clients.list) ≤ stored
-places_of_lent lent p stored same few = subst (λ (q : Present). length (places_of q.handler.clients.list) ≤ stored) same few
+pub places_of_lent : (lent p : Present) (stored : ℕ) → lent ≡ p → length (held_places lent.handler.clients.list) ≤ stored → length (held_places p.handler.clients.list) ≤ stored
+places_of_lent lent p stored same few = subst (λ (q : Present). length (held_places q.handler.clients.list) ≤ stored) same few
 
 module _ (d : Description) (past : List Step) (h : Handler) (stands : HandlerStandsFor d past h) (stored : ℕ) where
   abbrev long : ℕ → ℕ
@@ -84,7 +84,7 @@ module _ (d : Description) (past : List Step) (h : Handler) (stands : HandlerSta
   pub stored_most : stored ≤ sum_by (λ c. length c.ring.events) h.clients.list → stored ≤ sum_by (λ n. length (queue d past n)) (open_clients past)
   stored_most few = omega (arith, few, sum-map (λ (c : ClientView Cell). length c.ring.events) h.clients.list, ap sum same_lengths, sum-map long (open_clients past))
 
-  pub stored_places : length (places_of h.clients.list) ≤ stored → length (queued_places d past) ≤ stored
+  pub stored_places : length (held_places h.clients.list) ≤ stored → length (queued_places d past) ≤ stored
   stored_places few =
       let same : places_in h.clients.list ≡ flat_map (λ n. map (λ (e : Entry). e.taken.place) (queue d past n)) (open_clients past) =
       places_kept h.clients.list d ∙ ap places_on stands.clients ∙ places_after d past (open_clients past) in

@@ -2,7 +2,7 @@ use Rattle.std.proofs.Common.{ap, ◌∙◌, refl, arith}
 use Rattle.std.proofs.lemmas.List.Edits.{length-insert}
 use Rattle.inp_client.specs.Client.{new_client}
 use Rattle.inp_client.specs.Clients.{ClientsView, with_client}
-use Rattle.inp_client.specs.Numbers.{numbers_of}
+use Rattle.inp_client.specs.Numbers.{held_numbers}
 use Rattle.inp_client.proofs.Locating.{located_after_insert}
 use Rattle.inp_client.proofs.Calling.{call_closed}
 use Rattle.inp_client.proofs.Opening.{new_ring, cells_few, stored_open, idle_open, counted_open, list_open, numbers_open}
@@ -54,4 +54,4 @@ returns-clause-numbers c =
     let updates = rw c.in_ok-client.ensures.new at c.insert_reserved-key.ensures.updates in
     rw items
     (numbers_open c.self.inside c.self.invariant c.insert_reserved-key.result client c.insert_reserved-key.new.self c.place_for-place.result c.insert_reserved-key.ensures.was_vacant updates place c.grow.new.self c.grow.ensures.cells refl
-    ∙ ap numbers_of c.self.view_is)
+    ∙ ap held_numbers c.self.view_is)
