@@ -52,7 +52,7 @@ class Unread:
             path = os.path.join(folder, "unread.rec")
             with open(path, "w", encoding="latin-1", newline="") as file:
                 file.write(self.text + "\n".join(lines) + "\n")
-            status, written = self.player.play(path, self.folder)
+            status, written = self.player.play(path, self.folder, what="what waits unread is asked for")
         if status not in PLAYED:
             return {}
         parts = [part for device in read_report(written) for part in device.parts] + parts_behind(written)
