@@ -1,16 +1,16 @@
 //! Lists of codes: the bits of a reply, and the flags of a view.
-ghost use Rattle.std.specs.Prelude.{◌≡◌, ◌≤◌, ◌++◌, string_bytes, OnOk};
+ghost use Rattle.std.specs.Prelude.{◌≡◌, ◌≤◌, ◌++◌, OnOk};
 ghost use Rattle.inp_recon.specs.View.{key_count, bits_in};
 ghost use Rattle.inp_report.specs.Words.{spaced_code, flags_text};
 ghost use Rattle.inp_report.specs.Replies.{codes_on_text};
 
 use inp_bits::Bits;
 use inp_model::NoMemory;
-use inp_texts::push_code;
+use inp_texts::{Page, push_code};
 
-pub(crate) fn push_bits(text: &mut String, kind: u16, words: &[u64; 12]) -> Result<(), NoMemory>
+pub(crate) fn push_bits(text: &mut Page, kind: u16, words: &[u64; 12]) -> Result<(), NoMemory>
     ensures pushed { OnOk result
-        (string_bytes text.new ≡ string_bytes text.old ++ codes_on_text kind words.now) }
+        (text.new ≡ text.old ++ codes_on_text kind words.now) }
 {
     push_flags(text, kind, &bits_in(words))
 }
@@ -27,13 +27,13 @@ fn bits_in(words: &[u64; 12]) -> Bits<12>
 }
 
 pub(crate) fn push_flags<const W: usize>(
-    text: &mut String,
+    text: &mut Page,
     kind: u16,
     flags: &Bits<W>,
 ) -> Result<(), NoMemory>
     requires few { W ≤ 1024 }
     ensures pushed { OnOk result
-        (string_bytes text.new ≡ string_bytes text.old ++ flags_text kind flags.now) }
+        (text.new ≡ text.old ++ flags_text kind flags.now) }
 {
     for code in flags.ones() {
         push_spaced_code(text, kind, code as u16)?;
@@ -41,9 +41,9 @@ pub(crate) fn push_flags<const W: usize>(
     Ok(())
 }
 
-fn push_spaced_code(text: &mut String, kind: u16, code: u16) -> Result<(), NoMemory>
+fn push_spaced_code(text: &mut Page, kind: u16, code: u16) -> Result<(), NoMemory>
     ensures pushed { OnOk result
-        (string_bytes text.new ≡ string_bytes text.old ++ spaced_code kind code) }
+        (text.new ≡ text.old ++ spaced_code kind code) }
 {
     text.push_str(" ")?;
     push_code(text, kind, code)

@@ -1,5 +1,5 @@
 //! The summary.
-ghost use Rattle.std.specs.Prelude.{◌≡◌, ◌<◌, ◌++◌, true, length, string_bytes, IfOk, OnOk, flat_map};
+ghost use Rattle.std.specs.Prelude.{◌≡◌, ◌<◌, ◌++◌, true, length, IfOk, OnOk, flat_map};
 ghost use Rattle.std.specs.List.{zip};
 ghost use Rattle.inp_model.specs.Description.{is_slot_code};
 ghost use Rattle.inp_recon.specs.Cells.{cell_of};
@@ -12,9 +12,8 @@ use inp_actors::{ActorText, Actors, DeviceText, Name, Record, Role};
 use inp_model::{ABS_MT_POSITION_X, ABS_MT_POSITION_Y, NoMemory};
 use inp_recon::Cells;
 use inp_script::{JobEnd, Run, Runs, Sight};
-use inp_texts::RoleText;
+use inp_texts::{Page, RoleText};
 use std::alloc::Global;
-use std::fmt::Write;
 
 /// The slot whose position a summary tells: the last one of a generated device (this project's choice).
 const TOLD_SLOT: u32 = 9;
@@ -39,14 +38,14 @@ pub fn summary(
     requires runs { AreRunsOf rec.now runs.now }
     ensures text { IfOk result (λ text. text.items ≡ summary number count rec.now runs.now) }
 {
-    let mut text = String::new(alloc);
+    let mut text = Page::new(alloc);
     push_summary(&mut text, number, count, rec, runs)?;
     Ok(text.into_bytes())
 }
 
 #[tactic(auto, unfolding(crate::specs::Summary::summary))]
 fn push_summary(
-    text: &mut String,
+    text: &mut Page,
     number: u32,
     count: u32,
     rec: &Record,
@@ -54,27 +53,27 @@ fn push_summary(
 ) -> Result<(), NoMemory>
     requires runs { AreRunsOf rec.now runs.now }
     ensures pushed { OnOk result
-        (string_bytes text.new
-        ≡ string_bytes text.old ++ summary number count rec.now runs.now) }
+        (text.new
+        ≡ text.old ++ summary number count rec.now runs.now) }
 {
     push_make(text, number, count)?;
     push_briefs(text, rec, runs)
 }
 
 #[tactic(auto, unfolding(crate::specs::Summary::make_line))]
-fn push_make(text: &mut String, number: u32, count: u32) -> Result<(), NoMemory>
+fn push_make(text: &mut Page, number: u32, count: u32) -> Result<(), NoMemory>
     ensures pushed { OnOk result
-        (string_bytes text.new ≡ string_bytes text.old ++ make_line number count) }
+        (text.new ≡ text.old ++ make_line number count) }
 {
     write!(text, "make {number} {count}\n")?;
     Ok(())
 }
 
-fn push_briefs(text: &mut String, rec: &Record, runs: &Runs) -> Result<(), NoMemory>
+fn push_briefs(text: &mut Page, rec: &Record, runs: &Runs) -> Result<(), NoMemory>
     requires runs { AreRunsOf rec.now runs.now }
     ensures pushed { OnOk result
-        (string_bytes text.new
-        ≡ string_bytes text.old
+        (text.new
+        ≡ text.old
         ++ flat_map (run_brief rec.now.actors) (zip rec.now.devices runs.now)) }
 {
     for (index, run) in runs.as_slice().iter().enumerate() {
@@ -85,7 +84,7 @@ fn push_briefs(text: &mut String, rec: &Record, runs: &Runs) -> Result<(), NoMem
 }
 
 fn push_run_brief(
-    text: &mut String,
+    text: &mut Page,
     actors: &Actors,
     index: usize,
     device: &DeviceText,
@@ -93,8 +92,8 @@ fn push_run_brief(
 ) -> Result<(), NoMemory>
     requires run { IsRunOf actors.now index device.now run.now }
     ensures pushed { OnOk result
-        (string_bytes text.new
-        ≡ string_bytes text.old ++ run_brief actors.now (device.now, run.now)) }
+        (text.new
+        ≡ text.old ++ run_brief actors.now (device.now, run.now)) }
 {
     push_device(text, &device.name, run.history.len())?;
     for job in run.jobs.as_slice() {
@@ -103,18 +102,18 @@ fn push_run_brief(
     Ok(())
 }
 
-fn push_job_brief(text: &mut String, actors: &Actors, job: &JobEnd) -> Result<(), NoMemory>
+fn push_job_brief(text: &mut Page, actors: &Actors, job: &JobEnd) -> Result<(), NoMemory>
     requires actor { job.now.actor < length actors.now }
     ensures pushed { OnOk result
-        (string_bytes text.new ≡ string_bytes text.old ++ job_brief actors.now job.now) }
+        (text.new ≡ text.old ++ job_brief actors.now job.now) }
 {
     push_brief(text, actors.get(job.actor() as usize), job)
 }
 
-fn push_brief(text: &mut String, actor: &ActorText, job: &JobEnd) -> Result<(), NoMemory>
+fn push_brief(text: &mut Page, actor: &ActorText, job: &JobEnd) -> Result<(), NoMemory>
     ensures pushed { OnOk result
-        (string_bytes text.new
-        ≡ string_bytes text.old ++ brief_line actor.now.role actor.now.name job.now) }
+        (text.new
+        ≡ text.old ++ brief_line actor.now.role actor.now.name job.now) }
 {
     match actor.role {
         Role::Source => push_calls(text, &actor.name, counted_calls(job.sight().as_slice())),
@@ -125,18 +124,18 @@ fn push_brief(text: &mut String, actor: &ActorText, job: &JobEnd) -> Result<(), 
 }
 
 #[tactic(auto, unfolding(crate::specs::Summary::calls_line))]
-fn push_calls(text: &mut String, name: &Name, calls: usize) -> Result<(), NoMemory>
+fn push_calls(text: &mut Page, name: &Name, calls: usize) -> Result<(), NoMemory>
     ensures pushed { OnOk result
-        (string_bytes text.new ≡ string_bytes text.old ++ calls_line name.now calls) }
+        (text.new ≡ text.old ++ calls_line name.now calls) }
 {
     let name = name.as_str();
     write!(text, "source {name} calls {calls}\n")?;
     Ok(())
 }
 
-fn push_counts(text: &mut String, role: Role, name: &Name, job: &JobEnd) -> Result<(), NoMemory>
+fn push_counts(text: &mut Page, role: Role, name: &Name, job: &JobEnd) -> Result<(), NoMemory>
     ensures pushed { OnOk result
-        (string_bytes text.new ≡ string_bytes text.old ++ counts_line role name.now job.now) }
+        (text.new ≡ text.old ++ counts_line role name.now job.now) }
 {
     let role = RoleText(role);
     let name = name.as_str();
@@ -149,9 +148,9 @@ fn push_counts(text: &mut String, role: Role, name: &Name, job: &JobEnd) -> Resu
 }
 
 #[tactic(auto, unfolding(crate::specs::Summary::counts_text))]
-fn push_sight_counts(text: &mut String, sights: &[Sight]) -> Result<(), NoMemory>
+fn push_sight_counts(text: &mut Page, sights: &[Sight]) -> Result<(), NoMemory>
     ensures pushed { OnOk result
-        (string_bytes text.new ≡ string_bytes text.old ++ counts_text sights.now) }
+        (text.new ≡ text.old ++ counts_text sights.now) }
 {
     let took = took_count(sights);
     let made = made_count(sights);
@@ -161,9 +160,9 @@ fn push_sight_counts(text: &mut String, sights: &[Sight]) -> Result<(), NoMemory
 }
 
 #[tactic(auto, unfolding(crate::specs::Summary::position_text))]
-fn push_position(text: &mut String, cells: &Cells) -> Result<(), NoMemory>
+fn push_position(text: &mut Page, cells: &Cells) -> Result<(), NoMemory>
     ensures pushed { OnOk result
-        (string_bytes text.new ≡ string_bytes text.old ++ position_text cells.now) }
+        (text.new ≡ text.old ++ position_text cells.now) }
 {
     let x = told_value(cells, ABS_MT_POSITION_X);
     let y = told_value(cells, ABS_MT_POSITION_Y);

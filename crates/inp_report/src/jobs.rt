@@ -1,5 +1,5 @@
 //! The part of one actor.
-ghost use Rattle.std.specs.Prelude.{◌≡◌, ◌<◌, ◌++◌, length, string_bytes, OnOk};
+ghost use Rattle.std.specs.Prelude.{◌≡◌, ◌<◌, ◌++◌, length, OnOk};
 ghost use Rattle.inp_recon.specs.View.{IsSizedFor};
 ghost use Rattle.inp_report.specs.Report.{source_line, actor_line, stop_line, reading_text, part_text, job_text};
 
@@ -10,11 +10,10 @@ use inp_actors::{ActorText, Actors, Name, Role};
 use inp_caps::Caps;
 use inp_model::NoMemory;
 use inp_script::{JobEnd, Stop};
-use inp_texts::RoleText;
-use std::fmt::Write;
+use inp_texts::{Page, RoleText};
 
 pub(crate) fn push_job(
-    text: &mut String,
+    text: &mut Page,
     actors: &Actors,
     caps: &Caps,
     job: &JobEnd,
@@ -22,21 +21,16 @@ pub(crate) fn push_job(
     requires actor { job.now.actor < length actors.now }
     requires view { IsSizedFor caps.now.slots job.now.view }
     ensures pushed { OnOk result
-        (string_bytes text.new ≡ string_bytes text.old ++ job_text actors.now caps.now job.now) }
+        (text.new ≡ text.old ++ job_text actors.now caps.now job.now) }
 {
     push_part(text, actors.get(job.actor() as usize), caps, job)
 }
 
-fn push_part(
-    text: &mut String,
-    actor: &ActorText,
-    caps: &Caps,
-    job: &JobEnd,
-) -> Result<(), NoMemory>
+fn push_part(text: &mut Page, actor: &ActorText, caps: &Caps, job: &JobEnd) -> Result<(), NoMemory>
     requires view { IsSizedFor caps.now.slots job.now.view }
     ensures pushed { OnOk result
-        (string_bytes text.new
-        ≡ string_bytes text.old ++ part_text actor.now.role actor.now.name caps.now job.now) }
+        (text.new
+        ≡ text.old ++ part_text actor.now.role actor.now.name caps.now job.now) }
 {
     match actor.role {
         Role::Source => {
@@ -50,7 +44,7 @@ fn push_part(
 }
 
 fn push_reading(
-    text: &mut String,
+    text: &mut Page,
     role: Role,
     name: &Name,
     caps: &Caps,
@@ -58,8 +52,8 @@ fn push_reading(
 ) -> Result<(), NoMemory>
     requires view { IsSizedFor caps.now.slots job.now.view }
     ensures pushed { OnOk result
-        (string_bytes text.new
-        ≡ string_bytes text.old ++ reading_text role name.now caps.now job.now) }
+        (text.new
+        ≡ text.old ++ reading_text role name.now caps.now job.now) }
 {
     push_actor(text, role, name)?;
     push_sights(text, job.sight().as_slice())?;
@@ -68,9 +62,9 @@ fn push_reading(
 }
 
 #[tactic(auto, unfolding(crate::specs::Report::source_line))]
-fn push_source(text: &mut String, name: &Name, calls: usize, stop: Stop) -> Result<(), NoMemory>
+fn push_source(text: &mut Page, name: &Name, calls: usize, stop: Stop) -> Result<(), NoMemory>
     ensures pushed { OnOk result
-        (string_bytes text.new ≡ string_bytes text.old ++ source_line name.now calls stop) }
+        (text.new ≡ text.old ++ source_line name.now calls stop) }
 {
     text.push_str("source ")?;
     text.push_str(name.as_str())?;
@@ -82,9 +76,9 @@ fn push_source(text: &mut String, name: &Name, calls: usize, stop: Stop) -> Resu
 }
 
 #[tactic(auto, unfolding(crate::specs::Report::actor_line))]
-pub(crate) fn push_actor(text: &mut String, role: Role, name: &Name) -> Result<(), NoMemory>
+pub(crate) fn push_actor(text: &mut Page, role: Role, name: &Name) -> Result<(), NoMemory>
     ensures pushed { OnOk result
-        (string_bytes text.new ≡ string_bytes text.old ++ actor_line role name.now) }
+        (text.new ≡ text.old ++ actor_line role name.now) }
 {
     let role = RoleText(role);
     let name = name.as_str();
@@ -93,8 +87,8 @@ pub(crate) fn push_actor(text: &mut String, role: Role, name: &Name) -> Result<(
 }
 
 #[tactic(auto, unfolding(crate::specs::Report::stop_line))]
-pub(crate) fn push_stop_line(text: &mut String, stop: Stop) -> Result<(), NoMemory>
-    ensures pushed { OnOk result (string_bytes text.new ≡ string_bytes text.old ++ stop_line stop) }
+pub(crate) fn push_stop_line(text: &mut Page, stop: Stop) -> Result<(), NoMemory>
+    ensures pushed { OnOk result (text.new ≡ text.old ++ stop_line stop) }
 {
     text.push_str("stop ")?;
     push_stop(text, stop)?;

@@ -1,5 +1,5 @@
 //! The report of the joysticks.
-ghost use Rattle.std.specs.Prelude.{◌≡◌, ◌<◌, ◌++◌, length, string_bytes, IfOk, OnOk};
+ghost use Rattle.std.specs.Prelude.{◌≡◌, ◌<◌, ◌++◌, length, IfOk, OnOk};
 ghost use Rattle.inp_report.specs.JoyReport.{joystick_text, joy_text, joy_report};
 ghost use Rattle.inp_script.specs.Runs.{AreJoysOf};
 
@@ -10,6 +10,7 @@ use inp_actors::{Name, Record, Role};
 use inp_caps::Caps;
 use inp_model::NoMemory;
 use inp_script::{JoyEnd, JoyRuns};
+use inp_texts::Page;
 use std::alloc::Global;
 
 /// The report of a record's joysticks, in the order of the record: what each did and saw, how its buttons and axes stand at
@@ -25,16 +26,16 @@ pub fn joy_report(alloc: Global, rec: &Record, joys: &JoyRuns) -> Result<Vec<u8>
     requires joys { AreJoysOf rec.now joys.now }
     ensures text { IfOk result (λ text. text.items ≡ joy_report rec.now joys.now) }
 {
-    let mut text = String::new(alloc);
+    let mut text = Page::new(alloc);
     push_joysticks(&mut text, rec, joys)?;
     Ok(text.into_bytes())
 }
 
 #[tactic(auto, unfolding(crate::specs::JoyReport::joy_report))]
-fn push_joysticks(text: &mut String, rec: &Record, joys: &JoyRuns) -> Result<(), NoMemory>
+fn push_joysticks(text: &mut Page, rec: &Record, joys: &JoyRuns) -> Result<(), NoMemory>
     requires joys { AreJoysOf rec.now joys.now }
     ensures pushed { OnOk result
-        (string_bytes text.new ≡ string_bytes text.old ++ joy_report rec.now joys.now) }
+        (text.new ≡ text.old ++ joy_report rec.now joys.now) }
 {
     for joy in joys.as_slice() {
         push_joy(text, rec, joy)?;
@@ -42,20 +43,20 @@ fn push_joysticks(text: &mut String, rec: &Record, joys: &JoyRuns) -> Result<(),
     Ok(())
 }
 
-fn push_joy(text: &mut String, rec: &Record, joy: &JoyEnd) -> Result<(), NoMemory>
+fn push_joy(text: &mut Page, rec: &Record, joy: &JoyEnd) -> Result<(), NoMemory>
     requires actor { joy.now.actor < length rec.now.actors }
     ensures pushed { OnOk result
-        (string_bytes text.new ≡ string_bytes text.old ++ joy_text rec.now joy.now) }
+        (text.new ≡ text.old ++ joy_text rec.now joy.now) }
 {
     let actor = rec.actors().get(joy.actor() as usize);
     let device = rec.devices().get(actor.device as usize);
     push_joystick(text, &actor.name, &device.caps, joy)
 }
 
-fn push_joystick(text: &mut String, name: &Name, caps: &Caps, joy: &JoyEnd) -> Result<(), NoMemory>
+fn push_joystick(text: &mut Page, name: &Name, caps: &Caps, joy: &JoyEnd) -> Result<(), NoMemory>
     ensures pushed { OnOk result
-        (string_bytes text.new
-        ≡ string_bytes text.old ++ joystick_text name.now caps.now joy.now) }
+        (text.new
+        ≡ text.old ++ joystick_text name.now caps.now joy.now) }
 {
     push_actor(text, Role::Joy, name)?;
     push_sights(text, joy.sight().as_slice())?;

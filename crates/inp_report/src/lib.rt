@@ -18,6 +18,7 @@
 
 mod bits;
 mod brief;
+mod event_words;
 mod jobs;
 mod joysticks;
 mod owners;
@@ -26,6 +27,7 @@ mod sights;
 mod stamp;
 mod step_text;
 mod text_examples;
+mod took_words;
 mod views;
 mod whole;
 mod words;

@@ -1,5 +1,5 @@
 //! The report of the owners.
-ghost use Rattle.std.specs.Prelude.{◌≡◌, ◌<◌, ◌++◌, length, string_bytes, IfOk, OnOk};
+ghost use Rattle.std.specs.Prelude.{◌≡◌, ◌<◌, ◌++◌, length, IfOk, OnOk};
 ghost use Rattle.inp_report.specs.OwnerReport.{fed_line, owner_part, owner_text, owner_report};
 ghost use Rattle.inp_script.specs.Runs.{AreOwnersOf};
 
@@ -9,6 +9,7 @@ use inp_actors::{Name, Record, Role};
 use inp_feedback::Fed;
 use inp_model::NoMemory;
 use inp_script::{FedSight, OwnerEnd, OwnerRuns};
+use inp_texts::Page;
 use std::alloc::Global;
 
 /// The report of a record's owners, in the order of the record: what each feedback call took, and why the owner stopped. It
@@ -23,16 +24,16 @@ pub fn owner_report(alloc: Global, rec: &Record, owners: &OwnerRuns) -> Result<V
     requires owners { AreOwnersOf rec.now owners.now }
     ensures text { IfOk result (λ text. text.items ≡ owner_report rec.now owners.now) }
 {
-    let mut text = String::new(alloc);
+    let mut text = Page::new(alloc);
     push_owners(&mut text, rec, owners)?;
     Ok(text.into_bytes())
 }
 
 #[tactic(auto, unfolding(crate::specs::OwnerReport::owner_report))]
-fn push_owners(text: &mut String, rec: &Record, owners: &OwnerRuns) -> Result<(), NoMemory>
+fn push_owners(text: &mut Page, rec: &Record, owners: &OwnerRuns) -> Result<(), NoMemory>
     requires owners { AreOwnersOf rec.now owners.now }
     ensures pushed { OnOk result
-        (string_bytes text.new ≡ string_bytes text.old ++ owner_report rec.now owners.now) }
+        (text.new ≡ text.old ++ owner_report rec.now owners.now) }
 {
     for owner in owners.as_slice() {
         push_owner(text, rec, owner)?;
@@ -40,18 +41,18 @@ fn push_owners(text: &mut String, rec: &Record, owners: &OwnerRuns) -> Result<()
     Ok(())
 }
 
-fn push_owner(text: &mut String, rec: &Record, owner: &OwnerEnd) -> Result<(), NoMemory>
+fn push_owner(text: &mut Page, rec: &Record, owner: &OwnerEnd) -> Result<(), NoMemory>
     requires actor { owner.now.actor < length rec.now.actors }
     ensures pushed { OnOk result
-        (string_bytes text.new ≡ string_bytes text.old ++ owner_text rec.now owner.now) }
+        (text.new ≡ text.old ++ owner_text rec.now owner.now) }
 {
     let actor = rec.actors().get(owner.actor() as usize);
     push_owner_part(text, &actor.name, owner)
 }
 
-fn push_owner_part(text: &mut String, name: &Name, owner: &OwnerEnd) -> Result<(), NoMemory>
+fn push_owner_part(text: &mut Page, name: &Name, owner: &OwnerEnd) -> Result<(), NoMemory>
     ensures pushed { OnOk result
-        (string_bytes text.new ≡ string_bytes text.old ++ owner_part name.now owner.now) }
+        (text.new ≡ text.old ++ owner_part name.now owner.now) }
 {
     push_actor(text, Role::Owner, name)?;
     for sight in owner.fed().as_slice() {
@@ -61,8 +62,8 @@ fn push_owner_part(text: &mut String, name: &Name, owner: &OwnerEnd) -> Result<(
 }
 
 #[tactic(auto, unfolding(crate::specs::OwnerReport::fed_line))]
-fn push_fed(text: &mut String, sight: FedSight) -> Result<(), NoMemory>
-    ensures pushed { OnOk result (string_bytes text.new ≡ string_bytes text.old ++ fed_line sight) }
+fn push_fed(text: &mut Page, sight: FedSight) -> Result<(), NoMemory>
+    ensures pushed { OnOk result (text.new ≡ text.old ++ fed_line sight) }
 {
     match sight {
         FedSight::Answer {

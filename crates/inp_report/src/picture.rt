@@ -1,5 +1,5 @@
 //! How the buttons and axes of a joystick stand.
-ghost use Rattle.std.specs.Prelude.{◌≡◌, ◌≤◌, ◌-◌, ◌++◌, length, string_bytes, OnOk, flat_map};
+ghost use Rattle.std.specs.Prelude.{◌≡◌, ◌≤◌, ◌-◌, ◌++◌, length, OnOk, flat_map};
 ghost use Rattle.inp_bits.specs.Bits.{true_indices, word_bits};
 ghost use Rattle.inp_joy.specs.Codes.{axes};
 ghost use Rattle.inp_joy.specs.Picture.{seen_as};
@@ -11,24 +11,21 @@ use inp_bits::Bits;
 use inp_caps::Caps;
 use inp_joy::Picture;
 use inp_model::{ABS_MAX, ABS_MT_SLOT, ABS_MT_TOOL_Y, EV_ABS, NoMemory};
+use inp_texts::Page;
 
-pub(crate) fn push_picture(
-    text: &mut String,
-    caps: &Caps,
-    picture: &Picture,
-) -> Result<(), NoMemory>
+pub(crate) fn push_picture(text: &mut Page, caps: &Caps, picture: &Picture) -> Result<(), NoMemory>
     ensures pushed { OnOk result
-        (string_bytes text.new
-        ≡ string_bytes text.old ++ picture_text caps.now (seen_as picture.now)) }
+        (text.new
+        ≡ text.old ++ picture_text caps.now (seen_as picture.now)) }
 {
     push_buttons_line(text, picture.buttons)?;
     push_values_line(text, caps, &picture.axes)
 }
 
 #[tactic(auto, unfolding(crate::specs::JoyReport::buttons_line))]
-fn push_buttons_line(text: &mut String, buttons: u64) -> Result<(), NoMemory>
+fn push_buttons_line(text: &mut Page, buttons: u64) -> Result<(), NoMemory>
     ensures pushed { OnOk result
-        (string_bytes text.new ≡ string_bytes text.old ++ buttons_line (word_bits buttons)) }
+        (text.new ≡ text.old ++ buttons_line (word_bits buttons)) }
 {
     text.push_str("buttons")?;
     push_numbers(text, &bits_of(buttons))?;
@@ -46,10 +43,10 @@ fn bits_of(word: u64) -> Bits<1>
 }
 
 // Appends the indices at which the list is true, ascending, each behind a space.
-fn push_numbers(text: &mut String, flags: &Bits<1>) -> Result<(), NoMemory>
+fn push_numbers(text: &mut Page, flags: &Bits<1>) -> Result<(), NoMemory>
     ensures pushed { OnOk result
-        (string_bytes text.new
-        ≡ string_bytes text.old ++ flat_map spaced_number (true_indices flags.now)) }
+        (text.new
+        ≡ text.old ++ flat_map spaced_number (true_indices flags.now)) }
 {
     for number in flags.ones() {
         push_spaced_number(text, number)?;
@@ -57,17 +54,17 @@ fn push_numbers(text: &mut String, flags: &Bits<1>) -> Result<(), NoMemory>
     Ok(())
 }
 
-fn push_spaced_number(text: &mut String, number: u32) -> Result<(), NoMemory>
+fn push_spaced_number(text: &mut Page, number: u32) -> Result<(), NoMemory>
     ensures pushed { OnOk result
-        (string_bytes text.new ≡ string_bytes text.old ++ spaced_number number) }
+        (text.new ≡ text.old ++ spaced_number number) }
 {
     push_numbered(text, " ", u64::from(number))
 }
 
 #[tactic(auto, unfolding(crate::specs::JoyReport::values_line))]
-fn push_values_line(text: &mut String, caps: &Caps, values: &[i16; 64]) -> Result<(), NoMemory>
+fn push_values_line(text: &mut Page, caps: &Caps, values: &[i16; 64]) -> Result<(), NoMemory>
     ensures pushed { OnOk result
-        (string_bytes text.new ≡ string_bytes text.old ++ values_line caps.now values.now) }
+        (text.new ≡ text.old ++ values_line caps.now values.now) }
 {
     text.push_str("axes")?;
     push_values(text, &values[..axis_count(caps)])?;
@@ -75,9 +72,9 @@ fn push_values_line(text: &mut String, caps: &Caps, values: &[i16; 64]) -> Resul
     Ok(())
 }
 
-fn push_values(text: &mut String, values: &[i16]) -> Result<(), NoMemory>
+fn push_values(text: &mut Page, values: &[i16]) -> Result<(), NoMemory>
     ensures pushed { OnOk result
-        (string_bytes text.new ≡ string_bytes text.old ++ flat_map spaced_value values.now) }
+        (text.new ≡ text.old ++ flat_map spaced_value values.now) }
 {
     for value in values {
         push_spaced(text, i32::from(*value))?;

@@ -1,45 +1,37 @@
 //! What a job saw, and its counts.
-ghost use Rattle.std.specs.Prelude.{◌≡◌, ◌++◌, codes, decimal, string_bytes, OnOk, flat_map};
+ghost use Rattle.std.specs.Prelude.{◌≡◌, ◌++◌, codes, decimal, OnOk, flat_map};
 ghost use Rattle.std.specs.List.{count_by};
 ghost use Rattle.inp_model.specs.Step.{is_end_step};
 ghost use Rattle.inp_report.specs.Steps.{step_text};
 ghost use Rattle.inp_report.specs.Replies.{query_kind, reply_text};
-ghost use Rattle.inp_report.specs.Sights.{stamp_text, joy_record_text, sight_line, is_counted_call, is_took, is_made, is_again_sight};
+ghost use Rattle.inp_report.specs.Sights.{joy_record_text, sight_line, is_counted_call, is_took, is_made, is_again_sight};
 
 use crate::bits::push_bits;
-use crate::stamp::Stamp;
 use crate::step_text::push_step_text;
+use crate::took_words::TookWords;
 use crate::words::{push_axis, push_event, push_numbered, push_refusal, push_spaced};
 use inp_joy::JoyRecord;
 use inp_model::{EV_KEY, EV_LED, EV_SND, EV_SW, EV_SYN, NoMemory, Reply, Step};
 use inp_script::Sight;
-use std::fmt::Write;
+use inp_texts::Page;
 
-pub(crate) fn push_sights(text: &mut String, sights: &[Sight]) -> Result<(), NoMemory>
-    ensures pushed { OnOk result
-        (string_bytes text.new ≡ string_bytes text.old ++ flat_map sight_line sights.now) }
+pub(crate) fn push_sights(text: &mut Page, sights: &[Sight]) -> Result<(), NoMemory>
+    ensures pushed { OnOk result (text.new ≡ text.old ++ flat_map sight_line sights.now) }
 {
-    let mut stamp = Stamp::new(*text.allocator())?;
+    let mut took = TookWords::new(text.allocator())?;
     for sight in sights {
-        push_sight(text, &mut stamp, sight)?;
+        push_sight(text, &mut took, sight)?;
     }
     Ok(())
 }
 
 #[tactic(auto, unfolding(crate::specs::Sights::sight_line, crate::specs::Sights::stamp_text))]
-fn push_sight(text: &mut String, stamp: &mut Stamp, sight: &Sight) -> Result<(), NoMemory>
-    requires words { string_bytes stamp.old.words ≡ stamp_text stamp.old.place stamp.old.time }
-    ensures words { OnOk result
-        (string_bytes stamp.new.words ≡ stamp_text stamp.new.place stamp.new.time) }
-    ensures pushed { OnOk result
-        (string_bytes text.new ≡ string_bytes text.old ++ sight_line sight.now) }
+fn push_sight(text: &mut Page, took: &mut TookWords, sight: &Sight) -> Result<(), NoMemory>
+    ensures pushed { OnOk result (text.new ≡ text.old ++ sight_line sight.now) }
 {
     match sight {
         Sight::Call { step, reply } => push_call(text, *step, reply)?,
-        Sight::Took { event } => {
-            stamp.push(text, event.place, event.time)?;
-            push_event(text, event.event)?;
-        }
+        Sight::Took { event } => took.push(text, *event)?,
         Sight::Made { event } => {
             text.push_str("made ")?;
             push_event(text, *event)?;
@@ -47,14 +39,13 @@ fn push_sight(text: &mut String, stamp: &mut Stamp, sight: &Sight) -> Result<(),
         Sight::Again { at, .. } => push_numbered(text, "again ", u64::from(*at))?,
         Sight::Record { bytes } => push_joy_record(text, JoyRecord::from_bytes(*bytes))?,
     }
-    text.push_str("\n")?;
-    Ok(())
+    text.push_str("\n")
 }
 
 #[tactic(auto, unfolding(crate::specs::Sights::joy_record_text))]
-fn push_joy_record(text: &mut String, joy_record: JoyRecord) -> Result<(), NoMemory>
+fn push_joy_record(text: &mut Page, joy_record: JoyRecord) -> Result<(), NoMemory>
     ensures pushed { OnOk result
-        (string_bytes text.new ≡ string_bytes text.old ++ joy_record_text joy_record) }
+        (text.new ≡ text.old ++ joy_record_text joy_record) }
 {
     let JoyRecord {
         time,
@@ -66,10 +57,10 @@ fn push_joy_record(text: &mut String, joy_record: JoyRecord) -> Result<(), NoMem
     Ok(())
 }
 
-fn push_call(text: &mut String, step: Step, reply: &Reply) -> Result<(), NoMemory>
+fn push_call(text: &mut Page, step: Step, reply: &Reply) -> Result<(), NoMemory>
     ensures pushed { OnOk result
-        (string_bytes text.new
-        ≡ string_bytes text.old
+        (text.new
+        ≡ text.old
         ++ (codes "call " ++ (step_text step ++ (codes " reply " ++ reply_text step reply.now)))) }
 {
     text.push_str("call ")?;
@@ -80,9 +71,9 @@ fn push_call(text: &mut String, step: Step, reply: &Reply) -> Result<(), NoMemor
 
 // Appends the words of a reply, by its kind.
 #[tactic(auto, unfolding(crate::specs::Replies::reply_text))]
-fn push_reply(text: &mut String, step: Step, reply: &Reply) -> Result<(), NoMemory>
+fn push_reply(text: &mut Page, step: Step, reply: &Reply) -> Result<(), NoMemory>
     ensures pushed { OnOk result
-        (string_bytes text.new ≡ string_bytes text.old ++ reply_text step reply.now) }
+        (text.new ≡ text.old ++ reply_text step reply.now) }
 {
     match reply {
         Reply::Done { at } => push_numbered(text, "done ", u64::from(*at)),
@@ -116,10 +107,10 @@ fn push_reply(text: &mut String, step: Step, reply: &Reply) -> Result<(), NoMemo
 }
 
 // Appends the words before a place, the place and a count.
-fn push_counted(text: &mut String, before: &str, at: u32, count: u32) -> Result<(), NoMemory>
+fn push_counted(text: &mut Page, before: &str, at: u32, count: u32) -> Result<(), NoMemory>
     ensures pushed { OnOk result
-        (string_bytes text.new
-        ≡ string_bytes text.old ++ (before.now ++ (decimal at ++ (codes " " ++ decimal count)))) }
+        (text.new
+        ≡ text.old ++ (before.now ++ (decimal at ++ (codes " " ++ decimal count)))) }
 {
     push_numbered(text, before, u64::from(at))?;
     push_numbered(text, " ", u64::from(count))

@@ -1,5 +1,5 @@
 //! How steps are written.
-ghost use Rattle.std.specs.Prelude.{◌≡◌, ◌++◌, codes, decimal, string_bytes, OnOk};
+ghost use Rattle.std.specs.Prelude.{◌≡◌, ◌++◌, codes, decimal, OnOk};
 ghost use Rattle.inp_model.specs.declared.event.TheConstants.{EV_ABS};
 ghost use Rattle.inp_texts.specs.Texts.{code_text, clock_text};
 ghost use Rattle.inp_report.specs.Words.{event_text, mask_text};
@@ -7,13 +7,12 @@ ghost use Rattle.inp_report.specs.Steps.{step_text};
 
 use crate::words::{push_axis, push_event, push_mask, push_numbered};
 use inp_model::{Clock, EV_ABS, Event, NoMemory, Step};
-use inp_texts::{ClockText, push_code};
-use std::fmt::Write;
+use inp_texts::{ClockText, Page, push_code};
 
 /// Appends a step.
 #[tactic(auto, unfolding(crate::specs::Steps::step_text))]
-pub(crate) fn push_step_text(text: &mut String, step: Step) -> Result<(), NoMemory>
-    ensures pushed { OnOk result (string_bytes text.new ≡ string_bytes text.old ++ step_text step) }
+pub(crate) fn push_step_text(text: &mut Page, step: Step) -> Result<(), NoMemory>
+    ensures pushed { OnOk result (text.new ≡ text.old ++ step_text step) }
 {
     match step {
         Step::Inject { event, now } => push_timed(text, "inject ", now, event),
@@ -65,10 +64,10 @@ pub(crate) fn push_step_text(text: &mut String, step: Step) -> Result<(), NoMemo
 }
 
 /// Appends the words before a moment, the moment and an event.
-fn push_timed(text: &mut String, before: &str, now: u64, event: Event) -> Result<(), NoMemory>
+fn push_timed(text: &mut Page, before: &str, now: u64, event: Event) -> Result<(), NoMemory>
     ensures pushed { OnOk result
-        (string_bytes text.new
-        ≡ string_bytes text.old ++ (before.now ++ (decimal now ++ (codes " " ++ event_text event)))) }
+        (text.new
+        ≡ text.old ++ (before.now ++ (decimal now ++ (codes " " ++ event_text event)))) }
 {
     push_numbered(text, before, now)?;
     text.push_str(" ")?;
@@ -76,10 +75,10 @@ fn push_timed(text: &mut String, before: &str, now: u64, event: Event) -> Result
 }
 
 /// Appends the words before a client, the client and an axis.
-fn push_of_axis(text: &mut String, before: &str, client: u32, code: u16) -> Result<(), NoMemory>
+fn push_of_axis(text: &mut Page, before: &str, client: u32, code: u16) -> Result<(), NoMemory>
     ensures pushed { OnOk result
-        (string_bytes text.new
-        ≡ string_bytes text.old
+        (text.new
+        ≡ text.old
         ++ (before.now ++ (decimal client ++ (codes " " ++ code_text EV_ABS code)))) }
 {
     push_numbered(text, before, u64::from(client))?;
@@ -88,10 +87,10 @@ fn push_of_axis(text: &mut String, before: &str, client: u32, code: u16) -> Resu
 }
 
 /// Appends a clock and a moment, each behind a space.
-fn push_clock_at(text: &mut String, clock: Clock, now: u64) -> Result<(), NoMemory>
+fn push_clock_at(text: &mut Page, clock: Clock, now: u64) -> Result<(), NoMemory>
     ensures pushed { OnOk result
-        (string_bytes text.new
-        ≡ string_bytes text.old
+        (text.new
+        ≡ text.old
         ++ (codes " " ++ (clock_text clock ++ (codes " " ++ decimal now)))) }
 {
     write!(text, " {}", ClockText(clock))?;

@@ -1,5 +1,5 @@
 //! What a view says of a device.
-ghost use Rattle.std.specs.Prelude.{◌≡◌, ◌*◌, ◌<◌, ◌≤◌, ◌++◌, true, codes, length, string_bytes, OnOk, flat_map};
+ghost use Rattle.std.specs.Prelude.{◌≡◌, ◌*◌, ◌<◌, ◌≤◌, ◌++◌, true, codes, length, OnOk, flat_map};
 ghost use Rattle.std.specs.List.{range_with_len};
 ghost use Rattle.inp_model.specs.declared.multi_touch.TheConstants.{SLOT_VALUES};
 ghost use Rattle.inp_model.specs.Description.{is_slot_code};
@@ -16,13 +16,13 @@ use inp_model::{
     ABS_MT_TOOL_Y, ABS_MT_TOUCH_MAJOR, EV_ABS, EV_KEY, EV_LED, EV_SW, NoMemory, is_multi_touch_code,
 };
 use inp_recon::{Cells, View};
-use inp_texts::push_signed;
+use inp_texts::{Page, push_signed};
 
 #[tactic(auto, unfolding(crate::specs::Views::view_text))]
-pub(crate) fn push_view(text: &mut String, caps: &Caps, view: &View) -> Result<(), NoMemory>
+pub(crate) fn push_view(text: &mut Page, caps: &Caps, view: &View) -> Result<(), NoMemory>
     requires view { IsSizedFor caps.now.slots view.now }
     ensures pushed { OnOk result
-        (string_bytes text.new ≡ string_bytes text.old ++ view_text caps.now view.now) }
+        (text.new ≡ text.old ++ view_text caps.now view.now) }
 {
     push_flags_line(text, "keys", caps, EV_KEY, &view.keys)?;
     push_flags_line(text, "switches", caps, EV_SW, &view.switches)?;
@@ -33,7 +33,7 @@ pub(crate) fn push_view(text: &mut String, caps: &Caps, view: &View) -> Result<(
 
 #[tactic(auto, unfolding(crate::specs::Views::flags_line))]
 fn push_flags_line<const W: usize>(
-    text: &mut String,
+    text: &mut Page,
     word: &str,
     caps: &Caps,
     kind: u16,
@@ -41,8 +41,8 @@ fn push_flags_line<const W: usize>(
 ) -> Result<(), NoMemory>
     requires few { W ≤ 1024 }
     ensures pushed { OnOk result
-        (string_bytes text.new
-        ≡ string_bytes text.old ++ flags_line caps.now word.now kind flags.now) }
+        (text.new
+        ≡ text.old ++ flags_line caps.now word.now kind flags.now) }
 {
     if !caps.has_kind(kind) {
         return Ok(());
@@ -54,9 +54,9 @@ fn push_flags_line<const W: usize>(
 }
 
 #[tactic(auto, unfolding(crate::specs::Views::axes_line))]
-fn push_axes(text: &mut String, caps: &Caps, axes: &[i32; 64]) -> Result<(), NoMemory>
+fn push_axes(text: &mut Page, caps: &Caps, axes: &[i32; 64]) -> Result<(), NoMemory>
     ensures pushed { OnOk result
-        (string_bytes text.new ≡ string_bytes text.old ++ axes_line caps.now axes.now) }
+        (text.new ≡ text.old ++ axes_line caps.now axes.now) }
 {
     if !caps.has_kind(EV_ABS) {
         return Ok(());
@@ -67,9 +67,9 @@ fn push_axes(text: &mut String, caps: &Caps, axes: &[i32; 64]) -> Result<(), NoM
     Ok(())
 }
 
-fn push_axis_entries(text: &mut String, caps: &Caps, axes: &[i32; 64]) -> Result<(), NoMemory>
+fn push_axis_entries(text: &mut Page, caps: &Caps, axes: &[i32; 64]) -> Result<(), NoMemory>
     ensures pushed { OnOk result
-        (string_bytes text.new ≡ string_bytes text.old ++ axes_text caps.now axes.now) }
+        (text.new ≡ text.old ++ axes_text caps.now axes.now) }
 {
     for code in 0..64u16 {
         push_axis_entry(text, caps, axes, code)?;
@@ -78,14 +78,14 @@ fn push_axis_entries(text: &mut String, caps: &Caps, axes: &[i32; 64]) -> Result
 }
 
 fn push_axis_entry(
-    text: &mut String,
+    text: &mut Page,
     caps: &Caps,
     axes: &[i32; 64],
     code: u16,
 ) -> Result<(), NoMemory>
     requires code { code < 64 }
     ensures pushed { OnOk result
-        (string_bytes text.new ≡ string_bytes text.old ++ axis_entry caps.now axes.now code) }
+        (text.new ≡ text.old ++ axis_entry caps.now axes.now code) }
 {
     if caps.supports(EV_ABS, code) && !is_multi_touch_code(code) {
         push_spaced_value(text, code, axes[usize::from(code)])
@@ -94,19 +94,19 @@ fn push_axis_entry(
     }
 }
 
-fn push_spaced_value(text: &mut String, code: u16, value: i32) -> Result<(), NoMemory>
+fn push_spaced_value(text: &mut Page, code: u16, value: i32) -> Result<(), NoMemory>
     ensures pushed { OnOk result
-        (string_bytes text.new ≡ string_bytes text.old ++ codes " " ++ value_text code value) }
+        (text.new ≡ text.old ++ codes " " ++ value_text code value) }
 {
     text.push_str(" ")?;
     push_value(text, code, value)
 }
 
 #[tactic(auto, unfolding(crate::specs::Views::slots_text))]
-fn push_slots(text: &mut String, caps: &Caps, view: &View) -> Result<(), NoMemory>
+fn push_slots(text: &mut Page, caps: &Caps, view: &View) -> Result<(), NoMemory>
     requires cells { length view.now.cells ≡ SLOT_VALUES * caps.now.slots }
     ensures pushed { OnOk result
-        (string_bytes text.new ≡ string_bytes text.old ++ slots_text caps.now view.now) }
+        (text.new ≡ text.old ++ slots_text caps.now view.now) }
 {
     if caps.slots() == 0 {
         return Ok(());
@@ -116,9 +116,9 @@ fn push_slots(text: &mut String, caps: &Caps, view: &View) -> Result<(), NoMemor
 }
 
 #[tactic(auto, unfolding(crate::specs::Views::current_line))]
-fn push_current(text: &mut String, slot: i32) -> Result<(), NoMemory>
+fn push_current(text: &mut Page, slot: i32) -> Result<(), NoMemory>
     ensures pushed { OnOk result
-        (string_bytes text.new ≡ string_bytes text.old ++ current_line slot) }
+        (text.new ≡ text.old ++ current_line slot) }
 {
     text.push_str("current ")?;
     push_signed(text, slot)?;
@@ -126,11 +126,11 @@ fn push_current(text: &mut String, slot: i32) -> Result<(), NoMemory>
     Ok(())
 }
 
-fn push_slot_lines(text: &mut String, caps: &Caps, cells: &Cells) -> Result<(), NoMemory>
+fn push_slot_lines(text: &mut Page, caps: &Caps, cells: &Cells) -> Result<(), NoMemory>
     requires cells { length cells.now ≡ SLOT_VALUES * caps.now.slots }
     ensures pushed { OnOk result
-        (string_bytes text.new
-        ≡ string_bytes text.old
+        (text.new
+        ≡ text.old
         ++ flat_map (slot_line caps.now cells.now) (range_with_len 0 caps.now.slots)) }
 {
     let slots = caps.slots();
@@ -141,10 +141,10 @@ fn push_slot_lines(text: &mut String, caps: &Caps, cells: &Cells) -> Result<(), 
 }
 
 #[tactic(auto, unfolding(crate::specs::Views::slot_line))]
-fn push_slot_line(text: &mut String, caps: &Caps, cells: &Cells, slot: u32) -> Result<(), NoMemory>
+fn push_slot_line(text: &mut Page, caps: &Caps, cells: &Cells, slot: u32) -> Result<(), NoMemory>
     requires slot { slot < slot_count cells.now }
     ensures pushed { OnOk result
-        (string_bytes text.new ≡ string_bytes text.old ++ slot_line caps.now cells.now slot) }
+        (text.new ≡ text.old ++ slot_line caps.now cells.now slot) }
 {
     push_numbered(text, "slot ", u64::from(slot))?;
     push_slot_entries(text, caps, cells, slot)?;
@@ -152,15 +152,10 @@ fn push_slot_line(text: &mut String, caps: &Caps, cells: &Cells, slot: u32) -> R
     Ok(())
 }
 
-fn push_slot_entries(
-    text: &mut String,
-    caps: &Caps,
-    cells: &Cells,
-    slot: u32,
-) -> Result<(), NoMemory>
+fn push_slot_entries(text: &mut Page, caps: &Caps, cells: &Cells, slot: u32) -> Result<(), NoMemory>
     requires slot { slot < slot_count cells.now }
     ensures pushed { OnOk result
-        (string_bytes text.new ≡ string_bytes text.old ++ slot_text caps.now cells.now slot) }
+        (text.new ≡ text.old ++ slot_text caps.now cells.now slot) }
 {
     for code in ABS_MT_TOUCH_MAJOR..ABS_MT_TOOL_Y + 1 {
         push_slot_entry(text, caps, cells, slot, code)?;
@@ -169,7 +164,7 @@ fn push_slot_entries(
 }
 
 fn push_slot_entry(
-    text: &mut String,
+    text: &mut Page,
     caps: &Caps,
     cells: &Cells,
     slot: u32,
@@ -178,8 +173,8 @@ fn push_slot_entry(
     requires slot { slot < slot_count cells.now }
     requires code { is_slot_code code ≡ true }
     ensures pushed { OnOk result
-        (string_bytes text.new
-        ≡ string_bytes text.old ++ slot_entry caps.now cells.now slot code) }
+        (text.new
+        ≡ text.old ++ slot_entry caps.now cells.now slot code) }
 {
     if caps.supports(EV_ABS, code) {
         push_spaced_value(text, code, cells.value(slot, code))

@@ -1,5 +1,5 @@
 //! The whole report.
-ghost use Rattle.std.specs.Prelude.{◌≡◌, ◌++◌, string_bytes, IfOk, OnOk, slice_get, Some};
+ghost use Rattle.std.specs.Prelude.{◌≡◌, ◌++◌, IfOk, OnOk, slice_get, Some};
 ghost use Rattle.inp_report.specs.Report.{device_line, step_line, history_text, run_text, report};
 ghost use Rattle.inp_script.specs.Runs.{AreRunsOf, IsRunOf};
 
@@ -9,6 +9,7 @@ use crate::words::push_numbered;
 use inp_actors::{Actors, DeviceText, Name, Record};
 use inp_model::{NoMemory, Step};
 use inp_script::{Run, Runs};
+use inp_texts::Page;
 use std::alloc::Global;
 
 /// The report of a record and of what came of it: the devices in order, each with the number of its steps, with all its
@@ -24,15 +25,15 @@ pub fn report(alloc: Global, rec: &Record, runs: &Runs, history: bool) -> Result
     requires runs { AreRunsOf rec.now runs.now }
     ensures text { IfOk result (λ text. text.items ≡ report rec.now runs.now history) }
 {
-    let mut text = String::new(alloc);
+    let mut text = Page::new(alloc);
     push_runs(&mut text, rec, runs, history)?;
     Ok(text.into_bytes())
 }
 
-fn push_runs(text: &mut String, rec: &Record, runs: &Runs, history: bool) -> Result<(), NoMemory>
+fn push_runs(text: &mut Page, rec: &Record, runs: &Runs, history: bool) -> Result<(), NoMemory>
     requires runs { AreRunsOf rec.now runs.now }
     ensures pushed { OnOk result
-        (string_bytes text.new ≡ string_bytes text.old ++ report rec.now runs.now history) }
+        (text.new ≡ text.old ++ report rec.now runs.now history) }
 {
     for (index, run) in runs.as_slice().iter().enumerate() {
         let device = rec.devices().get(index);
@@ -42,7 +43,7 @@ fn push_runs(text: &mut String, rec: &Record, runs: &Runs, history: bool) -> Res
 }
 
 fn push_run(
-    text: &mut String,
+    text: &mut Page,
     actors: &Actors,
     index: usize,
     device: &DeviceText,
@@ -51,8 +52,8 @@ fn push_run(
 ) -> Result<(), NoMemory>
     requires run { IsRunOf actors.now index device.now run.now }
     ensures pushed { OnOk result
-        (string_bytes text.new
-        ≡ string_bytes text.old ++ run_text actors.now history (device.now, run.now)) }
+        (text.new
+        ≡ text.old ++ run_text actors.now history (device.now, run.now)) }
 {
     push_device(text, &device.name, run.history.len())?;
     if history {
@@ -65,9 +66,9 @@ fn push_run(
 }
 
 #[tactic(auto, unfolding(crate::specs::Report::device_line))]
-pub(crate) fn push_device(text: &mut String, name: &Name, steps: usize) -> Result<(), NoMemory>
+pub(crate) fn push_device(text: &mut Page, name: &Name, steps: usize) -> Result<(), NoMemory>
     ensures pushed { OnOk result
-        (string_bytes text.new ≡ string_bytes text.old ++ device_line name.now steps) }
+        (text.new ≡ text.old ++ device_line name.now steps) }
 {
     text.push_str("device ")?;
     text.push_str(name.as_str())?;
@@ -76,9 +77,9 @@ pub(crate) fn push_device(text: &mut String, name: &Name, steps: usize) -> Resul
     Ok(())
 }
 
-fn push_history(text: &mut String, history: &[Step]) -> Result<(), NoMemory>
+fn push_history(text: &mut Page, history: &[Step]) -> Result<(), NoMemory>
     ensures pushed { OnOk result
-        (string_bytes text.new ≡ string_bytes text.old ++ history_text history.now) }
+        (text.new ≡ text.old ++ history_text history.now) }
 {
     for (place, step) in history.iter().enumerate() {
         push_step(text, place, *step)?;
@@ -87,9 +88,9 @@ fn push_history(text: &mut String, history: &[Step]) -> Result<(), NoMemory>
 }
 
 #[tactic(auto, unfolding(crate::specs::Report::step_line))]
-fn push_step(text: &mut String, place: usize, step: Step) -> Result<(), NoMemory>
+fn push_step(text: &mut Page, place: usize, step: Step) -> Result<(), NoMemory>
     ensures pushed { OnOk result
-        (string_bytes text.new ≡ string_bytes text.old ++ step_line (place, step)) }
+        (text.new ≡ text.old ++ step_line (place, step)) }
 {
     push_numbered(text, "step ", place as u64)?;
     text.push_str(" ")?;

@@ -1,18 +1,17 @@
 //! How events, masks, axes, refusals and stops are written.
-ghost use Rattle.std.specs.Prelude.{◌≡◌, ◌++◌, codes, decimal, string_bytes, OnOk};
+ghost use Rattle.std.specs.Prelude.{◌≡◌, ◌++◌, codes, decimal, OnOk};
 ghost use Rattle.std.specs.Fmt.{signed_decimal};
 ghost use Rattle.inp_report.specs.Words.{event_text, mask_text, refusal_text, axis_text, value_text, stop_text};
 
 use inp_model::{AxisInfo, EV_ABS, Event, NoMemory, Refusal};
 use inp_script::Stop;
-use inp_texts::{BitsText, push_code, push_kind, push_number, push_signed};
-use std::fmt::Write;
+use inp_texts::{BitsText, Page, push_code, push_kind, push_number, push_signed};
 
 /// Appends the words before a number, with the space between, and the number.
 #[inline(always)]
-pub(crate) fn push_numbered(text: &mut String, before: &str, number: u64) -> Result<(), NoMemory>
+pub(crate) fn push_numbered(text: &mut Page, before: &str, number: u64) -> Result<(), NoMemory>
     ensures pushed { OnOk result
-        (string_bytes text.new ≡ string_bytes text.old ++ (before.now ++ decimal number)) }
+        (text.new ≡ text.old ++ (before.now ++ decimal number)) }
 {
     text.push_str(before)?;
     push_number(text, number)
@@ -20,9 +19,9 @@ pub(crate) fn push_numbered(text: &mut String, before: &str, number: u64) -> Res
 
 /// Appends a number that may be negative, behind a space.
 #[inline(always)]
-pub(crate) fn push_spaced(text: &mut String, number: i32) -> Result<(), NoMemory>
+pub(crate) fn push_spaced(text: &mut Page, number: i32) -> Result<(), NoMemory>
     ensures pushed { OnOk result
-        (string_bytes text.new ≡ string_bytes text.old ++ (codes " " ++ signed_decimal number)) }
+        (text.new ≡ text.old ++ (codes " " ++ signed_decimal number)) }
 {
     text.push_str(" ")?;
     push_signed(text, number)
@@ -31,9 +30,9 @@ pub(crate) fn push_spaced(text: &mut String, number: i32) -> Result<(), NoMemory
 /// Appends the type, code and value of an event.
 #[inline]
 #[tactic(auto, unfolding(crate::specs::Words::event_text))]
-pub(crate) fn push_event(text: &mut String, event: Event) -> Result<(), NoMemory>
+pub(crate) fn push_event(text: &mut Page, event: Event) -> Result<(), NoMemory>
     ensures pushed { OnOk result
-        (string_bytes text.new ≡ string_bytes text.old ++ event_text event) }
+        (text.new ≡ text.old ++ event_text event) }
 {
     push_kind(text, event.kind)?;
     text.push_str(" ")?;
@@ -43,9 +42,9 @@ pub(crate) fn push_event(text: &mut String, event: Event) -> Result<(), NoMemory
 
 /// Appends the type, the word and the bits of a mask that is set.
 #[tactic(auto, unfolding(crate::specs::Words::mask_text))]
-pub(crate) fn push_mask(text: &mut String, kind: u16, word: u16, bits: u64) -> Result<(), NoMemory>
+pub(crate) fn push_mask(text: &mut Page, kind: u16, word: u16, bits: u64) -> Result<(), NoMemory>
     ensures pushed { OnOk result
-        (string_bytes text.new ≡ string_bytes text.old ++ mask_text kind word bits) }
+        (text.new ≡ text.old ++ mask_text kind word bits) }
 {
     push_kind(text, kind)?;
     push_numbered(text, " ", u64::from(word))?;
@@ -54,9 +53,9 @@ pub(crate) fn push_mask(text: &mut String, kind: u16, word: u16, bits: u64) -> R
 }
 
 /// Appends why a step was refused.
-pub(crate) fn push_refusal(text: &mut String, why: Refusal) -> Result<(), NoMemory>
+pub(crate) fn push_refusal(text: &mut Page, why: Refusal) -> Result<(), NoMemory>
     ensures pushed { OnOk result
-        (string_bytes text.new ≡ string_bytes text.old ++ refusal_text why) }
+        (text.new ≡ text.old ++ refusal_text why) }
 {
     text.push_str(refusal_word(why))?;
     Ok(())
@@ -82,8 +81,8 @@ fn refusal_word(why: Refusal) -> &'static str
 
 /// Appends the numbers of an axis.
 #[tactic(auto, unfolding(crate::specs::Words::axis_text))]
-pub(crate) fn push_axis(text: &mut String, info: AxisInfo) -> Result<(), NoMemory>
-    ensures pushed { OnOk result (string_bytes text.new ≡ string_bytes text.old ++ axis_text info) }
+pub(crate) fn push_axis(text: &mut Page, info: AxisInfo) -> Result<(), NoMemory>
+    ensures pushed { OnOk result (text.new ≡ text.old ++ axis_text info) }
 {
     let AxisInfo {
         value,
@@ -102,9 +101,9 @@ pub(crate) fn push_axis(text: &mut String, info: AxisInfo) -> Result<(), NoMemor
 
 /// Appends an axis and its value.
 #[tactic(auto, unfolding(crate::specs::Words::value_text))]
-pub(crate) fn push_value(text: &mut String, code: u16, value: i32) -> Result<(), NoMemory>
+pub(crate) fn push_value(text: &mut Page, code: u16, value: i32) -> Result<(), NoMemory>
     ensures pushed { OnOk result
-        (string_bytes text.new ≡ string_bytes text.old ++ value_text code value) }
+        (text.new ≡ text.old ++ value_text code value) }
 {
     push_code(text, EV_ABS, code)?;
     text.push_str("=")?;
@@ -113,8 +112,8 @@ pub(crate) fn push_value(text: &mut String, code: u16, value: i32) -> Result<(),
 
 /// Appends why a job ended.
 #[tactic(auto, unfolding(crate::specs::Words::stop_text))]
-pub(crate) fn push_stop(text: &mut String, stop: Stop) -> Result<(), NoMemory>
-    ensures pushed { OnOk result (string_bytes text.new ≡ string_bytes text.old ++ stop_text stop) }
+pub(crate) fn push_stop(text: &mut Page, stop: Stop) -> Result<(), NoMemory>
+    ensures pushed { OnOk result (text.new ≡ text.old ++ stop_text stop) }
 {
     match stop {
         Stop::Finished => Ok(text.push_str("finished")?),

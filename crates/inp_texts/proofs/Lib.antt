@@ -1,2 +1,3 @@
 mod Hexadecimals
+mod Pages
 pub mod Written

@@ -1,9 +1,10 @@
 //! A code of a type of events, as it is written.
-ghost use Rattle.std.specs.Prelude.{◌≡◌, ◌++◌, string_bytes, OnOk};
+ghost use Rattle.std.specs.Prelude.{◌≡◌, ◌++◌, OnOk};
 ghost use Rattle.inp_model.specs.declared.event.TheConstants.{EV_KEY, EV_ABS};
 ghost use Rattle.inp_texts.specs.Texts.{code_text};
 
 use crate::numbers::push_number;
+use crate::page::Page;
 use inp_codes::name_of;
 use inp_model::{EV_ABS, EV_KEY, NoMemory};
 use std::fmt;
@@ -57,9 +58,9 @@ impl fmt::Display for CodeText {
 ///
 /// `NoMemory` where there is none for the text.
 #[tactic(auto, unfolding(crate::specs::Texts::code_text))]
-pub fn push_code(text: &mut String, kind: u16, code: u16) -> Result<(), NoMemory>
+pub fn push_code(text: &mut Page, kind: u16, code: u16) -> Result<(), NoMemory>
     ensures pushed { OnOk result
-        (string_bytes text.new ≡ string_bytes text.old ++ code_text kind code) }
+        (text.new ≡ text.old ++ code_text kind code) }
 {
     match name_of(kind, code) {
         Some(name) => Ok(text.push_str(name)?),

@@ -1,8 +1,9 @@
 //! A type of events, as it is written.
-ghost use Rattle.std.specs.Prelude.{◌≡◌, ◌++◌, string_bytes, OnOk};
+ghost use Rattle.std.specs.Prelude.{◌≡◌, ◌++◌, OnOk};
 ghost use Rattle.inp_texts.specs.Texts.{kind_text};
 
 use crate::numbers::push_number;
+use crate::page::Page;
 use inp_codes::kind_name;
 use inp_model::NoMemory;
 use std::fmt;
@@ -35,9 +36,9 @@ impl fmt::Display for KindText {
 ///
 /// `NoMemory` where there is none for the text.
 #[tactic(auto, unfolding(crate::specs::Texts::kind_text))]
-pub fn push_kind(text: &mut String, kind: u16) -> Result<(), NoMemory>
+pub fn push_kind(text: &mut Page, kind: u16) -> Result<(), NoMemory>
     ensures pushed { OnOk result
-        (string_bytes text.new ≡ string_bytes text.old ++ kind_text kind) }
+        (text.new ≡ text.old ++ kind_text kind) }
 {
     match kind_name(kind) {
         Some(name) => Ok(text.push_str(name)?),

@@ -13,6 +13,8 @@ mod clock_text;
 mod code_text;
 mod kind_text;
 mod numbers;
+mod page;
+mod phrase;
 mod role_text;
 
 pub use bits_text::BitsText;
@@ -20,4 +22,6 @@ pub use clock_text::ClockText;
 pub use code_text::{CodeText, push_code};
 pub use kind_text::{KindText, push_kind};
 pub use numbers::{push_number, push_signed};
+pub use page::Page;
+pub use phrase::Phrase;
 pub use role_text::RoleText;

@@ -1,7 +1,8 @@
 //! Numbers at the end of a text.
-ghost use Rattle.std.specs.Prelude.{◌≡◌, ◌<◌, ◌++◌, codes, decimal, string_bytes, OnOk};
+ghost use Rattle.std.specs.Prelude.{◌≡◌, ◌<◌, ◌++◌, codes, decimal, OnOk};
 ghost use Rattle.std.specs.Fmt.{signed_decimal};
 
+use crate::page::Page;
 use inp_model::NoMemory;
 use itoa::Buffer;
 
@@ -10,8 +11,8 @@ use itoa::Buffer;
 /// # Errors
 ///
 /// `NoMemory` where there is none for the digits.
-pub fn push_number(text: &mut String, number: u64) -> Result<(), NoMemory>
-    ensures pushed { OnOk result (string_bytes text.new ≡ string_bytes text.old ++ decimal number) }
+pub fn push_number(text: &mut Page, number: u64) -> Result<(), NoMemory>
+    ensures pushed { OnOk result (text.new ≡ text.old ++ decimal number) }
 {
     if number < 10 {
         return push_digit(text, number);
@@ -22,12 +23,11 @@ pub fn push_number(text: &mut String, number: u64) -> Result<(), NoMemory>
 }
 
 // One digit needs no buffer, and most values of events have one.
-fn push_digit(text: &mut String, digit: u64) -> Result<(), NoMemory>
+fn push_digit(text: &mut Page, digit: u64) -> Result<(), NoMemory>
     requires one { digit < 10 }
-    ensures pushed { OnOk result (string_bytes text.new ≡ string_bytes text.old ++ decimal digit) }
+    ensures pushed { OnOk result (text.new ≡ text.old ++ decimal digit) }
 {
-    text.push(char::from(b'0' + digit as u8))?;
-    Ok(())
+    text.push_bytes(&[b'0' + digit as u8])
 }
 
 /// Appends a number in decimal, behind `-` where it is negative, without leading zeros.
@@ -35,9 +35,9 @@ fn push_digit(text: &mut String, digit: u64) -> Result<(), NoMemory>
 /// # Errors
 ///
 /// `NoMemory` where there is none for the digits.
-pub fn push_signed(text: &mut String, number: i32) -> Result<(), NoMemory>
+pub fn push_signed(text: &mut Page, number: i32) -> Result<(), NoMemory>
     ensures pushed { OnOk result
-        (string_bytes text.new ≡ string_bytes text.old ++ signed_decimal number) }
+        (text.new ≡ text.old ++ signed_decimal number) }
 {
     if number < 0 {
         return push_negative(text, number.unsigned_abs());
@@ -45,9 +45,9 @@ pub fn push_signed(text: &mut String, number: i32) -> Result<(), NoMemory>
     push_number(text, u64::from(number.unsigned_abs()))
 }
 
-fn push_negative(text: &mut String, number: u32) -> Result<(), NoMemory>
+fn push_negative(text: &mut Page, number: u32) -> Result<(), NoMemory>
     ensures pushed { OnOk result
-        (string_bytes text.new ≡ string_bytes text.old ++ (codes "-" ++ decimal number)) }
+        (text.new ≡ text.old ++ (codes "-" ++ decimal number)) }
 {
     text.push_str("-")?;
     push_number(text, u64::from(number))

@@ -1,4 +1,4 @@
-use Rattle.std.proofs.Common.{◌≡◌, ◌++◌, ◌*◌, ◌<◌, string_bytes}
+use Rattle.std.proofs.Common.{◌≡◌, ◌++◌, ◌*◌, ◌<◌}
 use Rattle.std.specs.List.{All, flat_map}
 use Rattle.inp_bits.specs.Bits.{true_indices}
 use Rattle.inp_report.specs.Words.{spaced_code}
@@ -9,5 +9,5 @@ abbrev pub invariant-loop-code : goal.invariant-loop-code
 invariant-loop-code g l = record {
   whole : l.yielded ++ l.code-iterator ≡ true_indices l.flags;
   within : All (λ k. k < 64 * g.row.W) l.code-iterator;
-  written : string_bytes l.text ≡ string_bytes l.initial.text ++ flat_map (spaced_code l.kind) l.yielded;
+  written : l.text ≡ l.initial.text ++ flat_map (spaced_code l.kind) l.yielded;
 }

@@ -1,4 +1,4 @@
-use Rattle.std.proofs.Common.{◌≡◌, ◌++◌, take, string_bytes}
+use Rattle.std.proofs.Common.{◌≡◌, ◌++◌, take}
 use Rattle.std.specs.List.{flat_map}
 use Rattle.inp_report.specs.Summary.{job_brief}
 use Rattle.inp_report.proofs.brief.push_run_brief.Given as goal
@@ -6,4 +6,4 @@ use Rattle.inp_report.proofs.brief.push_run_brief.Given as goal
 -- the jobs so far
 abbrev pub invariant-loop-job : goal.invariant-loop-job
 invariant-loop-job l =
-    string_bytes l.text ≡ string_bytes l.initial.text ++ flat_map (job_brief l.actors) (take l.job-index l.job-items)
+    l.text ≡ l.initial.text ++ flat_map (job_brief l.actors) (take l.job-index l.job-items)

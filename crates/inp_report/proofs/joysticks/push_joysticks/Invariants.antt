@@ -1,4 +1,4 @@
-use Rattle.std.proofs.Common.{◌≡◌, ◌++◌, take, string_bytes}
+use Rattle.std.proofs.Common.{◌≡◌, ◌++◌, take}
 use Rattle.std.specs.List.{flat_map}
 use Rattle.inp_report.specs.JoyReport.{joy_text}
 use Rattle.inp_report.proofs.joysticks.push_joysticks.Given as goal
@@ -6,4 +6,4 @@ use Rattle.inp_report.proofs.joysticks.push_joysticks.Given as goal
 -- the joysticks so far
 abbrev pub invariant-loop-joy : goal.invariant-loop-joy
 invariant-loop-joy l =
-    string_bytes l.text ≡ string_bytes l.initial.text ++ flat_map (joy_text l.rec) (take l.joy-index l.joy-items)
+    l.text ≡ l.initial.text ++ flat_map (joy_text l.rec) (take l.joy-index l.joy-items)

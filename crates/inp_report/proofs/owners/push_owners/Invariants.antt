@@ -1,4 +1,4 @@
-use Rattle.std.proofs.Common.{◌≡◌, ◌++◌, take, string_bytes}
+use Rattle.std.proofs.Common.{◌≡◌, ◌++◌, take}
 use Rattle.std.specs.List.{flat_map}
 use Rattle.inp_report.specs.OwnerReport.{owner_text}
 use Rattle.inp_report.proofs.owners.push_owners.Given as goal
@@ -6,4 +6,4 @@ use Rattle.inp_report.proofs.owners.push_owners.Given as goal
 -- the owners so far
 abbrev pub invariant-loop-owner : goal.invariant-loop-owner
 invariant-loop-owner l =
-    string_bytes l.text ≡ string_bytes l.initial.text ++ flat_map (owner_text l.rec) (take l.owner-index l.owner-items)
+    l.text ≡ l.initial.text ++ flat_map (owner_text l.rec) (take l.owner-index l.owner-items)

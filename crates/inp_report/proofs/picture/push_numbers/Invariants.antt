@@ -1,4 +1,4 @@
-use Rattle.std.proofs.Common.{◌≡◌, ◌++◌, string_bytes}
+use Rattle.std.proofs.Common.{◌≡◌, ◌++◌}
 use Rattle.std.specs.List.{flat_map}
 use Rattle.inp_bits.specs.Bits.{true_indices}
 use Rattle.inp_report.specs.JoyReport.{spaced_number}
@@ -8,5 +8,5 @@ use Rattle.inp_report.proofs.picture.push_numbers.Given as goal
 abbrev pub invariant-loop-number : goal.invariant-loop-number
 invariant-loop-number l = record {
   whole : l.yielded ++ l.number-iterator ≡ true_indices l.flags;
-  written : string_bytes l.text ≡ string_bytes l.initial.text ++ flat_map spaced_number l.yielded;
+  written : l.text ≡ l.initial.text ++ flat_map spaced_number l.yielded;
 }

@@ -1,4 +1,4 @@
-use Rattle.std.proofs.Common.{◌≡◌, ◌++◌, take, string_bytes}
+use Rattle.std.proofs.Common.{◌≡◌, ◌++◌, take}
 use Rattle.std.specs.List.{flat_map}
 use Rattle.inp_report.specs.JoyReport.{spaced_value}
 use Rattle.inp_report.proofs.picture.push_values.Given as goal
@@ -6,4 +6,4 @@ use Rattle.inp_report.proofs.picture.push_values.Given as goal
 -- the values so far
 abbrev pub invariant-loop-value : goal.invariant-loop-value
 invariant-loop-value l =
-    string_bytes l.text ≡ string_bytes l.initial.text ++ flat_map spaced_value (take l.value-index l.values)
+    l.text ≡ l.initial.text ++ flat_map spaced_value (take l.value-index l.values)

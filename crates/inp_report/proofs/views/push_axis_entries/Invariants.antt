@@ -1,4 +1,4 @@
-use Rattle.std.proofs.Common.{◌≡◌, ◌++◌, ◌-◌, string_bytes}
+use Rattle.std.proofs.Common.{◌≡◌, ◌++◌, ◌-◌}
 use Rattle.std.specs.List.{flat_map, range_with_len}
 use Rattle.inp_report.specs.Views.{axis_entry}
 use Rattle.inp_report.proofs.views.push_axis_entries.Given as goal
@@ -6,4 +6,4 @@ use Rattle.inp_report.proofs.views.push_axis_entries.Given as goal
 -- the axes so far
 abbrev pub invariant-loop-code : goal.invariant-loop-code
 invariant-loop-code l =
-    string_bytes l.text ≡ string_bytes l.initial.text ++ flat_map (axis_entry l.caps l.axes) (range_with_len 0 (l.code - 0))
+    l.text ≡ l.initial.text ++ flat_map (axis_entry l.caps l.axes) (range_with_len 0 (l.code - 0))

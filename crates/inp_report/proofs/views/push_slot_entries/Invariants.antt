@@ -1,4 +1,4 @@
-use Rattle.std.proofs.Common.{◌≡◌, ◌++◌, ◌-◌, string_bytes}
+use Rattle.std.proofs.Common.{◌≡◌, ◌++◌, ◌-◌}
 use Rattle.std.specs.List.{flat_map, range_with_len}
 use Rattle.inp_report.specs.Views.{slot_entry}
 use Rattle.inp_report.proofs.views.push_slot_entries.Given as goal
@@ -6,4 +6,4 @@ use Rattle.inp_report.proofs.views.push_slot_entries.Given as goal
 -- the axes of the slot so far
 abbrev pub invariant-loop-code : goal.invariant-loop-code
 invariant-loop-code l =
-    string_bytes l.text ≡ string_bytes l.initial.text ++ flat_map (slot_entry l.caps l.cells l.slot) (range_with_len 48 (l.code - 48))
+    l.text ≡ l.initial.text ++ flat_map (slot_entry l.caps l.cells l.slot) (range_with_len 48 (l.code - 48))

@@ -1,4 +1,4 @@
-use Rattle.std.proofs.Common.{◌≡◌, ◌++◌, List, Some, length, sym, subst, ap, string_bytes, arith}
+use Rattle.std.proofs.Common.{◌≡◌, ◌++◌, List, Some, length, sym, subst, ap, arith}
 use Rattle.std.specs.Prelude.{slice_get}
 use Rattle.inp_actors.specs.declared.actor_text.ActorText.{ActorText}
 use Rattle.inp_actors.specs.declared.device_text.DeviceText.{DeviceText}
@@ -30,7 +30,7 @@ loop-index-preserved c =
     item_at c.as_slice-run-items.result.now c.args.runs.now index run c.as_slice-run-items.ensures.items c.loop-index-test.true c.run-item.is in
     let device_at : slice_get c.args.rec.now.devices index ≡ Some device =
     subst (λ (ds : List DeviceText). slice_get ds index ≡ Some device) c.devices.ensures.devices c.get-device.ensures.item in
-    let pushed = subst (λ (actors : List ActorText). string_bytes c.push_run.new.text ≡ string_bytes c.loop-index.text ++ run_text actors c.args.history (device, run)) c.actors.ensures.actors c.in_ok-push_run.ensures.pushed in
+    let pushed = subst (λ (actors : List ActorText). c.push_run.new.text ≡ c.loop-index.text ++ run_text actors c.args.history (device, run)) c.actors.ensures.actors c.in_ok-push_run.ensures.pushed in
     zipped_more (run_text c.args.rec.now.actors c.args.history) c.args.rec.now.devices c.args.runs.now _ _ _ index device run device_at run_at c.loop-index.invariant pushed
 
 pub returns : goal.returns

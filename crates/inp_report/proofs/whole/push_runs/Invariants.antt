@@ -1,4 +1,4 @@
-use Rattle.std.proofs.Common.{◌≡◌, ◌++◌, take, string_bytes}
+use Rattle.std.proofs.Common.{◌≡◌, ◌++◌, take}
 use Rattle.std.specs.List.{flat_map, zip}
 use Rattle.inp_report.specs.Report.{run_text}
 use Rattle.inp_report.proofs.whole.push_runs.Given as goal
@@ -6,4 +6,4 @@ use Rattle.inp_report.proofs.whole.push_runs.Given as goal
 -- the devices so far
 abbrev pub invariant-loop-index : goal.invariant-loop-index
 invariant-loop-index l =
-    string_bytes l.text ≡ string_bytes l.initial.text ++ flat_map (run_text l.rec.actors l.history) (take l.index (zip l.rec.devices l.runs))
+    l.text ≡ l.initial.text ++ flat_map (run_text l.rec.actors l.history) (take l.index (zip l.rec.devices l.runs))

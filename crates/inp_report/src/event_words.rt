@@ -1,0 +1,80 @@
+//! The words before the value of an event.
+ghost use Rattle.std.specs.Prelude.{◌≡◌, ◌<◌, ◌++◌, length, IfOk, OnOk};
+ghost use Rattle.inp_report.specs.Words.{event_words};
+
+use inp_model::NoMemory;
+use inp_texts::{Page, Phrase, push_code, push_kind};
+use std::alloc::Global;
+
+/// Of how many types and codes the words are kept at once (this project's choice).
+const PLACES: usize = 32;
+
+/// The type and the code of an event, as they are written.
+#[derive(Drop)]
+struct EventWords {
+    kind: u16,
+    code: u16,
+    words: Phrase,
+    ghost says: { words ≡ event_words kind code },
+}
+
+/// The types and codes that were written, each at the place that it has: what comes again is copied.
+#[derive(Drop)]
+pub(crate) struct KnownWords {
+    known: Vec<Option<EventWords>>,
+    ghost places: { length known.items ≡ 32 },
+}
+
+impl KnownWords {
+    pub(crate) fn new(alloc: Global) -> Result<KnownWords, NoMemory> {
+        let mut known = Vec::with_capacity(alloc, PLACES)?;
+        for _ in 0..PLACES {
+            known.push(None)?;
+        }
+        Ok(KnownWords { known })
+    }
+
+    // Appends the words of a type and a code, and keeps them.
+    #[inline]
+    pub(crate) fn push(&mut self, text: &mut Page, kind: u16, code: u16) -> Result<(), NoMemory>
+        ensures pushed { OnOk result (text.new ≡ text.old ++ event_words kind code) }
+    {
+        let place = place_of(kind, code);
+        if let Some(event) = &self.known[place] {
+            if event.kind == kind && event.code == code {
+                return text.push_phrase(&event.words);
+            }
+        }
+        self.write(text, place, kind, code)
+    }
+
+    fn write(&mut self, text: &mut Page, place: usize, kind: u16, code: u16) -> Result<(), NoMemory>
+        requires place { place < 32 }
+        ensures pushed { OnOk result (text.new ≡ text.old ++ event_words kind code) }
+    {
+        let start = text.len();
+        push_event_words(text, kind, code)?;
+        if let Some(words) = text.phrase_from(start) {
+            self.known[place] = Some(EventWords { kind, code, words });
+        }
+        Ok(())
+    }
+}
+
+// The place of a type and a code: codes that follow each other have places of their own, and so have types.
+fn place_of(kind: u16, code: u16) -> usize
+    ensures place { result < 32 }
+{
+    (usize::from(code) + 5 * usize::from(kind)) % PLACES
+}
+
+/// Appends the type and the code of an event, each with a space after it.
+#[tactic(auto, unfolding(crate::specs::Words::event_words))]
+pub(crate) fn push_event_words(text: &mut Page, kind: u16, code: u16) -> Result<(), NoMemory>
+    ensures pushed { OnOk result (text.new ≡ text.old ++ event_words kind code) }
+{
+    push_kind(text, kind)?;
+    text.push_str(" ")?;
+    push_code(text, kind, code)?;
+    text.push_str(" ")
+}
