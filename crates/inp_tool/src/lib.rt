@@ -34,8 +34,8 @@
 //! [`examples_of_views`] is about a record that was worked out by hand (`specs/Views.antt`): at which of its reports the promise
 //! on views speaks, and what its clients' views and the device show there.
 //!
-//! Not said: whether the gate is called where no thread is asked for (it is not; a test looks), and that jobs on threads run
-//! side by side (another test looks). With threads the call may wait, and then nothing says that it returns.
+//! Not said: whether the gate is called where no thread is asked for (it is not; a test looks on one thread), and that jobs on
+//! threads run side by side (another test looks). With threads the call may wait, and then nothing says that it returns.
 #![tactic(auto)]
 
 mod end;
