@@ -1,8 +1,7 @@
 -- What the first filter was given before each of the frames that a step ends: what it was given before the step, and the
 -- frames of the step that end earlier.
-use Rattle.std.proofs.Common.{◌≡◌, ℕ, suc, ◌<◌, ◌≤◌, Bool, true, false, if◌then◌else◌, List, [], ◌∷◌, ◌++◌, length, map, refl, sym, ap, ◌∙◌, subst, arith, Option, Some, None, append_assoc}
+use Rattle.std.proofs.Common.{◌≡◌, ℕ, suc, ◌<◌, ◌≤◌, Bool, if◌then◌else◌, List, [], ◌∷◌, ◌++◌, length, map, refl, sym, ap, ◌∙◌, subst, arith, Option, Some, None, append_assoc}
 use Rattle.std.specs.Prelude.{filter, nat_lt, option_to_list, option_map}
-use Rattle.std.proofs.lemmas.Bool.Decides.{nat_tests}
 use Rattle.std.proofs.lemmas.List.{map-append}
 use Rattle.inp_model.specs.declared.event.Event.{Event}
 use Rattle.inp_model.specs.declared.step.Step.{Step}
@@ -14,6 +13,7 @@ use Rattle.inp_model.specs.Cut.{cut_events, cut_for, cuts}
 use Rattle.inp_model.specs.Raw.{raw, raw_of_step}
 use Rattle.inp_model.specs.Frame.{cuts_of_step, frame_of}
 use Rattle.inp_model.specs.Left.{given_by, given_in, given_before}
+use Rattle.std.proofs.lemmas.Bool.{lt-ltb, le-ltb}
 
 -- Cuts end one after another
 
@@ -48,12 +48,6 @@ in_order-last n (b ∷ first) c rest h =
 
 -- The frames that end before one of them
 
-lt_true : (m n : ℕ) → m < n → nat_lt m n ≡ true
-lt_true m n h = grind (arith, nat_tests, h)
-
-lt_false : (m n : ℕ) → n ≤ m → nat_lt m n ≡ false
-lt_false m n h = grind (arith, nat_tests, h)
-
 -- the test of a frame by its cut
 abbrev is_before : ℕ → Frame → Bool
 is_before n g = nat_lt (length g.cut.until) n
@@ -63,16 +57,16 @@ module _ (past : List Step) (x : Step) where
   none_before n m [] le h = refl
   none_before n m (c ∷ cs) le h =
       let later : n ≤ length c.until = omega (arith, le, h.0) in
-      ap (λ (b : Bool). if b then frame_of past x c ∷ filter (is_before n) (map (frame_of past x) cs) else filter (is_before n) (map (frame_of past x) cs)) (lt_false (length c.until) n later)
+      ap (λ (b : Bool). if b then frame_of past x c ∷ filter (is_before n) (map (frame_of past x) cs) else filter (is_before n) (map (frame_of past x) cs)) (le-ltb (length c.until) n later)
       ∙ none_before n (length c.until) cs later h.1
 
   all_before : (n : ℕ) (first : List Cut) (c : Cut) (rest : List Cut) → AreInOrder n (first ++ c ∷ rest) → filter (is_before (length c.until)) (map (frame_of past x) (first ++ c ∷ rest)) ≡ map (frame_of past x) first
   all_before n [] c rest h =
-      ap (λ (b : Bool). if b then frame_of past x c ∷ filter (is_before (length c.until)) (map (frame_of past x) rest) else filter (is_before (length c.until)) (map (frame_of past x) rest)) (lt_false (length c.until) (length c.until) (omega arith))
+      ap (λ (b : Bool). if b then frame_of past x c ∷ filter (is_before (length c.until)) (map (frame_of past x) rest) else filter (is_before (length c.until)) (map (frame_of past x) rest)) (le-ltb (length c.until) (length c.until) (omega arith))
       ∙ none_before (length c.until) (length c.until) rest (omega arith) h.1
   all_before n (b ∷ first) c rest h =
       let earlier : length b.until < length c.until = in_order-last (length b.until) first c rest h.1 in
-      ap (λ (t : Bool). if t then frame_of past x b ∷ filter (is_before (length c.until)) (map (frame_of past x) (first ++ c ∷ rest)) else filter (is_before (length c.until)) (map (frame_of past x) (first ++ c ∷ rest))) (lt_true (length b.until) (length c.until) earlier)
+      ap (λ (t : Bool). if t then frame_of past x b ∷ filter (is_before (length c.until)) (map (frame_of past x) (first ++ c ∷ rest)) else filter (is_before (length c.until)) (map (frame_of past x) (first ++ c ∷ rest))) (lt-ltb (length b.until) (length c.until) earlier)
       ∙ ap (λ (fs : List Frame). frame_of past x b ∷ fs) (all_before (length b.until) first c rest h.1)
 
 given_by-append : (fs gs : List Frame) (before : List Timed) → given_by (fs ++ gs) before ≡ given_by gs (given_by fs before)

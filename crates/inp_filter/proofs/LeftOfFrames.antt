@@ -66,8 +66,3 @@ left-let_through d f h = nobody d.filters d f h
 pub left-held : (d : Description) (f : Frame) (client : ℕ) → holder f.before ≡ Some client → left (eaten d) f ≡ f.cut.events
 unfolding eaten
 left-held d f client h = held d.filters d f client h
-
--- there are no filters
-pub left-no_filters : (d : Description) (f : Frame) → d.filters ≡ [] → left (eaten d) f ≡ f.cut.events
-unfolding eaten
-left-no_filters d f h = none d.filters d f h

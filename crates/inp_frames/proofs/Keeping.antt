@@ -1,6 +1,6 @@
 -- For whoever keeps a core beside the clients of a device: a step that asks the core for nothing ends no frame, and the
 -- core stands for the past with it as it is.
-use Rattle.std.proofs.Common.{◌≡◌, Bool, true, false, ℕ, List, [], ◌∷◌, refl, sym, subst, ◌∙◌}
+use Rattle.std.proofs.Common.{◌≡◌, Bool, true, false, ℕ, List, ◌∷◌, refl, sym, subst, ◌∙◌}
 use Rattle.inp_model.specs.declared.axis_info.AxisInfo.{AxisInfo}
 use Rattle.inp_model.specs.declared.step.Step.{Step}
 use Rattle.inp_model.specs.declared.step.Step.TheVariants.{Inject, Tick, Write, Inhibit, Uninhibit, SetAxis}
@@ -9,8 +9,7 @@ use Rattle.inp_model.specs.Description.{Description}
 use Rattle.inp_model.specs.Past.{is_inhibited}
 use Rattle.inp_model.specs.Cut.{cuts, pending, at_frame}
 use Rattle.inp_model.specs.Timer.{repeats_keys}
-use Rattle.inp_model.specs.Raw.{raw, timer, raw_of_step, raw_and_timer}
-use Rattle.inp_model.specs.Frame.{cuts_of_step}
+use Rattle.inp_model.specs.Raw.{raw, timer, raw_and_timer}
 use Rattle.inp_state.specs.State.{Values, StateStandsFor}
 use Rattle.inp_slots.proofs.Others.{SlotsStandFor-described}
 use Rattle.inp_frames.specs.Core.{CoreValues, StandsAfter, CoreStandsFor}
@@ -63,20 +62,6 @@ CoreStandsFor-keeps d past x core h k = record {
   inhibited = k.inhibited ∙ sym (is_inhibited-none past x h);
 }
 
-pub cuts_of_step-none : (d : Description) (past : List Step) (x : Step) → makes_no_events x ≡ true → cuts_of_step d past x ≡ []
-unfolding raw_of_step cuts
-cuts_of_step-none d past (Inject e now) h = absurd (cc h)
-cuts_of_step-none d past (Write client e now) h = absurd (cc h)
-cuts_of_step-none d past (Tick now) h = absurd (cc h)
-cuts_of_step-none d past (Inhibit now) h = absurd (cc h)
-cuts_of_step-none d past Uninhibit h = absurd (cc h)
-cuts_of_step-none d past (SetAxis client code i) h = absurd (cc h)
-cuts_of_step-none d past _ h = refl
-
-pub cuts_of_step-uninhibit : (d : Description) (past : List Step) → cuts_of_step d past Uninhibit ≡ []
-unfolding raw_of_step cuts
-cuts_of_step-uninhibit d past = refl
-
 pub CoreStandsFor-uninhibit : (d : Description) (past : List Step) (core : CoreValues) → CoreStandsFor d past core → CoreStandsFor d (Uninhibit ∷ past) (record core { inhibited = false })
 unfolding raw timer raw_and_timer cuts is_inhibited
 CoreStandsFor-uninhibit d past core k = record {
@@ -84,11 +69,6 @@ CoreStandsFor-uninhibit d past core k = record {
   timer = k.timer ∙ sym (either (repeats_keys d) (raw_and_timer d past).timer);
   inhibited = refl;
 }
-
--- an axis described anew ends no frame
-pub cuts_of_step-described : (d : Description) (past : List Step) (client code : ℕ) (i : AxisInfo) → cuts_of_step d past (SetAxis client code i) ≡ []
-unfolding raw_of_step cuts
-cuts_of_step-described d past client code i = refl
 
 -- what waits, the slots and the slot of the last frame stay, and the state is as it is described
 StandsAfter-described : (d : Description) (r : List RawItem) (core : CoreValues) (code : ℕ) (i : AxisInfo) (state : Values) → StateStandsFor d (Described code i ∷ r) state → StandsAfter d r core → StandsAfter d (Described code i ∷ r) (record core { state = state })

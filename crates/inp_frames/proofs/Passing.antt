@@ -16,6 +16,7 @@ use Rattle.inp_state.proofs.Steps.{at_kind}
 use Rattle.inp_slots.specs.Slots.{touch}
 use Rattle.inp_frames.specs.declared.passed.Passed.{Passed}
 use Rattle.inp_frames.specs.Batch.{passed_events}
+use Rattle.inp_slots.proofs.Steps.{announced-tells}
 
 is_axis : (e : Event) → is_multi_touch e ≡ true → e.kind ≡ EV_ABS
 is_axis e h = grind (arith, nat_tests)
@@ -70,10 +71,6 @@ event_by (Some w) e v is = ap (λ (x : ℤ). record e { value = x } ∷ []) is
 
 -- the slot before it
 
-announced-staged : (d : Description) (r : List RawItem) (e : Event) → passes_slot_value d r e ≡ true → announced d (Occurred e ∷ r) ≡ staged d r
-unfolding announced
-announced-staged d r e h = ap (λ b. if b then staged d r else announced d r) h
-
 first : (a b : Bool) → (a && b) ≡ true → a ≡ true
 first true b h = refl
 first false b h = absurd (cc h)
@@ -94,7 +91,7 @@ passed-by d r e given n v slot flags_are value told before itself =
     let has_4 : (bit_and n 4 == 4) ≡ announces d r e = ap (λ (m : ℕ). bit_and m 4 == 4) flags_are ∙ flag_4 passes (goes_to_device d r e) (announces d r e) (passes && is_report e) in
     let of_slot : option_to_list given.announcement ≡ announcement d r e =
     ap option_to_list (before ∙ ap (λ b. if b then Some (slot_event slot) else None) has_4)
-    ∙ slot_by slot (staged d r) (announces d r e) (λ h. told ∙ announced-staged d r e (first (passes_slot_value d r e) (not (int_eq (staged d r) (announced d r))) h)) in
+    ∙ slot_by slot (staged d r) (announces d r e) (λ h. told ∙ announced-tells d r e (first (passes_slot_value d r e) (not (int_eq (staged d r) (announced d r))) h)) in
     let of_event : option_to_list given.event ≡ option_to_list (option_map (λ w. record e { value = w }) (passes_as d r e)) =
     ap option_to_list (itself ∙ ap (λ b. if b then Some new else None) has_1)
     ∙ event_by (passes_as d r e) e v value in

@@ -12,6 +12,7 @@ use Rattle.inp_model.specs.declared.event.TheConstants.{KEY_MAX}
 use Rattle.inp_model.specs.Raw.{has_contact, slot_release, slot_releases, key_release, key_releases, releases}
 use Rattle.inp_bits.specs.Bits.{is_on_at, true_indices}
 use Rattle.inp_frames.specs.Handling.{lift_events, release_events}
+use Rattle.inp_model.proofs.Injecting.{range-append}
 
 pub flat_map-append : (f : ℕ → List Event) (xs ys : List ℕ) → flat_map f (xs ++ ys) ≡ flat_map f xs ++ flat_map f ys
 flat_map-append f [] ys = refl
@@ -39,17 +40,6 @@ flat_map-none f a (suc n) h =
     ap (λ (es : List Event). es ++ flat_map f (range_with_len (a + 1) n)) (h a (omega arith))
     ∙ flat_map-none f (a + 1) n (λ k l. h k (omega arith))
 
-range-split : (a m n : ℕ) → range_with_len a (m + n) ≡ range_with_len a m ++ range_with_len (a + m) n
-range-split a zero n =
-    let count : 0 + n ≡ n = omega arith in
-    let start : a ≡ a + 0 = omega arith in
-    ap (range_with_len a) count ∙ ap (λ (k : ℕ). range_with_len k n) start
-range-split a (suc m) n =
-    let count : suc m + n ≡ suc (m + n) = omega arith in
-    let start : a + 1 + m ≡ a + suc m = omega arith in
-    ap (range_with_len a) count
-    ∙ ap (λ (xs : List ℕ). a ∷ xs) (range-split (a + 1) m n ∙ ap (λ (k : ℕ). range_with_len (a + 1) m ++ range_with_len k n) start)
-
 only_if : (x y : Bool) (es : List Event) → x ≡ y → (if x then es else []) ≡ (if y then es else [])
 only_if x y es h = ap (λ b. if b then es else []) h
 
@@ -65,7 +55,7 @@ lifts d r contacts len few there past =
     flat_map-range f (slot_release d r) 0 d.slots (λ slot l u. only_if (is_on_at contacts slot) (has_contact d r slot) (lift_events slot) (there slot (omega arith))) in
     flat_map-filter lift_events (is_on_at contacts) (range_with_len 0 (length contacts))
     ∙ ap (λ (n : ℕ). flat_map f (range_with_len 0 n)) count
-    ∙ ap (flat_map f) (range-split 0 d.slots (256 - d.slots))
+    ∙ ap (flat_map f) (range-append 0 d.slots (256 - d.slots))
     ∙ flat_map-append f (range_with_len 0 d.slots) (range_with_len (0 + d.slots) (256 - d.slots))
     ∙ ap (λ (es : List Event). flat_map f (range_with_len 0 d.slots) ++ es) behind
     ∙ append-nil (flat_map f (range_with_len 0 d.slots))

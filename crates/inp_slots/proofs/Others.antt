@@ -1,6 +1,6 @@
 -- Neither an event that is not multi-touch, nor a description of an axis, nor a frame changes a slot. For whoever keeps
 -- slots beside a state.
-use Rattle.std.proofs.Common.{◌≡◌, ℕ, true, false, ℤ, pos, List, ◌∷◌, refl, sym, ◌∙◌, arith}
+use Rattle.std.proofs.Common.{◌≡◌, ℕ, true, false, pos, List, ◌∷◌, refl, sym, ◌∙◌, arith}
 use Rattle.std.proofs.lemmas.Bool.Decides.{nat_tests}
 use Rattle.std.specs.Prelude.{is_some}
 use Rattle.inp_model.specs.declared.event.TheConstants.{EV_ABS}
@@ -13,7 +13,8 @@ use Rattle.inp_model.specs.Event.{is_on, is_multi_touch, is_slot_value}
 use Rattle.inp_model.specs.State.{staged, cell}
 use Rattle.inp_model.specs.Passed.{passes_as, announced}
 use Rattle.inp_slots.specs.Slots.{SlotValues, SlotsStandFor}
-use Rattle.inp_slots.proofs.Steps.{no_and, staged-stays, announced-stays, cell-stays}
+use Rattle.inp_slots.proofs.Steps.{staged-stays, announced-stays, cell-stays}
+use Rattle.std.proofs.lemmas.Bool.{and_left}
 
 -- it is on no multi-touch code
 off_multi_touch : (d : Description) (code : ℕ) (e : Event) → is_multi_touch e ≡ false → is_multi_touch_code code ≡ true → is_on d EV_ABS code e ≡ false
@@ -31,7 +32,7 @@ pub SlotsStandFor-other : (d : Description) (r : List RawItem) (s : SlotValues) 
 SlotsStandFor-other d r s e m h = record {
   count = h.count;
   staged = h.staged ∙ sym (staged-stays d r e (off_multi_touch d ABS_MT_SLOT e m refl));
-  announced = h.announced ∙ sym (announced-stays d r e (no_and (is_slot_value e) (is_some (passes_as d r e)) (no_slot_value e m)));
+  announced = h.announced ∙ sym (announced-stays d r e (and_left (is_slot_value e) (is_some (passes_as d r e)) (no_slot_value e m)));
   values = λ slot code l k. h.values slot code l k ∙ sym (cell-stays d r e (pos slot) code (off_multi_touch d code e m (multi_touch-slot code k)));
 }
 
@@ -39,7 +40,3 @@ SlotsStandFor-other d r s e m h = record {
 pub SlotsStandFor-described : (d : Description) (r : List RawItem) (s : SlotValues) (code : ℕ) (i : AxisInfo) → SlotsStandFor d r s → SlotsStandFor d (Described code i ∷ r) s
 unfolding staged announced cell
 SlotsStandFor-described d r s code i h = record { count = h.count; staged = h.staged; announced = h.announced; values = h.values }
-
--- a frame changes no slot: what stood for the events stands for them with another slot at the frame's end
-pub SlotsStandFor-frame : (d : Description) (r : List RawItem) (s : SlotValues) (slot : ℤ) → SlotsStandFor d r s → SlotsStandFor d r (record s { at_frame = slot })
-SlotsStandFor-frame d r s slot h = record { count = h.count; staged = h.staged; announced = h.announced; values = h.values }

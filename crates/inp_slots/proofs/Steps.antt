@@ -1,6 +1,6 @@
 -- What an event leaves of the staged slot, the announced slot and each value, by the codes that it is on.
 use Rattle.std.proofs.Common.{◌≡◌, ℕ, Bool, true, false, ◌&&◌, if◌then◌else◌, nat_eq, ℤ, List, ◌∷◌, refl, sym, subst, arith, inl, inr, Option, Some, None}
-use Rattle.std.proofs.lemmas.Bool.{cases_eq}
+use Rattle.std.proofs.lemmas.Bool.{cases_eq, cond-false, cond-true, and_left}
 use Rattle.std.proofs.lemmas.Bool.Decides.{nat_tests, Decides-int_eq}
 use Rattle.std.specs.Prelude.{is_some}
 use Rattle.std.specs.Ordering.{int_eq}
@@ -16,14 +16,6 @@ use Rattle.inp_model.specs.Passed.{announced, passes_as, passes_slot_value}
 use Rattle.inp_slots.specs.Slots.{touch}
 
 -- ---- tests
-
-pub no_only : {X : Type 0} → (a : Bool) (x y : X) → a ≡ false → (if a then x else y) ≡ y
-no_only true x y h = absurd (cc h)
-no_only false x y h = refl
-
-pub yes_only : {X : Type 0} → (a : Bool) (x y : X) → a ≡ true → (if a then x else y) ≡ x
-yes_only true x y h = refl
-yes_only false x y h = absurd (cc h)
 
 no_first : {X : Type 0} → (a b : Bool) (x y : X) → a ≡ false → (if a && b then x else y) ≡ y
 no_first true b x y h = absurd (cc h)
@@ -42,10 +34,6 @@ yes_both : {X : Type 0} → (a b : Bool) (x y : X) → a ≡ true → b ≡ true
 yes_both true true x y h k = refl
 yes_both true false x y h k = absurd (cc k)
 yes_both false b x y h k = absurd (cc h)
-
-pub no_and : (a b : Bool) → a ≡ false → (a && b) ≡ false
-no_and true b h = absurd (cc h)
-no_and false b h = refl
 
 differs_by : (a b : ℤ) (t : Bool) → int_eq a b ≡ t → (a ≡ b → ⊥) → int_eq a b ≡ false
 differs_by a b true p h = absurd (h ((Decides-int_eq a b).0 p))
@@ -71,7 +59,7 @@ on_code d code value h = grind (arith, nat_tests)
 pub off_all : (d : Description) (code : ℕ) (value : ℤ) (other : ℕ) → supports d EV_ABS code ≡ false → is_on d EV_ABS other (touch code value) ≡ false
 off_all d code value other h =
     elim (cases_eq other code) [
-      | inl same ↦ no_and (supports d EV_ABS other) (nat_eq code other) (subst (λ (n : ℕ). supports d EV_ABS n ≡ false) (sym same) h)
+      | inl same ↦ and_left (supports d EV_ABS other) (nat_eq code other) (subst (λ (n : ℕ). supports d EV_ABS n ≡ false) (sym same) h)
       | inr differs ↦ off_code d code value other differs
     ]
 
@@ -106,11 +94,11 @@ cell-moves d r e slot code h k =
 
 pub announced-stays : (d : Description) (r : List RawItem) (e : Event) → passes_slot_value d r e ≡ false → announced d (Occurred e ∷ r) ≡ announced d r
 unfolding announced
-announced-stays d r e h = no_only (passes_slot_value d r e) (staged d r) (announced d r) h
+announced-stays d r e h = cond-false (passes_slot_value d r e) (staged d r) (announced d r) h
 
 pub announced-tells : (d : Description) (r : List RawItem) (e : Event) → passes_slot_value d r e ≡ true → announced d (Occurred e ∷ r) ≡ staged d r
 unfolding announced
-announced-tells d r e h = yes_only (passes_slot_value d r e) (staged d r) (announced d r) h
+announced-tells d r e h = cond-true (passes_slot_value d r e) (staged d r) (announced d r) h
 
 tells_nothing : (b : Bool) (given : Option ℤ) → given ≡ None → (b && is_some given) ≡ false
 tells_nothing b (Some v) h = absurd (cc h)

@@ -1,7 +1,7 @@
 -- Under which value an event is passed, by its type, from what is kept.
 use Rattle.std.proofs.Common.{◌≡◌, ℕ, Bool, true, false, ◌&&◌, not, if◌then◌else◌, nat_eq, nat_lt, ℤ, pos, List, ◌∷◌, get_or, refl, sym, ap, ◌∙◌, Option, Some, None}
 use Rattle.std.specs.Ordering.{int_eq}
-use Rattle.inp_model.specs.declared.event.TheConstants.{EV_SYN, EV_KEY, EV_REL, EV_ABS, EV_MSC, EV_SW, EV_LED, EV_SND, EV_REP, SYN_DROPPED}
+use Rattle.inp_model.specs.declared.event.TheConstants.{EV_SYN, EV_KEY, EV_ABS, EV_SW, EV_LED, EV_REP, SYN_DROPPED}
 use Rattle.inp_model.specs.declared.event.Event.{Event}
 use Rattle.inp_model.specs.RawItem.{RawItem, Occurred}
 use Rattle.inp_model.specs.Description.{Description, supports}
@@ -25,10 +25,6 @@ turned : (b : Bool) (x y : Option ℤ) → (if b then y else x) ≡ (if not b th
 turned true x y = refl
 turned false x y = refl
 
--- EV_SYN
-pub passes-syn : (d : Description) (r : List RawItem) (code : ℕ) (value : ℤ) → (if nat_lt code SYN_DROPPED then Some value else None) ≡ passes_as d r (event EV_SYN code value)
-passes-syn d r code value = refl
-
 -- what is not supported
 none_by : (s b t : Bool) (x y : Option ℤ) → s ≡ false → b ≡ false → None ≡ (if s then x else if b && t then y else None)
 none_by true b t x y h k = absurd (cc h)
@@ -38,16 +34,6 @@ none_by false false t x y h k = refl
 pub passes-unsupported : (d : Description) (r : List RawItem) (e : Event) → nat_eq e.kind EV_SYN ≡ false → supports d e.kind e.code ≡ false → None ≡ passes_as d r e
 passes-unsupported d r e h k =
     none_by (nat_eq e.kind EV_SYN) (supports d e.kind e.code) (code_passes d r e) (if nat_lt e.code SYN_DROPPED then Some e.value else None) (Some (value_passed d r e)) h k
-
--- EV_REL, EV_MSC, EV_SND
-pub passes-motion : (d : Description) (r : List RawItem) (code : ℕ) (value : ℤ) → supports d EV_REL code ≡ true → (if is_set (event EV_REL code value) then Some value else None) ≡ passes_as d r (event EV_REL code value)
-passes-motion d r code value u = guarded (supports d EV_REL code) (is_set (event EV_REL code value)) (Some value) u
-
-pub passes-misc : (d : Description) (r : List RawItem) (code : ℕ) (value : ℤ) → supports d EV_MSC code ≡ true → Some value ≡ passes_as d r (event EV_MSC code value)
-passes-misc d r code value u = guarded (supports d EV_MSC code) true (Some value) u
-
-pub passes-sound : (d : Description) (r : List RawItem) (code : ℕ) (value : ℤ) → supports d EV_SND code ≡ true → Some value ≡ passes_as d r (event EV_SND code value)
-passes-sound d r code value u = guarded (supports d EV_SND code) true (Some value) u
 
 -- EV_KEY
 key_by : (d : Description) (r : List RawItem) (keys : List Bool) (code : ℕ) (value : ℤ) (repeat : Bool) → is_repeat (event EV_KEY code value) ≡ repeat → ((k : ℕ) → get_or keys k false ≡ key_down d r k) → supports d EV_KEY code ≡ true → (if repeat then Some value else if differ (get_or keys code false) (is_set (event EV_KEY code value)) then Some value else None) ≡ (if (if repeat then true else differ (key_down d r code) (key_down d (Occurred (event EV_KEY code value) ∷ r) code)) then Some value else None)

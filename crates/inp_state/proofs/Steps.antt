@@ -1,7 +1,7 @@
 -- What an event leaves of a state, part by part.
 use Rattle.std.proofs.Common.{◌≡◌, ℕ, ◌<◌, ◌≤◌, Bool, true, false, ◌&&◌, not, if◌then◌else◌, nat_eq, ℤ, pos, List, ◌∷◌, length, set, get_or, refl, sym, ap, subst, ◌∙◌, arith, inl, inr}
 use Rattle.std.proofs.lemmas.List.{get_or-set_same, get_or-set_other}
-use Rattle.std.proofs.lemmas.Bool.{cases_eq}
+use Rattle.std.proofs.lemmas.Bool.{cases_eq, eqb-true, cond-false, cond-true, and_left}
 use Rattle.std.proofs.lemmas.Bool.Decides.{nat_tests}
 use Rattle.inp_model.specs.declared.event.TheConstants.{EV_KEY, EV_ABS, EV_SW, EV_LED, EV_SND, EV_REP, REP_DELAY, REP_PERIOD, ABS_MAX}
 use Rattle.inp_model.specs.declared.event.Event.{Event}
@@ -40,16 +40,12 @@ all_true a b c x y z = grind arith
 pub on_code : (d : Description) (kind code : ℕ) (value : ℤ) → supports d kind code ≡ true → is_on d kind code (event kind code value) ≡ true
 on_code d kind code value h = all_true (supports d kind code) (nat_eq kind kind) (nat_eq code code) h (eq_self kind) (eq_self code)
 
-no_and : (a b : Bool) → a ≡ false → (a && b) ≡ false
-no_and true b h = absurd (cc h)
-no_and false b h = refl
-
 -- not on any, where its own is not supported
 pub off_all : (d : Description) (kind code : ℕ) (e : Event) → supports d e.kind e.code ≡ false → is_on d kind code e ≡ false
 off_all d kind code e h =
     elim (cases_eq e.kind kind) [
       | inl same ↦ elim (cases_eq e.code code) [
-        | inl alike ↦ no_and (supports d kind code) (nat_eq e.kind kind && nat_eq e.code code) (subst (λ (n : ℕ). supports d n code ≡ false) same (subst (λ (n : ℕ). supports d e.kind n ≡ false) alike h))
+        | inl alike ↦ and_left (supports d kind code) (nat_eq e.kind kind && nat_eq e.code code) (subst (λ (n : ℕ). supports d n code ≡ false) same (subst (λ (n : ℕ). supports d e.kind n ≡ false) alike h))
         | inr other ↦ off_code d kind code e (λ x. other (sym x))
       ]
       | inr other ↦ off_kind d kind code e (grind (arith, nat_tests))
@@ -66,18 +62,10 @@ no_second true true x y h = absurd (cc h)
 no_second true false x y h = refl
 no_second false b x y h = refl
 
-no_only : {X : Type 0} → (a : Bool) (x y : X) → a ≡ false → (if a then x else y) ≡ y
-no_only true x y h = absurd (cc h)
-no_only false x y h = refl
-
 yes_both : {X : Type 0} → (a b : Bool) (x y : X) → a ≡ true → b ≡ true → (if a && b then x else y) ≡ x
 yes_both true true x y h k = refl
 yes_both true false x y h k = absurd (cc k)
 yes_both false b x y h k = absurd (cc h)
-
-yes_only : {X : Type 0} → (a : Bool) (x y : X) → a ≡ true → (if a then x else y) ≡ x
-yes_only true x y h = refl
-yes_only false x y h = absurd (cc h)
 
 not_of : (b : Bool) → b ≡ false → not b ≡ true
 not_of true h = absurd (cc h)
@@ -101,11 +89,11 @@ key_down-set d r e code h k = yes_both (is_on d EV_KEY code e) (not (is_repeat e
 
 pub turned_on-stays : (d : Description) (r : List RawItem) (e : Event) (kind code : ℕ) → is_on d kind code e ≡ false → turned_on d (Occurred e ∷ r) kind code ≡ turned_on d r kind code
 unfolding turned_on
-turned_on-stays d r e kind code h = no_only (is_on d kind code e) (is_set e) (turned_on d r kind code) h
+turned_on-stays d r e kind code h = cond-false (is_on d kind code e) (is_set e) (turned_on d r kind code) h
 
 pub turned_on-set : (d : Description) (r : List RawItem) (e : Event) (kind code : ℕ) → is_on d kind code e ≡ true → turned_on d (Occurred e ∷ r) kind code ≡ is_set e
 unfolding turned_on
-turned_on-set d r e kind code h = yes_only (is_on d kind code e) (is_set e) (turned_on d r kind code) h
+turned_on-set d r e kind code h = cond-true (is_on d kind code e) (is_set e) (turned_on d r kind code) h
 
 pub repeat_setting-stays : (d : Description) (r : List RawItem) (e : Event) (code : ℕ) → is_on d EV_REP code e ≡ false → repeat_setting d (Occurred e ∷ r) code ≡ repeat_setting d r code
 unfolding repeat_setting
@@ -298,9 +286,6 @@ first : (a b : Bool) → (a && b) ≡ true → a ≡ true
 first true b h = refl
 first false b h = absurd (cc h)
 
-same_kind : (n k : ℕ) → nat_eq n k ≡ true → n ≡ k
-same_kind n k h = grind (arith, nat_tests)
-
 axis_value-multi_touch : (d : Description) (r : List RawItem) (e : Event) (code : ℕ) → is_multi_touch e ≡ true → axis_value d (Occurred e ∷ r) code ≡ axis_value d r code
 unfolding axis_value
 axis_value-multi_touch d r e code h = no_second (is_on d EV_ABS code e) (not (is_multi_touch e)) (defuzz e.value (axis_value d r code) (axis_info d r code).fuzz) (axis_value d r code) (not_so (is_multi_touch e) h)
@@ -308,7 +293,7 @@ axis_value-multi_touch d r e code h = no_second (is_on d EV_ABS code e) (not (is
 -- it changes nothing here; for whoever keeps slots beside a state
 pub StateStandsFor-multi_touch : (d : Description) (r : List RawItem) (s : Values) (e : Event) → is_multi_touch e ≡ true → StateStandsFor d r s → StateStandsFor d (Occurred e ∷ r) s
 StateStandsFor-multi_touch d r s e m h =
-    let axis : e.kind ≡ EV_ABS = same_kind e.kind EV_ABS (first (nat_eq e.kind EV_ABS) (is_multi_touch_code e.code) m) in
+    let axis : e.kind ≡ EV_ABS = eqb-true e.kind EV_ABS (first (nat_eq e.kind EV_ABS) (is_multi_touch_code e.code) m) in
     let other : (kind code : ℕ) → nat_eq EV_ABS kind ≡ false → is_on d kind code e ≡ false = λ kind code n. off_kind d kind code e (ap (λ (k : ℕ). nat_eq k kind) axis ∙ n) in
     record {
       keys = λ k. h.keys k ∙ sym (key_down-stays d r e k (other EV_KEY k refl));

@@ -1,15 +1,15 @@
-use Rattle.std.proofs.Common.{◌≡◌, ◌∷◌, ℕ, true, false, ℤ, pos, Option, Some, None, length, nat_eq, sym, ap, subst, ◌∙◌, arith, rules, to_z, of_z, w32, FitsSigned}
+use Rattle.std.proofs.Common.{◌≡◌, List, ◌∷◌, ℕ, true, false, ℤ, pos, Option, Some, None, length, nat_eq, sym, ap, subst, ◌∙◌, arith, rules, to_z, of_z, w32, FitsSigned}
 use Rattle.std.proofs.lemmas.Bool.Decides.{nat_tests}
 use Rattle.std.proofs.lemmas.Int.{to_z-of_z}
 use Rattle.std.specs.Prelude.{unwrap_or, vec_len}
 use Rattle.inp_model.specs.declared.event.TheConstants.{EV_ABS}
 use Rattle.inp_model.specs.declared.multi_touch.TheConstants.{ABS_MT_SLOT}
 use Rattle.inp_model.specs.declared.axis_info.AxisInfo.{AxisInfo}
-use Rattle.inp_model.specs.RawItem.{Occurred}
-use Rattle.inp_model.specs.Description.{supports, is_slot_code, is_multi_touch_code}
+use Rattle.inp_model.specs.RawItem.{RawItem, Occurred}
+use Rattle.inp_model.specs.Description.{Description, supports, is_slot_code, is_multi_touch_code}
 use Rattle.inp_slots.specs.Slots.{SlotValues, SlotsStandFor, touch}
-use Rattle.inp_slots.specs.Changes.{slot_named}
-use Rattle.inp_slots.proofs.Touches.{unsupported-stands, name-stands, value-stands-without_slots, given-passes, passed-stands, kept-stands, passed-flags, kept-flags}
+use Rattle.inp_slots.specs.Changes.{slot_named, is_slot_there, staged_slot}
+use Rattle.inp_slots.proofs.Touches.{Before, unsupported-stands, name-stands, value-stands-without_slots, given-passes, passed-stands, kept-stands, passed-flags, kept-flags}
 use Rattle.inp_slots.proofs.slots.Slots.apply.Goals as goal
 
 slot_code_by : (code : ℕ) → is_multi_touch_code code ≡ true → (code ≡ ABS_MT_SLOT → ⊥) → is_slot_code code ≡ true
@@ -20,6 +20,10 @@ none_by n h = grind (arith, nat_tests)
 
 abbrev kept : ℤ → ℤ
 kept z = to_z w32 (of_z w32 z)
+
+-- what is known before the value is moved
+as_before : (d : Description) (r : List RawItem) (s : SlotValues) (code : ℕ) → supports d EV_ABS code ≡ true → is_slot_code code ≡ true → is_slot_there s s.staged ≡ true → length (staged_slot s) ≡ 14 → SlotsStandFor d r s → Before d r s code
+as_before d r s code u k there len h = record { supported = u; slot_code = k; there = there; len = len; stands = h }
 
 pub returns-then-not-supports-clause-stands : goal.returns-then-not-supports-clause-stands
 returns-then-not-supports-clause-stands c =
@@ -52,63 +56,46 @@ returns-then-is_empty-clause-stands c =
 pub move_value-requires-clause-code : goal.move_value-requires-clause-code
 move_value-requires-clause-code c = slot_code_by c.args.code c.requires.multi_touch c.if-code-eq-ABS_MT_SLOT.false
 
-pub returns-in-Some-clause-stands : goal.returns-in-Some-clause-stands
-returns-in-Some-clause-stands c =
+pub returns-in-Some : goal.returns-in-Some
+returns-in-Some c =
     let u : supports c.args.caps.now EV_ABS c.args.code ≡ true = sym c.supports.ensures.supported ∙ c.if-not-supports.false in
     let k = slot_code_by c.args.code c.requires.multi_touch c.if-code-eq-ABS_MT_SLOT.false in
     let v = to_z-of_z w32 c.args.value c.ranges.value in
     let fits : FitsSigned w32 c.axis.result.fuzz = search rules in
     let f = to_z-of_z w32 c.axis.result.fuzz fits ∙ ap (λ (i : AxisInfo). i.fuzz) c.axis.ensures.axis in
-    let g = c.in-Some.ensures.change in
-    λ r h. passed-stands c.args.caps.now r c.args.self.now c.args.code c.args.value (kept c.args.value) (kept c.axis.result.fuzz) c.in-Some.taken c.move_value.new.self c.announce.new.self v f c.move_value.ensures.slots c.announce.ensures.slots (given-passes c.args.caps.now r c.args.self.now c.args.code c.args.value (kept c.args.value) (kept c.axis.result.fuzz) (Some c.in-Some.taken) v f g (record { supported = u; slot_code = k; there = c.move_value.ensures.staged; len = c.move_value.ensures.len; stands = h })) (record { supported = u; slot_code = k; there = c.move_value.ensures.staged; len = c.move_value.ensures.len; stands = h })
-
-pub returns-in-Some-clause-disposition : goal.returns-in-Some-clause-disposition
-returns-in-Some-clause-disposition c =
-    let u : supports c.args.caps.now EV_ABS c.args.code ≡ true = sym c.supports.ensures.supported ∙ c.if-not-supports.false in
-    let k = slot_code_by c.args.code c.requires.multi_touch c.if-code-eq-ABS_MT_SLOT.false in
-    let v = to_z-of_z w32 c.args.value c.ranges.value in
-    let fits : FitsSigned w32 c.axis.result.fuzz = search rules in
-    let f = to_z-of_z w32 c.axis.result.fuzz fits ∙ ap (λ (i : AxisInfo). i.fuzz) c.axis.ensures.axis in
-    let g = c.in-Some.ensures.change in
-    λ r h. passed-flags c.args.caps.now r c.args.self.now c.args.code c.args.value (kept c.args.value) (kept c.axis.result.fuzz) c.in-Some.taken c.move_value.new.self _ c.move_value.ensures.slots c.announce.ensures.disposition (given-passes c.args.caps.now r c.args.self.now c.args.code c.args.value (kept c.args.value) (kept c.axis.result.fuzz) (Some c.in-Some.taken) v f g (record { supported = u; slot_code = k; there = c.move_value.ensures.staged; len = c.move_value.ensures.len; stands = h })) (record { supported = u; slot_code = k; there = c.move_value.ensures.staged; len = c.move_value.ensures.len; stands = h })
-
-pub returns-in-Some-clause-value : goal.returns-in-Some-clause-value
-returns-in-Some-clause-value c =
-    let u : supports c.args.caps.now EV_ABS c.args.code ≡ true = sym c.supports.ensures.supported ∙ c.if-not-supports.false in
-    let k = slot_code_by c.args.code c.requires.multi_touch c.if-code-eq-ABS_MT_SLOT.false in
-    let v = to_z-of_z w32 c.args.value c.ranges.value in
-    let fits : FitsSigned w32 c.axis.result.fuzz = search rules in
-    let f = to_z-of_z w32 c.axis.result.fuzz fits ∙ ap (λ (i : AxisInfo). i.fuzz) c.axis.ensures.axis in
-    let g = c.in-Some.ensures.change in
     let taken_fits : FitsSigned w32 c.in-Some.taken = search rules in
-    λ r h. to_z-of_z w32 c.in-Some.taken taken_fits ∙ sym (ap (λ (o : Option ℤ). unwrap_or o c.args.value) (given-passes c.args.caps.now r c.args.self.now c.args.code c.args.value (kept c.args.value) (kept c.axis.result.fuzz) (Some c.in-Some.taken) v f g (record { supported = u; slot_code = k; there = c.move_value.ensures.staged; len = c.move_value.ensures.len; stands = h })))
+    let before = λ (r : List RawItem) (h : SlotsStandFor c.args.caps.now r c.args.self.now).
+    as_before c.args.caps.now r c.args.self.now c.args.code u k c.move_value.ensures.staged c.move_value.ensures.len h in
+    let given = λ (r : List RawItem) (h : SlotsStandFor c.args.caps.now r c.args.self.now).
+    given-passes c.args.caps.now r c.args.self.now c.args.code c.args.value (kept c.args.value) (kept c.axis.result.fuzz) (Some c.in-Some.taken) v f c.in-Some.ensures.change (before r h) in
+    record {
+      stands = λ r h.
+          passed-stands c.args.caps.now r c.args.self.now c.args.code c.args.value (kept c.args.value) (kept c.axis.result.fuzz) c.in-Some.taken c.move_value.new.self c.announce.new.self v f
+          c.move_value.ensures.slots c.announce.ensures.slots (given r h) (before r h);
+      disposition = λ r h.
+          passed-flags c.args.caps.now r c.args.self.now c.args.code c.args.value (kept c.args.value) (kept c.axis.result.fuzz) c.in-Some.taken c.move_value.new.self _
+          c.move_value.ensures.slots c.announce.ensures.disposition (given r h) (before r h);
+      value = λ r h. to_z-of_z w32 c.in-Some.taken taken_fits ∙ sym (ap (λ (o : Option ℤ). unwrap_or o c.args.value) (given r h));
+      count = search rules;
+      at_frame = search rules;
+    }
 
-pub returns-in-None-clause-stands : goal.returns-in-None-clause-stands
-returns-in-None-clause-stands c =
+pub returns-in-None : goal.returns-in-None
+returns-in-None c =
     let u : supports c.args.caps.now EV_ABS c.args.code ≡ true = sym c.supports.ensures.supported ∙ c.if-not-supports.false in
     let k = slot_code_by c.args.code c.requires.multi_touch c.if-code-eq-ABS_MT_SLOT.false in
     let v = to_z-of_z w32 c.args.value c.ranges.value in
     let fits : FitsSigned w32 c.axis.result.fuzz = search rules in
     let f = to_z-of_z w32 c.axis.result.fuzz fits ∙ ap (λ (i : AxisInfo). i.fuzz) c.axis.ensures.axis in
-    let g = c.in-None.ensures.change in
-    λ r h. kept-stands c.args.caps.now r c.args.self.now c.args.code c.args.value (kept c.args.value) (kept c.axis.result.fuzz) c.move_value.new.self v f c.move_value.ensures.slots (given-passes c.args.caps.now r c.args.self.now c.args.code c.args.value (kept c.args.value) (kept c.axis.result.fuzz) None v f g (record { supported = u; slot_code = k; there = c.move_value.ensures.staged; len = c.move_value.ensures.len; stands = h })) (record { supported = u; slot_code = k; there = c.move_value.ensures.staged; len = c.move_value.ensures.len; stands = h })
-
-pub returns-in-None-clause-disposition : goal.returns-in-None-clause-disposition
-returns-in-None-clause-disposition c =
-    let u : supports c.args.caps.now EV_ABS c.args.code ≡ true = sym c.supports.ensures.supported ∙ c.if-not-supports.false in
-    let k = slot_code_by c.args.code c.requires.multi_touch c.if-code-eq-ABS_MT_SLOT.false in
-    let v = to_z-of_z w32 c.args.value c.ranges.value in
-    let fits : FitsSigned w32 c.axis.result.fuzz = search rules in
-    let f = to_z-of_z w32 c.axis.result.fuzz fits ∙ ap (λ (i : AxisInfo). i.fuzz) c.axis.ensures.axis in
-    let g = c.in-None.ensures.change in
-    λ r h. c.empty-in-None.ensures tt ∙ kept-flags c.args.caps.now r c.args.self.now c.args.code c.args.value (given-passes c.args.caps.now r c.args.self.now c.args.code c.args.value (kept c.args.value) (kept c.axis.result.fuzz) None v f g (record { supported = u; slot_code = k; there = c.move_value.ensures.staged; len = c.move_value.ensures.len; stands = h })) (record { supported = u; slot_code = k; there = c.move_value.ensures.staged; len = c.move_value.ensures.len; stands = h })
-
-pub returns-in-None-clause-value : goal.returns-in-None-clause-value
-returns-in-None-clause-value c =
-    let u : supports c.args.caps.now EV_ABS c.args.code ≡ true = sym c.supports.ensures.supported ∙ c.if-not-supports.false in
-    let k = slot_code_by c.args.code c.requires.multi_touch c.if-code-eq-ABS_MT_SLOT.false in
-    let v = to_z-of_z w32 c.args.value c.ranges.value in
-    let fits : FitsSigned w32 c.axis.result.fuzz = search rules in
-    let f = to_z-of_z w32 c.axis.result.fuzz fits ∙ ap (λ (i : AxisInfo). i.fuzz) c.axis.ensures.axis in
-    let g = c.in-None.ensures.change in
-    λ r h. v ∙ sym (ap (λ (o : Option ℤ). unwrap_or o c.args.value) (given-passes c.args.caps.now r c.args.self.now c.args.code c.args.value (kept c.args.value) (kept c.axis.result.fuzz) None v f g (record { supported = u; slot_code = k; there = c.move_value.ensures.staged; len = c.move_value.ensures.len; stands = h })))
+    let before = λ (r : List RawItem) (h : SlotsStandFor c.args.caps.now r c.args.self.now).
+    as_before c.args.caps.now r c.args.self.now c.args.code u k c.move_value.ensures.staged c.move_value.ensures.len h in
+    let given = λ (r : List RawItem) (h : SlotsStandFor c.args.caps.now r c.args.self.now).
+    given-passes c.args.caps.now r c.args.self.now c.args.code c.args.value (kept c.args.value) (kept c.axis.result.fuzz) None v f c.in-None.ensures.change (before r h) in
+    record {
+      stands = λ r h.
+          kept-stands c.args.caps.now r c.args.self.now c.args.code c.args.value (kept c.args.value) (kept c.axis.result.fuzz) c.move_value.new.self v f c.move_value.ensures.slots (given r h) (before r h);
+      disposition = λ r h. c.empty-in-None.ensures tt ∙ kept-flags c.args.caps.now r c.args.self.now c.args.code c.args.value (given r h) (before r h);
+      value = λ r h. v ∙ sym (ap (λ (o : Option ℤ). unwrap_or o c.args.value) (given r h));
+      count = search rules;
+      at_frame = search rules;
+    }
