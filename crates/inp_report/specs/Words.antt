@@ -24,8 +24,8 @@ unfoldable pub flags_text : ℕ → List Bool → List ℕ
 flags_text kind flags = flat_map (spaced_code kind) (true_indices flags)
 
 -- KIND CODE, and a space behind each
-unfoldable pub event_words : ℕ → ℕ → List ℕ
-event_words kind code = kind_text kind ++ (codes " " ++ (code_text kind code ++ codes " "))
+unfoldable pub event_label : ℕ → ℕ → List ℕ
+event_label kind code = kind_text kind ++ (codes " " ++ (code_text kind code ++ codes " "))
 
 -- KIND CODE VALUE
 unfoldable pub event_text : Event → List ℕ

@@ -1,6 +1,6 @@
 //! The words before the value of an event.
 ghost use Rattle.std.specs.Prelude.{◌≡◌, ◌<◌, ◌++◌, length, IfOk, OnOk};
-ghost use Rattle.inp_report.specs.Words.{event_words};
+ghost use Rattle.inp_report.specs.Words.{event_label};
 
 use inp_model::NoMemory;
 use inp_texts::{Page, Phrase, push_code, push_kind};
@@ -15,7 +15,7 @@ struct EventWords {
     kind: u16,
     code: u16,
     words: Phrase,
-    ghost says: { words ≡ event_words kind code },
+    ghost says: { words ≡ event_label kind code },
 }
 
 /// The types and codes that were written, each at the place that it has: what comes again is copied.
@@ -37,7 +37,7 @@ impl KnownWords {
     // Appends the words of a type and a code, and keeps them.
     #[inline]
     pub(crate) fn push(&mut self, text: &mut Page, kind: u16, code: u16) -> Result<(), NoMemory>
-        ensures pushed { OnOk result (text.new ≡ text.old ++ event_words kind code) }
+        ensures pushed { OnOk result (text.new ≡ text.old ++ event_label kind code) }
     {
         let place = place_of(kind, code);
         if let Some(event) = &self.known[place] {
@@ -50,7 +50,7 @@ impl KnownWords {
 
     fn write(&mut self, text: &mut Page, place: usize, kind: u16, code: u16) -> Result<(), NoMemory>
         requires place { place < 32 }
-        ensures pushed { OnOk result (text.new ≡ text.old ++ event_words kind code) }
+        ensures pushed { OnOk result (text.new ≡ text.old ++ event_label kind code) }
     {
         let start = text.len();
         push_event_words(text, kind, code)?;
@@ -69,9 +69,9 @@ fn place_of(kind: u16, code: u16) -> usize
 }
 
 /// Appends the type and the code of an event, each with a space after it.
-#[tactic(auto, unfolding(crate::specs::Words::event_words))]
+#[tactic(auto, unfolding(crate::specs::Words::event_label))]
 pub(crate) fn push_event_words(text: &mut Page, kind: u16, code: u16) -> Result<(), NoMemory>
-    ensures pushed { OnOk result (text.new ≡ text.old ++ event_words kind code) }
+    ensures pushed { OnOk result (text.new ≡ text.old ++ event_label kind code) }
 {
     push_kind(text, kind)?;
     text.push_str(" ")?;

@@ -27,7 +27,7 @@ impl TookWords {
 
     // Appends the line of an event that was taken, without its end.
     #[inline]
-    #[tactic(auto, unfolding(crate::specs::Sights::stamp_text, crate::specs::Words::event_text, crate::specs::Words::event_words))]
+    #[tactic(auto, unfolding(crate::specs::Sights::stamp_text, crate::specs::Words::event_text, crate::specs::Words::event_label))]
     pub(crate) fn push(&mut self, text: &mut Page, taken: Taken) -> Result<(), NoMemory>
         ensures pushed { OnOk result
             (text.new ≡ text.old ++ (stamp_text taken.place taken.time ++ event_text taken.event)) }
