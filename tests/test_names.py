@@ -10,7 +10,7 @@ sys.path.insert(0, str(TOP / "bench"))
 
 from definitions import Repository  # noqa: E402  (bench/ has to be on the path first)
 
-PAGES = sorted(TOP.glob("docs/*.md")) + [TOP / "README.md", TOP / "bench" / "README.md", TOP / "examples" / "README.md"]
+PAGES = sorted(TOP.glob("docs/*.md")) + [TOP / "README.md", TOP / "CONTRIBUTING.md", TOP / "bench" / "README.md", TOP / "examples" / "README.md"]
 
 # `Module.name`, or a type with a field, a variant or a ghost member; and `Module.antt`.
 NAME = re.compile(r"`(?:[\w/]*/)?([A-Z]\w*)\.([^\s`.()]+)`")
@@ -109,11 +109,11 @@ def facts():
 
 
 def said_of_crates():
-    """The texts that are about a crate, each with the crate: its comments, and its row of the README."""
+    """The texts that are about a crate, each with the crate: its comments, and its row of the page of what is proved."""
     for crate, file in files_of_crates():
         if "proofs" not in file.parts:
             yield crate, comments(file)
-    yield from CRATE_ROW.findall((TOP / "README.md").read_text())
+    yield from CRATE_ROW.findall((TOP / "docs" / "PROVED.md").read_text())
 
 
 def stands_in(name, path):
@@ -302,9 +302,9 @@ class Names(unittest.TestCase):
         for crate, file in files_of_crates():
             if "proofs" not in file.parts:
                 words.setdefault(crate, set()).update(re.findall(r"\w+", file.read_text()))
-        for crate, name in promised((TOP / "README.md").read_text()):
+        for crate, name in promised((TOP / "docs" / "PROVED.md").read_text()):
             count += 1
-            self.assertIn(name, words[crate], f"README.md: `{name}` of {crate}")
+            self.assertIn(name, words[crate], f"PROVED.md: `{name}` of {crate}")
         self.assertGreater(count, 80)
 
     def test_each_fact_that_is_said_of_a_crate_is_one_of_it_or_below(self):
