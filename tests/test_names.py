@@ -10,7 +10,8 @@ sys.path.insert(0, str(TOP / "bench"))
 
 from definitions import Repository  # noqa: E402  (bench/ has to be on the path first)
 
-PAGES = sorted(TOP.glob("docs/*.md")) + [TOP / "README.md", TOP / "CONTRIBUTING.md", TOP / "bench" / "README.md", TOP / "examples" / "README.md"]
+OTHER_PAGES = ("README.md", "CONTRIBUTING.md", "CHANGELOG.md", "bench/README.md", "examples/README.md")
+PAGES = sorted(TOP.glob("docs/*.md")) + [TOP / name for name in OTHER_PAGES]
 
 # `Module.name`, or a type with a field, a variant or a ghost member; and `Module.antt`.
 NAME = re.compile(r"`(?:[\w/]*/)?([A-Z]\w*)\.([^\s`.()]+)`")
