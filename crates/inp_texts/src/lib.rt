@@ -4,8 +4,10 @@
 //! for clocks, and on `inp_actors` for roles.
 //!
 //! Its contract: what each of these writes is exactly the text that `specs/Texts.antt` defines of its value, or the
-//! formatter failed. It takes no memory but the text's. Numbers, types and codes, which make up most of a report, can also
-//! be appended to a text with no formatter between. `proofs/Written.antt` has lemmas on loops that write.
+//! formatter failed. It takes no memory but the text's. A [`Page`] is a text that is written piece by piece: words are
+//! stored in place, and a [`Phrase`], which is written again and again, is copied by a fixed width. Numbers, types and
+//! codes, which make up most of a report, are appended to a page with no formatter between. `proofs/Written.antt` has
+//! lemmas on loops that write, `proofs/Pages.antt` on what stands on a page.
 #![tactic(auto)]
 
 mod bits_text;
