@@ -5,7 +5,8 @@ where events are lost. The page draws the ranges of places in which any of this 
 from itertools import groupby
 from typing import NamedTuple
 
-from desk.told import count_text, name_of
+from desk.command import counted
+from desk.told import name_of
 
 LEAST_RANGE = 200
 MOST_RANGES = 40
@@ -99,7 +100,7 @@ def lines_of(found, at):
         names = sorted({one.what for one in group})
         what = ", ".join(names[:NAMED])
         if len(names) > NAMED:
-            what += " and " + count_text(len(names) - NAMED, "thing") + " more"
+            what += " and " + counted(len(names) - NAMED, "thing") + " more"
         places = sorted({one.place for one in group})
         where = f"at {at.text(places[0])}"
         if len(places) > 1:
