@@ -172,8 +172,6 @@ UNFOLDED = {
     },
 }
 UNFOLDING = re.compile(r"^\s*unfolding (.*)$", re.M)
-# Two files that are still to become instances.
-WALKING = ["inp_play/proofs/Follows.antt", "inp_play/proofs/Limits.antt"]
 # The code of a page that is antt, with the file that it is from.
 ANTT_QUOTED = re.compile(r"From\s`([^`]+)`[^:]*:\n\n```antt\n(.*?)^```$", re.M | re.S)
 
@@ -390,14 +388,11 @@ class Walks(unittest.TestCase):
         for path, text in self.proofs():
             for name in unfolded(text) & UNFOLDED.keys():
                 found[name].add(path)
-        for path in WALKING:
-            for files in found.values():
-                files.discard(path)
         self.assertEqual({name: files | {WALK} for name, files in UNFOLDED.items()}, found)
 
     def test_no_other_file_speaks_of_the_phase_of_a_talk(self):
         found = [path for path, text in self.proofs() if re.search(r"\btalk_in\b", told(text))]
-        self.assertEqual([*WALKING, WALK], found)
+        self.assertEqual([WALK], found)
 
     def test_the_instance_is_quoted_as_it_stands(self):
         pieces = ANTT_QUOTED.findall((TOP / "docs" / "ARCHITECTURE.md").read_text())

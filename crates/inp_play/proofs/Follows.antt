@@ -1,14 +1,12 @@
 -- How many steps a `follow` that does not wait adds to the history of its device.
-use Rattle.std.proofs.Common.{◌≡◌, ◌≤◌, ◌<◌, ℕ, zero, suc, ◌+◌, ◌-◌, ◌*◌, Bool, true, false, if◌then◌else◌, nat_eq, List, [], ◌∷◌, ◌++◌, length, refl, sym, ap, subst, ◌∙◌, arith, ◌⊎◌, inl, inr, Option, Some, None}
+use Rattle.std.proofs.Common.{◌≡◌, ◌≤◌, ◌<◌, ℕ, zero, suc, ◌+◌, ◌-◌, ◌*◌, Bool, true, false, if◌then◌else◌, nat_eq, List, [], ◌∷◌, length, refl, sym, ap, subst, ◌∙◌, arith, ◌⊎◌, inl, inr, Option, Some, None}
 use Rattle.std.specs.Prelude.{Result, Ok, Err}
+use Rattle.std.proofs.lemmas.Bool.{cond_both, cond-true, cond-false}
 use Rattle.inp_model.specs.declared.event.Event.{Event}
 use Rattle.inp_model.specs.declared.taken.Taken.{Taken}
 use Rattle.inp_model.specs.declared.step.Step.{Step}
 use Rattle.inp_model.specs.declared.step.Step.TheVariants.{Open, Read, Discard}
 use Rattle.inp_model.specs.declared.reply.Reply.{Reply}
-use Rattle.inp_model.specs.declared.reply.Reply.TheVariants.{Done, Opened, Took, Discarded, Bits, Axis, Cells, Again as NothingVisible, Refused as StepRefused}
-use Rattle.inp_model.specs.declared.reply.Refusal.{Refusal}
-use Rattle.inp_model.specs.declared.reply.Refusal.TheVariants.{NoDevice as Revoked, LogFull}
 use Rattle.inp_model.specs.Description.{Description, ring}
 use Rattle.inp_model.specs.Queue.{event_of, visible, queue}
 use Rattle.inp_model.specs.Reply.{Answer, answer, refused, past_after, is_accepted}
@@ -16,39 +14,48 @@ use Rattle.inp_model.proofs.Allowed.{allowed}
 use Rattle.inp_losses.proofs.Causes.{queue-room}
 use Rattle.inp_joy.specs.Joying.{Joying, joy_start, joy_started}
 use Rattle.inp_recon.specs.declared.view.View.{View}
-use Rattle.inp_recon.specs.View.{view_after_event, view_after_answer}
-use Rattle.inp_reader.specs.declared.mode.Mode.TheVariants.{Sync as Synchronising}
+use Rattle.inp_reader.specs.declared.mode.Mode.{Mode}
 use Rattle.inp_reader.specs.declared.phase.Phase.{Phase}
-use Rattle.inp_reader.specs.declared.phase.Phase.TheVariants.{Plain, Needed, Handing}
+use Rattle.inp_reader.specs.declared.phase.Phase.TheVariants.{Plain, Needed}
 use Rattle.inp_reader.specs.declared.started.Started.{Started}
 use Rattle.inp_reader.specs.declared.next.Next.{Next}
 use Rattle.inp_reader.specs.declared.next.Next.TheVariants.{Success, Dropped, Sync, Again, Synced, NoDevice, Closed, Full}
-use Rattle.inp_recon.specs.Synchronised.{is_dropped}
-use Rattle.inp_reader.specs.Reading.{Reading, ask_each, queries, after_queries, after_open, start_talk, stop_of, hand_out_event, hand_out, after_read, read_or_hand_out, read_talk, hand_synthesised, after_full_sync, go_on_after, sync_talk, talk_in, next_talk}
+use Rattle.inp_reader.specs.Reading.{Reading, queries, start_talk, next_talk, stop_of}
+use Rattle.inp_reader.specs.Standing.{is_needed}
 use Rattle.inp_reader.specs.Talk.{Talk, finish, ask, and_then, talk_with}
+use Rattle.inp_reader.proofs.Meets.{Meets, Any, meets-then, meets-weaker}
+use Rattle.inp_reader.proofs.NextWalk.{AskRules, Queried, start-meets, asked-meets, sync-by_parts, Renewed, NextRules, next-meets, stop-cases}
 use Rattle.inp_script.specs.declared.sight.Sight.{Sight}
-use Rattle.inp_script.specs.Client.{Going, Turn, turn_after, after_next, mode_of, next_round, on_turn, rounds, hand_talk, start_job, start_ends}
-use Rattle.inp_script.specs.Job.{Job, joying_of}
+use Rattle.inp_script.specs.Client.{Going, turn_after, after_next, mode_of, next_round, hand_talk, start_job}
+use Rattle.inp_script.specs.Job.{Job, joying_of, with_joying}
 use Rattle.inp_script.specs.Joystick.{after_joy_start, start_joystick}
-use Rattle.inp_script.specs.Line.{call_if, tap_call_if}
-use Rattle.inp_script.specs.Sight.{call_sight, noted}
+use Rattle.inp_script.specs.Line.{call_if, tap_call_if, after_tap_call}
+use Rattle.inp_script.specs.Sight.{noted, start_lacks_memory, stop_after_start, lacks_memory}
+use Rattle.inp_script.proofs.LineWalk.{NotedBy, meets-noted, note-meets, OfJob, OfTurn, start_job-meets, round-meets, rounds-meets}
 use Rattle.inp_script.proofs.Replies.{answer_has}
-use Rattle.inp_order.proofs.Rounds.{talk_with-then}
 use Rattle.inp_play.proofs.OwnQueues.{IsQuiet, visible-le, read-leaves, discard-leaves}
 
--- A note of the calls changes no call and no result
+-- Calls that the one-thread device answers, each after those before it
 
-pub noted-past : {A : Type 0} (d : Description) (past : List Step) (talk : Talk A) (sight : List Sight) → (talk_with d past (noted talk sight)).1 ≡ (talk_with d past talk).1
-unfolding talk_with
-noted-past d past (finish a) sight = refl
-noted-past d past (ask x rest) sight =
-    noted-past d (past_after (answer d past x).reply x past) (rest (answer d past x)) (sight ++ call_sight x (answer d past x).reply)
+abbrev pub Exact : Description → List Step → Step → Answer → List Step → Type 0
+Exact d past x a after = (a ≡ answer d past x) × (after ≡ past_after a.reply x past)
 
-pub noted-result : {A : Type 0} (d : Description) (past : List Step) (talk : Talk A) (sight : List Sight) → (talk_with d past (noted talk sight)).0.0 ≡ (talk_with d past talk).0
+pub meets-with : {A : Type 0} (d : Description) (Q : List Step → A → Type 0) (past : List Step) (talk : Talk A) → Meets Any (Exact d) Q past talk → Q (talk_with d past talk).1 (talk_with d past talk).0
 unfolding talk_with
-noted-result d past (finish a) sight = refl
-noted-result d past (ask x rest) sight =
-    noted-result d (past_after (answer d past x).reply x past) (rest (answer d past x)) (sight ++ call_sight x (answer d past x).reply)
+meets-with d Q past (finish a) h = h
+meets-with d Q past (ask x rest) h =
+    let after : List Step = past_after (answer d past x).reply x past in meets-with d Q after (rest (answer d past x)) (h.1 after (answer d past x) (refl, refl))
+
+entered : (d : Description) (past after : List Step) (x : Step) (a : Answer) → Exact d past x a after → is_accepted a.reply ≡ true → after ≡ x ∷ past
+entered d past after x a by is = by.1 ∙ cond-true (is_accepted a.reply) (x ∷ past) past is
+
+left_out : (d : Description) (past after : List Step) (x : Step) (a : Answer) → Exact d past x a after → is_accepted a.reply ≡ false → after ≡ past
+left_out d past after x a by is = by.1 ∙ cond-false (is_accepted a.reply) (x ∷ past) past is
+
+one_more : (d : Description) (past after : List Step) (x : Step) (a : Answer) → Exact d past x a after → length after ≤ length past + 1
+one_more d past after x a by =
+    subst (λ (p : List Step). length p ≤ length past + 1) (sym by.1)
+    (cond_both (is_accepted a.reply) (x ∷ past) past (λ (p : List Step). length p ≤ length past + 1) (λ _. omega arith) (λ _. omega arith))
 
 -- Asking for steps in order
 
@@ -57,58 +64,28 @@ abbrev pub AreQuiet : Description → ℕ → List Step → Type 0
 AreQuiet d client [] = Unit {0}
 AreQuiet d client (x ∷ xs) = IsQuiet d client x × AreQuiet d client xs
 
--- each step is entered at most once
-pub asked-length : (d : Description) (past : List Step) (xs : List Step) (view : View) → length (talk_with d past (ask_each xs view)).1 ≤ length past + length xs
-unfolding talk_with ask_each
-asked-length d past [] view = omega arith
-asked-length d past (x ∷ xs) view = by_flag (is_accepted (answer d past x).reply) (asked-length d (x ∷ past) xs (view_after_answer view x (answer d past x).reply (answer d past x).cells))
-  where
-    by_flag : (b : Bool) → length (talk_with d (x ∷ past) (ask_each xs (view_after_answer view x (answer d past x).reply (answer d past x).cells))).1 ≤ suc (length past) + length xs
-        → length (talk_with d (if b then x ∷ past else past) (if b then ask_each xs (view_after_answer view x (answer d past x).reply (answer d past x).cells) else finish (Err (answer d past x).reply))).1 ≤ length past + suc (length xs)
-    by_flag true more = omega (arith, more)
-    by_flag false more = omega arith
-
--- where each was accepted, nothing is visible to the client
-abbrev NoneIfOk : Description → ℕ → Result View Reply × List Step → Type 0
-NoneIfOk d client (Ok view, past) = visible event_of (queue d past client) ≡ 0
-NoneIfOk d client (Err reply, past) = Unit {0}
-
-asked-none : (d : Description) (past : List Step) (client : ℕ) (xs : List Step) (view : View) → AreQuiet d client xs → visible event_of (queue d past client) ≡ 0 → NoneIfOk d client (talk_with d past (ask_each xs view))
-unfolding talk_with ask_each
-asked-none d past client [] view quiet none = none
-asked-none d past client (x ∷ xs) view quiet none =
-    by_flag (is_accepted (answer d past x).reply) (asked-none d (x ∷ past) client xs (view_after_answer view x (answer d past x).reply (answer d past x).cells) quiet.1 (quiet.0 past none))
-  where
-    by_flag : (b : Bool) → NoneIfOk d client (talk_with d (x ∷ past) (ask_each xs (view_after_answer view x (answer d past x).reply (answer d past x).cells)))
-        → NoneIfOk d client (talk_with d (if b then x ∷ past else past) (if b then ask_each xs (view_after_answer view x (answer d past x).reply (answer d past x).cells) else finish (Err (answer d past x).reply)))
-    by_flag true more = more
-    by_flag false more = tt
-
 -- A description whose queries are few, and leave nothing visible to a client where nothing was.
 pub record HasQueries (d : Description) (most : ℕ) : Type 0 where
   pub few : (client : ℕ) → length (queries d client) ≤ most
   pub quiet : (client : ℕ) → AreQuiet d client (queries d client)
 
-sync-length : (d : Description) (most : ℕ) (past : List Step) (r : Reading) → HasQueries d most → length (talk_with d past (sync_talk d r)).1 ≤ length past + suc most
-unfolding sync_talk
-sync-length d most past r h = omega (arith, asked-length d past (Discard r.client ∷ queries d r.client) r.view, h.few r.client)
+abbrev IsNone : Description → List Step → ℕ → Type 0
+IsNone d past client = visible event_of (queue d past client) ≡ 0
 
-sync-none : (d : Description) (most : ℕ) (past : List Step) (r : Reading) → HasQueries d most → NoneIfOk d r.client (talk_with d past (sync_talk d r))
-unfolding talk_with sync_talk ask_each
-sync-none d most past r h =
-    let x : Step = Discard r.client in
-    by_flag (is_accepted (answer d past x).reply)
-    (asked-none d (x ∷ past) r.client (queries d r.client) (view_after_answer r.view x (answer d past x).reply (answer d past x).cells) (h.quiet r.client) (discard-leaves d past r.client))
-  where
-    x : Step
-    x = Discard r.client
+-- nothing is visible to the client, and nothing will be behind the steps that are left, which are few
+abbrev QuietSoFar : Description → ℕ → ℕ → List Step → View → List Step → Type 0
+QuietSoFar d client bound past view left = (length past + length left ≤ bound) × AreQuiet d client left × IsNone d past client
 
-    more : Talk (Result View Reply)
-    more = ask_each (queries d r.client) (view_after_answer r.view x (answer d past x).reply (answer d past x).cells)
-
-    by_flag : (b : Bool) → NoneIfOk d r.client (talk_with d (x ∷ past) more) → NoneIfOk d r.client (talk_with d (if b then x ∷ past else past) (if b then more else finish (Err (answer d past x).reply)))
-    by_flag true k = k
-    by_flag false k = tt
+quiet-asks : (d : Description) (client bound : ℕ) (Q : List Step → Result View Reply → Type 0) → ((past : List Step) (view : View) → length past ≤ bound → IsNone d past client → Q past (Ok view)) → ((past : List Step) (reply : Reply) → length past ≤ bound → Q past (Err reply))
+    → AskRules Any (Exact d) (QuietSoFar d client bound) Q
+quiet-asks d client bound Q whole stopped = record {
+  asks = λ s view x xs j. tt;
+  told = λ s t view x xs a j by is.
+      let after : t ≡ x ∷ s = entered d s t x a by is in
+      (omega (arith, j.0, ap length after), j.1.1, subst (λ (p : List Step). IsNone d p client) (sym after) (j.1.0 s j.2));
+  stopped = λ s t view x xs a j by is. stopped t a.reply (omega (arith, j.0, one_more d s t x a by));
+  whole = λ s view j. whole s view (omega (arith, j.0)) j.2;
+}
 
 -- Reading
 
@@ -127,12 +104,6 @@ read-found d past client count h none =
         cc
 
 -- What a follow has left to do
-
--- a synchronisation is to come first
-abbrev is_needed : Phase → Bool
-is_needed Plain = false
-is_needed Needed = true
-is_needed Handing = false
 
 -- so many reads at most, and a synchronisation
 pub record IsAhead (d : Description) (most : ℕ) (past : List Step) (client k : ℕ) : Type 0 where
@@ -167,29 +138,11 @@ is_last Closed = true
 is_last (Full at) = true
 
 -- what comes of a round, where the history is to stay within a bound
-abbrev IsRound : Description → ℕ → ℕ → (Next × Reading) × List Step → Type 0
-IsRound d most bound o = ((is_last o.0.0 ≡ true) × (length o.1 ≤ bound)) ⊎ GoesOn d most bound o.0.1 o.1
-
-last-refused : (at : ℕ) (why : Refusal) → is_last (stop_of (StepRefused at why)) ≡ true
-last-refused at Revoked = refl
-last-refused at LogFull = refl
-last-refused at _ = refl
+abbrev IsRound : Description → ℕ → ℕ → List Step → Next × Reading → Type 0
+IsRound d most bound past o = ((is_last o.0 ≡ true) × (length past ≤ bound)) ⊎ GoesOn d most bound o.1 past
 
 last-stop : (reply : Reply) → is_last (stop_of reply) ≡ true
-last-stop (NothingVisible at ends) = refl
-last-stop (StepRefused at why) = last-refused at why
-last-stop _ = refl
-
-handed : (d : Description) (most bound k : ℕ) (r : Reading) (taken : Taken) (rest : List Taken) (past : List Step) → IsAhead d most past r.client k → length past + k ≤ bound → IsRound d most bound (hand_out_event r taken rest, past)
-handed d most bound k r taken rest past ahead within = by_flag (is_dropped taken.event)
-  where
-    by_flag : (b : Bool) → IsRound d most bound ((if b then (Dropped taken, record r { queue = rest; view = view_after_event r.view taken.event; phase = Needed }) else (Success taken, record r { queue = rest; view = view_after_event r.view taken.event })), past)
-    by_flag true = inr (record { left = k; is_left = inl ahead; within = within })
-    by_flag false = inr (record { left = k; is_left = inl ahead; within = within })
-
-handed_first : (d : Description) (most bound k : ℕ) (r : Reading) (events : List Taken) (past : List Step) → IsAhead d most past r.client k → length past + k ≤ bound → IsRound d most bound (hand_out r events, past)
-handed_first d most bound k r [] past ahead within = inl (refl, omega (arith, within))
-handed_first d most bound k r (taken ∷ rest) past ahead within = handed d most bound k r taken rest past ahead within
+last-stop reply = stop-cases (λ next. is_last next ≡ true) reply (λ at ends is. refl) refl refl (λ at. refl)
 
 -- one read less is left
 fewer : (d : Description) (most : ℕ) (past : List Step) (client k : ℕ) → IsAhead d most past client k → (visible event_of (queue d past client) ≡ 0 → ⊥) → (1 ≤ k) × IsAhead d most (Read client 64 ∷ past) client (k - 1)
@@ -202,173 +155,178 @@ fewer d most past client k ahead some = by_reads ahead.reads ahead.enough ahead.
       record { reads = reads; enough = omega (arith, read-leaves d past client 64, enough); within = omega (arith, within) },
     )
 
-round-read : (d : Description) (most bound k : ℕ) (r : Reading) (past : List Step) → IsLeft d most past r k → length past + k ≤ bound → IsRound d most bound (talk_with d past (ask (Read r.client 64) (λ answer. finish (after_read r answer))))
-unfolding talk_with
-round-read d most bound k r past left within = by_flag (is_accepted a.reply) (read-found d past r.client 64) left
-  where
-    a : Answer
-    a = answer d past (Read r.client 64)
-
-    by_flag : (b : Bool) → (b ≡ true → visible event_of (queue d past r.client) ≡ 0 → ⊥) → IsLeft d most past r k
-        → IsRound d most bound ((if b then hand_out r a.events else (stop_of a.reply, r)), (if b then Read r.client 64 ∷ past else past))
-    by_flag true some (inl ahead) =
-        let less = fewer d most past r.client k ahead (some refl) in
-        handed_first d most bound (k - 1) r a.events (Read r.client 64 ∷ past) less.1 (omega (arith, less.0, within))
-    by_flag true some (inr spent) = absurd (some refl spent.none)
-    by_flag false some left = inl (last-stop a.reply, omega (arith, within))
-
-round-queue : (d : Description) (most bound k : ℕ) (r : Reading) (events : List Taken) (past : List Step) → r.queue ≡ events → IsLeft d most past r k → length past + k ≤ bound → IsRound d most bound (talk_with d past (read_or_hand_out r events))
-unfolding talk_with
-round-queue d most bound k r [] past same left within = round-read d most bound k r past left within
-round-queue d most bound k r (taken ∷ rest) past same (inl ahead) within = handed d most bound k r taken rest past ahead within
-round-queue d most bound k r (taken ∷ rest) past same (inr spent) within = absurd (let never : [] ≡ taken ∷ rest = sym spent.empty ∙ same in cc)
-
--- Synchronising
-
-round-synthesised : (d : Description) (most bound k : ℕ) (r : Reading) (left : List Event) (past : List Step) → ((phase : Phase) (events : List Event) → is_needed phase ≡ false → IsLeft d most past (record r { phase = phase; left = events }) k) → is_needed r.phase ≡ false → length past + k ≤ bound
-    → IsRound d most bound (hand_synthesised r left, past)
-round-synthesised d most bound k r [] past is within h = inr (record { left = k; is_left = is Plain [] refl; within = h })
-round-synthesised d most bound k r (event ∷ left) past is within h = inr (record { left = k; is_left = is r.phase left within; within = h })
-
-round-needed : (d : Description) (most bound k : ℕ) (r : Reading) (past : List Step) → HasQueries d most → IsAhead d most past r.client k → length past + k ≤ bound → IsRound d most bound (talk_with d past (and_then (sync_talk d r) (go_on_after Synchronising r)))
-unfolding talk_with
-round-needed d most bound k r past h ahead within =
-    subst (IsRound d most bound) (sym (talk_with-then d past (sync_talk d r) (go_on_after Synchronising r)))
-    (by_result (talk_with d past (sync_talk d r)).0 (talk_with d past (sync_talk d r)).1 (omega (arith, sync-length d most past r h, ahead.within, within)) (sync-none d most past r h))
-  where
-    by_result : (result : Result View Reply) (behind : List Step) → length behind ≤ bound → NoneIfOk d r.client (result, behind) → IsRound d most bound (talk_with d behind (go_on_after Synchronising r result))
-    by_result (Ok view) behind most_ none =
-        round-synthesised d most bound 0 (after_full_sync r view) (after_full_sync r view).left behind
-        (λ phase events unneeded. inr (record { empty = refl; unneeded = unneeded; none = none })) refl (omega (arith, most_))
-    by_result (Err reply) behind most_ none = inl (last-stop reply, most_)
-
 -- A round
 
-still_spent : (d : Description) (most k : ℕ) (r : Reading) (past : List Step) (phase : Phase) (events : List Event) → is_needed phase ≡ false → IsLeft d most past r k → IsLeft d most past (record r { phase = phase; left = events }) k
-still_spent d most k r past phase events unneeded (inl ahead) = inl ahead
-still_spent d most k r past phase events unneeded (inr spent) = inr (record { empty = spent.empty; unneeded = unneeded; none = spent.none })
+abbrev HasLeft : Description → ℕ → ℕ → List Step → Reading → Type 0
+HasLeft d most bound past r = GoesOn d most bound r past
 
-round-phase : (d : Description) (most bound k : ℕ) (phase : Phase) (r : Reading) (past : List Step) → r.phase ≡ phase → HasQueries d most → IsLeft d most past r k → length past + k ≤ bound → IsRound d most bound (talk_with d past (talk_in d (mode_of false phase) phase r))
-unfolding talk_with read_talk
-round-phase d most bound k Plain r past same h left within = round-queue d most bound k r r.queue past refl left within
-round-phase d most bound k Needed r past same h (inl ahead) within = round-needed d most bound k r past h ahead within
-round-phase d most bound k Needed r past same h (inr spent) within = absurd (let never : false ≡ true = sym spent.unneeded ∙ ap is_needed same in cc)
-round-phase d most bound k Handing r past same h left within =
-    round-synthesised d most bound k r r.left past (λ phase events unneeded. still_spent d most k r past phase events unneeded left) (ap is_needed same) within
+within : (d : Description) (most bound : ℕ) (past : List Step) (r : Reading) → GoesOn d most bound r past → length past ≤ bound
+within d most bound past r i = omega (arith, i.within)
 
-round-next : (d : Description) (most bound k : ℕ) (r : Reading) (past : List Step) → HasQueries d most → IsLeft d most past r k → length past + k ≤ bound → IsRound d most bound (talk_with d past (next_talk d (mode_of false r.phase) r))
-round-next d most bound k r past h left within = round-phase d most bound k r.phase r past refl h left within
+-- nothing else was known of the reader
+with_left : (d : Description) (most bound : ℕ) (past : List Step) (r : Reading) (phase : Phase) (events : List Event) → is_needed phase ≡ false → GoesOn d most bound r past → GoesOn d most bound (record r { phase = phase; left = events }) past
+with_left d most bound past r phase events unneeded i = record { left = i.left; is_left = by i.is_left; within = i.within }
+  where
+    by : IsLeft d most past r i.left → IsLeft d most past (record r { phase = phase; left = events }) i.left
+    by (inl ahead) = inl ahead
+    by (inr spent) = inr (record { empty = spent.empty; unneeded = unneeded; none = spent.none })
+
+-- a reader that has events at hand is to read on
+ahead-of : (d : Description) (most k : ℕ) (past : List Step) (r : Reading) (taken : Taken) (rest : List Taken) → r.queue ≡ taken ∷ rest → IsLeft d most past r k → IsAhead d most past r.client k
+ahead-of d most k past r taken rest q (inl ahead) = ahead
+ahead-of d most k past r taken rest q (inr spent) = absurd (let never : [] ≡ taken ∷ rest = sym spent.empty ∙ q in cc)
+
+-- so is one that is to synchronise
+ahead-needed : (d : Description) (most k : ℕ) (past : List Step) (r : Reading) → r.phase ≡ Needed → IsLeft d most past r k → IsAhead d most past r.client k
+ahead-needed d most k past r needed (inl ahead) = ahead
+ahead-needed d most k past r needed (inr spent) = absurd (let never : false ≡ true = sym spent.unneeded ∙ ap is_needed needed in cc)
+
+after-read : (d : Description) (most bound : ℕ) (s t : List Step) (r : Reading) (a : Answer) → Exact d s (Read r.client 64) a t → is_accepted a.reply ≡ true → GoesOn d most bound r s → GoesOn d most bound (record r { queue = a.events }) t
+after-read d most bound s t r a by is i = of i.is_left
+  where
+    some : IsNone d s r.client → ⊥
+    some = read-found d s r.client 64 (subst (λ (b : Answer). is_accepted b.reply ≡ true) by.0 is)
+
+    of : IsLeft d most s r i.left → GoesOn d most bound (record r { queue = a.events }) t
+    of (inl ahead) =
+        let less = fewer d most s r.client i.left ahead some in
+        subst (λ (p : List Step). GoesOn d most bound (record r { queue = a.events }) p) (sym (entered d s t (Read r.client 64) a by is))
+        (record { left = i.left - 1; is_left = inl less.1; within = omega (arith, less.0, i.within) })
+    of (inr spent) = absurd (some spent.none)
+
+follow-rules : (d : Description) (most bound : ℕ) (mode : Mode) → HasQueries d most → NextRules Any (Exact d) (HasLeft d most bound) (IsRound d most bound) d mode
+follow-rules d most bound mode has = record {
+  asks_read = λ s r i. tt;
+  reads = λ s t r a i plain none by is. after-read d most bound s t r a by is i;
+  stops = λ s t r a i plain none by is.
+      inl (last-stop a.reply, subst (λ (p : List Step). length p ≤ bound) (sym (left_out d s t (Read r.client 64) a by is)) (within d most bound s r i));
+  hands = λ s r taken rest i plain q is. inr (record { left = i.left; is_left = inl (ahead-of d most i.left s r taken rest q i.is_left); within = i.within });
+  loses = λ s r taken rest i plain q is. inr (record { left = i.left; is_left = inl (ahead-of d most i.left s r taken rest q i.is_left); within = i.within });
+  empty = λ s r i plain q. inl (refl, within d most bound s r i);
+  idles = λ s r i plain is. inr i;
+  syncs = λ s r i needed.
+      let Q : List Step → Result View Reply → Type 0 = Renewed (HasLeft d most bound) (IsRound d most bound) r in
+      let ahead = ahead-needed d most i.left s r needed i.is_left in
+      let room : length s + suc most ≤ bound = omega (arith, ahead.within, i.within) in
+      let asks : AskRules Any (Exact d) (QuietSoFar d r.client bound) Q =
+      quiet-asks d r.client bound Q
+      (λ p view most_ none. record { left = 0; is_left = inr (record { empty = refl; unneeded = refl; none = none }); within = omega (arith, most_) })
+      (λ p reply most_. inl (last-stop reply, most_)) in
+      sync-by_parts Any (Exact d) Q d r s (record {
+        asks_discard = tt;
+        discarded = λ t a by is.
+            let after : t ≡ Discard r.client ∷ s = entered d s t (Discard r.client) a by is in
+            asked-meets Any (Exact d) (QuietSoFar d r.client bound) Q asks t (queries d r.client) r.view
+            (omega (arith, has.few r.client, room, ap length after), has.quiet r.client, subst (λ (p : List Step). IsNone d p r.client) (sym after) (discard-leaves d s r.client));
+        refused = λ t a by is. inl (last-stop a.reply, omega (arith, room, one_more d s t (Discard r.client) a by));
+      });
+  makes = λ s r event left i handing sync is. inr (with_left d most bound s r r.phase left (ap is_needed handing) i);
+  made_all = λ s r i handing sync is. inr (with_left d most bound s r Plain [] refl i);
+  goes_on = λ s r i handing is. with_left d most bound s r Plain [] refl i;
+}
 
 -- All rounds
 
--- a line without a number, in its midst
-abbrev in_midst : Job → ℕ → Going
-in_midst j agains = record { job = j; left = None; agains = agains }
+-- the history of a job
+abbrev pub Within : ℕ → List Step → Job → Type 0
+Within bound past j = length past ≤ bound
 
-rounds-length : (d : Description) (most bound n : ℕ) (j : Job) (agains : ℕ) (past : List Step) (k : ℕ) → HasQueries d most → IsLeft d most past j.reading k → length past + k ≤ bound → length (talk_with d past (rounds d None false n (in_midst j agains))).1 ≤ bound
-unfolding talk_with rounds next_round
-rounds-length d most bound zero j agains past k h left within = omega (arith, within)
-rounds-length d most bound (suc n) j agains past k h left within =
-    let talk : Talk (Next × Reading) = next_talk d (mode_of false j.reading.phase) j.reading in
-    let o = talk_with d past (noted talk j.sight) in
-    let round : IsRound d most bound (talk_with d past talk) = round-next d most bound k j.reading past h left within in
-    let here : IsRound d most bound (o.0.0, o.1) =
-    subst (λ (x : Next × Reading). IsRound d most bound (x, o.1)) (sym (noted-result d past talk j.sight))
-    (subst (λ (p : List Step). IsRound d most bound ((talk_with d past talk).0, p)) (sym (noted-past d past talk j.sight)) round) in
-    let turn : talk_with d past (next_round d None false (in_midst j agains)) ≡ (after_next None (in_midst j agains) o.0, o.1) =
-    talk_with-then d past (noted talk j.sight) (λ (a : (Next × Reading) × List Sight). finish (after_next None (in_midst j agains) a)) in
-    let first = talk_with-then d past (next_round d None false (in_midst j agains)) (on_turn (rounds d None false n)) in
-    let behind : talk_with d past (rounds d None false (suc n) (in_midst j agains)) ≡ talk_with d o.1 (on_turn (rounds d None false n) (after_next None (in_midst j agains) o.0)) =
-    first ∙ ap (λ (t : Turn × List Step). talk_with d t.1 (on_turn (rounds d None false n) t.0)) turn in
-    subst (λ (t : Option Job × List Step). length t.1 ≤ bound) (sym behind)
-    (by_next o.0.0.0 o.0.0.1 o.0.1 o.1 (λ i m p l. rounds-length d most bound n i m p l h) here)
+-- a line without a number, in its midst
+abbrev InMidst : Description → ℕ → ℕ → List Step → Going → Type 0
+InMidst d most bound past g = (g.left ≡ None) × GoesOn d most bound g.job.reading past
+
+follow-turn : (d : Description) (most bound agains : ℕ) (past : List Step) (next : Next) (j : Job) → IsRound d most bound past (next, j.reading) → OfTurn (Within bound) (InMidst d most bound) past (turn_after None None agains next j)
+follow-turn d most bound agains past next j round = by next (on round) (last round)
   where
-    by_next : (next : Next) (r : Reading) (sight : List Sight) (now : List Step)
-        → ((i : Job) (m : ℕ) (p : List Step) (l : ℕ) → IsLeft d most p i.reading l → length p + l ≤ bound → length (talk_with d p (rounds d None false n (in_midst i m))).1 ≤ bound)
-        → IsRound d most bound ((next, r), now)
-        → length (talk_with d now (on_turn (rounds d None false n) (turn_after None None agains next (record j { reading = r; sight = sight })))).1 ≤ bound
-    by_next (Success taken) r sight now more (inl last) = absurd (let e : false ≡ true = last.0 in cc)
-    by_next (Success taken) r sight now more (inr on) = more _ 0 now on.left on.is_left on.within
-    by_next (Dropped taken) r sight now more (inl last) = absurd (let e : false ≡ true = last.0 in cc)
-    by_next (Dropped taken) r sight now more (inr on) = more _ 0 now on.left on.is_left on.within
-    by_next (Sync event) r sight now more (inl last) = absurd (let e : false ≡ true = last.0 in cc)
-    by_next (Sync event) r sight now more (inr on) = more _ 0 now on.left on.is_left on.within
-    by_next Synced r sight now more (inl last) = absurd (let e : false ≡ true = last.0 in cc)
-    by_next Synced r sight now more (inr on) = more _ 0 now on.left on.is_left on.within
-    by_next (Again at ends) r sight now more (inl last) = last.1
-    by_next (Again at ends) r sight now more (inr on) = omega (arith, on.within)
-    by_next NoDevice r sight now more (inl last) = last.1
-    by_next NoDevice r sight now more (inr on) = omega (arith, on.within)
-    by_next Closed r sight now more (inl last) = last.1
-    by_next Closed r sight now more (inr on) = omega (arith, on.within)
-    by_next (Full at) r sight now more (inl last) = last.1
-    by_next (Full at) r sight now more (inr on) = omega (arith, on.within)
+    on : IsRound d most bound past (next, j.reading) → is_last next ≡ false → GoesOn d most bound j.reading past
+    on (inl ends) e = absurd (let never : false ≡ true = sym e ∙ ends.0 in cc)
+    on (inr goes) e = goes
+
+    last : IsRound d most bound past (next, j.reading) → length past ≤ bound
+    last (inl ends) = ends.1
+    last (inr goes) = within d most bound past j.reading goes
+
+    by : (n : Next) → (is_last n ≡ false → GoesOn d most bound j.reading past) → length past ≤ bound → OfTurn (Within bound) (InMidst d most bound) past (turn_after None None agains n j)
+    by (Success taken) goes ends = (refl, goes refl)
+    by (Dropped taken) goes ends = (refl, goes refl)
+    by (Sync event) goes ends = (refl, goes refl)
+    by Synced goes ends = (refl, goes refl)
+    by _ goes ends = ends
+
+follow-round : (d : Description) (most bound : ℕ) → HasQueries d most → (s : List Step) (g : Going) → InMidst d most bound s g → Meets Any (Exact d) (OfTurn (Within bound) (InMidst d most bound)) s (next_round d None false g)
+follow-round d most bound has s g i =
+    let talk : Talk (Next × Reading) = next_talk d (mode_of false g.job.reading.phase) g.job.reading in
+    round-meets (Exact d) (Within bound) (InMidst d most bound) d s None false g
+    (meets-weaker Any (NotedBy (Exact d)) (λ (u : List Step × List Sight) (o : Next × Reading). IsRound d most bound u.0 o) (λ (u : List Step × List Sight) (o : Next × Reading). OfTurn (Within bound) (InMidst d most bound) u.0 (after_next None g (o, u.1)))
+    (s, g.job.sight) talk
+    (note-meets (Exact d) (IsRound d most bound) s g.job.sight talk (next-meets Any (Exact d) (HasLeft d most bound) (IsRound d most bound) d _ (follow-rules d most bound _ has) s g.job.reading i.1))
+    (λ u o k.
+    let j : Job = record g.job { reading = o.1; sight = u.1 } in
+    subst (λ (left : Option ℕ). OfTurn (Within bound) (InMidst d most bound) u.0 (turn_after None left g.agains o.0 j)) (sym i.0) (follow-turn d most bound g.agains u.0 o.0 j k)))
+
+-- this line leaves a history of at most so many steps
+abbrev pub Grows : Description → ℕ → List Step → Talk (Option Job) → Type 0
+Grows d bound past talk = Meets Any (Exact d) (OfJob (Within bound)) past talk
 
 -- a follow makes so many reads as empty a full ring, and synchronises once
-pub follow-length : (d : Description) (most reads n : ℕ) (j : Job) (past : List Step) → HasQueries d most → ring d ≤ 64 * reads → length (talk_with d past (hand_talk d None false None n j)).1 ≤ length past + (reads + suc most)
+pub follow-length : (d : Description) (most reads n : ℕ) (j : Job) (past : List Step) → HasQueries d most → ring d ≤ 64 * reads → Grows d (length past + (reads + suc most)) past (hand_talk d None false None n j)
 follow-length d most reads n j past h fits =
+    let bound : ℕ = length past + (reads + suc most) in
     let client : ℕ = j.reading.client in
     let room : length (queue d past client) < ring d = queue-room d past client in
-    rounds-length d most (length past + (reads + suc most)) n j 0 past (reads + suc most) h
-    (inl (record { reads = reads; enough = omega (arith, visible-le (queue d past client), room, fits); within = omega arith }))
-    (omega arith)
+    rounds-meets (Exact d) (Within bound) (InMidst d most bound) d None false (follow-round d most bound h) n past (record { job = j; left = None; agains = 0 }) (
+      refl,
+      record {
+        left = reads + suc most;
+        is_left = inl (record { reads = reads; enough = omega (arith, visible-le (queue d past client), room, fits); within = omega arith });
+        within = omega arith;
+      },
+    )
 
 -- Other lines
 
--- a start opens a client and makes each query once
-start-talk : (d : Description) (most : ℕ) (r : Reading) (past : List Step) → HasQueries d most → length (talk_with d past (start_talk d r)).1 ≤ length past + suc most
-unfolding talk_with start_talk
-start-talk d most r past h = by_reply (answer d past Open).reply
-  where
-    by_reply : (reply : Reply) → length (talk_with d (past_after reply Open past) (after_open d r reply)).1 ≤ length past + suc most
-    by_reply (Opened at client places) =
-        let asks : Talk (Result View Reply) = ask_each (queries d client) r.view in
-        let behind = talk_with-then d (Open ∷ past) asks (λ (asked : Result View Reply). finish (after_queries client places r asked)) in
-        let same : (talk_with d (Open ∷ past) (after_open d r (Opened at client places))).1 ≡ (talk_with d (Open ∷ past) asks).1 = ap (λ (t : (Started × Reading) × List Step). t.1) behind in
-        omega (arith, ap length same, asked-length d (Open ∷ past) (queries d client) r.view, h.few client)
-    by_reply (Done at) = omega arith
-    by_reply (Took at count) = omega arith
-    by_reply (Discarded at count) = omega arith
-    by_reply (Bits at words) = omega arith
-    by_reply (Axis at axis) = omega arith
-    by_reply (Cells at count slot) = omega arith
-    by_reply (NothingVisible at ends) = omega arith
-    by_reply (StepRefused at why) = omega arith
+abbrev Short : {A : Type 0} → ℕ → List Step → A → Type 0
+Short bound past a = length past ≤ bound
 
-pub start-length : (d : Description) (most : ℕ) (j : Job) (past : List Step) → HasQueries d most → length (talk_with d past (start_job d j)).1 ≤ length past + suc most
-unfolding talk_with start_job
+-- a start opens a client and makes each query once
+start-talk : (d : Description) (most : ℕ) (r : Reading) (past : List Step) → HasQueries d most → Meets Any (Exact d) (Short (length past + suc most)) past (start_talk d r)
+start-talk d most r past h = start-meets Any (Exact d) (Short (length past + suc most)) d r past (record {
+  asks_open = tt;
+  opened = λ t a at client ring by is.
+      asked-meets Any (Exact d) (λ (p : List Step) (view : View) (left : List Step). length p + length left ≤ length past + suc most) (Queried (Short (length past + suc most)) client ring r) (record {
+        asks = λ u view x xs j. tt;
+        told = λ u v view x xs b j given e. omega (arith, j, one_more d u v x b given);
+        stopped = λ u v view x xs b j given e. omega (arith, j, one_more d u v x b given);
+        whole = λ u view j. omega (arith, j);
+      }) t (queries d client) r.view (omega (arith, h.few client, one_more d past t Open a by));
+  refused = λ t a by other. omega (arith, one_more d past t Open a by);
+})
+
+unless-longer : (b : Bool) (bound : ℕ) (past : List Step) (j : Job) → length past ≤ bound → OfJob (Within bound) past (if b then None else Some j)
+unless-longer true bound past j h = tt
+unless-longer false bound past j h = h
+
+pub start-length : (d : Description) (most : ℕ) (j : Job) (past : List Step) → HasQueries d most → Grows d (length past + suc most) past (start_job d j)
 start-length d most j past h =
-    let behind = talk_with-then d past (noted (start_talk d j.reading) j.sight) (λ (o : (Started × Reading) × List Sight). finish (start_ends o)) in
-    let same : (talk_with d past (and_then (noted (start_talk d j.reading) j.sight) (λ (o : (Started × Reading) × List Sight). finish (start_ends o)))).1 ≡ (talk_with d past (start_talk d j.reading)).1 =
-    ap (λ (t : Option Job × List Step). t.1) behind ∙ noted-past d past (start_talk d j.reading) j.sight in
-    omega (arith, ap length same, start-talk d most j.reading past h)
+    start_job-meets (Exact d) (Within (length past + suc most)) d past j
+    (note-meets (Exact d) (Short (length past + suc most)) past j.sight (start_talk d j.reading) (start-talk d most j.reading past h))
 
 -- and a joystick's start does the same
-pub joy_start-length : (d : Description) (most : ℕ) (j : Job) (past : List Step) → HasQueries d most → length (talk_with d past (start_joystick d j)).1 ≤ length past + suc most
-unfolding talk_with start_joystick joy_start
+pub joy_start-length : (d : Description) (most : ℕ) (j : Job) (past : List Step) → HasQueries d most → Grows d (length past + suc most) past (start_joystick d j)
+unfolding start_joystick joy_start
 joy_start-length d most j past h =
+    let bound : ℕ = length past + suc most in
     let start : Talk (Started × Reading) = start_talk d j.reading in
-    let started : Started × Reading → Talk (Started × Joying) = λ o. finish (joy_started d (joying_of j) o) in
-    let joy : Talk (Started × Joying) = and_then start started in
-    let behind = talk_with-then d past (noted joy j.sight) (λ (o : (Started × Joying) × List Sight). finish (after_joy_start j o)) in
-    let inside = talk_with-then d past start started in
-    let same : (talk_with d past (and_then (noted joy j.sight) (λ (o : (Started × Joying) × List Sight). finish (after_joy_start j o)))).1 ≡ (talk_with d past start).1 =
-    ap (λ (t : Option Job × List Step). t.1) behind ∙ noted-past d past joy j.sight ∙ ap (λ (t : (Started × Joying) × List Step). t.1) inside in
-    omega (arith, ap length same, start-talk d most j.reading past h)
+    let joy : Started × Reading → Talk (Started × Joying) = λ o. finish (joy_started d (joying_of j) o) in
+    meets-then Any (Exact d) (Short bound) (OfJob (Within bound)) past (noted (and_then start joy) j.sight) (λ o. finish (after_joy_start j o))
+    (meets-noted (Exact d) (Short bound) past j.sight (and_then start joy)
+    (note-meets (Exact d) (Short bound) past j.sight (and_then start joy) (meets-then Any (Exact d) (Short bound) (Short bound) past start joy (start-talk d most j.reading past h) (λ s o k. k))))
+    (λ s o k. unless-longer (start_lacks_memory o.0.0) bound s (record (with_joying j o.0.1) { sight = o.1; stop = stop_after_start o.0.0 }) k)
 
-one_more : (d : Description) (past : List Step) (x : Step) → length (past_after (answer d past x).reply x past) ≤ length past + 1
-one_more d past x = by_flag (is_accepted (answer d past x).reply)
-  where
-    by_flag : (b : Bool) → length (if b then x ∷ past else past) ≤ length past + 1
-    by_flag true = omega arith
-    by_flag false = omega arith
+pub call-length : (d : Description) (o : Option Step) (j : Job) (past : List Step) (k : ℕ) → 1 ≤ k → Grows d (length past + k) past (call_if j o)
+call-length d None j past k some = omega arith
+call-length d (Some x) j past k some = (tt, λ t a by. omega (arith, some, one_more d past t x a by))
 
-pub call-length : (d : Description) (o : Option Step) (j : Job) (past : List Step) → length (talk_with d past (call_if j o)).1 ≤ length past + 1
-unfolding talk_with
-call-length d None j past = omega arith
-call-length d (Some x) j past = one_more d past x
-
-pub tap_call-length : (d : Description) (o : Option Step) (j : Job) (past : List Step) → length (talk_with d past (tap_call_if j o)).1 ≤ length past + 1
-unfolding talk_with
-tap_call-length d None j past = omega arith
-tap_call-length d (Some x) j past = one_more d past x
+pub tap_call-length : (d : Description) (o : Option Step) (j : Job) (past : List Step) (k : ℕ) → 1 ≤ k → Grows d (length past + k) past (tap_call_if j o)
+tap_call-length d None j past k some = omega arith
+tap_call-length d (Some x) j past k some = (tt, λ t a by. unless-longer (lacks_memory a.reply) (length past + k) t (after_tap_call j x a) (omega (arith, some, one_more d past t x a by)))

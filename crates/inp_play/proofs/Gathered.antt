@@ -21,11 +21,12 @@ use Rattle.inp_script.specs.Ended.{ended_as, ended_of}
 use Rattle.inp_script.specs.Job.{ActorView}
 use Rattle.inp_script.specs.Runs.{is_on_device}
 use Rattle.inp_order.specs.Play.{Stage, jobs_on, run_of, runs_of}
+use Rattle.inp_order.proofs.Promised.{there-is}
 use Rattle.inp_play.specs.declared.gathering.DeviceEnds.{DeviceEnds}
 use Rattle.inp_play.specs.Gathering.{actor_of, first_ends, with_end, HasEndMore, run_with, ends_of, all_ends}
 use Rattle.inp_play.specs.Player.{pasts_of, stage_with, HasDevices, HasActors}
 use Rattle.inp_play.proofs.PlayerMaking.{slice_get-numbered}
-use Rattle.inp_play.proofs.PlayerLines.{same_item, some_item, length-devices}
+use Rattle.inp_play.proofs.PlayerLines.{same_item, length-devices}
 
 -- before the first actor
 pub no_ends : (r : RecordView) (devices : List UdevView) → map first_ends devices ≡ all_ends r (stage_with devices [])
@@ -106,7 +107,7 @@ is_next r devices actors n a keeps has_devices has_actors turn =
     let found : slice_get actors n ≡ Some a = slice_get_read actors (length actors) n a refl turn.0 turn.1 in
     let has : HasActor r a = (has_actors.each n a found).1 in
     let few : length devices ≡ length r.devices = length-devices r devices has_devices in
-    let device : (d : UdevView) × (slice_get devices has.text.device ≡ Some d) = some_item devices has.text.device (omega (arith, keeps.devices a.actor has.text has.is_text, few)) in
+    let device : (d : UdevView) × (slice_get devices has.text.device ≡ Some d) = there-is devices has.text.device (omega (arith, keeps.devices a.actor has.text has.is_text, few)) in
     record { text = has.text; is_text = has.is_text; device = device.0; is_device = device.1 }
 
 length-all_ends : (r : RecordView) (devices : List UdevView) (ys : List ActorView) → length (all_ends r (stage_with devices ys)) ≡ length devices

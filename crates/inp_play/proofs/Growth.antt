@@ -14,14 +14,15 @@ use Rattle.inp_actors.specs.declared.role.Role.TheVariants.{Source, Client, Tap,
 use Rattle.inp_actors.specs.Command.{feedback_room}
 use Rattle.inp_actors.specs.Record.{RecordView}
 use Rattle.inp_reader.specs.declared.reader.TheConstants.{NO_CLIENT}
-use Rattle.inp_reader.specs.Talk.{Talk, finish, EndsWith, talk_with}
+use Rattle.inp_reader.specs.Talk.{Talk, EndsWith, talk_with}
 use Rattle.inp_script.specs.declared.stop.Stop.{Stop}
 use Rattle.inp_script.specs.Doing.{command_talk, unless_stopped, line_talk}
 use Rattle.inp_script.specs.Job.{Job, ActorView}
 use Rattle.inp_script.specs.Line.{step_of}
 use Rattle.inp_order.specs.Play.{Stage, after_line, after_lines}
 use Rattle.inp_order.proofs.Calls.{AreExact, exact-talk}
-use Rattle.inp_play.proofs.Follows.{HasQueries, follow-length, start-length, joy_start-length, call-length, tap_call-length}
+use Rattle.inp_script.proofs.LineWalk.{OfJob}
+use Rattle.inp_play.proofs.Follows.{meets-with, Grows, Within, HasQueries, follow-length, start-length, joy_start-length, call-length, tap_call-length}
 use Rattle.inp_play.proofs.Limits.{Stays, NoStop, stays-with, stays-start, stays-joy_start, stays-follow, stays-call, stays-tap_call}
 use Rattle.inp_order.proofs.LineDone.{IsLinePlayed, line-done}
 
@@ -30,40 +31,31 @@ use Rattle.inp_order.proofs.LineDone.{IsLinePlayed, line-done}
 -- A command is no feedback call. Whatever actor does it, it adds at most so many steps, and stops no job while no step is refused as full.
 pub record IsBound (d : Description) (command : Command) (k : ℕ) : Type 0 where
   pub no_feedback : feedback_room command ≡ None
-  pub grows : (role : Role) (streams : List (List Stamped)) (n : ℕ) (j : Job) (past : List Step) → length (talk_with d past (command_talk role d streams None n command j)).1 ≤ length past + k
+  pub grows : (role : Role) (streams : List (List Stamped)) (n : ℕ) (j : Job) (past : List Step) → Grows d (length past + k) past (command_talk role d streams None n command j)
   pub stays : (role : Role) (streams : List (List Stamped)) (n : ℕ) (j : Job) → j.stop ≡ None → Stays NoStop (command_talk role d streams None n command j)
-
--- an owner makes no step
-owner-length : (d : Description) (k : ℕ) (j : Job) (past : List Step) → length (talk_with d past (finish (Some j))).1 ≤ length past + k
-unfolding talk_with
-owner-length d k j past = omega arith
 
 pub event-bound : (d : Description) (moment kind code : ℕ) (value : _) → IsBound d (Event moment kind code value) 1
 event-bound d moment kind code value = record { no_feedback = refl; grows = by_length; stays = by_stop }
   where
-    by_length : (role : Role) (streams : List (List Stamped)) (n : ℕ) (j : Job) (past : List Step) → length (talk_with d past (command_talk role d streams None n (Event moment kind code value) j)).1 ≤ length past + 1
-    by_length Source streams n j past = call-length d (step_of NO_CLIENT (Event moment kind code value)) j past
-    by_length Client streams n j past = call-length d (step_of j.reading.client (Event moment kind code value)) j past
-    by_length Tap streams n j past = tap_call-length d (step_of j.reading.client (Event moment kind code value)) j past
-    by_length Joy streams n j past = call-length d (step_of j.reading.client (Event moment kind code value)) j past
-    by_length Owner streams n j past = owner-length d 1 j past
+    by_length : (role : Role) (streams : List (List Stamped)) (n : ℕ) (j : Job) (past : List Step) → Grows d (length past + 1) past (command_talk role d streams None n (Event moment kind code value) j)
+    by_length Tap streams n j past = tap_call-length d (step_of j.reading.client (Event moment kind code value)) j past 1 (omega arith)
+    by_length Owner streams n j past = omega arith
+    by_length _ streams n j past = call-length d (step_of j.reading.client (Event moment kind code value)) j past 1 (omega arith)
 
     by_stop : (role : Role) (streams : List (List Stamped)) (n : ℕ) (j : Job) → j.stop ≡ None → Stays NoStop (command_talk role d streams None n (Event moment kind code value) j)
-    by_stop Source streams n j h = stays-call (step_of NO_CLIENT (Event moment kind code value)) j h
-    by_stop Client streams n j h = stays-call (step_of j.reading.client (Event moment kind code value)) j h
     by_stop Tap streams n j h = stays-tap_call (step_of j.reading.client (Event moment kind code value)) j h
-    by_stop Joy streams n j h = stays-call (step_of j.reading.client (Event moment kind code value)) j h
     by_stop Owner streams n j h = h
+    by_stop _ streams n j h = stays-call (step_of j.reading.client (Event moment kind code value)) j h
 
 pub open-bound : (d : Description) (most : ℕ) → HasQueries d most → IsBound d Open (suc most)
 open-bound d most has = record { no_feedback = refl; grows = by_length; stays = by_stop }
   where
-    by_length : (role : Role) (streams : List (List Stamped)) (n : ℕ) (j : Job) (past : List Step) → length (talk_with d past (command_talk role d streams None n Open j)).1 ≤ length past + suc most
-    by_length Source streams n j past = omega (arith, call-length d (step_of NO_CLIENT Open) j past)
+    by_length : (role : Role) (streams : List (List Stamped)) (n : ℕ) (j : Job) (past : List Step) → Grows d (length past + suc most) past (command_talk role d streams None n Open j)
+    by_length Source streams n j past = call-length d (step_of NO_CLIENT Open) j past (suc most) (omega arith)
     by_length Client streams n j past = start-length d most j past has
-    by_length Tap streams n j past = omega (arith, tap_call-length d (step_of j.reading.client Open) j past)
+    by_length Tap streams n j past = tap_call-length d (step_of j.reading.client Open) j past (suc most) (omega arith)
     by_length Joy streams n j past = joy_start-length d most j past has
-    by_length Owner streams n j past = owner-length d (suc most) j past
+    by_length Owner streams n j past = omega arith
 
     by_stop : (role : Role) (streams : List (List Stamped)) (n : ℕ) (j : Job) → j.stop ≡ None → Stays NoStop (command_talk role d streams None n Open j)
     by_stop Source streams n j h = stays-call (step_of NO_CLIENT Open) j h
@@ -75,19 +67,13 @@ open-bound d most has = record { no_feedback = refl; grows = by_length; stays = 
 pub follow-bound : (d : Description) (most reads : ℕ) → HasQueries d most → ring d ≤ 64 * reads → IsBound d Follow (reads + suc most)
 follow-bound d most reads has fits = record { no_feedback = refl; grows = by_length; stays = by_stop }
   where
-    by_length : (role : Role) (streams : List (List Stamped)) (n : ℕ) (j : Job) (past : List Step) → length (talk_with d past (command_talk role d streams None n Follow j)).1 ≤ length past + (reads + suc most)
-    by_length Source streams n j past = omega (arith, call-length d (step_of NO_CLIENT Follow) j past)
+    by_length : (role : Role) (streams : List (List Stamped)) (n : ℕ) (j : Job) (past : List Step) → Grows d (length past + (reads + suc most)) past (command_talk role d streams None n Follow j)
     by_length Client streams n j past = follow-length d most reads n j past has fits
-    by_length Tap streams n j past = omega (arith, tap_call-length d (step_of j.reading.client Follow) j past)
-    by_length Joy streams n j past = omega (arith, call-length d (step_of j.reading.client Follow) j past)
-    by_length Owner streams n j past = owner-length d (reads + suc most) j past
+    by_length _ streams n j past = omega arith
 
     by_stop : (role : Role) (streams : List (List Stamped)) (n : ℕ) (j : Job) → j.stop ≡ None → Stays NoStop (command_talk role d streams None n Follow j)
-    by_stop Source streams n j h = stays-call (step_of NO_CLIENT Follow) j h
     by_stop Client streams n j h = stays-follow d n j h
-    by_stop Tap streams n j h = stays-tap_call (step_of j.reading.client Follow) j h
-    by_stop Joy streams n j h = stays-call (step_of j.reading.client Follow) j h
-    by_stop Owner streams n j h = h
+    by_stop _ streams n j h = h
 
 -- Lines
 
@@ -126,10 +112,11 @@ line-short r d rounds m k stage now line s bound room h = of_line (line-done r r
         let kept = s.actors line.actor a u.is_actor in
         let talk : Talk (Option Job) = command_talk a.role d r.streams None rounds line.command a.job in
         let did : talk_with d u.past talk ≡ (Some u.job, u.after) = line-talk a.role a.description d r.streams rounds line.command a.job u.job u.past u.after u.calls kept.0 kept.1 u.ends u.exact in
-        let grows : length (talk_with d u.past talk).1 ≤ length u.past + k = bound.grows a.role r.streams rounds a.job u.past in
+        let leaves : OfJob (Within (length u.past + k)) (talk_with d u.past talk).1 (talk_with d u.past talk).0 = meets-with d (OfJob (Within (length u.past + k))) u.past talk (bound.grows a.role r.streams rounds a.job u.past) in
+        let grows : length u.after ≤ length u.past + k = subst (λ (t : Option Job × List Step). OfJob (Within (length u.past + k)) t.1 t.0) did leaves in
         let before : length u.past ≤ m = s.pasts u.text.device u.past u.is_past in
         let same : length (talk_with d u.past talk).1 ≡ length u.after = ap (λ (t : Option Job × List Step). length t.1) did in
-        let within : length u.after ≤ m + k = omega (arith, grows, before, same) in
+        let within : length u.after ≤ m + k = omega (arith, grows, before) in
         let stays : NoStop (talk_with d u.past talk).0 = stays-with NoStop d u.past talk (bound.stays a.role r.streams rounds a.job kept.1) (omega (arith, grows, before, room)) in
         let stopless : u.job.stop ≡ None = subst (λ (t : Option Job × List Step). NoStop t.0) did stays in
         record {

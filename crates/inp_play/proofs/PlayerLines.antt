@@ -1,8 +1,9 @@
 -- A line that an actor does on its device is one of a play.
-use Rattle.std.proofs.Common.{◌≡◌, ℕ, zero, suc, ◌<◌, ◌⊎◌, inl, inr, Bool, true, false, if◌then◌else◌, min, List, [], ◌∷◌, length, Option, Some, None, refl, sym, ap, subst, ◌∙◌, arith, length-set, get_or}
+use Rattle.std.proofs.Common.{◌≡◌, ℕ, zero, suc, ◌⊎◌, inl, inr, Bool, true, false, if◌then◌else◌, min, List, [], ◌∷◌, length, Option, Some, None, refl, sym, ap, subst, ◌∙◌, length-set, get_or}
 use Rattle.std.specs.Prelude.{map, slice_get, slice_set, option_map, option_and_then}
 use Rattle.std.proofs.lemmas.List.{map-set, length-map}
 use Rattle.std.proofs.lemmas.Option.{slice_get-map, slice_get_read}
+use Rattle.std.proofs.lemmas.Bool.{cond_both}
 use Rattle.inp_model.specs.declared.event.Event.{Event}
 use Rattle.inp_model.specs.declared.step.Step.{Step}
 use Rattle.inp_model.specs.Description.{Description}
@@ -34,7 +35,7 @@ use Rattle.inp_script.specs.Owner.{Owning, after_feedback, IsFed, FeedsUnless, F
 use Rattle.inp_order.specs.Play.{Stage, feedback_calls_after, after_talk, unless_owner_stopped, by_command, after_line, after_line_of}
 use Rattle.inp_play.specs.Player.{stage_with, pasts_of, feedback_calls_of, HasDevices, HasActors}
 use Rattle.inp_order.proofs.Alone.{device-alone}
-use Rattle.inp_order.proofs.LineDone.{feedback-of}
+use Rattle.inp_order.proofs.LineDone.{feedback-of, set_same}
 use Rattle.inp_runs.proofs.Memory.{gives_up-line}
 
 -- Lists
@@ -45,11 +46,6 @@ some_one x y e = cc
 pub same_item : {A : Type 0} (xs : List A) (i : ℕ) (x y : A) → slice_get xs i ≡ Some x → slice_get xs i ≡ Some y → x ≡ y
 same_item xs i x y h k = some_one x y (sym h ∙ k)
 
-pub some_item : {A : Type 0} (xs : List A) (i : ℕ) → i < length xs → (x : A) × (slice_get xs i ≡ Some x)
-some_item [] i h = absurd (omega (arith, h))
-some_item (x ∷ xs) zero h = (x, refl)
-some_item (x ∷ xs) (suc i) h = some_item xs i (omega (arith, h))
-
 -- an item of a list in which one was written is that one or was there before
 pub set_or_before : {A : Type 0} (xs : List A) (i k : ℕ) (y z : A) → slice_get (slice_set xs i y) k ≡ Some z → ((k ≡ i) × (z ≡ y)) ⊎ (slice_get xs k ≡ Some z)
 set_or_before [] i k y z h = inr h
@@ -57,11 +53,6 @@ set_or_before (x ∷ xs) zero zero y z h = inl (refl, some_one z y (sym h))
 set_or_before (x ∷ xs) zero (suc k) y z h = inr h
 set_or_before (x ∷ xs) (suc i) zero y z h = inr h
 set_or_before (x ∷ xs) (suc i) (suc k) y z h = elim (set_or_before xs i k y z h) [ inl e ↦ inl (ap suc e.0, e.1) | inr e ↦ inr e ]
-
-pub set_same : {A : Type 0} (xs : List A) (i : ℕ) (x : A) → slice_get xs i ≡ Some x → slice_set xs i x ≡ xs
-set_same [] i x h = refl
-set_same (y ∷ xs) zero x h = ap (λ (z : _). z ∷ xs) (some_one x y (sym h))
-set_same (y ∷ xs) (suc i) x h = ap (λ (zs : List _). y ∷ zs) (set_same xs i x h)
 
 -- What a line finds
 
@@ -185,14 +176,10 @@ line_does r devices actors number line text a device after new keeps f no_room d
 
 -- what it leaves of a device is what the device keeps of its steps, and of its calls
 steps_kept : (d : Description) (kept : List UEntry) (room : ℕ) → steps_in (kept_after_feedback d kept room) ≡ steps_in kept
-steps_kept d kept room = by_flag (is_full_of_feedback d kept)
+steps_kept d kept room = cond_both (is_full_of_feedback d kept) _ _ (λ x. steps_in x ≡ steps_in kept) (λ _. refl) (λ _. refl)
   where
     count : ℕ
     count = length (taken_by_feedback d kept room)
-
-    by_flag : (b : Bool) → steps_in (if b then kept else Feedback count ∷ kept) ≡ steps_in kept
-    by_flag true = refl
-    by_flag false = refl
 
 calls_kept : (d : Description) (kept : List UEntry) (room : ℕ) → calls_in (kept_after_feedback d kept room) ≡ feedback_calls_after (fed d kept room) (calls_in kept)
 calls_kept d kept room = by_flag (is_full_of_feedback d kept)

@@ -4,9 +4,9 @@ use Rattle.std.specs.Prelude.{map, slice_get, option_map}
 use Rattle.std.specs.List.{enumerate_from}
 use Rattle.std.proofs.lemmas.List.{length-map}
 use Rattle.std.proofs.lemmas.List.FromFn.{length-enumerate_from}
-use Rattle.std.proofs.lemmas.Option.{slice_get-map, slice_get_within, get_or_from_slice_get}
+use Rattle.std.proofs.lemmas.Option.{slice_get-map, slice_get_within}
 use Rattle.inp_model.specs.declared.step.Step.{Step}
-use Rattle.inp_model.specs.Description.{Description, syn_alone}
+use Rattle.inp_model.specs.Description.{Description}
 use Rattle.inp_actors.specs.declared.actor_text.ActorText.{ActorText}
 use Rattle.inp_actors.specs.declared.device_text.DeviceText.{DeviceText}
 use Rattle.inp_actors.specs.Record.{RecordView, IsRecord}
@@ -16,8 +16,9 @@ use Rattle.inp_script.specs.Job.{ActorView, first_job}
 use Rattle.inp_script.specs.Owner.{first_owning}
 use Rattle.inp_uinput.specs.UdevView.{UdevView}
 use Rattle.inp_order.specs.Play.{description_at, first_actor, first_stage}
+use Rattle.inp_order.proofs.Promised.{there-is, description_is}
 use Rattle.inp_play.specs.Player.{pasts_of, feedback_calls_of, stage_with, first_device, first_actors, HasDevices, HasActors}
-use Rattle.inp_play.proofs.PlayerLines.{same_item, some_item}
+use Rattle.inp_play.proofs.PlayerLines.{same_item}
 
 -- Lists
 
@@ -39,17 +40,12 @@ slice_get-numbered {A = A} n (x ∷ xs) (suc i) =
 
 -- Actors
 
-has_description : (r : RecordView) (device : ℕ) (text : DeviceText) → slice_get r.devices device ≡ Some text → description_at r device ≡ text.caps
-has_description r device text h =
-    let f : DeviceText → Description = λ t. t.caps in
-    get_or_from_slice_get (map f r.devices) device text.caps syn_alone (slice_get-map f r.devices device ∙ ap (option_map f) h)
-
 made_first : (r : RecordView) (i : ℕ) (text : ActorText) (a : ActorView) → HasActor r a → a.actor ≡ i → a.job ≡ first_job a.role a.description → a.owning ≡ first_owning → slice_get r.actors i ≡ Some text → a ≡ first_actor r (i, text)
 made_first r i text a has number job owning there =
     let same : has.text ≡ text = same_item r.actors i has.text text (ap (slice_get r.actors) (sym number) ∙ has.is_text) there in
     let role : a.role ≡ text.role = sym has.role ∙ ap (λ (t : ActorText). t.role) same in
     let description : a.description ≡ description_at r text.device =
-    sym has.description ∙ sym (has_description r has.text.device has.device has.is_device) ∙ ap (λ (t : ActorText). description_at r t.device) same in
+    sym has.description ∙ sym (description_is r has.text.device has.device has.is_device) ∙ ap (λ (t : ActorText). description_at r t.device) same in
     ap (λ (j : _). record { actor = a.actor; role = a.role; description = a.description; job = j; owning = a.owning }) job
     ∙ ap (λ (w : _). record { actor = a.actor; role = a.role; description = a.description; job = first_job a.role a.description; owning = w }) owning
     ∙ ap (λ (n : ℕ). record { actor = n; role = a.role; description = a.description; job = first_job a.role a.description; owning = first_owning }) number
@@ -65,7 +61,7 @@ first_at r i text h =
 
 pub one_more_actor : (r : RecordView) (i : ℕ) (a : ActorView) (actors : List ActorView) → i < length r.actors → HasActor r a → a.actor ≡ i → a.job ≡ first_job a.role a.description → a.owning ≡ first_owning → actors ≡ take i (first_actors r) → actors ++ a ∷ [] ≡ take (i + 1) (first_actors r)
 one_more_actor r i a actors within has number job owning before =
-    let t : (text : ActorText) × (slice_get r.actors i ≡ Some text) = some_item r.actors i within in
+    let t : (text : ActorText) × (slice_get r.actors i ≡ Some text) = there-is r.actors i within in
     ap (λ (xs : List ActorView). xs ++ a ∷ []) before
     ∙ ap (λ (b : ActorView). take i (first_actors r) ++ b ∷ []) (made_first r i t.0 a has number job owning t.1)
     ∙ sym (take-next (first_actors r) i (first_actor r (i, t.0)) (first_at r i t.0 t.1))
@@ -77,10 +73,10 @@ pub first_has_actors : (r : RecordView) → IsRecord r → HasActors r (first_ac
 first_has_actors r keeps = record {
   count = length-first_actors r;
   each = λ i a h.
-      let t : (text : ActorText) × (slice_get r.actors i ≡ Some text) = some_item r.actors i (omega (arith, slice_get_within (first_actors r) i a h, length-first_actors r)) in
-      let d : (device : DeviceText) × (slice_get r.devices t.0.device ≡ Some device) = some_item r.devices t.0.device (keeps.devices i t.0 t.1) in
+      let t : (text : ActorText) × (slice_get r.actors i ≡ Some text) = there-is r.actors i (omega (arith, slice_get_within (first_actors r) i a h, length-first_actors r)) in
+      let d : (device : DeviceText) × (slice_get r.devices t.0.device ≡ Some device) = there-is r.devices t.0.device (keeps.devices i t.0 t.1) in
       let is : first_actor r (i, t.0) ≡ a = same_item (first_actors r) i (first_actor r (i, t.0)) a (first_at r i t.0 t.1) h in
-      let has : HasActor r (first_actor r (i, t.0)) = record { text = t.0; device = d.0; is_text = t.1; role = refl; is_device = d.1; description = sym (has_description r t.0.device d.0 d.1) } in
+      let has : HasActor r (first_actor r (i, t.0)) = record { text = t.0; device = d.0; is_text = t.1; role = refl; is_device = d.1; description = sym (description_is r t.0.device d.0 d.1) } in
       (ap (λ (b : ActorView). b.actor) (sym is), subst (HasActor r) is has);
 }
 

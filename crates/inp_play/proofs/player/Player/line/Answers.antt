@@ -1,4 +1,4 @@
-use Rattle.std.proofs.Common.{◌≡◌, ℕ, List, min, refl, sym, ap, subst, ◌∙◌, Option, Some, None, OnOk}
+use Rattle.std.proofs.Common.{◌≡◌, ℕ, List, get_or, min, refl, sym, ap, subst, ◌∙◌, Option, Some, None, OnOk}
 use Rattle.std.specs.Prelude.{Result, Ok, Err, slice_get, slice_set}
 use Rattle.inp_model.specs.declared.no_memory.NoMemory.{NoMemory}
 use Rattle.inp_actors.specs.declared.actor_text.ActorText.{ActorText}
@@ -12,6 +12,7 @@ use Rattle.inp_script.specs.declared.stop.Stop.{Stop}
 use Rattle.inp_script.specs.Doing.{DoesLine}
 use Rattle.inp_script.specs.Job.{Job, ActorView}
 use Rattle.inp_script.specs.Owner.{Owning, FeedsUnless, FeedsLine}
+use Rattle.inp_runs.proofs.FeedLines.{no-room}
 use Rattle.inp_uinput.specs.UdevView.{UdevView, owned_view}
 use Rattle.inp_uinput.specs.OwnedFeeding.{IsFeedbackOf}
 use Rattle.inp_play.specs.declared.player.Player.{Player}
@@ -24,9 +25,12 @@ use Rattle.inp_play.proofs.player.Player.line.Goals as goal
 is_feedback : (command : Command) (count : ℕ) → command ≡ Feedback count → feedback_room command ≡ Some count
 is_feedback command count is = ap feedback_room is
 
-no_feedback : (command : Command) → ((count : ℕ) → command ≡ Feedback count → ⊥) → feedback_room command ≡ None
-no_feedback (Feedback count) other = absurd (other count refl)
-no_feedback _ other = refl
+found_by : (r : RecordView) (p : Player) (number : ℕ) (line : Line) (text : ActorText) (a : ActorView) (device : UdevView) (lines : List Line) (actors : List ActorText) → IsRecord r → IsPlayer r p
+    → lines ≡ r.lines → slice_get lines number ≡ Some line → actors ≡ r.actors → slice_get actors line.actor ≡ Some text → a ≡ get_or p.actors.items line.actor a → device ≡ get_or p.devices.items text.device device
+    → IsFound r p.devices.items p.actors.items number line text a device
+found_by r p number line text a device lines actors keeps is same is_line these is_text is_actor is_device =
+    found r p.devices.items p.actors.items number line text a device keeps is.devices is.actors (ap (λ (ls : List Line). slice_get ls number) (sym same) ∙ is_line)
+    (ap (λ (texts : List ActorText). slice_get texts line.actor) (sym these) ∙ is_text) is_actor is_device
 
 -- A feedback call
 
@@ -34,11 +38,8 @@ pub feed-requires : goal.feed-requires
 feed-requires c =
     let line : Line = c.get-text.result.now in
     let text : ActorText = c.get.result.now in
-    let f = found c.args.rec.now c.args.self.now.devices.items c.args.self.now.actors.items c.args.line line text c.index_mut-actor.result.now c.index_mut-dev.result.now c.lines.ensures.record c.requires.player.devices c.requires.player.actors
-    (ap (λ (lines : List Line). slice_get lines c.args.line) (sym c.lines.ensures.lines) ∙ c.get-text.ensures.item)
-    (ap (λ (actors : List ActorText). slice_get actors line.actor) (sym c.actors.ensures.actors) ∙ c.get.ensures.item)
-    c.index_mut-actor.ensures.value
-    c.index_mut-dev.ensures.value in
+    let f = found_by c.args.rec.now c.args.self.now c.args.line line text c.index_mut-actor.result.now c.index_mut-dev.result.now _ _ c.lines.ensures.record c.requires.player
+    c.lines.ensures.lines c.get-text.ensures.item c.actors.ensures.actors c.get.ensures.item c.index_mut-actor.ensures.value c.index_mut-dev.ensures.value in
     record {
       owner = found-owner c.args.rec.now c.args.self.now.devices.items c.args.self.now.actors.items c.args.line line text c.index_mut-actor.result.now c.index_mut-dev.result.now c.in-Feedback.count c.lines.ensures.record f
           (is_feedback line.command c.in-Feedback.count c.in-Feedback.is);
@@ -60,18 +61,6 @@ fed_by (Ok unit) r number old new line text a b device after count f is_room dev
       ∙ ap (λ (bs : List ActorView). Some (stage_with new.devices.items bs)) (sym actors);
 }
 fed_by (Err err) r number old new line text a b device after count f is_room devices actors actor does = tt
-
-pub returns-in-Feedback-clause-done : goal.returns-in-Feedback-clause-done
-returns-in-Feedback-clause-done c =
-    let line : Line = c.get-text.result.now in
-    let text : ActorText = c.get.result.now in
-    let f = found c.args.rec.now c.args.self.now.devices.items c.args.self.now.actors.items c.args.line line text c.index_mut-actor.result.now c.index_mut-dev.result.now c.lines.ensures.record c.requires.player.devices c.requires.player.actors
-    (ap (λ (lines : List Line). slice_get lines c.args.line) (sym c.lines.ensures.lines) ∙ c.get-text.ensures.item)
-    (ap (λ (actors : List ActorText). slice_get actors line.actor) (sym c.actors.ensures.actors) ∙ c.get.ensures.item)
-    c.index_mut-actor.ensures.value
-    c.index_mut-dev.ensures.value in
-    fed_by c.feed.result c.args.rec.now c.args.line c.args.self.now _ line text c.index_mut-actor.result.now c.feed.new.self c.index_mut-dev.result.now c.feed.new.dev c.in-Feedback.count f
-    (is_feedback line.command c.in-Feedback.count c.in-Feedback.is) refl refl c.feed.ensures.actor c.feed.ensures.done
 
 own-owning : (a b : ActorView) → b ≡ record a { owning = b.owning } → b ≡ record a { job = b.job; owning = b.owning }
 own-owning a b is = is ∙ ap (λ (j : Job). record a { job = j; owning = b.owning }) (sym (ap (λ (c : ActorView). c.job) is))
@@ -103,18 +92,21 @@ stays_by (Ok unit) r number old new line text a b device after f devices actors 
 }
 stays_by (Err err) r number old new line text a b device after f devices actors actor same = tt
 
-pub returns-in-Feedback-clause-player : goal.returns-in-Feedback-clause-player
-returns-in-Feedback-clause-player c =
+pub returns-in-Feedback : goal.returns-in-Feedback
+returns-in-Feedback c =
     let line : Line = c.get-text.result.now in
     let text : ActorText = c.get.result.now in
-    let f = found c.args.rec.now c.args.self.now.devices.items c.args.self.now.actors.items c.args.line line text c.index_mut-actor.result.now c.index_mut-dev.result.now c.lines.ensures.record c.requires.player.devices c.requires.player.actors
-    (ap (λ (lines : List Line). slice_get lines c.args.line) (sym c.lines.ensures.lines) ∙ c.get-text.ensures.item)
-    (ap (λ (actors : List ActorText). slice_get actors line.actor) (sym c.actors.ensures.actors) ∙ c.get.ensures.item)
-    c.index_mut-actor.ensures.value
-    c.index_mut-dev.ensures.value in
-    stays_by c.feed.result c.args.rec.now c.args.line c.args.self.now _ line text c.index_mut-actor.result.now c.feed.new.self c.index_mut-dev.result.now c.feed.new.dev f refl refl
-    (own-owning c.index_mut-actor.result.now c.feed.new.self c.feed.ensures.actor)
-    (fed-description c.feed.result c.index_mut-dev.result.now c.feed.new.dev c.in-Feedback.count c.index_mut-actor.result.now.owning c.feed.new.self.owning c.feed.ensures.done)
+    let f = found_by c.args.rec.now c.args.self.now c.args.line line text c.index_mut-actor.result.now c.index_mut-dev.result.now _ _ c.lines.ensures.record c.requires.player
+    c.lines.ensures.lines c.get-text.ensures.item c.actors.ensures.actors c.get.ensures.item c.index_mut-actor.ensures.value c.index_mut-dev.ensures.value in
+    record {
+      done =
+          fed_by c.feed.result c.args.rec.now c.args.line c.args.self.now _ line text c.index_mut-actor.result.now c.feed.new.self c.index_mut-dev.result.now c.feed.new.dev c.in-Feedback.count f
+          (is_feedback line.command c.in-Feedback.count c.in-Feedback.is) refl refl c.feed.ensures.actor c.feed.ensures.done;
+      player =
+          stays_by c.feed.result c.args.rec.now c.args.line c.args.self.now _ line text c.index_mut-actor.result.now c.feed.new.self c.index_mut-dev.result.now c.feed.new.dev f refl refl
+          (own-owning c.index_mut-actor.result.now c.feed.new.self c.feed.ensures.actor)
+          (fed-description c.feed.result c.index_mut-dev.result.now c.feed.new.dev c.in-Feedback.count c.index_mut-actor.result.now.owning c.feed.new.self.owning c.feed.ensures.done);
+    }
 
 -- Another line
 
@@ -122,11 +114,8 @@ pub line-requires : goal.line-requires
 line-requires c =
     let line : Line = c.get-text.result.now in
     let text : ActorText = c.get.result.now in
-    let f = found c.args.rec.now c.args.self.now.devices.items c.args.self.now.actors.items c.args.line line text c.index_mut-actor.result.now c.index_mut-dev.result.now c.lines.ensures.record c.requires.player.devices c.requires.player.actors
-    (ap (λ (lines : List Line). slice_get lines c.args.line) (sym c.lines.ensures.lines) ∙ c.get-text.ensures.item)
-    (ap (λ (actors : List ActorText). slice_get actors line.actor) (sym c.actors.ensures.actors) ∙ c.get.ensures.item)
-    c.index_mut-actor.ensures.value
-    c.index_mut-dev.ensures.value in
+    let f = found_by c.args.rec.now c.args.self.now c.args.line line text c.index_mut-actor.result.now c.index_mut-dev.result.now _ _ c.lines.ensures.record c.requires.player
+    c.lines.ensures.lines c.get-text.ensures.item c.actors.ensures.actors c.get.ensures.item c.index_mut-actor.ensures.value c.index_mut-dev.ensures.value in
     record {
       actor = (f.has_actors.each line.actor c.index_mut-actor.result.now f.is_actor).1;
       line = found-line c.args.rec.now c.args.self.now.devices.items c.args.self.now.actors.items c.args.line line text c.index_mut-actor.result.now c.index_mut-dev.result.now f;
@@ -155,14 +144,11 @@ pub returns-in_default : goal.returns-in_default
 returns-in_default c =
     let line : Line = c.get-text.result.now in
     let text : ActorText = c.get.result.now in
-    let f = found c.args.rec.now c.args.self.now.devices.items c.args.self.now.actors.items c.args.line line text c.index_mut-actor.result.now c.index_mut-dev.result.now c.lines.ensures.record c.requires.player.devices c.requires.player.actors
-    (ap (λ (lines : List Line). slice_get lines c.args.line) (sym c.lines.ensures.lines) ∙ c.get-text.ensures.item)
-    (ap (λ (actors : List ActorText). slice_get actors line.actor) (sym c.actors.ensures.actors) ∙ c.get.ensures.item)
-    c.index_mut-actor.ensures.value
-    c.index_mut-dev.ensures.value in
+    let f = found_by c.args.rec.now c.args.self.now c.args.line line text c.index_mut-actor.result.now c.index_mut-dev.result.now _ _ c.lines.ensures.record c.requires.player
+    c.lines.ensures.lines c.get-text.ensures.item c.actors.ensures.actors c.get.ensures.item c.index_mut-actor.ensures.value c.index_mut-dev.ensures.value in
     record {
       done = done_by c.line.result c.args.rec.now c.args.line c.args.self.now _ line text c.index_mut-actor.result.now c.line.new.self c.index_mut-dev.result.now c.line.new.dev c.lines.ensures.record f
-          (no_feedback line.command c.in_default.not-Feedback) refl refl c.line.ensures.actor c.line.ensures.done;
+          (no-room line.command c.in_default.not-Feedback) refl refl c.line.ensures.actor c.line.ensures.done;
       player = stays_by c.line.result c.args.rec.now c.args.line c.args.self.now _ line text c.index_mut-actor.result.now c.line.new.self c.index_mut-dev.result.now c.line.new.dev f refl refl
           (own-job c.index_mut-actor.result.now c.line.new.self c.line.ensures.actor)
           (if-ok c.line.result (c.line.new.dev.description ≡ c.index_mut-dev.result.now.description) c.line.ensures.left.leaves.description);
