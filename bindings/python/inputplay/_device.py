@@ -1,0 +1,353 @@
+"""Devices, their clients and their readers."""
+
+from ctypes import byref, c_int32, c_uint32
+from enum import IntEnum
+from typing import Iterator, List, NamedTuple, Optional, Set, Union
+
+from ._errors import RefusedRecord, Status, StepRefused, check
+from ._event import Event, Type, code_pair, event_of
+from ._library import Handle, Info, RawEvent, RawReply, Step, bytes_at, library
+
+READ_MAX = 4096
+CELLS_MAX = 14 * 256
+NO_CLIENT = 0xFFFF_FFFF
+
+
+class Steps(IntEnum):
+    """The steps of a device."""
+
+    INJECT = 0
+    TICK = 1
+    OPEN = 2
+    CLOSE = 3
+    READ = 4
+    DISCARD = 5
+    GET_KEYS = 6
+    GET_SWITCHES = 7
+    GET_LEDS = 8
+    GET_SOUNDS = 9
+    GET_AXIS = 10
+    SET_AXIS = 11
+    GET_SLOTS = 12
+    SYNC_SLOTS = 13
+    WRITE = 14
+    GRAB = 15
+    UNGRAB = 16
+    MASK = 17
+    CLOCK = 18
+    REVOKE = 19
+    INHIBIT = 20
+    UNINHIBIT = 21
+    END = 22
+
+
+class Replies(IntEnum):
+    """The replies to steps."""
+
+    DONE = 0
+    OPENED = 1
+    TOOK = 2
+    DISCARDED = 3
+    BITS = 4
+    AXIS = 5
+    CELLS = 6
+    AGAIN = 7
+    REFUSED = 8
+
+
+class Axis(NamedTuple):
+    """An axis."""
+
+    value: int = 0
+    minimum: int = 0
+    maximum: int = 0
+    fuzz: int = 0
+    flat: int = 0
+    resolution: int = 0
+
+
+class Reply(NamedTuple):
+    """A reply to a step, with what was read."""
+
+    reply: Replies
+    at: int
+    client: int
+    count: int
+    slot: int
+    why: int
+    words: List[int]
+    axis: Axis
+    events: List[Event]
+    cells: List[int]
+
+
+class Answer(IntEnum):
+    """What a reader answers, as libevdev_next_event does."""
+
+    EVENT = 0
+    DROPPED = 1
+    SYNC = 2
+    AGAIN = 3
+    SYNCED = 4
+    NO_DEVICE = 5
+    CLOSED = 6
+    FULL = 7
+
+
+class Phase(IntEnum):
+    """Whether a reader is to synchronise."""
+
+    PLAIN = 0
+    NEEDED = 1
+    HANDING = 2
+
+
+class Kept:
+    """What the library keeps for a program, freed at the end of a `with` or of its life."""
+
+    def __init__(self) -> None:
+        self._handle = Handle()
+
+    def close(self) -> None:
+        """Gives back what is kept. A second time does nothing."""
+        library.inputplay_free(byref(self._handle))
+
+    @property
+    def closed(self) -> bool:
+        """Whether nothing is kept."""
+        return self._handle.kind == 0
+
+    def __enter__(self):
+        return self
+
+    def __exit__(self, *_why) -> None:
+        self.close()
+
+    def __del__(self) -> None:
+        if getattr(self, "_handle", None) is not None:
+            self.close()
+
+
+class Device(Kept):
+    """The device of a record's text that has this number, from 0.
+
+    It belongs to the thread that made it.
+    """
+
+    def __init__(self, text: Union[str, bytes], number: int = 0):
+        super().__init__()
+        content = text.encode() if isinstance(text, str) else text
+        line, cause = c_uint32(), c_uint32()
+        status = library.inputplay_device_new(
+            *bytes_at(content), number, byref(self._handle), byref(line), byref(cause)
+        )
+        if status == Status.REFUSED:
+            raise RefusedRecord(line.value, cause.value)
+        check(status)
+        self._events = (RawEvent * READ_MAX)()
+        self._cells = (c_int32 * CELLS_MAX)()
+        self._now = 0
+
+    def __repr__(self) -> str:
+        return f"<Device {'closed' if self.closed else 'open'}>"
+
+    def step(self, step: int, **fields) -> Reply:
+        """Makes a step, whose fields are those of the header's inputplay_step_t."""
+        axis = fields.pop("axis", None)
+        raw, reply = Step(step=step, **fields), RawReply()
+        if axis is not None:
+            raw.info = Info(*axis)
+        check(
+            library.inputplay_step(
+                byref(self._handle), byref(raw), byref(reply), self._events, READ_MAX, self._cells, CELLS_MAX
+            )
+        )
+        took = reply.count if reply.reply == Replies.TOOK else 0
+        given = reply.count if reply.reply == Replies.CELLS else 0
+        return Reply(
+            Replies(reply.reply),
+            reply.at,
+            reply.client,
+            reply.count,
+            reply.slot,
+            reply.why,
+            list(reply.words),
+            Axis(*(getattr(reply.info, name) for name in Axis._fields)),
+            [event_of(raw) for raw in self._events[:took]],
+            list(self._cells[:given]),
+        )
+
+    def must(self, step: int, **fields) -> Reply:
+        """Makes a step, and raises where the device refuses it."""
+        reply = self.step(step, **fields)
+        if reply.reply == Replies.REFUSED:
+            raise StepRefused(reply.why, reply.at)
+        return reply
+
+    def inject(self, *event: Union[int, str], now: Optional[int] = None) -> int:
+        """Injects an event, as `inject("KEY_A", 1)` or `inject("EV_KEY", "KEY_A", 1)`, and gives its place.
+
+        A moment that is not given is the last one.
+        """
+        *names, value = event
+        kind, code = code_pair(names[0], names[1] if len(names) > 1 else None)
+        self._now = self._now if now is None else now
+        at, why = c_uint32(), c_uint32()
+        check(
+            library.inputplay_inject(
+                byref(self._handle), kind, code, int(value), self._now, byref(at), byref(why)
+            )
+        )
+        if why.value:
+            raise StepRefused(why.value, at.value)
+        return at.value
+
+    def frame(self, *events, now: Optional[int] = None) -> int:
+        """Injects events, each a tuple as for `inject`, and the SYN_REPORT that ends their frame; gives its place."""
+        for event in events:
+            self.inject(*event, now=now)
+        return self.inject("SYN_REPORT", 0, now=now)
+
+    def open(self) -> "Client":
+        """Opens a client, as a program opens the device's file."""
+        return Client(self, self.must(Steps.OPEN).client)
+
+    def reader(self) -> "Reader":
+        """Starts the device's reader, which keeps a state as libevdev does."""
+        return Reader(self)
+
+
+class Client:
+    """A client of a device: what a program has that opened its file."""
+
+    def __init__(self, device: Device, number: int):
+        self.device, self.number = device, number
+
+    def __repr__(self) -> str:
+        return f"<Client {self.number}>"
+
+    def read(self, count: int = 64) -> List[Event]:
+        """At most so many events; none where nothing is there."""
+        return self.device.must(Steps.READ, client=self.number, count=count).events
+
+    def _codes(self, step: int) -> Set[int]:
+        words = self.device.must(step, client=self.number).words
+        return {64 * i + bit for i, word in enumerate(words) for bit in range(64) if word >> bit & 1}
+
+    def keys(self) -> Set[int]:
+        """The keys that are down (EVIOCGKEY). The queued key events go."""
+        return self._codes(Steps.GET_KEYS)
+
+    def leds(self) -> Set[int]:
+        """The LEDs that are on (EVIOCGLED)."""
+        return self._codes(Steps.GET_LEDS)
+
+    def switches(self) -> Set[int]:
+        """The switches that are on (EVIOCGSW)."""
+        return self._codes(Steps.GET_SWITCHES)
+
+    def axis(self, code: Union[int, str]) -> Axis:
+        """An axis (EVIOCGABS)."""
+        _kind, number = code_pair("EV_ABS", code)
+        return self.device.must(Steps.GET_AXIS, client=self.number, code=number).axis
+
+    def grab(self) -> None:
+        """Takes the device for itself."""
+        self.device.must(Steps.GRAB, client=self.number)
+
+    def ungrab(self) -> None:
+        """Gives up its grab."""
+        self.device.must(Steps.UNGRAB, client=self.number)
+
+    def revoke(self) -> None:
+        """Loses the device for good, but for closing it."""
+        self.device.must(Steps.REVOKE, client=self.number)
+
+    def close(self) -> None:
+        """Closes the client."""
+        self.device.must(Steps.CLOSE, client=self.number)
+
+
+class Reader:
+    """The reader of a device: its events one by one, and a state that it keeps by them, as libevdev does.
+
+    To go over it gives the events that are there. Behind a SYN_DROPPED it synchronises, and gives the events that lead
+    from the old state to the new one.
+    """
+
+    def __init__(self, device: Device):
+        self.device = device
+        client, why = c_uint32(), c_uint32()
+        check(library.inputplay_reader_start(byref(device._handle), byref(client), byref(why)))
+        if why.value:
+            raise StepRefused(why.value, 0)
+        self.client = client.value
+
+    def __repr__(self) -> str:
+        return f"<Reader of client {self.client}>"
+
+    def next(self, sync: bool = False):
+        """The answer and the event of one call (libevdev_next_event); None where the answer has no event."""
+        raw, told = RawEvent(), c_uint32()
+        check(library.inputplay_reader_next(byref(self.device._handle), int(sync), byref(raw), byref(told)))
+        answer = Answer(told.value)
+        return answer, event_of(raw) if answer <= Answer.SYNC else None
+
+    def __iter__(self) -> Iterator[Event]:
+        sync = self.phase != Phase.PLAIN
+        while True:
+            answer, event = self.next(sync)
+            if event is not None:
+                yield event
+                sync = answer in (Answer.DROPPED, Answer.SYNC)
+            elif answer == Answer.SYNCED:
+                sync = False
+            elif answer == Answer.AGAIN:
+                return
+            else:
+                raise EOFError(answer.name.lower().replace("_", "-"))
+
+    def force_sync(self) -> None:
+        """Synchronises before the next event."""
+        check(library.inputplay_reader_force_sync(byref(self.device._handle)))
+
+    def value(self, kind: Union[int, str], code: Union[int, str, None] = None) -> int:
+        """What the reader knows of a key, a switch, an LED or an axis, as `value("KEY_A")`."""
+        number, value = code_pair(kind, code), c_int32()
+        status = library.inputplay_reader_value(byref(self.device._handle), *number, byref(value))
+        if status == Status.BAD_ARGUMENT:
+            raise KeyError(kind if code is None else (kind, code))
+        check(status)
+        return value.value
+
+    def __getitem__(self, name: Union[int, str]) -> int:
+        return self.value(name)
+
+    def slot_value(self, slot: int, code: Union[int, str]) -> int:
+        """What the reader knows of a slot on an axis."""
+        _kind, number = code_pair(Type.EV_ABS, code)
+        value = c_int32()
+        status = library.inputplay_reader_slot_value(byref(self.device._handle), slot, number, byref(value))
+        if status == Status.BAD_ARGUMENT:
+            raise KeyError((slot, code))
+        check(status)
+        return value.value
+
+    def _state(self):
+        client, phase, slot = c_uint32(), c_uint32(), c_int32()
+        check(
+            library.inputplay_reader_state(
+                byref(self.device._handle), byref(client), byref(phase), byref(slot)
+            )
+        )
+        return client.value, Phase(phase.value), slot.value
+
+    @property
+    def phase(self) -> Phase:
+        """Whether it is to synchronise."""
+        return self._state()[1]
+
+    @property
+    def slot(self) -> int:
+        """The current slot."""
+        return self._state()[2]

@@ -1,0 +1,103 @@
+//! Makes the steps that `bench/conformance` noted, and compares all that comes of each, as `bench/conformance.c` does.
+
+use inputplay::{Axis, Device, Event, Reply, Step};
+use std::io::{self, BufRead, Read};
+use std::process::exit;
+
+struct Numbers<'a>(std::str::SplitAsciiWhitespace<'a>);
+
+impl Numbers<'_> {
+    fn next<T: TryFrom<i128>>(&mut self) -> T {
+        let number = self.0.next().and_then(|word| word.parse::<i128>().ok()).and_then(|number| T::try_from(number).ok());
+        number.unwrap_or_else(|| exit(3))
+    }
+
+    fn axis(&mut self) -> Axis {
+        Axis {
+            value: self.next(),
+            minimum: self.next(),
+            maximum: self.next(),
+            fuzz: self.next(),
+            flat: self.next(),
+            resolution: self.next(),
+        }
+    }
+
+    fn step(&mut self) -> Step {
+        Step {
+            step: self.next(),
+            client: self.next(),
+            kind: self.next(),
+            code: self.next(),
+            value: self.next(),
+            now: self.next(),
+            count: self.next(),
+            clock: self.next(),
+            bits: self.next(),
+            info: self.axis(),
+        }
+    }
+
+    fn reply(&mut self) -> Reply {
+        let mut reply = Reply {
+            reply: self.next(),
+            at: self.next(),
+            client: self.next(),
+            count: self.next(),
+            slot: self.next(),
+            why: self.next(),
+            ..Reply::default()
+        };
+        for word in &mut reply.words {
+            *word = self.next();
+        }
+        reply.info = self.axis();
+        reply
+    }
+
+    fn event(&mut self) -> Event {
+        Event { kind: self.next(), code: self.next(), value: self.next(), time: self.next(), place: self.next() }
+    }
+}
+
+fn same<T: PartialEq + std::fmt::Debug>(steps: u64, wanted: T, came: T) {
+    if wanted != came {
+        println!("step {steps}: {wanted:?} was wanted, and {came:?} came");
+        exit(1);
+    }
+}
+
+fn main() -> io::Result<()> {
+    let mut input = io::stdin().lock();
+    let mut devices: Vec<Option<Device>> = (0..8).map(|_| None).collect();
+    let (mut events, mut cells) = (vec![Event::default(); 4096], vec![0; 14 * 256]);
+    let (mut steps, mut line) = (0, String::new());
+    while input.read_line(&mut line)? > 0 {
+        let mut words = line.split_ascii_whitespace();
+        let first = words.next().map(str::to_owned);
+        let mut numbers = Numbers(words);
+        let at: usize = numbers.next();
+        if first.as_deref() == Some("device") {
+            let mut text = vec![0; numbers.next()];
+            input.read_exact(&mut text)?;
+            // A comment may hold any bytes, and says nothing.
+            let text = String::from_utf8_lossy(&text);
+            devices[at] = Some(Device::new(&text, at as u32).map_err(io::Error::other)?);
+        } else {
+            let device = devices[at].as_mut().unwrap_or_else(|| exit(3));
+            let reply = device.step(&numbers.step(), &mut events, &mut cells).map_err(io::Error::other)?;
+            same(steps, numbers.reply(), reply);
+            let (took, given) = if reply.reply == 2 { (reply.count, 0) } else { (0, reply.count) };
+            for event in &events[..took as usize] {
+                same(steps, numbers.event(), *event);
+            }
+            for value in &cells[..if reply.reply == 6 { given as usize } else { 0 }] {
+                same(steps, numbers.next(), *value);
+            }
+            steps += 1;
+        }
+        line.clear();
+    }
+    println!("{steps} steps are told the same");
+    Ok(())
+}

@@ -1,0 +1,262 @@
+//! Devices, their clients and their readers.
+
+use crate::errors::{check, check_made, check_step, Error, NotMade};
+use crate::sys::{self, Event, Handle, Reply, Step};
+
+/// The type of the events that separate frames.
+pub const EV_SYN: u16 = 0;
+/// The type of keys and buttons.
+pub const EV_KEY: u16 = 1;
+/// The type of absolute axes.
+pub const EV_ABS: u16 = 3;
+/// The type of switches.
+pub const EV_SW: u16 = 5;
+/// The type of LEDs.
+pub const EV_LED: u16 = 0x11;
+/// The client of a reader that has opened none.
+pub const NO_CLIENT: u32 = u32::MAX;
+
+const OPEN: u32 = 2;
+const CLOSE: u32 = 3;
+const READ: u32 = 4;
+const GET_KEYS: u32 = 6;
+const GRAB: u32 = 15;
+const UNGRAB: u32 = 16;
+const STEP_REFUSED: u32 = 8;
+const TOOK: u32 = 2;
+
+/// How a reader is asked for its next event.
+#[derive(Clone, Copy, Debug, PartialEq, Eq)]
+pub enum Mode {
+    /// The next event.
+    Normal = 0,
+    /// The next synthesised event.
+    Sync = 1,
+}
+
+/// What a reader answers.
+#[derive(Clone, Copy, Debug, PartialEq, Eq)]
+#[non_exhaustive]
+pub enum Next {
+    /// An event of the device.
+    Event(Event),
+    /// SYN_DROPPED: events were lost, and the reader is to synchronise.
+    Dropped(Event),
+    /// A synthesised event.
+    Sync(Event),
+    /// Nothing is there.
+    Again,
+    /// Nothing is left to synchronise.
+    Synced,
+    /// The client was revoked.
+    NoDevice,
+    /// The client is not open.
+    Closed,
+    /// The history is full.
+    Full,
+}
+
+/// Whether a reader is to synchronise.
+#[derive(Clone, Copy, Debug, PartialEq, Eq)]
+pub enum Phase {
+    /// The view is what the device was at the last event.
+    Plain,
+    /// The next call synchronises first.
+    Needed,
+    /// It hands out synthesised events.
+    Handing,
+}
+
+/// A client of a device: what a program has that opened its file. It is good for calls on the device that opened it.
+#[derive(Clone, Copy, Debug, PartialEq, Eq)]
+pub struct Client(u32);
+
+/// A device of a record's text, with its reader.
+pub struct Device {
+    handle: Handle,
+}
+
+impl Device {
+    /// The device of this number, from 0.
+    pub fn new(text: &str, number: u32) -> Result<Device, NotMade> {
+        let mut device = Device { handle: Handle::NOTHING };
+        let (mut line, mut cause) = (0, 0);
+        // SAFETY: the text is as long as it says, and the others are places of their own.
+        let status = unsafe {
+            sys::inputplay_device_new(text.as_ptr(), text.len(), number, &mut device.handle, &mut line, &mut cause)
+        };
+        check_made(status, line, cause)?;
+        Ok(device)
+    }
+
+    /// Makes a step. What it reads stands at the front of the arrays.
+    pub fn step(&mut self, step: &Step, events: &mut [Event], cells: &mut [i32]) -> Result<Reply, Error> {
+        let mut reply = Reply::default();
+        // SAFETY: the arrays are as long as they say, and all are places of their own.
+        check(unsafe {
+            sys::inputplay_step(
+                &mut self.handle,
+                step,
+                &mut reply,
+                events.as_mut_ptr(),
+                events.len(),
+                cells.as_mut_ptr(),
+                cells.len(),
+            )
+        })?;
+        Ok(reply)
+    }
+
+    fn must(&mut self, step: &Step, events: &mut [Event]) -> Result<Reply, Error> {
+        let reply = self.step(step, events, &mut [])?;
+        if reply.reply == STEP_REFUSED {
+            check_step(reply.why)?;
+        }
+        Ok(reply)
+    }
+
+    /// Injects an event at a moment in microseconds, and gives its place.
+    pub fn inject(&mut self, kind: u16, code: u16, value: i32, now: u64) -> Result<u32, Error> {
+        let (mut at, mut why) = (0, 0);
+        // SAFETY: all are places of their own.
+        check(unsafe { sys::inputplay_inject(&mut self.handle, kind, code, value, now, &mut at, &mut why) })?;
+        check_step(why)?;
+        Ok(at)
+    }
+
+    /// Injects the SYN_REPORT that ends a frame.
+    pub fn report(&mut self, now: u64) -> Result<u32, Error> {
+        self.inject(EV_SYN, 0, 0, now)
+    }
+
+    /// Opens a client.
+    pub fn open(&mut self) -> Result<Client, Error> {
+        let reply = self.must(&Step { step: OPEN, ..Step::default() }, &mut [])?;
+        Ok(Client(reply.client))
+    }
+
+    /// Reads events, as many as are there and fit, and gives their number.
+    pub fn read(&mut self, client: Client, events: &mut [Event]) -> Result<usize, Error> {
+        let count = events.len().min(4096) as u32;
+        let reply = self.must(&Step { step: READ, client: client.0, count, ..Step::default() }, events)?;
+        Ok(if reply.reply == TOOK { reply.count as usize } else { 0 })
+    }
+
+    /// Which keys are down, as bits. The client's queued key events go.
+    pub fn keys(&mut self, client: Client) -> Result<[u64; 12], Error> {
+        Ok(self.must(&Step { step: GET_KEYS, client: client.0, ..Step::default() }, &mut [])?.words)
+    }
+
+    /// Takes the grab.
+    pub fn grab(&mut self, client: Client) -> Result<(), Error> {
+        self.must(&Step { step: GRAB, client: client.0, ..Step::default() }, &mut []).map(|_| ())
+    }
+
+    /// Gives up the grab.
+    pub fn ungrab(&mut self, client: Client) -> Result<(), Error> {
+        self.must(&Step { step: UNGRAB, client: client.0, ..Step::default() }, &mut []).map(|_| ())
+    }
+
+    /// Closes a client.
+    pub fn close(&mut self, client: Client) -> Result<(), Error> {
+        self.must(&Step { step: CLOSE, client: client.0, ..Step::default() }, &mut []).map(|_| ())
+    }
+
+    /// Opens a client for the reader and asks for its whole state; gives the client's number.
+    pub fn start_reader(&mut self) -> Result<u32, Error> {
+        let (mut client, mut why) = (0, 0);
+        // SAFETY: all are places of their own.
+        check(unsafe { sys::inputplay_reader_start(&mut self.handle, &mut client, &mut why) })?;
+        check_step(why)?;
+        Ok(client)
+    }
+
+    /// The reader's next event.
+    pub fn next(&mut self, mode: Mode) -> Next {
+        let (mut event, mut told) = (Event::default(), 0);
+        // SAFETY: all are places of their own. A device is kept and the mode is one, so no other status comes than 0.
+        let _ = unsafe { sys::inputplay_reader_next(&mut self.handle, mode as u32, &mut event, &mut told) };
+        match told {
+            0 => Next::Event(event),
+            1 => Next::Dropped(event),
+            2 => Next::Sync(event),
+            3 => Next::Again,
+            4 => Next::Synced,
+            5 => Next::NoDevice,
+            6 => Next::Closed,
+            _ => Next::Full,
+        }
+    }
+
+    /// The events that are there. Behind a SYN_DROPPED the reader synchronises, and its events are given too.
+    pub fn events(&mut self) -> Events<'_> {
+        let mode = if self.reader_state().1 == Phase::Plain { Mode::Normal } else { Mode::Sync };
+        Events { device: self, mode }
+    }
+
+    /// Has the reader synchronise before its next event.
+    pub fn force_sync(&mut self) {
+        // SAFETY: it is a place of its own. A device is kept, so no other status comes than 0.
+        let _ = unsafe { sys::inputplay_reader_force_sync(&mut self.handle) };
+    }
+
+    /// What the reader knows of a key, a switch, an LED or an axis, where it keeps that.
+    pub fn value(&mut self, kind: u16, code: u16) -> Option<i32> {
+        let mut value = 0;
+        // SAFETY: all are places of their own.
+        let status = unsafe { sys::inputplay_reader_value(&mut self.handle, kind, code, &mut value) };
+        check(status).ok().map(|()| value)
+    }
+
+    /// What the reader knows of a slot on an axis, where it keeps that.
+    pub fn slot_value(&mut self, slot: u32, code: u16) -> Option<i32> {
+        let mut value = 0;
+        // SAFETY: all are places of their own.
+        let status = unsafe { sys::inputplay_reader_slot_value(&mut self.handle, slot, code, &mut value) };
+        check(status).ok().map(|()| value)
+    }
+
+    /// The reader's client, its phase and its current slot.
+    pub fn reader_state(&mut self) -> (u32, Phase, i32) {
+        let (mut client, mut phase, mut slot) = (0, 0, 0);
+        // SAFETY: all are places of their own. A device is kept, so no other status comes than 0.
+        let _ = unsafe { sys::inputplay_reader_state(&mut self.handle, &mut client, &mut phase, &mut slot) };
+        let phase = match phase {
+            0 => Phase::Plain,
+            1 => Phase::Needed,
+            _ => Phase::Handing,
+        };
+        (client, phase, slot)
+    }
+}
+
+impl Drop for Device {
+    fn drop(&mut self) {
+        // SAFETY: the handle was made by `Device::new`, and is used no more.
+        unsafe { sys::inputplay_free(&mut self.handle) }
+    }
+}
+
+/// The events that a reader has, until nothing is there.
+pub struct Events<'d> {
+    device: &'d mut Device,
+    mode: Mode,
+}
+
+impl Iterator for Events<'_> {
+    type Item = Event;
+
+    fn next(&mut self) -> Option<Event> {
+        loop {
+            match self.device.next(self.mode) {
+                Next::Event(event) => return Some(event),
+                Next::Dropped(event) | Next::Sync(event) => {
+                    self.mode = Mode::Sync;
+                    return Some(event);
+                }
+                Next::Synced => self.mode = Mode::Normal,
+                _ => return None,
+            }
+        }
+    }
+}

@@ -1,0 +1,33 @@
+//! An input device and its reader, in memory: safe Rust over `libinputplay`.
+//!
+//! ```
+//! use inputplay::{Device, EV_KEY, Mode, Next};
+//!
+//! let text = "inputrecord 1\ndevice pad\ncap EV_KEY KEY_A\nlog 1000\nsource s\n";
+//! let mut pad = Device::new(text, 0).unwrap();
+//! pad.start_reader().unwrap();
+//! pad.inject(EV_KEY, 30, 1, 0).unwrap();
+//! pad.report(0).unwrap();
+//! assert!(matches!(pad.next(Mode::Normal), Next::Event(event) if event.code == 30));
+//! assert_eq!(pad.value(EV_KEY, 30), Some(1));
+//! ```
+//!
+//! A [`Device`] answers as evdev does, and its reader as libevdev does. That the library keeps these rules is proved; this
+//! crate is tested, and not proved. What a handle keeps stays on the thread that made it, so no type here is `Send`.
+#![no_std]
+
+mod device;
+mod errors;
+mod record;
+mod sys;
+
+pub use device::{Client, Device, Events, Mode, Next, Phase, EV_ABS, EV_KEY, EV_LED, EV_SW, EV_SYN, NO_CLIENT};
+pub use errors::{Cause, Error, NotMade, Refusal};
+pub use record::Record;
+pub use sys::{Event, Info as Axis, Reply, Step};
+
+/// Whether the library that was linked has the interface that this crate is written for.
+pub fn is_right_version() -> bool {
+    // SAFETY: it takes nothing.
+    unsafe { sys::inputplay_abi() == sys::ABI }
+}

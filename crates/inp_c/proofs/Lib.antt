@@ -1,0 +1,5 @@
+pub mod Values
+mod Pointer
+mod Copying
+mod ReadByStep
+mod Along

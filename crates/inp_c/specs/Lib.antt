@@ -1,0 +1,14 @@
+pub mod Loose
+pub mod Kind
+pub mod Contents
+pub mod Fresh
+pub mod Cause
+pub mod StepOfC
+pub mod Told
+pub mod Status
+pub mod Stepping
+pub mod ReaderCalls
+pub mod Viewing
+pub mod Making
+pub mod Loading
+pub mod Naming

@@ -1,0 +1,74 @@
+//! A handle.
+ghost use Rattle.std.specs.Prelude.{◌≡◌, ℕ, Option, Some};
+ghost use Rattle.inp_c.specs.Kind.{kind_of};
+
+use crate::kept::Kept;
+use crate::loose::Loose;
+use crate::parts::Parts;
+use std::alloc::Global;
+use std::mem;
+
+/// What C has of what is kept: it begins as zeros, and is given back by `inputplay_free`.
+#[repr(C)]
+#[derive(Drop)]
+pub struct Handle {
+    kind: u32,
+    inner: Loose,
+    ghost agree: { kind ≡ kind_of inner.value },
+}
+
+impl Handle {
+    ghost use Rattle.std.specs.Prelude.{IsTrue, IsSome, None, false};
+    ghost use Rattle.inp_c.specs.Contents.{contents};
+
+    /// One that keeps nothing.
+    pub(crate) fn none() -> Handle
+        ensures { contents result ≡ None }
+    {
+        Handle {
+            kind: 0,
+            inner: Loose::none(),
+        }
+    }
+
+    /// One that keeps this.
+    pub(crate) fn of(kept: Box<Kept>) -> Handle
+        ensures { contents result ≡ Some kept.value }
+    {
+        let kind = kind_of(&kept);
+        Handle {
+            kind,
+            inner: Loose::of(Parts::of(kept)),
+        }
+    }
+
+    /// Whether it keeps nothing.
+    pub(crate) fn is_none(&self) -> bool
+        ensures none { IsTrue result → contents self.now ≡ None }
+        ensures some { result ≡ false → IsSome (contents self.now) }
+    {
+        self.kind == 0
+    }
+
+    /// Takes what it keeps, and leaves it with nothing.
+    pub(crate) fn take(&mut self, alloc: Global) -> Box<Kept>
+        requires { IsSome (contents self.old) }
+        ensures kept { contents self.old ≡ Some result.value }
+        ensures none { contents self.new ≡ None }
+    {
+        mem::replace(self, Handle::none())
+            .inner
+            .into_parts(alloc)
+            .into_box()
+    }
+}
+
+/// The number of what is kept.
+fn kind_of(kept: &Kept) -> u32
+    ensures { result ≡ kind_of (Some kept.now) }
+{
+    match kept {
+        Kept::Device(_) => 1,
+        Kept::Record(_) => 2,
+    }
+}

@@ -1,0 +1,334 @@
+/*
+ * inputplay.h: an input device and its reader, in memory.
+ *
+ * A device answers each call as evdev does: what it passes, queues, loses, grabs and masks. A reader stands beside it that
+ * keeps a state and synchronises after a loss, as libevdev does. That each answer is the right one is proved; what C owes in
+ * return is not checked, and is this:
+ *
+ * - No pointer is NULL, also where the count beside it is 0. Each is aligned and points to as much as the count says.
+ * - Two pointers of one call never overlap.
+ * - A handle begins as INPUTPLAY_NOTHING. It is not copied, and only the calls below change it.
+ * - A handle is used by one call at a time, and on the thread that made what it keeps.
+ * - inputplay_free() gives back what a handle keeps, once for each making. A second free does nothing.
+ * - malloc(), realloc() and free() are those of one allocator, and no call comes from a signal handler.
+ *
+ * Each call answers a status. After another one than INPUTPLAY_OK the handle is as it was, and nothing is written but what
+ * the call says of it.
+ *
+ * Moments are microseconds, at most INPUTPLAY_MOMENT_MAX. Types, codes and values are those of <linux/input-event-codes.h>.
+ */
+#ifndef INPUTPLAY_H
+#define INPUTPLAY_H
+
+#include <stddef.h>
+#include <stdint.h>
+
+#ifdef __cplusplus
+extern "C" {
+#endif
+
+/** The version of this interface. It rises when a struct, a number or a meaning changes; compare it with inputplay_abi(). */
+#define INPUTPLAY_ABI 1
+
+/** The greatest moment, in microseconds. */
+#define INPUTPLAY_MOMENT_MAX UINT64_C(9000000000000000)
+
+/** The most events that one INPUTPLAY_READ may ask for. */
+#define INPUTPLAY_READ_MAX 4096u
+
+/** The client of a reader that has opened none. */
+#define INPUTPLAY_NO_CLIENT UINT32_MAX
+
+/** The statuses of calls. */
+enum {
+    INPUTPLAY_OK = 0,           /**< The call was made. */
+    INPUTPLAY_REFUSED = 1,      /**< The text is no record. */
+    INPUTPLAY_BAD_ARGUMENT = 2, /**< A number is none that the call has, or an array is too short. */
+    INPUTPLAY_BAD_STREAM = 3,   /**< The bytes are no stream. */
+    INPUTPLAY_NO_MEMORY = 5,    /**< Memory ran out. */
+    INPUTPLAY_TOO_LONG = 7,     /**< The text is too long. */
+    INPUTPLAY_BAD_HANDLE = 8,   /**< The handle keeps nothing, or something of another kind. */
+    INPUTPLAY_IN_USE = 9        /**< The handle keeps something. */
+};
+
+/** Why a line of a record is refused, as docs/FORMATS.md has it. */
+enum {
+    INPUTPLAY_NOT_TEXT = 1,
+    INPUTPLAY_BAD_HEADER = 2,
+    INPUTPLAY_BAD_LINE = 3,
+    INPUTPLAY_OUT_OF_PLACE = 4,
+    INPUTPLAY_NO_ACTOR = 5,
+    INPUTPLAY_BAD_COMMAND = 6,
+    INPUTPLAY_BAD_WORD = 7,
+    INPUTPLAY_TWICE = 8,
+    INPUTPLAY_TOO_MANY_LINES = 9,
+    INPUTPLAY_LINE_BAD_CODE = 10,
+    INPUTPLAY_BAD_AXIS = 11,
+    INPUTPLAY_BAD_SLOTS = 12,
+    INPUTPLAY_BAD_HINT = 13,
+    INPUTPLAY_BAD_LOG = 14,
+    INPUTPLAY_BAD_OFFSET = 15,
+    INPUTPLAY_BAD_FILTER = 16,
+    INPUTPLAY_LINE_BAD_STREAM = 17 /**< It is of a stream, and comes of no text. */
+};
+
+/** The steps of a device, with the fields of inputplay_step_t that each reads. */
+enum {
+    INPUTPLAY_INJECT = 0,        /**< type, code, value, now: the driver injects an event. */
+    INPUTPLAY_TICK = 1,          /**< now: the timer of the autorepeat may fire. */
+    INPUTPLAY_OPEN = 2,          /**< a client is opened (open). */
+    INPUTPLAY_CLOSE = 3,         /**< client (close). */
+    INPUTPLAY_READ = 4,          /**< client, count: at most so many events are read (read). */
+    INPUTPLAY_DISCARD = 5,       /**< client: what is visible is removed, unread. */
+    INPUTPLAY_GET_KEYS = 6,      /**< client (EVIOCGKEY). */
+    INPUTPLAY_GET_SWITCHES = 7,  /**< client (EVIOCGSW). */
+    INPUTPLAY_GET_LEDS = 8,      /**< client (EVIOCGLED). */
+    INPUTPLAY_GET_SOUNDS = 9,    /**< client (EVIOCGSND). */
+    INPUTPLAY_GET_AXIS = 10,     /**< client, code (EVIOCGABS). */
+    INPUTPLAY_SET_AXIS = 11,     /**< client, code, info (EVIOCSABS). */
+    INPUTPLAY_GET_SLOTS = 12,    /**< client, code: one value of each slot (EVIOCGMTSLOTS). */
+    INPUTPLAY_SYNC_SLOTS = 13,   /**< client: all values of all slots, 14 a slot. */
+    INPUTPLAY_WRITE = 14,        /**< client, type, code, value, now (write). */
+    INPUTPLAY_GRAB = 15,         /**< client (EVIOCGRAB 1). */
+    INPUTPLAY_UNGRAB = 16,       /**< client (EVIOCGRAB 0). */
+    INPUTPLAY_MASK = 17,         /**< client, type, code (the word of the mask), bits (EVIOCSMASK). */
+    INPUTPLAY_CLOCK = 18,        /**< client, clock (0 realtime, 1 monotonic, 7 boottime), now (EVIOCSCLOCKID). */
+    INPUTPLAY_REVOKE = 19,       /**< client (EVIOCREVOKE). */
+    INPUTPLAY_INHIBIT = 20,      /**< now: the device is inhibited. */
+    INPUTPLAY_UNINHIBIT = 21,    /**< the device is no longer inhibited. */
+    INPUTPLAY_END = 22           /**< a source is done. */
+};
+
+/** The replies to steps, with the fields of inputplay_reply that each sets beside reply and at; all others are 0. */
+enum {
+    INPUTPLAY_DONE = 0,
+    INPUTPLAY_OPENED = 1,      /**< client, count: the places of its ring. */
+    INPUTPLAY_TOOK = 2,        /**< count: so many events stand at the front of the array. */
+    INPUTPLAY_DISCARDED = 3,   /**< count. */
+    INPUTPLAY_BITS = 4,        /**< words: bit i of the 768 for code i. */
+    INPUTPLAY_AXIS = 5,        /**< info. */
+    INPUTPLAY_CELLS = 6,       /**< count: so many values stand at the front of the array; slot: the one announced last. */
+    INPUTPLAY_AGAIN = 7,       /**< count: how many sources are done (-EAGAIN). */
+    INPUTPLAY_STEP_REFUSED = 8 /**< why. */
+};
+
+/** Why a step was refused. */
+enum {
+    INPUTPLAY_BAD_CLIENT = 1,
+    INPUTPLAY_NO_DEVICE = 2,
+    INPUTPLAY_BAD_KIND = 3,
+    INPUTPLAY_BAD_CODE = 4,
+    INPUTPLAY_BAD_INFO = 5,
+    INPUTPLAY_BUSY = 6,
+    INPUTPLAY_NOT_GRABBER = 7,
+    INPUTPLAY_TOO_MANY = 8,
+    INPUTPLAY_LOG_FULL = 9,
+    INPUTPLAY_STEP_NO_MEMORY = 10
+};
+
+/** How the reader is asked for its next event. */
+enum {
+    INPUTPLAY_NORMAL = 0, /**< LIBEVDEV_READ_FLAG_NORMAL. */
+    INPUTPLAY_SYNC = 1    /**< LIBEVDEV_READ_FLAG_SYNC. */
+};
+
+/** What the reader answers. */
+enum {
+    INPUTPLAY_NEXT_EVENT = 0,     /**< An event of the device (LIBEVDEV_READ_STATUS_SUCCESS). */
+    INPUTPLAY_NEXT_DROPPED = 1,   /**< SYN_DROPPED: ask with INPUTPLAY_SYNC next (LIBEVDEV_READ_STATUS_SYNC). */
+    INPUTPLAY_NEXT_SYNC = 2,      /**< A synthesised event, without a time and a place (LIBEVDEV_READ_STATUS_SYNC). */
+    INPUTPLAY_NEXT_AGAIN = 3,     /**< Nothing is there (-EAGAIN). */
+    INPUTPLAY_NEXT_SYNCED = 4,    /**< Nothing is left to synchronise (-EAGAIN). */
+    INPUTPLAY_NEXT_NO_DEVICE = 5, /**< The client was revoked (-ENODEV). */
+    INPUTPLAY_NEXT_CLOSED = 6,    /**< The client is not open. */
+    INPUTPLAY_NEXT_FULL = 7       /**< The history is as long as it may be. */
+};
+
+/** What is kept: a device with its reader, or a record. It begins as INPUTPLAY_NOTHING. */
+typedef struct inputplay_handle {
+    uint32_t kind;
+    void *at;
+} inputplay_handle;
+
+#define INPUTPLAY_NOTHING { 0, NULL }
+
+/** An axis (struct input_absinfo). */
+typedef struct inputplay_info {
+    int32_t value, minimum, maximum, fuzz, flat, resolution;
+} inputplay_info;
+
+/** A step: its number, and what it takes. Fields that it does not read may have any value, but now. */
+typedef struct inputplay_step_t {
+    uint32_t step;
+    uint32_t client;
+    uint16_t type;
+    uint16_t code;
+    int32_t value;
+    uint64_t now;
+    uint32_t count;
+    uint32_t clock;
+    uint64_t bits;
+    inputplay_info info;
+} inputplay_step_t;
+
+/** A reply. `at` is the step's place in the history, or where it was not entered the history's length. */
+typedef struct inputplay_reply {
+    uint32_t reply;
+    uint32_t at;
+    uint32_t client;
+    uint32_t count;
+    int32_t slot;
+    uint32_t why;
+    uint64_t words[12];
+    inputplay_info info;
+} inputplay_reply;
+
+/** An event as a client reads it: when its frame ended, and the place in the history of the step that ended it. */
+typedef struct inputplay_event {
+    uint16_t type;
+    uint16_t code;
+    int32_t value;
+    uint64_t time;
+    uint32_t place;
+} inputplay_event;
+
+/**
+ * @return the version of the library's interface, to be compared with INPUTPLAY_ABI before any other call.
+ */
+uint32_t inputplay_abi(void);
+
+/**
+ * Makes the device of a record's text that has this number, from 0, with a history that is empty and a reader that has not
+ * started. The actors and the actions of the text are not used.
+ *
+ * @param text, text_len the text of the record, of at most 16 MiB
+ * @param handle one that keeps nothing
+ * @param line, cause the first line of the text that has no meaning, and why; 0 where the answer is not INPUTPLAY_REFUSED
+ *
+ * @return INPUTPLAY_OK, INPUTPLAY_REFUSED, INPUTPLAY_BAD_ARGUMENT (there is no such device), INPUTPLAY_TOO_LONG,
+ * INPUTPLAY_IN_USE or INPUTPLAY_NO_MEMORY
+ */
+uint32_t inputplay_device_new(const uint8_t *text, size_t text_len, uint32_t number, inputplay_handle *handle,
+                              uint32_t *line, uint32_t *cause);
+
+/**
+ * Makes a step on a device. A step that the device refuses is no status: the answer is INPUTPLAY_OK, and the reply is
+ * INPUTPLAY_STEP_REFUSED or INPUTPLAY_AGAIN.
+ *
+ * @param events, event_count room for at least as many events as an INPUTPLAY_READ asks for
+ * @param cells, cell_count room for 14 values a slot where slots are asked for
+ *
+ * @return INPUTPLAY_OK, INPUTPLAY_BAD_HANDLE, or INPUTPLAY_BAD_ARGUMENT: no step has this number or this clock, the moment is
+ * too late, an array is too short, or more than INPUTPLAY_READ_MAX events are asked for
+ */
+uint32_t inputplay_step(inputplay_handle *handle, const inputplay_step_t *step, inputplay_reply *reply,
+                        inputplay_event *events, size_t event_count, int32_t *cells, size_t cell_count);
+
+/**
+ * Injects one event.
+ *
+ * @param at the place of the step, or the history's length where it was refused
+ * @param why 0, or why the step was refused: INPUTPLAY_LOG_FULL
+ *
+ * @return INPUTPLAY_OK, INPUTPLAY_BAD_HANDLE or INPUTPLAY_BAD_ARGUMENT: the moment is too late
+ */
+uint32_t inputplay_inject(inputplay_handle *handle, uint16_t type, uint16_t code, int32_t value, uint64_t now, uint32_t *at,
+                          uint32_t *why);
+
+/**
+ * Opens a client for the device's reader and asks for its whole state (libevdev_set_fd). An older client of the reader is not
+ * closed.
+ *
+ * @param client the reader's client then
+ * @param why 0, or why a call was refused. Where that was the open the reader is as before; else it has the new client, and
+ * synchronises first
+ *
+ * @return INPUTPLAY_OK or INPUTPLAY_BAD_HANDLE
+ */
+uint32_t inputplay_reader_start(inputplay_handle *handle, uint32_t *client, uint32_t *why);
+
+/**
+ * The reader's next event (libevdev_next_event).
+ *
+ * @param event the event, where the answer has one; else it stays
+ * @param told which answer it is, from INPUTPLAY_NEXT_EVENT on
+ *
+ * @return INPUTPLAY_OK, INPUTPLAY_BAD_HANDLE or INPUTPLAY_BAD_ARGUMENT: there is no such mode
+ */
+uint32_t inputplay_reader_next(inputplay_handle *handle, uint32_t mode, inputplay_event *event, uint32_t *told);
+
+/**
+ * Makes the reader synchronise before its next event (LIBEVDEV_READ_FLAG_FORCE_SYNC).
+ *
+ * @return INPUTPLAY_OK or INPUTPLAY_BAD_HANDLE
+ */
+uint32_t inputplay_reader_force_sync(inputplay_handle *handle);
+
+/**
+ * What the reader knows of a key, a switch, an LED (1 or 0) or an axis (libevdev_fetch_event_value). It is what the events
+ * that were handed out say, and not what the device has.
+ *
+ * @return INPUTPLAY_OK, INPUTPLAY_BAD_HANDLE or INPUTPLAY_BAD_ARGUMENT: another type, a code above the type's greatest, or an
+ * axis whose values belong to slots
+ */
+uint32_t inputplay_reader_value(inputplay_handle *handle, uint16_t type, uint16_t code, int32_t *value);
+
+/**
+ * What the reader knows of a slot (libevdev_fetch_slot_value). ABS_MT_TRACKING_ID is -1 where it has no contact.
+ *
+ * @return INPUTPLAY_OK, INPUTPLAY_BAD_HANDLE or INPUTPLAY_BAD_ARGUMENT: the device has no such slot, or the code is none from
+ * ABS_MT_TOUCH_MAJOR to ABS_MT_TOOL_Y
+ */
+uint32_t inputplay_reader_slot_value(inputplay_handle *handle, uint32_t slot, uint16_t code, int32_t *value);
+
+/**
+ * The reader's client, or INPUTPLAY_NO_CLIENT; its phase: 0 plain, 1 it synchronises first, 2 it hands out synthesised events;
+ * and the current slot (libevdev_get_current_slot).
+ *
+ * @return INPUTPLAY_OK or INPUTPLAY_BAD_HANDLE
+ */
+uint32_t inputplay_reader_state(inputplay_handle *handle, uint32_t *client, uint32_t *phase, int32_t *slot);
+
+/**
+ * Makes a record of its text. Its stream lines have no events until inputplay_record_load() gives them.
+ *
+ * @param handle, line, cause as for inputplay_device_new()
+ *
+ * @return INPUTPLAY_OK, INPUTPLAY_REFUSED, INPUTPLAY_TOO_LONG, INPUTPLAY_IN_USE or INPUTPLAY_NO_MEMORY
+ */
+uint32_t inputplay_record_new(const uint8_t *text, size_t text_len, inputplay_handle *handle, uint32_t *line, uint32_t *cause);
+
+/**
+ * Gives a `stream` or `stream16` line the bytes of its file.
+ *
+ * @param line which action line it is, counted from 0 over the lines that begin with `do`
+ *
+ * @return INPUTPLAY_OK, INPUTPLAY_BAD_HANDLE, INPUTPLAY_BAD_ARGUMENT (the line takes no stream), INPUTPLAY_BAD_STREAM or
+ * INPUTPLAY_NO_MEMORY
+ */
+uint32_t inputplay_record_load(inputplay_handle *handle, uint32_t line, const uint8_t *bytes, size_t byte_count);
+
+/**
+ * The type and the code that have a name, as EV_KEY and 30 for KEY_A. The names are those of <linux/input-event-codes.h>, one
+ * for each code.
+ *
+ * @return INPUTPLAY_OK or INPUTPLAY_BAD_ARGUMENT: no code has the name
+ */
+uint32_t inputplay_code_of(const uint8_t *name, size_t name_len, uint16_t *type, uint16_t *code);
+
+/**
+ * Copies the name of a code, as many bytes as fit, without a NUL behind it.
+ *
+ * @param len how many bytes the name has
+ *
+ * @return INPUTPLAY_OK or INPUTPLAY_BAD_ARGUMENT: the code has no name
+ */
+uint32_t inputplay_name_of(uint16_t type, uint16_t code, uint8_t *out, size_t out_len, size_t *len);
+
+/** Gives back what a handle keeps, and leaves INPUTPLAY_NOTHING. */
+void inputplay_free(inputplay_handle *handle);
+
+#ifdef __cplusplus
+}
+#endif
+#endif

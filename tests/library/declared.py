@@ -1,0 +1,76 @@
+"""What the header declares and what the crate has: structs field by field, and numbers by name."""
+
+import re
+
+TOP_TYPES = {"u16": "uint16_t", "u32": "uint32_t", "u64": "uint64_t", "i32": "int32_t", "CInfo": "inputplay_info"}
+
+# The header's struct and the crate's file.
+STRUCTS = {
+    "inputplay_info": "c_info",
+    "inputplay_step_t": "c_step",
+    "inputplay_reply": "c_reply",
+    "inputplay_event": "c_event",
+}
+
+# Fields that are spelled otherwise, since `type` is a word of the crate's language, and `now` one of its contracts.
+SPELLED = {"kind": "type", "moment": "now"}
+
+# What a number of the header is called, and the file and form in which the crate has it.
+NUMBERS = [
+    ("statuses of calls", "src/status.rt", r"const (\w+): u32 = (\d+);"),
+    ("a record is refused", "src/cause.rt", r"(?:Cause|CapsRefused)::(\w+) => (\d+),"),
+    ("steps of a device", "src/c_step.rt", r"(\d+) => Some\(Step::(\w+)"),
+    ("replies to steps", "src/c_reply.rt", r"Reply::(\w+) \{[^}]*\} => CReply \{(?:\s*reply: (\d+),)?"),
+    ("a step was refused", "src/c_reply.rt", r"Refusal::(\w+) => (\d+),"),
+    ("the reader answers", "src/reading.rt", r"Next::(\w+)(?: \{ \.\. \})? => (\d+),"),
+]
+
+# Names that differ, since C has one name space.
+RENAMED = {
+    "TOOMANYLINES": "TOOMANY",
+    "LINEBADCODE": "BADCODE",
+    "LINEBADSTREAM": "BADSTREAM",
+    "STEPREFUSED": "REFUSED",
+    "STEPNOMEMORY": "NOMEMORY",
+    "NEXTEVENT": "SUCCESS",
+}
+
+
+def fields_of_header(header, struct):
+    """The types and names of a struct of the header, in order."""
+    body = re.search(rf"typedef struct {struct} \{{(.*?)\}}", header, re.S).group(1)
+    for kind, names in re.findall(r"(\w+) ([^;]+);", body):
+        for name in names.split(", "):
+            yield (f"{kind}{name[name.index('['):]}", name[: name.index("[")]) if "[" in name else (kind, name)
+
+
+def fields_of_crate(text):
+    """The same of a struct of the crate, as C spells it."""
+    assert "#[repr(C)]" in text
+    body = re.search(r"pub struct \w+ \{(.*?)\n\}", text, re.S).group(1)
+    for name, kind in re.findall(r"pub (\w+): ([^\n]+),", body):
+        array = re.fullmatch(r"\[(\w+); (\d+)\]", kind)
+        spelled = f"{TOP_TYPES[array[1]]}[{array[2]}]" if array else TOP_TYPES[kind]
+        yield spelled, SPELLED.get(name, name)
+
+
+def plain(name):
+    """A name without its case and its underscores, as both have it."""
+    bare = name.upper().replace("_", "")
+    return RENAMED.get(bare, bare)
+
+
+def numbers_of_header(header, about):
+    """The numbers of the enum whose comment says what it is about."""
+    body = re.search(rf"/\*\*[^*]*{about}[^*]*\*/\nenum \{{(.*?)\n\}};", header, re.S | re.I).group(1)
+    pairs = {plain(name): int(number) for name, number in re.findall(r"INPUTPLAY_(\w+) = (\d+)", body)}
+    return {name[4:] if name.startswith("NEXT") else name: number for name, number in pairs.items()}
+
+
+def numbers_of_crate(text, form):
+    """The numbers that the crate's file has in this form."""
+    pairs = {}
+    for first, second in re.findall(form, text):
+        name, number = (second, first) if first.isdigit() else (first, second)
+        pairs.setdefault(plain(name), int(number or 0))
+    return pairs

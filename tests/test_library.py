@@ -1,0 +1,213 @@
+"""The library for C, and what is built over it: C, C++, Rust and Python programs, linked and run.
+
+`rt ci` builds no static library, so these checks are made where `tools/build --library` made one, or where they are asked
+for by name: `tests/run library` then builds it first. A check whose tool is not there is no check that passed: it is left
+out, and a line `not made` names it and the tool.
+"""
+
+import os
+import re
+import shutil
+import subprocess
+import sys
+import unittest
+from importlib.util import find_spec
+
+from playing import EXAMPLES, TOP, FolderCase
+
+sys.path.insert(0, str(TOP / "tests" / "library"))
+
+import declared  # noqa: E402  (tests/library has to be on the path first)
+
+BUILT = TOP / "out" / "library"
+ARCHIVE = TOP / "crates" / "inp_c" / "out" / "libinp_c.a"
+HERE = TOP / "tests" / "library"
+HEADER = (TOP / "include" / "inputplay.h").read_text()
+CRATE = TOP / "crates" / "inp_c"
+PYTHON = TOP / "bindings" / "python"
+SECONDS = 300
+
+STUCK_KEY = """the key is up
+a program that ignores SYN_DROPPED: down
+a program that asks for the keys: up
+the reader of the library: up
+"""
+
+
+def run(command, **more):
+    """Runs a command, and gives its status and what it wrote."""
+    words = [str(word) for word in command]
+    return subprocess.run(words, capture_output=True, text=True, timeout=SECONDS, check=False, **more)
+
+
+class Library(FolderCase):
+    """What each check below needs: the libraries, linked anew from the archive."""
+
+    tool = None
+
+    def built(self, source, compiler, *flags):
+        """A program of a source that is linked with the static library."""
+        program = self.folder / source.stem
+        words = [compiler, *flags, "-Wall", "-Wextra", "-Werror", f"-I{TOP / 'include'}"]
+        done = run([*words, source, BUILT / "libinputplay.a", "-o", program])
+        self.assertEqual((0, ""), (done.returncode, done.stderr))
+        return program
+
+    def says(self, wanted, command, **more):
+        """A command ends with status 0 and writes this."""
+        done = run(command, **more)
+        self.assertEqual((0, wanted), (done.returncode, done.stdout), done.stderr)
+
+
+class Header(Library):
+    tool = "gcc"
+
+    def test_a_struct_has_the_crate_s_fields(self):
+        for struct, file in declared.STRUCTS.items():
+            with self.subTest(struct):
+                text = (CRATE / "src" / f"{file}.rt").read_text()
+                self.assertEqual(list(declared.fields_of_crate(text)), list(declared.fields_of_header(HEADER, struct)))
+
+    def test_a_struct_has_the_size_that_the_crate_proves(self):
+        source = self.folder / "sizes.c"
+        lines = ['#include "inputplay.h"', "int main(void) { return 0; }"]
+        for struct, file in declared.STRUCTS.items():
+            size = re.search(r"prove!\(size_of::<\w+>\(\) == (\d+)\)", (CRATE / "src" / f"{file}.rt").read_text())[1]
+            lines.append(f'_Static_assert(sizeof({struct}) == {size}, "{struct}");')
+        source.write_text("\n".join(lines) + "\n")
+        self.built(source, "gcc", "-std=c11")
+
+    def test_a_number_is_the_crate_s(self):
+        for about, file, form in declared.NUMBERS:
+            with self.subTest(about):
+                wanted = declared.numbers_of_crate((CRATE / file).read_text(), form)
+                came = declared.numbers_of_header(HEADER, about)
+                self.assertEqual(wanted, came)
+
+    def test_what_is_visible_is_what_is_declared(self):
+        names = set(re.findall(r"^(?:uint32_t|void) (inputplay_\w+)\(", HEADER, re.M))
+        text = "".join(path.read_text() for path in (CRATE / "src").glob("*.rt"))
+        exported = set(re.findall(r"pub extern \"C\" fn (\w+)", text))
+        self.assertEqual(exported, names)
+        for flag, file in (("-D", "libinputplay.so"), ("-g", "libinputplay.a")):
+            came = re.findall(r"^[0-9a-f]+ T (\w+)$", run(["nm", flag, "--defined-only", BUILT / file]).stdout, re.M)
+            self.assertEqual(sorted(names), sorted(came), file)
+
+
+class C(Library):
+    tool = "gcc"
+
+    def test_each_call_once(self):
+        program = self.built(HERE / "calls.c", "gcc", "-std=c99")
+        self.says("", [program])
+
+    def test_a_naive_reader_keeps_a_key_down_and_a_right_one_does_not(self):
+        self.says(STUCK_KEY, [self.built(EXAMPLES / "c" / "stuck_key.c", "gcc", "-std=c99")])
+
+    def test_each_allocation_is_refused_in_turn(self):
+        wraps = [f"-Wl,--wrap={name}" for name in ("malloc", "realloc", "free")]
+        done = run([self.built(HERE / "refused.c", "gcc", "-std=c99", *wraps)])
+        self.assertEqual(0, done.returncode, done.stdout)
+        self.assertRegex(done.stdout, r"^\d+ calls were refused for want of memory\n$")
+
+class Valgrind(Library):
+    tool = "valgrind"
+
+    def test_no_byte_is_lost_or_read_wrongly(self):
+        checks = ["valgrind", "-q", "--leak-check=full", "--error-exitcode=9"]
+        for source in (HERE / "calls.c", EXAMPLES / "c" / "stuck_key.c"):
+            with self.subTest(source.name):
+                done = run([*checks, self.built(source, "gcc", "-std=c99", "-g")])
+                self.assertEqual((0, ""), (done.returncode, done.stderr))
+
+
+class CPlusPlus(Library):
+    tool = "g++"
+
+    def test_each_call_once(self):
+        source = self.folder / "calls.cpp"
+        shutil.copy(HERE / "calls.c", source)
+        self.says("", [self.built(source, "g++", "-std=c++11")])
+
+
+class Rust(Library):
+    tool = "cargo"
+
+    def test_the_crate_s_tests(self):
+        shutil.copytree(TOP / "bindings" / "rust", self.folder / "rust", ignore=shutil.ignore_patterns("target"))
+        variables = {**os.environ, "INPUTPLAY_LIB_DIR": str(BUILT), "CARGO_TARGET_DIR": str(self.folder / "target")}
+        done = run(["cargo", "test", "--offline", "-q"], cwd=self.folder / "rust", env=variables)
+        self.assertEqual(0, done.returncode, done.stdout + done.stderr)
+        self.assertIn("5 passed; 0 failed", done.stdout)
+
+
+class Python(Library):
+    tool = "python3"
+
+    def variables(self, path=PYTHON):
+        return {**os.environ, "INPUTPLAY_LIBRARY": str(BUILT / "libinputplay.so"), "PYTHONPATH": str(path)}
+
+    def test_the_package(self):
+        done = run([sys.executable, "-B", PYTHON / "tests" / "check_package.py"], env=self.variables())
+        self.assertEqual(0, done.returncode, done.stderr[-2000:])
+
+class Pip(Library):
+    tool = "pip"
+
+    def test_it_installs_offline_from_its_folder(self):
+        shutil.copytree(PYTHON, self.folder / "python", ignore=shutil.ignore_patterns("__pycache__", "build"))
+        where = self.folder / "site"
+        done = run([sys.executable, "-m", "pip", "install", "--no-index", "-q", "--target", where, self.folder / "python"])
+        self.assertEqual(0, done.returncode, done.stderr)
+        variables = {**os.environ, "INPUTPLAY_LIBRARY": str(BUILT / "libinputplay.so"), "PYTHONPATH": str(where)}
+        self.says("30\n", [sys.executable, "-B", "-c", "import inputplay; print(inputplay.code_of('KEY_A')[1])"], env=variables)
+
+
+class Pytest(Library):
+    tool = "pytest"
+
+    def test_its_page(self):
+        variables = {**os.environ, "INPUTPLAY_LIBRARY": str(BUILT / "libinputplay.so"), "PYTHONPATH": str(PYTHON)}
+        done = run([sys.executable, "-B", "-m", "pytest", "-q", "-p", "no:cacheprovider", PYTHON / "tests"], env=variables)
+        self.assertEqual(0, done.returncode, done.stdout)
+
+
+def is_there(tool):
+    """Whether a tool can be run here."""
+    if tool in ("pip", "pytest"):
+        return find_spec(tool) is not None
+    return tool is None or shutil.which(tool) is not None
+
+
+def not_made(what, why):
+    print(f"not made: {what}: {why}", flush=True)
+
+
+def make_library(is_asked):
+    """Links the libraries of the archive that is there; builds it too where that is asked for. Says whether they are there."""
+    if not ARCHIVE.is_file() and not is_asked:
+        not_made("the checks of the library", "it is not built; tools/build --library builds it, and tests/run library does")
+        return False
+    words = ["--made"] if ARCHIVE.is_file() and not is_asked else []
+    done = subprocess.run([TOP / "tools" / "build", "--library", *words], check=False)
+    return done.returncode == 0 or "its build failed"
+
+
+class Build(unittest.TestCase):
+    """Stands for all checks where the library could not be built."""
+
+    def test_the_library_is_built(self):
+        self.fail("tools/build --library failed")
+
+
+def load_tests(loader, tests, _pattern):
+    """The checks that can be made here."""
+    suite, made = unittest.TestSuite(), make_library("library" in sys.argv[1:])
+    if made is not True:
+        return loader.loadTestsFromTestCase(Build) if made else suite
+    for case in (Header, C, Valgrind, CPlusPlus, Rust, Python, Pip, Pytest):
+        if is_there(case.tool):
+            suite.addTests(loader.loadTestsFromTestCase(case))
+        else:
+            not_made(f"the library, {case.__name__}", f"{case.tool} is not there")
+    return suite
