@@ -1,13 +1,16 @@
 -- What a worker's thread leaves: its pass is one of the same port, and its actor did its lines.
-use Rattle.std.proofs.Common.{◌≡◌, ℕ, Bool, true, false, List, [], ◌∷◌, ◌++◌, length, drop, refl, sym, ap, subst, ◌∙◌, Option, Some}
-use Rattle.std.specs.Prelude.{Result, Ok, Err, OnOk}
+use Rattle.std.proofs.Common.{◌≡◌, ℕ, ◌+◌, ◌<◌, ◌≤◌, Bool, true, false, not, cond, List, [], ◌∷◌, ◌++◌, length, drop, refl, sym, ap, subst, ◌∙◌, arith, Option, Some, None}
+use Rattle.std.specs.Prelude.{Result, Ok, Err, OnOk, if◌then◌else◌}
 use Rattle.std.specs.Result.{is_ok}
 use Rattle.std.proofs.lemmas.List.{append-nil}
+use Rattle.std.proofs.lemmas.List.Sums.{sum_by-cons}
+use Rattle.std.proofs.lemmas.Option.{same_Some}
 use Rattle.inp_model.specs.declared.step.Step.{Step}
 use Rattle.inp_model.specs.Description.{Description}
-use Rattle.inp_model.specs.Evdev.{EvdevView}
-use Rattle.inp_model.specs.Leaves.{IsLeft, places_of}
-use Rattle.inp_model.specs.Run.{IsLegalRun, IsLegalFrom}
+use Rattle.inp_model.specs.Step.{is_inject}
+use Rattle.inp_model.specs.Evdev.{EvdevView, IsCall, TurnsRise, TurnsStand}
+use Rattle.inp_model.specs.Leaves.{IsLeft, AreCalls, places_of}
+use Rattle.inp_model.specs.Run.{Call, IsLegalRun, IsLegalFrom}
 use Rattle.inp_model.proofs.Leaves.{calls-legal, own-grown}
 use Rattle.inp_actors.specs.declared.role.Role.{Role}
 use Rattle.inp_actors.specs.declared.role.Role.TheVariants.{Source, Client, Tap, Joy, Owner}
@@ -33,7 +36,7 @@ use Rattle.inp_port.specs.Port.{IsReadyAt, told_by}
 use Rattle.inp_uinput.specs.UdevView.{UdevView}
 use Rattle.inp_runs.specs.Owner.{rooms_of}
 use Rattle.inp_threads.specs.Owner.{HasFedLines}
-use Rattle.inp_threads.specs.Worker.{IsFreshPass, HasPass, HasWorked, HasOwnedLines, HasDoneLines}
+use Rattle.inp_threads.specs.Worker.{IsFreshPass, HasPass, HasWorked, HasOwnedLines, HasDoneLines, asking_count}
 use Rattle.inp_threads.proofs.Ties.{numbers_in, number_at, as-long, same-table}
 
 module _ {K : Ghosts UdevView Description UEntry} where
@@ -66,11 +69,35 @@ module _ {K : Ghosts UdevView Description UEntry} where
 
 -- What the actor did
 
+-- each call that is no injection has a turn of its own
+pub turns-taken : (before after : EvdevView) (calls : List Call) (m : ℕ) → AreCalls before after calls → before.turns ≡ Some m → (n : ℕ) × (after.turns ≡ Some n) × (m + asking_count calls ≤ n)
+unfolding AreCalls
+turns-taken before after [] m same told = (m, ap (λ (v : EvdevView). v.turns) same ∙ told, omega arith)
+turns-taken before after (call ∷ calls) m h told =
+    let c : IsCall before h.0 call = h.1 in
+    let between : EvdevView = h.0 in
+    let next = one-turn before.turns between.turns (is_inject call.step) m c.turns c.rises told in
+    let last = turns-taken h.0 after calls next.0 h.2 next.1 in
+    let counted = sum_by-cons (λ (x : Call). cond (not (is_inject x.step)) 1 0) call calls in
+    (last.0, last.1, one-more (is_inject call.step) m next.0 last.0 (asking_count calls) (asking_count (call ∷ calls)) next.2 last.2 counted)
+  where
+    one-turn : (before after : Option ℕ) (free : Bool) (m : ℕ) → TurnsStand before after → (free ≡ false → TurnsRise before after) → before ≡ Some m → (n : ℕ) × (after ≡ Some n) × ((if free then 0 else 1) + m ≤ n)
+    one-turn None after free m stand rise told = absurd cc
+    one-turn (Some k) None free m stand rise told = absurd stand
+    one-turn (Some k) (Some n) true m stand rise told = (n, refl, (let e : k ≡ m = same_Some k m told in omega arith))
+    one-turn (Some k) (Some n) false m stand rise told = (n, refl, (let e : k ≡ m = same_Some k m told in let less : k < n = rise refl in omega arith))
+
+    one-more : (free : Bool) (m k n count all : ℕ) → (if free then 0 else 1) + m ≤ k → k + count ≤ n → all ≡ cond (not free) 1 0 + count → m + all ≤ n
+    one-more true m k n count all h l same = omega arith
+    one-more false m k n count all h l same = omega arith
+
 pub has-worked : (r : RecordView) (d : Description) (wait : Option Waiting) (a : ActorView) (new : Job) (b e : EvdevView) (v : PassView Description UEntry)
-    → b.seen ≡ [] → b.own ≡ [] → e.description ≡ d → e.seen ≡ steps_among step_made v.seen → e.own ≡ step_places step_made v.seen v.own → other_places step_made v.seen v.own ≡ []
+    → b.seen ≡ [] → b.own ≡ [] → e.description ≡ d → e.seen ≡ steps_among step_made v.seen → e.own ≡ step_places step_made v.seen v.own → other_places step_made v.seen v.own ≡ [] → (m : ℕ) → b.turns ≡ Some m → e.turns ≡ Some v.turns
     → a.description ≡ d → a.job ≡ first_job a.role a.description → DoesAll b e r wait a new → HasWorked r d wait (record a { job = new }) v
-has-worked r d wait a new b e v no_seen no_own same_d seen own others described first does =
+has-worked r d wait a new b e v no_seen no_own same_d seen own others m begun_turns turns described first does =
     let h = does.holds in
+    let taken = turns-taken b e h.calls m h.are_calls begun_turns in
+    let counted : taken.0 ≡ v.turns = same_Some taken.0 v.turns (sym taken.1 ∙ turns) in
     let from : IsLegalFrom e.description e.seen 0 h.calls = subst (λ (s : List Step). IsLegalFrom e.description e.seen (length s) h.calls) no_seen (calls-legal b e h.calls h.are_calls) in
     let run : IsLegalRun d e.seen h.calls = subst (λ (x : Description). IsLegalFrom x e.seen 0 h.calls) same_d from in
     let begun : EndsWith (lines_talk a.role a.description r.streams wait does.rounds (lines_by a.actor r.lines) (first_job a.role a.description)) h.calls (Some new) =
@@ -82,6 +109,7 @@ has-worked r d wait a new b e v no_seen no_own same_d seen own others described 
       follows = subst (λ (x : Description). EndsWith (lines_talk a.role x r.streams wait does.rounds (lines_by a.actor r.lines) (first_job a.role x)) h.calls (Some new)) described begun;
       own = sym own ∙ own-grown b e h.calls h.are_calls ∙ ap (λ (places : List ℕ). places ++ places_of h.calls) no_own;
       others = others;
+      turns = omega (arith, taken.2, counted);
     }
 
 -- an actor that is no owner did its lines by calls of an evdev

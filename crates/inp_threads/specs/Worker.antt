@@ -1,6 +1,7 @@
 -- What a job on a thread is before it does its lines, and after.
-use Rattle.std.specs.Prelude.{◌≡◌, ℕ, ◌+◌, true, List, [], length, map, filter, All, slice_get, Option, Some, None}
-use Rattle.std.specs.List.{range_with_len}
+use Rattle.std.specs.Prelude.{◌≡◌, ℕ, ◌+◌, ◌≤◌, true, not, List, [], length, map, filter, All, slice_get, Option, Some, None}
+use Rattle.std.specs.List.{range_with_len, count_by}
+use Rattle.inp_model.specs.Step.{is_inject}
 use Rattle.inp_model.specs.Description.{Description}
 use Rattle.inp_model.specs.Leaves.{places_of}
 use Rattle.inp_model.specs.Run.{Call, IsLegalRun}
@@ -104,6 +105,10 @@ pub record AreDealtUpTo {K : Ghosts UdevView Description UEntry} (port : PortOf 
 abbrev pub AreDealt : {K : Ghosts UdevView Description UEntry} → PortOf UdevView UEntry → RecordView → ℕ → Pass UdevView Description UEntry K → List Worker → Type 0
 AreDealt port r device left workers = AreDealtUpTo port r device (length r.actors) left workers
 
+-- how many calls are no injections
+abbrev pub asking_count : List Call → ℕ
+asking_count calls = count_by (λ (call : Call). not (is_inject call.step)) calls
+
 -- An actor did all its lines by calls of an evdev: they are a legal run of what was seen of the history, its job is what
 -- its lines and the answers to these calls make, and its pass owns the places of its steps and no others.
 pub record HasWorked (r : RecordView) (d : Description) (wait : Option Waiting) (a : ActorView) (view : PassView Description UEntry) : Type 0 where
@@ -113,6 +118,8 @@ pub record HasWorked (r : RecordView) (d : Description) (wait : Option Waiting) 
   pub follows : EndsWith (lines_talk a.role d r.streams wait rounds (lines_by a.actor r.lines) (first_job a.role d)) calls (Some a.job)
   pub own : step_places step_made view.seen view.own ≡ places_of calls
   pub others : other_places step_made view.seen view.own ≡ []
+  -- each of them that is no injection, answered Again or not, had a turn of its own, which this pass took
+  pub turns : asking_count calls ≤ view.turns
 
 -- An owner did all its lines by feedback calls, and no other ones.
 pub record HasOwnedLines (r : RecordView) (d : Description) (a : ActorView) (view : PassView Description UEntry) : Type 0 where

@@ -1,14 +1,15 @@
 //! A job on a thread.
-ghost use Rattle.std.specs.Prelude.{◌≡◌, false, Option, Some};
+ghost use Rattle.std.specs.Prelude.{◌≡◌, true, false, Option, Some};
 ghost use Rattle.inp_actors.specs.declared.role.Role.TheVariants.{Owner};
 ghost use Rattle.inp_actors.specs.Command.{is_owner};
 ghost use Rattle.inp_script.specs.declared.waiting.Waiting.{Waiting};
 ghost use Rattle.inp_script.specs.Doing.{IsWaiting};
 ghost use Rattle.inp_threads.specs.Worker.{IsAtStart, IsFreshPass, IsReadyWorker, IsWorked, actor_number};
 
+use crate::job_gate::JobGate;
+use crate::one_job::OneJob;
 use crate::owner_client::OwnerClient;
 use inp_actors::{Record, Role};
-use inp_edge::Gate;
 use inp_runs::{do_lines, feed_lines};
 use inp_script::{Actor, Gated, Waiting};
 use inp_turn::Pass;
@@ -29,17 +30,18 @@ pub(crate) struct Worker {
 }
 
 impl Worker {
-    // Does all lines of the actor. Where memory ran out the pass is back, too.
-    pub(crate) fn work<R: Wait, G: Gate>(
+    // Does all lines of the actor, and tells the gate of this actor alone. Where memory ran out the pass is back, too.
+    pub(crate) fn work<R: Wait, J: JobGate>(
         &mut self,
         rt: &R,
         port: &UPort,
         rec: &Record,
         waiting: Waiting,
-        gate: &G,
+        gate: &J,
     )
         requires ready { IsReadyWorker port.now rec.now self.old }
         requires waiting { IsWaiting rec.now self.old.actor waiting }
+        requires known { J.knows gate.now (actor_number self.old) ≡ true }
         ensures worked { IsWorked port.now rec.now (Some waiting) self.new }
         ensures number { actor_number self.new ≡ actor_number self.old }
     {
@@ -55,13 +57,13 @@ impl Worker {
     }
 
     // Does all lines of an actor that makes calls of an evdev.
-    fn call<R: Wait, G: Gate>(
+    fn call<R: Wait, J: JobGate>(
         &mut self,
         rt: &R,
         port: &UPort,
         rec: &Record,
         waiting: Waiting,
-        gate: &G,
+        gate: &J,
         pass: Pass<Udev>,
     )
         requires fresh { IsFreshPass port.now pass }
@@ -69,6 +71,7 @@ impl Worker {
         requires number { self.old.actor.actor ≡ self.old.number }
         requires caller { is_owner self.old.actor.role ≡ false }
         requires waiting { IsWaiting rec.now self.old.actor waiting }
+        requires known { J.knows gate.now self.old.number ≡ true }
         ensures worked { IsWorked port.now rec.now (Some waiting) self.new }
         ensures number { actor_number self.new ≡ actor_number self.old }
     {
@@ -78,25 +81,30 @@ impl Worker {
             pass,
             agains: 0,
         };
-        let mut dev = Gated::new(client, gate, self.number);
+        let one = OneJob {
+            gate,
+            job: self.number,
+        };
+        let mut dev = Gated::new(client, &one, self.number);
         let done = do_lines(&mut self.actor, &mut dev, rec, self.number, Some(waiting));
         self.is_done = done.is_ok();
         self.pass = Some(dev.inner.pass);
     }
 
     // Does all lines of an owner, which makes feedback calls alone. No line of it waits.
-    fn own<R: Wait, G: Gate>(
+    fn own<R: Wait, J: JobGate>(
         &mut self,
         rt: &R,
         port: &UPort,
         rec: &Record,
-        gate: &G,
+        gate: &J,
         pass: Pass<Udev>,
     )
         requires fresh { IsFreshPass port.now pass }
         requires start { IsAtStart port.now rec.now self.old.actor }
         requires number { self.old.actor.actor ≡ self.old.number }
         requires owner { self.old.actor.role ≡ Owner }
+        requires known { J.knows gate.now self.old.number ≡ true }
         ensures worked { (wait : Option Waiting) → IsWorked port.now rec.now wait self.new }
         ensures number { actor_number self.new ≡ actor_number self.old }
     {

@@ -10,6 +10,7 @@ ghost use Rattle.inp_turn.specs.PassView.{whole_share};
 ghost use Rattle.inp_port.specs.Port.{IsReadyAt};
 ghost use Rattle.inp_threads.specs.Worker.{actor_number, IsPortOf, IsReadyOn, IsReadyToWait, AreDealt, AreDealtUpTo, IsWorked, IsWorkedFrom};
 
+use crate::job_gate::AnyJob;
 use crate::worker::Worker;
 use inp_actors::{ActorText, Record, Role};
 use inp_edge::Gate;
@@ -104,7 +105,7 @@ pub(crate) fn run_all<R: Threads + Wait + Sync, G: Gate>(
             ensures { IsWorkedFrom port.entry.now rec.entry.now waiting
                 worker.entry.now worker.exit.now }
         {
-            worker.work(rt, port, rec, waiting, gate);
+            worker.work(rt, port, rec, waiting, &AnyJob { gate });
         },
     );
 }

@@ -40,6 +40,6 @@ returns-clause-worked g c =
           subst (λ (a : ActorView). HasWorked r (description_of port) (Some c.args.waiting) a (view_of client.pass)) (sym job)
           (has-worked r (description_of port) (Some c.args.waiting) old new.job b e (view_of client.pass)
           (ap (steps_among step_made) fresh.seen) (ap (step_places step_made (view_of p).seen) fresh.own)
-          left.leaves.description refl refl back.others start.description start.job does) in
+          left.leaves.description refl refl back.others (view_of p).turns refl refl start.description start.job does) in
           calling-done new.role r (description_of port) (Some c.args.waiting) new (view_of client.pass) (ap (λ (a : ActorView). is_owner a.role) job ∙ c.requires.caller) worked);
     }
