@@ -53,7 +53,9 @@ class Repository:
     def __init__(self, top):
         self.top = Path(top)
         rows = (self.top / "crates.txt").read_text().splitlines()
-        deps = dict(row.split(":", 1) for row in rows if row.strip() and not row.startswith("#"))
+        pairs = [row.split(":", 1) for row in rows if row.strip() and not row.startswith("#")]
+        # (a static library has this word behind its name)
+        deps = {name.split()[0]: text for name, text in pairs}
         self.deps = {crate: [dep for dep in text.split() if dep in deps] for crate, text in deps.items()}
         self.crates = self.in_order(self.deps, self.deps.__getitem__)
 

@@ -140,7 +140,7 @@ class Install(TreeCase):
         self.assertEqual((0, []), (status, lines))
         listed = set(written.splitlines())
         self.assertEqual({str(path) for path in prefix.rglob("*") if path.is_file()}, listed)
-        tools = {path.name for path in TOOLS.iterdir() if path.is_file()} - {"install"}
+        tools = {path.name for path in TOOLS.iterdir() if path.is_file()} - {"build", "install"}
         programs = {path.name for path in (prefix / "bin").iterdir()}
         self.assertEqual({"inputplay"} | {f"inputplay-{tool}" for tool in tools}, programs)
         self.assertEqual((TOP / "docs" / "inputplay.1").read_bytes(), (prefix / "share" / "man" / "man1" / "inputplay.1").read_bytes())

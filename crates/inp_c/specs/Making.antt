@@ -21,7 +21,7 @@ pub record IsRefusedText (text : List ℕ) (line cause : ℕ) : Type 0 where
   pub cause_is : cause ≡ cause_number refused.cause
 
 -- What a status other than OK says of a text, and what is told of a line. The two numbers behind are those before.
-pub record IsUnread (text : List ℕ) (old_line old_cause status line cause : ℕ) : Type 0 where
+pub record IsNoText (text : List ℕ) (old_line old_cause status line cause : ℕ) : Type 0 where
   pub not_ok : status ≢ OK
   pub not_number : status ≢ BAD_ARGUMENT
   pub not_in_use : status ≢ IN_USE
@@ -34,7 +34,7 @@ pub record IsUnread (text : List ℕ) (old_line old_cause status line cause : �
 -- what reading a text gives: the record that it means, or a status
 abbrev pub IsTextRead : List ℕ → ℕ → ℕ → Result RecordView ℕ → ℕ → ℕ → Type 0
 IsTextRead text old_line old_cause (Ok recorded) line cause = (meaning text ≡ Ok recorded) × (length text ≤ INPUT_LIMIT) × (line ≡ old_line) × (cause ≡ old_cause)
-IsTextRead text old_line old_cause (Err status) line cause = IsUnread text old_line old_cause status line cause
+IsTextRead text old_line old_cause (Err status) line cause = IsNoText text old_line old_cause status line cause
 
 -- What a call that makes something of a text answers: that the handle is in use exactly where it keeps something, else that
 -- the text is too long exactly where it is, and that it is refused only where it is. It tells a line and a cause where the

@@ -1,6 +1,6 @@
 //! A handle.
 ghost use Rattle.std.specs.Prelude.{◌≡◌, ℕ, Option, Some};
-ghost use Rattle.inp_c.specs.Kind.{kind_of};
+ghost use Rattle.inp_c.specs.Kind.{kept_kind};
 
 use crate::kept::Kept;
 use crate::loose::Loose;
@@ -14,7 +14,7 @@ use std::mem;
 pub struct Handle {
     kind: u32,
     inner: Loose,
-    ghost agree: { kind ≡ kind_of inner.value },
+    ghost agree: { kind ≡ kept_kind inner.value },
 }
 
 impl Handle {
@@ -35,7 +35,7 @@ impl Handle {
     pub(crate) fn of(kept: Box<Kept>) -> Handle
         ensures { contents result ≡ Some kept.value }
     {
-        let kind = kind_of(&kept);
+        let kind = kept_kind(&kept);
         Handle {
             kind,
             inner: Loose::of(Parts::of(kept)),
@@ -64,8 +64,8 @@ impl Handle {
 }
 
 /// The number of what is kept.
-fn kind_of(kept: &Kept) -> u32
-    ensures { result ≡ kind_of (Some kept.now) }
+fn kept_kind(kept: &Kept) -> u32
+    ensures { result ≡ kept_kind (Some kept.now) }
 {
     match kept {
         Kept::Device(_) => 1,
