@@ -1,5 +1,5 @@
-//! A gate before the calls on an evdev, that of a device whose history is full. Which steps a full history refuses, and where
-//! actors stop then, is shown by the records of `tests/records`.
+//! A gate before the calls on an evdev: that of a device whose history is full, and which looks at the gate. Which steps a
+//! full history refuses, and where actors stop then, is shown by the records of `tests/records`.
 
 use inp_edge::Gate;
 use inp_model::{Evdev, Injected, Refusal, Reply, Stamped, Step, Taken};
@@ -7,11 +7,22 @@ use inp_script::Gated;
 use std::sync::atomic::{AtomicU64, Ordering};
 use std::test::Fail;
 
-/// A keyboard whose history has the one step that it may have, and no client. So each step is refused.
+/// A keyboard whose history has the one step that it may have, and no client. So each step is refused. At each call it looks
+/// how often the gate was passed so far.
 #[derive(Drop)]
-struct FullDevice;
+struct FullDevice<'a> {
+    gate: &'a NotingGate,
+    passed: &'a AtomicU64,
+}
 
-impl Evdev for FullDevice {
+impl<'a> FullDevice<'a> {
+    fn look(&self) {
+        let times = self.gate.times.load(Ordering::SeqCst);
+        self.passed.store(times, Ordering::SeqCst);
+    }
+}
+
+impl<'a> Evdev for FullDevice<'a> {
     ghost use Rattle.std.specs.Prelude.{[], ◌∷◌, None};
     ghost use Rattle.inp_model.specs.declared.step.Step.TheVariants.{End};
     ghost use Rattle.inp_model.specs.Description.{one_key};
@@ -26,6 +37,7 @@ impl Evdev for FullDevice {
     } };
 
     fn call(&mut self, step: Step, _out: &mut [Taken], _cells: &mut [i32]) -> Reply {
+        self.look();
         let why = match step.client() {
             Some(_) => Refusal::BadClient,
             None => Refusal::LogFull,
@@ -34,6 +46,7 @@ impl Evdev for FullDevice {
     }
 
     fn inject_all(&mut self, _events: &[Stamped]) -> Injected {
+        self.look();
         Injected { from: 1, count: 0 }
     }
 }
@@ -56,22 +69,37 @@ impl Gate for NotingGate {
     }
 }
 
-/// Makes a call that is refused.
-fn end<E: Evdev>(dev: &mut E) {
-    dev.call(Step::End, &mut [], &mut []);
+/// Makes a call that is refused, or one that injects no event.
+fn end<E: Evdev>(dev: &mut E, is_step: bool) {
+    if is_step {
+        dev.call(Step::End, &mut [], &mut []);
+    } else {
+        dev.inject_all(&[]);
+    }
 }
 
+// It fails where a gate is passed behind a call, or twice.
 #[test]
-fn a_gate_is_told_the_job_and_the_call(rt: HostRuntime) -> Result<(), Fail> {
+fn a_gate_is_passed_once_before_each_call(rt: HostRuntime) -> Result<(), Fail> {
     let gate = NotingGate {
         times: AtomicU64::new(0),
         job: AtomicU64::new(0),
         call: AtomicU64::new(0),
     };
-    let mut dev = Gated::new(FullDevice, &gate, 7);
+    let passed = AtomicU64::new(0);
+    let device = FullDevice {
+        gate: &gate,
+        passed: &passed,
+    };
+    let mut dev = Gated::new(device, &gate, 7);
     assert_eq!(rt; gate.times.load(Ordering::SeqCst), 0, "no call yet");
     for call in 0..4 {
-        end(&mut dev);
+        end(&mut dev, call < 3);
+        assert_eq!(rt;
+            passed.load(Ordering::SeqCst),
+            call + 1,
+            "so often before it"
+        );
         assert_eq!(rt; gate.times.load(Ordering::SeqCst), call + 1);
         assert_eq!(rt; gate.job.load(Ordering::SeqCst), 7);
         assert_eq!(rt; gate.call.load(Ordering::SeqCst), call);
