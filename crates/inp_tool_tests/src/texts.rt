@@ -107,19 +107,80 @@ keys KEY_A
 stop finished
 ";
 
-/// The first record with another tap.
-pub const TWO_TAPS: &str = "inputrecord 1
-device kbd
+/// Two keyboards, on each a client that follows, and stands before its source.
+pub const TWO_KEYBOARDS: &str = "inputrecord 1
+device one
 cap EV_KEY KEY_A
+client c
 source s
-tap t
-tap u
-do t open
+device two
+cap EV_KEY KEY_A
+client d
+source t
+do c open
+do c follow
 do s event 1000 EV_KEY KEY_A 1
 do s event 1000 EV_SYN SYN_REPORT 0
-do t read 16
-do u open
-do u read 16
+do d open
+do d follow
+do t event 1000 EV_KEY KEY_A 1
+do t event 1000 EV_SYN SYN_REPORT 0
+";
+
+/// On threads, where each client read in vain once, and its source says its end after the next read.
+pub const TWO_KEYBOARDS_REPORT: &str = "device one steps 6
+client c
+call open reply opened 0 0 128
+call getkeys 0 reply bits 1
+call read 0 64 reply took 4 2
+took 3 1000 EV_KEY KEY_A 1
+took 3 1000 EV_SYN SYN_REPORT 0
+again 6
+keys KEY_A
+stop finished
+source s calls 2 stop finished
+device two steps 6
+client d
+call open reply opened 0 0 128
+call getkeys 0 reply bits 1
+call read 0 64 reply took 4 2
+took 3 1000 EV_KEY KEY_A 1
+took 3 1000 EV_SYN SYN_REPORT 0
+again 6
+keys KEY_A
+stop finished
+source t calls 2 stop finished
+";
+
+/// A bell rings, and the owner of its device asks twice.
+pub const BELL: &str = "inputrecord 2
+udevice bell
+cap EV_SND SND_BELL
+source s
+owner o
+do s event 1000 EV_SND SND_BELL 1
+do o feedback 4
+do o feedback 4
+";
+
+/// On threads, where its first call finds the ring alone, and the second one nothing, before the source's end.
+pub const BELL_REPORT: &str = "device bell steps 2
+source s calls 1 stop finished
+owner o
+feedback 1 1
+fed EV_SND SND_BELL 1
+feedback 1 0
+stop finished
+";
+
+/// The same, where the second call comes after the end.
+pub const BELL_REPORT_LATE: &str = "device bell steps 2
+source s calls 1 stop finished
+owner o
+feedback 1 1
+fed EV_SND SND_BELL 1
+feedback 2 0
+stop finished
 ";
 
 /// The first record without its tap.

@@ -150,20 +150,24 @@ impl Gate for CountingGate {
     }
 }
 
+// It fails where the gate is passed on one thread, where a record is migrated, or where one is made.
 #[test]
-fn passes_no_gate_on_one_thread(rt: HostRuntime) -> Result<(), Fail> {
+fn passes_no_gate_without_threads(rt: HostRuntime) -> Result<(), Fail> {
     let gate = CountingGate {
         calls: AtomicU64::new(0),
     };
     gate.before(0, 0);
     let files = [("f", STREAM.as_bytes()), ("keys", PRESS)];
-    let (end, _) = run(&rt, rt.alloc(), &["f"], &files, NONE, &gate)?;
-    assert_eq!(rt; end.status, 0);
-    assert_eq!(rt;
-        gate.calls.load(Ordering::SeqCst),
-        1,
-        "the test's own call alone"
-    );
+    for texts in [
+        ["f"].as_slice(),
+        ["--migrate", "f"].as_slice(),
+        ["--make=7", "--count=20"].as_slice(),
+    ] {
+        let (end, _) = run(&rt, rt.alloc(), texts, &files, NONE, &gate)?;
+        assert_eq!(rt; end.status, 0);
+        let calls = gate.calls.load(Ordering::SeqCst);
+        assert_eq!(rt; calls, 1, "the test's own call alone");
+    }
     Ok(())
 }
 
