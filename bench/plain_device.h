@@ -1,4 +1,4 @@
-/* A device with its clients and their readers, in plain C: what plain.c and plain_play.c share.
+/* A device with its clients and their readers, in plain C: what the other programs in plain C share.
  *
  * It is meant to do the same work on the same data as the program: the device keeps its history, each client has a ring, a
  * mask and a clock, and each actor keeps all that it saw: every call with its reply, every event. Each client has a
@@ -10,7 +10,7 @@
 #include <stdlib.h>
 #include <string.h>
 
-enum { EV_SYN = 0, EV_KEY = 1, EV_ABS = 3 };
+enum { EV_SYN = 0, EV_KEY = 1, EV_ABS = 3, EV_MSC = 4 };
 enum { SYN_REPORT = 0, SYN_DROPPED = 3, BTN_TOUCH = 0x14a };
 enum { MT_SLOT = 0x2f, MT_FIRST = 0x30, MT_X = 0x35, MT_Y = 0x36, MT_ID = 0x39, MT_LAST = 0x3d };
 enum { SLOTS = 10, VALUES = 14, CELLS = SLOTS * VALUES, KEYS = 768, KEY_WORDS = KEYS / 64, HINT_MOST = 512 };
@@ -66,13 +66,13 @@ typedef struct {
     Taken *places;
     uint32_t first, count, visible;
     uint64_t offset;
-    uint64_t kinds, keys[KEY_WORDS], axes;
+    uint64_t kinds, keys[KEY_WORDS], axes, misc;
     int open, revoked;
 } Client;
 
 typedef struct {
     uint32_t hint, ring, slots;
-    uint64_t key_codes[KEY_WORDS], abs_codes;
+    uint64_t key_codes[KEY_WORDS], abs_codes, misc_codes;
     int32_t fuzz[64];
     uint64_t keys[KEY_WORDS];
     int32_t cells[SLOTS][VALUES];
@@ -110,7 +110,8 @@ static void put(Client *c, uint32_t ring, Taken item) {
 static int admits(const Client *c, Event e) {
     if (e.kind == EV_SYN) return 1;
     if (!(c->kinds >> e.kind & 1)) return 0;
-    return e.kind == EV_KEY ? bit(c->keys, e.code) : (int)(c->axes >> e.code & 1);
+    if (e.kind == EV_KEY) return bit(c->keys, e.code);
+    return (int)((e.kind == EV_MSC ? c->misc : c->axes) >> e.code & 1);
 }
 
 static void pass_frame(Device *d, uint64_t now, uint32_t place) {
@@ -135,6 +136,7 @@ static int32_t defuzz(int64_t v, int64_t o, int64_t f) {
 static int supports(const Device *d, Event e) {
     if (e.kind == EV_SYN) return e.code <= SYN_DROPPED;
     if (e.kind == EV_KEY) return e.code > 0 && e.code < KEYS && bit(d->key_codes, e.code);
+    if (e.kind == EV_MSC) return e.code < 8 && (d->misc_codes >> e.code & 1);
     return e.kind == EV_ABS && e.code < 64 && (d->abs_codes >> e.code & 1);
 }
 
@@ -220,7 +222,7 @@ static Reply step(Device *d, Step s, Taken *out, int32_t *cells) {
         c = &d->clients[d->opens];
         c->open = 1;
         c->places = must(malloc(d->ring * sizeof *c->places));
-        c->kinds = c->axes = ~0ull;
+        c->kinds = c->axes = c->misc = ~0ull;
         memset(c->keys, 0xff, sizeof c->keys);
         r.tag = OPENED;
         r.of.opened.client = d->opens++;

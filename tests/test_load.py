@@ -7,6 +7,8 @@ import unittest
 from playing import TOP, FolderCase, run
 
 BENCH = TOP / "bench"
+# Without a compiler bench/run can't be run, and nothing rests on plain C.
+COMPILER = shutil.which("cc")
 
 FOLLOWED = """\
 inputrecord 1
@@ -71,6 +73,25 @@ stop finished
 """
 
 
+# The first lines of a record, and lines each of which is refused behind them, for a cause of its own.
+BEGUN = b"inputrecord 1\ndevice keypad\ncap EV_KEY KEY_A\nsource finger\nclient c0\ndo c0 open\n"
+REFUSED = (
+    b"do finger event 1 EV_KEY KEY_A \x7f",
+    b"inputrecord 1",
+    b"cap EV_KEY KEY_B",
+    b"hint",
+    b"do thumb event 1 EV_KEY KEY_A 1",
+    b"do c0 event 1 EV_KEY KEY_A 1",
+    b"do finger follow",
+    b"do finger event 9000000000000001 EV_KEY KEY_A 1",
+    b"do finger event 1 EV_KEY SYN_REPORT 1",
+    b"do finger event 1 EV_KAY KEY_A 1",
+    b"do finger event 1 EV_KEY 0xfffff 1",
+    b"do finger event 1 EV_KEY KEY_A 2147483648",
+    b"do finger event 1 EV_KEY KEY_A -",
+)
+
+
 class Loads(FolderCase):
     def load(self, *words):
         return subprocess.run([str(BENCH / "load"), *words], cwd=self.folder, capture_output=True, text=True, check=False)
@@ -92,18 +113,41 @@ class Loads(FolderCase):
         ours = run(["one"], self.folder)
         self.assertEqual((0, REPORT), (ours.status, ours.text.decode()))
 
+    def compiled(self, name):
+        """A program in plain C."""
+        (self.folder / "plain_names.h").write_text(self.names())
+        subprocess.run([COMPILER, "-O2", "-I", self.folder, "-o", self.folder / name, BENCH / f"{name}.c"], check=True)
+        return self.folder / name
+
+    def names(self):
+        return subprocess.run([BENCH / "plain_names"], capture_output=True, text=True, check=True).stdout
+
     def test_both_programs_print_the_same(self):
-        compiler = shutil.which("cc")
-        if not compiler:
-            return  # (bench/run can't be run then, and nothing rests on plain C)
-        plain = self.folder / "plain_play"
-        subprocess.run([compiler, "-O2", "-o", plain, BENCH / "plain_play.c"], check=True)
-        for kind in ("followed", "streamed"):
+        if not COMPILER:
+            return
+        for kind, plain in (("followed", "plain_play"), ("streamed", "plain_play"), ("recorded", "plain_recorded")):
             with self.subTest(kind=kind):
                 self.written(kind, "one", "--frames", "300", "--clients", "2")
                 ours = run(["one"], self.folder)
-                theirs = subprocess.run([plain, "one"], cwd=self.folder, capture_output=True, check=True)
+                theirs = subprocess.run([self.compiled(plain), "one"], cwd=self.folder, capture_output=True, check=True)
                 self.assertEqual((0, theirs.stdout), (ours.status, ours.text))
+
+    def test_both_programs_refuse_the_same(self):
+        if not COMPILER:
+            return
+        plain = self.compiled("plain_recorded")
+        for line in REFUSED:
+            with self.subTest(line=line):
+                (self.folder / "one").write_bytes(BEGUN + line + b"\n")
+                ours = run(["one"], self.folder)
+                theirs = subprocess.run([plain, "one"], cwd=self.folder, capture_output=True, check=False)
+                self.assertEqual((1, theirs.stdout), (ours.status, ours.text))
+
+    def test_names(self):
+        lines = self.names().splitlines()
+        self.assertIn('{ "EV_REP", 6, 20, 0 },', lines)
+        self.assertIn('{ "KEY_A", 5, 1, 30 },', lines)
+        self.assertIn('{ "ABS_MT_SLOT", 11, 3, 47 },', lines)
 
     def test_no_load(self):
         for words, told in (
@@ -128,23 +172,22 @@ class Measuring(FolderCase):
     def test_help(self):
         ended = self.measured("--help")
         self.assertEqual((0, ""), (ended.returncode, ended.stderr))
-        self.assertIn("usage: bench/run [PROGRAM]", ended.stdout)
+        self.assertIn("usage: bench/run [-h]", ended.stdout)
 
     def test_what_is_refused(self):
         none = self.folder / "none"
         for words, told in (
-            ([none, none], "bench/run: one word at most is wanted, the program; bench/run --help says more\n"),
-            (["--fast"], "bench/run: one word at most is wanted, the program; bench/run --help says more\n"),
+            ([none, none], f"unrecognized arguments: {none}"),
+            (["--fast"], "unrecognized arguments: --fast"),
+            (["--runs", "many"], "many is no number from 1 on"),
+            (["--only", "walked"], "invalid choice: 'walked'"),
             ([none], f"bench/run: {none} is not there\n"),
         ):
             with self.subTest(words=words):
                 ended = self.measured(*map(str, words))
                 self.assertEqual((2, ""), (ended.returncode, ended.stdout))
-                self.assertTrue(ended.stderr.startswith(told), ended.stderr)
-
-    def test_a_number_of_runs_that_is_none(self):
-        ended = self.measured(env={"RUNS": "many", "PATH": "/usr/bin:/bin"})
-        self.assertEqual((2, "bench/run: RUNS is many, and a number from 1 on is wanted\n"), (ended.returncode, ended.stderr))
+                self.assertIn(told, ended.stderr)
+                self.assertNotIn("Traceback", ended.stderr)
 
 
 if __name__ == "__main__":
