@@ -10,7 +10,7 @@ sys.path.insert(0, str(TOP / "bench"))
 
 from definitions import Repository  # noqa: E402  (bench/ has to be on the path first)
 
-OTHER_PAGES = ("README.md", "CONTRIBUTING.md", "CHANGELOG.md", "bench/README.md", "examples/README.md")
+OTHER_PAGES = ("README.md", "CONTRIBUTING.md", "CHANGELOG.md", "bench/README.md", "crates/README.md", "examples/README.md")
 PAGES = sorted(TOP.glob("docs/*.md")) + [TOP / name for name in OTHER_PAGES]
 
 # `Module.name`, or a type with a field, a variant or a ghost member; and `Module.antt`.
@@ -32,9 +32,9 @@ FILE = re.compile(r"`(?:crates/)?(?:(inp_\w+)/)?((?:proofs|specs|src)/(?:\w+/)*\
 MARK = re.compile(r"^\s*(?:--|//[/!]?) ?", re.M)
 # A fact, named as all facts are whose name is no verb.
 FACT = re.compile(r"`(?:\w+\.)?((?:Is|Are|Has)[A-Z]\w*)`")
-# A row of the table of what crates stand on, and where it ends in all that those below stand on.
-STANDS_ROW = re.compile(r"^\| (`inp_\w+`(?:, `inp_\w+`)*) \| (.*) \|$", re.M)
-ALL_BELOW = re.compile(r"and (?:the crates|what) (?:that )?(?:these|it) stands? on")
+# A group of crates: in the page of crates, and in crates.txt.
+SECTION_ROWS = re.compile(r"^## (.*)$\n((?:(?!## ).*\n)*)", re.M)
+GROUP_ROWS = re.compile(r"^# (.*)\n((?:[^#\n].*\n)+)", re.M)
 
 
 def given():
@@ -320,17 +320,12 @@ class Names(unittest.TestCase):
         missing = [(page.name, name) for page in PAGES for name in FACT.findall(page.read_text()) if name not in known]
         self.assertEqual([], missing)
 
-    def test_the_table_of_crates_has_what_each_stands_on(self):
-        stands_on, rows = dependencies(), {}
-        for crates, says in STANDS_ROW.findall((TOP / "docs" / "ARCHITECTURE.md").read_text()):
-            rows.update(dict.fromkeys(re.findall(r"inp_\w+", crates), says))
-        toolchain = set().union(*stands_on.values()) - set(stands_on)
-        for crate, others in stands_on.items():
-            self.assertIn(crate, rows)
-            named = {name for name in re.findall(r"`(\w+)`", rows[crate]) if name in stands_on or name in toolchain}
-            self.assertLessEqual(named, set(others), crate)
-            all_below = set().union(*(below(name, stands_on) for name in named)) if ALL_BELOW.search(rows[crate]) else named
-            self.assertLessEqual(set(others), all_below, crate)
+    def test_the_page_of_crates_has_each_in_its_group(self):
+        page = (TOP / "crates" / "README.md").read_text()
+        told = [(group.lower(), re.findall(r"^\| `(\w+)` \| .+ \|$", rows, re.M)) for group, rows in SECTION_ROWS.findall(page)]
+        wanted = [(group, re.findall(r"^(\w+)[ :]", rows, re.M)) for group, rows in GROUP_ROWS.findall((TOP / "crates.txt").read_text())]
+        self.assertEqual(wanted, told)
+        self.assertEqual(set(dependencies()), {crate for _, crates in told for crate in crates})
 
     def test_no_name_is_defined_in_two_crates(self):
         repository = Repository(TOP)
