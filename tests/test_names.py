@@ -10,7 +10,7 @@ sys.path.insert(0, str(TOP / "bench"))
 
 from definitions import Repository  # noqa: E402  (bench/ has to be on the path first)
 
-OTHER_PAGES = ("README.md", "CONTRIBUTING.md", "CHANGELOG.md", "bench/README.md", "crates/README.md", "examples/README.md")
+OTHER_PAGES = ("README.md", "CONTRIBUTING.md", "CHANGELOG.md", "bench/README.md", "bench/BY_HAND.md", "bench/COST.md", "crates/README.md", "examples/README.md")
 PAGES = sorted(TOP.glob("docs/*.md")) + [TOP / name for name in OTHER_PAGES]
 
 # `Module.name`, or a type with a field, a variant or a ghost member; and `Module.antt`.
@@ -18,6 +18,9 @@ NAME = re.compile(r"`(?:[\w/]*/)?([A-Z]\w*)\.([^\s`.()]+)`")
 PAGE_NAMES = {page.stem for page in PAGES} | {"FILE", "NAME"}
 PROVED = re.compile(r"^\s*(?:abbrev |unfoldable )?pub (?:record |data )?([^\s:]+)", re.M)
 
+# A page that is named by its path, and what a link of Markdown points to.
+PAGE_LINK = re.compile(r"`((?:[\w-]+/)*[A-Z_]+\.md)`")
+MARKDOWN_LINK = re.compile(r"\]\((?!https?:|#)([^)#\s]+)")
 SECTION = re.compile(r"^##+ (.*)$", re.M)
 QUOTED = r'"([^"]+)"'
 CITED = re.compile(rf"(?:docs/)?([A-Z]+)\.md`?,\s+({QUOTED}(?:(?:,| and|, and)\s+{QUOTED})*)")
@@ -399,6 +402,23 @@ class Walks(unittest.TestCase):
         text = "use A.{talk_in}\n-- talk_in\npub f : T\nunfolding a b\nf = x\n  unfolding c\n"
         self.assertEqual({"a", "b", "c"}, unfolded(text))
         self.assertNotIn("talk_in", told(text))
+
+
+def places_of(page, link):
+    """Where what a page links to may stand: beside the page, below the top, or among the pages of docs/."""
+    return page.parent / link, TOP / link, TOP / "docs" / link
+
+
+class Links(unittest.TestCase):
+    def test_each_page_that_a_page_names_is_there(self):
+        links = [(page, link) for page in PAGES for link in PAGE_LINK.findall(page.read_text()) + MARKDOWN_LINK.findall(page.read_text())]
+        missing = [(page.name, link) for page, link in links if not any(place.exists() for place in places_of(page, link))]
+        self.assertEqual([], missing)
+        self.assertGreater(len(links), 100)
+
+    def test_each_page_is_named_by_another(self):
+        named = {link.rsplit("/", 1)[-1] for page in PAGES for link in PAGE_LINK.findall(page.read_text()) if link != page.name}
+        self.assertEqual(set(), {page.name for page in PAGES} - named)
 
 
 class Sections(unittest.TestCase):
