@@ -1,4 +1,4 @@
-/* The job of crates/inp_turn_bench in plain C: threads that make steps on one device, or on a device each.
+/* The job of crates/bench_turn in plain C: threads that make steps on one device, or on a device each.
  *
  * usage: plain_turn mutex|spin THREADS DEVICES STEPS
  *

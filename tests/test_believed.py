@@ -205,7 +205,7 @@ class Believed(FolderCase):
         came = self.small("--write")
         line = "bench/believed: docs/PROMISES.md has not both marks of what is written there\n"
         self.assertEqual((2, "", line), (came.returncode, came.stdout, came.stderr))
-        marks = re.findall(r"^<!-- .* -->$", (TOP / "docs" / "PROMISES.md").read_text(), re.M)
+        marks = re.findall(r"^<!-- .* bench/believed .*-->$", (TOP / "docs" / "PROMISES.md").read_text(), re.M)
         self.write("docs/PROMISES.md", "\n".join(["Page", marks[0], "old", marks[1], "end"]))
         self.assertEqual(0, self.small("--write").returncode)
         table = self.small("--page").stdout

@@ -10,7 +10,7 @@ SCRIPT = TOP / "bench" / "counts"
 
 # Each line of code has the mark `code` behind it, and each for the prover `prover`; they are not written.
 FILES = {
-    "crates.txt": "# a crate, and its tests\none:\none_tests: one\n",
+    "crates.txt": "# a crate, and its tests\none:\ntests_one: one\n",
     "crates/one/src/lib.rt": """\
 //! A comment.
 ghost use Rattle.std.specs.Prelude.{◌≡◌}; // prover
@@ -54,7 +54,7 @@ fn plain(byte: u8) { // code
     "crates/one/proofs/plain/Proof.antt": "one\n-- two\n" + 30 * "three\n",
     "crates/one/proofs/Lib.antt": "mod Plain\n",
     "crates/one/must-fail/wrong.edit": "file: src/lib.rt\n",
-    "crates/one_tests/src/lib.rt": "fn helper() -> u8 {\n    1\n}\n\n#[test]\nfn two() {}\n",
+    "crates/tests_one/src/lib.rt": "fn helper() -> u8 {\n    1\n}\n\n#[test]\nfn two() {}\n",
     "examples/a.rec": "",
     "tests/records/b.rec": "",
     "tests/records/c.rec": "",

@@ -17,7 +17,7 @@ lib) test "$(basename "$PWD")" != "$FAILS" || { echo 'error: it is not proved'; 
 try) echo 'device d steps 0'; echo 'run=ended status=0 runners=1 proved=no' >&2;;
 esac
 """
-CRATES = "# the crates\nlow:\nmiddle: low bitflags\naside: low\nother_tests: middle\ninp_main: middle aside\nhigh: inp_main\n"
+CRATES = "# the crates\nlow:\nmiddle: low bitflags\naside: low\ntests_other: middle\ninp_main: middle aside\nhigh: inp_main\n"
 
 
 class TreeCase(DeskCase):
@@ -119,7 +119,7 @@ class Inputplay(TreeCase):
         self.assertEqual({"low": [], "middle": ["low"], "aside": ["low"], "inp_main": ["middle", "aside"]}, needed_crates(CRATES))
         crates = needed_crates((TOP / "crates.txt").read_text())
         self.assertEqual("inp_main", list(crates)[-1])
-        self.assertFalse([name for name in crates if name.endswith("_tests") or name == "inp_turn_bench"])
+        self.assertFalse([name for name in crates if name.startswith("tests_") or name == "bench_turn"])
 
     def test_the_record_among_the_words(self):
         self.assertEqual(("f", ["--history"]), file_of(["--history", "f"]))

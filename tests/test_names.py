@@ -441,14 +441,15 @@ class Sections(unittest.TestCase):
                 self.assertIn(name, sections(page), page.name)
 
     def test_the_contents_of_the_rules_are_their_sections(self):
-        for page in (TOP / "docs" / "RULES.md", TOP / "docs" / "READER.md"):
+        for page in (TOP / "docs" / f"{name}.md" for name in ("RULES", "READER", "RUNS")):
             links = re.findall(r"\[([^\]]+)\]\(#([^)]+)\)", page.read_text())
             self.assertEqual([(name, anchor(name)) for name in sections(page)], links, page.name)
 
-    def test_what_the_rules_say_of_readers_leads_there(self):
+    def test_what_the_rules_say_of_readers_and_runs_leads_there(self):
         rules = (TOP / "docs" / "RULES.md").read_text()
-        led = re.findall(r"\[([^\]]+)\]\(READER\.md#([^)]+)\)", rules)
-        self.assertEqual([(name, anchor(name)) for name in sections(TOP / "docs" / "READER.md")], led)
+        for page in ("READER", "RUNS"):
+            led = re.findall(rf"\[([^\]]+)\]\({page}\.md#([^)]+)\)", rules)
+            self.assertEqual([(name, anchor(name)) for name in sections(TOP / "docs" / f"{page}.md")], led)
 
     def test_what_it_finds_in_a_comment(self):
         comment = '-- one (docs/RULES.md,\n-- "Queries" and\n-- "What a\n-- device has"); `docs/FORMATS.md`, "Words"'

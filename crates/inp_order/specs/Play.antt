@@ -1,5 +1,5 @@
 -- What comes of a record whose lines are done in file order, each device answering on one list of steps
--- (docs/READER.md, "Playing a record").
+-- (docs/RUNS.md, "Playing a record").
 use Rattle.std.specs.Prelude.{◌≡◌, ℕ, List, [], ◌∷◌, map, filter, reverse, slice_get, slice_set, slice_index_or, Option, Some, None, option_map, option_and_then}
 use Rattle.std.specs.List.{enumerate_from}
 use Rattle.inp_model.specs.declared.step.Step.{Step}

@@ -1,4 +1,4 @@
--- What it means that an actor did all its lines of a record (docs/READER.md, "Playing a record").
+-- What it means that an actor did all its lines of a record (docs/RUNS.md, "Playing a record").
 use Rattle.std.specs.Prelude.{◌≡◌, ◌⊎◌, ℕ, true, false, nat_eq, Option, Some, slice_get}
 use Rattle.inp_model.specs.Evdev.{EvdevView}
 use Rattle.inp_actors.specs.declared.line.Line.{Line}

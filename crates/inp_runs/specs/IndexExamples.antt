@@ -1,4 +1,4 @@
--- Which event of its client a job took last, on a short sight that was worked out by hand (docs/READER.md, "What a sight
+-- Which event of its client a job took last, on a short sight that was worked out by hand (docs/RUNS.md, "What a sight
 -- tells of the device").
 use Rattle.std.specs.Prelude.{◌+◌, ◌≡◌, List, [], ◌∷◌, ◌++◌, length, take, Some, None}
 use Rattle.inp_model.specs.declared.taken.Taken.{Taken}

@@ -1,4 +1,4 @@
--- What a job's view is at each report that it took (docs/READER.md, "What a sight tells of the device").
+-- What a job's view is at each report that it took (docs/RUNS.md, "What a sight tells of the device").
 use Rattle.std.specs.Prelude.{ℕ, suc, ◌+◌, ◌-◌, ◌≡◌, ◌<◌, pos, Bool, true, false, ◌&&◌, if◌then◌else◌, nat_eq, List, [], ◌∷◌, length, map, take, reverse, slice_get, slice_index_or, Option, Some, None, option_map}
 use Rattle.inp_model.specs.declared.taken.Taken.{Taken}
 use Rattle.inp_model.specs.declared.step.Step.{Step}

@@ -8,7 +8,7 @@
 //! Its contract is a definition, `ArePromised` (`specs/Job.antt`), and what follows from it. Of each device there is
 //! one history in which each job's replies are the one-thread device's at their places, each sight, the joysticks' too,
 //! follows its lines, and each place is one accepted call of one job; `specs/Losses.antt` and `specs/JobViews.antt` say
-//! why a job lost events, and what its view is at each report. `docs/READER.md`, "Playing a record", has all parts. So
+//! why a job lost events, and what its view is at each report. `docs/RUNS.md`, "Playing a record", has all parts. So
 //! a job's view at a report is the device's state at that frame's end where its client could follow
 //! ([`jobs_show_the_device`]). [`indices_on_a_short_sight`] shows the indices of equal events on a short sight. A
 //! joystick's job has a picture in place of a view: what its records make.

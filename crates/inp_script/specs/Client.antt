@@ -1,4 +1,4 @@
--- What the lines of clients do, which read by a reader (docs/READER.md, "Jobs" and "Waiting").
+-- What the lines of clients do, which read by a reader (docs/RUNS.md, "Jobs" and "Waiting").
 use Rattle.std.specs.Prelude.{ℕ, zero, suc, ◌-◌, Bool, true, false, if◌then◌else◌, nat_eq, nat_lt, nat_le, List, [], ◌∷◌, ◌++◌, Option, Some, None}
 use Rattle.inp_model.specs.Description.{Description}
 use Rattle.inp_actors.specs.declared.command.Command.{Command}

@@ -1,4 +1,4 @@
--- What it means that a line was done (docs/READER.md, "Jobs").
+-- What it means that a line was done (docs/RUNS.md, "Jobs").
 use Rattle.std.specs.Prelude.{◌≡◌, ◌<◌, ◌≤◌, ℕ, Bool, ◌&&◌, nat_eq, true, List, length, Option, Some, None, slice_get}
 use Rattle.std.specs.List.{count_by}
 use Rattle.inp_model.specs.declared.stamped.Stamped.{Stamped}

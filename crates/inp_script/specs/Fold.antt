@@ -1,5 +1,5 @@
 -- What a sight says that the device is: the fold of the answers and the events that it tells of, over the history of the
--- device, which holds what a synchronisation of slots wrote (docs/READER.md, "What a sight tells of the device").
+-- device, which holds what a synchronisation of slots wrote (docs/RUNS.md, "What a sight tells of the device").
 use Rattle.std.specs.Prelude.{◌≡◌, if◌then◌else◌, List, [], ◌∷◌}
 use Rattle.inp_model.specs.declared.taken.Taken.{Taken}
 use Rattle.inp_model.specs.declared.step.Step.{Step}

@@ -1,4 +1,4 @@
--- What the lines of joysticks do (docs/READER.md, "Jobs", and docs/RULES.md, "Joystick clients").
+-- What the lines of joysticks do (docs/RUNS.md, "Jobs", and docs/RULES.md, "Joystick clients").
 use Rattle.std.specs.Prelude.{ℕ, zero, suc, List, [], ◌∷◌, ◌++◌, Option, Some, None}
 use Rattle.inp_model.specs.Description.{Description}
 use Rattle.inp_actors.specs.declared.command.Command.{Command}

@@ -1,4 +1,4 @@
--- How what a job saw stands to the history of its device (docs/READER.md, "What a job sees").
+-- How what a job saw stands to the history of its device (docs/RUNS.md, "What a job sees").
 use Rattle.std.specs.Prelude.{◌≡◌, ℕ, ◌+◌, ◌-◌, ◌^◌, ◌≤◌, ◌⊎◌, Bool, true, false, List, [], ◌∷◌, ◌++◌, filter, None, Some}
 use Rattle.inp_model.specs.declared.step.Step.{Step}
 use Rattle.inp_model.specs.Description.{Description}

@@ -1,4 +1,4 @@
--- What the lines of sources and taps do, and the single calls of clients (docs/READER.md, "Jobs").
+-- What the lines of sources and taps do, and the single calls of clients (docs/RUNS.md, "Jobs").
 use Rattle.std.specs.Prelude.{ℕ, zero, suc, if◌then◌else◌, List, [], ◌∷◌, ◌++◌, map, Option, Some, None}
 use Rattle.inp_model.specs.declared.stamped.Stamped.{Stamped}
 use Rattle.inp_model.specs.declared.event.Event.{Event}

@@ -1,4 +1,4 @@
--- What the lines of owners do (docs/READER.md, "Jobs", and docs/RULES.md, "Devices made by requests").
+-- What the lines of owners do (docs/RUNS.md, "Jobs", and docs/RULES.md, "Devices made by requests").
 use Rattle.std.specs.Prelude.{◌≡◌, ℕ, ◌⊎◌, List, [], ◌∷◌, ◌++◌, map, Option, Some, None}
 use Rattle.inp_model.specs.declared.event.Event.{Event}
 use Rattle.inp_feedback.specs.declared.fed.Fed.{Fed}

@@ -1,4 +1,4 @@
--- What calls add to the sight of a job (docs/READER.md, "What a job sees").
+-- What calls add to the sight of a job (docs/RUNS.md, "What a job sees").
 use Rattle.std.specs.Prelude.{Bool, true, false, if◌then◌else◌, List, [], ◌∷◌, ◌++◌, map, Option, Some, None}
 use Rattle.inp_model.specs.declared.taken.Taken.{Taken}
 use Rattle.inp_model.specs.declared.step.Step.{Step}
