@@ -76,7 +76,7 @@ few_with : (b : Bool) (n m : ℕ) (some all : List ℕ) → times n some ≤ tim
 few_with true n m some all few = omega (arith, few)
 few_with false n m some all few = omega (arith, few)
 
-admitted_few : (masks : MaskView) (frame : List Event) (given : List ℕ) (n : ℕ) → times n (admitted_numbers masks frame given) ≤ times n given
+pub admitted_few : (masks : MaskView) (frame : List Event) (given : List ℕ) (n : ℕ) → times n (admitted_numbers masks frame given) ≤ times n given
 admitted_few masks [] given n = omega arith
 admitted_few masks (e ∷ frame) [] n = omega arith
 admitted_few masks (e ∷ frame) (m ∷ given) n = few_with (admits_of masks e) n m (admitted_numbers masks frame given) given (admitted_few masks frame given n)
@@ -137,10 +137,10 @@ module _ (frame : List Event) (now place : ℕ) (holder : Option ℕ) (given : L
       one_more c cs o n (all_of os) (all_of ns) (each 0 (omega arith)) (losses_of cs os ns (omega (arith, a)) (omega (arith, b)) (λ i in_i. each (suc i) (omega (arith, in_i))))
 
 -- The different numbers grow by one at most for each event of the frame, and for each client that lost its queue.
-pub stored_few : {frame : List Event} {now place : ℕ} {holder : Option ℕ} (old new : ClientsView) → length old.rings ≡ length old.list → length new.rings ≡ length old.list → IsStoredOnce frame now place holder old new
+pub stored_few : {frame : List Event} {now place : ℕ} {holder : Option ℕ} (old new : ClientsView) → IsStoredOnce frame now place holder old new
     → stored_of new ≤ stored_of old + length frame + count_by (loses frame now place holder) old.list
-stored_few {frame} {now} {place} {holder} old new a b is =
-    let losses = losses_of frame now place holder is.given old.list old.rings new.rings a b is.each in
+stored_few {frame} {now} {place} {holder} old new is =
+    let losses = losses_of frame now place holder is.given old.list old.rings new.rings is.rings.0 is.rings.1 is.each in
     omega (
       arith,
       distinct_few (held_numbers new) (distinct (held_numbers old) ++ (is.given ++ losses.losses)) (λ n there. in_all n there),
@@ -150,9 +150,9 @@ stored_few {frame} {now} {place} {holder} old new a b is =
       losses.long,
     )
   where
-    in_all : (n : ℕ) → 1 ≤ times n (held_numbers new) → 1 ≤ times n (distinct (held_numbers old) ++ (is.given ++ (losses_of frame now place holder is.given old.list old.rings new.rings a b is.each).losses))
+    in_all : (n : ℕ) → 1 ≤ times n (held_numbers new) → 1 ≤ times n (distinct (held_numbers old) ++ (is.given ++ (losses_of frame now place holder is.given old.list old.rings new.rings is.rings.0 is.rings.1 is.each).losses))
     in_all n there =
-        let losses = losses_of frame now place holder is.given old.list old.rings new.rings a b is.each in
+        let losses = losses_of frame now place holder is.given old.list old.rings new.rings is.rings.0 is.rings.1 is.each in
         let parts : times n (distinct (held_numbers old) ++ (is.given ++ losses.losses)) ≡ times n (distinct (held_numbers old)) + (times n is.given + times n losses.losses) =
         omega (arith, times-append n (distinct (held_numbers old)) (is.given ++ losses.losses), times-append n is.given losses.losses) in
         elim (cases_lt 0 (times n (held_numbers old))) [

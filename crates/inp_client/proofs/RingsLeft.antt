@@ -84,6 +84,7 @@ module _ {frame : List Event} {now place : ℕ} {holder : Option ℕ} (k : Insid
   once_after_offer = record {
     given = have.given;
     long = have.long;
+    rings = (long_rings k.slab ∙ sym long_list, long_rings slab ∙ sym long_list);
     each = λ i in_i.
         let within : i < length k.locations.items = omega (arith, in_i, long_list) in
         let P : ClientView Cell → List ℕ → List ℕ → Type 0 = λ c old new. IsPutBehind (admitted_numbers c.masks frame have.given) (loses frame now place holder c) old new in
@@ -93,12 +94,16 @@ module _ {frame : List Event} {now place : ℕ} {holder : Option ℕ} (k : Insid
   }
 
   pub stored_after_offer : stored_of (kept_view next) ≤ stored_of (kept_view k) + length frame + count_by (loses frame now place holder) (kept_view k).list
-  stored_after_offer = stored_few (kept_view k) (kept_view next) (long_rings k.slab ∙ sym long_list) (long_rings slab ∙ sym long_list) once_after_offer
+  stored_after_offer = stored_few (kept_view k) (kept_view next) once_after_offer
 
 -- where no client is open nothing is put
 pub once_none : (frame : List Event) (now place : ℕ) (holder : Option ℕ) (k : Inside) → length k.locations.items ≡ 0 → IsStoredOnce frame now place holder (kept_view k) (kept_view k)
 once_none frame now place holder k none = record {
   given = map (λ (e : Event). 0) frame;
   long = length-map frame (λ (e : Event). 0);
+  rings = (of_members, of_members);
   each = λ i in_i. absurd (omega (arith, in_i, none, length-map (clients_in k.locations.items k.slab) (client_in k.store), length-map k.locations.items (λ at. client_at k.slab at.key)));
 }
+  where
+    of_members : length (kept_view k).rings ≡ length (kept_view k).list
+    of_members = length-map (clients_in k.locations.items k.slab) (λ (m : Member). m.ring.events) ∙ sym (length-map (clients_in k.locations.items k.slab) (client_in k.store))

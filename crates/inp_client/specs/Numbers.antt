@@ -59,6 +59,8 @@ pub record IsPutBehind (given : List ℕ) (is_lost : Bool) (old new : List ℕ) 
 pub record IsStoredOnce (frame : List Event) (now place : ℕ) (holder : Option ℕ) (old new : ClientsView) : Type 0 where
   pub given : List ℕ
   pub long : length given ≡ length frame
+  -- each client has its ring, before and after
+  pub rings : (length old.rings ≡ length old.list) × (length new.rings ≡ length old.list)
   pub each : (i : ℕ) → i < length old.list
       → let c = get_or old.list i (new_client 0 0) in
       IsPutBehind (admitted_numbers c.masks frame given) (loses frame now place holder c) (get_or old.rings i []) (get_or new.rings i [])

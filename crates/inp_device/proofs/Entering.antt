@@ -18,7 +18,9 @@ use Rattle.inp_model.specs.Reply.{Answer, alone, answer_by, answer, refused, acc
 use Rattle.inp_model.specs.History.{IsHistory}
 use Rattle.inp_model.proofs.Refused.{refused-not_accepted}
 use Rattle.inp_device.specs.declared.present.Present.{Present}
-use Rattle.inp_device.specs.Present.{PresentStandsFor, IsReadyFor, IsAcceptedStep, IsMadeOrLacks, IsKeptWith}
+use Rattle.inp_client.specs.Numbers.{stored_of}
+use Rattle.inp_device.specs.Device.{StoringView, stored_most}
+use Rattle.inp_device.specs.Present.{PresentStandsFor, IsReadyFor, IsAcceptedStep, IsMadeOrLacks, StoresFew, IsKeptWith}
 use Rattle.inp_model.proofs.Allowed.{allowed}
 
 -- Refused
@@ -173,3 +175,20 @@ lacks_kept old new steps now capacity x e out new_out cells new_cells kept same 
       room = omega (arith, kept.room, limit);
       range = omega (arith, kept.range, limit);
     }
+
+-- How many events are kept then
+
+-- what a call added, seen as the device is seen
+pub device_stored : (old lent new : Present) (steps now : List Step) (agains : ℕ) (v : StoringView) (x : Step)
+    → (let seen : StoringView = record { description = old.caps; past = reverse steps; agains = agains; stored = stored_of old.handler.clients } in seen ≡ v) → lent ≡ old → now ≡ steps → StoresFew now x lent new
+    → stored_of new.handler.clients ≤ v.stored + stored_most v.description v.past x
+device_stored old lent new steps now agains v x view lends same few =
+    subst (λ (w : StoringView). stored_of new.handler.clients ≤ w.stored + stored_most w.description w.past x) view
+    (subst (λ (ss : List Step). stored_of new.handler.clients ≤ stored_of old.handler.clients + stored_most old.caps (reverse ss) x) same
+    (subst (λ (p : Present). stored_of new.handler.clients ≤ stored_of p.handler.clients + stored_most p.caps (reverse now) x) lends few))
+
+-- as many as before
+pub device_stored_same : (old lent new : Present) (steps : List Step) (agains : ℕ) (v : StoringView)
+    → (let seen : StoringView = record { description = old.caps; past = reverse steps; agains = agains; stored = stored_of old.handler.clients } in seen ≡ v) → lent ≡ old
+    → stored_of new.handler.clients ≡ stored_of lent.handler.clients → stored_of new.handler.clients ≡ v.stored
+device_stored_same old lent new steps agains v view lends same = same ∙ ap (λ (p : Present). stored_of p.handler.clients) lends ∙ ap (λ (w : StoringView). w.stored) view

@@ -6,6 +6,7 @@ pub mod BitKinds
 pub mod Masks
 pub mod MaskWords
 pub mod Named
+pub mod Growing
 pub mod Offers
 pub mod Calls
 pub mod Passing

@@ -1,6 +1,6 @@
 -- What a step leaves, from what its parts leave.
 use Rattle.std.proofs.Common.{◌≡◌, ◌≢◌, ℕ, suc, ◌+◌, ◌<◌, ◌≤◌, min, Bool, true, false, ◌&&◌, not, if◌then◌else◌, nat_eq, nat_le, List, [], ◌∷◌, ◌++◌, length, map, take, reverse, refl, sym, ap, subst, ◌∙◌, ℤ, arith, inl, inr, Some, None}
-use Rattle.std.specs.Prelude.{Result, Ok, Err, IsOk, OnOk, IsNone, IsTrue, is_some}
+use Rattle.std.specs.Prelude.{Result, Ok, Err, IsOk, OnOk, IsNone, IsTrue, is_some, count_by}
 use Rattle.std.proofs.lemmas.Bool.Decides.{nat_tests}
 use Rattle.std.proofs.lemmas.List.Elements.{All-map}
 use Rattle.std.proofs.lemmas.List.{length-reverse, length-map, take-map, length-take}
@@ -33,17 +33,19 @@ use Rattle.inp_ring.specs.declared.cell.Cell.{Cell}
 use Rattle.inp_ring.specs.Store.{event_of_cell}
 use Rattle.inp_filter.specs.FilterState.{FiltersStandFor}
 use Rattle.inp_client.specs.Client.{ClientView, new_client, after_take, after_flush}
-use Rattle.inp_client.specs.Clients.{has_client, has_revoked_client, events_of, map_client, with_client}
+use Rattle.inp_client.specs.Clients.{ClientsView, has_client, has_revoked_client, events_of, map_client, with_client}
+use Rattle.inp_client.specs.Numbers.{stored_of}
 use Rattle.inp_client.specs.Read.{taken_event, client_on, clients_on}
 use Rattle.inp_client.proofs.OnClock.{clients_on-map_client, has_client-on, has_revoked_client-on, visible-on_clock, length-on, with_client-on}
 use Rattle.inp_client.proofs.ClientLists.{AllBelow, unused_above, with_client_above}
+use Rattle.inp_device.specs.Device.{StoringView, is_lost_at, offered_count}
 use Rattle.inp_device.specs.Present.{client_after, clients_after, HasBits, AsksBits, PresentStandsFor, IsReadyFor, IsAcceptedStep}
 use Rattle.inp_model.proofs.Opens.{opens-le}
 use Rattle.inp_device.proofs.Queues.{visible-map}
 use Rattle.inp_model.proofs.Allowed.{allowed, named_open}
 use Rattle.inp_device.proofs.Calls.{makes_events, leaves_clients, has_client-after, has_revoked_client-after, events_of-after, clients_after-read, clients_after-discard, clients_after-query, clients_after-open, clients_after-left}
 use Rattle.inp_device.proofs.Passing.{takes, filters-left}
-use Rattle.inp_device.proofs.StandsAfterStep.{leaves_grab, stands_called, stands_framed, holder-keeps, opens-keeps, opens-open, ends-keeps, ends-end, ends-le, handler_stands, no_holder, own_grab, holder-grab, holder-ungrab}
+use Rattle.inp_device.proofs.StandsAfterStep.{leaves_grab, stands_called, stands_framed, stored_framed, holder-keeps, opens-keeps, opens-open, ends-keeps, ends-end, ends-le, handler_stands, no_holder, own_grab, holder-grab, holder-ungrab}
 
 -- the clients that are kept, with what they read of their cells
 abbrev pub shown : Present → List (ClientView Taken)
@@ -119,6 +121,15 @@ made_frames history x old new begun reply ready makes e r begins entered made ca
     (stands_framed old.caps (reverse history) x old new begun ready.stands (allowed old.caps (reverse history) x ready.allowed) makes
     (begins ∙ ap (λ (n : ℕ). record old.handler { place = n; holder = old.handles.holder }) (sym (length-reverse history)))
     entered made caps handles opened ended grab opening ending)
+
+-- how many events are kept then
+pub stored_frames : (history : List Step) (x : Step) (old new : Present) (begun : Handler) → IsReadyFor history x old
+    → begun ≡ record old.handler { place = length history; holder = old.handles.holder } → IsEntered old.caps (reverse history) x new.core takes begun new.handler → PresentStandsFor old.caps (x ∷ reverse history) new
+    → stored_of new.handler.clients ≤ stored_of old.handler.clients + (offered_count old.caps (reverse history) x + count_by (is_lost_at old.caps (reverse history) x) (open_clients (x ∷ reverse history)))
+stored_frames history x old new begun ready begins entered stands =
+    stored_framed old.caps (reverse history) x old new begun ready.stands
+    (begins ∙ ap (λ (n : ℕ). record old.handler { place = n; holder = old.handles.holder }) (sym (length-reverse history)))
+    entered stands
 
 -- a step that changes the core alone, and ends no frame
 pub stands_in_core : (history : List Step) (x : Step) (old new : Present) → IsReadyFor history x old → leaves_clients x ≡ true → leaves_grab x ≡ true → is_open_step x ≡ false → is_end_step x ≡ false
@@ -425,7 +436,7 @@ stands_first d p caps core made handler grab opened ended = record {
   made = made;
   handler = record {
     caps = handler.caps;
-    clients = ap (clients_on d) handler.clients;
+    clients = ap (λ (v : ClientsView). clients_on d v.list) handler.clients;
     filters = handler.filters;
     masks = λ client kind index h. refl;
     fresh = λ client h. record { bits = λ kind index. refl; clock = refl; revoked = refl };
@@ -434,3 +445,8 @@ stands_first d p caps core made handler grab opened ended = record {
   opens = opened;
   ends = ended;
 }
+
+-- what is seen of the device then
+pub first_value : (p : Present) (d : Description) (steps : List Step) → p.caps ≡ d → steps ≡ [] → stored_of p.handler.clients ≡ 0
+    → (let seen : StoringView = record { description = p.caps; past = reverse steps; agains = 0; stored = stored_of p.handler.clients } in seen ≡ record { description = d; past = []; agains = 0; stored = 0 })
+first_value p d steps caps none stored = λ i. record { description = caps i; past = reverse (none i); agains = 0; stored = stored i }

@@ -1,6 +1,7 @@
 -- The frames of a step that were passed to the handler: what came to the filters, and what was offered of them.
-use Rattle.std.proofs.Common.{◌≡◌, ℕ, Bool, true, false, if◌then◌else◌, List, [], ◌∷◌, length, map, refl, sym, ap, ◌∙◌, subst, Option, Some, None}
-use Rattle.std.specs.Prelude.{is_some}
+use Rattle.std.proofs.Common.{◌≡◌, ◌⊎◌, ℕ, ◌+◌, Bool, true, false, if◌then◌else◌, List, [], ◌∷◌, length, map, refl, sym, ap, ◌∙◌, subst, Option, Some, None, inl, inr, arith}
+use Rattle.std.specs.Prelude.{is_some, sum_by}
+use Rattle.std.proofs.lemmas.List.Sums.{sum_by-cons}
 use Rattle.inp_model.specs.declared.event.Event.{Event}
 use Rattle.inp_model.specs.declared.taken.Taken.{Taken}
 use Rattle.inp_model.specs.declared.step.Step.{Step}
@@ -21,11 +22,14 @@ use Rattle.inp_filter.proofs.GivenBefore.{AreGiven, all_given}
 use Rattle.inp_frames.specs.Frames.{TakesAll}
 use Rattle.inp_frames.proofs.Keeping.{makes_no_events}
 use Rattle.inp_client.specs.Client.{ClientView, after_offer}
+use Rattle.inp_client.specs.Clients.{ClientsView}
 use Rattle.inp_client.specs.Read.{clients_on, read_after_offer}
 use Rattle.inp_client.proofs.OnClock.{clients_on-map, on_offer}
 use Rattle.inp_device.specs.declared.handler.Handler.{Handler}
 use Rattle.inp_device.specs.FrameFilters.{FilterView}
+use Rattle.inp_device.specs.Device.{offered_count}
 use Rattle.inp_device.specs.Handler.{IsAfterFrame, offered_of, given_with}
+use Rattle.inp_device.proofs.Growing.{AreGrown, grown_by_frame, are_grown_then, grown_more}
 use Rattle.inp_device.proofs.Offers.{after_offers}
 use Rattle.inp_device.proofs.Calls.{makes_events, leaves_clients}
 
@@ -122,21 +126,34 @@ record IsBegun (d : Description) (past : List Step) (given : List Timed) (h : Ha
   holder_is : h.holder ≡ holder past
   filters : FiltersStandFor d.filters given h.filters.kept
 
+-- how many events are left of these frames of a step
+abbrev left_count : Description → List Step → Step → List Cut → ℕ
+left_count d past x cs = sum_by (λ (f : Frame). length (left (eaten d) f)) (map (frame_of past x) cs)
+
 -- these frames of a step came to the filters, and what is left of them was offered
 record AreOffered (d : Description) (past : List Step) (x : Step) (given : List Timed) (cs : List Cut) (old new : Handler) : Type 0 where
   clients : clients_on d new.clients.list ≡ map (after_offers d (map (frame_of past x) cs)) (clients_on d old.clients.list)
+  grown : (new.clients ≡ old.clients) ⊎ AreGrown (left_count d past x cs) (length past) old.clients new.clients
   filters : FiltersStandFor d.filters (given_of (holder past) (moment_of x) given cs) new.filters.kept
   caps : new.caps ≡ old.caps
 
 -- one frame
 module _ (d : Description) (past : List Step) (x : Step) (given : List Timed) (c : Cut) (old mid : Handler) (begun : IsBegun d past given old) (same : holder past ≡ None → given_before d (frame_of past x c) ≡ given) (first : IsAfterFrame old c.events (moment_of x) mid) where
+  offered_is : offered_of old.holder d.filters (moment_of x) given c.events ≡ left (eaten d) (frame_of past x c)
+  offered_is = ap (λ o. offered_of o d.filters (moment_of x) given c.events) begun.holder_is ∙ offered-left d past x c given (holder past) refl same
+
+  first_grown : AreGrown (length (left (eaten d) (frame_of past x c))) (length past) old.clients mid.clients
+  first_grown =
+      subst (λ (es : List Event). AreGrown (length es) (length past) old.clients mid.clients) offered_is
+      (subst (λ (at : ℕ). AreGrown (length (offered_of old.holder d.filters (moment_of x) given c.events)) at old.clients mid.clients) begun.place
+      (grown_by_frame (offered_of old.holder d.filters (moment_of x) given c.events) (moment_of x) old.place old.holder old.clients mid.clients
+      (first.clients d.filters given begun.filters) (first.once d.filters given begun.filters)))
+
   first_offered : clients_on d mid.clients.list ≡ map (read_after_offer d (left (eaten d) (frame_of past x c)) (moment_of x) (length past) (holder past)) (clients_on d old.clients.list)
   first_offered =
       let now : ℕ = moment_of x in
-      let is : offered_of old.holder d.filters now given c.events ≡ left (eaten d) (frame_of past x c) =
-      ap (λ o. offered_of o d.filters now given c.events) begun.holder_is ∙ offered-left d past x c given (holder past) refl same in
       ap (clients_on d) (first.clients d.filters given begun.filters)
-      ∙ ap (λ (es : List Event). clients_on d (map (after_offer es now old.place old.holder) old.clients.list)) is
+      ∙ ap (λ (es : List Event). clients_on d (map (after_offer es now old.place old.holder) old.clients.list)) offered_is
       ∙ ap (λ (at : ℕ). clients_on d (map (after_offer (left (eaten d) (frame_of past x c)) now at old.holder) old.clients.list)) begun.place
       ∙ ap (λ (o : Option ℕ). clients_on d (map (after_offer (left (eaten d) (frame_of past x c)) now (length past) o) old.clients.list)) begun.holder_is
       ∙ clients_on-map d (after_offer (left (eaten d) (frame_of past x c)) now (length past) (holder past)) (read_after_offer d (left (eaten d) (frame_of past x c)) now (length past) (holder past)) (on_offer d (left (eaten d) (frame_of past x c)) now (length past) (holder past)) old.clients.list
@@ -153,9 +170,20 @@ next_given : (d : Description) (past : List Step) (x : Step) (given : List Timed
 next_given d past x given c cs None are h = (are refl).1
 next_given d past x given c cs (Some client) are h = absurd (cc h)
 
+-- by one frame and then by the others
+frames_grown : (d : Description) (past : List Step) (x : Step) (c : Cut) (cs : List Cut) (old mid new : ClientsView) → AreGrown (length (left (eaten d) (frame_of past x c))) (length past) old mid
+    → (new ≡ mid) ⊎ AreGrown (left_count d past x cs) (length past) mid new → AreGrown (left_count d past x (c ∷ cs)) (length past) old new
+frames_grown d past x c cs old mid new first rest =
+    let sum : left_count d past x (c ∷ cs) ≡ length (left (eaten d) (frame_of past x c)) + left_count d past x cs = sum_by-cons (λ (f : Frame). length (left (eaten d) f)) (frame_of past x c) (map (frame_of past x) cs) in
+    elim rest [
+      | inl same ↦ grown_more (length (left (eaten d) (frame_of past x c))) (left_count d past x (c ∷ cs)) (length past) old new (omega (arith, sum)) (subst (λ (v : ClientsView). AreGrown (length (left (eaten d) (frame_of past x c))) (length past) old v) (sym same) first)
+      | inr more ↦ subst (λ (n : ℕ). AreGrown n (length past) old new) (sym sum) (are_grown_then (length (left (eaten d) (frame_of past x c))) (left_count d past x cs) (length past) old mid new first more)
+    ]
+
 took_all : (d : Description) (past : List Step) (x : Step) (given : List Timed) (cs : List Cut) (old new : Handler) → IsBegun d past given old → (holder past ≡ None → AreGiven d past x cs given) → TakesAll takes (moment_of x) cs old new → AreOffered d past x given cs old new
 took_all d past x given [] old new begun are took = record {
   clients = ap (λ (h : Handler). clients_on d h.clients.list) took ∙ sym (map_id (clients_on d old.clients.list));
+  grown = inl (ap (λ (h : Handler). h.clients) took);
   filters = subst (λ (h : Handler). FiltersStandFor d.filters given h.filters.kept) (sym took) begun.filters;
   caps = ap (λ (h : Handler). h.caps) took;
 }
@@ -167,6 +195,7 @@ took_all d past x given (c ∷ cs) old new begun are took =
       clients = rest.clients
           ∙ ap (map (after_offers d (map (frame_of past x) cs))) first
           ∙ map_map (after_offers d (map (frame_of past x) cs)) (read_after_offer d (left (eaten d) f) (moment_of x) (length past) (holder past)) (clients_on d old.clients.list);
+      grown = inr (frames_grown d past x c cs old.clients took.0.clients new.clients (first_grown d past x given c old took.0 begun (λ h. (are h).0) took.1) rest.grown);
       filters = rest.filters;
       caps = rest.caps ∙ took.1.caps;
     }
@@ -174,6 +203,7 @@ took_all d past x given (c ∷ cs) old new begun are took =
 -- all frames of a step
 pub record IsPassed (d : Description) (past : List Step) (x : Step) (old new : Handler) : Type 0 where
   pub clients : clients_on d new.clients.list ≡ map (after_offers d (frames_of_step d past x)) (clients_on d old.clients.list)
+  pub grown : (new.clients ≡ old.clients) ⊎ AreGrown (offered_count d past x) (length past) old.clients new.clients
   pub filters : FiltersStandFor d.filters (given_in d (x ∷ past)) new.filters.kept
   pub caps : new.caps ≡ old.caps
 
@@ -183,6 +213,7 @@ passed_all d past x old new place held was took =
     let all = took_all d past x (given_in d past) (cuts_of_step d past x) old new (record { place = place; holder_is = held; filters = was }) (λ h. all_given d past x) took in
     record {
       clients = all.clients;
+      grown = all.grown;
       filters = subst (λ (given : List Timed). FiltersStandFor d.filters given new.filters.kept) (given_of-step d past x (holder past)) all.filters;
       caps = all.caps;
     }

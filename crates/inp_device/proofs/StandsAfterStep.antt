@@ -1,15 +1,19 @@
 -- What is kept stands for the past with one step more.
-use Rattle.std.proofs.Common.{◌≡◌, ℕ, suc, ◌<◌, ◌≤◌, ◌/◌, ◌%◌, ◌==◌, Bool, true, false, ◌&&◌, if◌then◌else◌, nat_eq, List, [], ◌∷◌, length, map, refl, sym, ap, subst, ◌∙◌, arith, Option, Some, None, is_some}
-use Rattle.std.specs.Prelude.{unwrap_or}
+use Rattle.std.proofs.Common.{◌≡◌, ◌⊎◌, ℕ, suc, ◌+◌, ◌<◌, ◌≤◌, ◌/◌, ◌%◌, ◌==◌, Bool, true, false, ◌&&◌, ◌||◌, if◌then◌else◌, nat_eq, List, [], ◌∷◌, length, map, refl, sym, ap, subst, ◌∙◌, arith, inl, inr, Option, Some, None, is_some}
+use Rattle.std.specs.Prelude.{unwrap_or, count_by}
+use Rattle.std.specs.List.{list_any}
+use Rattle.std.proofs.lemmas.List.Sums.{sum_by-cons}
 use Rattle.std.specs.Int.{bit_at}
 use Rattle.std.proofs.lemmas.Bool.{not-false}
 use Rattle.std.proofs.lemmas.Bool.Decides.{nat_tests}
+use Rattle.inp_model.specs.declared.taken.Taken.{Taken}
 use Rattle.inp_model.specs.declared.step.Step.{Step}
 use Rattle.inp_model.specs.declared.step.Step.TheVariants.{Open, Close, Grab, Ungrab, Mask, Clock as ToClock, Revoke, End}
-use Rattle.inp_model.specs.Description.{Description}
+use Rattle.inp_model.specs.Description.{Description, offset}
 use Rattle.inp_model.specs.Step.{is_open_step, is_end_step, ends_grab_of, is_same}
-use Rattle.inp_model.specs.Past.{opens, is_revoked, holder, holder_kept, clock_of, mask_bit, ends}
-use Rattle.inp_model.specs.Reply.{is_busy, is_not_grabber}
+use Rattle.inp_model.specs.Past.{opens, open_clients, is_revoked, holder, holder_kept, clock_of, mask_bit, ends}
+use Rattle.inp_model.specs.Queue.{Entry, queue}
+use Rattle.inp_model.specs.Reply.{is_busy, is_not_grabber, taken_of}
 use Rattle.inp_model.specs.Frame.{frames_of_step}
 use Rattle.inp_model.specs.Left.{given_in}
 use Rattle.inp_model.proofs.Allowed.{IsAllowed, named_open, mask_kind, mask_word}
@@ -17,13 +21,20 @@ use Rattle.inp_model.proofs.Opens.{is_open-lt}
 use Rattle.inp_frames.specs.Core.{CoreStandsFor, IsFor, IsEntered}
 use Rattle.inp_frames.proofs.Keeping.{makes_no_events, CoreStandsFor-keeps}
 use Rattle.inp_filter.specs.FilterState.{FiltersStandFor}
-use Rattle.inp_client.specs.Read.{clients_on}
+use Rattle.inp_ring.specs.declared.cell.Cell.{Cell}
+use Rattle.inp_ring.specs.Store.{cell_taken}
+use Rattle.inp_client.specs.Client.{ClientView}
+use Rattle.inp_client.specs.Clients.{ClientsView}
+use Rattle.inp_client.specs.Numbers.{stored_of}
+use Rattle.inp_client.specs.Read.{client_on, clients_on}
 use Rattle.inp_device.specs.declared.handler.Handler.{Handler}
 use Rattle.inp_device.specs.declared.present.Present.{Present}
-use Rattle.inp_device.specs.Present.{clients_after, MasksEnd, IsFresh, AreFresh, HandlerStandsFor, PresentStandsFor}
+use Rattle.inp_device.specs.Device.{is_loss_at, is_lost_at, offered_count}
+use Rattle.inp_device.specs.Present.{client_after, clients_after, MasksEnd, IsFresh, AreFresh, HandlerStandsFor, PresentStandsFor}
 use Rattle.inp_device.proofs.MaskWords.{MasksEnd-mask}
 use Rattle.inp_device.proofs.Offers.{after_offers}
 use Rattle.inp_device.proofs.Calls.{clients_after-frames, makes_events}
+use Rattle.inp_device.proofs.Growing.{tells_loss, is_lost, AreGrown, stored_grown, stored_kept}
 use Rattle.inp_device.proofs.Passing.{takes, IsPassed, passed_all, filters-called}
 
 -- Clients that no step named
@@ -204,3 +215,58 @@ stands_framed d past x old new begun was ok makes begins entered made caps handl
       opens = opened ∙ was.opens ∙ sym (opens-keeps past x opening);
       ends = ended ∙ was.ends ∙ sym (ends-keeps past x ending);
     }
+
+-- How many events are kept for the clients then
+
+-- a queue as it is kept tells a loss where it does as it is read
+lost_read : (place offset : ℕ) (q : List Cell) → list_any (tells_loss place) q ≡ list_any (is_loss_at place) (map (cell_taken offset) q)
+lost_read place offset [] = refl
+lost_read place offset (x ∷ q) = ap (λ (b : Bool). tells_loss place x || b) (lost_read place offset q)
+
+lost_queue : (place : ℕ) (q : List Entry) → list_any (is_loss_at place) (map taken_of q) ≡ list_any (λ (e : Entry). is_loss_at place e.taken) q
+lost_queue place [] = refl
+lost_queue place (e ∷ q) = ap (λ (b : Bool). is_loss_at place e.taken || b) (lost_queue place q)
+
+abbrev reads_loss : ℕ → ClientView Taken → Bool
+reads_loss place c = list_any (is_loss_at place) c.ring.events
+
+lost_kept_count : (d : Description) (place : ℕ) (cs : List (ClientView Cell)) → count_by (is_lost place) cs ≡ count_by (reads_loss place) (clients_on d cs)
+lost_kept_count d place [] = refl
+lost_kept_count d place (c ∷ cs) = omega (
+  arith,
+  sum_by-cons (λ (c : ClientView Cell). if is_lost place c then 1 else 0) c cs,
+  sum_by-cons (λ (c : ClientView Taken). if reads_loss place c then 1 else 0) (client_on d c) (clients_on d cs),
+  ap {B = ℕ} (λ (b : Bool). if b then 1 else 0) (lost_read place (offset d c.clock) c.ring.events),
+  lost_kept_count d place cs,
+)
+
+lost_after_count : (d : Description) (past : List Step) (x : Step) (ns : List ℕ) → count_by (reads_loss (length past)) (map (client_after d (x ∷ past)) ns) ≡ count_by (is_lost_at d past x) ns
+lost_after_count d past x [] = refl
+lost_after_count d past x (n ∷ ns) = omega (
+  arith,
+  sum_by-cons (λ (c : ClientView Taken). if reads_loss (length past) c then 1 else 0) (client_after d (x ∷ past) n) (map (client_after d (x ∷ past)) ns),
+  sum_by-cons (λ (n : ℕ). if is_lost_at d past x n then 1 else 0) n ns,
+  ap {B = ℕ} (λ (b : Bool). if b then 1 else 0) (lost_queue (length past) (queue d (x ∷ past) n)),
+  lost_after_count d past x ns,
+)
+
+grown_stored : (count place : ℕ) (old new : ClientsView) → (new ≡ old) ⊎ AreGrown count place old new → stored_of new ≤ stored_of old + count + count_by (is_lost place) new.list
+grown_stored count place old new (inl same) = omega (arith, stored_kept old new 0 same)
+grown_stored count place old new (inr grown) = stored_grown count place old new grown
+
+pub stored_framed : (d : Description) (past : List Step) (x : Step) (old new : Present) (begun : Handler) → PresentStandsFor d past old
+    → begun ≡ record old.handler { place = length past; holder = old.handles.holder } → IsEntered d past x new.core takes begun new.handler → PresentStandsFor d (x ∷ past) new
+    → stored_of new.handler.clients ≤ stored_of old.handler.clients + (offered_count d past x + count_by (is_lost_at d past x) (open_clients (x ∷ past)))
+stored_framed d past x old new begun was begins entered stands =
+    let filters : FiltersStandFor d.filters (given_in d past) begun.filters.kept =
+    subst (λ (h : Handler). FiltersStandFor d.filters (given_in d past) h.filters.kept) (sym begins) was.handler.filters in
+    let all : IsPassed d past x begun new.handler =
+    passed_all d past x begun new.handler (ap (λ (h : Handler). h.place) begins) (ap (λ (h : Handler). h.holder) begins ∙ was.holder) filters entered.takes_all in
+    omega (
+      arith,
+      grown_stored (offered_count d past x) (length past) begun.clients new.handler.clients all.grown,
+      ap (λ (h : Handler). stored_of h.clients) begins,
+      lost_kept_count d (length past) new.handler.clients.list,
+      ap (count_by (reads_loss (length past))) stands.handler.clients,
+      lost_after_count d past x (open_clients (x ∷ past)),
+    )

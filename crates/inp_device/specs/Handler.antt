@@ -7,12 +7,13 @@ use Rattle.inp_model.specs.Filter.{Timed, given_after}
 use Rattle.inp_filter.specs.Row.{let_through}
 use Rattle.inp_filter.specs.FilterState.{FiltersStandFor}
 use Rattle.inp_client.specs.Client.{after_offer}
+use Rattle.inp_client.specs.Numbers.{IsStoredOnce}
 use Rattle.inp_device.specs.declared.handler.Handler.{Handler}
 
 -- no clients yet, and filters that were given nothing
 pub record IsFreshHandler (d : Description) (h : Handler) : Type 0 where
   pub caps : h.caps ≡ d
-  pub clients : h.clients.list ≡ []
+  pub clients : h.clients ≡ record { list = []; rings = [] }
   pub filters : FiltersStandFor d.filters [] h.filters.kept
 
 -- What is offered of a frame: what filters let through, behind what the first one was given before, or all of it while a
@@ -31,6 +32,9 @@ given_with (Some client) now given events = given
 pub record IsAfterFrame (before : Handler) (events : List Event) (now : ℕ) (after : Handler) : Type 0 where
   pub clients : (fs : List Filter) (given : List Timed) → FiltersStandFor fs given before.filters.kept
       → after.clients.list ≡ map (after_offer (offered_of before.holder fs now given events) now before.place before.holder) before.clients.list
+  -- each event is kept once, whoever gets it
+  pub once : (fs : List Filter) (given : List Timed) → FiltersStandFor fs given before.filters.kept
+      → IsStoredOnce (offered_of before.holder fs now given events) now before.place before.holder before.clients after.clients
   pub filters : (fs : List Filter) (given : List Timed) → FiltersStandFor fs given before.filters.kept
       → FiltersStandFor fs (given_with before.holder now given events) after.filters.kept
   pub caps : after.caps ≡ before.caps

@@ -1,3 +1,4 @@
+pub mod Device
 pub mod FrameFilters
 pub mod Handler
 pub mod Present

@@ -1,5 +1,5 @@
 -- What a device keeps stands for its past, and what a step leaves of it.
-use Rattle.std.specs.Prelude.{◌≡◌, ℕ, ◌*◌, ◌≤◌, ◌<◌, ◌⊎◌, ℤ, Bool, true, false, ◌&&◌, nat_lt, List, ◌∷◌, length, map, flat_map, reverse, Option, Some, None, Result, Ok, Err}
+use Rattle.std.specs.Prelude.{◌≡◌, ℕ, ◌+◌, ◌*◌, ◌≤◌, ◌<◌, ◌⊎◌, ℤ, Bool, true, false, ◌&&◌, nat_lt, List, ◌∷◌, length, map, flat_map, reverse, Option, Some, None, Result, Ok, Err}
 use Rattle.inp_model.specs.declared.event.TheConstants.{EV_KEY, EV_SW, EV_LED, EV_SND}
 use Rattle.inp_model.specs.declared.limits.TheConstants.{LOG_MAX}
 use Rattle.inp_model.specs.declared.clock.Clock.TheVariants.{Realtime}
@@ -21,8 +21,10 @@ use Rattle.inp_client.specs.Masks.{masks_with}
 use Rattle.inp_ring.specs.declared.cell.Cell.{Cell}
 use Rattle.inp_client.specs.Client.{ClientView}
 use Rattle.inp_client.specs.Clients.{has_client, distinct}
+use Rattle.inp_client.specs.Numbers.{stored_of}
 use Rattle.inp_client.specs.Read.{clients_on}
 use Rattle.inp_device.specs.declared.handler.Handler.{Handler}
+use Rattle.inp_device.specs.Device.{stored_most}
 use Rattle.inp_device.specs.declared.present.Present.{Present}
 
 -- a client after a past, with its queue as it reads it
@@ -101,6 +103,15 @@ abbrev pub IsMadeOrLacks : List Step → Step → Present → Result Reply NoMem
 IsMadeOrLacks history x old (Ok reply) out new_out cells new_cells new = IsAcceptedStep history x old reply out new_out cells new_cells new
 IsMadeOrLacks history x old (Err e) out new_out cells new_cells new =
     (x ≡ Open) × (new_out ≡ out) × (new_cells ≡ cells) × PresentStandsFor old.caps (reverse history) new
+
+-- the step added to the events that are kept as many as it may, or fewer
+abbrev pub StoresFew : List Step → Step → Present → Present → Type 0
+StoresFew history x old new = stored_of new.handler.clients ≤ stored_of old.handler.clients + stored_most old.caps (reverse history) x
+
+-- the same, or nothing was done, and as many events are kept as before
+abbrev pub StoresFewOrLacks : List Step → Step → Present → Result Reply NoMemory → Present → Type 0
+StoresFewOrLacks history x old (Ok reply) new = StoresFew history x old new
+StoresFewOrLacks history x old (Err e) new = stored_of new.handler.clients ≡ stored_of old.handler.clients
 
 -- an open client is named, if one is
 abbrev pub NamesOpen : List (ClientView Cell) → Option ℕ → Type 0

@@ -2,7 +2,7 @@
 ghost use Rattle.std.specs.Prelude.{◌≤◌, [], length};
 ghost use Rattle.inp_model.specs.declared.stamped.TheConstants.{MOMENT_MAX};
 ghost use Rattle.inp_model.specs.declared.step.Step.TheVariants.{Open, Close, Read, Discard, Grab, Ungrab, Mask, Clock as ToClock, Revoke, End};
-ghost use Rattle.inp_device.specs.Present.{IsReadyFor, IsAcceptedStep, IsMadeOrLacks};
+ghost use Rattle.inp_device.specs.Present.{IsReadyFor, IsAcceptedStep, IsMadeOrLacks, StoresFew, StoresFewOrLacks};
 
 use crate::present::Present;
 use crate::replies::done;
@@ -14,6 +14,7 @@ impl Present {
     pub fn open(&mut self, history: &[Step]) -> Result<Reply, NoMemory>
         requires ready { IsReadyFor history.now Open self.old }
         ensures made { IsMadeOrLacks history.now Open self.old result [] [] [] [] self.new }
+        ensures stored { StoresFewOrLacks history.now Open self.old result self.new }
     {
         let client = self.opens;
         let ring = self.caps.ring();
@@ -35,6 +36,7 @@ impl Present {
     pub fn close(&mut self, history: &[Step], client: u32) -> Reply
         requires ready { IsReadyFor history.now (Close client) self.old }
         ensures made { IsAcceptedStep history.now (Close client) self.old result [] [] [] [] self.new }
+        ensures stored { StoresFew history.now (Close client) self.old self.new }
     {
         self.handles.release(client);
         self.handler.clients.close(client);
@@ -47,6 +49,7 @@ impl Present {
         requires ready { IsReadyFor history.now (Read client count) self.old }
         ensures made { IsAcceptedStep history.now (Read client count) self.old result out.old out.new [] []
             self.new }
+        ensures stored { StoresFew history.now (Read client count) self.old self.new }
     {
         let clients = &mut self.handler.clients;
         let taken = clients.take(&self.caps, client, count, out);
@@ -60,6 +63,7 @@ impl Present {
     pub fn discard(&mut self, history: &[Step], client: u32) -> Reply
         requires ready { IsReadyFor history.now (Discard client) self.old }
         ensures made { IsAcceptedStep history.now (Discard client) self.old result [] [] [] [] self.new }
+        ensures stored { StoresFew history.now (Discard client) self.old self.new }
     {
         let removed = self.handler.clients.discard(client);
         Reply::Discarded {
@@ -72,6 +76,7 @@ impl Present {
     pub fn grab(&mut self, history: &[Step], client: u32) -> Reply
         requires ready { IsReadyFor history.now (Grab client) self.old }
         ensures made { IsAcceptedStep history.now (Grab client) self.old result [] [] [] [] self.new }
+        ensures stored { StoresFew history.now (Grab client) self.old self.new }
     {
         let _ = self.handles.grab(client);
         done(history)
@@ -81,6 +86,7 @@ impl Present {
     pub fn ungrab(&mut self, history: &[Step], client: u32) -> Reply
         requires ready { IsReadyFor history.now (Ungrab client) self.old }
         ensures made { IsAcceptedStep history.now (Ungrab client) self.old result [] [] [] [] self.new }
+        ensures stored { StoresFew history.now (Ungrab client) self.old self.new }
     {
         let _ = self.handles.ungrab(client);
         done(history)
@@ -98,6 +104,7 @@ impl Present {
         requires ready { IsReadyFor history.now (Mask client kind word bits) self.old }
         ensures made { IsAcceptedStep history.now (Mask client kind word bits) self.old result [] [] [] []
             self.new }
+        ensures stored { StoresFew history.now (Mask client kind word bits) self.old self.new }
     {
         self.handler.clients.set_mask(client, kind, word, bits);
         done(history)
@@ -109,6 +116,7 @@ impl Present {
         requires ready { IsReadyFor history.now (ToClock client clock now) self.old }
         ensures made { IsAcceptedStep history.now (ToClock client clock now) self.old result [] [] [] []
             self.new }
+        ensures stored { StoresFew history.now (ToClock client clock now) self.old self.new }
     {
         let at = history.len() as u32;
         self.handler
@@ -121,6 +129,7 @@ impl Present {
     pub fn revoke(&mut self, history: &[Step], client: u32) -> Reply
         requires ready { IsReadyFor history.now (Revoke client) self.old }
         ensures made { IsAcceptedStep history.now (Revoke client) self.old result [] [] [] [] self.new }
+        ensures stored { StoresFew history.now (Revoke client) self.old self.new }
     {
         self.handles.release(client);
         self.handler.clients.revoke(client);
@@ -131,6 +140,7 @@ impl Present {
     pub fn end(&mut self, history: &[Step]) -> Reply
         requires ready { IsReadyFor history.now End self.old }
         ensures made { IsAcceptedStep history.now End self.old result [] [] [] [] self.new }
+        ensures stored { StoresFew history.now End self.old self.new }
     {
         self.ends += 1;
         done(history)

@@ -11,6 +11,7 @@ ghost use Rattle.inp_model.specs.Queue.{queue};
 ghost use Rattle.inp_model.specs.Step.{moment_of};
 ghost use Rattle.inp_model.specs.Reply.{HasRoom, IsDeviceStep, is_accepted};
 ghost use Rattle.inp_model.specs.Evdev.{agains_after};
+ghost use Rattle.inp_device.specs.Device.{plain_view, stored_most, stored_since};
 ghost use Rattle.inp_device.specs.Present.{queued_places};
 
 use crate::present::Present;
@@ -24,8 +25,8 @@ use std::mem::size_of;
 // A history has at most 40 bytes a step.
 const _: () = prove!(size_of::<Step>() <= 40);
 
-/// A device, seen as its description, its past (the steps that it accepted, newest first) and how many calls it answered
-/// `Again`.
+/// A device, seen as its description, its past (the steps that it accepted, newest first), how many calls it answered
+/// `Again`, and how many events it keeps for its clients.
 ///
 /// It keeps the present state and never looks back at its history. It takes memory when it is made, for what it keeps and
 /// for the whole history, and when a client is opened, and at no other step.
@@ -38,15 +39,20 @@ pub struct Device {
 }
 
 impl Model for Device {
-    ghost use Rattle.inp_model.specs.DeviceView.{DeviceView};
+    ghost use Rattle.inp_device.specs.Device.{StoringView};
 
-    ghost Value = { DeviceView };
+    ghost Value = { StoringView };
 
     ghost use Rattle.std.specs.Prelude.{reverse, vec_capacity};
+    ghost use Rattle.inp_client.specs.Numbers.{stored_of};
     ghost use Rattle.inp_device.specs.Present.{IsKeptWith};
 
-    ghost view = { λ d.
-        record { description = d.present.value.caps; past = reverse d.steps.items; agains = d.agains } };
+    ghost view = { λ d. record {
+      description = d.present.value.caps;
+      past = reverse d.steps.items;
+      agains = d.agains;
+      stored = stored_of d.present.value.handler.clients;
+    } };
 
     ghost invariant = { λ d. IsKeptWith d.steps.items (vec_capacity d.steps) d.present.value };
 }
@@ -56,7 +62,7 @@ impl Device {
     /// steps as its log limit says.
     pub fn new(alloc: Global, caps: Caps) -> Result<Device, NoMemory>
         ensures fresh { IfOk result (λ device.
-            device ≡ record { description = caps; past = []; agains = 0 }) }
+            device ≡ record { description = caps; past = []; agains = 0; stored = 0 }) }
     {
         let steps = Vec::with_capacity(alloc, caps.log() as usize)?;
         let present = Box::new(alloc, Present::new(alloc, caps)?)?;
@@ -118,6 +124,9 @@ impl Device {
         ensures past_stays { is_accepted result ≡ false → self.new.past ≡ self.old.past }
         ensures out_stays { is_accepted result ≡ false → out.new ≡ out.old }
         ensures cells_stay { is_accepted result ≡ false → cells.new ≡ cells.old }
+        ensures stored { self.new.stored
+            ≤ self.old.stored + stored_most self.old.description self.old.past step }
+        ensures stored_stays { is_accepted result ≡ false → self.new.stored ≡ self.old.stored }
     {
         match step {
             Step::Inject { event, now } => self.inject(event, now),
@@ -140,6 +149,9 @@ impl Device {
         ensures past_stays { is_accepted result ≡ false → self.new.past ≡ self.old.past }
         ensures out_stays { is_accepted result ≡ false → out.new ≡ out.old }
         ensures cells_stay { is_accepted result ≡ false → cells.new ≡ cells.old }
+        ensures stored { self.new.stored
+            ≤ self.old.stored + stored_most self.old.description self.old.past step }
+        ensures stored_stays { is_accepted result ≡ false → self.new.stored ≡ self.old.stored }
     {
         if let Some(reply) = self.present.refusal(&self.steps, step) {
             self.agains = count_again(reply, self.agains);
@@ -164,6 +176,9 @@ impl Device {
         ensures accepted { IsHistory self.new.description self.new.past }
         ensures before { IsHistory self.old.description self.old.past }
         ensures past_stays { is_accepted result ≡ false → self.new.past ≡ self.old.past }
+        ensures stored { self.new.stored ≤ self.old.stored
+            + stored_most self.old.description self.old.past (Inject event now) }
+        ensures stored_stays { is_accepted result ≡ false → self.new.stored ≡ self.old.stored }
     {
         let at = self.steps.len() as u32;
         if at >= self.present.caps.log() {
@@ -189,6 +204,8 @@ impl Device {
             ≡ history_with (reverse self.old.past) result.count events.now }
         ensures description { self.new.description ≡ self.old.description }
         ensures agains { self.new.agains ≡ self.old.agains }
+        ensures stored { self.new.stored ≤ self.old.stored
+            + stored_since self.new.description result.count self.new.past }
         ensures accepted { IsHistory self.new.description self.new.past }
         ensures before { IsHistory self.old.description self.old.past }
     {
@@ -207,7 +224,10 @@ impl Device {
     fn enter(&mut self, event: Event, now: u64)
         requires moment { now ≤ MOMENT_MAX }
         requires room { length self.old.past < self.old.description.log_limit }
-        ensures entered { self.new ≡ record self.old { past = Inject event now ∷ self.old.past } }
+        ensures entered { plain_view self.new
+            ≡ record (plain_view self.old) { past = Inject event now ∷ self.old.past } }
+        ensures stored { self.new.stored ≤ self.old.stored
+            + stored_most self.old.description self.old.past (Inject event now) }
         ensures accepted { IsHistory self.new.description self.new.past }
     {
         self.present.inject(&self.steps, event, now);
@@ -218,7 +238,11 @@ impl Device {
     ///
     /// It is 0 exactly where all queues are empty. It is at least the length of the longest queue, and at least how many
     /// steps the queued events came from. It is at most the length of all queues together.
+    ///
+    /// A step adds to it at most as many events as it offers to clients, and one for each client that loses its queue
+    /// (`stored_most`). A step that is refused leaves it.
     pub fn stored(&self) -> u32
+        ensures exact { result ≡ self.now.stored }
         ensures none { (result ≡ 0)
             ↔ All (λ client. queue self.now.description self.now.past client ≡ [])
             (open_clients self.now.past) }
@@ -251,8 +275,9 @@ impl Device {
 
 impl Evdev for Device {
     ghost use Rattle.inp_model.specs.DeviceView.{evdev_view};
+    ghost use Rattle.inp_device.specs.Device.{plain_view};
 
-    ghost told = { evdev_view };
+    ghost told = { λ d. evdev_view (plain_view d) };
 
     fn call(&mut self, step: Step, out: &mut [Taken], cells: &mut [i32]) -> Reply {
         self.step(step, out, cells)

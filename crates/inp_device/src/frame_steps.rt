@@ -2,7 +2,7 @@
 ghost use Rattle.std.specs.Prelude.{◌≤◌, []};
 ghost use Rattle.inp_model.specs.declared.stamped.TheConstants.{MOMENT_MAX};
 ghost use Rattle.inp_model.specs.declared.step.Step.TheVariants.{Inject, Tick, Write, Inhibit, Uninhibit, SetAxis};
-ghost use Rattle.inp_device.specs.Present.{IsReadyFor, IsAcceptedStep};
+ghost use Rattle.inp_device.specs.Present.{IsReadyFor, IsAcceptedStep, StoresFew};
 
 use crate::present::Present;
 use crate::replies::done;
@@ -14,6 +14,7 @@ impl Present {
         requires moment { now ≤ MOMENT_MAX }
         requires ready { IsReadyFor history.now (Inject event now) self.old }
         ensures made { IsAcceptedStep history.now (Inject event now) self.old result [] [] [] [] self.new }
+        ensures stored { StoresFew history.now (Inject event now) self.old self.new }
     {
         self.handler
             .begin(history.len() as u32, self.handles.holder());
@@ -27,6 +28,7 @@ impl Present {
         requires ready { IsReadyFor history.now (Write client event now) self.old }
         ensures made { IsAcceptedStep history.now (Write client event now) self.old result [] [] [] []
             self.new }
+        ensures stored { StoresFew history.now (Write client event now) self.old self.new }
     {
         self.handler
             .begin(history.len() as u32, self.handles.holder());
@@ -39,6 +41,7 @@ impl Present {
         requires moment { now ≤ MOMENT_MAX }
         requires ready { IsReadyFor history.now (Tick now) self.old }
         ensures made { IsAcceptedStep history.now (Tick now) self.old result [] [] [] [] self.new }
+        ensures stored { StoresFew history.now (Tick now) self.old self.new }
     {
         self.handler
             .begin(history.len() as u32, self.handles.holder());
@@ -51,6 +54,7 @@ impl Present {
         requires moment { now ≤ MOMENT_MAX }
         requires ready { IsReadyFor history.now (Inhibit now) self.old }
         ensures made { IsAcceptedStep history.now (Inhibit now) self.old result [] [] [] [] self.new }
+        ensures stored { StoresFew history.now (Inhibit now) self.old self.new }
     {
         self.handler
             .begin(history.len() as u32, self.handles.holder());
@@ -62,6 +66,7 @@ impl Present {
     pub fn uninhibit(&mut self, history: &[Step]) -> Reply
         requires ready { IsReadyFor history.now Uninhibit self.old }
         ensures made { IsAcceptedStep history.now Uninhibit self.old result [] [] [] [] self.new }
+        ensures stored { StoresFew history.now Uninhibit self.old self.new }
     {
         self.core.uninhibit();
         done(history)
@@ -71,6 +76,7 @@ impl Present {
         requires ready { IsReadyFor history.now (SetAxis client code info) self.old }
         ensures made { IsAcceptedStep history.now (SetAxis client code info) self.old result [] [] [] []
             self.new }
+        ensures stored { StoresFew history.now (SetAxis client code info) self.old self.new }
     {
         self.core.describe(code, info);
         done(history)

@@ -1,9 +1,10 @@
 //! What a device keeps of its past, and what a step makes of it that nothing refuses.
-ghost use Rattle.std.specs.Prelude.{◌≤◌, [], IfOk};
+ghost use Rattle.std.specs.Prelude.{◌≡◌, ◌≤◌, [], IfOk};
 ghost use Rattle.inp_model.specs.declared.stamped.TheConstants.{MOMENT_MAX};
 ghost use Rattle.inp_model.specs.Step.{moment_of};
 ghost use Rattle.inp_model.specs.Reply.{HasRoom};
-ghost use Rattle.inp_device.specs.Present.{PresentStandsFor, IsReadyFor, IsMadeOrLacks};
+ghost use Rattle.inp_client.specs.Numbers.{stored_of};
+ghost use Rattle.inp_device.specs.Present.{PresentStandsFor, IsReadyFor, IsMadeOrLacks, StoresFewOrLacks};
 
 use crate::handler::Handler;
 use inp_caps::Caps;
@@ -30,6 +31,7 @@ impl Present {
     /// The state of a device that made no step.
     pub fn new(alloc: Global, caps: Caps) -> Result<Present, NoMemory>
         ensures fresh { IfOk result (λ present. PresentStandsFor caps [] present) }
+        ensures stored { IfOk result (λ present. stored_of present.handler.clients ≡ 0) }
     {
         let core = Core::new(alloc, &caps)?;
         let handler = Handler::new(alloc, &caps)?;
@@ -56,6 +58,7 @@ impl Present {
         requires ready { IsReadyFor history.now step self.old }
         ensures made { IsMadeOrLacks history.now step self.old result out.old out.new cells.old
             cells.new self.new }
+        ensures stored { StoresFewOrLacks history.now step self.old result self.new }
     {
         match step {
             Step::Inject { event, now } => Ok(self.inject(history, event, now)),

@@ -2,7 +2,7 @@
 ghost use Rattle.std.specs.Prelude.{◌≡◌, ◌≤◌, ◌*◌, [], length};
 ghost use Rattle.inp_model.specs.declared.limits.TheConstants.{LOG_MAX};
 ghost use Rattle.inp_model.specs.declared.step.Step.TheVariants.{GetAxis, GetSlots, SyncSlots};
-ghost use Rattle.inp_device.specs.Present.{IsReadyFor, IsAcceptedStep, AsksBits};
+ghost use Rattle.inp_device.specs.Present.{IsReadyFor, IsAcceptedStep, StoresFew, AsksBits};
 
 use crate::cells::{write_column, write_rows};
 use crate::present::Present;
@@ -15,6 +15,7 @@ impl Present {
         requires asks { AsksBits step client kind }
         requires ready { IsReadyFor history.now step self.old }
         ensures made { IsAcceptedStep history.now step self.old result [] [] [] [] self.new }
+        ensures stored { StoresFew history.now step self.old self.new }
     {
         let words = queries::bits(&self.core, kind);
         self.handler.clients.flush(client, kind);
@@ -29,6 +30,7 @@ impl Present {
         requires ready { IsReadyFor history.now (GetAxis client code) self.old }
         ensures made { IsAcceptedStep history.now (GetAxis client code) self.old result [] [] [] []
             self.new }
+        ensures stored { StoresFew history.now (GetAxis client code) self.old self.new }
     {
         Reply::Axis {
             at: history.len() as u32,
@@ -48,6 +50,7 @@ impl Present {
         requires ready { IsReadyFor history.now (GetSlots client code) self.old }
         ensures made { IsAcceptedStep history.now (GetSlots client code) self.old result [] [] cells.old
             cells.new self.new }
+        ensures stored { StoresFew history.now (GetSlots client code) self.old self.new }
     {
         let count = self.caps.slots();
         write_column(self.core.slots(), count, code, cells);
@@ -60,6 +63,7 @@ impl Present {
         requires ready { IsReadyFor history.now (SyncSlots client) self.old }
         ensures made { IsAcceptedStep history.now (SyncSlots client) self.old result [] [] cells.old
             cells.new self.new }
+        ensures stored { StoresFew history.now (SyncSlots client) self.old self.new }
     {
         let count = self.caps.slots();
         write_rows(self.core.slots(), count, cells);

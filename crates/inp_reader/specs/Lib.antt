@@ -11,6 +11,7 @@ pub mod Spare
 pub mod KeptViews
 pub mod Showing
 pub mod Asking
+pub mod RoomyEvents
 pub mod Session
 pub mod Examples
 pub mod StandingExamples

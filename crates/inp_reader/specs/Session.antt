@@ -8,6 +8,7 @@ use Rattle.inp_reader.specs.declared.asker.Asker.{Asker}
 use Rattle.inp_reader.specs.declared.session.Session.{Session}
 use Rattle.inp_reader.specs.declared.reader.Reader.TheInside.{Inside}
 use Rattle.inp_reader.specs.Reading.{Reading, ReaderView}
+use Rattle.inp_reader.specs.RoomyEvents.{synthesised_most}
 use Rattle.inp_reader.specs.Spare.{HasSpare}
 
 -- the view and the buffer have as many cells as the device that is asked
@@ -17,20 +18,22 @@ pub record IsReady (d : Description) (told : EvdevView) (a : Asker) : Type 0 whe
   pub cells : length a.cells ≡ SLOT_VALUES * d.slots
 
 abbrev pub reading_of : Session → Reading
-reading_of s = record { client = s.client; queue = s.queue; view = s.view; phase = s.phase; left = s.left }
+reading_of s = record { client = s.client; queue = s.queue; view = s.view; phase = s.phase; left = s.left.events }
 
--- the same of both views of a session
+-- the same of both views of a session, and there is room for all events that it may synthesise
 pub record IsSession (d : Description) (told : EvdevView) (s : Session) : Type 0 where
   pub description : told.description ≡ d
   pub view : length s.view.cells ≡ SLOT_VALUES * d.slots
   pub asked : length s.asker.view.cells ≡ SLOT_VALUES * d.slots
   pub cells : length s.asker.cells ≡ SLOT_VALUES * d.slots
   pub slots : d.slots ≤ SLOTS_MAX
+  pub room : synthesised_most d ≤ s.left.room
 
 abbrev pub reader_view : Inside → ReaderView
 reader_view r = record { description = r.caps; reading = reading_of r.session; made = r.session.asker.made }
 
--- a reader's views and its buffer have as many cells as its devices, it keeps few calls, its view keeps what its devices
+-- a reader's views and its buffer have as many cells as its devices, it has room for all events that it may synthesise, it
+-- keeps few calls, its view keeps what its devices
 -- cannot have as in a new view, and its description keeps its ranges
 pub record IsReader (r : Inside) : Type 0 where
   pub view : length r.session.view.cells ≡ SLOT_VALUES * r.caps.slots
@@ -38,5 +41,6 @@ pub record IsReader (r : Inside) : Type 0 where
   pub cells : length r.session.asker.cells ≡ SLOT_VALUES * r.caps.slots
   pub few : length r.session.asker.made ≤ 64
   pub slots : r.caps.slots ≤ SLOTS_MAX
+  pub room : synthesised_most r.caps ≤ r.session.left.room
   pub spare : HasSpare r.caps (reading_of r.session)
   pub described : IsDescription r.caps

@@ -18,74 +18,73 @@ use inp_recon::View;
 use std::alloc::Global;
 use std::marker::Model;
 
-/// How many synthesised events there is room for: 1,024, and 20 a slot, for 256 slots. More than 948, and 17 a slot, there
-/// never are.
-const EVENTS_MAX: usize = 6144;
-
-const _: () = prove!(EVENTS_MAX == 1024 + 20 * 256);
-
-/// Events, in the order in which they are added, with room for all synthesised events. A contract sees the list.
+/// Events, in the order in which they are added, with room for a number of them that stays. A contract sees the list and
+/// the room.
 #[derive(Drop)]
 pub(crate) struct EventList {
     events: Vec<Event>,
+    room: usize,
 }
 
 impl Model for EventList {
-    ghost use Rattle.std.specs.Prelude.{List, ◌≤◌, vec_capacity};
-    ghost use Rattle.inp_model.specs.declared.event.Event.{Event};
+    ghost use Rattle.std.specs.Prelude.{◌≤◌, vec_capacity};
+    ghost use Rattle.inp_reader.specs.RoomyEvents.{RoomyEvents};
 
-    ghost Value = { List Event };
+    ghost Value = { RoomyEvents };
 
-    ghost view = { λ list. list.events.items };
+    ghost view = { λ list. record { events = list.events.items; room = list.room } };
 
-    ghost invariant = { λ list. 6144 ≤ vec_capacity list.events };
+    ghost invariant = { λ list. list.room ≤ vec_capacity list.events };
 }
 
 impl EventList {
-    // No event. It is refused for memory alone.
-    pub(crate) fn new(alloc: Global) -> Result<EventList, NoMemory>
-        ensures { IfOk result (λ list. list ≡ []) }
+    // No event, with room for so many. It is refused for memory alone.
+    pub(crate) fn new(alloc: Global, room: usize) -> Result<EventList, NoMemory>
+        ensures { IfOk result (λ list. list ≡ record { events = []; room = room }) }
     {
-        let events = Vec::with_capacity(alloc, EVENTS_MAX)?;
-        Ok(EventList { events })
+        let events = Vec::with_capacity(alloc, room)?;
+        Ok(EventList { events, room })
     }
 
     // Drops all events.
     pub(crate) fn clear(&mut self)
-        ensures { self.new ≡ [] }
+        ensures none { self.new.events ≡ [] }
+        ensures room { self.new.room ≡ self.old.room }
     {
         self.events.clear();
     }
 
     // How many events there are.
     pub(crate) fn len(&self) -> usize
-        ensures { result ≡ length self.now }
+        ensures { result ≡ length self.now.events }
     {
         self.events.len()
     }
 
     // The event at an index.
     pub(crate) fn get(&self, index: usize) -> Event
-        requires { index < length self.now }
-        ensures { slice_get self.now index ≡ Some result }
+        requires { index < length self.now.events }
+        ensures { slice_get self.now.events index ≡ Some result }
     {
         self.events[index]
     }
 
     // Adds an event.
     fn push(&mut self, event: Event)
-        requires { length self.old < 6144 }
-        ensures pushed { self.new ≡ self.old ++ event ∷ [] }
-        ensures few { length self.new ≤ length self.old + 1 }
+        requires { length self.old.events < self.old.room }
+        ensures room { self.new.room ≡ self.old.room }
+        ensures pushed { self.new.events ≡ self.old.events ++ event ∷ [] }
+        ensures few { length self.new.events ≤ length self.old.events + 1 }
     {
         self.events.push(event).unwrap();
     }
 
     // Adds an event, if it is wanted.
     fn push_if(&mut self, wanted: bool, event: Event)
-        requires { length self.old < 6144 }
-        ensures pushed { self.new ≡ self.old ++ (if wanted then event ∷ [] else []) }
-        ensures few { length self.new ≤ length self.old + 1 }
+        requires { length self.old.events < self.old.room }
+        ensures room { self.new.room ≡ self.old.room }
+        ensures pushed { self.new.events ≡ self.old.events ++ (if wanted then event ∷ [] else []) }
+        ensures few { length self.new.events ≤ length self.old.events + 1 }
     {
         if wanted {
             self.push(event);
@@ -94,10 +93,11 @@ impl EventList {
 
     // Adds the report behind the events from an index on, if there are any.
     fn push_report(&mut self, start: usize)
-        requires { length self.old < 6144 }
-        ensures reported { (front group : List Event) → self.old ≡ front ++ group → length front ≡ start
-            → self.new ≡ front ++ with_report group }
-        ensures few { length self.new ≤ length self.old + 1 }
+        requires { length self.old.events < self.old.room }
+        ensures room { self.new.room ≡ self.old.room }
+        ensures reported { (front group : List Event) → self.old.events ≡ front ++ group
+            → length front ≡ start → self.new.events ≡ front ++ with_report group }
+        ensures few { length self.new.events ≤ length self.old.events + 1 }
     {
         let report = Event {
             kind: EV_SYN,
@@ -110,9 +110,10 @@ impl EventList {
 
     // Adds the event that makes a slot the current one, if it is not.
     fn push_to_slot(&mut self, current: Event, slot: Event)
-        requires { length self.old < 6144 }
-        ensures pushed { self.new ≡ self.old ++ unless_same current slot }
-        ensures few { length self.new ≤ length self.old + 1 }
+        requires { length self.old.events < self.old.room }
+        ensures room { self.new.room ≡ self.old.room }
+        ensures pushed { self.new.events ≡ self.old.events ++ unless_same current slot }
+        ensures few { length self.new.events ≤ length self.old.events + 1 }
     {
         if values_differ(current, slot) {
             self.push(slot);
@@ -122,9 +123,10 @@ impl EventList {
     // Adds the changes of a class of codes.
     fn push_bits<const W: usize>(&mut self, kind: u16, old: &Bits<W>, new: &Bits<W>)
         requires words { W ≤ 12 }
-        requires few { length self.old + 64 * W ≤ 6144 }
-        ensures pushed { self.new ≡ self.old ++ bit_changes kind (64 * W) old.now new.now }
-        ensures few { length self.new ≤ length self.old + 64 * W }
+        requires few { length self.old.events + 64 * W ≤ self.old.room }
+        ensures room { self.new.room ≡ self.old.room }
+        ensures pushed { self.new.events ≡ self.old.events ++ bit_changes kind (64 * W) old.now new.now }
+        ensures few { length self.new.events ≤ length self.old.events + 64 * W }
     {
         for code in old.differing(new) {
             self.push(bit_event(kind, new, code as u16));
@@ -133,9 +135,10 @@ impl EventList {
 
     // Adds the changes of axes.
     fn push_axes(&mut self, old: &[i32; 64], new: &[i32; 64])
-        requires few { length self.old + 64 ≤ 6144 }
-        ensures pushed { self.new ≡ self.old ++ axis_changes old.now new.now }
-        ensures few { length self.new ≤ length self.old + 64 }
+        requires few { length self.old.events + 64 ≤ self.old.room }
+        ensures room { self.new.room ≡ self.old.room }
+        ensures pushed { self.new.events ≡ self.old.events ++ axis_changes old.now new.now }
+        ensures few { length self.new.events ≤ length self.old.events + 64 }
     {
         for code in 0..64u16 {
             let event = axis_event(new, code);
@@ -146,9 +149,10 @@ impl EventList {
 
     // Adds the changes of keys, LEDs, switches and axes.
     fn push_classes(&mut self, old: &View, new: &View)
-        requires few { length self.old + 960 ≤ 6144 }
-        ensures pushed { self.new ≡ self.old ++ class_changes old.now new.now }
-        ensures few { length self.new ≤ length self.old + 960 }
+        requires few { length self.old.events + 960 ≤ self.old.room }
+        ensures room { self.new.room ≡ self.old.room }
+        ensures pushed { self.new.events ≡ self.old.events ++ class_changes old.now new.now }
+        ensures few { length self.new.events ≤ length self.old.events + 960 }
     {
         self.push_bits(EV_KEY, &old.keys, &new.keys);
         self.push_bits(EV_LED, &old.leds, &new.leds);
@@ -159,9 +163,10 @@ impl EventList {
     // Adds the end of each contact that another one followed in its slot.
     fn push_lifts(&mut self, old: &View, new: &View)
         requires cells { length old.now.cells ≡ length new.now.cells }
-        requires few { length self.old + 512 ≤ 6144 }
-        ensures pushed { self.new ≡ self.old ++ lifts old.now new.now }
-        ensures few { length self.new ≤ length self.old + 512 }
+        requires few { length self.old.events + 2 * slot_count old.now.cells ≤ self.old.room }
+        ensures room { self.new.room ≡ self.old.room }
+        ensures pushed { self.new.events ≡ self.old.events ++ lifts old.now new.now }
+        ensures few { length self.new.events ≤ length self.old.events + 2 * slot_count old.now.cells }
     {
         let mut current = event_of_current(old);
         for slot in 0..old.cells.slot_count() {
@@ -179,9 +184,10 @@ impl EventList {
     fn push_slot(&mut self, old: &View, new: &View, slot: u32)
         requires slot { slot < slot_count old.now.cells }
         requires cells { length old.now.cells ≡ length new.now.cells }
-        requires few { length self.old + SLOT_VALUES ≤ 6144 }
-        ensures pushed { self.new ≡ self.old ++ changes_in old.now new.now slot }
-        ensures few { length self.new ≤ length self.old + SLOT_VALUES }
+        requires few { length self.old.events + SLOT_VALUES ≤ self.old.room }
+        ensures room { self.new.room ≡ self.old.room }
+        ensures pushed { self.new.events ≡ self.old.events ++ changes_in old.now new.now slot }
+        ensures few { length self.new.events ≤ length self.old.events + SLOT_VALUES }
     {
         for code in ABS_MT_TOUCH_MAJOR..ABS_MT_TOOL_Y + 1 {
             let event = cell_event(new, slot, code);
@@ -193,9 +199,11 @@ impl EventList {
     // Adds the changes of all slots.
     fn push_cells(&mut self, old: &View, new: &View)
         requires cells { length old.now.cells ≡ length new.now.cells }
-        requires few { length self.old + 3840 ≤ 6144 }
-        ensures pushed { self.new ≡ self.old ++ cell_changes old.now new.now }
-        ensures few { length self.new ≤ length self.old + 3840 }
+        requires few { length self.old.events + 15 * slot_count old.now.cells ≤ self.old.room }
+        ensures room { self.new.room ≡ self.old.room }
+        ensures pushed { self.new.events ≡ self.old.events ++ cell_changes old.now new.now }
+        ensures few { length self.new.events ≤ length self.old.events
+            + 15 * slot_count old.now.cells }
     {
         let mut current = event_of_current(old);
         for slot in 0..old.cells.slot_count() {
@@ -212,9 +220,9 @@ impl EventList {
     // Takes the events from one index to before another over into a view.
     fn apply(&self, first: usize, end: usize, view: &mut View)
         requires order { first ≤ end }
-        requires within { end ≤ length self.now }
+        requires within { end ≤ length self.now.events }
         ensures taken { view.new
-            ≡ view_after_events view.old (take (end - first) (drop first self.now)) }
+            ≡ view_after_events view.old (take (end - first) (drop first self.now.events)) }
         ensures cells { length view.new.cells ≡ length view.old.cells }
     {
         for index in first..end {
@@ -225,7 +233,9 @@ impl EventList {
     // Makes the events that lead from the old view to the new one. The old view is used up.
     pub(crate) fn fill(&mut self, old: &mut View, new: &View)
         requires cells { length old.old.cells ≡ length new.now.cells }
-        ensures synth { self.new ≡ synth old.old new.now }
+        requires room { 963 + 17 * slot_count old.old.cells ≤ self.old.room }
+        ensures synth { self.new.events ≡ synth old.old new.now }
+        ensures room { self.new.room ≡ self.old.room }
         ensures cells { length old.new.cells ≡ length old.old.cells }
     {
         self.clear();

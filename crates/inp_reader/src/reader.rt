@@ -16,7 +16,7 @@ use crate::calls_made::CallsMade;
 use crate::cell_buffer::CellBuffer;
 use crate::queue::Queue;
 use crate::session::Session;
-use crate::synthesis::Synthesis;
+use crate::synthesis::{Synthesis, synthesised_most};
 use crate::{CallMade, Mode, Next, Phase, Started};
 use inp_caps::Caps;
 use inp_model::{Evdev, NoMemory};
@@ -59,7 +59,7 @@ impl Model for Reader {
 impl Reader {
     /// A reader for devices of this description. It has no client yet: its client is `NO_CLIENT`, its phase Plain.
     ///
-    /// It takes all memory that it will need, about 59 kB and 170 bytes a slot. `NoMemory` comes where there is none.
+    /// It takes all memory that it will need, about 18 kB and 310 bytes a slot. `NoMemory` comes where there is none.
     pub fn new(alloc: Global, caps: &Caps) -> Result<Reader, NoMemory>
         ensures description { IfOk result (λ reader. reader.description ≡ caps.now) }
         ensures reading { IfOk result (λ reader. reader.reading ≡ record {
@@ -81,7 +81,7 @@ impl Reader {
             queue: Queue::new(),
             view: View::new(alloc, caps)?,
             phase: Phase::Plain,
-            left: Synthesis::new(alloc)?,
+            left: Synthesis::new(alloc, synthesised_most(caps))?,
             asker,
         };
         Ok(Reader {

@@ -41,6 +41,7 @@ impl Session {
         ensures handed { (result, reading_of self.new)
             ≡ hand_out (reading_of self.old) self.old.queue }
         ensures asker { self.new.asker ≡ self.old.asker }
+        ensures room { self.new.left.room ≡ self.old.left.room }
         ensures cells { length self.new.view.cells ≡ length self.old.view.cells }
     {
         match self.queue.take_first() {
@@ -66,6 +67,7 @@ impl Session {
             self.new.asker ≡ record self.old.asker { made = made } }
         ensures reading { reading_of self.new
             ≡ record (reading_of self.old) { queue = self.new.queue } }
+        ensures room { self.new.left.room ≡ self.old.left.room }
     {
         let reply = self.queue.read(dev, self.client);
         let step = Step::Read {
@@ -115,6 +117,7 @@ impl Session {
         ensures handed { (result, reading_of self.new) ≡ handing (reading_of self.old) }
         ensures asker { self.new.asker ≡ self.old.asker }
         ensures cells { self.new.view ≡ self.old.view }
+        ensures room { self.new.left.room ≡ self.old.left.room }
     {
         match self.left.take_first() {
             Some(event) => Next::Sync { event },
@@ -130,6 +133,7 @@ impl Session {
         ensures reading { reading_of self.new ≡ as_plain (reading_of self.old) }
         ensures asker { self.new.asker ≡ self.old.asker }
         ensures view { self.new.view ≡ self.old.view }
+        ensures room { self.new.left.room ≡ self.old.left.room }
     {
         self.left.clear();
         self.phase = Phase::Plain;
@@ -158,6 +162,7 @@ impl Session {
         ensures reading { reading_of self.new ≡ with_sync_needed (reading_of self.old) }
         ensures asker { self.new.asker ≡ self.old.asker }
         ensures view { self.new.view ≡ self.old.view }
+        ensures room { self.new.left.room ≡ self.old.left.room }
     {
         self.left.clear();
         self.phase = Phase::Needed;

@@ -1,14 +1,26 @@
 //! The synthesised events.
-ghost use Rattle.std.specs.Prelude.{◌≡◌, ◌≤◌, ◌*◌, [], ◌∷◌, length, IfSome, IfNone, IfOk};
+ghost use Rattle.std.specs.Prelude.{◌≡◌, ◌≤◌, ◌+◌, ◌*◌, [], ◌∷◌, length, IfSome, IfNone, IfOk};
+ghost use Rattle.inp_recon.specs.Cells.{slot_count};
+ghost use Rattle.inp_reader.specs.RoomyEvents.{synthesised_most};
 ghost use Rattle.inp_reader.specs.Synthesis.{synth};
 
 use crate::event_list::EventList;
+use inp_caps::Caps;
 use inp_model::{Event, NoMemory};
 use inp_recon::View;
 use std::alloc::Global;
 use std::marker::Model;
 
-/// The synthesised events that are not handed out yet. A contract sees them as a list.
+/// How many events a synchronisation makes at most: one for each of 768 keys, 64 LEDs, 64 switches and 64 axes, 17 for each
+/// slot, one for the current slot, and two reports.
+pub(crate) fn synthesised_most(caps: &Caps) -> usize
+    ensures { result ≡ synthesised_most caps.now }
+{
+    963 + 17 * caps.slots() as usize
+}
+
+/// The synthesised events that are not handed out yet, and room for all that there can be. A contract sees the list and the
+/// room.
 #[derive(Drop)]
 pub(crate) struct Synthesis {
     events: EventList,
@@ -16,28 +28,29 @@ pub(crate) struct Synthesis {
 }
 
 impl Model for Synthesis {
-    ghost use Rattle.std.specs.Prelude.{List, ◌≤◌, drop, length};
-    ghost use Rattle.inp_model.specs.declared.event.Event.{Event};
+    ghost use Rattle.std.specs.Prelude.{◌≤◌, drop, length};
+    ghost use Rattle.inp_reader.specs.RoomyEvents.{RoomyEvents};
 
-    ghost Value = { List Event };
+    ghost Value = { RoomyEvents };
 
-    ghost view = { λ s. drop s.next s.events };
+    ghost view = { λ s. record { events = drop s.next s.events.events; room = s.events.room } };
 
-    ghost invariant = { λ s. s.next ≤ length s.events };
+    ghost invariant = { λ s. s.next ≤ length s.events.events };
 }
 
 impl Synthesis {
-    // No event, with room for all that there can be. It is refused for memory alone.
-    pub(crate) fn new(alloc: Global) -> Result<Synthesis, NoMemory>
-        ensures { IfOk result (λ left. left ≡ []) }
+    // No event, with room for so many. It is refused for memory alone.
+    pub(crate) fn new(alloc: Global, room: usize) -> Result<Synthesis, NoMemory>
+        ensures { IfOk result (λ left. left ≡ record { events = []; room = room }) }
     {
-        let events = EventList::new(alloc)?;
+        let events = EventList::new(alloc, room)?;
         Ok(Synthesis { events, next: 0 })
     }
 
     // Drops all events.
     pub(crate) fn clear(&mut self)
-        ensures { self.new ≡ [] }
+        ensures none { self.new.events ≡ [] }
+        ensures room { self.new.room ≡ self.old.room }
     {
         self.events.clear();
         self.next = 0;
@@ -45,8 +58,9 @@ impl Synthesis {
 
     // The first event, which is taken out, if there is one.
     pub(crate) fn take_first(&mut self) -> Option<Event>
-        ensures first { IfSome result (λ event. self.old ≡ event ∷ self.new) }
-        ensures none { IfNone result ((self.old ≡ []) × (self.new ≡ [])) }
+        ensures first { IfSome result (λ event. self.old.events ≡ event ∷ self.new.events) }
+        ensures none { IfNone result ((self.old.events ≡ []) × (self.new.events ≡ [])) }
+        ensures room { self.new.room ≡ self.old.room }
     {
         if self.next == self.events.len() {
             return None;
@@ -56,10 +70,13 @@ impl Synthesis {
         Some(first)
     }
 
-    // Makes the events that lead from the old view to the new one, which has as many cells. The old view is used up.
+    // Makes the events that lead from the old view to the new one, which has as many cells. The old view is used up. There
+    // must be room for the changes of all codes, and of so many slots.
     pub(crate) fn fill(&mut self, old: &mut View, new: &View)
         requires cells { length old.old.cells ≡ length new.now.cells }
-        ensures synth { self.new ≡ synth old.old new.now }
+        requires room { 963 + 17 * slot_count old.old.cells ≤ self.old.room }
+        ensures synth { self.new.events ≡ synth old.old new.now }
+        ensures room { self.new.room ≡ self.old.room }
         ensures cells { length old.new.cells ≡ length old.old.cells }
     {
         self.next = 0;

@@ -5,20 +5,21 @@ use Rattle.inp_model.specs.declared.reply.Refusal.TheVariants.{LogFull}
 use Rattle.inp_model.specs.DeviceView.{DeviceView}
 use Rattle.inp_device.specs.declared.present.Present.{Present}
 use Rattle.inp_device.proofs.Entering.{inject_refused, inject_entered}
+use Rattle.inp_device.specs.Device.{StoringView}
 use Rattle.inp_device.proofs.device.Device.inject.Goals as goal
 
 pub returns-then-at-log-clause-step : goal.returns-then-at-log-clause-step
 returns-then-at-log-clause-step c out cells =
     let v = c.args.self.now in
-    let limit : c.log.result ≡ v.description.log_limit = c.log.ensures.log ∙ ap (λ (p : Present). p.caps.log_limit) c.deref.ensures ∙ ap (λ (d : DeviceView). d.description.log_limit) c.self.view_is in
-    let long : length c.self.inside.steps.items ≡ length v.past = sym (length-reverse c.self.inside.steps.items) ∙ ap (λ (d : DeviceView). length d.past) c.self.view_is in
+    let limit : c.log.result ≡ v.description.log_limit = c.log.ensures.log ∙ ap (λ (p : Present). p.caps.log_limit) c.deref.ensures ∙ ap (λ (d : StoringView). d.description.log_limit) c.self.view_is in
+    let long : length c.self.inside.steps.items ≡ length v.past = sym (length-reverse c.self.inside.steps.items) ∙ ap (λ (d : StoringView). length d.past) c.self.view_is in
     inject_refused v.description v.past c.args.event c.args.now c.refuse.result out cells (omega (arith, limit, long, c.len-at.ensures, c.if-at-log.true))
     (c.refuse.ensures.refused ∙ ap (λ (n : ℕ). Refused n LogFull) (ap length c.deref-then-at-log.ensures.value ∙ long))
 
 pub returns-clause-step : goal.returns-clause-step
 returns-clause-step c out cells =
     let v = c.args.self.now in
-    let limit : c.log.result ≡ v.description.log_limit = c.log.ensures.log ∙ ap (λ (p : Present). p.caps.log_limit) c.deref.ensures ∙ ap (λ (d : DeviceView). d.description.log_limit) c.self.view_is in
-    let long : length c.self.inside.steps.items ≡ length v.past = sym (length-reverse c.self.inside.steps.items) ∙ ap (λ (d : DeviceView). length d.past) c.self.view_is in
+    let limit : c.log.result ≡ v.description.log_limit = c.log.ensures.log ∙ ap (λ (p : Present). p.caps.log_limit) c.deref.ensures ∙ ap (λ (d : StoringView). d.description.log_limit) c.self.view_is in
+    let long : length c.self.inside.steps.items ≡ length v.past = sym (length-reverse c.self.inside.steps.items) ∙ ap (λ (d : StoringView). length d.past) c.self.view_is in
     let at : c.len-at.result ≡ length v.past = omega (arith, long, c.len-at.ensures) in
     inject_entered v.description v.past c.enter.new.self.past c.args.event c.args.now (Done c.len-at.result) out cells (omega (arith, limit, at, c.if-at-log.false)) (ap Done at) (ap (λ (d : DeviceView). d.past) c.enter.ensures.entered)

@@ -1,22 +1,22 @@
-use Rattle.std.proofs.Common.{◌≡◌, ◌-◌, length, reverse, get_or, take, refl, sym, ap, ◌∙◌, arith, rules, subst}
+use Rattle.std.proofs.Common.{◌≡◌, ◌≤◌, ℕ, ◌+◌, ◌-◌, length, reverse, get_or, take, refl, sym, ap, ◌∙◌, arith, rules, subst}
 use Rattle.std.specs.Prelude.{min, vec_len}
 use Rattle.std.proofs.lemmas.List.{length-take, length-reverse}
-use Rattle.inp_model.specs.DeviceView.{DeviceView}
 use Rattle.inp_model.specs.History.{IsHistory}
 use Rattle.inp_model.specs.Injecting.{history_with}
 use Rattle.inp_device.specs.declared.present.Present.{Present}
+use Rattle.inp_device.specs.Device.{StoringView, stored_since}
 use Rattle.inp_device.proofs.Injecting.{no_stamped, entered-none, entered-room, entered-more}
 use Rattle.inp_device.proofs.device.Device.inject_all.Goals as goal
 
 pub loop-stamped-init : goal.loop-stamped-init
 loop-stamped-init c =
-    entered-none c.args.self.now c.args.events.now (subst (λ (d : DeviceView). IsHistory d.description d.past) c.self.view_is c.self.invariant.accepted)
+    entered-none c.args.self.now c.args.events.now (subst (λ (d : StoringView). IsHistory d.description d.past) c.self.view_is c.self.invariant.accepted)
 
 pub enter-requires-clause-room : goal.enter-requires-clause-room
 enter-requires-clause-room c =
-    let long : length c.self.inside.steps.items ≡ length c.args.self.now.past = sym (length-reverse c.self.inside.steps.items) ∙ ap (λ (d : DeviceView). length d.past) c.self.view_is in
+    let long : length c.self.inside.steps.items ≡ length c.args.self.now.past = sym (length-reverse c.self.inside.steps.items) ∙ ap (λ (d : StoringView). length d.past) c.self.view_is in
     let limit : c.log.result ≡ c.args.self.now.description.log_limit =
-    c.log.ensures.log ∙ ap (λ (p : Present). p.caps.log_limit) c.deref.ensures ∙ ap (λ (d : DeviceView). d.description.log_limit) c.self.view_is in
+    c.log.ensures.log ∙ ap (λ (p : Present). p.caps.log_limit) c.deref.ensures ∙ ap (λ (d : StoringView). d.description.log_limit) c.self.view_is in
     let len : vec_len c.self.inside.steps ≡ length c.self.inside.steps.items = search rules in
     let from : c.len-from.result ≡ length c.args.self.now.past = c.len-from.ensures ∙ len ∙ long in
     entered-room c.args.self.now c.args.events.now c.min-count.result c.loop-stamped.stamped-index c.loop-stamped.self c.loop-stamped.invariant
@@ -25,7 +25,7 @@ enter-requires-clause-room c =
 pub loop-stamped-preserved : goal.loop-stamped-preserved
 loop-stamped-preserved c =
     entered-more c.args.self.now c.args.events.now c.min-count.result c.loop-stamped.stamped-index c.loop-stamped.self c.enter.new.self (get_or (take c.min-count.result c.args.events.now) c.loop-stamped.stamped-index no_stamped)
-    c.loop-stamped.invariant c.loop-stamped-test.true refl c.enter.ensures.entered c.enter.ensures.accepted
+    c.loop-stamped.invariant c.loop-stamped-test.true refl c.enter.ensures.entered c.enter.ensures.stored c.enter.ensures.accepted
 
 pub returns-clause-entered : goal.returns-clause-entered
 returns-clause-entered c =
@@ -39,3 +39,10 @@ returns-clause-agains c = c.loop-stamped.invariant.agains
 
 pub returns-clause-accepted : goal.returns-clause-accepted
 returns-clause-accepted c = c.loop-stamped.invariant.accepted
+
+pub returns-clause-stored : goal.returns-clause-stored
+returns-clause-stored c =
+    let device = c.loop-stamped.self in
+    let first = c.args.self.now in
+    let P : ℕ → Type 0 = λ n. device.stored ≤ first.stored + stored_since device.description n device.past in
+    subst P (omega (arith, length-take c.min-count.result c.args.events.now)) c.loop-stamped.invariant.stored

@@ -1,7 +1,8 @@
 use Rattle.inp_model.proofs.Telling.{evdev_called}
+use Rattle.inp_device.specs.Device.{plain_view}
 use Rattle.inp_device.proofs.device.DeviceEvdev.call.Goals as goal
 
 pub returns : goal.returns
 returns c = record {
-  called = evdev_called c.args.self.now c.step.new.self c.args.step c.step.result _ _ _ _ c.step.ensures.step c.step.ensures.description c.step.ensures.agains c.step.ensures.before;
+  called = evdev_called (plain_view c.args.self.now) (plain_view c.step.new.self) c.args.step c.step.result _ _ _ _ c.step.ensures.step c.step.ensures.description c.step.ensures.agains c.step.ensures.before;
 }

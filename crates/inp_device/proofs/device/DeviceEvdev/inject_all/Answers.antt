@@ -1,8 +1,9 @@
 use Rattle.inp_model.proofs.Injecting.{evdev_injected}
+use Rattle.inp_device.specs.Device.{plain_view}
 use Rattle.inp_device.proofs.device.DeviceEvdev.inject_all.Goals as goal
 
 pub returns : goal.returns
 returns c = record {
-  injected = evdev_injected c.args.self.now c.inject_all.new.self c.args.events.now c.inject_all.result c.inject_all.ensures.description c.inject_all.ensures.from c.inject_all.ensures.count c.inject_all.ensures.within c.inject_all.ensures.entered
+  injected = evdev_injected (plain_view c.args.self.now) (plain_view c.inject_all.new.self) c.args.events.now c.inject_all.result c.inject_all.ensures.description c.inject_all.ensures.from c.inject_all.ensures.count c.inject_all.ensures.within c.inject_all.ensures.entered
       c.inject_all.ensures.agains c.inject_all.ensures.accepted;
 }

@@ -6,6 +6,7 @@ use Rattle.inp_model.specs.Filter.{Timed}
 use Rattle.inp_model.specs.Queue.{is_empty}
 use Rattle.inp_filter.specs.FilterState.{FiltersStandFor}
 use Rattle.inp_client.specs.Client.{after_offer}
+use Rattle.inp_client.specs.Numbers.{IsStoredOnce}
 use Rattle.inp_device.specs.Handler.{offered_of, given_with}
 use Rattle.inp_device.proofs.WholeFrames.{whole_offered, whole_given, nobody_holds, somebody_holds}
 use Rattle.inp_device.proofs.handler.HandlerFrames.pass.Goals.{then-is_some, else-is_some}
@@ -27,6 +28,8 @@ returns-then-frame_is_whole c =
         clients = λ fs given stands.
             c.offer.ensures.offered
             ∙ ap (λ (es : List Event). map (after_offer es c.args.now h.place h.holder) h.clients.list) (sym (whole_offered h.holder fs c.args.now given c.args.events.now (passes_by c fs given stands)));
+        once = λ fs given stands.
+            subst (λ (es : List Event). IsStoredOnce es c.args.now h.place h.holder h.clients c.offer.new.self) (sym (whole_offered h.holder fs c.args.now given c.args.events.now (passes_by c fs given stands))) c.offer.ensures.once;
         filters = λ fs given stands. whole_given h.holder fs c.args.now given c.args.events.now h.filters.kept (passes_by c fs given stands) stands;
         caps = refl;
         place = refl;
@@ -51,6 +54,10 @@ returns-else-frame_is_whole c =
             c.offer-else-frame_is_whole.ensures.offered
             ∙ ap (λ (es : List Event). map (after_offer es c.args.now h.place h.holder) h.clients.list)
             (c.left-left.ensures ∙ c.pass.ensures.left fs given stands ∙ ap (λ (o : Option ℕ). offered_of o fs c.args.now given c.args.events.now) (sym (is_free c)));
+        once = λ fs given stands.
+            subst (λ (es : List Event). IsStoredOnce es c.args.now h.place h.holder h.clients c.offer-else-frame_is_whole.new.self)
+            (c.left-left.ensures ∙ c.pass.ensures.left fs given stands ∙ ap (λ (o : Option ℕ). offered_of o fs c.args.now given c.args.events.now) (sym (is_free c)))
+            c.offer-else-frame_is_whole.ensures.once;
         filters = λ fs given stands.
             subst (λ (o : Option ℕ). FiltersStandFor fs (given_with o c.args.now given c.args.events.now) c.pass.new.self.kept) (sym (is_free c)) (c.pass.ensures.stands fs given stands);
         caps = refl;

@@ -7,6 +7,7 @@ use Rattle.inp_client.proofs.OnClock.{without_client-on}
 use Rattle.inp_device.proofs.Calls.{clients_after-close}
 use Rattle.inp_device.proofs.StandsAfterStep.{holder-close}
 use Rattle.inp_device.proofs.Making.{made_call, called, named_there}
+use Rattle.inp_device.proofs.Growing.{stored_fewer}
 use Rattle.inp_device.proofs.present.Present.close.Goals as goal
 
 pub close-requires : goal.close-requires
@@ -22,4 +23,5 @@ returns c =
           (called history x old _ c.requires.ready refl refl refl refl refl refl refl refl refl
           (ap (clients_on old.caps) c.close.ensures.closed ∙ without_client-on old.caps c.args.client old.handler.clients.list ∙ ap (without_client c.args.client) c.requires.ready.stands.handler.clients ∙ sym (clients_after-close old.caps (reverse history) c.args.client))
           (ap (λ (h : HandleState). h.holder) c.release.ensures.holder ∙ ap (λ (o : Option ℕ). holder_without c.args.client o) c.requires.ready.stands.holder ∙ holder-close (reverse history) c.args.client));
+      stored = stored_fewer old.handler.clients c.close.new.self _ c.close.ensures.none_new;
     }

@@ -2,6 +2,7 @@ use Rattle.std.proofs.Common.{reverse, refl}
 use Rattle.inp_model.specs.declared.step.Step.TheVariants.{GetAxis}
 use Rattle.inp_model.proofs.Allowed.{allowed, axis_code}
 use Rattle.inp_device.proofs.Making.{made_alone, called, axis_at, clients_same, holder_same}
+use Rattle.inp_device.proofs.Growing.{stored_kept}
 use Rattle.inp_device.proofs.present.Present.get_axis.Goals as goal
 
 pub axis-requires : goal.axis-requires
@@ -18,4 +19,5 @@ returns c =
           (called history x old _ c.requires.ready refl refl refl refl refl refl refl refl refl
           (clients_same history x old c.requires.ready refl)
           (holder_same history x old c.requires.ready refl));
+      stored = stored_kept old.handler.clients old.handler.clients _ refl;
     }

@@ -2,6 +2,7 @@ use Rattle.std.proofs.Common.{reverse, refl, ◌∙◌}
 use Rattle.inp_model.specs.Step.{Codes}
 use Rattle.inp_client.proofs.OnClock.{on_flush}
 use Rattle.inp_device.proofs.Making.{call_on_clock, IsQuery, query, kind_has_bits, kind_not_syn, named_there, made_alone, called, accepted-bits, bits_at, clients_asked, holder_same}
+use Rattle.inp_device.proofs.Growing.{stored_none_new}
 use Rattle.inp_device.proofs.present.Present.get_bits.Goals as goal
 
 pub bits-words-requires : goal.bits-words-requires
@@ -24,4 +25,5 @@ returns c =
           (called history c.args.step old _ c.requires.ready asks.events asks.opening asks.ending refl refl refl refl refl refl
           (call_on_clock old.caps c.args.client _ _ old.handler.clients.list (on_flush old.caps (Codes c.args.kind)) c.flush.ensures.flushed ∙ clients_asked history c.args.step old c.args.client (Codes c.args.kind) c.requires.ready c.requires.asks.named c.requires.asks.whole)
           (holder_same history c.args.step old c.requires.ready asks.grab));
+      stored = stored_none_new old.handler.clients c.flush.new.self _ c.flush.ensures.none_new;
     }

@@ -5,6 +5,7 @@ use Rattle.inp_model.specs.Raw.{raw}
 use Rattle.inp_slots.specs.Slots.{SlotValues, SlotsStandFor}
 use Rattle.inp_model.specs.Reply.{column, cells_answer}
 use Rattle.inp_device.proofs.Making.{made_written, called, cells_at, slots_kept, clients_same, holder_same}
+use Rattle.inp_device.proofs.Growing.{stored_kept}
 use Rattle.inp_device.proofs.present.Present.get_slots.Goals as goal
 
 pub write_column-requires-clause-count : goal.write_column-requires-clause-count
@@ -26,4 +27,5 @@ returns c =
           (called history x old _ c.requires.ready refl refl refl refl refl refl refl refl refl
           (clients_same history x old c.requires.ready refl)
           (holder_same history x old c.requires.ready refl));
+      stored = stored_kept old.handler.clients old.handler.clients _ refl;
     }

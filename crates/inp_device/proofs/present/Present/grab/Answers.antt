@@ -1,6 +1,7 @@
 use Rattle.std.proofs.Common.{refl}
 use Rattle.inp_model.specs.declared.step.Step.TheVariants.{Grab}
 use Rattle.inp_device.proofs.Making.{made_call, called, holder_taken, clients_same}
+use Rattle.inp_device.proofs.Growing.{stored_kept}
 use Rattle.inp_device.proofs.present.Present.grab.Goals as goal
 
 pub returns : goal.returns
@@ -13,4 +14,5 @@ returns c =
           (called history x old _ c.requires.ready refl refl refl refl refl refl refl refl refl
           (clients_same history x old c.requires.ready refl)
           (holder_taken history old c.args.client c.grab.new.self c.grab.result c.requires.ready c.grab.ensures.free.1 c.grab.ensures.ok));
+      stored = stored_kept old.handler.clients old.handler.clients _ refl;
     }

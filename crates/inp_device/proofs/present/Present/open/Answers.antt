@@ -1,7 +1,9 @@
-use Rattle.std.proofs.Common.{reverse, refl}
+use Rattle.std.proofs.Common.{reverse, refl, ap}
 use Rattle.inp_model.specs.declared.step.Step.TheVariants.{Open}
 use Rattle.std.proofs.Common.{arith}
 use Rattle.inp_device.proofs.Making.{opens_unused, opens_fit, made_open, stands_same}
+use Rattle.inp_client.specs.Numbers.{stored_of}
+use Rattle.inp_device.proofs.Growing.{stored_same}
 use Rattle.inp_device.proofs.present.Present.open.Goals as goal
 
 pub open-requires-clause-unused : goal.open-requires-clause-unused
@@ -13,9 +15,11 @@ overflow_add-self c = omega (arith, opens_fit c.args.history.now Open c.args.sel
 pub returns-in-Ok : goal.returns-in-Ok
 returns-in-Ok c = record {
   made = made_open c.args.history.now c.args.self.now _ c.ring-ring.result c.requires.ready c.ring-ring.ensures.ring refl refl refl refl c.in-Ok.ensures.ok refl refl refl;
+  stored = stored_same c.args.self.now.handler.clients c.open.new.self _ c.open.ensures.numbers;
 }
 
 pub returns-in-Err-NoMemory : goal.returns-in-Err-NoMemory
 returns-in-Err-NoMemory c = record {
   made = (refl, refl, refl, stands_same c.args.self.now.caps (reverse c.args.history.now) c.args.self.now _ c.requires.ready.stands refl refl refl refl c.in-Err-NoMemory.ensures.err refl refl refl);
+  stored = ap stored_of c.in-Err-NoMemory.ensures.err;
 }

@@ -2,6 +2,7 @@ use Rattle.std.proofs.Common.{refl, ◌∙◌}
 use Rattle.inp_model.specs.declared.step.Step.TheVariants.{Read}
 use Rattle.inp_client.proofs.OnClock.{on_take}
 use Rattle.inp_device.proofs.Making.{call_on_clock, named_there, made_written, called, accepted-read, clients_read, holder_same}
+use Rattle.inp_device.proofs.Growing.{stored_none_new}
 use Rattle.inp_device.proofs.present.Present.read.Goals as goal
 
 pub take-taken-requires-clause-open : goal.take-taken-requires-clause-open
@@ -19,4 +20,5 @@ returns c =
           (called history x old _ c.requires.ready refl refl refl refl refl refl refl refl refl
           (call_on_clock old.caps c.args.client _ _ old.handler.clients.list (on_take old.caps c.take-taken.result) c.take-taken.ensures.rest ∙ clients_read history old c.args.client c.args.count c.take-taken.result c.requires.ready c.take-taken.ensures.count)
           (holder_same history x old c.requires.ready refl));
+      stored = stored_none_new old.handler.clients c.take-taken.new.self _ c.take-taken.ensures.none_new;
     }

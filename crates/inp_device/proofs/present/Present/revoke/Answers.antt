@@ -6,6 +6,7 @@ use Rattle.inp_client.specs.Clients.{map_client}
 use Rattle.inp_device.proofs.Calls.{clients_after-revoke}
 use Rattle.inp_device.proofs.StandsAfterStep.{holder-revoke}
 use Rattle.inp_device.proofs.Making.{call_on_clock, made_call, called, named_there}
+use Rattle.inp_device.proofs.Growing.{stored_rings}
 use Rattle.inp_device.proofs.present.Present.revoke.Goals as goal
 
 pub revoke-requires : goal.revoke-requires
@@ -21,4 +22,5 @@ returns c =
           (called history x old _ c.requires.ready refl refl refl refl refl refl refl refl refl
           (call_on_clock old.caps c.args.client _ _ old.handler.clients.list (λ v. refl) c.revoke.ensures.revoked ∙ ap (map_client c.args.client after_revoke) c.requires.ready.stands.handler.clients ∙ sym (clients_after-revoke old.caps (reverse history) c.args.client))
           (ap (λ (h : HandleState). h.holder) c.release.ensures.holder ∙ ap (λ (o : Option ℕ). holder_without c.args.client o) c.requires.ready.stands.holder ∙ holder-revoke (reverse history) c.args.client));
+      stored = stored_rings old.handler.clients c.revoke.new.self _ c.revoke.ensures.numbers;
     }

@@ -2,6 +2,7 @@ use Rattle.std.proofs.Common.{reverse, refl}
 use Rattle.inp_model.specs.declared.step.Step.TheVariants.{SetAxis}
 use Rattle.inp_model.proofs.Allowed.{allowed, set_axis_code}
 use Rattle.inp_device.proofs.Making.{made_call, stands_in_core}
+use Rattle.inp_device.proofs.Growing.{stored_kept}
 use Rattle.inp_device.proofs.present.Present.set_axis.Goals as goal
 
 pub describe-requires : goal.describe-requires
@@ -17,4 +18,5 @@ returns c =
           (stands_in_core history x old _ c.requires.ready refl refl refl refl refl
           (c.describe.ensures.stands old.caps (reverse history) c.args.client c.requires.ready.stands.core)
           (c.describe.ensures.made old.caps c.requires.ready.stands.made) refl refl refl refl);
+      stored = stored_kept old.handler.clients old.handler.clients _ refl;
     }

@@ -6,6 +6,7 @@ use Rattle.inp_client.proofs.OnClock.{on_clock}
 use Rattle.inp_client.specs.Clients.{map_client}
 use Rattle.inp_device.proofs.Calls.{clients_after-clock}
 use Rattle.inp_device.proofs.Making.{shown, call_on_clock, made_call, called, named_there, holder_same}
+use Rattle.inp_device.proofs.Growing.{stored_one}
 use Rattle.inp_device.proofs.present.Present.set_clock.Goals as goal
 
 pub set_clock-requires-clause-open : goal.set_clock-requires-clause-open
@@ -21,4 +22,5 @@ returns c =
           (called history x old _ c.requires.ready refl refl refl refl refl refl refl refl refl
           (call_on_clock old.caps c.args.client _ _ old.handler.clients.list (on_clock old.caps c.args.clock c.args.now (length history)) c.set_clock.ensures.set ∙ ap (λ (n : ℕ). map_client c.args.client (read_after_clock old.caps c.args.clock c.args.now n) (shown old)) (sym (length-reverse history)) ∙ ap (map_client c.args.client (read_after_clock old.caps c.args.clock c.args.now (length (reverse history)))) c.requires.ready.stands.handler.clients ∙ sym (clients_after-clock old.caps (reverse history) c.args.client c.args.clock c.args.now))
           (holder_same history x old c.requires.ready refl));
+      stored = stored_one old.handler.clients c.set_clock.new.self _ c.set_clock.ensures.stored;
     }

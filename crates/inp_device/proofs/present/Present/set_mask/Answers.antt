@@ -7,6 +7,7 @@ use Rattle.inp_client.specs.Clients.{map_client}
 use Rattle.inp_model.proofs.Allowed.{allowed, mask_kind, mask_word}
 use Rattle.inp_device.proofs.Calls.{clients_after-mask}
 use Rattle.inp_device.proofs.Making.{call_on_clock, made_call, called, named_there, holder_same}
+use Rattle.inp_device.proofs.Growing.{stored_rings}
 use Rattle.inp_device.proofs.present.Present.set_mask.Goals as goal
 
 pub set_mask-requires-clause-open : goal.set_mask-requires-clause-open
@@ -31,4 +32,5 @@ returns c =
           (called history x old _ c.requires.ready refl refl refl refl refl refl refl refl refl
           (call_on_clock old.caps c.args.client _ _ old.handler.clients.list (λ v. refl) c.set_mask.ensures.set ∙ ap (map_client c.args.client (after_mask c.args.kind c.args.word c.args.bits)) c.requires.ready.stands.handler.clients ∙ sym (clients_after-mask old.caps (reverse history) c.args.client c.args.kind c.args.word c.args.bits (has_word c)))
           (holder_same history x old c.requires.ready refl));
+      stored = stored_rings old.handler.clients c.set_mask.new.self _ c.set_mask.ensures.numbers;
     }

@@ -8,6 +8,7 @@ use Rattle.inp_slots.specs.Slots.{SlotValues, SlotsStandFor}
 use Rattle.inp_model.specs.Reply.{rows, cells_answer}
 use Rattle.inp_client.proofs.OnClock.{on_flush}
 use Rattle.inp_device.proofs.Making.{call_on_clock, named_there, made_written, called, cells_at, slots_kept, clients_asked, holder_same}
+use Rattle.inp_device.proofs.Growing.{stored_none_new}
 use Rattle.inp_device.proofs.present.Present.sync_slots.Goals as goal
 
 pub flush_slots-requires : goal.flush_slots-requires
@@ -32,4 +33,5 @@ returns c =
           (called history x old _ c.requires.ready refl refl refl refl refl refl refl refl refl
           (call_on_clock old.caps c.args.client _ _ old.handler.clients.list (on_flush old.caps Slots) c.flush_slots.ensures.flushed ∙ clients_asked history x old c.args.client Slots c.requires.ready refl refl)
           (holder_same history x old c.requires.ready refl));
+      stored = stored_none_new old.handler.clients c.flush_slots.new.self _ c.flush_slots.ensures.none_new;
     }

@@ -1,6 +1,7 @@
 use Rattle.std.proofs.Common.{refl}
 use Rattle.inp_model.specs.declared.step.Step.TheVariants.{Ungrab}
 use Rattle.inp_device.proofs.Making.{made_call, called, holder_given_up, clients_same}
+use Rattle.inp_device.proofs.Growing.{stored_kept}
 use Rattle.inp_device.proofs.present.Present.ungrab.Goals as goal
 
 pub returns : goal.returns
@@ -13,4 +14,5 @@ returns c =
           (called history x old _ c.requires.ready refl refl refl refl refl refl refl refl refl
           (clients_same history x old c.requires.ready refl)
           (holder_given_up history old c.args.client c.ungrab.new.self c.ungrab.result c.requires.ready c.ungrab.ensures.grabber.1 c.ungrab.ensures.ok));
+      stored = stored_kept old.handler.clients old.handler.clients _ refl;
     }

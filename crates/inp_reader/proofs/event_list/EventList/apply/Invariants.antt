@@ -4,6 +4,6 @@ use Rattle.inp_reader.proofs.event_list.EventList.apply.Given as goal
 
 abbrev pub invariant-loop-index : goal.invariant-loop-index
 invariant-loop-index l = record {
-  taken : l.view ≡ view_after_events l.initial.view (take (l.index - l.first) (drop l.first l.self));
+  taken : l.view ≡ view_after_events l.initial.view (take (l.index - l.first) (drop l.first l.self.events));
   cells : length l.view.cells ≡ length l.initial.view.cells;
 }

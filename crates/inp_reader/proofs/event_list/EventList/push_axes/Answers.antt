@@ -16,6 +16,7 @@ loop-code-preserved c =
     ∙ ap (λ (e : Event). not (int_eq (value_at old c.loop-code.code) e.value)) c.axis_event-event.ensures in
     record {
       pushed = events-more f test c.loop-code.code c.values_differ-wanted.result c.axis_event-event.result _ _ _ c.push_if.ensures.pushed c.loop-code.invariant.pushed is c.axis_event-event.ensures;
+      room = c.push_if.ensures.room ∙ c.loop-code.invariant.room;
       few = omega (arith, c.push_if.ensures.few, c.loop-code.invariant.few);
     }
 
@@ -25,4 +26,4 @@ returns-clause-pushed c =
     let new = c.args.new.now in
     let f : ℕ → Event = λ code. axis_event new code code in
     let all : c.loop-code.code ≡ 64 = omega (arith, c.loop-code-test.false, c.loop-code.auto.code-end) in
-    c.loop-code.invariant.pushed ∙ ap (λ (n : ℕ). c.args.self.now ++ map f (where_below n (differs_at old new))) all
+    c.loop-code.invariant.pushed ∙ ap (λ (n : ℕ). c.args.self.now.events ++ map f (where_below n (differs_at old new))) all

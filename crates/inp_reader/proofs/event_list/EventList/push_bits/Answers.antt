@@ -1,4 +1,4 @@
-use Rattle.std.proofs.Common.{◌≡◌, ℕ, ◌*◌, ◌<◌, List, [], ◌∷◌, ◌++◌, length, map, ap, sym, subst, ◌∙◌, arith, append-nil, append_assoc, length-append}
+use Rattle.std.proofs.Common.{◌≡◌, ℕ, ◌*◌, ◌<◌, List, [], ◌∷◌, ◌++◌, length, map, refl, ap, sym, subst, ◌∙◌, arith, append-nil, append_assoc, length-append}
 use Rattle.std.specs.List.{All, range_with_len, filter}
 use Rattle.std.proofs.lemmas.List.{map-append}
 use Rattle.std.proofs.lemmas.List.Elements.{All-tail}
@@ -15,6 +15,7 @@ loop-code-init g c =
       within = subst (λ (xs : List ℕ). All (λ k. k < 64 * g.row.W) xs) (sym gives) c.differing-code-items.ensures.within;
       room = omega (arith, ap length gives, c.differing-code-items.ensures.few);
       pushed = sym (append-nil _);
+      kept = refl;
       few = omega arith;
     }
 
@@ -30,10 +31,11 @@ loop-code-preserved g c =
       within = All-tail (λ k. k < 64 * g.row.W) code left (subst (λ (l : List ℕ). All (λ k. k < 64 * g.row.W) l) steps c.loop-code.invariant.within);
       room = omega (arith, ap length steps, length-append given (code ∷ []), c.loop-code.invariant.room);
       pushed = c.push.ensures.pushed
-          ∙ ap (λ (e : Event). c.loop-code.self ++ e ∷ []) c.bit_event.ensures
+          ∙ ap (λ (e : Event). c.loop-code.self.events ++ e ∷ []) c.bit_event.ensures
           ∙ ap (λ (l : List Event). l ++ event code ∷ []) c.loop-code.invariant.pushed
-          ∙ append_assoc c.args.self.now (map event given) (event code ∷ [])
-          ∙ ap (λ (l : List Event). c.args.self.now ++ l) (sym (map-append event given (code ∷ [])));
+          ∙ append_assoc c.args.self.now.events (map event given) (event code ∷ [])
+          ∙ ap (λ (l : List Event). c.args.self.now.events ++ l) (sym (map-append event given (code ∷ [])));
+      kept = c.push.ensures.room ∙ c.loop-code.invariant.kept;
       few = omega (arith, c.push.ensures.few, c.loop-code.invariant.few, length-append given (code ∷ []));
     }
 
@@ -44,4 +46,4 @@ returns-clause-pushed g c =
     sym (append-nil c.loop-code.yielded) ∙ ap (λ (l : List ℕ). c.loop-code.yielded ++ l) (sym c.in-None.ensures.steps.0) ∙ c.loop-code.invariant.whole in
     let whole : differing_indices c.args.old.now c.args.new.now ≡ where_below (64 * g.row.W) (bits_differ_at c.args.old.now c.args.new.now) =
     ap (λ (n : ℕ). filter (bits_differ_at c.args.old.now c.args.new.now) (range_with_len 0 n)) c.differing-code-items.ensures.len in
-    c.loop-code.invariant.pushed ∙ ap (λ (l : List ℕ). c.args.self.now ++ map (bit_event c.args.kind c.args.new.now) l) (all ∙ whole)
+    c.loop-code.invariant.pushed ∙ ap (λ (l : List ℕ). c.args.self.now.events ++ map (bit_event c.args.kind c.args.new.now) l) (all ∙ whole)

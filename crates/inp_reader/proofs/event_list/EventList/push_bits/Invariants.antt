@@ -10,6 +10,7 @@ invariant-loop-code g l = record {
   whole : l.yielded ++ l.code-iterator ≡ differing_indices l.old l.new;
   within : All (λ k. k < 64 * g.row.W) l.code-iterator;
   room : length l.yielded + length l.code-iterator ≤ 64 * g.row.W;
-  pushed : l.self ≡ l.initial.self ++ map (bit_event l.kind l.new) l.yielded;
-  few : length l.self ≤ length l.initial.self + length l.yielded;
+  pushed : l.self.events ≡ l.initial.self.events ++ map (bit_event l.kind l.new) l.yielded;
+  kept : l.self.room ≡ l.initial.self.room;
+  few : length l.self.events ≤ length l.initial.self.events + length l.yielded;
 }

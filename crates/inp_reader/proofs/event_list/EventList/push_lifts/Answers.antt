@@ -9,6 +9,7 @@ loop-slot-preserved-then-not-is_replaced c =
     let no : is_replaced c.args.old.now c.args.new.now c.loop-slot.slot ≡ false = search rules in
     record {
       walked = IsWalked-skip (λ slot. lift ∷ []) (is_replaced c.args.old.now c.args.new.now) c.loop-slot.slot c.args.old.now.slot _ _ _ no c.loop-slot.invariant.walked;
+      room = c.loop-slot.invariant.room;
       few = omega (arith, c.loop-slot.invariant.few);
     }
 
@@ -17,6 +18,7 @@ loop-slot-preserved c =
     let is : is_replaced c.args.old.now c.args.new.now c.loop-slot.slot ≡ true = search rules in
     record {
       walked = IsWalked-next (λ slot. lift ∷ []) (is_replaced c.args.old.now c.args.new.now) c.loop-slot.slot c.args.old.now.slot _ _ _ _ _ _ is c.event_of_slot-this.ensures c.loop-slot.invariant.walked c.push_to_slot.ensures.pushed
-          (c.push.ensures.pushed ∙ ap (λ (e : Event). c.push_to_slot.new.self ++ e ∷ []) c.lift.ensures);
+          (c.push.ensures.pushed ∙ ap (λ (e : Event). c.push_to_slot.new.self.events ++ e ∷ []) c.lift.ensures);
+      room = c.push.ensures.room ∙ c.push_to_slot.ensures.room ∙ c.loop-slot.invariant.room;
       few = omega (arith, c.loop-slot.invariant.few, c.push_to_slot.ensures.few, c.push.ensures.few);
     }

@@ -18,6 +18,7 @@ loop-code-preserved c =
     ∙ ap (λ (e : Event). not (int_eq (cell_of old c.args.slot c.loop-code.code) e.value)) c.cell_event-event.ensures in
     record {
       pushed = events-next f test 48 c.loop-code.code c.values_differ-wanted.result c.cell_event-event.result _ _ _ from c.push_if.ensures.pushed c.loop-code.invariant.pushed is c.cell_event-event.ensures;
+      room = c.push_if.ensures.room ∙ c.loop-code.invariant.room;
       few = omega (arith, c.push_if.ensures.few, c.loop-code.invariant.few, from);
     }
 
@@ -28,4 +29,4 @@ returns-clause-pushed c =
     let f : ℕ → Event = cell_event new c.args.slot in
     let test : ℕ → Bool = cells_differ old new c.args.slot in
     let all : c.loop-code.code ≡ 62 = omega (arith, c.loop-code-test.false, c.loop-code.auto.code-end) in
-    c.loop-code.invariant.pushed ∙ ap (λ (n : ℕ). c.args.self.now ++ map f (passing 48 test n)) all
+    c.loop-code.invariant.pushed ∙ ap (λ (n : ℕ). c.args.self.now.events ++ map f (passing 48 test n)) all

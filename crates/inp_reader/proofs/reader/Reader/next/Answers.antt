@@ -24,6 +24,7 @@ invariant_of-self g c = record {
   cells = c.next.ensures.session.cells;
   few = omega (arith, c.next.ensures.few, ap length c.clear.ensures);
   slots = c.next.ensures.session.slots;
+  room = c.next.ensures.session.room;
   described = c.self.invariant.described;
   spare = says-keeps_next _ _ _ _ _ c.args.mode (reading_of c.self.inside.session) _ (c.requires.description ∙ ap (λ (v : ReaderView). v.description) (sym c.self.view_is)) c.self.invariant.spare c.next.ensures.says;
 }

@@ -25,6 +25,7 @@ invariant_of-self g c = record {
   cells = c.start.ensures.session.cells;
   few = omega (arith, c.start.ensures.few, ap length c.clear.ensures);
   slots = c.start.ensures.session.slots;
+  room = c.start.ensures.session.room;
   described = c.self.invariant.described;
   spare = says-keeps_start _ _ _ _ _ (reading_of c.self.inside.session) _ (c.requires.description ∙ ap (λ (v : ReaderView). v.description) (sym c.self.view_is)) c.self.invariant.spare c.start.ensures.says;
 }

@@ -19,6 +19,7 @@ returns-in_default g c =
         asked = c.ask-reply.ensures.ready.view;
         cells = c.ask-reply.ensures.ready.cells;
         slots = c.requires.session.slots;
+        room = c.requires.session.room;
       };
       few = omega (arith, c.ask-reply.ensures.few);
     }

@@ -1,0 +1,10 @@
+use Rattle.std.proofs.Common.{◌≡◌, rules}
+use Rattle.inp_client.specs.Numbers.{stored_of}
+use Rattle.inp_device.proofs.Making.{first_value}
+use Rattle.inp_device.proofs.device.Device.new.Goals as goal
+
+pub returns : goal.returns
+returns c =
+    let described : c.in_ok-present.present.value.caps ≡ c.args.caps = search rules in
+    let stored : stored_of c.in_ok-present.present.value.handler.clients ≡ 0 = search rules in
+    record { fresh = first_value c.in_ok-present.present.value c.args.caps c.in_ok-steps.steps.items described c.in_ok-steps.ensures.items stored }
