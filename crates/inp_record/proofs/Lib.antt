@@ -7,7 +7,6 @@ pub mod CanonRecords
 pub mod CanonWords
 pub mod Computing
 pub mod DescriptionAgain
-pub mod DescriptionItems
 pub mod DescriptionLines
 pub mod Entries
 pub mod FieldFits
@@ -27,6 +26,7 @@ pub mod Rows
 pub mod Sayable
 pub mod SayableItems
 pub mod SayableWords
+pub mod Sections
 pub mod Stamps
 pub mod Streamless
 pub mod Texts
