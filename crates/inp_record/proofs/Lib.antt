@@ -1,10 +1,8 @@
-pub mod CanonCommands
 pub mod CanonItems
 pub mod CanonLines
 pub mod CanonLists
 pub mod CanonPasts
 pub mod CanonRecords
-pub mod CanonWords
 pub mod Computing
 pub mod DescriptionAgain
 pub mod DescriptionLines
@@ -25,7 +23,6 @@ pub mod RoundTrip
 pub mod Rows
 pub mod Sayable
 pub mod SayableItems
-pub mod SayableWords
 pub mod Sections
 pub mod Stamps
 pub mod Streamless
