@@ -1,5 +1,5 @@
 -- Short records worked out by hand: which line is refused and why, or what they mean.
-use Rattle.std.specs.Prelude.{◌≡◌, ℕ, pos, true, false, List, [], ◌∷◌, ◌++◌, codes, replicate, map, sum_by, negsuc, Option, Some, None, Ok, Err, is_ok}
+use Rattle.std.specs.Prelude.{◌≡◌, ℕ, pos, true, List, [], ◌∷◌, ◌++◌, codes, replicate, map, sum_by, negsuc, Option, Some, None, Ok, Err, is_ok}
 use Rattle.inp_model.specs.declared.clock.Clock.TheVariants.{Monotonic, Boottime}
 use Rattle.inp_model.specs.declared.stamped.Stamped.{Stamped}
 use Rattle.inp_model.specs.declared.filter.Filter.TheVariants.{Eat, Norepeat, Chord, Bounce}

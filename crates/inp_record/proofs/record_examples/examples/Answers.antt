@@ -26,7 +26,7 @@ returns-clause-actors c = record { no_device = refl; other = refl; no_name = ref
 
 pub returns-clause-commands : goal.returns-clause-commands
 unfolding record_computing
-returns-clause-commands c = record { none = refl; source = refl; tap = refl; less = refl; more = refl; before_word = refl; later = refl; tap_of_version_2 = refl;  }
+returns-clause-commands c = record { none = refl; source = refl; tap = refl; less = refl; more = refl; before_word = refl; later = refl; tap_of_version_2 = refl }
 
 pub returns-clause-words : goal.returns-clause-words
 unfolding record_computing
@@ -42,7 +42,7 @@ returns-clause-more c = record { device = refl; source = refl; stream = refl; bo
 
 pub returns-clause-descriptions : goal.returns-clause-descriptions
 unfolding record_computing
-returns-clause-descriptions c = record { hint = refl; log = refl; realtime = refl; boottime = refl; slots = refl; slots_of_version_1 = refl; slots_of_version_2 = refl; type_line = refl; cap = refl; cap_of_axis = refl; axis_code = refl; axis = refl;  }
+returns-clause-descriptions c = record { hint = refl; log = refl; realtime = refl; boottime = refl; slots = refl; slots_of_version_1 = refl; slots_of_version_2 = refl; type_line = refl; cap = refl; cap_of_axis = refl; axis_code = refl; axis = refl }
 
 pub returns-clause-filters : goal.returns-clause-filters
 unfolding record_computing
@@ -50,11 +50,11 @@ returns-clause-filters c = record { version_1 = refl; alone = refl; before_place
 
 pub returns-clause-joysticks : goal.returns-clause-joysticks
 unfolding record_computing
-returns-clause-joysticks c = record { version_1 = refl; behind_an_action = refl; grab = refl; count = refl;  }
+returns-clause-joysticks c = record { version_1 = refl; behind_an_action = refl; grab = refl; count = refl }
 
 pub returns-clause-owners : goal.returns-clause-owners
 unfolding record_computing
-returns-clause-owners c = record { version_1 = refl; owner_of_version_1 = refl; under_device = refl; under_a_later_device = refl; behind_an_action = refl; device_behind_an_action = refl; again_first = refl; device_again = refl; second = refl; second_behind_others = refl; ninth_device = refl; opening = refl; feedback_of_a_tap = refl; no_count = refl;  }
+returns-clause-owners c = record { version_1 = refl; owner_of_version_1 = refl; under_device = refl; under_a_later_device = refl; behind_an_action = refl; device_behind_an_action = refl; again_first = refl; device_again = refl; second = refl; second_behind_others = refl; ninth_device = refl; opening = refl; feedback_of_a_tap = refl; no_count = refl }
 
 pub returns-clause-accepted : goal.returns-clause-accepted
 unfolding record_computing
