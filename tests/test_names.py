@@ -196,8 +196,7 @@ def unindented(code):
 # A row of the definitions: its name, the word or how many words stand before, for whom, and what its words are.
 TERM = r"(\((?:[^()]|\([^()]*\))*\)|\[\]|\w+)\s"
 COMMAND_ROW = re.compile(rf'^command_row stream role (\w+) =\s+verb_line \(codes "(\w+)"\) (\w+) {TERM}', re.M)
-LINE_ROW = re.compile(rf"^line_row (\w+) =\s+item_line \d {TERM}", re.M)
-KEYWORD = re.compile(r'\(codes "(\w+)", (\w+)\)')
+LINE_ROW = re.compile(rf'^line_row \w+ =\s+item_line \(codes "(\w+)"\) (\d) {TERM}', re.M)
 FIELDS = re.compile(r"^(\w+) = (.* ∷ \[\])$", re.M)
 GROUPS = {
     "Sources": "source",
@@ -242,13 +241,12 @@ def command_rows(verbs, fields):
             yield " ".join([word, *forms(term, lists)]), role
 
 
-def line_rows(lines, keywords, fields):
+def line_rows(lines, fields):
     """The lines of the definitions that are no actions, as a page has them."""
-    lists, named, kinds = dict(FIELDS.findall(fields)), *map(KEYWORD.findall, keywords.split("filter_rows =", 1))
-    words = {key: word for word, key in named} | {key: f"filter {word}" for word, key in kinds}
-    for key, term in LINE_ROW.findall(lines):
+    lists = dict(FIELDS.findall(fields))
+    for word, first, term in LINE_ROW.findall(lines):
         if "Never" not in term and "Version" not in term:
-            line = " ".join([words[key], *forms(term, lists)])
+            line = " ".join([word if first == "1" else f"filter {word}", *forms(term, lists)])
             yield from WRITTEN.get(line, {line})
 
 
@@ -472,7 +470,7 @@ class Callers(unittest.TestCase):
 class Tables(unittest.TestCase):
     def setUp(self):
         specs = TOP / "crates" / "inp_record" / "specs"
-        self.read = {name: (specs / f"{name}.antt").read_text() for name in ("Verb", "Line", "Keyword", "Field")}
+        self.read = {name: (specs / f"{name}.antt").read_text() for name in ("Verb", "Line", "Field")}
         self.page = (TOP / "docs" / "FORMATS.md").read_text()
 
     def test_the_commands_of_the_page_are_the_rows_of_the_definition(self):
@@ -482,7 +480,7 @@ class Tables(unittest.TestCase):
         self.assertEqual(30, len(rows))
 
     def test_the_lines_of_the_page_are_the_rows_of_the_definition(self):
-        rows = set(line_rows(self.read["Line"], self.read["Keyword"], self.read["Field"]))
+        rows = set(line_rows(self.read["Line"], self.read["Field"]))
         said = {line for lines, *_ in table(self.page, "Line") for line in re.findall("`([^`]+)`", lines)}
         self.assertEqual(said, rows | {"do NAME .."})
         self.assertEqual(19, len(rows))
@@ -496,7 +494,8 @@ command_row stream role Open = verb_line (codes "open") Openers [] commands.Open
 '''
         found = [("event MOMENT TYPE", "source"), ("read NUMBER", "tap"), ("read NUMBER", "joy"), ("open", "client, tap, joy")]
         self.assertEqual(found, list(command_rows(verbs, "")))
-        keywords = '(codes "hint", Hint) ∷ []\nfilter_rows =\n    (codes "eat", Eat) ∷ []'
-        lines = "line_row Hint = item_line 1 (field.count ∷ []) items.Hint\nline_row Eat = item_line 2 (field.Kind ∷ []) (λ k. k)\n"
-        self.assertEqual(["hint NUMBER", "filter eat TYPE"], list(line_rows(lines, keywords, "")))
+        lines = '''line_row Hint = item_line (codes "hint") 1 (field.count ∷ []) items.Hint
+line_row Eat = item_line (codes "eat") 2 (field.Kind ∷ []) (λ k. k)
+'''
+        self.assertEqual(["hint NUMBER", "filter eat TYPE"], list(line_rows(lines, "")))
         self.assertEqual([["`a`", "b"]], table("\n| A | B |\n|---|---|\n| `a` | b |\n\nC", "A"))

@@ -1,3 +1,6 @@
 mod Computing
 mod Filters
+pub mod PlainLines
+pub mod WordsAgain
+pub mod WordsSaid
 mod Written

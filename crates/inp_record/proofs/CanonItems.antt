@@ -35,9 +35,10 @@ use Rattle.inp_record.specs.declared.keyword.Keyword as keyword
 use Rattle.inp_record.specs.declared.keyword.Keyword.TheVariants as keywords
 use Rattle.inp_record.proofs.Sayable.{keyword_for, keyword_for_role, keyword_for_device, keyword_for_filter, is_later_role, is_header_item, is_action_item, is_later_item, acts, IsSayableAction, IsSayable, IsAccepted, after_all, AreAccepted}
 use Rattle.inp_record.proofs.CanonLines.{is_plain, IsPlainLine, ArePlainLines, line_of, lines_cut, line_read, empty_read}
-use Rattle.inp_record.proofs.CanonWords.{version_read, is_plain-name}
+use Rattle.inp_canon.proofs.WordsAgain.{is_plain-name}
+use Rattle.inp_record.proofs.Fields.{version_read}
 use Rattle.inp_record.proofs.Lines.{of_line, plain_read, plain_line}
-use Rattle.inp_record.proofs.CanonCommands.{do_words, do_keyword, command_read, command_plain}
+use Rattle.inp_record.proofs.Rows.{do_words, do_keyword, command_read, command_plain}
 
 -- a line whose words are those of its keyword is read where it may stand
 placed_read : (c : Context) (k : keyword.Keyword) (ws : Words) (i : Item) → keyword_of c.version (word 0 ws) (word 1 ws) (length ws) ≡ Some k → is_first_place c.place ≡ false → is_out_of_place c.place c.requested k ≡ false

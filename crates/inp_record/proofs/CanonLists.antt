@@ -30,6 +30,13 @@ enumerate_push n (x ∷ xs) y =
     let e : n + 1 + length xs ≡ n + suc (length xs) = omega arith in
     ap (λ l. (n, x) ∷ l) (enumerate_push (n + 1) xs y ∙ ap (λ (k : ℕ). enumerate_from (n + 1) xs ++ (k, y) ∷ []) e)
 
+-- what comes of one device more
+devices_push : (f : ℕ × DeviceText → List Item) (devices : List DeviceText) (d : DeviceText) → flat_map f (enumerate_from 0 (devices ++ d ∷ [])) ≡ flat_map f (enumerate_from 0 devices) ++ f (0 + length devices, d)
+devices_push f devices d =
+    ap (flat_map f) (enumerate_push 0 devices d)
+    ∙ flat_map-append f (enumerate_from 0 devices) ((0 + length devices, d) ∷ [])
+    ∙ ap (λ (l : List Item). flat_map f (enumerate_from 0 devices) ++ l) (append-nil (f (0 + length devices, d)))
+
 -- a device without actors
 no_actors : (k : ℕ) (actors : List ActorText) → AreBelow k actors → flat_map (actor_items k) actors ≡ []
 no_actors k [] h = refl
@@ -46,11 +53,9 @@ head_device version actors devices d below =
     let k : 0 + length devices ≡ length devices = omega arith in
     let none : flat_map (actor_items (0 + length devices)) actors ≡ [] = rw k (no_actors (length devices) actors below) in
     ap (λ (l : List Item). Header version ∷ l)
-    (ap (flat_map f) (enumerate_push 0 devices d)
-    ∙ flat_map-append f (enumerate_from 0 devices) ((0 + length devices, d) ∷ [])
+    (devices_push f devices d
     ∙ ap (λ (l : List Item). flat_map f (enumerate_from 0 devices) ++ l)
-    (append-nil (f (0 + length devices, d))
-    ∙ ap (λ (l : List Item). Device d.requested d.name ∷ (description_items d.caps ++ l)) none
+    (ap (λ (l : List Item). Device d.requested d.name ∷ (description_items d.caps ++ l)) none
     ∙ ap (λ (l : List Item). Device d.requested d.name ∷ l) (append-nil (description_items d.caps))))
 
 -- an actor of a later device changes nothing of these
@@ -85,18 +90,12 @@ head_actor version actors new devices d e =
     let f = device_items actors in
     let g = device_items (actors ++ new ∷ []) in
     let at : new.device ≡ 0 + length devices = omega arith in
-    let split : flat_map f (enumerate_from 0 (devices ++ d ∷ [])) ≡ flat_map f (enumerate_from 0 devices) ++ f (0 + length devices, d) =
-    ap (flat_map f) (enumerate_push 0 devices d)
-    ∙ flat_map-append f (enumerate_from 0 devices) ((0 + length devices, d) ∷ [])
-    ∙ ap (λ (l : List Item). flat_map f (enumerate_from 0 devices) ++ l) (append-nil (f (0 + length devices, d))) in
     ap (λ (l : List Item). Header version ∷ l)
-    (ap (flat_map g) (enumerate_push 0 devices d)
-    ∙ flat_map-append g (enumerate_from 0 devices) ((0 + length devices, d) ∷ [])
-    ∙ ap (λ (l : List Item). flat_map g (enumerate_from 0 devices) ++ l) (append-nil (g (0 + length devices, d)))
+    (devices_push g devices d
     ∙ ap (λ (l : List Item). l ++ g (0 + length devices, d)) (others_same actors new devices 0 (omega arith))
     ∙ ap (λ (l : List Item). flat_map f (enumerate_from 0 devices) ++ l) (device_push actors new (0 + length devices) d at)
     ∙ sym (append_assoc (flat_map f (enumerate_from 0 devices)) (f (0 + length devices, d)) (Actor new.role new.name ∷ []))
-    ∙ ap (λ (l : List Item). l ++ Actor new.role new.name ∷ []) (sym split))
+    ∙ ap (λ (l : List Item). l ++ Actor new.role new.name ∷ []) (sym (devices_push f devices d)))
 
 pub all_action : (version : ℕ) (actors : List ActorText) (devices : List DeviceText) (lines : List Line) (l : Line)
     → all_items version actors devices (lines ++ l ∷ []) ≡ all_items version actors devices lines ++ action_item_of l ∷ []

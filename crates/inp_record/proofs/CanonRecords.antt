@@ -10,6 +10,7 @@ use Rattle.inp_actors.specs.declared.line.Line.{Line}
 use Rattle.inp_actors.specs.declared.command.Command.{Command}
 use Rattle.inp_actors.specs.declared.role.Role.{Role}
 use Rattle.inp_record.specs.declared.context.Context.{Context}
+use Rattle.inp_record.specs.declared.context.Given.{Given}
 use Rattle.inp_record.specs.declared.context.TheConstants.{SLOTS_OF_VERSION_1}
 use Rattle.inp_record.specs.declared.item.Item.{Item}
 use Rattle.inp_record.specs.declared.item.Item.TheVariants.{Header, Device, Slots, Code, Filter, Actor, Action}
@@ -25,8 +26,8 @@ use Rattle.inp_record.proofs.Sayable.{keyword_for_device, are_early, IsAccepted,
 use Rattle.inp_record.proofs.Good.{IsGood, actor_place, good}
 use Rattle.inp_record.proofs.CanonLists.{head_items, all_items, AreBelow, head_device, head_actor, all_action}
 use Rattle.inp_record.proofs.MadeDescriptions.{IsGathered, IsMadeDescription, gathered_alone, gathered_after, made_of, built_slots, built_filters}
-use Rattle.inp_record.proofs.DescriptionItems.{undescribed, after_all-append, accepted_then, described_all}
-use Rattle.inp_record.proofs.DescriptionAgain.{description-describes, description-accepted, description-again}
+use Rattle.inp_record.proofs.Sections.{after_all-append, accepted_then}
+use Rattle.inp_record.proofs.DescriptionAgain.{undescribed, description-laid}
 
 -- the canonical items of what lines left
 abbrev pub canon : Context → List Item
@@ -48,20 +49,15 @@ device_behind requested name x = after (Device requested name) (record x { name 
 
 -- such a line is accepted behind what it cannot tell apart
 
-accepted_settled : (c : Context) (i : Item) → is_settled_item i ≡ true → IsAccepted c i → IsAccepted (settled c) i
-accepted_settled c (Device requested name) n a = record { sayable = a.sayable; headed = a.headed; in_place = a.in_place; later = a.later; in_version = refl; once = a.once; few = a.few; few_slots = refl; fits = refl }
-accepted_settled c (Actor role name) n a = record { sayable = a.sayable; headed = a.headed; in_place = a.in_place; later = a.later; in_version = refl; once = a.once; few = a.few; few_slots = refl; fits = refl }
-accepted_settled c (Action actor does) n a = record { sayable = a.sayable; headed = a.headed; in_place = refl; later = refl; in_version = a.in_version; once = refl; few = a.few; few_slots = refl; fits = refl }
-accepted_settled c i n a = absurd (cc n)
-
-settled_accepted : (c : Context) (i : Item) → is_settled_item i ≡ true → IsAccepted (settled c) i → IsAccepted c i
-settled_accepted c (Device requested name) n a = record { sayable = a.sayable; headed = a.headed; in_place = a.in_place; later = a.later; in_version = refl; once = a.once; few = a.few; few_slots = refl; fits = refl }
-settled_accepted c (Actor role name) n a = record { sayable = a.sayable; headed = a.headed; in_place = a.in_place; later = a.later; in_version = refl; once = a.once; few = a.few; few_slots = refl; fits = refl }
-settled_accepted c (Action actor does) n a = record { sayable = a.sayable; headed = a.headed; in_place = refl; later = refl; in_version = a.in_version; once = refl; few = a.few; few_slots = refl; fits = refl }
-settled_accepted c i n a = absurd (cc n)
+settled_accepted : (c : Context) (b : Description) (g : Given) (i : Item) → is_settled_item i ≡ true → IsAccepted c i → IsAccepted (record c { builder = b; given = g }) i
+settled_accepted c b g (Device requested name) n a = record { sayable = a.sayable; headed = a.headed; in_place = a.in_place; later = a.later; in_version = refl; once = a.once; few = a.few; few_slots = refl; fits = refl }
+settled_accepted c b g (Actor role name) n a = record { sayable = a.sayable; headed = a.headed; in_place = a.in_place; later = a.later; in_version = refl; once = a.once; few = a.few; few_slots = refl; fits = refl }
+settled_accepted c b g (Action actor does) n a = record { sayable = a.sayable; headed = a.headed; in_place = refl; later = refl; in_version = a.in_version; once = refl; few = a.few; few_slots = refl; fits = refl }
+settled_accepted c b g i n a = absurd (cc n)
 
 accepted_like : (c new : Context) (i : Item) → is_settled_item i ≡ true → settled new ≡ settled c → IsAccepted c i → IsAccepted new i
-accepted_like c new i n like a = settled_accepted new i n (subst (λ (x : Context). IsAccepted x i) (sym like) (accepted_settled c i n a))
+accepted_like c new i n like a =
+    settled_accepted (settled new) new.builder new.given i n (subst (λ (x : Context). IsAccepted x i) (sym like) (settled_accepted c (built c.builder) no_given i n a))
 
 -- what a line leaves is sound: its builder gathers, has no more slots than its version allows, and has filters where its
 -- version has them
@@ -140,17 +136,15 @@ again_described c at made s b =
     ∙ append-nil (head_items c.version c.actors (devices_of c))
     ∙ ap (λ (n : Option (List ℕ)). head_items c.version c.actors (with_latest c.devices n c.requested d)) named
     ∙ head_device c.version c.actors c.devices (record { name = b.name; caps = d; requested = c.requested }) b.below in
-    let described = description-accepted d c made (ap (λ (n : ℕ). has_too_many_slots c (Slots n)) (built_slots c.builder) ∙ s.slots) (ap (are_early c.version) (built_filters c.builder) ∙ s.filters) in
-    let e = after_all (description_items d) (undescribed c) in
+    let laid = description-laid d c made (ap (λ (n : ℕ). has_too_many_slots c (Slots n)) (built_slots c.builder) ∙ s.slots) (ap (are_early c.version) (built_filters c.builder) ∙ s.filters) in
     let P : Context → Type 0 = λ x. AreAccepted x (description_items d) in
     let Q : List Item → Type 0 = λ x. AreAccepted first_context x in
     record {
-      accepted = subst Q (sym is) (accepted_then first_context heads (Device c.requested b.name ∷ description_items d) b.heads (b.device, subst P (sym b.is) described));
+      accepted = subst Q (sym is) (accepted_then first_context heads (Device c.requested b.name ∷ description_items d) b.heads (b.device, subst P (sym b.is) laid.0));
       like = ap (λ (l : List Item). settled (after_all l first_context)) is
           ∙ ap settled (after_all-append heads (Device c.requested b.name ∷ description_items d) first_context)
           ∙ ap (λ (x : Context). settled (after_all (description_items d) x)) b.is
-          ∙ ap settled (described_all (description_items d) (undescribed c) (description-describes d) refl)
-          ∙ ap (λ (x : Description). describing c (built x) no_given) (description-again d c made)
+          ∙ ap settled laid.1.is
           ∙ ap (λ (x : Description). describing c x no_given) made.whole
           ∙ ap (λ (p : Place). record c { place = p; builder = built c.builder; given = no_given }) (sym at);
     }

@@ -13,7 +13,7 @@ use Rattle.inp_record.specs.declared.item.Item.TheVariants as items
 use Rattle.inp_record.specs.Spelling.{item_words, number_items, slots_items, kind_items, code_items, codes_items, axis_items, plain_items, filter_items, description_items}
 
 -- the words of one item, where there is one
-map_if : (f : Item → Words) (b : Bool) (i : Item) → (if b then f i ∷ [] else []) ≡ map f (if b then i ∷ [] else [])
+pub map_if : (f : Item → Words) (b : Bool) (i : Item) → (if b then f i ∷ [] else []) ≡ map f (if b then i ∷ [] else [])
 map_if f true i = refl
 map_if f false i = refl
 
@@ -21,15 +21,12 @@ map_unless : (f : Item → Words) (b : Bool) (i : Item) → (if b then [] else f
 map_unless f true i = refl
 map_unless f false i = refl
 
-map_each : (f : Item → Words) (lines : ℕ → List Words) (items : ℕ → List Item) → ((n : ℕ) → lines n ≡ map f (items n)) → (ns : List ℕ) → flat_map lines ns ≡ map f (flat_map items ns)
-map_each f lines items each [] = refl
-map_each f lines items each (n ∷ ns) =
-    ap (λ (l : List Words). l ++ flat_map lines ns) (each n)
-    ∙ ap (λ (l : List Words). map f (items n) ++ l) (map_each f lines items each ns)
-    ∙ sym (map-append f (items n) (flat_map items ns))
-
-both : (f : Item → Words) (xs ys : List Words) (is js : List Item) → xs ≡ map f is → ys ≡ map f js → xs ++ ys ≡ map f (is ++ js)
+pub both : (f : Item → Words) (xs ys : List Words) (is js : List Item) → xs ≡ map f is → ys ≡ map f js → xs ++ ys ≡ map f (is ++ js)
 both f xs ys is js p q = ap (λ (l : List Words). l ++ ys) p ∙ ap (λ (l : List Words). map f is ++ l) q ∙ sym (map-append f is js)
+
+pub map_each : {X : Type 0} (f : Item → Words) (lines : X → List Words) (items : X → List Item) → ((x : X) → lines x ≡ map f (items x)) → (xs : List X) → flat_map lines xs ≡ map f (flat_map items xs)
+map_each f lines items each [] = refl
+map_each f lines items each (x ∷ xs) = both f (lines x) (flat_map lines xs) (items x) (flat_map items xs) (each x) (map_each f lines items each xs)
 
 numbers_are : (actors : List ActorText) (d : Description) → number_lines d ≡ map (item_words actors) (number_items d)
 unfolding number_lines

@@ -29,19 +29,14 @@ pub code_filters : (d : Description) (kind code : ℕ) → (with_code d kind cod
 code_filters d kind code = grind (arith, nat_tests)
 
 -- the offsets of the latest description are those that its device gave
-pub realtime_is : (past : Past) → (context_of past).builder.realtime ≡ unwrap_or (context_of past).given.realtime 0
-realtime_is [] = refl
-realtime_is (Device requested name ∷ past) = refl
-realtime_is (Realtime offset ∷ past) = refl
-realtime_is (Code kind code ∷ past) = code_realtime (with_kind (context_of past).builder kind) kind code ∙ realtime_is past
-realtime_is (i ∷ past) = realtime_is past
-
-pub boottime_is : (past : Past) → (context_of past).builder.boottime ≡ unwrap_or (context_of past).given.boottime 0
-boottime_is [] = refl
-boottime_is (Device requested name ∷ past) = refl
-boottime_is (Boottime offset ∷ past) = refl
-boottime_is (Code kind code ∷ past) = code_boottime (with_kind (context_of past).builder kind) kind code ∙ boottime_is past
-boottime_is (i ∷ past) = boottime_is past
+offsets_are : (past : Past) → ((context_of past).builder.realtime ≡ unwrap_or (context_of past).given.realtime 0) × ((context_of past).builder.boottime ≡ unwrap_or (context_of past).given.boottime 0)
+offsets_are [] = (refl, refl)
+offsets_are (Device requested name ∷ past) = (refl, refl)
+offsets_are (Realtime offset ∷ past) = (refl, (offsets_are past).1)
+offsets_are (Boottime offset ∷ past) = ((offsets_are past).0, refl)
+offsets_are (Code kind code ∷ past) =
+    let d = with_kind (context_of past).builder kind in (code_realtime d kind code ∙ (offsets_are past).0, code_boottime d kind code ∙ (offsets_are past).1)
+offsets_are (i ∷ past) = offsets_are past
 
 pub axis_refused : (over bad : Bool) (item : Item) (why : CapsRefused) → (if over then Err BadCode else if bad then Err BadAxis else Ok (tt {0})) ≡ Err why
     → unless_refused (if over then Some BadCode else if bad then Some BadAxis else None) item ≡ Err (Caps why)
@@ -49,34 +44,29 @@ axis_refused true bad item why e = cc
 axis_refused false true item why e = cc
 axis_refused false false item why e = absurd (cc)
 
-pub offset_refused : (within other : Bool) (item : Item) (why : CapsRefused) → other ≡ true → (if within && other then Ok (tt {0}) else Err BadOffset) ≡ Err why
-    → unless_refused (if within then None else Some BadOffset) item ≡ Err (Caps why)
-offset_refused true true item why h e = absurd (cc)
-offset_refused true false item why h e = absurd (cc)
-offset_refused false other item why h e = cc
+-- of two offsets the other one is within the limit
 
-pub offset_refused-2 : (within other : Bool) (item : Item) (why : CapsRefused) → other ≡ true → (if other && within then Ok (tt {0}) else Err BadOffset) ≡ Err why
-    → unless_refused (if within then None else Some BadOffset) item ≡ Err (Caps why)
-offset_refused-2 true true item why h e = absurd (cc)
-offset_refused-2 false true item why h e = cc
-offset_refused-2 within false item why h e = absurd (cc)
+pub and_first : (a b : Bool) → b ≡ true → (a && b) ≡ a
+and_first true b h = h
+and_first false b h = refl
+
+pub offset_refused : (both within : Bool) (item : Item) (why : CapsRefused) → both ≡ within → (if both then Ok (tt {0}) else Err BadOffset) ≡ Err why → unless_refused (if within then None else Some BadOffset) item ≡ Err (Caps why)
+offset_refused true true item why same e = absurd (cc)
+offset_refused false false item why same e = cc
+offset_refused both within item why same e = absurd (cc same)
+
+pub offset_taken : (both within : Bool) (done : Unit {0}) → both ≡ within → (if both then Ok (tt {0}) else Err BadOffset) ≡ Ok done → (if within then None else Some BadOffset) ≡ None
+offset_taken true true done same e = refl
+offset_taken false within done same e = absurd (cc)
+offset_taken both false done same e = absurd (cc same)
 
 pub realtime_entered : (c : Context) (past : Past) (builder : Description) (offset : ℕ) → c ≡ context_of past → builder ≡ record c.builder { realtime = offset; boottime = unwrap_or c.given.boottime 0 }
     → record c { place = Describing; builder = builder; given = record c.given { realtime = Some offset } } ≡ context_of (Realtime offset ∷ past)
-realtime_entered c past builder offset e h = rw (h, e, ← boottime_is past) refl
+realtime_entered c past builder offset e h = rw (h, e, ← (offsets_are past).1) refl
 
 pub boottime_entered : (c : Context) (past : Past) (builder : Description) (offset : ℕ) → c ≡ context_of past → builder ≡ record c.builder { realtime = unwrap_or c.given.realtime 0; boottime = offset }
     → record c { place = Describing; builder = builder; given = record c.given { boottime = Some offset } } ≡ context_of (Boottime offset ∷ past)
-boottime_entered c past builder offset e h = rw (h, e, ← realtime_is past) refl
-
-pub offset_taken : (within other : Bool) → (done : Unit {0}) → other ≡ true → (if within && other then Ok (tt {0}) else Err BadOffset) ≡ Ok done → (if within then None else Some BadOffset) ≡ None
-offset_taken true other done h e = refl
-offset_taken false other done h e = absurd (cc)
-
-pub offset_taken-2 : (within other : Bool) → (done : Unit {0}) → other ≡ true → (if other && within then Ok (tt {0}) else Err BadOffset) ≡ Ok done → (if within then None else Some BadOffset) ≡ None
-offset_taken-2 true other done h e = refl
-offset_taken-2 false true done h e = absurd (cc)
-offset_taken-2 false false done h e = absurd (cc)
+boottime_entered c past builder offset e h = rw (h, e, ← (offsets_are past).0) refl
 
 -- a line whose command its version has, that is said once, is not one too many and gives no more slots than there may be
 checked_once : (c : Context) (means : Result Item Cause) (item : Item) → means ≡ Ok item → is_later_command c item ≡ false → is_twice c item ≡ false → is_too_many c item ≡ false → has_too_many_slots c item ≡ false → checked c means ≡ unless_refused (builder_refusal c.builder item) item

@@ -1,18 +1,54 @@
 -- Fields, written and read again: each field once, and lists of fields from that.
-use Rattle.std.proofs.Common.{◌≡◌, ℕ, zero, suc, ◌+◌, ◌-◌, ◌^◌, ◌≤◌, ◌<◌, Bool, true, false, if◌then◌else◌, nat_eq, nat_lt, List, [], ◌∷◌, length, drop, Option, Some, None, refl, sym, ap, ◌∙◌, subst, arith}
+use Rattle.std.proofs.Common.{◌≡◌, ℕ, zero, suc, ◌+◌, ◌-◌, ◌^◌, ◌≤◌, ◌<◌, Bool, true, false, if◌then◌else◌, nat_eq, nat_lt, List, [], ◌∷◌, bytes_eq, codes, decimal, length, drop, Option, Some, None, refl, sym, ap, ◌∙◌, subst, arith}
 use Rattle.std.specs.Prelude.{option_and_then, slice_index_or}
 use Rattle.std.specs.List.{list_all}
+use Rattle.std.specs.Fmt.{digits}
 use Rattle.std.proofs.lemmas.Bool.{and_parts, ltb-true}
 use Rattle.std.proofs.lemmas.Bool.Decides.{nat_tests}
 use Rattle.inp_actors.specs.Name.{is_name}
+use Rattle.inp_actors.specs.declared.record.TheConstants.{VERSION_MAX}
+use Rattle.inp_texts.specs.Texts.{clock_text}
 use Rattle.inp_words.specs.Number.{number}
-use Rattle.inp_record.specs.Field.{Field, Number, Positive, Bits, Signed, Kind, Code, CodeOf, Clock, Name, File, Version, OtherClock, Never, other_clock, ValueOf, field_word, field_text, kind_behind, unless_zero, Makes, made}
+use Rattle.inp_words.specs.Table.{named}
+use Rattle.inp_canon.proofs.PlainLines.{IsPlainWord, is_plain}
+use Rattle.inp_canon.proofs.WordsAgain.{decimal_read, decimal_plain, signed_read, signed_plain, bits_read, bits_plain, kind_read, kind_plain, code_read, code_plain, clock_plain, is_plain-name, is_plain-word}
+use Rattle.inp_canon.proofs.WordsSaid.{number_most, signed_fits, kind_fits, code_fits}
+use Rattle.inp_model.specs.declared.clock.Clock as clock
+use Rattle.inp_model.specs.declared.clock.Clock.TheVariants.{Realtime, Monotonic, Boottime}
+use Rattle.inp_record.specs.Field.{Field, Number, Positive, Bits, Signed, Kind, Code, CodeOf, Clock, Name, File, Version, OtherClock, Never, clock_rows, other_clock_rows, other_clock, version_word, name_word, ValueOf, field_word, field_text, kind_behind, unless_zero, Makes, made}
 use Rattle.inp_record.proofs.Options.{and_then_is}
 use Rattle.inp_record.proofs.FieldFits.{is_sound, FitsField, Values, FitsFields, of_values, written}
-use Rattle.inp_record.proofs.Sayable.{IsPlainWord}
-use Rattle.inp_record.proofs.CanonLines.{is_plain}
-use Rattle.inp_record.proofs.CanonWords.{decimal_read, decimal_plain, signed_read, signed_plain, bits_read, bits_plain, kind_read, kind_plain, code_read, code_plain, clock_read, other_clock_read, version_read, clock_plain, name_read, is_plain-name, is_plain-word}
-use Rattle.inp_record.proofs.SayableWords.{number_most, signed_fits, kind_fits, code_fits, version_fits}
+
+-- the words of clocks, versions and names
+
+clock_read : (k : clock.Clock) → named clock_rows (clock_text k) ≡ Some k
+unfolding clock_text clock_rows
+clock_read Realtime = refl
+clock_read Monotonic = refl
+clock_read Boottime = refl
+
+other_clock_read : (boot : Bool) → named other_clock_rows (clock_text (other_clock boot)) ≡ Some boot
+unfolding clock_text other_clock_rows
+other_clock_read true = refl
+other_clock_read false = refl
+
+pub version_read : (version : ℕ) → 1 ≤ version → version ≤ VERSION_MAX → version_word (decimal version) ≡ Some version
+unfolding digits
+version_read zero some few = absurd (omega arith)
+version_read (suc zero) some few = refl
+version_read (suc (suc zero)) some few = refl
+version_read (suc (suc (suc n))) some few = absurd (omega arith)
+
+name_read : (w : List ℕ) → is_name w ≡ true → name_word w ≡ Some w
+name_read w h = rw h refl
+
+version_fits : (w : List ℕ) (n : ℕ) → version_word w ≡ Some n → (1 ≤ n) × (n ≤ VERSION_MAX)
+version_fits w n e = by_words (bytes_eq w (codes "1")) (bytes_eq w (codes "2")) e
+  where
+    by_words : (one two : Bool) → (if one then Some 1 else if two then Some 2 else None) ≡ Some n → (1 ≤ n) × (n ≤ VERSION_MAX)
+    by_words true two e = let same : 1 ≡ n = cc e in (omega (arith, same), omega (arith, same))
+    by_words false true e = let same : 2 ≡ n = cc e in (omega (arith, same), omega (arith, same))
+    by_words false false e = absurd (cc e)
 
 -- one field
 

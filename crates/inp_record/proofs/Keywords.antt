@@ -3,10 +3,11 @@ use Rattle.std.proofs.Common.{◌≡◌, ℕ, Bool, true, false, not, if◌then�
 use Rattle.std.specs.Prelude.{option_and_then}
 use Rattle.std.specs.List.{list_all}
 use Rattle.std.proofs.lemmas.Slice.Eq.{bytes_eq-Decides}
-use Rattle.std.proofs.lemmas.Bool.{and_parts}
+use Rattle.std.proofs.lemmas.Bool.{and_parts, both_ways}
 use Rattle.inp_words.specs.Table.{named}
 use Rattle.inp_record.specs.declared.keyword.Keyword as keyword
 use Rattle.inp_record.specs.declared.keyword.Keyword.TheVariants as keywords
+use Rattle.inp_record.specs.Line.{line_row}
 use Rattle.inp_record.specs.Keyword.{keyword_rows, filter_rows, filter_keyword, keyword_under, has_words, with_words, keyword_of}
 use Rattle.inp_record.specs.Words.{is_action}
 use Rattle.inp_record.proofs.Options.{and_then_is}
@@ -28,7 +29,7 @@ abbrev is_do_alone : List ℕ × keyword.Keyword → Bool
 is_do_alone row = if is_action row.1 then bytes_eq row.0 (codes "do") else not (bytes_eq row.0 (codes "do"))
 
 rows_are_do_alone : list_all is_do_alone keyword_rows ≡ true
-unfolding keyword_rows
+unfolding keyword_rows line_row
 rows_are_do_alone = refl
 
 do_by_tests : (a b : Bool) → (if a then b else not b) ≡ true → a ≡ b
@@ -57,7 +58,7 @@ abbrev is_no_action : List ℕ × keyword.Keyword → Bool
 is_no_action row = not (is_action row.1)
 
 kinds_do_nothing : list_all is_no_action filter_rows ≡ true
-unfolding filter_rows
+unfolding filter_rows line_row
 kinds_do_nothing = refl
 
 no_action : (b : Bool) → not b ≡ true → b ≡ false
@@ -102,33 +103,29 @@ is_later_keyword keywords.Joy = true
 is_later_keyword keywords.Owner = true
 is_later_keyword _ = false
 
--- the second word of a line names these alone
-abbrev is_first : keyword.Keyword → Bool
-is_first keywords.Eat = false
-is_first keywords.Norepeat = false
-is_first keywords.Chord = false
-is_first keywords.Bounce = false
-is_first _ = true
+-- of the first words these alone have a version
+abbrev is_gated : List ℕ × keyword.Keyword → Bool
+is_gated (w, keywords.Filter) = true
+is_gated (w, keywords.Udevice) = true
+is_gated (w, keywords.Joy) = true
+is_gated (w, keywords.Owner) = true
+is_gated (w, k) = not (is_later_keyword k)
 
-rows_are_first : list_all (λ (row : List ℕ × keyword.Keyword). is_first row.1) keyword_rows ≡ true
-unfolding keyword_rows
-rows_are_first = refl
+rows_are_gated : list_all is_gated keyword_rows ≡ true
+unfolding keyword_rows line_row
+rows_are_gated = refl
 
-kept_version : (version : ℕ) (second : List ℕ) (base k : keyword.Keyword) → keyword_under version second base ≡ Some k → is_first base ≡ true → is_later_keyword k ≡ true → nat_eq version 1 ≡ false
-kept_version version second keywords.Filter k e row h = (later_is (nat_eq version 1) (filter_keyword second) k e).0
-kept_version version second keywords.Udevice k e row h = (later_is (nat_eq version 1) keywords.Udevice k e).0
-kept_version version second keywords.Joy k e row h = (later_is (nat_eq version 1) keywords.Joy k e).0
-kept_version version second keywords.Owner k e row h = (later_is (nat_eq version 1) keywords.Owner k e).0
-kept_version version second keywords.Eat k e row h = absurd (cc row)
-kept_version version second keywords.Norepeat k e row h = absurd (cc row)
-kept_version version second keywords.Chord k e row h = absurd (cc row)
-kept_version version second keywords.Bounce k e row h = absurd (cc row)
-kept_version version second base k e row h =
+kept_version : (version : ℕ) (first second : List ℕ) (base k : keyword.Keyword) → keyword_under version second base ≡ Some k → is_gated (first, base) ≡ true → is_later_keyword k ≡ true → nat_eq version 1 ≡ false
+kept_version version first second keywords.Filter k e row h = (later_is (nat_eq version 1) (filter_keyword second) k e).0
+kept_version version first second keywords.Udevice k e row h = (later_is (nat_eq version 1) keywords.Udevice k e).0
+kept_version version first second keywords.Joy k e row h = (later_is (nat_eq version 1) keywords.Joy k e).0
+kept_version version first second keywords.Owner k e row h = (later_is (nat_eq version 1) keywords.Owner k e).0
+kept_version version first second base k e row h =
     let same : base ≡ k = cc e in
-    let none : is_later_keyword base ≡ is_later_keyword k = ap is_later_keyword same in
-    absurd (cc (none, h))
+    let none : is_later_keyword base ≡ false = no_action (is_later_keyword base) row in
+    absurd (both_ways (is_later_keyword k) (sym (ap is_later_keyword same) ∙ none) h)
 
 pub keyword_is_later : (version : ℕ) (first second : List ℕ) (count : ℕ) (k : keyword.Keyword) → keyword_of version first second count ≡ Some k → is_later_keyword k ≡ true → nat_eq version 1 ≡ false
 keyword_is_later version first second count k e h =
     let f = keyword_from version first second count k e in
-    kept_version version second f.0 k f.2 (named_passes (λ (row : List ℕ × keyword.Keyword). is_first row.1) keyword_rows first f.0 rows_are_first f.1) h
+    kept_version version first second f.0 k f.2 (named_passes is_gated keyword_rows first f.0 rows_are_gated f.1) h

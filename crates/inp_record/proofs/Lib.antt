@@ -1,13 +1,10 @@
-pub mod CanonCommands
 pub mod CanonItems
 pub mod CanonLines
 pub mod CanonLists
 pub mod CanonPasts
 pub mod CanonRecords
-pub mod CanonWords
 pub mod Computing
 pub mod DescriptionAgain
-pub mod DescriptionItems
 pub mod DescriptionLines
 pub mod Entries
 pub mod FieldFits
@@ -26,7 +23,7 @@ pub mod RoundTrip
 pub mod Rows
 pub mod Sayable
 pub mod SayableItems
-pub mod SayableWords
+pub mod Sections
 pub mod Stamps
 pub mod Streamless
 pub mod Texts

@@ -89,7 +89,7 @@ set_more (x ∷ l) zero (suc k) e = e
 set_more (x ∷ l) (suc i) zero e = e
 set_more (x ∷ l) (suc i) (suc k) e = set_more l i k e
 
-pub set_again : (l : List Bool) (i : ℕ) → get_or l i false ≡ true → set l i true ≡ l
+set_again : (l : List Bool) (i : ℕ) → get_or l i false ≡ true → set l i true ≡ l
 set_again l i e = ap (λ (b : Bool). set l i b) (sym e) ∙ set-get_or l i false
 
 kinds_more : (kinds : List Bool) (kind : ℕ) → AreKnownKinds kinds → is_kind kind ≡ true → AreKnownKinds (set kinds kind true)
@@ -314,7 +314,7 @@ gathered_default d code m g within good fits typed =
     let said : IsSayableInfo (record no_info { maximum = m }) = record { value = zero_fits.value; minimum = zero_fits.value; maximum = fits; fuzz = zero_fits.value; flat = zero_fits.value; resolution = zero_fits.value } in
     cond_both (get_or d.axes code false) _ _ IsGathered (λ e. g) (λ e. gathered_axis d code (record no_info { maximum = m }) g within good said typed)
 
-kind_again : (d : Description) (kind : ℕ) → get_or d.kinds kind false ≡ true → with_kind d kind ≡ d
+pub kind_again : (d : Description) (kind : ℕ) → get_or d.kinds kind false ≡ true → with_kind d kind ≡ d
 kind_again d kind e = ap (λ (l : List Bool). record d { kinds = l }) (set_again d.kinds kind e)
 
 axis_again : (d : Description) (code : ℕ) (m : ℤ) → get_or d.axes code false ≡ true → with_default_axis d code m ≡ d

@@ -1,58 +1,42 @@
 -- The canonical text of a record that bytes mean is read as that record again.
-use Rattle.std.proofs.Common.{◌≡◌, ℕ, Bool, true, false, not, if◌then◌else◌, nat_eq, List, [], ◌∷◌, ◌++◌, length, map, replicate, Ok, refl, sym, ap, ◌∙◌, subst}
+use Rattle.std.proofs.Common.{◌≡◌, ℕ, Bool, true, false, not, nat_eq, List, [], ◌∷◌, ◌++◌, length, map, replicate, Ok, refl, sym, ap, ◌∙◌, subst}
 use Rattle.std.specs.Prelude.{flat_map}
 use Rattle.std.specs.List.{list_all, enumerate_from}
 use Rattle.std.proofs.lemmas.Bool.{and_from, and_parts, both_ways, not-true}
-use Rattle.std.proofs.lemmas.List.{map-append}
 use Rattle.inp_actors.specs.declared.actor_text.ActorText.{ActorText}
 use Rattle.inp_actors.specs.declared.device_text.DeviceText.{DeviceText}
 use Rattle.inp_actors.specs.declared.line.Line.{Line}
 use Rattle.inp_actors.specs.Record.{RecordView}
 use Rattle.inp_canon.specs.Words.{Words, lines_text}
+use Rattle.inp_canon.specs.Device.{description_lines}
 use Rattle.inp_canon.specs.Text.{actor_lines, actors_lines, device_lines, devices_lines, action_words, record_lines, record_text}
 use Rattle.inp_words.specs.Line.{lines_of as text_lines}
 use Rattle.inp_record.specs.declared.context.Context.{Context}
 use Rattle.inp_record.specs.declared.item.Item.{Item}
-use Rattle.inp_record.specs.declared.item.Item.TheVariants.{Header, Device, Actor, Action}
+use Rattle.inp_record.specs.declared.item.Item.TheVariants.{Header, Device, Actor}
 use Rattle.inp_record.specs.declared.place.Place.TheVariants.{Start}
 use Rattle.inp_record.specs.Place.{is_first_place}
 use Rattle.inp_record.specs.Past.{Past, with_latest, devices_of, first_context, after, context_of}
 use Rattle.inp_record.specs.Meaning.{behind_lines, record_of_past, record_of_context, meaning}
 use Rattle.inp_record.specs.Spelling.{item_words, description_items, actor_items, device_items, action_item_of, RoundTrips}
 use Rattle.inp_record.proofs.Reading.{meaning_read, headed}
-use Rattle.inp_record.proofs.Texts.{all_weaker}
-use Rattle.inp_record.proofs.Sayable.{is_action_item, is_describing_item, after_all, WereAccepted}
+use Rattle.inp_record.proofs.Sayable.{is_action_item, after_all, WereAccepted}
 use Rattle.inp_record.proofs.CanonItems.{AreBehindActors, behind_items, context_behind, items_read}
 use Rattle.inp_record.proofs.CanonPasts.{meaning_of_past}
 use Rattle.inp_record.proofs.CanonLists.{head_items, all_items}
 use Rattle.inp_record.proofs.CanonRecords.{canon, settled, not_first, kept}
-use Rattle.inp_record.proofs.DescriptionLines.{description-lines}
-use Rattle.inp_record.proofs.DescriptionItems.{after_all-append, all_if, all_both, all_each}
-use Rattle.inp_record.proofs.DescriptionAgain.{description-describes}
+use Rattle.inp_record.proofs.DescriptionLines.{map_if, map_each, both, description-lines}
+use Rattle.inp_record.proofs.Sections.{after_all-append, all_if, all_both, all_each}
+use Rattle.inp_record.proofs.DescriptionAgain.{description-acts}
 
 -- the canonical lines say the canonical items
-
-lines_each : {X : Type 0} (f : Item → Words) (lines : X → List Words) (items : X → List Item) → ((x : X) → lines x ≡ map f (items x)) → (xs : List X) → flat_map lines xs ≡ map f (flat_map items xs)
-lines_each f lines items each [] = refl
-lines_each f lines items each (x ∷ xs) =
-    ap (λ (l : List Words). l ++ flat_map lines xs) (each x)
-    ∙ ap (λ (l : List Words). map f (items x) ++ l) (lines_each f lines items each xs)
-    ∙ sym (map-append f (items x) (flat_map items xs))
-
-actor_line : (actors : List ActorText) (k : ℕ) (a : ActorText) → actor_lines k a ≡ map (item_words actors) (actor_items k a)
-actor_line actors k a = by_device (nat_eq a.device k)
-  where
-    by_device : (is : Bool) → (if is then item_words actors (Actor a.role a.name) ∷ [] else []) ≡ map (item_words actors) (if is then Actor a.role a.name ∷ [] else [])
-    by_device true = refl
-    by_device false = refl
 
 device_line : (actors : List ActorText) (d : ℕ × DeviceText) → device_lines actors d ≡ map (item_words actors) (device_items actors d)
 unfolding device_lines actors_lines device_items
 device_line actors d =
     ap (λ (l : List Words). item_words actors (Device d.1.requested d.1.name) ∷ l)
-    (ap (λ (l : List Words). l ++ actors_lines actors d.0) (description-lines actors d.1.caps)
-    ∙ ap (λ (l : List Words). map (item_words actors) (description_items d.1.caps) ++ l) (lines_each (item_words actors) (actor_lines d.0) (actor_items d.0) (actor_line actors d.0) actors)
-    ∙ sym (map-append (item_words actors) (description_items d.1.caps) (flat_map (actor_items d.0) actors)))
+    (both (item_words actors) (description_lines d.1.caps) (actors_lines actors d.0) (description_items d.1.caps) (flat_map (actor_items d.0) actors) (description-lines actors d.1.caps)
+    (map_each (item_words actors) (actor_lines d.0) (actor_items d.0) (λ a. map_if (item_words actors) (nat_eq a.device d.0) _) actors))
 
 action_lines : (actors : List ActorText) (lines : List Line) → map (action_words actors) lines ≡ map (item_words actors) (map action_item_of lines)
 action_lines actors [] = refl
@@ -63,11 +47,8 @@ lines_are : (version : ℕ) (actors : List ActorText) (devices : List DeviceText
 unfolding devices_lines
 lines_are version actors devices lines =
     let f = item_words actors in
-    let heads = flat_map (device_items actors) (enumerate_from 0 devices) in
-    ap (λ (l : List Words). f (Header version) ∷ l)
-    (ap (λ (l : List Words). l ++ map (action_words actors) lines) (lines_each f (device_lines actors) (device_items actors) (device_line actors) (enumerate_from 0 devices))
-    ∙ ap (λ (l : List Words). map f heads ++ l) (action_lines actors lines)
-    ∙ sym (map-append f heads (map action_item_of lines)))
+    let heads = map_each f (device_lines actors) (device_items actors) (device_line actors) (enumerate_from 0 devices) in
+    ap (λ (l : List Words). f (Header version) ∷ l) (both f _ (map (action_words actors) lines) _ (map action_item_of lines) heads (action_lines actors lines))
 
 text_is : (c : Context) → record_text (record_of_context c) ≡ lines_text (map (item_words c.actors) (canon c))
 unfolding record_text record_lines
@@ -78,16 +59,12 @@ text_is c = ap lines_text (lines_are c.version c.actors (devices_of c) c.lines)
 abbrev is_no_action : Item → Bool
 is_no_action i = not (is_action_item i)
 
-no_action : (i : Item) → is_describing_item i ≡ true → is_no_action i ≡ true
-no_action (Action actor does) d = absurd (cc d)
-no_action i d = refl
-
 none_of_device : (actors : List ActorText) (d : ℕ × DeviceText) → list_all is_no_action (device_items actors d) ≡ true
 unfolding device_items
 none_of_device actors d =
     let p = is_no_action in
     and_from true (list_all p (description_items d.1.caps ++ flat_map (actor_items d.0) actors)) refl
-    (all_both p (description_items d.1.caps) (flat_map (actor_items d.0) actors) (all_weaker is_describing_item p no_action (description_items d.1.caps) (description-describes d.1.caps))
+    (all_both p (description_items d.1.caps) (flat_map (actor_items d.0) actors) (description-acts d.1.caps)
     (all_each p (actor_items d.0) (λ a. all_if p (nat_eq a.device d.0) (Actor a.role a.name) refl) actors))
 
 none_in_heads : (version : ℕ) (actors : List ActorText) (devices : List DeviceText) → list_all is_no_action (head_items version actors devices) ≡ true

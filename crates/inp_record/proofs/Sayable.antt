@@ -1,6 +1,5 @@
 -- When an item can be said by words, and when a line that says it is accepted behind others.
-use Rattle.std.proofs.Common.{◌≡◌, ◌<◌, ◌≤◌, ◌^◌, ℕ, Bool, true, false, ◌&&◌, ◌||◌, not, nat_eq, nat_le, List, [], ◌∷◌, slice_get, Some, None, FitsSigned, w32, refl}
-use Rattle.std.specs.List.{list_all}
+use Rattle.std.proofs.Common.{◌≡◌, ◌<◌, ◌≤◌, ◌^◌, ℕ, Bool, true, false, ◌&&◌, ◌||◌, not, nat_eq, List, [], ◌∷◌, slice_get, Some, None, FitsSigned, w32, refl}
 use Rattle.inp_model.specs.declared.axis_info.AxisInfo.{AxisInfo}
 use Rattle.inp_model.specs.declared.limits.TheConstants.{BOUNCE_MAX}
 use Rattle.inp_model.specs.declared.filter.Filter as filter
@@ -12,7 +11,7 @@ use Rattle.inp_actors.specs.declared.command.Command as command
 use Rattle.inp_actors.specs.declared.record.TheConstants.{VERSION_MAX}
 use Rattle.inp_actors.specs.Name.{is_name}
 use Rattle.inp_actors.specs.Command.{is_joy, is_owner}
-use Rattle.inp_words.specs.Line.{is_word}
+pub use Rattle.inp_canon.proofs.PlainLines.{is_visible, IsPlainWord}
 use Rattle.inp_record.specs.declared.item.Item.{Item}
 use Rattle.inp_record.specs.declared.item.Item.TheVariants.{Header, Device, Hint, Log, Realtime, Boottime, Slots, Kind, Code, Axis, Filter, Actor, Action}
 use Rattle.inp_record.specs.declared.keyword.Keyword as keyword
@@ -77,14 +76,6 @@ IsSayableFilter (filters.Eat kind code) = (kind ≤ 65535) × (code ≤ 65535)
 IsSayableFilter filters.Norepeat = Unit {0}
 IsSayableFilter (filters.Chord first second) = (first ≤ 65535) × (second ≤ 65535)
 IsSayableFilter (filters.Bounce code micros) = (code ≤ 65535) × (1 ≤ micros) × (micros ≤ BOUNCE_MAX)
-
--- a word as a line of text has it: not empty, and each byte visible
-abbrev pub is_visible : ℕ → Bool
-is_visible b = nat_le 33 b && nat_le b 126
-
-pub record IsPlainWord (w : List ℕ) : Type 0 where
-  pub some : is_word w ≡ true
-  pub visible : list_all is_visible w ≡ true
 
 -- the actor of this number is there and the first of its name, and its role has the command
 pub record IsSayableAction (actors : List ActorText) (stream actor : ℕ) (does : command.Command) : Type 0 where

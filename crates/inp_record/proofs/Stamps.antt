@@ -1,10 +1,11 @@
 -- Streams, record by record.
-use Rattle.std.proofs.Common.{◌≡◌, ℕ, zero, suc, ◌+◌, ◌-◌, ◌*◌, ◌/◌, ◌<◌, ◌≤◌, Bool, true, false, ◌||◌, if◌then◌else◌, nat_eq, nat_le, nat_lt, List, [], ◌∷◌, ◌++◌, length, drop, take, Option, Some, None, option_map, Result, Ok, Err, refl, sym, ap, ◌∙◌, append_assoc, length-drop, add-one, arith, ◌⊎◌, inl, inr}
+use Rattle.std.proofs.Common.{◌≡◌, ℕ, zero, suc, ◌+◌, ◌-◌, ◌*◌, ◌/◌, ◌<◌, ◌≤◌, Bool, true, false, ◌||◌, if◌then◌else◌, nat_eq, nat_le, nat_lt, List, [], ◌∷◌, ◌++◌, length, drop, take, Option, Some, None, option_map, Result, Ok, Err, refl, sym, ap, ◌∙◌, append_assoc, length-drop, add-one, arith, inl, inr}
 use Rattle.std.specs.Prelude.{slice_get}
 use Rattle.std.specs.List.{list_all, range_with_len}
 use Rattle.std.proofs.lemmas.List.{append-nil, take_rest}
 use Rattle.std.proofs.Math.Nat.{add-div_right, div-le_self}
 use Rattle.std.proofs.lemmas.Bool.Decides.{nat_tests}
+use Rattle.std.proofs.lemmas.List.Folds.{list_all-append}
 use Rattle.std.proofs.lemmas.Bool.{and_parts}
 use Rattle.inp_model.specs.declared.event.Event.{Event}
 use Rattle.inp_model.specs.declared.stamped.Stamped.{Stamped}
@@ -17,6 +18,7 @@ use Rattle.inp_stream.specs.declared.stream_refused.StreamRefused.{StreamRefused
 use Rattle.inp_stream.specs.declared.stream_refused.StreamRefused.TheVariants.{Short, BadTime}
 use Rattle.inp_stream.specs.Stream.{record_len, microseconds_of, moment_in, event_in, decoded}
 use Rattle.inp_record.specs.Stream.{stamped_before, stamps_from, stamps_of}
+use Rattle.inp_record.proofs.Options.{push_get}
 
 not_refused : {V : Type 0} (short bad : Bool) (v w : V) → (if short then Err Short else if bad then Err BadTime else Ok v) ≡ Ok w → (short ≡ false) × (bad ≡ false) × (v ≡ w)
 not_refused true bad v w e = absurd (cc e)
@@ -75,12 +77,6 @@ none_left t stamps [] h =
     ap (λ (k : ℕ). option_map (λ (s : List Stamped). stamps ++ s) (stamps_from t k [])) none ∙ ap (λ (l : List Stamped). Some l) (append-nil stamps)
 none_left t stamps (b ∷ rest) h = absurd (omega arith)
 
-push_get : (xs : List Stamped) (y : Stamped) (i : ℕ) (a : Stamped) → slice_get (xs ++ y ∷ []) i ≡ Some a → (slice_get xs i ≡ Some a) ⊎ (a ≡ y)
-push_get [] y zero a e = inr (cc e)
-push_get [] y (suc i) a e = absurd (cc e)
-push_get (x ∷ xs) y zero a e = inl e
-push_get (x ∷ xs) y (suc i) a e = push_get xs y i a e
-
 pub pushed_in_time : (stamps : List Stamped) (x : Stamped) → AreInTime stamps → x.now ≤ MOMENT_MAX → AreInTime (stamps ++ x ∷ [])
 pushed_in_time stamps x h k i s g = elim (push_get stamps x i s g) [
   | inl e ↦ h i s e
@@ -96,13 +92,6 @@ below a (suc n) =
     let rest : list_all (λ k. nat_lt k (a + suc n)) (range_with_len (a + 1) n) ≡ true = rw same at (below (a + 1) n) in
     rw (first, rest) refl
 
-parts_all : (p : ℕ → Bool) (xs ys : List ℕ) → list_all p (xs ++ ys) ≡ true → (list_all p xs ≡ true) × (list_all p ys ≡ true)
-parts_all p [] ys h = (refl, h)
-parts_all p (x ∷ xs) ys h =
-    let first = (and_parts (p x) (list_all p (xs ++ ys)) h).0 in
-    let rest = parts_all p xs ys (and_parts (p x) (list_all p (xs ++ ys)) h).1 in
-    (rw (first, rest.0) refl, rest.1)
-
 first_all : (p : ℕ → Bool) (xs : List ℕ) (k : ℕ) → first_of xs ≡ Some k → list_all p xs ≡ true → p k ≡ true
 first_all p [] k e h = absurd (cc e)
 first_all p (x ∷ xs) k e h = let same : x ≡ k = cc e in rw same at (and_parts (p x) (list_all p xs) h).0
@@ -111,8 +100,8 @@ stream_all : (p : ℕ → Bool) (lines : List Line) (i : ℕ) (l : Line) (k : �
 stream_all p [] i l k g s h = absurd (cc g)
 stream_all p (x ∷ lines) zero l k g s h =
     let same : x ≡ l = cc g in
-    first_all p (stream_of x.command) k (ap (λ (y : Line). first_of (stream_of y.command)) same ∙ s) (parts_all p (stream_of x.command) (streams_of lines) h).0
-stream_all p (x ∷ lines) (suc i) l k g s h = stream_all p lines i l k g s (parts_all p (stream_of x.command) (streams_of lines) h).1
+    first_all p (stream_of x.command) k (ap (λ (y : Line). first_of (stream_of y.command)) same ∙ s) (and_parts _ _ (sym (list_all-append p (stream_of x.command) (streams_of lines)) ∙ h)).0
+stream_all p (x ∷ lines) (suc i) l k g s h = stream_all p lines i l k g s (and_parts _ _ (sym (list_all-append p (stream_of x.command) (streams_of lines)) ∙ h)).1
 
 pub stream_within : (lines : List Line) (n i : ℕ) (l : Line) (k : ℕ) → slice_get lines i ≡ Some l → first_of (stream_of l.command) ≡ Some k → streams_of lines ≡ range_with_len 0 n → k < n
 stream_within lines n i l k g s e =

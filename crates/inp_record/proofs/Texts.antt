@@ -15,11 +15,6 @@ byte_is_ascii b h = grind (arith, nat_tests)
 pub IsUtf8-from_text : (word : List ℕ) → is_text word ≡ true → IsUtf8 word
 IsUtf8-from_text word h = IsUtf8-from_ascii word (bytes_are_ascii is_text_byte byte_is_ascii word h)
 
--- what passes one test passes a weaker one
-pub all_weaker : {X : Type 0} (p q : X → Bool) → ((x : X) → p x ≡ true → q x ≡ true) → (xs : List X) → list_all p xs ≡ true → list_all q xs ≡ true
-all_weaker p q fits [] h = refl
-all_weaker p q fits (x ∷ xs) h = let parts = and_parts (p x) (list_all p xs) h in and_from (q x) (list_all q xs) (fits x parts.0) (all_weaker p q fits xs parts.1)
-
 kept_all : (test : List ℕ → Bool) (ws : List (List ℕ)) → list_all test ws ≡ true → list_all test (filter is_word ws) ≡ true
 kept_all test [] h = refl
 kept_all test (w ∷ ws) h =

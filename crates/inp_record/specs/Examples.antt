@@ -1,14 +1,16 @@
 -- Short records worked out by hand: which line is refused and why, or what they mean.
-use Rattle.std.specs.Prelude.{◌≡◌, ℕ, pos, true, false, List, [], ◌∷◌, ◌++◌, codes, replicate, map, sum_by, negsuc, Option, Some, None, Ok, Err, is_ok}
+use Rattle.std.specs.Prelude.{◌≡◌, ℕ, pos, true, List, [], ◌∷◌, ◌++◌, codes, replicate, map, sum_by, negsuc, Option, Some, None, Ok, Err, is_ok}
 use Rattle.inp_model.specs.declared.clock.Clock.TheVariants.{Monotonic, Boottime}
 use Rattle.inp_model.specs.declared.stamped.Stamped.{Stamped}
 use Rattle.inp_model.specs.declared.filter.Filter.TheVariants.{Eat, Norepeat, Chord, Bounce}
-use Rattle.inp_model.specs.Description.{one_key as keyboard, no_info, syn_alone}
+use Rattle.inp_model.specs.Description.{no_info, syn_alone}
 use Rattle.inp_caps.specs.declared.caps_refused.CapsRefused.TheVariants.{BadCode, BadAxis, BadSlots, BadHint, BadLog, BadOffset, BadFilter}
 use Rattle.inp_actors.specs.declared.command.Command as command
 use Rattle.inp_actors.specs.declared.command.Command.TheVariants as commands
 use Rattle.inp_actors.specs.declared.role.Role.TheVariants as roles
-use Rattle.inp_actors.specs.Record.{RecordView}
+use Rattle.inp_actors.specs.declared.device_text.DeviceText.{DeviceText}
+use Rattle.inp_actors.specs.declared.actor_text.ActorText.{ActorText}
+use Rattle.inp_canon.specs.Examples.{device as described, actor, action, keyboard}
 use Rattle.inp_stream.specs.Examples.{press as press_event, press_record, press_record16}
 use Rattle.inp_texts.specs.Texts.{text_of_lines}
 use Rattle.inp_record.specs.declared.cause.Cause.{Cause}
@@ -58,7 +60,6 @@ pub record RefusesHeaders : Type 0 where
   pub version_number : AreRefusedAt 1 BadHeader (codes "inputrecord 02" ∷ [])
   pub no_version : AreRefusedAt 1 BadHeader (codes "inputrecord" ∷ [])
   pub more : AreRefusedAt 1 BadHeader (codes "inputrecord 1 1" ∷ [])
-  pub device : AreRefusedAt 2 BadHeader (codes "# a device" ∷ codes "device d" ∷ [])
   pub no_keyword : AreRefusedAt 1 BadHeader (codes "foo" ∷ [])
 
 -- A first word that begins no line, or another number of words.
@@ -67,17 +68,8 @@ pub record RefusesLines : Type 0 where
   pub capital : AreRefusedAt 2 BadLine (header_lines ++ codes "Device d" ∷ [])
   pub second_header : AreRefusedAt 2 BadLine (header_lines ++ codes "inputrecord" ∷ [])
   pub device : AreRefusedAt 2 BadLine (header_lines ++ codes "device" ∷ [])
-  pub device_more : AreRefusedAt 2 BadLine (header_lines ++ codes "device a b" ∷ [])
-  pub hint : AreRefusedAt 3 BadLine (device_lines ++ codes "hint" ∷ [])
-  pub log : AreRefusedAt 3 BadLine (device_lines ++ codes "log 1 1" ∷ [])
-  pub clock : AreRefusedAt 3 BadLine (device_lines ++ codes "clock realtime" ∷ [])
-  pub slots : AreRefusedAt 3 BadLine (device_lines ++ codes "slots" ∷ [])
   pub type_line : AreRefusedAt 3 BadLine (device_lines ++ codes "type EV_KEY KEY_A" ∷ [])
-  pub cap : AreRefusedAt 3 BadLine (device_lines ++ codes "cap EV_KEY" ∷ [])
   pub axis : AreRefusedAt 3 BadLine (device_lines ++ codes "axis ABS_X 0 0 0 0 0" ∷ [])
-  pub source : AreRefusedAt 3 BadLine (device_lines ++ codes "source" ∷ [])
-  pub client : AreRefusedAt 3 BadLine (device_lines ++ codes "client a b" ∷ [])
-  pub tap : AreRefusedAt 3 BadLine (device_lines ++ codes "tap" ∷ [])
   pub action : AreRefusedAt 3 BadLine (device_lines ++ codes "do x" ∷ [])
   pub before_place : AreRefusedAt 2 BadLine (header_lines ++ codes "hint" ∷ [])
 
@@ -85,15 +77,9 @@ pub record RefusesLines : Type 0 where
 pub record RefusesPlaces : Type 0 where
   pub second_header : AreRefusedAt 2 OutOfPlace (header_lines ++ codes "inputrecord 9" ∷ [])
   pub hint : AreRefusedAt 2 OutOfPlace (header_lines ++ codes "hint 16" ∷ [])
-  pub log : AreRefusedAt 6 OutOfPlace (actor_lines ++ codes "log 16" ∷ [])
   pub clock : AreRefusedAt 7 OutOfPlace (actor_lines ++ codes "do t open" ∷ codes "clock realtime 0" ∷ [])
-  pub slots : AreRefusedAt 2 OutOfPlace (header_lines ++ codes "slots 2" ∷ [])
-  pub type_line : AreRefusedAt 4 OutOfPlace (device_lines ++ codes "source s" ∷ codes "type EV_KEY" ∷ [])
-  pub cap : AreRefusedAt 4 OutOfPlace (device_lines ++ codes "tap t" ∷ codes "cap EV_KEY KEY_A" ∷ [])
-  pub axis : AreRefusedAt 4 OutOfPlace (device_lines ++ codes "client c" ∷ codes "axis ABS_X 0 0 0 0 0 0" ∷ [])
   pub source : AreRefusedAt 2 OutOfPlace (header_lines ++ codes "source s" ∷ [])
   pub client : AreRefusedAt 7 OutOfPlace (actor_lines ++ codes "do t open" ∷ codes "client d" ∷ [])
-  pub tap : AreRefusedAt 7 OutOfPlace (actor_lines ++ codes "do t open" ∷ codes "tap d" ∷ [])
   pub device : AreRefusedAt 7 OutOfPlace (actor_lines ++ codes "do t open" ∷ codes "device e" ∷ [])
   pub before_words : AreRefusedAt 2 OutOfPlace (header_lines ++ codes "hint x" ∷ [])
 
@@ -102,24 +88,18 @@ pub record RefusesActors : Type 0 where
   pub no_device : AreRefusedAt 2 NoActor (header_lines ++ codes "do x open" ∷ [])
   pub other : AreRefusedAt 6 NoActor (actor_lines ++ codes "do x open" ∷ [])
   pub no_name : AreRefusedAt 6 NoActor (actor_lines ++ codes "do T open" ∷ [])
-  pub device : AreRefusedAt 6 NoActor (actor_lines ++ codes "do d open" ∷ [])
   pub before_command : AreRefusedAt 6 NoActor (actor_lines ++ codes "do x foo" ∷ [])
 
 -- A command that its actor does not have, or with another number of words.
 pub record RefusesCommands : Type 0 where
   pub none : AreRefusedAt 6 BadCommand (actor_lines ++ codes "do t foo" ∷ [])
   pub source : AreRefusedAt 6 BadCommand (actor_lines ++ codes "do s open" ∷ [])
-  pub client : AreRefusedAt 6 BadCommand (actor_lines ++ codes "do c read 1" ∷ [])
   pub tap : AreRefusedAt 6 BadCommand (actor_lines ++ codes "do t follow" ∷ [])
-  pub tap_source : AreRefusedAt 6 BadCommand (actor_lines ++ codes "do t tick 1" ∷ [])
-  pub source_describes : AreRefusedAt 6 BadCommand (actor_lines ++ codes "do s setaxis ABS_X 0 0 0 0 0 0" ∷ [])
-  pub less_of_an_axis : AreRefusedAt 6 BadCommand (actor_lines ++ codes "do t setaxis ABS_X 0 0 0 0 0" ∷ [])
   pub less : AreRefusedAt 6 BadCommand (actor_lines ++ codes "do t read" ∷ [])
   pub more : AreRefusedAt 6 BadCommand (actor_lines ++ codes "do t open 1" ∷ [])
   pub before_word : AreRefusedAt 6 BadCommand (actor_lines ++ codes "do t read x x" ∷ [])
   pub later : AreRefusedAt 6 BadCommand (actor_lines ++ codes "do s stream16 f" ∷ [])
   pub tap_of_version_2 : AreRefusedAt 4 BadCommand (later_lines ++ codes "tap t" ∷ codes "do t stream16 f" ∷ [])
-  pub no_file : AreRefusedAt 4 BadCommand (later_lines ++ codes "source s" ∷ codes "do s stream16" ∷ [])
 
 -- A word that does not have its form or its range.
 pub record RefusesWords : Type 0 where
@@ -127,23 +107,15 @@ pub record RefusesWords : Type 0 where
   pub long_name : AreRefusedAt 2 BadWord (header_lines ++ codes "device abcdefghijklmnopqrstuvwxyz0123456" ∷ [])
   pub hint : AreRefusedAt 3 BadWord (device_lines ++ codes "hint x" ∷ [])
   pub wide_hint : AreRefusedAt 3 BadWord (device_lines ++ codes "hint 4294967296" ∷ [])
-  pub log : AreRefusedAt 3 BadWord (device_lines ++ codes "log -1" ∷ [])
   pub clock : AreRefusedAt 3 BadWord (device_lines ++ codes "clock monotonic 0" ∷ [])
   pub offset : AreRefusedAt 3 BadWord (device_lines ++ codes "clock realtime 18446744073709551616" ∷ [])
-  pub slots : AreRefusedAt 3 BadWord (device_lines ++ codes "slots 0x" ∷ [])
   pub type_line : AreRefusedAt 3 BadWord (device_lines ++ codes "type EV_FF" ∷ [])
-  pub cap : AreRefusedAt 3 BadWord (device_lines ++ codes "cap 7 KEY_A" ∷ [])
-  pub axis_code : AreRefusedAt 3 BadWord (device_lines ++ codes "axis KEY_A 0 0 0 0 0 0" ∷ [])
   pub axis_number : AreRefusedAt 3 BadWord (device_lines ++ codes "axis ABS_X 0 0 2147483648 0 0 0" ∷ [])
-  pub actor : AreRefusedAt 3 BadWord (device_lines ++ codes "source S" ∷ [])
   pub moment : AreRefusedAt 6 BadWord (actor_lines ++ codes "do s tick 9000000000000001" ∷ [])
   pub kind : AreRefusedAt 6 BadWord (actor_lines ++ codes "do s event 0 65536 0 0" ∷ [])
-  pub code : AreRefusedAt 6 BadWord (actor_lines ++ codes "do s event 0 EV_KEY ABS_X 0" ∷ [])
   pub value : AreRefusedAt 6 BadWord (actor_lines ++ codes "do s event 0 EV_KEY KEY_A 1.0" ∷ [])
   pub count : AreRefusedAt 6 BadWord (actor_lines ++ codes "do t read 4097" ∷ [])
   pub mask : AreRefusedAt 6 BadWord (actor_lines ++ codes "do t mask EV_KEY 65536 0" ∷ [])
-  pub described_code : AreRefusedAt 6 BadWord (actor_lines ++ codes "do c setaxis KEY_A 0 0 0 0 0 0" ∷ [])
-  pub described_number : AreRefusedAt 6 BadWord (actor_lines ++ codes "do c setaxis ABS_X 0 0 0 0 0 2147483648" ∷ [])
   pub clock_moment : AreRefusedAt 6 BadWord (actor_lines ++ codes "do t clock utc 0" ∷ [])
   pub before_twice : AreRefusedAt 4 BadWord (device_lines ++ codes "hint 16" ∷ codes "hint x" ∷ [])
 
@@ -168,7 +140,6 @@ pub record RefusesMore : Type 0 where
 -- What no device has.
 pub record RefusesDescriptions : Type 0 where
   pub hint : AreRefusedAt 3 (Caps BadHint) (device_lines ++ codes "hint 1" ∷ [])
-  pub wide_hint : AreRefusedAt 3 (Caps BadHint) (device_lines ++ codes "hint 513" ∷ [])
   pub log : AreRefusedAt 3 (Caps BadLog) (device_lines ++ codes "log 0" ∷ [])
   pub realtime : AreRefusedAt 3 (Caps BadOffset) (device_lines ++ codes "clock realtime 9000000000000001" ∷ [])
   pub boottime : AreRefusedAt 4 (Caps BadOffset) (device_lines ++ codes "clock realtime 1" ∷ codes "clock boottime 9000000000000001" ∷ [])
@@ -177,26 +148,19 @@ pub record RefusesDescriptions : Type 0 where
   pub slots_of_version_2 : AreRefusedAt 3 (Caps BadSlots) (later_lines ++ codes "slots 257" ∷ [])
   pub type_line : AreRefusedAt 3 (Caps BadCode) (device_lines ++ codes "type 6" ∷ [])
   pub cap : AreRefusedAt 3 (Caps BadCode) (device_lines ++ codes "cap EV_KEY 0" ∷ [])
-  pub cap_of_no_kind : AreRefusedAt 3 (Caps BadCode) (device_lines ++ codes "cap 7 5" ∷ [])
   pub cap_of_axis : AreRefusedAt 3 (Caps BadCode) (device_lines ++ codes "cap EV_ABS ABS_X" ∷ [])
   pub axis_code : AreRefusedAt 3 (Caps BadCode) (device_lines ++ codes "axis 64 0 0 0 -1 0 0" ∷ [])
   pub axis : AreRefusedAt 3 (Caps BadAxis) (device_lines ++ codes "axis ABS_X 0 0 9 -1 0 0" ∷ [])
-  pub slot_fuzz : AreRefusedAt 3 (Caps BadAxis) (device_lines ++ codes "axis ABS_MT_SLOT 0 0 9 1 0 0" ∷ [])
 
 -- Filters that are none, that stand where they may not, or that no device has.
 pub record RefusesFilters : Type 0 where
   pub version_1 : AreRefusedAt 3 BadLine (device_lines ++ codes "filter norepeat" ∷ [])
-  pub version_1_first : AreRefusedAt 2 BadLine (header_lines ++ codes "filter other" ∷ [])
   pub alone : AreRefusedAt 3 BadLine (later_lines ++ codes "filter" ∷ [])
-  pub more : AreRefusedAt 3 BadLine (later_lines ++ codes "filter norepeat KEY_A" ∷ [])
-  pub less : AreRefusedAt 3 BadLine (later_lines ++ codes "filter bounce KEY_A" ∷ [])
   pub before_place : AreRefusedAt 2 BadLine (codes "inputrecord 2" ∷ codes "filter eat EV_KEY" ∷ [])
   pub place : AreRefusedAt 2 OutOfPlace (codes "inputrecord 2" ∷ codes "filter other" ∷ [])
-  pub behind_an_actor : AreRefusedAt 4 OutOfPlace (later_lines ++ codes "source s" ∷ codes "filter norepeat" ∷ [])
   pub other : AreRefusedAt 3 BadWord (later_lines ++ codes "filter other" ∷ [])
   pub other_of_many_words : AreRefusedAt 3 BadWord (later_lines ++ codes "filter other 1 2 3 4" ∷ [])
   pub code : AreRefusedAt 3 BadWord (later_lines ++ codes "filter eat EV_KEY REL_X" ∷ [])
-  pub key : AreRefusedAt 3 BadWord (later_lines ++ codes "filter chord KEY_A REL_X" ∷ [])
   pub no_time : AreRefusedAt 3 BadWord (later_lines ++ codes "filter bounce KEY_A 0" ∷ [])
   pub long_time : AreRefusedAt 3 BadWord (later_lines ++ codes "filter bounce KEY_A 1000001" ∷ [])
   pub report : AreRefusedAt 3 (Caps BadCode) (later_lines ++ codes "filter eat EV_SYN SYN_REPORT" ∷ [])
@@ -213,24 +177,9 @@ joy_lines = later_lines ++ codes "joy j" ∷ []
 -- Joysticks under version 1, which has none; joysticks that stand where they may not; commands that joysticks do not have.
 pub record RefusesJoysticks : Type 0 where
   pub version_1 : AreRefusedAt 3 BadLine (device_lines ++ codes "joy j" ∷ [])
-  pub version_1_first : AreRefusedAt 2 BadLine (header_lines ++ codes "joy J J" ∷ [])
-  pub alone : AreRefusedAt 3 BadLine (later_lines ++ codes "joy" ∷ [])
-  pub more : AreRefusedAt 3 BadLine (later_lines ++ codes "joy a b" ∷ [])
-  pub place : AreRefusedAt 2 OutOfPlace (codes "inputrecord 2" ∷ codes "joy J" ∷ [])
   pub behind_an_action : AreRefusedAt 5 OutOfPlace (joy_lines ++ codes "do j open" ∷ codes "joy k" ∷ [])
-  pub description_behind : AreRefusedAt 4 OutOfPlace (joy_lines ++ codes "hint 16" ∷ [])
-  pub name : AreRefusedAt 3 BadWord (later_lines ++ codes "joy J" ∷ [])
-  pub again : AreRefusedAt 4 Twice (joy_lines ++ codes "tap j" ∷ [])
   pub grab : AreRefusedAt 4 BadCommand (joy_lines ++ codes "do j grab" ∷ [])
-  pub clock : AreRefusedAt 4 BadCommand (joy_lines ++ codes "do j clock utc 0" ∷ [])
-  pub next : AreRefusedAt 4 BadCommand (joy_lines ++ codes "do j next 1" ∷ [])
-  pub keys : AreRefusedAt 4 BadCommand (joy_lines ++ codes "do j keys" ∷ [])
-  pub tick : AreRefusedAt 4 BadCommand (joy_lines ++ codes "do j tick 1" ∷ [])
-  pub less : AreRefusedAt 4 BadCommand (joy_lines ++ codes "do j read" ∷ [])
-  pub open_more : AreRefusedAt 4 BadCommand (joy_lines ++ codes "do j open 1" ∷ [])
   pub count : AreRefusedAt 4 BadWord (joy_lines ++ codes "do j read 4294967296" ∷ [])
-  pub negative : AreRefusedAt 4 BadWord (joy_lines ++ codes "do j read -1" ∷ [])
-  pub count_of_a_tap : AreRefusedAt 5 BadWord (joy_lines ++ codes "tap t" ∷ codes "do t read 4097" ∷ [])
 
 -- a device made by requests, of which nothing was said
 abbrev pub requested_lines : List (List ℕ)
@@ -245,33 +194,18 @@ owner_lines = requested_lines ++ codes "owner o" ∷ []
 pub record RefusesOwners : Type 0 where
   pub version_1 : AreRefusedAt 2 BadLine (header_lines ++ codes "udevice u" ∷ [])
   pub owner_of_version_1 : AreRefusedAt 3 BadLine (device_lines ++ codes "owner o" ∷ [])
-  pub alone : AreRefusedAt 3 BadLine (requested_lines ++ codes "owner" ∷ [])
-  pub more : AreRefusedAt 2 BadLine (codes "inputrecord 2" ∷ codes "udevice a b" ∷ [])
   pub under_device : AreRefusedAt 3 OutOfPlace (later_lines ++ codes "owner o" ∷ [])
   pub under_a_later_device : AreRefusedAt 4 OutOfPlace (requested_lines ++ codes "device d" ∷ codes "owner O" ∷ [])
-  pub place : AreRefusedAt 2 OutOfPlace (codes "inputrecord 2" ∷ codes "owner o" ∷ [])
   pub behind_an_action : AreRefusedAt 5 OutOfPlace (requested_lines ++ codes "tap t" ∷ codes "do t open" ∷ codes "owner o" ∷ [])
   pub device_behind_an_action : AreRefusedAt 5 OutOfPlace (owner_lines ++ codes "do o feedback 1" ∷ codes "udevice v" ∷ [])
-  pub description_behind : AreRefusedAt 4 OutOfPlace (owner_lines ++ codes "hint 16" ∷ [])
-  pub device_name : AreRefusedAt 2 BadWord (codes "inputrecord 2" ∷ codes "udevice U" ∷ [])
-  pub name : AreRefusedAt 3 BadWord (requested_lines ++ codes "owner O" ∷ [])
-  pub again : AreRefusedAt 4 Twice (owner_lines ++ codes "tap o" ∷ [])
   pub again_first : AreRefusedAt 4 Twice (owner_lines ++ codes "owner o" ∷ [])
   pub device_again : AreRefusedAt 3 Twice (later_lines ++ codes "udevice d" ∷ [])
-  pub requested_again : AreRefusedAt 3 Twice (requested_lines ++ codes "device u" ∷ [])
   pub second : AreRefusedAt 4 TooMany (owner_lines ++ codes "owner p" ∷ [])
   pub second_behind_others : AreRefusedAt 6 TooMany (owner_lines ++ codes "tap t" ∷ codes "source s" ∷ codes "owner p" ∷ [])
   pub ninth_device : AreRefusedAt 10 TooMany (codes "inputrecord 2" ∷ codes "device a" ∷ codes "udevice b" ∷ codes "device c" ∷ codes "udevice d" ∷ codes "device e" ∷ codes "udevice f" ∷ codes "device g" ∷ codes "device h" ∷ codes "udevice i" ∷ [])
   pub opening : AreRefusedAt 4 BadCommand (owner_lines ++ codes "do o open" ∷ [])
-  pub read : AreRefusedAt 4 BadCommand (owner_lines ++ codes "do o read 1" ∷ [])
-  pub tick : AreRefusedAt 4 BadCommand (owner_lines ++ codes "do o tick 1" ∷ [])
   pub feedback_of_a_tap : AreRefusedAt 4 BadCommand (requested_lines ++ codes "tap t" ∷ codes "do t feedback 1" ∷ [])
-  pub feedback_of_a_source : AreRefusedAt 6 BadCommand (actor_lines ++ codes "do s feedback 1" ∷ [])
-  pub less : AreRefusedAt 4 BadCommand (owner_lines ++ codes "do o feedback" ∷ [])
-  pub feedback_of_more_words : AreRefusedAt 4 BadCommand (owner_lines ++ codes "do o feedback 1 1" ∷ [])
   pub no_count : AreRefusedAt 4 BadWord (owner_lines ++ codes "do o feedback 0" ∷ [])
-  pub wide_count : AreRefusedAt 4 BadWord (owner_lines ++ codes "do o feedback 4097" ∷ [])
-  pub negative : AreRefusedAt 4 BadWord (owner_lines ++ codes "do o feedback -1" ∷ [])
 
 -- What is right although it looks wrong.
 pub record AcceptsLines : Type 0 where
@@ -286,7 +220,6 @@ pub record AcceptsLines : Type 0 where
   pub filters_of_each : AreRecord (later_lines ++ (replicate 8 (codes "filter norepeat") ++ codes "device e" ∷ replicate 8 (codes "filter eat EV_REP 1")))
   pub joystick_of_each : AreRecord (joy_lines ++ codes "source s" ∷ codes "device j" ∷ codes "joy d" ∷ [])
   pub owner_of_each : AreRecord (owner_lines ++ codes "tap t" ∷ codes "udevice v" ∷ codes "source s" ∷ codes "owner u" ∷ [])
-  pub no_owner : AreRecord (requested_lines ++ codes "hint 16" ∷ codes "joy j" ∷ [])
   pub moment : AreRecord (actor_lines ++ codes "do s tick 9000000000000000" ∷ [])
   pub streams : AreRecord (device_lines ++ codes "source s" ∷ replicate 16 (codes "do s stream f"))
 
@@ -312,52 +245,34 @@ loose_stroke =
     ∷ codes "tap t" ∷ codes "do t open" ∷ codes "do s event 0x3e8 1 30 0x1" ∷ codes "do s event 001000 0 0 -0" ∷ []
     ) ++ codes "do t read 0016" ++ 13 ∷ []
 
-abbrev pub stroke_record : RecordView
-stroke_record = record {
-  version = 1;
-  devices = record { name = codes "kbd"; caps = keyboard; requested = false } ∷ [];
-  actors = record { name = codes "s"; role = roles.Source; device = 0 } ∷ record { name = codes "t"; role = roles.Tap; device = 0 } ∷ [];
-  lines =
-      record { actor = 1; command = commands.Open }
-      ∷ record { actor = 0; command = commands.Event 1000 1 30 (pos 1) }
-      ∷ record { actor = 0; command = commands.Event 1000 0 0 (pos 0) }
-      ∷ record { actor = 1; command = commands.Read 16 }
-      ∷ [];
-  streams = [];
-}
+-- these lines are a record of this version, these devices and actors, who do this; each stream is empty
+abbrev pub AreDone : List (List ℕ) → ℕ → List DeviceText → List ActorText → List (ℕ × command.Command) → Type 0
+AreDone lines version devices actors actions =
+    meaning (text_of_lines lines)
+    ≡ Ok (record {
+      version = version;
+      devices = devices;
+      actors = actors;
+      lines = map (λ done. action done.0 done.1) actions;
+      streams = replicate (sum_by (λ done. streams_in done.1) actions) [];
+    })
 
 -- What whole records mean.
 pub record MeansRecords : Type 0 where
   pub header : meaning (codes "inputrecord 1") ≡ Ok (record { version = 1; devices = []; actors = []; lines = []; streams = [] })
   pub later_header : meaning (codes "inputrecord 2") ≡ Ok (record { version = 2; devices = []; actors = []; lines = []; streams = [] })
-  pub device : meaning (text_of_lines device_lines) ≡ Ok (record { version = 1; devices = record { name = codes "d"; caps = syn_alone; requested = false } ∷ []; actors = []; lines = []; streams = [] })
-  pub filters :
-      meaning (text_of_lines (later_lines ++ codes "filter chord KEY_A 0x30" ∷ codes "filter norepeat" ∷ codes "filter bounce 30 001000" ∷ codes "filter norepeat" ∷ codes "filter eat 2 REL_WHEEL" ∷ []))
-      ≡ Ok (record {
-        version = 2;
-        devices = record { name = codes "d"; caps = record syn_alone { filters = Chord 30 48 ∷ Norepeat ∷ Bounce 30 1000 ∷ Norepeat ∷ Eat 2 8 ∷ [] }; requested = false } ∷ [];
-        actors = [];
-        lines = [];
-        streams = [];
-      })
-  pub one_key : meaning (text_of_lines stroke_lines) ≡ Ok stroke_record
-  pub loose : meaning loose_stroke ≡ Ok stroke_record
+  pub device : AreDone device_lines 1 (described (codes "d") syn_alone ∷ []) [] []
+  pub filters : AreDone
+      (later_lines ++ codes "filter chord KEY_A 0x30" ∷ codes "filter norepeat" ∷ codes "filter bounce 30 001000" ∷ codes "filter norepeat" ∷ codes "filter eat 2 REL_WHEEL" ∷ [])
+      2 (described (codes "d") (record syn_alone { filters = Chord 30 48 ∷ Norepeat ∷ Bounce 30 1000 ∷ Norepeat ∷ Eat 2 8 ∷ [] }) ∷ []) [] []
+  pub one_key : meaning (text_of_lines stroke_lines) ≡ Ok keyboard
+  pub loose : meaning loose_stroke ≡ Ok keyboard
 
--- the lines of a record of three actors with these actions
+-- the actions of three actors
 abbrev pub AreActions : List (List ℕ) → List (ℕ × command.Command) → Type 0
 AreActions lines actions =
-    meaning (text_of_lines (actor_lines ++ lines))
-    ≡ Ok (record {
-      version = 1;
-      devices = record { name = codes "d"; caps = syn_alone; requested = false } ∷ [];
-      actors =
-          record { name = codes "s"; role = roles.Source; device = 0 }
-          ∷ record { name = codes "c"; role = roles.Client; device = 0 }
-          ∷ record { name = codes "t"; role = roles.Tap; device = 0 }
-          ∷ [];
-      lines = map (λ action. record { actor = action.0; command = action.1 }) actions;
-      streams = replicate (sum_by (λ action. streams_in action.1) actions) [];
-    })
+    AreDone (actor_lines ++ lines) 1 (described (codes "d") syn_alone ∷ [])
+    (actor roles.Source (codes "s") 0 ∷ actor roles.Client (codes "c") 0 ∷ actor roles.Tap (codes "t") 0 ∷ []) actions
 
 -- What actions mean, each command once.
 pub record MeansActions : Type 0 where
@@ -373,36 +288,18 @@ pub record MeansActions : Type 0 where
   pub tap : AreActions
       (codes "do t read 4096" ∷ codes "do t discard" ∷ codes "do t keys" ∷ codes "do t switches" ∷ codes "do t leds" ∷ codes "do t sounds" ∷ codes "do t syncslots" ∷ codes "do t axis ABS_X" ∷ codes "do t slots 0x35" ∷ [])
       ((2, commands.Read 4096) ∷ (2, commands.Discard) ∷ (2, commands.Keys) ∷ (2, commands.Switches) ∷ (2, commands.Leds) ∷ (2, commands.Sounds) ∷ (2, commands.SyncSlots) ∷ (2, commands.Axis 0) ∷ (2, commands.Slots 53) ∷ [])
-  pub joystick :
-      meaning (text_of_lines (joy_lines ++ codes "tap t" ∷ codes "do j open" ∷ codes "do j read 4294967295" ∷ codes "do j read 0x1001" ∷ codes "do t read 4096" ∷ codes "do j read 0" ∷ codes "do j close" ∷ []))
-      ≡ Ok (record {
-        version = 2;
-        devices = record { name = codes "d"; caps = syn_alone; requested = false } ∷ [];
-        actors = record { name = codes "j"; role = roles.Joy; device = 0 } ∷ record { name = codes "t"; role = roles.Tap; device = 0 } ∷ [];
-        lines = map (λ (action : ℕ × command.Command). record { actor = action.0; command = action.1 }) ((0, commands.Open) ∷ (0, commands.Read 4294967295) ∷ (0, commands.Read 4097) ∷ (1, commands.Read 4096) ∷ (0, commands.Read 0) ∷ (0, commands.Close) ∷ []);
-        streams = [];
-      })
-  pub owner :
-      meaning (text_of_lines (later_lines ++ codes "udevice u" ∷ codes "owner o" ∷ codes "do o feedback 4096" ∷ codes "do o feedback 0x1" ∷ []))
-      ≡ Ok (record {
-        version = 2;
-        devices =
-            record { name = codes "d"; caps = syn_alone; requested = false }
-            ∷ record { name = codes "u"; caps = syn_alone; requested = true }
-            ∷ [];
-        actors = record { name = codes "o"; role = roles.Owner; device = 1 } ∷ [];
-        lines = record { actor = 0; command = commands.Feedback 4096 } ∷ record { actor = 0; command = commands.Feedback 1 } ∷ [];
-        streams = [];
-      })
-  pub of_version_2 :
-      meaning (text_of_lines (later_lines ++ codes "source s" ∷ codes "do s stream16 a" ∷ codes "do s stream b" ∷ codes "do s stream16 b" ∷ []))
-      ≡ Ok (record {
-        version = 2;
-        devices = record { name = codes "d"; caps = syn_alone; requested = false } ∷ [];
-        actors = record { name = codes "s"; role = roles.Source; device = 0 } ∷ [];
-        lines = map (λ command. record { actor = 0; command = command }) (commands.Stream16 (codes "a") 0 ∷ commands.Stream (codes "b") 1 ∷ commands.Stream16 (codes "b") 2 ∷ []);
-        streams = [] ∷ [] ∷ [] ∷ [];
-      })
+  pub joystick : AreDone
+      (joy_lines ++ codes "tap t" ∷ codes "do j open" ∷ codes "do j read 4294967295" ∷ codes "do j read 0x1001" ∷ codes "do t read 4096" ∷ codes "do j read 0" ∷ codes "do j close" ∷ [])
+      2 (described (codes "d") syn_alone ∷ []) (actor roles.Joy (codes "j") 0 ∷ actor roles.Tap (codes "t") 0 ∷ [])
+      ((0, commands.Open) ∷ (0, commands.Read 4294967295) ∷ (0, commands.Read 4097) ∷ (1, commands.Read 4096) ∷ (0, commands.Read 0) ∷ (0, commands.Close) ∷ [])
+  pub owner : AreDone
+      (later_lines ++ codes "udevice u" ∷ codes "owner o" ∷ codes "do o feedback 4096" ∷ codes "do o feedback 0x1" ∷ [])
+      2 (described (codes "d") syn_alone ∷ record (described (codes "u") syn_alone) { requested = true } ∷ []) (actor roles.Owner (codes "o") 1 ∷ [])
+      ((0, commands.Feedback 4096) ∷ (0, commands.Feedback 1) ∷ [])
+  pub of_version_2 : AreDone
+      (later_lines ++ codes "source s" ∷ codes "do s stream16 a" ∷ codes "do s stream b" ∷ codes "do s stream16 b" ∷ [])
+      2 (described (codes "d") syn_alone ∷ []) (actor roles.Source (codes "s") 0 ∷ [])
+      ((0, commands.Stream16 (codes "a") 0) ∷ (0, commands.Stream (codes "b") 1) ∷ (0, commands.Stream16 (codes "b") 2) ∷ [])
 
 -- the key A goes down
 abbrev pub press : Option (List Stamped)

@@ -1,35 +1,22 @@
 -- The words that say what a line is (docs/FORMATS.md, "The lines").
-use Rattle.std.specs.Prelude.{ℕ, ◌+◌, length, Bool, if◌then◌else◌, nat_eq, nat_le, List, [], ◌∷◌, codes, Option, Some, None, option_and_then, unwrap_or}
+use Rattle.std.specs.Prelude.{ℕ, ◌+◌, length, Bool, if◌then◌else◌, nat_eq, nat_le, List, [], ◌∷◌, map, Option, Some, None, option_and_then, unwrap_or}
 use Rattle.inp_words.specs.Table.{named}
 use Rattle.inp_record.specs.Line.{line_row}
 use Rattle.inp_record.specs.declared.keyword.Keyword.{Keyword}
 use Rattle.inp_record.specs.declared.keyword.Keyword.TheVariants.{Header, Device, Udevice, Hint, Log, Clock, Slots, Kind, Code, Axis, Filter, Eat, Norepeat, Chord, Bounce, Source, Client, Tap, Joy, Owner, Action}
 
+-- a keyword with the word that names it
+abbrev pub keyword_row : Keyword → List ℕ × Keyword
+keyword_row keyword = ((line_row keyword).word, keyword)
+
 unfoldable pub keyword_rows : List (List ℕ × Keyword)
 keyword_rows =
-    (codes "inputrecord", Header)
-    ∷ (codes "device", Device)
-    ∷ (codes "udevice", Udevice)
-    ∷ (codes "hint", Hint)
-    ∷ (codes "log", Log)
-    ∷ (codes "clock", Clock)
-    ∷ (codes "slots", Slots)
-    ∷ (codes "type", Kind)
-    ∷ (codes "cap", Code)
-    ∷ (codes "axis", Axis)
-    ∷ (codes "filter", Filter)
-    ∷ (codes "source", Source)
-    ∷ (codes "client", Client)
-    ∷ (codes "tap", Tap)
-    ∷ (codes "joy", Joy)
-    ∷ (codes "owner", Owner)
-    ∷ (codes "do", Action)
-    ∷ []
+    map keyword_row
+    (Header ∷ Device ∷ Udevice ∷ Hint ∷ Log ∷ Clock ∷ Slots ∷ Kind ∷ Code ∷ Axis ∷ Filter ∷ Source ∷ Client ∷ Tap ∷ Joy ∷ Owner ∷ Action ∷ [])
 
--- the kinds of filters, each with its name
+-- the kinds of filters
 unfoldable pub filter_rows : List (List ℕ × Keyword)
-filter_rows =
-    (codes "eat", Eat) ∷ (codes "norepeat", Norepeat) ∷ (codes "chord", Chord) ∷ (codes "bounce", Bounce) ∷ []
+filter_rows = map keyword_row (Eat ∷ Norepeat ∷ Chord ∷ Bounce ∷ [])
 
 -- the keyword of a filter line with this second word
 abbrev pub filter_keyword : List ℕ → Keyword

@@ -33,7 +33,7 @@ pub(crate) enum Keyword {
 }
 
 /// Each first word with its meaning.
-#[tactic(auto, unfolding(crate::specs::Keyword::keyword_rows))]
+#[tactic(auto, unfolding(crate::specs::Keyword::keyword_rows, crate::specs::Line::line_row))]
 fn keyword_rows() -> &'static [(&'static str, Keyword)]
     ensures { rows_of result.now ≡ keyword_rows }
 {
@@ -60,7 +60,7 @@ fn keyword_rows() -> &'static [(&'static str, Keyword)]
 }
 
 /// Each kind of filter, as the second word of a line names it.
-#[tactic(auto, unfolding(crate::specs::Keyword::filter_rows))]
+#[tactic(auto, unfolding(crate::specs::Keyword::filter_rows, crate::specs::Line::line_row))]
 fn filter_rows() -> &'static [(&'static str, Keyword)]
     ensures { rows_of result.now ≡ filter_rows }
 {

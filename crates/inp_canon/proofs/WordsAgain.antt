@@ -12,7 +12,6 @@ use Rattle.inp_codes.specs.KindNames.{kind_name, kind_of}
 use Rattle.inp_codes.specs.CodeNames.{name_of, code_of}
 use Rattle.inp_codes.proofs.LawLemmas.{kind_name-iff_kind_of, is_name_word-kind_name, name_of-iff_code_of, is_name_word-name_of}
 use Rattle.inp_texts.specs.Texts.{kind_text, code_text, bits_text, clock_text}
-use Rattle.inp_record.proofs.Texts.{all_weaker}
 use Rattle.inp_actors.specs.Name.{is_name, is_name_byte}
 use Rattle.inp_words.specs.Line.{is_word}
 use Rattle.inp_words.specs.Number.{digit_of, is_digit, value_of, is_hexadecimal, numeral, number, signed_number}
@@ -20,11 +19,7 @@ use Rattle.inp_words.specs.Code.{or_number, kind_word, code_of_kind, code_word}
 use Rattle.inp_words.proofs.Numerals.{numeral_is}
 use Rattle.inp_model.specs.declared.clock.Clock as clock
 use Rattle.inp_model.specs.declared.clock.Clock.TheVariants.{Realtime, Monotonic, Boottime}
-use Rattle.inp_words.specs.Table.{named}
-use Rattle.inp_actors.specs.declared.record.TheConstants.{VERSION_MAX}
-use Rattle.inp_record.specs.Field.{clock_rows, other_clock_rows, other_clock, version_word, name_word}
-use Rattle.inp_record.proofs.Sayable.{is_visible, IsPlainWord}
-use Rattle.inp_record.proofs.CanonLines.{is_plain}
+use Rattle.inp_canon.proofs.PlainLines.{all_weaker, is_visible, IsPlainWord, is_plain}
 
 -- digits in a base
 
@@ -220,32 +215,11 @@ code_plain kind code h = by_name (name_of kind code) refl
 
 -- clocks and names
 
-pub clock_read : (k : clock.Clock) → named clock_rows (clock_text k) ≡ Some k
-unfolding clock_text clock_rows
-clock_read Realtime = refl
-clock_read Monotonic = refl
-clock_read Boottime = refl
-
 pub clock_plain : (k : clock.Clock) → is_plain (clock_text k) ≡ true
 unfolding clock_text
 clock_plain Realtime = refl
 clock_plain Monotonic = refl
 clock_plain Boottime = refl
-
-pub other_clock_read : (boot : Bool) → named other_clock_rows (clock_text (other_clock boot)) ≡ Some boot
-unfolding clock_text other_clock_rows
-other_clock_read true = refl
-other_clock_read false = refl
-
-pub version_read : (version : ℕ) → 1 ≤ version → version ≤ VERSION_MAX → version_word (decimal version) ≡ Some version
-unfolding digits
-version_read zero some few = absurd (omega arith)
-version_read (suc zero) some few = refl
-version_read (suc (suc zero)) some few = refl
-version_read (suc (suc (suc n))) some few = absurd (omega arith)
-
-pub name_read : (w : List ℕ) → is_name w ≡ true → name_word w ≡ Some w
-name_read w h = rw h refl
 
 name_byte_visible : (b : ℕ) → is_name_byte b ≡ true → is_visible b ≡ true
 name_byte_visible b h = grind (arith, nat_tests)

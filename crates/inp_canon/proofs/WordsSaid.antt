@@ -1,5 +1,5 @@
--- What words mean can be said again.
-use Rattle.std.proofs.Common.{◌≡◌, ◌≤◌, ◌-◌, ◌^◌, ℕ, zero, suc, ℤ, pos, neg_ℤ, Bool, true, false, if◌then◌else◌, nat_le, nat_eq, List, [], ◌∷◌, Option, Some, None, option_map, bytes_eq, codes, FitsSigned, w32, Contains, refl, sym, ◌∙◌, subst, arith}
+-- What words say as numbers, types and codes can be said again: it is within its limits.
+use Rattle.std.proofs.Common.{◌≡◌, ◌≤◌, ◌-◌, ◌^◌, ℕ, zero, suc, ℤ, pos, neg_ℤ, Bool, true, false, if◌then◌else◌, nat_le, nat_eq, List, [], ◌∷◌, Option, Some, None, option_map, FitsSigned, w32, Contains, refl, sym, ◌∙◌, subst, arith}
 use Rattle.std.specs.List.{list_all}
 use Rattle.std.proofs.lemmas.Bool.{leb-true}
 use Rattle.std.proofs.lemmas.Bool.Decides.{nat_tests}
@@ -13,11 +13,13 @@ use Rattle.inp_codes.proofs.TableLemmas.{Contains-number_in}
 use Rattle.inp_words.specs.Number.{number, signed_number}
 use Rattle.inp_words.specs.Code.{kind_word, code_word, or_number, code_of_kind}
 use Rattle.inp_words.proofs.Numerals.{number_within}
-use Rattle.inp_record.proofs.Options.{map_is}
-use Rattle.inp_actors.specs.declared.record.TheConstants.{VERSION_MAX}
-use Rattle.inp_record.specs.Field.{version_word}
 
 -- numbers
+
+-- what an option holds that is mapped
+map_is : {A B : Type 0} (f : A → B) (o : Option A) (y : B) → option_map f o ≡ Some y → (x : A) × (o ≡ Some x) × (y ≡ f x)
+map_is f None y e = absurd (cc)
+map_is f (Some x) y e = (x, refl, cc)
 
 pub number_most : (most : ℕ) (w : List ℕ) (n : ℕ) → number most w ≡ Some n → n ≤ most
 number_most most w n e = leb-true n most (number_within most w n e)
@@ -87,11 +89,3 @@ code_fits kind w code e = by_name (code_of w) refl e
     by_name : (o : Option (ℕ × ℕ)) → code_of w ≡ o → code_of_kind kind o w ≡ Some code → code ≤ 65535
     by_name (Some named) h e = by_kind (nat_eq named.0 kind) named.1 (named_code w named h) e
     by_name None h e = number_most 65535 w code e
-
-pub version_fits : (w : List ℕ) (n : ℕ) → version_word w ≡ Some n → (1 ≤ n) × (n ≤ VERSION_MAX)
-version_fits w n e = by_words (bytes_eq w (codes "1")) (bytes_eq w (codes "2")) e
-  where
-    by_words : (one two : Bool) → (if one then Some 1 else if two then Some 2 else None) ≡ Some n → (1 ≤ n) × (n ≤ VERSION_MAX)
-    by_words true two e = let same : 1 ≡ n = cc e in (omega (arith, same), omega (arith, same))
-    by_words false true e = let same : 2 ≡ n = cc e in (omega (arith, same), omega (arith, same))
-    by_words false false e = absurd (cc e)
