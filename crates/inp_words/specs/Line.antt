@@ -29,6 +29,10 @@ is_text line = list_all is_text_byte line
 abbrev pub is_word : List ℕ → Bool
 is_word piece = not (nat_eq (length piece) 0)
 
+-- a piece with no blank as words: it is one, unless it is empty
+abbrev pub word_alone : List ℕ → List (List ℕ)
+word_alone piece = filter is_word (piece ∷ [])
+
 -- what stands between blanks
 abbrev pub words_of : List ℕ → List (List ℕ)
 words_of line = filter is_word (slice_split is_blank line)

@@ -1,7 +1,7 @@
 //! Lines and their words.
-ghost use Rattle.std.specs.Prelude.{◌≡◌, IfOk, map, not, false, slice_index_or, []};
+ghost use Rattle.std.specs.Prelude.{◌≡◌, ◌≤◌, ◌-◌, ◌++◌, ◌&&◌, nat_le, IfOk, OnOk, map, not, true, false, length, take, drop, slice_index_or, []};
 ghost use Rattle.std.specs.Str.Lines.{strip_carriage_return};
-ghost use Rattle.inp_words.specs.Line.{is_blank, is_comment, is_text, is_text_byte, words_of};
+ghost use Rattle.inp_words.specs.Line.{is_blank, is_comment, is_text, is_text_byte, words_of, word_alone};
 
 use inp_model::NoMemory;
 use std::alloc::Global;
@@ -52,6 +52,54 @@ pub fn words(alloc: Global, line: &[u8]) -> Result<Vec<&[u8]>, NoMemory>
             .filter(|piece| !piece.is_empty())
             .collect(alloc)?,
     )
+}
+
+/// Whether a byte is printable ASCII and no space.
+fn is_printed(byte: u8) -> bool
+    ensures { result ≡ (nat_le 33 byte && nat_le byte 126) }
+{
+    33 <= byte && byte <= 126
+}
+
+/// Adds the piece of a line between two places to a list, unless it is empty.
+fn add_piece<'a>(
+    line: &'a [u8],
+    from: usize,
+    to: usize,
+    list: &mut Vec<&'a [u8]>,
+) -> Result<(), NoMemory>
+    requires order { from ≤ to }
+    requires within { to ≤ length line.now }
+    ensures added { OnOk result (map (λ word. word.now) list.new.items
+        ≡ map (λ word. word.now) list.old.items ++ word_alone (take (to - from) (drop from line.now))) }
+{
+    if from < to {
+        list.push(&line[from..to])?;
+    }
+    Ok(())
+}
+
+/// Whether a line is text; then its words are what the list has, in place of what it had. It takes memory where the list
+/// has no room for them.
+pub fn text_words<'a>(line: &'a [u8], list: &mut Vec<&'a [u8]>) -> Result<bool, NoMemory>
+    ensures text { IfOk result (λ text. text ≡ is_text line.now) }
+    ensures words { IfOk result (λ text. text ≡ true
+        → map (λ word. word.now) list.new.items ≡ words_of line.now) }
+{
+    list.clear();
+    let mut from = 0;
+    for (place, byte) in line.iter().enumerate() {
+        if is_printed(*byte) {
+            continue;
+        }
+        if !is_blank(*byte) {
+            return Ok(false);
+        }
+        add_piece(line, from, place, list)?;
+        from = place + 1;
+    }
+    add_piece(line, from, line.len(), list)?;
+    Ok(true)
 }
 
 /// The first word of a line, and none where it is blank. It takes no memory.

@@ -1,0 +1,71 @@
+-- Words of a line, piece by piece.
+use Rattle.std.proofs.Common.{◌≡◌, ℕ, ◌+◌, ◌-◌, ◌<◌, ◌≤◌, ◌&&◌, nat_le, Bool, true, false, List, [], ◌∷◌, ◌++◌, length, take, drop, filter, get_or, cond, refl, sym, ap, ◌∙◌, append_assoc, arith, inl, inr}
+use Rattle.std.specs.List.{slice_split, All}
+use Rattle.std.proofs.lemmas.Bool.Decides.{nat_tests}
+use Rattle.std.proofs.lemmas.Bool.{cases_order}
+use Rattle.std.proofs.lemmas.List.{take-append-drop, drop_more, get_or-drop, get_or-take, get_or_default, drop-drop, take_rest, length-take}
+use Rattle.std.proofs.lemmas.List.Splits.{slice_split_at, slice_split_none}
+use Rattle.inp_words.specs.Line.{is_blank, is_text_byte, is_word, words_of, word_alone}
+
+-- no byte between two places is blank
+abbrev pub IsPlain : List ℕ → ℕ → ℕ → Type 0
+IsPlain line from to = (k : ℕ) → from ≤ k → k < to → is_blank (get_or line k 0) ≡ false
+
+-- so the piece there has none
+piece_is_plain : (line : List ℕ) (from to : ℕ) → to ≤ length line → IsPlain line from to → All (λ b. is_blank b ≡ false) (take (to - from) (drop from line))
+piece_is_plain line from to within plain k d lt =
+    let below : k < to - from = omega (arith, length-take (to - from) (drop from line)) in
+    let at = get_or-take (to - from) (drop from line) k d below ∙ get_or-drop from line k d ∙ get_or_default line (from + k) d 0 (omega arith) in
+    ap is_blank at ∙ plain (from + k) (omega arith) (omega arith)
+
+-- one byte more
+pub plain_more : (line : List ℕ) (from place : ℕ) → IsPlain line from place → is_blank (get_or line place 0) ≡ false → IsPlain line from (place + 1)
+plain_more line from place plain here k le lt = elim (cases_order k place) [
+  | inl at ↦ ap (λ (i : ℕ). is_blank (get_or line i 0)) at ∙ here
+  | inr apart ↦ elim apart [ inl below ↦ plain k le below | inr above ↦ absurd (omega arith) ]
+]
+
+-- a printable byte that is no space is text, and no blank
+pub printed_is_text : (b : ℕ) → (nat_le 33 b && nat_le b 126) ≡ true → is_text_byte b ≡ true
+printed_is_text b h = grind (arith, nat_tests)
+
+pub printed_is_plain : (b : ℕ) → (nat_le 33 b && nat_le b 126) ≡ true → is_blank b ≡ false
+printed_is_plain b h = grind (arith, nat_tests)
+
+pub blank_is_text : (b : ℕ) → is_blank b ≡ true → is_text_byte b ≡ true
+blank_is_text b h = grind (arith, nat_tests)
+
+-- any other byte is no text
+pub other_is_no_text : (b : ℕ) → (nat_le 33 b && nat_le b 126) ≡ false → is_blank b ≡ false → is_text_byte b ≡ false
+other_is_no_text b h k = grind (arith, nat_tests)
+
+-- a piece before others
+before_others : (piece : List ℕ) (parts : List (List ℕ)) → filter is_word (piece ∷ parts) ≡ word_alone piece ++ filter is_word parts
+before_others piece parts = by_word (is_word piece)
+  where
+    by_word : (is : Bool) → cond is (piece ∷ filter is_word parts) (filter is_word parts) ≡ cond is (piece ∷ []) [] ++ filter is_word parts
+    by_word true = refl
+    by_word false = refl
+
+-- a piece, the blank behind it, and what stands behind that
+cut_at : (line : List ℕ) (from place : ℕ) → from ≤ place → place < length line → drop from line ≡ take (place - from) (drop from line) ++ get_or line place 0 ∷ drop (place + 1) line
+cut_at line from place le lt =
+    let there : from + (place - from) ≡ place = omega arith in
+    let rest = drop-drop (place - from) from line ∙ ap (λ (k : ℕ). drop k line) there ∙ drop_more line place 0 lt in
+    sym (take-append-drop (place - from) (drop from line)) ∙ ap (λ (xs : List ℕ). take (place - from) (drop from line) ++ xs) rest
+
+pub words_at : (line : List ℕ) (from place : ℕ) (before all : List (List ℕ)) → from ≤ place → place < length line → IsPlain line from place → is_blank (get_or line place 0) ≡ true → all ≡ before ++ words_of (drop from line)
+    → all ≡ (before ++ word_alone (take (place - from) (drop from line))) ++ words_of (drop (place + 1) line)
+words_at line from place before all le lt plain blank e =
+    let piece = take (place - from) (drop from line) in
+    let split = ap (slice_split is_blank) (cut_at line from place le lt) ∙ slice_split_at is_blank piece (get_or line place 0) (drop (place + 1) line) (piece_is_plain line from place (omega arith) plain) blank in
+    let words = ap (filter is_word) split ∙ before_others piece (slice_split is_blank (drop (place + 1) line)) in
+    e ∙ ap (λ (ws : List (List ℕ)). before ++ ws) words ∙ sym (append_assoc before (word_alone piece) (words_of (drop (place + 1) line)))
+
+-- the last piece
+pub words_last : (line : List ℕ) (from : ℕ) (before all : List (List ℕ)) → from ≤ length line → IsPlain line from (length line) → all ≡ before ++ words_of (drop from line)
+    → all ≡ before ++ word_alone (take (length line - from) (drop from line))
+words_last line from before all le plain e =
+    let piece = take (length line - from) (drop from line) in
+    let split = ap (slice_split is_blank) (sym (take_rest line from)) ∙ slice_split_none is_blank piece (piece_is_plain line from (length line) (omega arith) plain) in
+    e ∙ ap (λ (ws : List (List ℕ)). before ++ ws) (ap (filter is_word) split)
