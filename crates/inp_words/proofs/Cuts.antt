@@ -3,9 +3,9 @@ use Rattle.std.proofs.Common.{◌≡◌, ℕ, ◌+◌, ◌-◌, ◌<◌, ◌≤�
 use Rattle.std.specs.List.{slice_split, All}
 use Rattle.std.proofs.lemmas.Bool.Decides.{nat_tests}
 use Rattle.std.proofs.lemmas.Bool.{cases_order}
-use Rattle.std.proofs.lemmas.List.{take-append-drop, drop_more, get_or-drop, get_or-take, get_or_default, drop-drop, take_rest, length-take}
+use Rattle.std.proofs.lemmas.List.{take_all, drop_all, take-append-drop, drop_more, get_or-drop, get_or-take, get_or_default, drop-drop, take_rest, length-take}
 use Rattle.std.proofs.lemmas.List.Splits.{slice_split_at, slice_split_none}
-use Rattle.inp_words.specs.Line.{is_blank, is_text_byte, is_word, words_of, word_alone}
+use Rattle.inp_words.specs.Line.{is_blank, is_line_feed, is_text_byte, is_word, lines_behind, words_of, word_alone}
 
 -- no byte between two places is blank
 abbrev pub IsPlain : List ℕ → ℕ → ℕ → Type 0
@@ -69,3 +69,23 @@ words_last line from before all le plain e =
     let piece = take (length line - from) (drop from line) in
     let split = ap (slice_split is_blank) (sym (take_rest line from)) ∙ slice_split_none is_blank piece (piece_is_plain line from (length line) (omega arith) plain) in
     e ∙ ap (λ (ws : List (List ℕ)). before ++ ws) (ap (filter is_word) split)
+
+-- The first line of a text.
+-- a text with no line feed before a place, which is its end or has one
+pub first_line : (text : List ℕ) (end : ℕ) → end < length text → ((k : ℕ) → k < end → is_line_feed (get_or text k 0) ≡ false) → is_line_feed (get_or text end 0) ≡ true
+    → slice_split is_line_feed text ≡ take end text ∷ lines_behind (drop end text)
+first_line text end within before here =
+    let cut = sym (take-append-drop end text) ∙ ap (λ (xs : List ℕ). take end text ++ xs) (drop_more text end 0 within) in
+    let plain : All (λ b. is_line_feed b ≡ false) (take end text) = λ k d lt.
+    let below : k < end = omega (arith, length-take end text) in
+    ap is_line_feed (get_or-take end text k d below ∙ get_or_default text k d 0 (omega arith)) ∙ before k below in
+    ap (slice_split is_line_feed) cut ∙ slice_split_at is_line_feed (take end text) (get_or text end 0) (drop (end + 1) text) plain here
+    ∙ ap (λ (xs : List ℕ). take end text ∷ lines_behind xs) (sym (drop_more text end 0 within))
+
+pub last_line : (text : List ℕ) → ((k : ℕ) → k < length text → is_line_feed (get_or text k 0) ≡ false)
+    → slice_split is_line_feed text ≡ take (length text) text ∷ lines_behind (drop (length text) text)
+last_line text before =
+    let plain : All (λ b. is_line_feed b ≡ false) text = λ k d lt. ap is_line_feed (get_or_default text k d 0 lt) ∙ before k lt in
+    slice_split_none is_line_feed text plain
+    ∙ ap (λ (xs : List ℕ). xs ∷ []) (sym (take_all (length text) text (omega arith)))
+    ∙ ap (λ (xs : List ℕ). take (length text) text ∷ lines_behind xs) (sym (drop_all (length text) text (omega arith)))

@@ -14,6 +14,11 @@ is_blank b = nat_eq b 32 || nat_eq b 9
 abbrev pub lines_of : List ℕ → List (List ℕ)
 lines_of text = map strip_carriage_return (slice_split is_line_feed text)
 
+-- the pieces between line feeds behind the first one: none where the text has ended, and else those behind its line feed
+abbrev pub lines_behind : List ℕ → List (List ℕ)
+lines_behind [] = []
+lines_behind (b ∷ text) = slice_split is_line_feed text
+
 -- the first byte that is not blank is #
 abbrev pub is_comment : List ℕ → Bool
 is_comment [] = false

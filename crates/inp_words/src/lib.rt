@@ -24,7 +24,9 @@ mod table;
 mod word_examples;
 
 pub use codes::{code_word, kind_word};
-pub use lines::{first_word, is_comment, is_text, strip_carriage_return, text_words, words};
+pub use lines::{
+    first_word, is_comment, is_text, line_end, strip_carriage_return, text_words, words,
+};
 pub use numbers::{number, signed_number};
 pub use table::named;
 pub use word_examples::examples;

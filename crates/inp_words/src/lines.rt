@@ -1,10 +1,25 @@
 //! Lines and their words.
-ghost use Rattle.std.specs.Prelude.{◌≡◌, ◌≤◌, ◌-◌, ◌++◌, ◌&&◌, nat_le, IfOk, OnOk, map, not, true, false, length, take, drop, slice_index_or, []};
+ghost use Rattle.std.specs.Prelude.{◌≡◌, ◌≤◌, ◌-◌, ◌++◌, ◌&&◌, nat_le, IfOk, OnOk, map, not, true, false, length, take, drop, slice_index_or, [], ◌∷◌};
+ghost use Rattle.std.specs.List.{slice_split};
 ghost use Rattle.std.specs.Str.Lines.{strip_carriage_return};
-ghost use Rattle.inp_words.specs.Line.{is_blank, is_comment, is_text, is_text_byte, words_of, word_alone};
+ghost use Rattle.inp_words.specs.Line.{is_blank, is_comment, is_line_feed, is_text, is_text_byte, lines_behind, words_of, word_alone};
 
 use inp_model::NoMemory;
+use memchr::memchr;
 use std::alloc::Global;
+
+/// Where the first line of a text ends: at its first line feed, or at the end of the text.
+#[inline]
+pub fn line_end(text: &[u8]) -> usize
+    ensures within { result ≤ length text.now }
+    ensures first { slice_split is_line_feed text.now
+        ≡ take result text.now ∷ lines_behind (drop result text.now) }
+{
+    match memchr(b'\n', text) {
+        Some(end) => end,
+        None => text.len(),
+    }
+}
 
 /// A line without the carriage return at its end, where it has one. A second one stays.
 pub fn strip_carriage_return(line: &[u8]) -> &[u8]

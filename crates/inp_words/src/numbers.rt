@@ -4,6 +4,7 @@ ghost use Rattle.std.specs.Bool.{OnTrue};
 ghost use Rattle.inp_words.specs.Number.{digit_of, is_hexadecimal, numeral, number, signed_number};
 
 /// What a digit of base 16 is worth, and 16 for any other byte.
+#[inline(always)]
 fn digit_of(byte: u8) -> u8
     ensures value { result ≡ digit_of byte }
     ensures small { result ≤ 16 }
@@ -17,6 +18,7 @@ fn digit_of(byte: u8) -> u8
 }
 
 /// The number that these digits are, unless one of them is no digit of the base or the number is above `most`.
+#[inline(always)]
 fn numeral(base: u8, digits: &[u8], most: u64) -> Option<u64>
     requires base { (1 ≤ base) × (base ≤ 16) }
     ensures value { result ≡ numeral base most digits.now }
@@ -38,6 +40,7 @@ fn numeral(base: u8, digits: &[u8], most: u64) -> Option<u64>
 }
 
 /// Whether a word begins with `0x`.
+#[inline(always)]
 fn is_hexadecimal(word: &[u8]) -> bool
     ensures prefix { result ≡ is_hexadecimal word.now }
     ensures room { OnTrue result (2 ≤ length word.now) }
