@@ -1,3 +1,4 @@
+pub mod Actions
 pub mod CanonCommands
 pub mod CanonItems
 pub mod CanonLines
