@@ -18,7 +18,6 @@ fn digit_of(byte: u8) -> u8
 }
 
 /// The number that these digits are, unless one of them is no digit of the base or the number is above `most`.
-#[inline(always)]
 fn numeral(base: u8, digits: &[u8], most: u64) -> Option<u64>
     requires base { (1 ≤ base) × (base ≤ 16) }
     ensures value { result ≡ numeral base most digits.now }
@@ -35,6 +34,29 @@ fn numeral(base: u8, digits: &[u8], most: u64) -> Option<u64>
         }
         value = value.checked_mul(u64::from(base))?;
         value = value.checked_add(u64::from(digit))?;
+    }
+    if value <= most { Some(value) } else { None }
+}
+
+/// The greatest number that has room for a digit more in 64 bits, whichever it is.
+const ROOMY: u64 = 1_844_674_407_370_955_160;
+
+const _: () = prove!(ROOMY == (u64::MAX - 9) / 10);
+
+/// The same for decimal digits. What has no room in this loop, or is no number, is read the long way.
+fn decimal(digits: &[u8], most: u64) -> Option<u64>
+    ensures value { result ≡ numeral 10 most digits.now }
+    ensures bound { IfSome result (λ value. value ≤ most) }
+{
+    if digits.is_empty() {
+        return None;
+    }
+    let mut value: u64 = 0;
+    for byte in digits {
+        if *byte < b'0' || b'9' < *byte || ROOMY < value {
+            return numeral(10, digits, most);
+        }
+        value = value * 10 + u64::from(*byte - b'0');
     }
     if value <= most { Some(value) } else { None }
 }
@@ -58,7 +80,7 @@ pub fn number(word: &[u8], most: u64) -> Option<u64>
     if is_hexadecimal(word) {
         numeral(16, &word[2..], most)
     } else {
-        numeral(10, word, most)
+        decimal(word, most)
     }
 }
 
