@@ -1,11 +1,12 @@
 -- Words of a line, piece by piece.
-use Rattle.std.proofs.Common.{◌≡◌, ℕ, ◌+◌, ◌-◌, ◌<◌, ◌≤◌, ◌&&◌, nat_le, Bool, true, false, List, [], ◌∷◌, ◌++◌, length, take, drop, filter, get_or, cond, refl, sym, ap, ◌∙◌, append_assoc, arith, inl, inr}
-use Rattle.std.specs.List.{slice_split, All}
+use Rattle.std.proofs.Common.{◌≡◌, ℕ, ◌+◌, ◌-◌, ◌<◌, ◌≤◌, Bool, true, false, List, [], ◌∷◌, ◌++◌, length, take, drop, filter, get_or, cond, refl, sym, ap, ◌∙◌, append_assoc, arith, inl, inr}
+use Rattle.std.specs.List.{slice_split, list_all, All}
 use Rattle.std.proofs.lemmas.Bool.Decides.{nat_tests}
-use Rattle.std.proofs.lemmas.Bool.{cases_order}
+use Rattle.std.proofs.lemmas.Bool.{cases_lt}
 use Rattle.std.proofs.lemmas.List.{take_all, drop_all, take-append-drop, drop_more, get_or-drop, get_or-take, get_or_default, drop-drop, take_rest, length-take}
+use Rattle.std.proofs.lemmas.List.Sums.{list_all-from_AllPass}
 use Rattle.std.proofs.lemmas.List.Splits.{slice_split_at, slice_split_none}
-use Rattle.inp_words.specs.Line.{is_blank, is_line_feed, is_text_byte, is_word, lines_behind, words_of, word_alone}
+use Rattle.inp_words.specs.Line.{is_blank, is_line_feed, is_printed, ArePrinted, is_text_byte, is_word, lines_behind, words_of, word_alone}
 
 -- no byte between two places is blank
 abbrev pub IsPlain : List ℕ → ℕ → ℕ → Type 0
@@ -18,26 +19,42 @@ piece_is_plain line from to within plain k d lt =
     let at = get_or-take (to - from) (drop from line) k d below ∙ get_or-drop from line k d ∙ get_or_default line (from + k) d 0 (omega arith) in
     ap is_blank at ∙ plain (from + k) (omega arith) (omega arith)
 
--- one byte more
-pub plain_more : (line : List ℕ) (from place : ℕ) → IsPlain line from place → is_blank (get_or line place 0) ≡ false → IsPlain line from (place + 1)
-plain_more line from place plain here k le lt = elim (cases_order k place) [
-  | inl at ↦ ap (λ (i : ℕ). is_blank (get_or line i 0)) at ∙ here
-  | inr apart ↦ elim apart [ inl below ↦ plain k le below | inr above ↦ absurd (omega arith) ]
-]
-
--- a printable byte that is no space is text, and no blank
-pub printed_is_text : (b : ℕ) → (nat_le 33 b && nat_le b 126) ≡ true → is_text_byte b ≡ true
+-- a printed byte is text, and no blank
+pub printed_is_text : (b : ℕ) → is_printed b ≡ true → is_text_byte b ≡ true
 printed_is_text b h = grind (arith, nat_tests)
 
-pub printed_is_plain : (b : ℕ) → (nat_le 33 b && nat_le b 126) ≡ true → is_blank b ≡ false
+printed_is_plain : (b : ℕ) → is_printed b ≡ true → is_blank b ≡ false
 printed_is_plain b h = grind (arith, nat_tests)
 
 pub blank_is_text : (b : ℕ) → is_blank b ≡ true → is_text_byte b ≡ true
 blank_is_text b h = grind (arith, nat_tests)
 
 -- any other byte is no text
-pub other_is_no_text : (b : ℕ) → (nat_le 33 b && nat_le b 126) ≡ false → is_blank b ≡ false → is_text_byte b ≡ false
+pub other_is_no_text : (b : ℕ) → is_printed b ≡ false → is_blank b ≡ false → is_text_byte b ≡ false
 other_is_no_text b h k = grind (arith, nat_tests)
+
+-- printed bytes have no blank among them
+pub printed_are_plain : (line : List ℕ) (from to : ℕ) → ArePrinted line from to → IsPlain line from to
+printed_are_plain line from to printed k le lt = printed_is_plain (get_or line k 0) (printed k le lt)
+
+-- each byte before a place is text
+abbrev pub AreTextTo : List ℕ → ℕ → Type 0
+AreTextTo line to = (k : ℕ) → k < to → is_text_byte (get_or line k 0) ≡ true
+
+-- so it is behind printed bytes
+pub text_to : (line : List ℕ) (from to : ℕ) → AreTextTo line from → ArePrinted line from to → AreTextTo line to
+text_to line from to text printed k lt = elim (cases_lt k from) [ inl before ↦ text k before | inr behind ↦ printed_is_text (get_or line k 0) (printed k behind lt) ]
+
+-- and behind one byte more
+pub text_more : (line : List ℕ) (to : ℕ) → AreTextTo line to → is_text_byte (get_or line to 0) ≡ true → AreTextTo line (to + 1)
+text_more line to text here k lt = elim (cases_lt k to) [
+  | inl before ↦ text k before
+  | inr behind ↦ let at : to ≡ k = omega arith in ap (λ (i : ℕ). is_text_byte (get_or line i 0)) (sym at) ∙ here
+]
+
+-- a line of which each byte is text
+pub all_text : (line : List ℕ) → AreTextTo line (length line) → list_all is_text_byte line ≡ true
+all_text line text = list_all-from_AllPass is_text_byte line (λ k d lt. ap is_text_byte (get_or_default line k d 0 lt) ∙ text k lt)
 
 -- a piece before others
 before_others : (piece : List ℕ) (parts : List (List ℕ)) → filter is_word (piece ∷ parts) ≡ word_alone piece ++ filter is_word parts

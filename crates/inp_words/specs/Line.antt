@@ -1,5 +1,5 @@
 -- Lines and their words (docs/FORMATS.md, "Lines and words").
-use Rattle.std.specs.Prelude.{◌≡◌, ℕ, Bool, true, false, ◌&&◌, ◌||◌, not, if◌then◌else◌, nat_eq, nat_le, List, [], ◌∷◌, length, map, filter}
+use Rattle.std.specs.Prelude.{◌≡◌, ℕ, ◌<◌, ◌≤◌, slice_index_or, Bool, true, false, ◌&&◌, ◌||◌, not, if◌then◌else◌, nat_eq, nat_le, List, [], ◌∷◌, length, map, filter}
 use Rattle.std.specs.List.{list_all, slice_split}
 use Rattle.std.specs.Str.Lines.{strip_carriage_return}
 
@@ -27,6 +27,14 @@ is_comment (b ∷ line) = if is_blank b then is_comment line else nat_eq b 35
 -- a tab, or a printable ASCII character
 abbrev pub is_text_byte : ℕ → Bool
 is_text_byte b = nat_eq b 9 || (nat_le 32 b && nat_le b 126)
+
+-- printable ASCII other than a space
+abbrev pub is_printed : ℕ → Bool
+is_printed b = nat_le 33 b && nat_le b 126
+
+-- so is each byte of a line between two places
+abbrev pub ArePrinted : List ℕ → ℕ → ℕ → Type 0
+ArePrinted line from to = (k : ℕ) → from ≤ k → k < to → is_printed (slice_index_or line k 0) ≡ true
 
 abbrev pub is_text : List ℕ → Bool
 is_text line = list_all is_text_byte line

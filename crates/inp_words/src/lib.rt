@@ -18,6 +18,7 @@
 #![tactic(auto)]
 
 mod codes;
+mod lanes;
 mod lines;
 mod numbers;
 mod table;

@@ -1,9 +1,10 @@
 //! Lines and their words.
-ghost use Rattle.std.specs.Prelude.{◌≡◌, ◌≤◌, ◌-◌, ◌++◌, ◌&&◌, nat_le, IfOk, OnOk, map, not, true, false, length, take, drop, slice_index_or, [], ◌∷◌};
+ghost use Rattle.std.specs.Prelude.{◌≡◌, ◌≤◌, ◌<◌, ◌-◌, ◌++◌, IfOk, OnOk, map, not, true, false, length, take, drop, slice_index_or, [], ◌∷◌};
 ghost use Rattle.std.specs.List.{slice_split};
 ghost use Rattle.std.specs.Str.Lines.{strip_carriage_return};
-ghost use Rattle.inp_words.specs.Line.{is_blank, is_comment, is_line_feed, is_text, is_text_byte, lines_behind, words_of, word_alone};
+ghost use Rattle.inp_words.specs.Line.{is_blank, is_comment, is_line_feed, is_printed, is_text, is_text_byte, lines_behind, words_of, word_alone, ArePrinted};
 
+use crate::lanes::printed_lanes;
 use inp_model::NoMemory;
 use memchr::memchr;
 use std::alloc::Global;
@@ -71,9 +72,30 @@ pub fn words(alloc: Global, line: &[u8]) -> Result<Vec<&[u8]>, NoMemory>
 
 /// Whether a byte is printable ASCII and no space.
 fn is_printed(byte: u8) -> bool
-    ensures { result ≡ (nat_le 33 byte && nat_le byte 126) }
+    ensures { result ≡ is_printed byte }
 {
     33 <= byte && byte <= 126
+}
+
+/// Where the first byte from a place on stands that is not printed; the line's length where there is none.
+fn piece_end(line: &[u8], from: usize) -> usize
+    requires { from ≤ length line.now }
+    ensures after { from ≤ result }
+    ensures within { result ≤ length line.now }
+    ensures printed { ArePrinted line.now from result }
+    ensures other { result < length line.now → is_printed (slice_index_or line.now result 0) ≡ false }
+{
+    let mut place = from;
+    if line.len() - from >= 16 {
+        place = from + printed_lanes(line, from);
+        if place < from + 16 {
+            return place;
+        }
+    }
+    while place < line.len() && is_printed(line[place]) {
+        place += 1;
+    }
+    place
 }
 
 /// Adds the piece of a line between two places to a list, unless it is empty.
@@ -103,18 +125,17 @@ pub fn text_words<'a>(line: &'a [u8], list: &mut Vec<&'a [u8]>) -> Result<bool, 
 {
     list.clear();
     let mut from = 0;
-    for (place, byte) in line.iter().enumerate() {
-        if is_printed(*byte) {
-            continue;
+    'pieces: loop {
+        let end = piece_end(line, from);
+        add_piece(line, from, end, list)?;
+        if end == line.len() {
+            return Ok(true);
         }
-        if !is_blank(*byte) {
+        if !is_blank(line[end]) {
             return Ok(false);
         }
-        add_piece(line, from, place, list)?;
-        from = place + 1;
+        from = end + 1;
     }
-    add_piece(line, from, line.len(), list)?;
-    Ok(true)
 }
 
 /// The first word of a line, and none where it is blank. It takes no memory.

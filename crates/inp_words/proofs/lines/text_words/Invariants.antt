@@ -1,13 +1,14 @@
-use Rattle.std.proofs.Common.{◌≡◌, ◌≤◌, ◌++◌, true, map, take, drop}
-use Rattle.std.specs.List.{list_all}
-use Rattle.inp_words.specs.Line.{is_text_byte, words_of}
-use Rattle.inp_words.proofs.Cuts.{IsPlain}
+use Rattle.std.proofs.Common.{◌≡◌, ◌≤◌, ◌-◌, ◌++◌, map, length, drop}
+use Rattle.inp_words.specs.Line.{words_of}
+use Rattle.inp_words.proofs.Cuts.{AreTextTo}
 use Rattle.inp_words.proofs.lines.text_words.Given as goal
 
-abbrev pub invariant-loop-place : goal.invariant-loop-place
-invariant-loop-place l = record {
-  begun : l.from ≤ l.place;
-  text : list_all is_text_byte (take l.place l.line) ≡ true;
-  plain : IsPlain l.line l.from l.place;
+abbrev pub invariant-pieces : goal.invariant-pieces
+invariant-pieces l = record {
+  within : l.from ≤ length l.line;
+  text : AreTextTo l.line l.from;
   read : words_of l.line ≡ map (λ word. word.now) l.list.items ++ words_of (drop l.from l.line);
 }
+
+abbrev pub decreases-pieces : goal.decreases-pieces
+decreases-pieces l = length l.line - l.from
