@@ -1,9 +1,7 @@
--- Rows with a name before its number, in the order of the names.
-use Rattle.std.specs.Prelude.{◌≡◌, ℕ, List, map}
+-- Rows with a name before its number.
+use Rattle.std.specs.Prelude.{◌≡◌, ℕ, ◌<◌, List, true, length, map, get_or}
 use Rattle.std.specs.Borrow.{Bor}
-use Rattle.std.specs.Cmp.Lexicographic.{slice_cmp}
-use Rattle.std.specs.List.Sorted.{IsStrictlySortedBy}
-use Rattle.std.specs.Ordering.{nat_cmp}
+use Rattle.std.specs.Str.{bytes_eq}
 use Rattle.inp_codes.specs.Table.{NamedNumber, number_in}
 
 module _ {N : Type 0} where
@@ -11,11 +9,11 @@ module _ {N : Type 0} where
   abbrev pub row_entries : List (Bor (List ℕ) × N) → List (NamedNumber N)
   row_entries rows = map (λ row. (row.1, row.0.now)) rows
 
-  -- each name comes before the names after it, byte by byte
-  abbrev pub AreInNameOrder : List (Bor (List ℕ) × N) → Type 0
-  AreInNameOrder rows = IsStrictlySortedBy (slice_cmp nat_cmp) (map (λ row. row.0.now) rows)
+  -- no row but the one at this place has the name
+  abbrev pub IsNowhereBut : List (Bor (List ℕ) × N) → List ℕ → ℕ → Type 0
+  IsNowhereBut rows name place =
+      (k : ℕ) (d : Bor (List ℕ) × N) → k < length rows → bytes_eq (get_or rows k d).0.now name ≡ true → k ≡ place
 
-  -- the rows are in order, and give each name the number that the entries give it
+  -- the rows give each name the number that the entries give it
   pub record AreRowsOf (rows : List (Bor (List ℕ) × N)) (entries : List (NamedNumber N)) : Type 0 where
-    pub in_order : AreInNameOrder rows
     pub numbers : (name : List ℕ) → number_in (row_entries rows) name ≡ number_in entries name

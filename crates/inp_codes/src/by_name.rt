@@ -1,6 +1,6 @@
-//! Rows with a name before its number, in the order of the names.
+//! Rows with a name before its number.
 ghost use Rattle.std.specs.Prelude.{◌≡◌};
-ghost use Rattle.inp_codes.specs.ByName.{row_entries, AreInNameOrder};
+ghost use Rattle.inp_codes.specs.ByName.{row_entries, IsNowhereBut};
 ghost use Rattle.inp_codes.specs.Table.{number_in};
 
 /// An array of the rows `NAME = number`, each a pair of the name's text and the number.
@@ -12,13 +12,28 @@ macro_rules! rows {
 
 pub(crate) use rows;
 
-/// The number in the row of `name`, if there is one, by binary search.
-pub(crate) fn find_number<N: Copy>(rows: &[(&'static str, N)], name: &str) -> Option<N>
-    requires { AreInNameOrder rows.now }
+/// The number in the first row of `name`, if there is one.
+#[tactic(auto, unfolding(crate::specs::Table::number_in))]
+pub(crate) fn find_number<N: Copy>(rows: &[(&'static str, N)], name: &[u8]) -> Option<N>
     ensures { result ≡ number_in (row_entries rows.now) name.now }
 {
-    match rows.binary_search_by_key(&name, |&(text, _)| text) {
-        Ok(row) => Some(rows[row].1),
-        Err(_) => None,
+    for &(text, number) in rows {
+        if text.as_bytes() == name {
+            return Some(number);
+        }
+    }
+    None
+}
+
+/// The number in the row at `place`, if it has `name`. No other row may have it.
+pub(crate) fn number_at<N: Copy>(rows: &[(&'static str, N)], place: usize, name: &[u8]) -> Option<N>
+    requires { IsNowhereBut rows.now name.now place }
+    ensures { result ≡ number_in (row_entries rows.now) name.now }
+{
+    let &(text, number) = rows.get(place)?;
+    if text.as_bytes() == name {
+        Some(number)
+    } else {
+        None
     }
 }

@@ -6,8 +6,9 @@ ghost use Rattle.inp_codes.specs.CodeNames.{name_of, code_of, codes_of_kind};
 mod keys;
 mod names;
 mod rows;
+mod slots;
 
-use crate::by_name::find_number;
+use crate::by_name::number_at;
 use crate::by_number::name_at;
 use crate::kinds::{EV_ABS, EV_KEY, EV_LED, EV_MSC, EV_REL, EV_REP, EV_SND, EV_SW, EV_SYN};
 use keys::key_names;
@@ -15,6 +16,7 @@ use names::{
     abs_names, led_names, msc_names, rel_names, rep_names, snd_names, sw_names, syn_names,
 };
 use rows::code_rows;
+use slots::slot_of;
 
 /// The name of the code `code` of the event type `kind`, as `KEY_F12` for 1 and 88; `None` where the
 /// table has no such code.
@@ -30,11 +32,18 @@ pub fn name_of(kind: u16, code: u16) -> Option<&'static str>
 /// The event type and the code whose name is `text`, as 1 and 88 for `KEY_F12`; `None` where the table
 /// has no such name. The name of an event type, as `EV_KEY`, is no code's: see `kind_of`.
 ///
-/// The whole text is compared, byte by byte: case counts, and nothing is trimmed. A binary search.
+/// The whole text is compared, byte by byte: case counts, and nothing is trimmed. One look at a slot.
 pub fn code_of(text: &str) -> Option<(u16, u16)>
     ensures code { result ≡ code_of text.now }
 {
-    find_number(code_rows(), text)
+    code_named(text.as_bytes())
+}
+
+/// The same for bytes, which need not be text.
+pub fn code_named(name: &[u8]) -> Option<(u16, u16)>
+    ensures code { result ≡ code_of name.now }
+{
+    number_at(code_rows(), slot_of(name), name)
 }
 
 /// The names of the codes of `kind`, at their codes.

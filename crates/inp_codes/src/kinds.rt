@@ -37,11 +37,18 @@ pub fn kind_name(kind: u16) -> Option<&'static str>
 
 /// The event type whose name is `text`, as 1 for `EV_KEY`; `None` where the table has no such name.
 ///
-/// The whole text is compared, byte by byte: case counts, and nothing is trimmed. A binary search.
+/// The whole text is compared, byte by byte: case counts, and nothing is trimmed. The names are tried one by one.
 pub fn kind_of(text: &str) -> Option<u16>
     ensures kind { result ≡ kind_of text.now }
 {
-    find_number(kind_rows(), text)
+    kind_named(text.as_bytes())
+}
+
+/// The same for bytes, which need not be text.
+pub fn kind_named(name: &[u8]) -> Option<u16>
+    ensures kind { result ≡ kind_of name.now }
+{
+    find_number(kind_rows(), name)
 }
 
 /// The names of event types, at their numbers.
@@ -63,20 +70,20 @@ fn kind_names() -> &'static [&'static str]
     &NAMES
 }
 
-/// Each name with its event type.
+/// Each name with its event type, those of most events first.
 fn kind_rows() -> &'static [(&'static str, u16)]
     ensures { AreRowsOf result.now kind_entries }
 {
     static ROWS: [(&str, u16); 9] = rows![
-        EV_ABS = EV_ABS,
-        EV_KEY = EV_KEY,
-        EV_LED = EV_LED,
-        EV_MSC = EV_MSC,
-        EV_REL = EV_REL,
-        EV_REP = EV_REP,
-        EV_SND = EV_SND,
-        EV_SW = EV_SW,
         EV_SYN = EV_SYN,
+        EV_KEY = EV_KEY,
+        EV_ABS = EV_ABS,
+        EV_REL = EV_REL,
+        EV_MSC = EV_MSC,
+        EV_SW = EV_SW,
+        EV_LED = EV_LED,
+        EV_SND = EV_SND,
+        EV_REP = EV_REP,
     ];
     &ROWS
 }

@@ -17,8 +17,8 @@
 //! `codes_are_one_to_one` say that the look-ups are inverse, so that a name that was written is read
 //! back, and that each name is a word of upper-case letters, digits and underscores.
 //!
-//! A look-up by number reads one place of an array; one by name is a binary search. No call needs memory
-//! or can fail otherwise than by `None`. The crate stands on `std` alone.
+//! A look-up by number reads one place of an array; one by a code's name hashes the name and compares it with
+//! one row. No call needs memory or can fail otherwise than by `None`. The crate stands on `std` alone.
 #![tactic(auto)]
 
 mod by_name;
@@ -27,6 +27,6 @@ mod codes;
 mod kinds;
 mod laws;
 
-pub use codes::{code_of, name_of};
-pub use kinds::{kind_name, kind_of};
+pub use codes::{code_named, code_of, name_of};
+pub use kinds::{kind_name, kind_named, kind_of};
 pub use laws::{codes_are_one_to_one, kinds_are_one_to_one};

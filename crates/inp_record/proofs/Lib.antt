@@ -1,3 +1,4 @@
+pub mod Actions
 pub mod CanonItems
 pub mod CanonLines
 pub mod CanonLists

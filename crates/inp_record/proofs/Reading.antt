@@ -1,7 +1,7 @@
 -- Reading line by line.
-use Rattle.std.proofs.Common.{◌≡◌, ℕ, zero, suc, ◌+◌, ◌<◌, ◌≤◌, List, [], ◌∷◌, map, length, drop, get_or, Result, Ok, Err, refl, sym, ap, ◌∙◌, add-one, arith}
+use Rattle.std.proofs.Common.{◌≡◌, ℕ, zero, suc, ◌+◌, ◌-◌, ◌<◌, ◌≤◌, List, [], ◌∷◌, map, length, take, drop, get_or, Result, Ok, Err, refl, sym, ap, ◌∙◌, add-one, arith}
 use Rattle.std.specs.List.{slice_split}
-use Rattle.std.proofs.lemmas.List.{drop_all}
+use Rattle.std.proofs.lemmas.List.{drop_all, drop_more, take_rest}
 use Rattle.std.specs.Str.Lines.{strip_carriage_return}
 use Rattle.inp_actors.specs.Record.{RecordView}
 use Rattle.inp_record.specs.declared.cause.Cause.{Cause}
@@ -15,7 +15,7 @@ use Rattle.inp_record.specs.declared.item.Item.TheVariants.{Header}
 use Rattle.inp_record.specs.declared.place.Place.TheVariants.{Start}
 use Rattle.std.proofs.lemmas.List.Splits.{length-slice_split}
 use Rattle.std.proofs.lemmas.List.Sums.{count_by-le-length}
-use Rattle.inp_words.specs.Line.{is_line_feed, lines_of}
+use Rattle.inp_words.specs.Line.{is_line_feed, lines_behind, lines_of}
 use Rattle.inp_record.specs.Fault.{fault_at, IsParsing}
 use Rattle.inp_record.specs.Past.{Past, context_of}
 use Rattle.inp_record.specs.Meaning.{behind_line, then_lines, behind_lines, record_of_past, as_record, meaning, IsBehind, AreLinesRead}
@@ -46,31 +46,48 @@ turn_is parts n k piece e t =
 pub few_lines : (text : List ℕ) → length (lines_of text) ≤ length text + 1
 few_lines text = omega (arith, lines_length (slice_split is_line_feed text), length-slice_split is_line_feed text, count_by-le-length is_line_feed text)
 
+-- the first line of what is left of a text, and those behind it
+pub line_and_more : (rest : List ℕ) (end : ℕ) → end < length rest → slice_split is_line_feed rest ≡ take end rest ∷ lines_behind (drop end rest) → lines_of rest ≡ strip_carriage_return (take end rest) ∷ lines_of (take (length rest - (end + 1)) (drop (end + 1) rest))
+line_and_more rest end within e =
+    ap (map strip_carriage_return) (e ∙ ap (λ (xs : List ℕ). take end rest ∷ lines_behind xs) (drop_more rest end 0 within))
+    ∙ ap (λ (xs : List ℕ). strip_carriage_return (take end rest) ∷ lines_of xs) (sym (take_rest rest (end + 1)))
+
+-- a text has a line
+pub some_line : (text : List ℕ) → 1 ≤ length (lines_of text)
+some_line text = omega (arith, lines_length (slice_split is_line_feed text), length-slice_split is_line_feed text)
+
+-- the last one
+pub line_alone : (rest : List ℕ) (end : ℕ) → length rest ≤ end → slice_split is_line_feed rest ≡ take end rest ∷ lines_behind (drop end rest) → lines_of rest ≡ strip_carriage_return (take end rest) ∷ []
+line_alone rest end past e = ap (map strip_carriage_return) (e ∙ ap (λ (xs : List ℕ). take end rest ∷ lines_behind xs) (drop_all end rest past))
+
+-- as many lines were read as are not left
+pub counted_more : (all left more : List (List ℕ)) (n : ℕ) (x : List ℕ) → left ≡ x ∷ more → n + length left ≡ length all → (n + 1) + length more ≡ length all
+counted_more all left more n x d e = omega (arith, ap (λ (ls : List (List ℕ)). length ls) d)
+
 -- one line more
-pub read_more : (lines : List (List ℕ)) (n : ℕ) (past : Past) (x : List ℕ) → drop n lines ≡ x ∷ drop (n + 1) lines → behind_lines 1 lines [] ≡ behind_lines (n + 1) (drop n lines) past
-    → behind_lines 1 lines [] ≡ then_lines (n + 1) (behind_line past x) (λ now. behind_lines (suc (n + 1)) (drop (n + 1) lines) now)
+pub read_more : (all left more : List (List ℕ)) (n : ℕ) (past : Past) (x : List ℕ) → left ≡ x ∷ more → behind_lines 1 all [] ≡ behind_lines (n + 1) left past
+    → behind_lines 1 all [] ≡ then_lines (n + 1) (behind_line past x) (λ now. behind_lines (suc (n + 1)) more now)
 unfolding behind_lines
-read_more lines n past x d e = e ∙ ap (λ (ls : List (List ℕ)). behind_lines (n + 1) ls past) d
+read_more all left more n past x d e = e ∙ ap (λ (ls : List (List ℕ)). behind_lines (n + 1) ls past) d
 
 -- a line that was read
-pub more_read : (lines : List (List ℕ)) (n : ℕ) (means : Result Past Cause) (done : Unit {0}) (now : Context)
-    → behind_lines 1 lines [] ≡ then_lines (n + 1) means (λ now. behind_lines (suc (n + 1)) (drop (n + 1) lines) now) → IsBehind (Ok done) means now
-    → (past : Past) × (now ≡ context_of past) × (behind_lines 1 lines [] ≡ behind_lines (n + 1 + 1) (drop (n + 1) lines) past)
-more_read lines n means done now e h = (h.0, h.2, rw h.1 at e ∙ ap (λ k. behind_lines k (drop (n + 1) lines) h.0) (sym (add-one (n + 1))))
+pub more_read : (all more : List (List ℕ)) (n : ℕ) (means : Result Past Cause) (done : Unit {0}) (now : Context)
+    → behind_lines 1 all [] ≡ then_lines (n + 1) means (λ now. behind_lines (suc (n + 1)) more now) → IsBehind (Ok done) means now
+    → (past : Past) × (now ≡ context_of past) × (behind_lines 1 all [] ≡ behind_lines (n + 1 + 1) more past)
+more_read all more n means done now e h = (h.0, h.2, rw h.1 at e ∙ ap (λ k. behind_lines k more h.0) (sym (add-one (n + 1))))
 
 -- a line that was not read
-pub fault_read : (lines : List (List ℕ)) (n : ℕ) (means : Result Past Cause) (f : LineFault) (now : Context)
-    → behind_lines 1 lines [] ≡ then_lines (n + 1) means (λ now. behind_lines (suc (n + 1)) (drop (n + 1) lines) now) → IsBehind (Err f) means now
-    → AreLinesRead (Err (fault_at (n + 1) f)) lines
-fault_read lines n means (line.Refused cause) now e h = rw h at e
-fault_read lines n means line.NoMemory now e h = tt
+pub fault_read : (all more : List (List ℕ)) (n : ℕ) (means : Result Past Cause) (f : LineFault) (now : Context)
+    → behind_lines 1 all [] ≡ then_lines (n + 1) means (λ now. behind_lines (suc (n + 1)) more now) → IsBehind (Err f) means now
+    → AreLinesRead (Err (fault_at (n + 1) f)) all
+fault_read all more n means (line.Refused cause) now e h = rw h at e
+fault_read all more n means line.NoMemory now e h = tt
 
 -- all lines were read
-pub all_read : (lines : List (List ℕ)) (n : ℕ) (context : Context) → length lines ≤ n → n ≤ length lines
-    → (past : Past) × (context ≡ context_of past) × (behind_lines 1 lines [] ≡ behind_lines (n + 1) (drop n lines) past)
-    → (past : Past) × (behind_lines 1 lines [] ≡ Ok past) × (context ≡ context_of past) × (n ≡ length lines)
+pub all_read : (all : List (List ℕ)) (n : ℕ) (context : Context) → n + length {A = List ℕ} [] ≡ length all → (past : Past) × (context ≡ context_of past) × (behind_lines 1 all [] ≡ behind_lines (n + 1) [] past)
+    → (past : Past) × (behind_lines 1 all [] ≡ Ok past) × (context ≡ context_of past) × (n ≡ length all)
 unfolding behind_lines
-all_read lines n context a b h = (h.0, h.2 ∙ ap (λ (ls : List (List ℕ)). behind_lines (n + 1) ls h.0) (drop_all n lines a), h.1, omega arith)
+all_read all n context counted h = (h.0, h.2, h.1, omega (arith, counted))
 
 -- a fault of a line is one of the text
 pub fault_parsed : (text : List ℕ) (f : ParseFault) → AreLinesRead (Err f) (lines_of text) → IsParsing {A = RecordView} (Err f) (meaning text)

@@ -1,8 +1,8 @@
 //! Reading one line.
-ghost use Rattle.std.specs.Prelude.{◌≡◌, ◌+◌, ◌<◌, ◌≤◌, ◌^◌, length, true, OnOk};
+ghost use Rattle.std.specs.Prelude.{◌≡◌, ◌+◌, ◌<◌, ◌≤◌, ◌^◌, length, true, OnOk, IfSome};
 ghost use Rattle.inp_words.specs.Line.{AreText};
 ghost use Rattle.inp_record.specs.Fault.{IsReading};
-ghost use Rattle.inp_record.specs.Keyword.{has_words};
+ghost use Rattle.inp_record.specs.Keyword.{has_words, keyword_of};
 ghost use Rattle.inp_codes.specs.ByNumber.{texts};
 ghost use Rattle.inp_record.specs.Words.{word, item_of};
 ghost use Rattle.inp_record.specs.Past.{Past, context_of, IsWithinCounts};
@@ -18,7 +18,7 @@ use crate::line_fault::LineFault;
 use crate::place::{Place, is_out_of_place};
 use inp_actors::ActorText;
 use inp_caps::CapsRefused;
-use inp_words::{is_comment, is_text, words};
+use inp_words::{is_comment, text_words};
 use std::alloc::Global;
 
 /// The meaning of a line with this keyword, by its words.
@@ -55,6 +55,20 @@ fn second_word<'a>(words: &[&'a [u8]]) -> &'a [u8]
     }
 }
 
+/// The keyword of a line, by its words, of which there is one. Most lines are actions.
+#[tactic(auto, using(crate::proofs::Actions::do_begins_action, crate::proofs::Actions::action_has_words))]
+fn line_keyword(version: u32, words: &[&[u8]]) -> Option<Keyword>
+    requires { 1 ≤ length words.now }
+    ensures keyword { result ≡ keyword_of version (word 0 (texts words.now)) (word 1 (texts words.now)) (length words.now) }
+    ensures count { IfSome result (λ keyword. has_words keyword (length words.now) ≡ true) }
+{
+    let first = word(words, 0);
+    if words.len() >= 3 && first == b"do".as_slice() {
+        return Some(Keyword::Action);
+    }
+    keyword_of(version, first, second_word(words), words.len())
+}
+
 /// What the words of a line are, of which there is one.
 #[tactic(auto, unfolding(crate::specs::Meaning::item_of_words))]
 fn item_of_words(context: &Context, alloc: Global, words: &[&[u8]]) -> Result<Item, LineFault>
@@ -66,8 +80,7 @@ fn item_of_words(context: &Context, alloc: Global, words: &[&[u8]]) -> Result<It
     if context.place == Place::Start && !is_header(words) {
         return Err(LineFault::Refused(Cause::BadHeader));
     }
-    let (first, second) = (word(words, 0), second_word(words));
-    let Some(keyword) = keyword_of(context.version, first, second, words.len()) else {
+    let Some(keyword) = line_keyword(context.version, words) else {
         return Err(LineFault::Refused(Cause::BadLine));
     };
     if is_out_of_place(context.place, context.requested, keyword) {
@@ -112,9 +125,14 @@ fn read_words(context: &mut Context, alloc: Global, words: &[&[u8]]) -> Result<(
     context.enter(alloc, item)
 }
 
-/// Reads a line. After a fault the context is given up.
+/// Reads a line. After a fault the context is given up. The list is lent for the words of the line.
 #[tactic(auto, unfolding(crate::specs::Meaning::behind_line))]
-pub(crate) fn read_line(context: &mut Context, alloc: Global, line: &[u8]) -> Result<(), LineFault>
+pub(crate) fn read_line<'a>(
+    context: &mut Context,
+    alloc: Global,
+    list: &mut Vec<&'a [u8]>,
+    line: &'a [u8],
+) -> Result<(), LineFault>
     requires room { IsWithinCounts context.old }
     requires actors { length context.old.actors + 1 < 2 ^ 32 }
     ensures behind { (past : Past) → context.old ≡ context_of past
@@ -126,11 +144,9 @@ pub(crate) fn read_line(context: &mut Context, alloc: Global, line: &[u8]) -> Re
     if is_comment(line) {
         return Ok(());
     }
-    if !is_text(line) {
-        return Err(LineFault::Refused(Cause::NotText));
-    }
-    match words(alloc, line) {
-        Ok(words) => read_words(context, alloc, &words),
+    match text_words(line, list) {
+        Ok(true) => read_words(context, alloc, list.as_slice()),
+        Ok(false) => Err(LineFault::Refused(Cause::NotText)),
         Err(_) => Err(LineFault::NoMemory),
     }
 }

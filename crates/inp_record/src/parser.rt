@@ -11,23 +11,30 @@ use crate::line_parser::read_line;
 use crate::place::Place;
 use crate::{Cause, ParseFault, Refused};
 use inp_actors::Record;
-use inp_words::strip_carriage_return;
+use inp_words::{line_end, strip_carriage_return};
 use std::alloc::Global;
 
-/// Reads all lines, and counts them.
+/// Reads all lines, and counts them. One list takes the words of each line.
 fn read_lines(alloc: Global, text: &[u8]) -> Result<(Context, u32), ParseFault>
     requires few { length (lines_of text.now) < 2 ^ 32 }
     ensures { AreLinesRead result (lines_of text.now) }
 {
     let mut context = Context::new(alloc);
+    let mut words = Vec::new(alloc);
     let mut line: u32 = 0;
-    for piece in text.split(|byte| *byte == b'\n') {
+    let mut rest = text;
+    'lines: loop {
+        let end = line_end(rest);
         line += 1;
-        if let Err(fault) = read_line(&mut context, alloc, strip_carriage_return(piece)) {
+        let bytes = strip_carriage_return(&rest[..end]);
+        if let Err(fault) = read_line(&mut context, alloc, &mut words, bytes) {
             return Err(fault.at(line));
         }
+        if end == rest.len() {
+            return Ok((context, line));
+        }
+        rest = &rest[end + 1..];
     }
-    Ok((context, line))
 }
 
 /// The record that bytes are. `docs/FORMATS.md` has the form, which is this project's choice. Each stream is empty: `load`

@@ -1,5 +1,5 @@
 -- The first piece of a line that is a word.
-use Rattle.std.proofs.Common.{◌≡◌, ℕ, zero, suc, ◌+◌, ◌<◌, Bool, true, false, List, [], ◌∷◌, length, drop, filter, get_or, cond, refl, sym, ap, ◌∙◌, arith}
+use Rattle.std.proofs.Common.{◌≡◌, ℕ, zero, suc, ◌+◌, ◌<◌, Bool, true, false, List, [], ◌∷◌, length, drop, filter, get_or, cond, sym, ap, ◌∙◌, arith}
 use Rattle.inp_words.specs.Line.{is_word}
 
 -- the pieces from a place on

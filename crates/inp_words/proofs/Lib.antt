@@ -1,4 +1,6 @@
 pub mod Computing
+pub mod Cuts
 pub mod FirstWords
+pub mod Sixteen
 pub mod NameWords
 pub mod Numerals

@@ -1,12 +1,10 @@
 //! Words that are types and codes of events.
 ghost use Rattle.std.specs.Prelude.{◌≡◌};
-ghost use Rattle.inp_codes.specs.KindNames.{kind_of};
-ghost use Rattle.inp_codes.specs.CodeNames.{code_of};
 ghost use Rattle.inp_words.specs.Number.{number};
 ghost use Rattle.inp_words.specs.Code.{kind_word, code_word};
 
 use crate::numbers::number;
-use inp_codes::{code_of, kind_of};
+use inp_codes::{code_named, kind_named};
 
 /// The number of at most 65,535 that a word is.
 fn number_word(word: &[u8]) -> Option<u16>
@@ -18,32 +16,12 @@ fn number_word(word: &[u8]) -> Option<u16>
     }
 }
 
-/// The type with this name.
-fn named_kind(word: &[u8]) -> Option<u16>
-    ensures { result ≡ kind_of word.now }
-{
-    match str::from_utf8(word) {
-        Ok(name) => kind_of(name),
-        Err(_) => None,
-    }
-}
-
-/// The type and the code with this name.
-fn named_code(word: &[u8]) -> Option<(u16, u16)>
-    ensures { result ≡ code_of word.now }
-{
-    match str::from_utf8(word) {
-        Ok(name) => code_of(name),
-        Err(_) => None,
-    }
-}
-
 /// The type of an event that a word is: by its name in `inp_codes`, or by a number of at most 65,535.
 #[tactic(auto, unfolding(crate::specs::Code::kind_word))]
 pub fn kind_word(word: &[u8]) -> Option<u16>
     ensures kind { result ≡ kind_word word.now }
 {
-    match named_kind(word) {
+    match kind_named(word) {
         Some(kind) => Some(kind),
         None => number_word(word),
     }
@@ -55,7 +33,7 @@ pub fn kind_word(word: &[u8]) -> Option<u16>
 pub fn code_word(kind: u16, word: &[u8]) -> Option<u16>
     ensures code { result ≡ code_word kind word.now }
 {
-    match named_code(word) {
+    match code_named(word) {
         Some(named) => { if named.0 == kind { Some(named.1) } else { None } }
         None => number_word(word),
     }

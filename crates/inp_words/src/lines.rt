@@ -1,10 +1,26 @@
 //! Lines and their words.
-ghost use Rattle.std.specs.Prelude.{◌≡◌, IfOk, map, not, false, slice_index_or, []};
+ghost use Rattle.std.specs.Prelude.{◌≡◌, ◌≤◌, ◌<◌, ◌-◌, ◌++◌, IfOk, OnOk, map, not, true, false, length, take, drop, slice_index_or, [], ◌∷◌};
+ghost use Rattle.std.specs.List.{slice_split};
 ghost use Rattle.std.specs.Str.Lines.{strip_carriage_return};
-ghost use Rattle.inp_words.specs.Line.{is_blank, is_comment, is_text, is_text_byte, words_of};
+ghost use Rattle.inp_words.specs.Line.{is_blank, is_comment, is_line_feed, is_printed, is_text, is_text_byte, lines_behind, words_of, word_alone, ArePrinted};
 
+use crate::lanes::printed_lanes;
 use inp_model::NoMemory;
+use memchr::memchr;
 use std::alloc::Global;
+
+/// Where the first line of a text ends: at its first line feed, or at the end of the text.
+#[inline]
+pub fn line_end(text: &[u8]) -> usize
+    ensures within { result ≤ length text.now }
+    ensures first { slice_split is_line_feed text.now
+        ≡ take result text.now ∷ lines_behind (drop result text.now) }
+{
+    match memchr(b'\n', text) {
+        Some(end) => end,
+        None => text.len(),
+    }
+}
 
 /// A line without the carriage return at its end, where it has one. A second one stays.
 pub fn strip_carriage_return(line: &[u8]) -> &[u8]
@@ -52,6 +68,74 @@ pub fn words(alloc: Global, line: &[u8]) -> Result<Vec<&[u8]>, NoMemory>
             .filter(|piece| !piece.is_empty())
             .collect(alloc)?,
     )
+}
+
+/// Whether a byte is printable ASCII and no space.
+fn is_printed(byte: u8) -> bool
+    ensures { result ≡ is_printed byte }
+{
+    33 <= byte && byte <= 126
+}
+
+/// Where the first byte from a place on stands that is not printed; the line's length where there is none.
+fn piece_end(line: &[u8], from: usize) -> usize
+    requires { from ≤ length line.now }
+    ensures after { from ≤ result }
+    ensures within { result ≤ length line.now }
+    ensures printed { ArePrinted line.now from result }
+    ensures other { result < length line.now → is_printed (slice_index_or line.now result 0) ≡ false }
+{
+    let mut place = from;
+    if line.len() - from >= 16 {
+        place = from + printed_lanes(line, from);
+        if place < from + 16 {
+            return place;
+        }
+    }
+    while place < line.len() && is_printed(line[place]) {
+        place += 1;
+    }
+    place
+}
+
+/// Adds the piece of a line between two places to a list, unless it is empty.
+fn add_piece<'a>(
+    line: &'a [u8],
+    from: usize,
+    to: usize,
+    list: &mut Vec<&'a [u8]>,
+) -> Result<(), NoMemory>
+    requires order { from ≤ to }
+    requires within { to ≤ length line.now }
+    ensures added { OnOk result (map (λ word. word.now) list.new.items
+        ≡ map (λ word. word.now) list.old.items ++ word_alone (take (to - from) (drop from line.now))) }
+{
+    if from < to {
+        list.push(&line[from..to])?;
+    }
+    Ok(())
+}
+
+/// Whether a line is text; then its words are what the list has, in place of what it had. It takes memory where the list
+/// has no room for them.
+pub fn text_words<'a>(line: &'a [u8], list: &mut Vec<&'a [u8]>) -> Result<bool, NoMemory>
+    ensures text { IfOk result (λ text. text ≡ is_text line.now) }
+    ensures words { IfOk result (λ text. text ≡ true
+        → map (λ word. word.now) list.new.items ≡ words_of line.now) }
+{
+    list.clear();
+    let mut from = 0;
+    'pieces: loop {
+        let end = piece_end(line, from);
+        add_piece(line, from, end, list)?;
+        if end == line.len() {
+            return Ok(true);
+        }
+        if !is_blank(line[end]) {
+            return Ok(false);
+        }
+        from = end + 1;
+    }
 }
 
 /// The first word of a line, and none where it is blank. It takes no memory.

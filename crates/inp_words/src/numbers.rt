@@ -4,6 +4,7 @@ ghost use Rattle.std.specs.Bool.{OnTrue};
 ghost use Rattle.inp_words.specs.Number.{digit_of, is_hexadecimal, numeral, number, signed_number};
 
 /// What a digit of base 16 is worth, and 16 for any other byte.
+#[inline(always)]
 fn digit_of(byte: u8) -> u8
     ensures value { result ≡ digit_of byte }
     ensures small { result ≤ 16 }
@@ -37,7 +38,31 @@ fn numeral(base: u8, digits: &[u8], most: u64) -> Option<u64>
     if value <= most { Some(value) } else { None }
 }
 
+/// The greatest number that has room for a digit more in 64 bits, whichever it is.
+const ROOMY: u64 = 1_844_674_407_370_955_160;
+
+const _: () = prove!(ROOMY == (u64::MAX - 9) / 10);
+
+/// The same for decimal digits. What has no room in this loop, or is no number, is read the long way.
+fn decimal(digits: &[u8], most: u64) -> Option<u64>
+    ensures value { result ≡ numeral 10 most digits.now }
+    ensures bound { IfSome result (λ value. value ≤ most) }
+{
+    if digits.is_empty() {
+        return None;
+    }
+    let mut value: u64 = 0;
+    for byte in digits {
+        if *byte < b'0' || b'9' < *byte || ROOMY < value {
+            return numeral(10, digits, most);
+        }
+        value = value * 10 + u64::from(*byte - b'0');
+    }
+    if value <= most { Some(value) } else { None }
+}
+
 /// Whether a word begins with `0x`.
+#[inline(always)]
 fn is_hexadecimal(word: &[u8]) -> bool
     ensures prefix { result ≡ is_hexadecimal word.now }
     ensures room { OnTrue result (2 ≤ length word.now) }
@@ -55,7 +80,7 @@ pub fn number(word: &[u8], most: u64) -> Option<u64>
     if is_hexadecimal(word) {
         numeral(16, &word[2..], most)
     } else {
-        numeral(10, word, most)
+        decimal(word, most)
     }
 }
 

@@ -6,4 +6,4 @@ use Rattle.inp_codes.proofs.kinds.kind_rows.Goals as goal
 -- the tests of the rows against the table compute
 pub returns : goal.returns
 unfolding event_codes
-returns c = AreRowsOf-tested nat_eq eqb-true _ _ refl refl refl
+returns c = AreRowsOf-tested nat_eq eqb-true _ _ refl refl

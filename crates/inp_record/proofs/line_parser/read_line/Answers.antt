@@ -7,6 +7,6 @@ use Rattle.inp_record.proofs.line_parser.read_line.Goals as goal
 pub read_words-requires-clause-text : goal.read_words-requires-clause-text
 read_words-requires-clause-text c =
     let text : is_text c.args.line.now ≡ true = grind arith in
-    let is : texts c.deref.result.now ≡ words_of c.args.line.now = search rules in
+    let is : texts c.as_slice.result.now ≡ words_of c.args.line.now = search rules in
     let P : List (List ℕ) → Type 0 = AreText in
     subst P (sym is) (words_are_text c.args.line.now text)

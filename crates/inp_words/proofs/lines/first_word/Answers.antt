@@ -4,7 +4,7 @@ use Rattle.std.proofs.lemmas.Bool.Decides.{nat_tests}
 use Rattle.std.proofs.lemmas.List.{drop_all, length_push}
 use Rattle.std.proofs.lemmas.Iterator.Splits.{YieldsList-from_slice_split}
 use Rattle.std.proofs.lemmas.Iterator.Consumers.{YieldsList-at, YieldsList-turn, YieldsList-end}
-use Rattle.inp_words.specs.Line.{is_blank, is_word, words_of}
+use Rattle.inp_words.specs.Line.{is_blank, is_word}
 use Rattle.inp_words.proofs.FirstWords.{word_at, none_at}
 use Rattle.inp_words.proofs.lines.first_word.Goals as goal
 

@@ -1,11 +1,15 @@
 use Rattle.std.proofs.Common.{refl}
 use Rattle.inp_codes.specs.CodeNames.{is_same_code}
-use Rattle.inp_codes.proofs.ByNameLemmas.{AreRowsOf-tested}
+use Rattle.inp_codes.proofs.ByNameLemmas.{AreRowsOf-tested, HaveSlots-tested}
 use Rattle.inp_codes.proofs.CodeNamesLemmas.{is_same_code-true}
 use Rattle.inp_codes.proofs.Computing.{event_codes}
 use Rattle.inp_codes.proofs.codes.rows.code_rows.Goals as goal
 
 -- the tests of the rows against the table compute
-pub returns : goal.returns
+pub returns-clause-numbers : goal.returns-clause-numbers
 unfolding event_codes
-returns c = AreRowsOf-tested is_same_code is_same_code-true _ _ refl refl refl
+returns-clause-numbers c = AreRowsOf-tested is_same_code is_same_code-true _ _ refl refl
+
+pub returns-clause-slots : goal.returns-clause-slots
+unfolding event_codes
+returns-clause-slots c = HaveSlots-tested _ refl

@@ -1,0 +1,7 @@
+use Rattle.std.proofs.Common.{◌∙◌}
+use Rattle.inp_codes.specs.KindNames.{kind_of}
+use Rattle.inp_codes.proofs.kinds.kind_named.Goals as goal
+
+pub returns : goal.returns
+unfolding kind_of
+returns c = record { kind = c.find_number.ensures ∙ c.kind_rows.ensures.numbers c.args.name.now }

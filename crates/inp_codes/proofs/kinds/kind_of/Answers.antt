@@ -1,7 +1,0 @@
-use Rattle.std.proofs.Common.{◌∙◌}
-use Rattle.inp_codes.specs.KindNames.{kind_of}
-use Rattle.inp_codes.proofs.kinds.kind_of.Goals as goal
-
-pub returns : goal.returns
-unfolding kind_of
-returns c = record { kind = c.find_number.ensures ∙ c.kind_rows.ensures.numbers c.args.text.now }
