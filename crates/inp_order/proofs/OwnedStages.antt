@@ -25,7 +25,8 @@ use Rattle.inp_runs.proofs.LineRuns.{lines_by-more, lines_by-other}
 use Rattle.inp_runs.proofs.Listing.{eq_true, eq_false, slice_get-set, slice_get-set_same}
 use Rattle.inp_order.specs.Play.{Stage, description_at, feedback_calls_after, after_line, after_lines}
 use Rattle.inp_order.proofs.Calls.{AreExact}
-use Rattle.inp_order.proofs.Feeding.{IsFedSoFar, so-far-steps, so-far-stopped, so-far-called, called-within}
+use Rattle.inp_runs.proofs.OwnerLaws.{IsToldByLines, told-stopped}
+use Rattle.inp_order.proofs.Feeding.{so-far-steps, so-far-called, called-within}
 use Rattle.inp_order.proofs.LineDone.{IsFedUnless, IsFedWhereAsked, IsLinePlayed, feedback-of, line-done}
 use Rattle.inp_order.proofs.Stages.{IsStage, AreCommandsOf, number_is, may-do, stage-more, append_one, its_number, its_actor, actor-behind, past-behind}
 
@@ -34,7 +35,7 @@ pub record AreOwned (r : RecordView) (lines : List Line) (stage : Stage) : Type 
   pub counts : length stage.calls ≡ length r.devices
   pub within : (i : ℕ) (past : List Step) (calls : List FeedbackCall) → slice_get stage.pasts i ≡ Some past → slice_get stage.calls i ≡ Some calls → StandsWithin (length past) calls
   pub owners : (i : ℕ) (a : ActorView) (text : ActorText) (past : List Step) (calls : List FeedbackCall) → slice_get stage.actors i ≡ Some a → slice_get r.actors i ≡ Some text → text.role ≡ Owner → slice_get stage.pasts text.device ≡ Some past → slice_get stage.calls text.device ≡ Some calls
-      → IsFedSoFar (description_at r text.device) (kept_of past calls) (rooms_of (lines_by a.actor lines)) a.owning
+      → IsToldByLines (description_at r text.device) (kept_of past calls) (rooms_of (lines_by a.actor lines)) a.owning
 
 -- no device has two owners
 abbrev pub HasOneOwner : RecordView → Type 0
@@ -147,7 +148,7 @@ within-more r rounds lines stage now line o u i past calls is_past is_calls = by
 -- the owner of the line, behind it
 its_owning : (r : RecordView) (rounds : ℕ) (lines : List Line) (stage now : Stage) (line : Line) → IsStage r rounds lines stage → AreOwned r lines stage → (u : IsLinePlayed r rounds stage now line)
     → (past : List Step) (calls : List FeedbackCall) → u.text.role ≡ Owner → slice_get now.pasts u.text.device ≡ Some past → slice_get now.calls u.text.device ≡ Some calls
-    → IsFedSoFar (description_at r u.text.device) (kept_of past calls) (rooms_of (lines_by u.actor.actor (lines ++ line ∷ []))) u.owning
+    → IsToldByLines (description_at r u.text.device) (kept_of past calls) (rooms_of (lines_by u.actor.actor (lines ++ line ∷ []))) u.owning
 its_owning r rounds lines stage now line s o u past calls owner is_past is_calls = by (by-call r rounds stage now line u)
   where
     d : Description
@@ -174,40 +175,40 @@ its_owning r rounds lines stage now line s o u past calls owner is_past is_calls
     grown : past ≡ g.more ++ u.past
     grown = g.grown ∙ ap (λ (p : List Step). g.more ++ p) before
 
-    old : (cs : List FeedbackCall) → slice_get stage.calls u.text.device ≡ Some cs → IsFedSoFar d (kept_of u.past cs) rooms u.actor.owning
+    old : (cs : List FeedbackCall) → slice_get stage.calls u.text.device ≡ Some cs → IsToldByLines d (kept_of u.past cs) rooms u.actor.owning
     old cs is = o.owners line.actor u.actor u.text u.past cs u.is_actor u.is_text owner u.is_past is
 
-    uncalled : (n : IsUncalled r rounds stage now line u) → IsFedSoFar d (kept_of u.past calls) rooms u.actor.owning
+    uncalled : (n : IsUncalled r rounds stage now line u) → IsToldByLines d (kept_of u.past calls) rooms u.actor.owning
         → (feedback_room line.command ≡ None) ⊎ ((room : ℕ) × (feedback_room line.command ≡ Some room) × (stop : Stop) × (u.actor.owning.stop ≡ Some stop))
-        → IsFedSoFar d (kept_of u.past calls) more_rooms u.actor.owning
+        → IsToldByLines d (kept_of u.past calls) more_rooms u.actor.owning
     uncalled n far (inl none) =
-        subst (λ (rs : List ℕ). IsFedSoFar d (kept_of u.past calls) rs u.actor.owning) (sym (rooms-line u.actor.actor lines line None own none ∙ append-nil rooms)) far
+        subst (λ (rs : List ℕ). IsToldByLines d (kept_of u.past calls) rs u.actor.owning) (sym (rooms-line u.actor.actor lines line None own none ∙ append-nil rooms)) far
     uncalled n far (inr stopped) =
-        subst (λ (rs : List ℕ). IsFedSoFar d (kept_of u.past calls) rs u.actor.owning) (sym (rooms-line u.actor.actor lines line (Some stopped.0) own stopped.1))
-        (so-far-stopped d (kept_of u.past calls) rooms u.actor.owning stopped.0 stopped.2 stopped.3 far)
+        subst (λ (rs : List ℕ). IsToldByLines d (kept_of u.past calls) rs u.actor.owning) (sym (rooms-line u.actor.actor lines line (Some stopped.0) own stopped.1))
+        (told-stopped d (kept_of u.past calls) rooms stopped.0 u.actor.owning stopped.2 stopped.3 far)
 
-    called : (c : IsCalled r rounds stage now line u) → IsFedSoFar d (kept_of u.past (feedback_calls_after (fed d (kept_of u.past c.calls) c.room) c.calls)) (rooms ++ c.room ∷ []) (after_feedback (fed d (kept_of u.past c.calls) c.room) (taken_by_feedback d (kept_of u.past c.calls) c.room) u.actor.owning)
+    called : (c : IsCalled r rounds stage now line u) → IsToldByLines d (kept_of u.past (feedback_calls_after (fed d (kept_of u.past c.calls) c.room) c.calls)) (rooms ++ c.room ∷ []) (after_feedback (fed d (kept_of u.past c.calls) c.room) (taken_by_feedback d (kept_of u.past c.calls) c.room) u.actor.owning)
     called c = so-far-called d u.past c.calls rooms u.actor.owning c.room c.going (old c.calls c.is_calls)
 
-    by : IsUncalled r rounds stage now line u ⊎ IsCalled r rounds stage now line u → IsFedSoFar d (kept_of past calls) more_rooms u.owning
+    by : IsUncalled r rounds stage now line u ⊎ IsCalled r rounds stage now line u → IsToldByLines d (kept_of past calls) more_rooms u.owning
     by (inl n) =
         let is : slice_get stage.calls u.text.device ≡ Some calls = ap (λ (cs : List (List FeedbackCall)). slice_get cs u.text.device) (sym n.calls) ∙ is_calls in
-        subst (λ (w : Owning). IsFedSoFar d (kept_of past calls) more_rooms w) (sym n.owning)
+        subst (λ (w : Owning). IsToldByLines d (kept_of past calls) more_rooms w) (sym n.owning)
         (so-far-steps d u.past past g.more calls more_rooms u.actor.owning (o.within u.text.device u.past calls u.is_past is) grown (uncalled n (old calls is) n.why))
     by (inr c) =
         let e : Description = u.actor.description in
         let new : List FeedbackCall = feedback_calls_after (fed e (kept_of u.past c.calls) c.room) c.calls in
         let is : new ≡ calls = same_Some new calls (sym (slice_get-set_same stage.calls u.text.device c.calls new c.is_calls) ∙ ap (λ (cs : List (List FeedbackCall)). slice_get cs u.text.device) (sym c.now_calls) ∙ is_calls) in
-        let far : IsFedSoFar d (kept_of u.past new) (rooms ++ c.room ∷ []) (after_feedback (fed e (kept_of u.past c.calls) c.room) (taken_by_feedback e (kept_of u.past c.calls) c.room) u.actor.owning) =
+        let far : IsToldByLines d (kept_of u.past new) (rooms ++ c.room ∷ []) (after_feedback (fed e (kept_of u.past c.calls) c.room) (taken_by_feedback e (kept_of u.past c.calls) c.room) u.actor.owning) =
         subst
-        (λ (f : Description). IsFedSoFar d (kept_of u.past (feedback_calls_after (fed f (kept_of u.past c.calls) c.room) c.calls)) (rooms ++ c.room ∷ []) (after_feedback (fed f (kept_of u.past c.calls) c.room) (taken_by_feedback f (kept_of u.past c.calls) c.room) u.actor.owning))
+        (λ (f : Description). IsToldByLines d (kept_of u.past (feedback_calls_after (fed f (kept_of u.past c.calls) c.room) c.calls)) (rooms ++ c.room ∷ []) (after_feedback (fed f (kept_of u.past c.calls) c.room) (taken_by_feedback f (kept_of u.past c.calls) c.room) u.actor.owning))
         (sym description)
         (called c) in
-        let told : IsFedSoFar d (kept_of u.past new) more_rooms u.owning =
-        subst (λ (w : Owning). IsFedSoFar d (kept_of u.past new) more_rooms w) (sym c.owning)
-        (subst (λ (rs : List ℕ). IsFedSoFar d (kept_of u.past new) rs (after_feedback (fed e (kept_of u.past c.calls) c.room) (taken_by_feedback e (kept_of u.past c.calls) c.room) u.actor.owning)) (sym (rooms-line u.actor.actor lines line (Some c.room) own c.is_room)) far) in
+        let told : IsToldByLines d (kept_of u.past new) more_rooms u.owning =
+        subst (λ (w : Owning). IsToldByLines d (kept_of u.past new) more_rooms w) (sym c.owning)
+        (subst (λ (rs : List ℕ). IsToldByLines d (kept_of u.past new) rs (after_feedback (fed e (kept_of u.past c.calls) c.room) (taken_by_feedback e (kept_of u.past c.calls) c.room) u.actor.owning)) (sym (rooms-line u.actor.actor lines line (Some c.room) own c.is_room)) far) in
         let within : StandsWithin (length u.past) new = called-within e u.past c.calls c.room (o.within u.text.device u.past c.calls u.is_past c.is_calls) in
-        subst (λ (cs : List FeedbackCall). IsFedSoFar d (kept_of past cs) more_rooms u.owning) is
+        subst (λ (cs : List FeedbackCall). IsToldByLines d (kept_of past cs) more_rooms u.owning) is
         (so-far-steps d u.past past g.more new more_rooms u.owning within grown told)
 
 -- a line is a feedback call of this owner, or leaves its device's calls
@@ -228,31 +229,31 @@ calls-before r rounds stage now line one u feedback i text calls is_text owner o
 
 owners-more : (r : RecordView) (rounds : ℕ) (lines : List Line) (stage now : Stage) (line : Line) → IsStage r rounds lines stage → AreOwned r lines stage → HasOneOwner r → (u : IsLinePlayed r rounds stage now line) → (feedback : (room : ℕ) → feedback_room line.command ≡ Some room → u.text.role ≡ Owner)
     → (i : ℕ) (a : ActorView) (text : ActorText) (past : List Step) (calls : List FeedbackCall) → slice_get now.actors i ≡ Some a → slice_get r.actors i ≡ Some text → text.role ≡ Owner → slice_get now.pasts text.device ≡ Some past → slice_get now.calls text.device ≡ Some calls
-    → IsFedSoFar (description_at r text.device) (kept_of past calls) (rooms_of (lines_by a.actor (lines ++ line ∷ []))) a.owning
+    → IsToldByLines (description_at r text.device) (kept_of past calls) (rooms_of (lines_by a.actor (lines ++ line ∷ []))) a.owning
 owners-more r rounds lines stage now line s o one u feedback i a text past calls is_a is_text owner is_past is_calls = by_actor (actor-behind r rounds lines stage now line s u i a is_a)
   where
     new : ActorView
     new = record u.actor { job = u.job; owning = u.owning }
 
-    own : i ≡ line.actor → a ≡ new → IsFedSoFar (description_at r text.device) (kept_of past calls) (rooms_of (lines_by a.actor (lines ++ line ∷ []))) a.owning
+    own : i ≡ line.actor → a ≡ new → IsToldByLines (description_at r text.device) (kept_of past calls) (rooms_of (lines_by a.actor (lines ++ line ∷ []))) a.owning
     own same is =
         let texts : text ≡ u.text = same_Some text u.text (sym is_text ∙ ap (λ (k : ℕ). slice_get r.actors k) same ∙ u.is_text) in
         let on : text.device ≡ u.text.device = ap (λ (t : ActorText). t.device) texts in
-        subst (λ (b : ActorView). IsFedSoFar (description_at r text.device) (kept_of past calls) (rooms_of (lines_by b.actor (lines ++ line ∷ []))) b.owning) (sym is)
-        (subst (λ (k : ℕ). IsFedSoFar (description_at r k) (kept_of past calls) (rooms_of (lines_by u.actor.actor (lines ++ line ∷ []))) u.owning) (sym on)
+        subst (λ (b : ActorView). IsToldByLines (description_at r text.device) (kept_of past calls) (rooms_of (lines_by b.actor (lines ++ line ∷ []))) b.owning) (sym is)
+        (subst (λ (k : ℕ). IsToldByLines (description_at r k) (kept_of past calls) (rooms_of (lines_by u.actor.actor (lines ++ line ∷ []))) u.owning) (sym on)
         (its_owning r rounds lines stage now line s o u past calls (ap (λ (t : ActorText). t.role) (sym texts) ∙ owner)
         (ap (λ (k : ℕ). slice_get now.pasts k) (sym on) ∙ is_past) (ap (λ (k : ℕ). slice_get now.calls k) (sym on) ∙ is_calls)))
 
-    other : (i ≡ line.actor → ⊥) → slice_get stage.actors i ≡ Some a → IsFedSoFar (description_at r text.device) (kept_of past calls) (rooms_of (lines_by a.actor (lines ++ line ∷ []))) a.owning
+    other : (i ≡ line.actor → ⊥) → slice_get stage.actors i ≡ Some a → IsToldByLines (description_at r text.device) (kept_of past calls) (rooms_of (lines_by a.actor (lines ++ line ∷ []))) a.owning
     other differs is =
         let number : a.actor ≡ i = number_is r rounds lines stage i a s is in
         let g : IsGrown stage text.device past = past-grown r rounds stage now line u text.device past is_past in
         let before : slice_get stage.calls text.device ≡ Some calls = calls-before r rounds stage now line one u feedback i text calls is_text owner differs is_calls in
-        let far : IsFedSoFar (description_at r text.device) (kept_of g.past calls) (rooms_of (lines_by a.actor lines)) a.owning = o.owners i a text g.past calls is is_text owner g.is_past before in
-        subst (λ (rs : List ℕ). IsFedSoFar (description_at r text.device) (kept_of past calls) rs a.owning) (sym (rooms-other a.actor lines line (λ e. differs (sym (e ∙ number)))))
+        let far : IsToldByLines (description_at r text.device) (kept_of g.past calls) (rooms_of (lines_by a.actor lines)) a.owning = o.owners i a text g.past calls is is_text owner g.is_past before in
+        subst (λ (rs : List ℕ). IsToldByLines (description_at r text.device) (kept_of past calls) rs a.owning) (sym (rooms-other a.actor lines line (λ e. differs (sym (e ∙ number)))))
         (so-far-steps (description_at r text.device) g.past past g.more calls (rooms_of (lines_by a.actor lines)) a.owning (o.within text.device g.past calls g.is_past before) g.grown far)
 
-    by_actor : ((i ≡ line.actor) × (a ≡ new)) ⊎ ((i ≡ line.actor → ⊥) × (slice_get stage.actors i ≡ Some a)) → IsFedSoFar (description_at r text.device) (kept_of past calls) (rooms_of (lines_by a.actor (lines ++ line ∷ []))) a.owning
+    by_actor : ((i ≡ line.actor) × (a ≡ new)) ⊎ ((i ≡ line.actor → ⊥) × (slice_get stage.actors i ≡ Some a)) → IsToldByLines (description_at r text.device) (kept_of past calls) (rooms_of (lines_by a.actor (lines ++ line ∷ []))) a.owning
     by_actor (inl is) = own is.0 is.1
     by_actor (inr is) = other is.0 is.1
 

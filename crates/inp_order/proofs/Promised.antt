@@ -36,7 +36,7 @@ use Rattle.inp_runs.proofs.Done.{device-promised}
 use Rattle.inp_runs.proofs.Listing.{option_map-some, slice_get-filter, slice_get-numbered, map-filter, sum_by-kept, sum_by-none}
 use Rattle.inp_runs.proofs.Entries.{entries, below}
 use Rattle.inp_runs.proofs.Played.{all-promised}
-use Rattle.inp_order.proofs.Feeding.{IsFedSoFar, fed-nothing}
+use Rattle.inp_runs.proofs.OwnerLaws.{IsToldByLines, told-nothing}
 use Rattle.inp_order.proofs.OwnedStages.{AreOwned, owned-stages}
 use Rattle.inp_order.proofs.Stages.{IsSoFar, IsStage, weight, number_is, stages}
 
@@ -100,17 +100,17 @@ first_calls [] i calls h = absurd cc
 first_calls (device ∷ devices) zero calls h = cc
 first_calls (device ∷ devices) (suc i) calls h = first_calls devices i calls h
 
-first_fed : (r : RecordView) (i : ℕ) (text : ActorText) → IsFedSoFar (description_at r text.device) (kept_of [] []) [] (first_actor r (i, text)).owning
-first_fed r i text = subst (λ (kept : List UEntry). IsFedSoFar (description_at r text.device) kept [] first_owning) (sym kept_of-nothing) (fed-nothing (description_at r text.device))
+first_fed : (r : RecordView) (i : ℕ) (text : ActorText) → IsToldByLines (description_at r text.device) (kept_of [] []) [] (first_actor r (i, text)).owning
+first_fed r i text = subst (λ (kept : List UEntry). IsToldByLines (description_at r text.device) kept [] first_owning) (sym kept_of-nothing) (told-nothing (description_at r text.device))
 
 first-owned : (r : RecordView) → AreOwned r [] (first_stage r)
 first-owned r = record {
   counts = length-map r.devices (λ (text : DeviceText). []);
   within = λ i past calls is_past is_calls. subst (λ (cs : List FeedbackCall). StandsWithin (length past) cs) (sym (first_calls r.devices i calls is_calls)) tt;
   owners = λ i a text past calls is_a is_text owner is_past is_calls.
-      subst (λ (cs : List FeedbackCall). IsFedSoFar (description_at r text.device) (kept_of past cs) [] a.owning) (sym (first_calls r.devices text.device calls is_calls))
-      (subst (λ (p : List Step). IsFedSoFar (description_at r text.device) (kept_of p []) [] a.owning) (sym (first_past r.devices text.device past is_past))
-      (subst (λ (b : ActorView). IsFedSoFar (description_at r text.device) (kept_of [] []) [] b.owning) (first_is r i a text is_a is_text) (first_fed r i text)));
+      subst (λ (cs : List FeedbackCall). IsToldByLines (description_at r text.device) (kept_of past cs) [] a.owning) (sym (first_calls r.devices text.device calls is_calls))
+      (subst (λ (p : List Step). IsToldByLines (description_at r text.device) (kept_of p []) [] a.owning) (sym (first_past r.devices text.device past is_past))
+      (subst (λ (b : ActorView). IsToldByLines (description_at r text.device) (kept_of [] []) [] b.owning) (first_is r i a text is_a is_text) (first_fed r i text)));
 }
 
 -- When all lines are done
@@ -172,8 +172,8 @@ owned_on r stage i device past a text o is_device is_past is_actor is_text on ow
     let within : i < length stage.calls = (let few : i < length r.devices = slice_get_within r.devices i device is_device in omega (arith, few, o.counts)) in
     let calls : (cs : List FeedbackCall) × (slice_get stage.calls i ≡ Some cs) = there-is stage.calls i within in
     let caps : description_at r text.device ≡ device.caps = ap (λ (n : ℕ). description_at r n) on ∙ description_is r i device is_device in
-    let far : IsFedSoFar device.caps (kept_of past calls.0) (rooms_of (lines_by a.actor r.lines)) a.owning =
-    subst (λ (d : Description). IsFedSoFar d (kept_of past calls.0) (rooms_of (lines_by a.actor r.lines)) a.owning) caps
+    let far : IsToldByLines device.caps (kept_of past calls.0) (rooms_of (lines_by a.actor r.lines)) a.owning =
+    subst (λ (d : Description). IsToldByLines d (kept_of past calls.0) (rooms_of (lines_by a.actor r.lines)) a.owning) caps
     (o.owners a.actor a text past calls.0 is_actor is_text owner (ap (λ (n : ℕ). slice_get stage.pasts n) on ∙ is_past) (ap (λ (n : ℕ). slice_get stage.calls n) on ∙ calls.1)) in
     record {
       kept = kept_of past calls.0;

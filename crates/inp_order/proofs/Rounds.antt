@@ -4,14 +4,13 @@ use Rattle.std.specs.Prelude.{slice_get, option_map, option_and_then}
 use Rattle.inp_model.specs.declared.stamped.Stamped.{Stamped}
 use Rattle.inp_model.specs.declared.step.Step.{Step}
 use Rattle.inp_model.specs.Description.{Description}
-use Rattle.inp_model.specs.Reply.{answer, past_after}
 use Rattle.inp_model.specs.Run.{Call}
 use Rattle.inp_actors.specs.declared.command.Command.{Command}
 use Rattle.inp_actors.specs.declared.line.Line.{Line}
 use Rattle.inp_actors.specs.declared.role.Role.{Role}
 use Rattle.inp_actors.specs.Command.{feedback_room}
 use Rattle.inp_actors.specs.Record.{RecordView}
-use Rattle.inp_reader.specs.Talk.{Talk, finish, ask, and_then, EndsWith, talk_with, calls_with}
+use Rattle.inp_reader.specs.Talk.{Talk, EndsWith, talk_with, calls_with}
 use Rattle.inp_script.specs.declared.run.Played.{Played}
 use Rattle.inp_script.specs.declared.waiting.Waiting.{Waiting}
 use Rattle.inp_script.specs.Doing.{line_talk}
@@ -20,12 +19,6 @@ use Rattle.inp_script.specs.Job.{Job, ActorView}
 use Rattle.inp_runs.proofs.MoreRounds.{line-longer}
 use Rattle.inp_order.specs.Play.{Stage, first_stage, after_talk, by_command, after_line, after_line_of, after_lines, runs_of, play}
 use Rattle.inp_order.proofs.Calls.{exact-talk, talk_with-ends, talk_with-exact}
-
--- one talk with a device after another
-pub talk_with-then : {A B : Type 0} (d : Description) (past : List Step) (talk : Talk A) (next : A → Talk B) → talk_with d past (and_then talk next) ≡ talk_with d (talk_with d past talk).1 (next (talk_with d past talk).0)
-unfolding talk_with
-talk_with-then d past (finish a) next = refl
-talk_with-then d past (ask x rest) next = talk_with-then d (past_after (answer d past x).reply x past) (rest (answer d past x)) next
 
 -- what ends a line whatever is answered ends it where the one-thread device answers
 pub line_talk-more : (role : Role) (d : Description) (streams : List (List Stamped)) (wait : Option Waiting) (n k : ℕ) (command : Command) (old : Job) (past : List Step) (j : Job)

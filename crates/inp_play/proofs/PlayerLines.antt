@@ -7,11 +7,14 @@ use Rattle.std.proofs.lemmas.Bool.{cond_both}
 use Rattle.inp_model.specs.declared.event.Event.{Event}
 use Rattle.inp_model.specs.declared.step.Step.{Step}
 use Rattle.inp_model.specs.Description.{Description}
+use Rattle.inp_model.proofs.Leaves.{description-kept}
 use Rattle.inp_actors.specs.declared.actor_text.ActorText.{ActorText}
 use Rattle.inp_actors.specs.declared.device_text.DeviceText.{DeviceText}
 use Rattle.inp_actors.specs.declared.line.Line.{Line}
-use Rattle.inp_actors.specs.declared.role.Role.TheVariants.{Owner}
-use Rattle.inp_actors.specs.Command.{is_command_of, feedback_room}
+use Rattle.inp_actors.specs.declared.command.Command.{Command}
+use Rattle.inp_actors.specs.declared.command.Command.TheVariants.{Feedback as ToFeed}
+use Rattle.inp_actors.specs.declared.role.Role.{Role}
+use Rattle.inp_actors.specs.Command.{is_command_of, is_owner, feedback_room}
 use Rattle.inp_actors.specs.Record.{RecordView, IsRecord}
 use Rattle.inp_feedback.specs.declared.u_entry.UEntry.{UEntry}
 use Rattle.inp_feedback.specs.declared.u_entry.UEntry.TheVariants.{Feedback}
@@ -28,14 +31,15 @@ use Rattle.inp_uinput.specs.UdevView.{UdevView, device_of, owned_view}
 use Rattle.inp_uinput.specs.OwnedFeeding.{IsFeedbackOf}
 use Rattle.inp_uinput.proofs.Tied.{untied-calls, tied-calls}
 use Rattle.inp_reader.specs.Talk.{Talk, talk_with}
-use Rattle.inp_script.specs.Doing.{DoesLine, HasActor, IsLineOf, line_talk}
+use Rattle.inp_script.specs.Acting.{ActsLine}
+use Rattle.inp_script.specs.Doing.{HasActor, Holds, IsLineOf, line_talk}
 use Rattle.inp_script.specs.declared.stop.Stop.{Stop}
 use Rattle.inp_script.specs.Job.{Job, ActorView}
 use Rattle.inp_script.specs.Owner.{Owning, after_feedback, IsFed, FeedsUnless, FeedsLine}
 use Rattle.inp_order.specs.Play.{Stage, feedback_calls_after, after_talk, unless_owner_stopped, by_command, after_line, after_line_of}
 use Rattle.inp_play.specs.Player.{stage_with, pasts_of, feedback_calls_of, HasDevices, HasActors}
 use Rattle.inp_order.proofs.Alone.{device-alone}
-use Rattle.inp_order.proofs.LineDone.{feedback-of, set_same}
+use Rattle.inp_order.proofs.LineDone.{set_same}
 use Rattle.inp_runs.proofs.Memory.{gives_up-line}
 
 -- Lists
@@ -145,26 +149,22 @@ calls_same devices i device after there same =
 talk_at : (r : RecordView) (n : ℕ) (line : Line) (a : ActorView) → Talk (Option Job)
 talk_at r n line a = line_talk a.role a.description r.streams None n line.command a.job
 
-pub line_does : (r : RecordView) (devices : List UdevView) (actors : List ActorView) (number : ℕ) (line : Line) (text : ActorText) (a : ActorView) (device after : UdevView) (new : Job) → IsRecord r → IsFound r devices actors number line text a device → feedback_room line.command ≡ None
-    → (does : DoesLine (owned_view device) (owned_view after) a r None number new)
-    → after_line r does.rounds (stage_with devices actors) line ≡ Some (stage_with (slice_set devices text.device after) (slice_set actors line.actor (record a { job = new })))
+line_does : (r : RecordView) (devices : List UdevView) (actors : List ActorView) (number : ℕ) (line : Line) (text : ActorText) (a : ActorView) (device after : UdevView) (n : ℕ) (new : Job) → IsRecord r → IsFound r devices actors number line text a device → feedback_room line.command ≡ None
+    → Holds (owned_view device) (owned_view after) (line_talk a.role a.description r.streams None n line.command a.job) (Some new)
+    → after_line r n (stage_with devices actors) line ≡ Some (stage_with (slice_set devices text.device after) (slice_set actors line.actor (record a { job = new })))
 unfolding talk_at
-line_does r devices actors number line text a device after new keeps f no_room does =
-    let n : ℕ = does.rounds in
+line_does r devices actors number line text a device after n new keeps f no_room holds =
     let s : Stage = stage_with devices actors in
     let past : List Step = steps_in device.kept in
     let now : List Step = steps_in after.kept in
-    let same : does.line ≡ line = same_item r.lines number does.line line does.is_line f.is_line in
-    let role : is_command_of a.role does.line.command ≡ true = ap (λ (l : Line). is_command_of a.role l.command) same ∙ found-role r devices actors number line text a device keeps f in
-    let done : talk_with device.description past (talk_at r n does.line a) ≡ (Some new, now) =
-    device-alone (device_of device) (device_of after) (talk_at r n does.line a) does.holds.calls new (gives_up-line a.role a.description r.streams None n does.line.command a.job role) does.holds.talk_ends
-    (untied-calls device after does.holds.calls does.holds.are_calls) in
+    let role : is_command_of a.role line.command ≡ true = found-role r devices actors number line text a device keeps f in
+    let done : talk_with device.description past (talk_at r n line a) ≡ (Some new, now) =
+    device-alone (device_of device) (device_of after) (talk_at r n line a) holds.calls new (gives_up-line a.role a.description r.streams None n line.command a.job role) holds.talk_ends
+    (untied-calls device after holds.calls holds.are_calls) in
     let talk : talk_with a.description past (talk_at r n line a) ≡ (Some new, now) =
-    ap (λ (d : Description). talk_with d past (talk_at r n line a)) (sym (found-description r devices actors number line text a device f))
-    ∙ ap (λ (l : Line). talk_with device.description past (talk_at r n l a)) (sym same)
-    ∙ done in
+    ap (λ (d : Description). talk_with d past (talk_at r n line a)) (sym (found-description r devices actors number line text a device f)) ∙ done in
     let place : a.actor ≡ line.actor = (f.has_actors.each line.actor a f.is_actor).0 in
-    let calls : feedback_calls_of (slice_set devices text.device after) ≡ s.calls = calls_same devices text.device device after f.is_device (tied-calls device after does.holds.calls does.holds.are_calls) in
+    let calls : feedback_calls_of (slice_set devices text.device after) ≡ s.calls = calls_same devices text.device device after f.is_device (tied-calls device after holds.calls holds.are_calls) in
     stage_after r n devices actors number line text a device f
     ∙ ap (λ (o : Option ℕ). by_command o s text.device a past (after_talk s text.device a (talk_with a.description past (talk_at r n line a)))) no_room
     ∙ ap (after_talk s text.device a) talk
@@ -241,7 +241,7 @@ feed_leaves devices actors i number a device after count new (Some stop) is_devi
     ∙ ap (λ (bs : List ActorView). stage_with devices bs) (set_same actors number a is_actor)
     )
 
-pub feed_does : (r : RecordView) (devices : List UdevView) (actors : List ActorView) (number : ℕ) (line : Line) (text : ActorText) (a : ActorView) (device after : UdevView) (count : ℕ) (new : Owning) → IsFound r devices actors number line text a device → feedback_room line.command ≡ Some count
+feed_does : (r : RecordView) (devices : List UdevView) (actors : List ActorView) (number : ℕ) (line : Line) (text : ActorText) (a : ActorView) (device after : UdevView) (count : ℕ) (new : Owning) → IsFound r devices actors number line text a device → feedback_room line.command ≡ Some count
     → FeedsLine IsFeedbackOf device after (min count FEEDBACK_MAX) a.owning new
     → after_line r 0 (stage_with devices actors) line ≡ Some (stage_with (slice_set devices text.device after) (slice_set actors line.actor (record a { owning = new })))
 feed_does r devices actors number line text a device after count new f is_room does =
@@ -256,9 +256,35 @@ feed_does r devices actors number line text a device after count new f is_room d
     (feed_leaves devices actors text.device line.actor a device after count new a.owning.stop f.is_device f.is_actor (f.has_actors.each line.actor a f.is_actor).0
     (found-description r devices actors number line text a device f) does)
 
--- the actor of such a line is an owner
-pub found-owner : (r : RecordView) (devices : List UdevView) (actors : List ActorView) (number : ℕ) (line : Line) (text : ActorText) (a : ActorView) (device : UdevView) (count : ℕ) → IsRecord r → IsFound r devices actors number line text a device → feedback_room line.command ≡ Some count → a.role ≡ Owner
-found-owner r devices actors number line text a device count keeps f is_room = feedback-of a.role line.command count is_room (found-role r devices actors number line text a device keeps f)
+-- A line of any actor
+
+-- only owners make feedback calls
+no-call : (role : Role) (command : Command) → is_command_of role command ≡ true → is_owner role ≡ false → feedback_room command ≡ None
+no-call role (ToFeed count) h caller = absurd (let both : true ≡ false = sym h ∙ caller in cc)
+no-call role _ h caller = refl
+
+pub act_does : (r : RecordView) (devices : List UdevView) (actors : List ActorView) (number : ℕ) (line : Line) (text : ActorText) (a b : ActorView) (device after : UdevView) → IsRecord r → IsFound r devices actors number line text a device
+    → ActsLine owned_view IsFeedbackOf device after r None a line b
+    → (rounds : ℕ) × (after_line r rounds (stage_with devices actors) line ≡ Some (stage_with (slice_set devices text.device after) (slice_set actors line.actor b)))
+act_does r devices actors number line text a b device after keeps f (inl o) = (
+  0,
+  feed_does r devices actors number line text a device after o.room b.owning f o.is_room o.fed
+      ∙ ap (λ (c : ActorView). Some (stage_with (slice_set devices text.device after) (slice_set actors line.actor c))) (sym o.actor),
+)
+act_does r devices actors number line text a b device after keeps f (inr c) = (
+  c.rounds,
+  line_does r devices actors number line text a device after c.rounds b.job keeps f (no-call a.role line.command (found-role r devices actors number line text a device keeps f) c.caller) c.holds
+      ∙ ap (λ (x : ActorView). Some (stage_with (slice_set devices text.device after) (slice_set actors line.actor x))) (sym c.actor),
+)
+
+-- it is still the same device
+pub act_described : (r : RecordView) (line : Line) (a b : ActorView) (device after : UdevView) → ActsLine owned_view IsFeedbackOf device after r None a line b → after.description ≡ device.description
+act_described r line a b device after (inr c) = description-kept (owned_view device) (owned_view after) c.holds.calls c.holds.are_calls
+act_described r line a b device after (inl o) = by_stop a.owning.stop o.fed
+  where
+    by_stop : (stop : Option Stop) → FeedsUnless IsFeedbackOf stop device after (min o.room FEEDBACK_MAX) a.owning b.owning → after.description ≡ device.description
+    by_stop None h = let f : IsFeedbackOf device after (min o.room FEEDBACK_MAX) h.answer h.events = h.fed in ap (λ (u : UdevView). u.description) f.kept
+    by_stop (Some stop) h = ap (λ (u : UdevView). u.description) h.0
 
 -- The devices and the actors are still the record's
 

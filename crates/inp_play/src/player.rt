@@ -6,7 +6,7 @@ ghost use Rattle.inp_order.specs.Play.{first_stage, runs_of};
 ghost use Rattle.inp_play.specs.Player.{stage_of, first_device, first_actors, HasActors, IsPlayer, DoesOn};
 
 use crate::gathering::{device_runs, histories, number_of, push_end};
-use inp_actors::{Command, Record};
+use inp_actors::Record;
 use inp_model::NoMemory;
 use inp_script::{Actor, Played};
 use inp_uinput::Owned;
@@ -43,10 +43,7 @@ impl Player {
         let device = rec.actors().get(text.actor as usize).device;
         let dev = &mut self.devices[device as usize];
         let actor = &mut self.actors[text.actor as usize];
-        match text.command {
-            Command::Feedback { count } => actor.feed(dev, count),
-            _ => actor.line(dev, rec, line, None),
-        }
+        actor.act(dev, rec, line, None)
     }
 
     // What came of the devices and of the actors.

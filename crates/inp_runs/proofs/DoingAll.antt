@@ -1,94 +1,180 @@
--- The lines of an actor, one after another, over any evdev.
-use Rattle.std.proofs.Common.{◌≡◌, ℕ, zero, suc, ◌+◌, Bool, true, false, cond, nat_eq, List, [], ◌∷◌, ◌++◌, length, drop, refl, sym, ap, subst, ◌∙◌, append_assoc, inl, inr, Option, Some, None}
-use Rattle.std.specs.Prelude.{is_some, slice_get, ◌⊎◌}
-use Rattle.std.proofs.lemmas.Option.{same_Some}
+-- The lines of an actor, one after another, over any device.
+use Rattle.std.proofs.Common.{◌≡◌, ℕ, ◌+◌, ◌≤◌, Bool, true, false, cond, nat_eq, List, [], ◌∷◌, ◌++◌, length, take, refl, sym, ap, subst, ◌∙◌, inl, inr, Option, Some, None}
+use Rattle.std.specs.Prelude.{is_some, min, slice_get, ◌⊎◌}
+use Rattle.std.proofs.lemmas.List.{take_all, take_more}
+use Rattle.std.proofs.lemmas.List.Elements.{filter-append}
+use Rattle.std.proofs.lemmas.Option.{same_Some, slice_get_within, get_or_from_slice_get}
 use Rattle.inp_model.specs.Evdev.{EvdevView}
-use Rattle.inp_model.specs.Leaves.{AreCalls}
-use Rattle.inp_model.specs.Run.{Call}
-use Rattle.inp_model.proofs.Leaves.{AreCalls-append}
+use Rattle.inp_model.specs.Leaves.{IsLeft}
+use Rattle.inp_model.proofs.Leaves.{AreCalls-append, left-none, left-then}
 use Rattle.inp_actors.specs.declared.actor_text.ActorText.{ActorText}
 use Rattle.inp_actors.specs.declared.line.Line.{Line}
 use Rattle.inp_actors.specs.declared.role.Role.{Role}
 use Rattle.inp_actors.specs.declared.role.Role.TheVariants.{Source, Client, Tap, Joy, Owner}
+use Rattle.inp_actors.specs.Command.{is_owner}
 use Rattle.inp_actors.specs.Record.{RecordView}
-use Rattle.inp_reader.specs.Talk.{finish, EndsWith}
+use Rattle.inp_feedback.specs.declared.fed.TheConstants.{FEEDBACK_MAX}
+use Rattle.inp_feedback.specs.Feeding.{Feeding}
+use Rattle.inp_reader.specs.Talk.{finish}
 use Rattle.inp_script.specs.declared.waiting.Waiting.{Waiting}
-use Rattle.inp_script.specs.Doing.{DoesLine, HasActor, Holds}
+use Rattle.inp_script.specs.Acting.{FeedCall, AreFeedCalls, ActsLine, BeginsToAct, IsActedOn}
+use Rattle.inp_script.specs.Doing.{HasActor, Holds, line_talk}
 use Rattle.inp_script.specs.Job.{ActorView, Job}
-use Rattle.inp_runs.specs.DoingAll.{DoesAll, DoesOwn, LeavesOthers, DoesIfOwn}
+use Rattle.inp_script.specs.Line.{end_talk}
+use Rattle.inp_script.specs.Owner.{MayHaveFed}
+use Rattle.inp_script.proofs.Holding.{holds-nothing, begins-left}
+use Rattle.inp_runs.specs.DoingAll.{AreActed, ActsIfOwn, EndsLines, ActsAll, DoesAll}
 use Rattle.inp_runs.specs.Job.{lines_by, last_talk, lines_talk}
-use Rattle.inp_runs.proofs.Listing.{eq_true}
+use Rattle.inp_runs.proofs.JobEnds.{owner-role}
+use Rattle.inp_runs.proofs.Listing.{eq_true, eq_false}
 use Rattle.inp_runs.proofs.MoreRounds.{lines-next}
 
--- Lists
+pub no-owner : (role : Role) → is_owner role ≡ false → role ≡ Owner → ⊥
+no-owner role caller owner = opposite (sym caller ∙ ap is_owner owner)
+  where
+    opposite : false ≡ true → ⊥
+    opposite e = cc
 
-drop-at : {X : Type 0} (xs : List X) (i : ℕ) (x : X) → slice_get xs i ≡ Some x → drop i xs ≡ x ∷ drop (suc i) xs
-drop-at [] i x h = absurd cc
-drop-at (y ∷ xs) zero x h = let same : y ≡ x = cc in ap (λ z. z ∷ xs) same
-drop-at (y ∷ xs) (suc i) x h = drop-at xs i x h
+module _ {S : Type 0} (told : S → EvdevView) (feeds : Feeding S) where
+  -- What was done with a device
 
-drop-length : {X : Type 0} (xs : List X) → drop (length xs) xs ≡ []
-drop-length [] = refl
-drop-length (x ∷ xs) = drop-length xs
+  feed-calls-append : (before between after : S) (calls more : List FeedCall) → AreFeedCalls feeds before between calls → AreFeedCalls feeds between after more → AreFeedCalls feeds before after (calls ++ more)
+  unfolding AreFeedCalls
+  feed-calls-append before between after [] more h k = subst (λ s. AreFeedCalls feeds s after more) h k
+  feed-calls-append before between after (call ∷ calls) more h k = (h.0, h.1, feed-calls-append h.0 between after calls more h.2 k)
 
--- the lines of an actor from one on, by whose that one is
-lines-from : (actor : ℕ) (lines : List Line) (i : ℕ) (line : Line) (own : Bool) → slice_get lines i ≡ Some line → nat_eq line.actor actor ≡ own → lines_by actor (drop i lines) ≡ cond own (line ∷ lines_by actor (drop (suc i) lines)) (lines_by actor (drop (suc i) lines))
-lines-from actor lines i line own h e =
-    ap (λ (ls : List Line). lines_by actor ls) (drop-at lines i line h)
-    ∙ ap (λ (b : Bool). cond b (line ∷ lines_by actor (drop (suc i) lines)) (lines_by actor (drop (suc i) lines))) e
+  pub acted_on-none : (role : Role) (s : S) → IsActedOn told feeds role s s
+  unfolding AreFeedCalls
+  acted_on-none role s = by (is_owner role) refl
+    where
+      by : (b : Bool) → is_owner role ≡ b → IsActedOn told feeds role s s
+      by true e = inl (owner-role role e, [], refl)
+      by false e = inr (e, left-none (told s))
 
--- The actor did those of its lines that are among the first ones. With the calls of the others it will have done all.
-pub record HasDoneFirst (before now : EvdevView) (r : RecordView) (wait : Option Waiting) (old : ActorView) (count : ℕ) (job : Job) : Type 0 where
-  pub calls : List Call
-  pub are_calls : AreCalls before now calls
-  pub leads : (n : ℕ) (more : List Call) (new : Job) → EndsWith (lines_talk old.role old.description r.streams wait n (lines_by old.actor (drop count r.lines)) job) more (Some new)
-      → (m : ℕ) × EndsWith (lines_talk old.role old.description r.streams wait m (lines_by old.actor r.lines) old.job) (calls ++ more) (Some new)
+  pub acted_on-begun : (before after : S) (r : RecordView) (wait : Option Waiting) (number : ℕ) (a : ActorView) → BeginsToAct told feeds before after r wait number a → IsActedOn told feeds a.role before after
+  unfolding AreFeedCalls
+  acted_on-begun before after r wait number a (inl o) = by o.may
+    where
+      by : MayHaveFed feeds before after (min o.room FEEDBACK_MAX) → IsActedOn told feeds a.role before after
+      by (inl none) = inl (o.owner, [], none)
+      by (inr (answer, events, fed)) = inl (o.owner, record { room = min o.room FEEDBACK_MAX; answer = answer; events = events } ∷ [], (after, fed, refl))
+  acted_on-begun before after r wait number a (inr (caller, begun)) = inr (caller, begins-left (told before) (told after) (line_talk a.role a.description r.streams wait begun.rounds begun.line.command a.job) begun.begins)
 
-pub first-none : (told : EvdevView) (r : RecordView) (wait : Option Waiting) (old : ActorView) → HasDoneFirst told told r wait old 0 old.job
-unfolding AreCalls
-first-none told r wait old = record { calls = []; are_calls = refl; leads = λ n more new h. (n, h) }
+  pub acted_on-then : (role : Role) (before between after : S) → IsActedOn told feeds role before between → IsActedOn told feeds role between after → IsActedOn told feeds role before after
+  acted_on-then role before between after (inl h) (inl k) = inl (h.0, h.1 ++ k.1, feed-calls-append before between after h.1 k.1 h.2 k.2)
+  acted_on-then role before between after (inl h) (inr k) = absurd (no-owner role k.0 h.0)
+  acted_on-then role before between after (inr h) (inl k) = absurd (no-owner role h.0 k.0)
+  acted_on-then role before between after (inr h) (inr k) = inr (h.0, left-then (told before) (told between) (told after) h.1 k.1)
 
-own-more : (before mid after : EvdevView) (r : RecordView) (wait : Option Waiting) (old : ActorView) (count : ℕ) (job new : Job) → HasDoneFirst before mid r wait old count job → DoesOwn mid after r wait count (record old { job = job }) new → HasDoneFirst before after r wait old (suc count) new
-own-more before mid after r wait old count job new s o =
-    let does : DoesLine mid after (record old { job = job }) r wait count new = o.does in
-    let first : List Call = does.holds.calls in
-    record {
-      calls = s.calls ++ first;
-      are_calls = AreCalls-append before mid after s.calls first s.are_calls does.holds.are_calls;
-      leads = λ n more last h.
-          let m : ℕ = does.rounds + n in
-          let lines : List Line = lines_by old.actor (drop (suc count) r.lines) in
-          let both : EndsWith (lines_talk old.role old.description r.streams wait m (does.line ∷ lines) job) (first ++ more) (Some last) =
-          lines-next old.role old.description r.streams wait does.rounds n does.line lines job new last first more does.holds.talk_ends h in
-          let all = s.leads m (first ++ more) last
-          (subst (λ (ls : List Line). EndsWith (lines_talk old.role old.description r.streams wait m ls job) (first ++ more) (Some last)) (sym (lines-from old.actor r.lines count does.line true does.is_line o.own)) both) in
-          (all.0, subst (λ (cs : List Call). EndsWith (lines_talk old.role old.description r.streams wait all.0 (lines_by old.actor r.lines) old.job) cs (Some last)) (sym (append_assoc s.calls first more)) all.1);
+  -- the same where the role of whoever goes on is said so
+  pub acted_on-next : (role its : Role) (before between after : S) → its ≡ role → IsActedOn told feeds role before between → IsActedOn told feeds its between after → IsActedOn told feeds role before after
+  acted_on-next role its before between after same h k =
+      acted_on-then role before between after h (subst (λ (x : Role). IsActedOn told feeds x between after) same k)
+
+  -- it is still the same device
+  pub acted_on-described : (role : Role) (before after : S) → IsActedOn told feeds role before after → is_owner role ≡ false → (told after).description ≡ (told before).description
+  acted_on-described role before after (inl h) caller = absurd (no-owner role caller h.0)
+  acted_on-described role before after (inr h) caller = h.1.leaves.description
+
+  module _ (r : RecordView) (wait : Option Waiting) where
+    -- Lines, one after another
+
+    pub acted-none : (s : S) (a : ActorView) → AreActed told feeds s s r wait [] a a
+    unfolding AreActed
+    acted-none s a = (refl, refl)
+
+    acted-append : (before between after : S) (lines more : List Line) (old mid new : ActorView) → AreActed told feeds before between r wait lines old mid → AreActed told feeds between after r wait more mid new → AreActed told feeds before after r wait (lines ++ more) old new
+    unfolding AreActed
+    acted-append before between after [] more old mid new h k =
+        subst (λ s. AreActed told feeds s after r wait more old new) h.0 (subst (λ (a : ActorView). AreActed told feeds between after r wait more a new) h.1 k)
+    acted-append before between after (line ∷ lines) more old mid new h k = (h.0, h.1, h.2, acted-append h.0 between after lines more h.1 mid new h.3 k)
+
+    -- a line of the actor, and one of another actor
+    pub acted-own : (before after : S) (actor : ℕ) (line : Line) (old new : ActorView) → line.actor ≡ actor → ActsLine told feeds before after r wait old line new → AreActed told feeds before after r wait (lines_by actor (line ∷ [])) old new
+    unfolding AreActed
+    acted-own before after actor line old new own h =
+        subst (λ (b : Bool). AreActed told feeds before after r wait (cond b (line ∷ []) []) old new) (sym (eq_true line.actor actor own)) (after, new, h, (refl, refl))
+
+    pub acted-other : (s : S) (actor : ℕ) (line : Line) (a : ActorView) → (line.actor ≡ actor → ⊥) → AreActed told feeds s s r wait (lines_by actor (line ∷ [])) a a
+    acted-other s actor line a other =
+        subst (λ (b : Bool). AreActed told feeds s s r wait (cond b (line ∷ []) []) a a) (sym (eq_false line.actor actor other)) (acted-none s a)
+
+    -- one line more
+    pub acted-more : (before between after : S) (actor i : ℕ) (old mid new : ActorView) → AreActed told feeds before between r wait (lines_by actor (take i r.lines)) old mid
+        → ActsIfOwn told feeds between after r wait i actor mid new → AreActed told feeds before after r wait (lines_by actor (take (i + 1) r.lines)) old new
+    acted-more before between after actor i old mid new h k =
+        let next : take (i + 1) r.lines ≡ take i r.lines ++ k.line ∷ [] =
+        take_more r.lines i k.line (slice_get_within r.lines i k.line k.is_line)
+        ∙ ap (λ (line : Line). take i r.lines ++ line ∷ []) (get_or_from_slice_get r.lines i k.line k.line k.is_line) in
+        subst (λ (lines : List Line). AreActed told feeds before after r wait lines old new)
+        (sym (ap (lines_by actor) next ∙ filter-append (λ (line : Line). nat_eq line.actor actor) (take i r.lines) (k.line ∷ [])))
+        (acted-append before between after (lines_by actor (take i r.lines)) (lines_by actor (k.line ∷ [])) old mid new h k.acts)
+
+    -- all lines, and what is asked then
+    pub acted-all : (before between after : S) (number i : ℕ) (old mid new : ActorView) → old.actor ≡ number → length r.lines ≤ i → AreActed told feeds before between r wait (lines_by number (take i r.lines)) old mid
+        → mid ≡ record old { job = mid.job; owning = mid.owning } → EndsLines told feeds between after wait mid new → ActsAll told feeds before after r wait old new
+    acted-all before between after number i old mid new named all h still ends = record {
+      between = between;
+      mid = mid;
+      lines =
+          subst (λ (n : ℕ). AreActed told feeds before between r wait (lines_by n r.lines) old mid) (sym named)
+          (subst (λ (lines : List Line). AreActed told feeds before between r wait (lines_by number lines) old mid) (take_all i r.lines all) h);
+      actor = still;
+      ends = ends;
     }
 
-others-more : (before mid after : EvdevView) (r : RecordView) (wait : Option Waiting) (old : ActorView) (count : ℕ) (job new : Job) → HasDoneFirst before mid r wait old count job → LeavesOthers mid after r count (record old { job = job }) new → HasDoneFirst before after r wait old (suc count) new
-others-more before mid after r wait old count job new s o = record {
-  calls = s.calls;
-  are_calls = subst (λ (told : EvdevView). AreCalls before told s.calls) (sym o.told) s.are_calls;
-  leads = λ n more last h.
-      s.leads n more last
-      (subst (λ (ls : List Line). EndsWith (lines_talk old.role old.description r.streams wait n ls job) more (Some last)) (sym (lines-from old.actor r.lines count o.line false o.is_line o.other))
-      (subst (λ (j : Job). EndsWith (lines_talk old.role old.description r.streams wait n (lines_by old.actor (drop (suc count) r.lines)) j) more (Some last)) o.job h));
-}
+    -- The calls of an actor that is no owner are those of its lines' talk.
+    acted-talk : (before between after : S) (lines : List Line) (old mid : ActorView) (new : Job) → is_owner old.role ≡ false → AreActed told feeds before between r wait lines old mid
+        → Holds (told between) (told after) (last_talk wait old.role mid.job) (Some new)
+        → (rounds : ℕ) × Holds (told before) (told after) (lines_talk old.role old.description r.streams wait rounds lines old.job) (Some new)
+    unfolding AreActed lines_talk
+    acted-talk before between after [] old mid new caller h last = (
+      0,
+      subst (λ s. Holds (told s) (told after) (last_talk wait old.role old.job) (Some new)) h.0
+          (subst (λ (a : ActorView). Holds (told between) (told after) (last_talk wait old.role a.job) (Some new)) h.1 last),
+    )
+    acted-talk before between after (line ∷ lines) old mid new caller (then, a, acts, rest) last =
+        by acts (λ actor. acted-talk then between after lines (record old { job = a.job }) mid new caller (subst (λ (x : ActorView). AreActed told feeds then between r wait lines x mid) actor rest) last)
+      where
+        by : ActsLine told feeds before then r wait old line a
+            → (a ≡ record old { job = a.job } → (rounds : ℕ) × Holds (told then) (told after) (lines_talk old.role old.description r.streams wait rounds lines a.job) (Some new))
+            → (rounds : ℕ) × Holds (told before) (told after) (lines_talk old.role old.description r.streams wait rounds (line ∷ lines) old.job) (Some new)
+        by (inl o) later = absurd (no-owner old.role caller o.owner)
+        by (inr c) later =
+            let next = later c.actor in
+            (
+              c.rounds + next.0,
+              record {
+                calls = c.holds.calls ++ next.1.calls;
+                talk_ends = lines-next old.role old.description r.streams wait c.rounds next.0 line lines old.job a.job new c.holds.calls next.1.calls c.holds.talk_ends next.1.talk_ends;
+                are_calls = AreCalls-append (told before) (told then) (told after) c.holds.calls next.1.calls c.holds.are_calls next.1.are_calls;
+              },
+            )
 
-pub first-more : (before mid after : EvdevView) (r : RecordView) (wait : Option Waiting) (old : ActorView) (count : ℕ) (job new : Job) → HasDoneFirst before mid r wait old count job → DoesIfOwn mid after r wait count (record old { job = job }) new → HasDoneFirst before after r wait old (suc count) new
-first-more before mid after r wait old count job new s (inl o) = own-more before mid after r wait old count job new s o
-first-more before mid after r wait old count job new s (inr o) = others-more before mid after r wait old count job new s o
+    pub all-called : (before after : S) (old new : ActorView) → is_owner old.role ≡ false → ActsAll told feeds before after r wait old new → DoesAll (told before) (told after) r wait old new.job
+    all-called before after old new caller h =
+        let all = acted-talk before h.between after (lines_by old.actor r.lines) old h.mid new.job caller h.lines
+        (subst (λ (a : ActorView). Holds (told h.between) (told after) (last_talk wait a.role h.mid.job) (Some new.job)) h.actor (last h.ends)) in
+        record { rounds = all.0; holds = all.1 }
+      where
+        last : EndsLines told feeds h.between after wait h.mid new → Holds (told h.between) (told after) (last_talk wait h.mid.role h.mid.job) (Some new.job)
+        last (inl (same, rests, nothing)) =
+            subst (λ s. Holds (told h.between) (told s) (last_talk wait h.mid.role h.mid.job) (Some new.job)) (sym same)
+            (subst (λ (a : ActorView). Holds (told h.between) (told h.between) (last_talk wait h.mid.role h.mid.job) (Some a.job)) (sym rests)
+            (holds-nothing (told h.between) (last_talk wait h.mid.role h.mid.job) (Some h.mid.job) nothing))
+        last (inr (source, holds, actor)) = holds
 
-pub first-all : (before mid after : EvdevView) (r : RecordView) (wait : Option Waiting) (old : ActorView) (count : ℕ) (job new : Job) → HasDoneFirst before mid r wait old count job → count ≡ length r.lines → Holds mid after (last_talk wait old.role job) (Some new) → DoesAll before after r wait old new
-unfolding lines_talk
-first-all before mid after r wait old count job new s end h =
-    let none : drop count r.lines ≡ [] = ap (λ (n : ℕ). drop n r.lines) end ∙ drop-length r.lines in
-    let all = s.leads 0 h.calls new
-    (subst (λ (ls : List Line). EndsWith (lines_talk old.role old.description r.streams wait 0 (lines_by old.actor ls) job) h.calls (Some new)) (sym none) h.talk_ends) in
-    record {
-      rounds = all.0;
-      holds = record { calls = s.calls ++ h.calls; talk_ends = all.1; are_calls = AreCalls-append before mid after s.calls h.calls s.are_calls h.are_calls };
-    }
+    -- An owner does nothing when its lines are done.
+    pub all-owned : (before after : S) (old new : ActorView) → old.role ≡ Owner → ActsAll told feeds before after r wait old new → AreActed told feeds before after r wait (lines_by old.actor r.lines) old new
+    all-owned before after old new owner h = by h.ends
+      where
+        by : EndsLines told feeds h.between after wait h.mid new → AreActed told feeds before after r wait (lines_by old.actor r.lines) old new
+        by (inl (same, rests, nothing)) =
+            subst (λ s. AreActed told feeds before s r wait (lines_by old.actor r.lines) old new) (sym same)
+            (subst (λ (a : ActorView). AreActed told feeds before h.between r wait (lines_by old.actor r.lines) old a) (sym rests) h.lines)
+        by (inr (source, holds, actor)) =
+            let both : Source ≡ Owner = sym source ∙ ap (λ (a : ActorView). a.role) h.actor ∙ owner in
+            absurd cc
 
 -- An actor stays the record's, whatever its job is
 
@@ -97,16 +183,15 @@ its-role r a number text h same is =
     let one : h.text ≡ text = same_Some h.text text (sym h.is_text ∙ ap (λ (n : ℕ). slice_get r.actors n) same ∙ is) in
     ap (λ (x : ActorText). x.role) (sym one) ∙ h.role
 
-pub own-done : (before after : EvdevView) (r : RecordView) (wait : Option Waiting) (number : ℕ) (a : ActorView) (new : Job) (line : Line) → slice_get r.lines number ≡ Some line → line.actor ≡ a.actor → DoesLine before after a r wait number new → DoesIfOwn before after r wait number a new
-own-done before after r wait number a new line is own does =
-    let one : line ≡ does.line = same_Some line does.line (sym is ∙ does.is_line) in
-    inl (record { does = does; own = eq_true does.line.actor a.actor (ap (λ (l : Line). l.actor) (sym one) ∙ own) })
-
 -- What is done when lines are done
 
 pub last-none : (wait : Option Waiting) (role : Role) (j : Job) → is_some wait ≡ false → last_talk wait role j ≡ finish (Some j)
 last-none None role j h = refl
 last-none (Some waiting) role j h = absurd cc
+
+pub last-source : (wait : Option Waiting) (role : Role) (j : Job) → is_some wait ≡ true → role ≡ Source → last_talk wait role j ≡ end_talk j.stop j
+last-source None role j h source = absurd cc
+last-source (Some waiting) role j h source = ap (λ (x : Role). last_talk (Some waiting) x j) source
 
 pub last-reader : (wait : Option Waiting) (role : Role) (j : Job) → (role ≡ Client) ⊎ (role ≡ Tap) ⊎ (role ≡ Joy) ⊎ (role ≡ Owner) → last_talk wait role j ≡ finish (Some j)
 last-reader None role j h = refl

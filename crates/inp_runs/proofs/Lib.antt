@@ -10,7 +10,6 @@ pub mod JobClients
 pub mod Owners
 pub mod OwnerTalks
 pub mod OwnerLaws
-pub mod FeedLines
 pub mod OwnUses
 pub mod Reports
 pub mod LastReads

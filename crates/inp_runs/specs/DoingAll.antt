@@ -1,32 +1,45 @@
 -- What it means that an actor did all its lines of a record (docs/RUNS.md, "Playing a record").
-use Rattle.std.specs.Prelude.{◌≡◌, ◌⊎◌, ℕ, true, false, nat_eq, Option, Some, slice_get}
+use Rattle.std.specs.Prelude.{◌≡◌, ◌⊎◌, ℕ, List, [], ◌∷◌, Option, Some, slice_get}
 use Rattle.inp_model.specs.Evdev.{EvdevView}
 use Rattle.inp_actors.specs.declared.line.Line.{Line}
+use Rattle.inp_actors.specs.declared.role.Role.TheVariants.{Source}
 use Rattle.inp_actors.specs.Record.{RecordView}
+use Rattle.inp_feedback.specs.Feeding.{Feeding}
+use Rattle.inp_reader.specs.Talk.{finish}
 use Rattle.inp_script.specs.declared.waiting.Waiting.{Waiting}
-use Rattle.inp_script.specs.Doing.{DoesLine, Holds}
+use Rattle.inp_script.specs.Acting.{ActsLine}
+use Rattle.inp_script.specs.Doing.{Holds}
 use Rattle.inp_script.specs.Job.{ActorView, Job}
-use Rattle.inp_runs.specs.Job.{lines_by, lines_talk}
+use Rattle.inp_runs.specs.Job.{lines_by, last_talk, lines_talk}
 
--- An actor did all its lines, each in at most some number of rounds, and what it does when they are done. This is its job
--- afterwards.
+module _ {S : Type 0} (told : S → EvdevView) (feeds : Feeding S) where
+  -- An actor did these lines, one after another.
+  unfoldable pub AreActed : S → S → RecordView → Option Waiting → List Line → ActorView → ActorView → Type 0
+  AreActed before after r wait [] old new = (after ≡ before) × (new ≡ old)
+  AreActed before after r wait (line ∷ lines) old new =
+      (between : S) × (mid : ActorView) × ActsLine told feeds before between r wait old line mid × AreActed between after r wait lines mid new
+
+  -- the same of the line of this number, if it is the one of the actor of this number
+  pub record ActsIfOwn (before after : S) (r : RecordView) (wait : Option Waiting) (number actor : ℕ) (old new : ActorView) : Type 0 where
+    pub line : Line
+    pub is_line : slice_get r.lines number ≡ Some line
+    pub acts : AreActed before after r wait (lines_by actor (line ∷ [])) old new
+
+  -- An actor did what is asked of it when its lines are done: nothing, or the call of a source.
+  abbrev pub EndsLines : S → S → Option Waiting → ActorView → ActorView → Type 0
+  EndsLines before after wait old new =
+      ((after ≡ before) × (new ≡ old) × (last_talk wait old.role old.job ≡ finish (Some old.job)))
+      ⊎ ((old.role ≡ Source) × Holds (told before) (told after) (last_talk wait old.role old.job) (Some new.job) × (new ≡ record old { job = new.job }))
+
+  -- An actor did all its lines, in file order, and what is asked of it then.
+  pub record ActsAll (before after : S) (r : RecordView) (wait : Option Waiting) (old new : ActorView) : Type 0 where
+    pub between : S
+    pub mid : ActorView
+    pub lines : AreActed before between r wait (lines_by old.actor r.lines) old mid
+    pub actor : mid ≡ record old { job = mid.job; owning = mid.owning }
+    pub ends : EndsLines between after wait mid new
+
+-- An actor that is no owner did all its lines so, each in at most some number of rounds. This is its job afterwards.
 pub record DoesAll (before after : EvdevView) (r : RecordView) (wait : Option Waiting) (old : ActorView) (new : Job) : Type 0 where
   pub rounds : ℕ
   pub holds : Holds before after (lines_talk old.role old.description r.streams wait rounds (lines_by old.actor r.lines) old.job) (Some new)
-
--- the line of this number is the actor's, and it did it
-pub record DoesOwn (before after : EvdevView) (r : RecordView) (wait : Option Waiting) (number : ℕ) (old : ActorView) (new : Job) : Type 0 where
-  pub does : DoesLine before after old r wait number new
-  pub own : nat_eq does.line.actor old.actor ≡ true
-
--- it is another actor's, and nothing was done
-pub record LeavesOthers (before after : EvdevView) (r : RecordView) (number : ℕ) (old : ActorView) (new : Job) : Type 0 where
-  pub line : Line
-  pub is_line : slice_get r.lines number ≡ Some line
-  pub other : nat_eq line.actor old.actor ≡ false
-  pub told : after ≡ before
-  pub job : new ≡ old.job
-
--- an actor did the line of this number, if it is its own
-abbrev pub DoesIfOwn : EvdevView → EvdevView → RecordView → Option Waiting → ℕ → ActorView → Job → Type 0
-DoesIfOwn before after r wait number old new = DoesOwn before after r wait number old new ⊎ LeavesOthers before after r number old new

@@ -7,6 +7,8 @@ use Rattle.inp_model.specs.Description.{Description, IsDescription}
 use Rattle.inp_model.specs.Run.{Call, IsLegalRun}
 use Rattle.inp_actors.specs.declared.actor_text.ActorText.{ActorText}
 use Rattle.inp_actors.specs.declared.device_text.DeviceText.{DeviceText}
+use Rattle.inp_actors.specs.declared.command.Command.TheVariants.{Feedback as ToFeed}
+use Rattle.inp_actors.specs.declared.line.Line.{Line}
 use Rattle.inp_actors.specs.declared.role.Role.{Role}
 use Rattle.inp_actors.specs.declared.role.Role.TheVariants.{Owner}
 use Rattle.inp_actors.specs.Record.{RecordView, IsRecord}
@@ -64,3 +66,10 @@ AllAsPromised =
     → length done ≡ length r.devices
     → ((i : ℕ) (device : DeviceText) (run : DeviceRun) → slice_get r.devices i ≡ Some device → slice_get done i ≡ Some run → IsRunAsPromised idle r i device run)
     → ArePromised idle r (played_of done)
+
+-- Each line of an owner is a feedback call, so that none is without its room.
+abbrev pub OwnersLinesAreCalls : Type 0
+OwnersLinesAreCalls =
+    (r : RecordView) (number : ℕ) (text : ActorText) → IsRecord r → slice_get r.actors number ≡ Some text → text.role ≡ Owner
+    → (let lines : List Line = lines_by number r.lines in
+    map (λ (line : Line). line.command) lines ≡ map ToFeed (rooms_of lines))

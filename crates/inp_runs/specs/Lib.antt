@@ -5,5 +5,4 @@ pub mod Owner
 pub mod Job
 pub mod Done
 pub mod DoingAll
-pub mod Feeding
 pub mod OwnerExamples

@@ -1,37 +1,43 @@
-//! All lines of an actor, over any evdev.
-ghost use Rattle.std.specs.Prelude.{◌≡◌, ◌<◌, length, IfSome, OnOk, Some};
-ghost use Rattle.inp_model.specs.Leaves.{IsLeft};
-ghost use Rattle.inp_script.specs.Doing.{HasActor, Holds, IsWaiting};
-ghost use Rattle.inp_runs.specs.DoingAll.{DoesAll, DoesIfOwn};
-ghost use Rattle.inp_runs.specs.Job.{last_talk};
+//! All lines of an actor, over any device.
+ghost use Rattle.std.specs.Prelude.{◌≡◌, ◌<◌, false, length, IfSome, OnOk};
+ghost use Rattle.inp_actors.specs.Command.{is_owner};
+ghost use Rattle.inp_script.specs.Acting.{IsActedOn};
+ghost use Rattle.inp_script.specs.Doing.{HasActor, IsWaiting};
+ghost use Rattle.inp_runs.specs.DoingAll.{ActsAll, ActsIfOwn, EndsLines};
 
 use inp_actors::{Record, Role};
+use inp_feedback::Feeds;
 use inp_model::{Evdev, NoMemory};
 use inp_script::{Actor, Waiting};
 
-/// Has the actor of this number do all its lines of a record, in file order, over the evdev that it is lent.
+/// Has the actor of this number do all its lines of a record, in file order, over the device that it is lent. An owner makes
+/// its feedback calls, and any other actor calls of an evdev.
 ///
 /// Where a [`Waiting`] is given its lines may wait, and a source that did not stop says at the end that it is done, by the
 /// step `End`. The lines of other actors are passed over.
 ///
-/// `NoMemory` comes where there is none for what the actor saw, or for a client that it opened. No line was begun then
-/// after the one in which memory ran out. Whatever the answer, all that was done with the evdev is calls, one after
-/// another (`left`).
-pub fn do_lines<E: Evdev>(
+/// `NoMemory` comes where there is none for what the actor saw or was told, or for a client that it opened. No line was
+/// begun then after the one in which memory ran out. Whatever the answer, all that was done with the device is calls, one
+/// after another (`left`).
+pub fn do_lines<D: Evdev + Feeds>(
     actor: &mut Actor,
-    dev: &mut E,
+    dev: &mut D,
     rec: &Record,
     number: u32,
     wait: Option<Waiting>,
 ) -> Result<(), NoMemory>
     requires number { actor.old.actor ≡ number }
     requires actor { HasActor rec.now actor.old }
-    requires device { (E.told dev.old).description ≡ actor.old.description }
+    requires device { is_owner actor.old.role ≡ false
+        → (D.told dev.old).description ≡ actor.old.description }
     requires wait { IfSome wait (IsWaiting rec.now actor.old) }
-    ensures done { OnOk result (DoesAll (E.told dev.old) (E.told dev.new)
-        rec.now wait actor.old actor.new.job) }
-    ensures actor { actor.new ≡ record actor.old { job = actor.new.job } }
-    ensures left { IsLeft (E.told dev.old) (E.told dev.new) }
+    ensures done { OnOk result (ActsAll D.told D.feeds dev.old dev.new
+        rec.now wait actor.old actor.new) }
+    ensures actor { actor.new ≡ record actor.old {
+        job = actor.new.job;
+        owning = actor.new.owning;
+    } }
+    ensures left { IsActedOn D.told D.feeds actor.old.role dev.old dev.new }
 {
     for line in 0..rec.lines().len() as u32 {
         do_if_own(actor, dev, rec, number, line, wait)?;
@@ -40,9 +46,9 @@ pub fn do_lines<E: Evdev>(
 }
 
 // Does the line of this number where it is one of the actor's.
-fn do_if_own<E: Evdev>(
+fn do_if_own<D: Evdev + Feeds>(
     actor: &mut Actor,
-    dev: &mut E,
+    dev: &mut D,
     rec: &Record,
     number: u32,
     line: u32,
@@ -51,35 +57,40 @@ fn do_if_own<E: Evdev>(
     requires line { line < length rec.now.lines }
     requires number { actor.old.actor ≡ number }
     requires actor { HasActor rec.now actor.old }
-    requires device { (E.told dev.old).description ≡ actor.old.description }
+    requires device { is_owner actor.old.role ≡ false
+        → (D.told dev.old).description ≡ actor.old.description }
     requires wait { IfSome wait (IsWaiting rec.now actor.old) }
-    ensures done { OnOk result (DoesIfOwn (E.told dev.old) (E.told dev.new)
-        rec.now wait line actor.old actor.new.job) }
-    ensures actor { actor.new ≡ record actor.old { job = actor.new.job } }
-    ensures left { IsLeft (E.told dev.old) (E.told dev.new) }
+    ensures done { OnOk result (ActsIfOwn D.told D.feeds dev.old dev.new
+        rec.now wait line number actor.old actor.new) }
+    ensures actor { actor.new ≡ record actor.old {
+        job = actor.new.job;
+        owning = actor.new.owning;
+    } }
+    ensures left { IsActedOn D.told D.feeds actor.old.role dev.old dev.new }
 {
     if rec.lines().get(line as usize).actor == number {
-        actor.line(dev, rec, line, wait)
+        actor.act(dev, rec, line, wait)
     } else {
         Ok(())
     }
 }
 
 // Does what an actor does when its lines are done.
-fn end_lines<E: Evdev>(
+fn end_lines<D: Evdev + Feeds>(
     actor: &mut Actor,
-    dev: &mut E,
+    dev: &mut D,
     rec: &Record,
     number: u32,
     wait: Option<Waiting>,
 ) -> Result<(), NoMemory>
     requires number { actor.old.actor ≡ number }
     requires actor { HasActor rec.now actor.old }
-    requires device { (E.told dev.old).description ≡ actor.old.description }
-    ensures done { OnOk result (Holds (E.told dev.old) (E.told dev.new)
-        (last_talk wait actor.old.role actor.old.job) (Some actor.new.job)) }
+    requires device { is_owner actor.old.role ≡ false
+        → (D.told dev.old).description ≡ actor.old.description }
+    ensures done { OnOk result (EndsLines D.told D.feeds dev.old dev.new
+        wait actor.old actor.new) }
     ensures actor { actor.new ≡ record actor.old { job = actor.new.job } }
-    ensures left { IsLeft (E.told dev.old) (E.told dev.new) }
+    ensures left { IsActedOn D.told D.feeds actor.old.role dev.old dev.new }
 {
     if wait.is_none() {
         return Ok(());

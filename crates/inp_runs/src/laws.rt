@@ -1,8 +1,7 @@
 //! What is true of all that is promised of runs, by the definitions alone.
-ghost use Rattle.inp_runs.specs.Feeding.{OwnersLinesAreCalls};
 ghost use Rattle.inp_runs.specs.OwnerExamples.{TakesTheBellOnce, StopsAtItsLimit};
 ghost use Rattle.inp_runs.specs.IndexExamples.{CountsBehindTheLastRead, TellsEqualEventsApart, CountsAcceptedReadsOfItsClient};
-ghost use Rattle.inp_runs.specs.Done.{AllAsPromised, DevicesDoneArePromised};
+ghost use Rattle.inp_runs.specs.Done.{AllAsPromised, DevicesDoneArePromised, OwnersLinesAreCalls};
 ghost use Rattle.inp_runs.specs.Job.{JobsShowTheDevice};
 
 /// What comes of a device whose actors did all their lines is promised, in whatever order their steps were made. It does

@@ -16,27 +16,24 @@
 //! What a player must show for it stands in `specs/Done.antt`: that each actor of a device followed its lines on one
 //! history, with a view of the device's slots, and that each place of the history is one accepted call of one actor, in
 //! whatever order the calls were made ([`devices_done_are_promised`]); and that this is so of each device by itself
-//! ([`all_as_promised`]). [`do_lines`] has an actor do all its lines over whatever evdev it is lent, and says so
-//! (`DoesAll`, `specs/DoingAll.antt`): the calls are those of its lines in file order, a source of a device where lines
-//! wait then says that it is done, and the job is their result. After want of memory too all that was done with the
-//! evdev is calls (`IsLeft`).
+//! ([`all_as_promised`]). [`do_lines`] has an actor do all its lines over whatever device it is lent, and says so
+//! (`ActsAll`, `specs/DoingAll.antt`): the lines were done in file order, and a source of a device where lines wait then
+//! said that it is done. Those of an owner are feedback calls. Those of any other actor are calls of an evdev: they are
+//! those of its lines' talk, and the job is their result (`DoesAll`). After want of memory too all that was done with the
+//! device is such calls (`IsActedOn`).
 //!
 //! An owner of a device that is made by requests makes no step. What is promised of it is `IsOwner` (`specs/Owner.antt`):
 //! the feedback calls among the steps that its device kept are those of its lines, in file order, and each was answered
 //! from what was kept before it; where as many calls are kept as the log limit says, the next one is refused, and the
 //! owner stops. [`owners_on_a_short_row`] shows both on a short row. Each of an owner's lines is such a call
-//! ([`owners_lines_are_calls`]). [`feed_lines`] has an owner do all its lines over
-//! whatever answers its feedback calls, and says so (`AreFed`, `specs/Feeding.antt`). After want of memory too all that
-//! was done is feedback calls (`AnswersCalls`). For the crates above `proofs/OwnerLaws.antt` has what an owner was told
-//! as its device goes on by steps and by its lines (`IsToldByLines`).
+//! ([`owners_lines_are_calls`]). For the crates above `proofs/OwnerLaws.antt` has what an owner was told as its device goes
+//! on by steps and by its lines (`IsToldByLines`).
 #![tactic(auto)]
 
 mod doing;
-mod feeding;
 mod laws;
 
 pub use doing::do_lines;
-pub use feeding::feed_lines;
 pub use laws::{
     all_as_promised, devices_done_are_promised, indices_on_a_short_sight, jobs_show_the_device,
     owners_lines_are_calls, owners_on_a_short_row,

@@ -27,4 +27,5 @@ pub mod ClientFolds
 pub mod JoyFolds
 pub mod LineFolds
 pub mod LinesDone
+pub mod Acting
 pub mod Endings

@@ -5,6 +5,7 @@ pub mod Kept
 pub mod Line
 pub mod Client
 pub mod Doing
+pub mod Acting
 pub mod Noting
 pub mod Legal
 pub mod JoyFold

@@ -1,10 +1,11 @@
 //! An actor of a record at work.
 ghost use Rattle.inp_model.specs.declared.step.Step.{Step as AStep};
-ghost use Rattle.std.specs.Prelude.{◌≡◌, ◌<◌, List, length, min, OnOk, IfOk, IfSome, Some};
+ghost use Rattle.std.specs.Prelude.{◌≡◌, ◌<◌, false, List, length, OnOk, IfOk, IfSome, Some};
 ghost use Rattle.inp_model.specs.Leaves.{IsLeft};
-ghost use Rattle.inp_actors.specs.declared.role.Role.TheVariants.{Source, Owner};
-ghost use Rattle.inp_feedback.specs.declared.fed.TheConstants.{FEEDBACK_MAX};
-ghost use Rattle.inp_script.specs.Owner.{first_owning, FeedsLine, MayHaveFed};
+ghost use Rattle.inp_actors.specs.declared.role.Role.TheVariants.{Source};
+ghost use Rattle.inp_actors.specs.Command.{is_owner};
+ghost use Rattle.inp_script.specs.Acting.{Acts, BeginsToAct};
+ghost use Rattle.inp_script.specs.Owner.{first_owning};
 ghost use Rattle.inp_script.specs.Doing.{Begins, BeginsLine, DoesLine, Holds, HasActor, IsLineOf, IsWaiting};
 ghost use Rattle.inp_script.specs.Legal.{CountsTurns, GainsPlaces, StaysLegal};
 ghost use Rattle.inp_script.specs.Fold.{IsFolded, StaysFolded};
@@ -79,8 +80,8 @@ impl Actor {
         })
     }
 
-    /// Does the line of this number, or nothing where the actor has stopped. A line of an owner is no call of an evdev, and
-    /// is done by [`feed`](Actor::feed) alone.
+    /// Does the line of this number on an evdev, or nothing where the actor has stopped. Nobody owns that device, so that a
+    /// line of an owner is nothing.
     ///
     /// Where a [`Waiting`] is given, a `follow` goes on while nothing is visible, until all sources of the device are done,
     /// or until so many reads in a row found nothing that the actor stops with `Stop::Idle`. No other line waits.
@@ -125,19 +126,38 @@ impl Actor {
             .do_command(dev, &mut self.notes, &self.caps, rec, command, wait)
     }
 
-    /// Makes a feedback call of an owner with room for `count` events, but for no more than ever wait, which are 15, and
-    /// notes the answer and the events; or does nothing where the owner has stopped.
+    /// Does the line of this number on a device that the actor may own, or nothing where it has stopped. An owner makes the
+    /// feedback call of its line, with room for so many events, but for no more than ever wait, which are 15, and notes the
+    /// answer and the events. Any other actor makes the calls of [`line`](Actor::line).
     ///
-    /// After `Full` the owner has stopped. `NoMemory` comes where there is none for what it was told. Whatever the answer,
-    /// one call was made or none was (`begun`).
-    pub fn feed<F: Feeds>(&mut self, dev: &mut F, count: u32) -> Result<(), NoMemory>
-        requires owner { self.old.role ≡ Owner }
-        ensures done { OnOk result (FeedsLine F.feeds dev.old dev.new (min count FEEDBACK_MAX)
-            self.old.owning self.new.owning) }
-        ensures begun { MayHaveFed F.feeds dev.old dev.new (min count FEEDBACK_MAX) }
-        ensures actor { self.new ≡ record self.old { owning = self.new.owning } }
+    /// After `Full` an owner has stopped. `NoMemory` comes where there is none for what the actor saw or was told, and
+    /// where an `open` was refused for want of memory. Whatever the answer, the calls that were made are the first ones of
+    /// what the line asks for (`begun`). After `Ok` they are all of it (`done`).
+    pub fn act<D: Evdev + Feeds>(
+        &mut self,
+        dev: &mut D,
+        rec: &Record,
+        line: u32,
+        wait: Option<Waiting>,
+    ) -> Result<(), NoMemory>
+        requires actor { HasActor rec.now self.old }
+        requires line { IsLineOf rec.now line self.old.actor }
+        requires device { is_owner self.old.role ≡ false
+            → (D.told dev.old).description ≡ self.old.description }
+        requires wait { IfSome wait (IsWaiting rec.now self.old) }
+        ensures done { OnOk result (Acts D.told D.feeds dev.old dev.new
+            rec.now wait line self.old self.new) }
+        ensures begun { BeginsToAct D.told D.feeds dev.old dev.new rec.now wait line self.old }
+        ensures actor { self.new ≡ record self.old {
+            job = self.new.job;
+            owning = self.new.owning;
+        } }
     {
-        self.state.feed(dev, count)
+        let command = &rec.lines().get(line as usize).command;
+        match &mut self.state {
+            RoleState::Owner { owner } => owner.do_command(dev, command),
+            _ => self.line(dev, rec, line, wait),
+        }
     }
 
     /// Makes the step `End`, by which a source says that it is done, or does nothing where the actor has stopped.

@@ -1,15 +1,18 @@
-//! An evdev behind a gate.
-ghost use Rattle.std.specs.Prelude.{◌≡◌, ◌≤◌, ◌+◌, ◌-◌, ◌^◌, min};
+//! An evdev, or what answers feedback calls, behind a gate.
+ghost use Rattle.std.specs.Prelude.{◌≡◌, ◌≤◌, ◌+◌, ◌-◌, ◌^◌, length, min, take};
 ghost use Rattle.inp_model.specs.declared.stamped.TheConstants.{MOMENT_MAX};
 ghost use Rattle.inp_model.specs.Step.{moment_of};
 ghost use Rattle.inp_model.specs.Reply.{HasRoom};
 ghost use Rattle.inp_model.specs.Evdev.{IsEvdevCall};
 ghost use Rattle.inp_model.specs.Injecting.{AreInTime, IsInjectAll};
+ghost use Rattle.inp_feedback.specs.Feeding.{taken_count};
 
 use inp_edge::Gate;
-use inp_model::{Evdev, Injected, Reply, Stamped, Step, Taken};
+use inp_feedback::{Fed, Feeds};
+use inp_model::{Evdev, Event, Injected, Reply, Stamped, Step, Taken};
 
-/// An evdev that passes a gate before each call, also before one that injects many events. To a contract it is the evdev behind the gate.
+/// An evdev that passes a gate before each call, also before one that injects many events and before a feedback call. To a
+/// contract it is the evdev behind the gate.
 ///
 /// After a call the gate was told of it: its job, and how many calls were made before.
 #[derive(Drop)]
@@ -69,5 +72,24 @@ impl<'a, E: Evdev, G: Gate> Evdev for Gated<'a, E, G> {
         gate.before(job, call);
         self.calls = call.saturating_add(1);
         self.inner.inject_all(events)
+    }
+}
+
+impl<'a, E: Feeds, G: Gate> Feeds for Gated<'a, E, G> {
+    ghost feeds = { λ before after room answer events.
+        E.feeds before.inner after.inner room answer events };
+
+    fn feedback(&mut self, out: &mut [Event]) -> Fed
+        ensures fits { taken_count result ≤ length out.new }
+        ensures fed { E.feeds self.old.inner self.new.inner (length out.old) result
+            (take (taken_count result) out.new) }
+        ensures calls { self.new.calls ≡ min (self.old.calls + 1) (2 ^ 32 - 1) }
+        ensures job { self.new.job ≡ self.old.job }
+        ensures passed { G.passed self.old.gate.now self.old.job self.old.calls }
+    {
+        let (gate, job, call) = (self.gate, self.job, self.calls);
+        gate.before(job, call);
+        self.calls = call.saturating_add(1);
+        self.inner.feedback(out)
     }
 }

@@ -24,13 +24,13 @@
 //! that `job_end` makes of the actor, a joystick's and an owner's apart. [`examples_of_jobs`] shows what these
 //! definitions compute on short records.
 //!
-//! The lines of an owner are done by [`Actor::feed`], over anything that answers feedback calls (`Feeds` of
-//! `inp_feedback`). It
-//! promises that one call was made, with room for as many events as the line asks for but for no more than ever wait,
-//! and that the answer and the events are noted behind what the owner was told before; or that the owner had stopped,
-//! and nothing was done (`FeedsLine`, `specs/Owner.antt`). An answer `Full` stops it. Where memory ran out, one call was
-//! made or none (`MayHaveFed`). An owner makes no call of an evdev: [`Actor::line`] does nothing for it. It ends as an
-//! [`OwnerEnd`].
+//! [`Actor::act`] does any line of a record on a device that the actor may own: one that is an evdev and that answers
+//! feedback calls (`Feeds` of `inp_feedback`). A line of an owner makes one feedback call, with room for as many events as
+//! it asks for but for no more than ever wait, and the answer and the events are noted behind what the owner was told
+//! before; or the owner had stopped, and nothing was done (`OwnsLine`, `specs/Acting.antt`). An answer `Full` stops it. A
+//! line of any other actor makes the calls of [`Actor::line`] (`CallsLine`). Where memory ran out, an owner made one call
+//! or none, and any other actor the first calls of its talk (`BeginsToAct`). Where nobody owns the device a line of an
+//! owner is nothing: [`Actor::line`] makes no call for it. An owner ends as an [`OwnerEnd`].
 //!
 //! A line that hands out events ends whatever the evdev answers: each round makes a call that takes a place of the
 //! history, which is bounded, or hands out an event that was read or made before, or counts one answer Again of those

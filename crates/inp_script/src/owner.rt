@@ -1,5 +1,6 @@
 //! What an owner keeps.
-ghost use Rattle.std.specs.Prelude.{◌≡◌, ◌++◌, [], map, min, take, OnOk};
+ghost use Rattle.std.specs.Prelude.{◌≡◌, ◌++◌, ℕ, [], map, min, take, OnOk, Some};
+ghost use Rattle.inp_actors.specs.Command.{feedback_room};
 ghost use Rattle.inp_feedback.specs.declared.fed.TheConstants.{FEEDBACK_MAX};
 ghost use Rattle.inp_script.specs.declared.fed_sight.FedSight.TheVariants.{Event as Given};
 ghost use Rattle.inp_script.specs.Owner.{first_owning, after_feedback, FeedsLine, MayHaveFed, stop_after_answer};
@@ -7,6 +8,7 @@ ghost use Rattle.inp_feedback.specs.Feeding.{taken_count};
 ghost use Rattle.inp_script.specs.RoleState.{owning_in};
 
 use crate::{FedList, FedSight, Stop};
+use inp_actors::Command;
 use inp_feedback::{FEEDBACK_MAX, Fed, Feeds};
 use inp_model::{Event, NoMemory};
 use std::alloc::Global;
@@ -29,9 +31,28 @@ impl Owner {
         }
     }
 
+    // Does a command of a record where it is a feedback call: makes the call with room for so many events, and notes it,
+    // or does nothing where the owner has stopped.
+    pub(crate) fn do_command<F: Feeds>(
+        &mut self,
+        dev: &mut F,
+        command: &Command,
+    ) -> Result<(), NoMemory>
+        ensures done { OnOk result ((room : ℕ) → feedback_room command.now ≡ Some room
+            → FeedsLine F.feeds dev.old dev.new (min room FEEDBACK_MAX)
+            (owning_in self.old) (owning_in self.new)) }
+        ensures begun { (room : ℕ) → feedback_room command.now ≡ Some room
+            → MayHaveFed F.feeds dev.old dev.new (min room FEEDBACK_MAX) }
+    {
+        match *command {
+            Command::Feedback { count } => self.feed(dev, count),
+            _ => Ok(()),
+        }
+    }
+
     // Makes a feedback call with room for so many events, and notes it, or does nothing where the owner has stopped. No
     // more than `FEEDBACK_MAX` events ever wait, so the room is no more either.
-    pub(crate) fn feed<F: Feeds>(&mut self, dev: &mut F, count: u32) -> Result<(), NoMemory>
+    fn feed<F: Feeds>(&mut self, dev: &mut F, count: u32) -> Result<(), NoMemory>
         ensures done { OnOk result (FeedsLine F.feeds dev.old dev.new (min count FEEDBACK_MAX)
             (owning_in self.old) (owning_in self.new)) }
         ensures begun { MayHaveFed F.feeds dev.old dev.new (min count FEEDBACK_MAX) }

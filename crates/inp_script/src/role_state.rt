@@ -1,8 +1,6 @@
 //! What an actor keeps by its role.
-ghost use Rattle.std.specs.Prelude.{◌≡◌, ℕ, min, OnOk, IfOk};
-ghost use Rattle.inp_actors.specs.declared.role.Role.TheVariants.{Owner as OwnerRole};
-ghost use Rattle.inp_feedback.specs.declared.fed.TheConstants.{FEEDBACK_MAX};
-ghost use Rattle.inp_script.specs.Owner.{first_owning, FeedsLine, MayHaveFed};
+ghost use Rattle.std.specs.Prelude.{◌≡◌, ℕ, OnOk, IfOk};
+ghost use Rattle.inp_script.specs.Owner.{first_owning};
 ghost use Rattle.inp_script.specs.Doing.{Begins, DoesCommand, IsCommandFor, command_talk};
 ghost use Rattle.inp_script.specs.Job.{first_reading, first_stick};
 ghost use Rattle.inp_script.specs.Ended.{HasDeviceSlots, ended_with};
@@ -18,7 +16,6 @@ use crate::tap::Tap;
 use crate::{Ended, JobEnd, JoyEnd, OwnerEnd, Sights, Stop, Waiting};
 use inp_actors::{Command, Record, Role};
 use inp_caps::Caps;
-use inp_feedback::Feeds;
 use inp_joy::Joy;
 use inp_model::{Evdev, NoMemory};
 use inp_reader::Reader;
@@ -70,7 +67,7 @@ impl RoleState {
         }
     }
 
-    // Does a command of a record.
+    // Does a command of a record by calls of an evdev. An owner makes none.
     pub(crate) fn do_command<E: Evdev>(
         &mut self,
         dev: &mut E,
@@ -101,21 +98,6 @@ impl RoleState {
             ),
             RoleState::Joy { joy } => do_joystick_command(dev, joy, notes, command),
             RoleState::Owner { .. } => Ok(()),
-        }
-    }
-
-    // Makes a feedback call of an owner with room for so many events, and notes it, or does nothing where the owner has
-    // stopped. Any other actor makes none.
-    pub(crate) fn feed<F: Feeds>(&mut self, dev: &mut F, count: u32) -> Result<(), NoMemory>
-        requires owner { role_of self.old ≡ OwnerRole }
-        ensures done { OnOk result (FeedsLine F.feeds dev.old dev.new (min count FEEDBACK_MAX)
-            (owning_of self.old) (owning_of self.new)) }
-        ensures begun { MayHaveFed F.feeds dev.old dev.new (min count FEEDBACK_MAX) }
-        ensures role { role_of self.new ≡ OwnerRole }
-    {
-        match self {
-            RoleState::Owner { owner } => owner.feed(dev, count),
-            _ => Ok(()),
         }
     }
 

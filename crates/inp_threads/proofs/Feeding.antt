@@ -1,12 +1,17 @@
 -- An owner does its lines by feedback calls under the turn.
-use Rattle.std.proofs.Common.{◌≡◌, ◌⊎◌, ℕ, ◌-◌, Bool, true, false, if◌then◌else◌, List, [], ◌∷◌, ◌++◌, length, take, reverse, refl, sym, ap, subst, ◌∙◌, arith, inl, inr, None, append_assoc, length-append}
+use Rattle.std.proofs.Common.{◌≡◌, ◌⊎◌, ℕ, ◌-◌, Bool, true, false, if◌then◌else◌, List, [], ◌∷◌, ◌++◌, length, take, reverse, refl, sym, ap, subst, ◌∙◌, arith, inl, inr, Option, None, append_assoc, length-append}
 use Rattle.std.specs.Prelude.{min}
+use Rattle.std.specs.List.{cons_option}
 use Rattle.std.proofs.lemmas.List.{append-nil, length-reverse, reverse-append}
 use Rattle.std.proofs.Math.Seq.{take-append_seam}
 use Rattle.inp_model.specs.declared.event.Event.{Event}
 use Rattle.inp_model.specs.Description.{Description}
+use Rattle.inp_model.specs.Evdev.{EvdevView}
 use Rattle.inp_model.specs.Reply.{written}
 use Rattle.inp_turn.specs.declared.pass_view.PassView.{PassView}
+use Rattle.inp_actors.specs.declared.line.Line.{Line}
+use Rattle.inp_actors.specs.declared.role.Role.TheVariants.{Owner}
+use Rattle.inp_actors.specs.Record.{RecordView}
 use Rattle.inp_feedback.specs.declared.u_entry.UEntry.{UEntry}
 use Rattle.inp_feedback.specs.declared.u_entry.UEntry.TheVariants.{Feedback}
 use Rattle.inp_feedback.specs.declared.fed.Fed.{Fed}
@@ -18,8 +23,14 @@ use Rattle.inp_feedback.specs.Feedback.{feedback_queue, is_full_of_feedback, tak
 use Rattle.inp_feedback.proofs.Few.{room-enough, room-enough-taken}
 use Rattle.inp_feedback.proofs.Lists.{reverse-cons}
 use Rattle.inp_uinput.specs.FeedbackTurn.{entries_after_call, call_places, IsFeedbackTurn}
+use Rattle.inp_script.specs.declared.waiting.Waiting.{Waiting}
+use Rattle.inp_script.specs.Acting.{FeedCall, AreFeedCalls, ActsLine, OwnsLine}
+use Rattle.inp_script.specs.Job.{ActorView}
 use Rattle.inp_script.specs.Owner.{Owning, after_feedback, FeedsUnless, IsFed}
-use Rattle.inp_runs.specs.Feeding.{AreFed, AreFeedCalls, FeedCall}
+use Rattle.inp_runs.specs.DoingAll.{AreActed}
+use Rattle.inp_runs.specs.Owner.{rooms_of}
+use Rattle.inp_runs.proofs.DoingAll.{no-owner}
+use Rattle.inp_runs.proofs.OwnerLaws.{fed-free, fed-full, kept-free, taken-full}
 use Rattle.inp_threads.specs.Owner.{IsFedTurn, HasCallsAt, HasFedLines}
 use Rattle.inp_threads.proofs.CallsAt.{calls-longer}
 
@@ -33,18 +44,6 @@ taken-of : (d : Description) (kept : List UEntry) (out new_out : List Event) →
 taken-of d kept out new_out is =
     let count : taken_count (fed d kept (length out)) ≡ length (taken_by_feedback d kept (length out)) = count-of (is_full_of_feedback d kept) (length (steps_in kept)) (take (length out) (feedback_queue d kept)) in
     (λ i. take (count i) (is i)) ∙ take-append_seam (taken_by_feedback d kept (length out)) _
-
-fed-full : (d : Description) (kept : List UEntry) (room : ℕ) → is_full_of_feedback d kept ≡ true → fed d kept room ≡ Full (length (steps_in kept))
-fed-full d kept room full = ap (λ (b : Bool). if b then Full (length (steps_in kept)) else Took (length (steps_in kept)) (length (taken_by_feedback d kept room))) full
-
-taken-full : (d : Description) (kept : List UEntry) (room : ℕ) → is_full_of_feedback d kept ≡ true → taken_by_feedback d kept room ≡ []
-taken-full d kept room full = ap (λ (b : Bool). if b then [] else take room (feedback_queue d kept)) full
-
-fed-took : (d : Description) (kept : List UEntry) (room : ℕ) → is_full_of_feedback d kept ≡ false → fed d kept room ≡ Took (length (steps_in kept)) (length (taken_by_feedback d kept room))
-fed-took d kept room full = ap (λ (b : Bool). if b then Full (length (steps_in kept)) else Took (length (steps_in kept)) (length (taken_by_feedback d kept room))) full
-
-kept-took : (d : Description) (kept : List UEntry) (room : ℕ) → is_full_of_feedback d kept ≡ false → Feedback (length (taken_by_feedback d kept room)) ∷ kept ≡ kept_after_feedback d kept room
-kept-took d kept room full = sym (ap (λ (b : Bool). if b then kept else Feedback (length (taken_by_feedback d kept room)) ∷ kept) full)
 
 -- One line
 
@@ -106,15 +105,15 @@ module _ (d : Description) (v w : PassView Description UEntry) (room : ℕ) (don
   answered full =
       let n : ℕ = length (steps_in kept) in
       let count : ℕ = length (taken_by_feedback d kept room) in
-      let is : answer ≡ Took n count = answer-is ∙ fed-took d kept room full in
+      let is : answer ≡ Took n count = answer-is ∙ fed-free d kept room full in
       let found : w.seen ≡ turn.found ++ Feedback count ∷ [] = turn.seen ∙ ap (λ (a : Fed). entries_after_call a turn.found) is in
       let seen : reverse w.seen ≡ Feedback count ∷ kept = ap reverse found ∙ reverse-append turn.found (Feedback count ∷ []) in
       let place : length w.seen - 1 ≡ length kept = omega (arith, ap length found, length-append turn.found (Feedback count ∷ []), length-reverse turn.found) in
       let own : w.own ≡ v.own ++ length kept ∷ [] = turn.own ∙ ap (λ (a : Fed). v.own ++ call_places a w.seen) is ∙ ap (λ (k : ℕ). v.own ++ k ∷ []) place in
       record {
         calls = subst (λ (es : List UEntry). HasCallsAt d es w.own (room ∷ done) new) (sym seen)
-            (inr (v.own, done, old, before-it, record { room = room; place = own; rooms_are = refl; answered = kept-took d kept room full; told = told-is }));
-        goes_on = ap (λ (o : Owning). o.stop) (told-is ∙ ap (λ (a : Fed). after_feedback a (taken_by_feedback d kept room) old) (fed-took d kept room full));
+            (inr (v.own, done, old, before-it, record { room = room; place = own; rooms_are = refl; answered = sym (kept-free d kept room full); told = told-is }));
+        goes_on = ap (λ (o : Owning). o.stop) (told-is ∙ ap (λ (a : Fed). after_feedback a (taken_by_feedback d kept room) old) (fed-free d kept room full));
       }
 
   either : (b : Bool) → is_full_of_feedback d kept ≡ b → IsKept d done room new w ⊎ IsStopped d done room old new w
@@ -135,45 +134,63 @@ module _ {S : Type 0} (feeds : Feeding S) where
   calls-keep f keeps before after (call ∷ calls) (between, first, rest) =
       calls-keep f keeps between after calls rest ∙ keeps before between call.room call.answer call.events first
 
+module _ {S : Type 0} (told : S → EvdevView) (feeds : Feeding S) (r : RecordView) (wait : Option Waiting) where
+  -- A line of an owner is a feedback call.
+  its-line : (before after : S) (line : Line) (old new : ActorView) → old.role ≡ Owner → ActsLine told feeds before after r wait old line new → OwnsLine feeds before after old line new
+  its-line before after line old new owner (inl o) = o
+  its-line before after line old new owner (inr c) = absurd (no-owner old.role c.caller owner)
+
+  -- Its job stays.
+  pub owner-stays : (lines : List Line) (before after : S) (old new : ActorView) → old.role ≡ Owner → AreActed told feeds before after r wait lines old new → new ≡ record old { owning = new.owning }
+  unfolding AreActed
+  owner-stays [] before after old new owner h = h.1 ∙ ap (λ (o : Owning). record old { owning = o }) (sym (ap (λ (a : ActorView). a.owning) h.1))
+  owner-stays (line ∷ lines) before after old new owner (between, mid, acts, rest) =
+      let o : OwnsLine feeds before between old line mid = its-line before between line old mid owner acts in
+      owner-stays lines between after mid new (ap (λ (a : ActorView). a.role) o.actor ∙ owner) rest ∙ ap (λ (a : ActorView). record a { owning = new.owning }) o.actor
+
   -- an owner that has stopped does nothing
-  stopped-rests : (rooms : List ℕ) (before after : S) (old new : Owning) (at : ℕ) (o : Owning) → old ≡ after_feedback (Full at) [] o → AreFed feeds before after rooms old new → (after ≡ before) × (new ≡ old)
-  unfolding AreFed
-  stopped-rests [] before after old new at o stopped h = h
-  stopped-rests (room ∷ rooms) before after old new at o stopped (between, mid, line, rest) =
-      let none : (between ≡ before) × (mid ≡ old) = subst (λ (x : Owning). FeedsUnless feeds x.stop before between (min room FEEDBACK_MAX) old mid) stopped line in
-      let later : (after ≡ between) × (new ≡ mid) = stopped-rests rooms between after mid new at o (none.1 ∙ stopped) rest in
+  stopped-rests : (lines : List Line) (before after : S) (old new : ActorView) (at : ℕ) (w : Owning) → old.role ≡ Owner → old.owning ≡ after_feedback (Full at) [] w → AreActed told feeds before after r wait lines old new → (after ≡ before) × (new.owning ≡ old.owning)
+  unfolding AreActed
+  stopped-rests [] before after old new at w owner stopped h = (h.0, ap (λ (a : ActorView). a.owning) h.1)
+  stopped-rests (line ∷ lines) before after old new at w owner stopped (between, mid, acts, rest) =
+      let o : OwnsLine feeds before between old line mid = its-line before between line old mid owner acts in
+      let none : (between ≡ before) × (mid.owning ≡ old.owning) = subst (λ (x : Owning). FeedsUnless feeds x.stop before between (min o.room FEEDBACK_MAX) old.owning mid.owning) stopped o.fed in
+      let later : (after ≡ between) × (new.owning ≡ mid.owning) = stopped-rests lines between after mid new at w (ap (λ (a : ActorView). a.role) o.actor ∙ owner) (none.1 ∙ stopped) rest in
       (later.0 ∙ none.0, later.1 ∙ none.1)
 
   module _ (d : S → Description) (view : S → PassView Description UEntry)
       (turns : (before after : S) (room : ℕ) (answer : Fed) (events : List Event) → feeds before after room answer events → (d after ≡ d before) × IsFedTurn (d before) (view before) room answer events (view after)) where
-    pub all-lines : (rooms done : List ℕ) (before after : S) (old new : Owning) → old.stop ≡ None → HasCallsAt (d before) (reverse (view before).seen) (view before).own done old → AreFed feeds before after rooms old new
-        → HasFedLines (d before) (reverse done ++ rooms) (view after) new
-    unfolding AreFed
-    all-lines [] done before after old new goes calls h = record {
+    pub all-lines : (lines : List Line) (done : List ℕ) (before after : S) (old new : ActorView) → old.role ≡ Owner → old.owning.stop ≡ None → HasCallsAt (d before) (reverse (view before).seen) (view before).own done old.owning → AreActed told feeds before after r wait lines old new
+        → HasFedLines (d before) (reverse done ++ rooms_of lines) (view after) new.owning
+    unfolding AreActed
+    all-lines [] done before after old new owner goes calls h = record {
       done = done;
-      before = old;
-      calls = subst (λ (s : S). HasCallsAt (d before) (reverse (view s).seen) (view s).own done old) (sym h.0) calls;
-      ends = inl (sym (append-nil (reverse done)), h.1);
+      before = old.owning;
+      calls = subst (λ (s : S). HasCallsAt (d before) (reverse (view s).seen) (view s).own done old.owning) (sym h.0) calls;
+      ends = inl (sym (append-nil (reverse done)), ap (λ (a : ActorView). a.owning) h.1);
     }
-    all-lines (room ∷ rooms) done before after old new goes calls (between, mid, line, rest) =
-        let f : IsFed feeds before between (min room FEEDBACK_MAX) old mid = subst (λ s. FeedsUnless feeds s before between (min room FEEDBACK_MAX) old mid) goes line in
-        let t = turns before between (min room FEEDBACK_MAX) f.answer f.events f.fed in
-        by t.0 (one-line (d before) (view before) (view between) room done f.answer f.events old mid calls t.1 f.noted)
-        (λ goes_on kept. all-lines rooms (room ∷ done) between after mid new goes_on kept rest)
+    all-lines (line ∷ lines) done before after old new owner goes calls (between, mid, acts, rest) =
+        let o : OwnsLine feeds before between old line mid = its-line before between line old mid owner acts in
+        let f : IsFed feeds before between (min o.room FEEDBACK_MAX) old.owning mid.owning = subst (λ s. FeedsUnless feeds s before between (min o.room FEEDBACK_MAX) old.owning mid.owning) goes o.fed in
+        let t = turns before between (min o.room FEEDBACK_MAX) f.answer f.events f.fed in
+        let still : mid.role ≡ Owner = ap (λ (a : ActorView). a.role) o.actor ∙ owner in
+        subst (λ (rooms : Option ℕ). HasFedLines (d before) (reverse done ++ cons_option rooms (rooms_of lines)) (view after) new.owning) (sym o.is_room)
+        (by o.room still t.0 (one-line (d before) (view before) (view between) o.room done f.answer f.events old.owning mid.owning calls t.1 f.noted)
+        (λ goes_on kept. all-lines lines (o.room ∷ done) between after mid new still goes_on kept rest))
       where
-        by : d between ≡ d before → IsKept (d before) done room mid (view between) ⊎ IsStopped (d before) done room old mid (view between)
-            → (mid.stop ≡ None → HasCallsAt (d between) (reverse (view between).seen) (view between).own (room ∷ done) mid → HasFedLines (d between) (reverse (room ∷ done) ++ rooms) (view after) new)
-            → HasFedLines (d before) (reverse done ++ room ∷ rooms) (view after) new
-        by same (inl kept) later =
-            let next = later kept.goes_on (subst (λ (x : Description). HasCallsAt x (reverse (view between).seen) (view between).own (room ∷ done) mid) (sym same) kept.calls) in
-            let lines : reverse (room ∷ done) ++ rooms ≡ reverse done ++ room ∷ rooms = ap (λ (rs : List ℕ). rs ++ rooms) (reverse-cons done room) ∙ append_assoc (reverse done) (room ∷ []) rooms in
-            subst (λ (x : Description). HasFedLines x (reverse done ++ room ∷ rooms) (view after) new) same (subst (λ (rs : List ℕ). HasFedLines (d between) rs (view after) new) lines next)
-        by same (inr end) later =
-            let none = stopped-rests rooms between after mid new end.at old end.stopped rest in
-            let here : HasFedLines (d before) (reverse done ++ room ∷ rooms) (view between) mid = record {
+        by : (room : ℕ) → mid.role ≡ Owner → d between ≡ d before → IsKept (d before) done room mid.owning (view between) ⊎ IsStopped (d before) done room old.owning mid.owning (view between)
+            → (mid.owning.stop ≡ None → HasCallsAt (d between) (reverse (view between).seen) (view between).own (room ∷ done) mid.owning → HasFedLines (d between) (reverse (room ∷ done) ++ rooms_of lines) (view after) new.owning)
+            → HasFedLines (d before) (reverse done ++ room ∷ rooms_of lines) (view after) new.owning
+        by room still same (inl kept) later =
+            let next = later kept.goes_on (subst (λ (x : Description). HasCallsAt x (reverse (view between).seen) (view between).own (room ∷ done) mid.owning) (sym same) kept.calls) in
+            let rooms : reverse (room ∷ done) ++ rooms_of lines ≡ reverse done ++ room ∷ rooms_of lines = ap (λ (rs : List ℕ). rs ++ rooms_of lines) (reverse-cons done room) ∙ append_assoc (reverse done) (room ∷ []) (rooms_of lines) in
+            subst (λ (x : Description). HasFedLines x (reverse done ++ room ∷ rooms_of lines) (view after) new.owning) same (subst (λ (rs : List ℕ). HasFedLines (d between) rs (view after) new.owning) rooms next)
+        by room still same (inr end) later =
+            let none = stopped-rests lines between after mid new end.at old.owning still end.stopped rest in
+            let here : HasFedLines (d before) (reverse done ++ room ∷ rooms_of lines) (view between) mid.owning = record {
               done = done;
-              before = old;
+              before = old.owning;
               calls = end.calls;
-              ends = inr (record { room = room; left = rooms; is_next = refl; later = []; found = reverse (view between).seen; split = refl; full = end.full; told = end.told });
+              ends = inr (record { room = room; left = rooms_of lines; is_next = refl; later = []; found = reverse (view between).seen; split = refl; full = end.full; told = end.told });
             } in
-            subst (λ (s : S). HasFedLines (d before) (reverse done ++ room ∷ rooms) (view s) new) (sym none.0) (subst (HasFedLines (d before) (reverse done ++ room ∷ rooms) (view between)) (sym none.1) here)
+            subst (λ (s : S). HasFedLines (d before) (reverse done ++ room ∷ rooms_of lines) (view s) new.owning) (sym none.0) (subst (HasFedLines (d before) (reverse done ++ room ∷ rooms_of lines) (view between)) (sym none.1) here)

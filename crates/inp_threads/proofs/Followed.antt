@@ -24,6 +24,7 @@ use Rattle.inp_runs.specs.Done.{HasFollowed, calls_at}
 use Rattle.inp_runs.specs.Job.{is_entry_at, lines_by, lines_talk}
 use Rattle.inp_runs.specs.Owner.{rooms_of}
 use Rattle.inp_runs.proofs.Done.{followed-told}
+use Rattle.inp_runs.proofs.DoingAll.{no-owner}
 use Rattle.inp_runs.proofs.Entries.{told-counts}
 use Rattle.inp_runs.proofs.OwnerTalks.{lines-nothing}
 use Rattle.inp_turn.specs.declared.pass_view.PassView.{PassView}
@@ -38,12 +39,6 @@ pub legal-longer : (d : Description) (h k : List Step) (least : ℕ) (calls : Li
 legal-longer d h k least [] begins l = tt
 legal-longer d h k least (call ∷ calls) begins l = (l.0, HasPlace-longer d h k call begins l.1, legal-longer d h k (next_place call.answer.reply) calls begins l.2)
 
-pub not_both : (role : Role) → is_owner role ≡ false → role ≡ Owner → ⊥
-not_both role caller owner = opposite (sym caller ∙ ap is_owner owner)
-  where
-    opposite : false ≡ true → ⊥
-    opposite e = cc
-
 module _ (r : RecordView) (d : Description) (wait : Option Waiting) (a : ActorView) (view : PassView Description UEntry) (entries : List UEntry) (text : ActorText) (is_role : a.role ≡ text.role) (begins : IsPrefix view.seen entries) (cells : HasDeviceSlots d (ended_of a)) where
   -- a caller followed its lines on the steps of all entries that begin with what it saw
   abbrev pub caller-followed : is_owner text.role ≡ false → HasWorked r d wait a view → HasFollowed r d wait (steps_among step_made entries) text.role a
@@ -56,7 +51,7 @@ module _ (r : RecordView) (d : Description) (wait : Option Waiting) (a : ActorVi
         follows = subst (λ (x : Role). EndsWith (lines_talk x d r.streams wait w.rounds (lines_by a.actor r.lines) (first_job x d)) w.calls (Some a.job)) is_role w.follows;
         is_role = is_role;
         cells = cells;
-        owned = λ owner. absurd (not_both text.role caller owner);
+        owned = λ owner. absurd (no-owner text.role caller owner);
       }
 
   -- an owner made no calls of an evdev, and all feedback calls

@@ -3,7 +3,6 @@ pub mod StepPlaces
 pub mod Numbers
 pub mod Ties
 pub mod Feeding
-pub mod Owning
 pub mod Counting
 pub mod Followed
 pub mod Assembling

@@ -1,10 +1,11 @@
 -- What a worker's thread leaves: its pass is one of the same port, and its actor did its lines.
-use Rattle.std.proofs.Common.{◌≡◌, ℕ, ◌+◌, ◌<◌, ◌≤◌, Bool, true, false, not, cond, List, [], ◌∷◌, ◌++◌, length, drop, refl, sym, ap, subst, ◌∙◌, arith, Option, Some, None}
+use Rattle.std.proofs.Common.{◌≡◌, ℕ, ◌+◌, ◌<◌, ◌≤◌, Bool, true, false, not, cond, List, [], ◌∷◌, ◌++◌, length, drop, refl, sym, ap, subst, ◌∙◌, arith, inl, inr, Option, Some, None}
 use Rattle.std.specs.Prelude.{Result, Ok, Err, OnOk, if◌then◌else◌}
 use Rattle.std.specs.Result.{is_ok}
 use Rattle.std.proofs.lemmas.List.{append-nil}
 use Rattle.std.proofs.lemmas.List.Sums.{sum_by-cons}
 use Rattle.std.proofs.lemmas.Option.{same_Some}
+use Rattle.inp_model.specs.declared.event.Event.{Event}
 use Rattle.inp_model.specs.declared.step.Step.{Step}
 use Rattle.inp_model.specs.Description.{Description}
 use Rattle.inp_model.specs.Step.{is_inject}
@@ -12,19 +13,24 @@ use Rattle.inp_model.specs.Evdev.{EvdevView, IsCall, TurnsRise, TurnsStand}
 use Rattle.inp_model.specs.Leaves.{IsLeft, AreCalls, places_of}
 use Rattle.inp_model.specs.Run.{Call, IsLegalRun, IsLegalFrom}
 use Rattle.inp_model.proofs.Leaves.{calls-legal, own-grown}
+use Rattle.inp_actors.specs.declared.line.Line.{Line}
 use Rattle.inp_actors.specs.declared.role.Role.{Role}
 use Rattle.inp_actors.specs.declared.role.Role.TheVariants.{Source, Client, Tap, Joy, Owner}
 use Rattle.inp_actors.specs.Command.{is_owner}
 use Rattle.inp_actors.specs.Record.{RecordView}
+use Rattle.inp_feedback.specs.declared.fed.Fed.{Fed}
 use Rattle.inp_feedback.specs.declared.u_entry.UEntry.{UEntry}
+use Rattle.inp_feedback.specs.Feeding.{Feeding}
 use Rattle.inp_feedback.specs.UEntry.{step_made}
 use Rattle.inp_reader.specs.Talk.{EndsWith}
 use Rattle.inp_script.specs.declared.waiting.Waiting.{Waiting}
 use Rattle.inp_script.specs.Doing.{HasActor}
 use Rattle.inp_script.specs.Job.{ActorView, Job, first_job}
+use Rattle.inp_script.specs.Acting.{IsActedOn}
 use Rattle.inp_script.specs.Owner.{Owning}
 use Rattle.inp_runs.specs.Job.{lines_by, lines_talk}
-use Rattle.inp_runs.specs.DoingAll.{DoesAll}
+use Rattle.inp_runs.specs.DoingAll.{ActsAll, DoesAll}
+use Rattle.inp_runs.proofs.DoingAll.{all-called, all-owned}
 use Rattle.inp_turn.specs.declared.kept.Kept.{Ghosts}
 use Rattle.inp_turn.specs.declared.pass.Pass.{Pass}
 use Rattle.inp_turn.specs.declared.pass_view.PassView.{PassView}
@@ -32,11 +38,13 @@ use Rattle.inp_turn.specs.Pass.{view_of}
 use Rattle.inp_turn.specs.Shared.{shared_id}
 use Rattle.inp_port.specs.declared.port.PortOf.{PortOf}
 use Rattle.inp_port.specs.Entries.{steps_among, step_places, other_places}
-use Rattle.inp_port.specs.Port.{IsReadyAt, told_by}
+use Rattle.inp_port.specs.Port.{IsReadyAt, description_of, told_by}
 use Rattle.inp_uinput.specs.UdevView.{UdevView}
 use Rattle.inp_runs.specs.Owner.{rooms_of}
-use Rattle.inp_threads.specs.Owner.{HasFedLines}
-use Rattle.inp_threads.specs.Worker.{IsFreshPass, HasPass, HasWorked, HasOwnedLines, HasDoneLines, asking_count}
+use Rattle.inp_threads.specs.Owner.{IsFedBy, HasFedLines}
+use Rattle.inp_threads.specs.Worker.{IsAtStart, IsFreshPass, HasPass, HasWorked, HasOwnedLines, HasDoneLines, asking_count}
+use Rattle.inp_threads.proofs.CallsAt.{no-calls}
+use Rattle.inp_threads.proofs.Feeding.{all-lines, calls-keep, owner-stays}
 use Rattle.inp_threads.proofs.Ties.{numbers_in, number_at, as-long, same-table}
 
 module _ {K : Ghosts UdevView Description UEntry} where
@@ -91,10 +99,10 @@ turns-taken before after (call ∷ calls) m h told =
     one-more true m k n count all h l same = omega arith
     one-more false m k n count all h l same = omega arith
 
-pub has-worked : (r : RecordView) (d : Description) (wait : Option Waiting) (a : ActorView) (new : Job) (b e : EvdevView) (v : PassView Description UEntry)
+has-worked : (r : RecordView) (d : Description) (wait : Option Waiting) (a : ActorView) (new : Job) (owning : Owning) (b e : EvdevView) (v : PassView Description UEntry)
     → b.seen ≡ [] → b.own ≡ [] → e.description ≡ d → e.seen ≡ steps_among step_made v.seen → e.own ≡ step_places step_made v.seen v.own → other_places step_made v.seen v.own ≡ [] → (m : ℕ) → b.turns ≡ Some m → e.turns ≡ Some v.turns
-    → a.description ≡ d → a.job ≡ first_job a.role a.description → DoesAll b e r wait a new → HasWorked r d wait (record a { job = new }) v
-has-worked r d wait a new b e v no_seen no_own same_d seen own others m begun_turns turns described first does =
+    → a.description ≡ d → a.job ≡ first_job a.role a.description → DoesAll b e r wait a new → HasWorked r d wait (record a { job = new; owning = owning }) v
+has-worked r d wait a new owning b e v no_seen no_own same_d seen own others m begun_turns turns described first does =
     let h = does.holds in
     let taken = turns-taken b e h.calls m h.are_calls begun_turns in
     let counted : taken.0 ≡ v.turns = same_Some taken.0 v.turns (sym taken.1 ∙ turns) in
@@ -113,30 +121,78 @@ has-worked r d wait a new b e v no_seen no_own same_d seen own others m begun_tu
     }
 
 -- an actor that is no owner did its lines by calls of an evdev
-pub calling-done : (role : Role) (r : RecordView) (d : Description) (wait : Option Waiting) (a : ActorView) (view : PassView Description UEntry) → is_owner role ≡ false → HasWorked r d wait a view → HasDoneLines role r d wait a view
+calling-done : (role : Role) (r : RecordView) (d : Description) (wait : Option Waiting) (a : ActorView) (view : PassView Description UEntry) → is_owner role ≡ false → HasWorked r d wait a view → HasDoneLines role r d wait a view
 calling-done Source r d wait a view away h = h
 calling-done Client r d wait a view away h = h
 calling-done Tap r d wait a view away h = h
 calling-done Joy r d wait a view away h = h
 calling-done Owner r d wait a view away h = absurd cc
 
--- an owner did its lines by feedback calls
-pub owning-done : (r : RecordView) (d : Description) (wait : Option Waiting) (n : ℕ) (old new : ActorView) (view : PassView Description UEntry) → new ≡ record old { owning = new.owning } → old.actor ≡ n → old.role ≡ Owner → old.description ≡ d → old.job ≡ first_job old.role old.description
-    → HasFedLines d (rooms_of (lines_by n r.lines)) view new.owning → HasDoneLines new.role r d wait new view
-owning-done r d wait n old new view same number owner described first fed =
-    let role : new.role ≡ Owner = ap (λ (a : ActorView). a.role) same ∙ owner in
-    let its : HasOwnedLines r d new view = record {
-      fed = subst (λ (m : ℕ). HasFedLines d (rooms_of (lines_by m r.lines)) view new.owning) (sym (ap (λ (a : ActorView). a.actor) same ∙ number)) fed;
-      job = ap (λ (a : ActorView). a.job) same ∙ first ∙ (λ i. first_job (owner i) (described i));
-    } in
-    subst (λ (x : Role). HasDoneLines x r d wait new view) (sym role) its
-
 -- a record has an actor, whatever its job and whatever it was told
-pub has_actor-job : (r : RecordView) (a : ActorView) (j : Job) → HasActor r a → HasActor r (record a { job = j })
-has_actor-job r a j h = record { text = h.text; device = h.device; is_text = h.is_text; role = h.role; is_device = h.is_device; description = h.description }
+pub has_actor-still : (r : RecordView) (a : ActorView) (j : Job) (o : Owning) → HasActor r a → HasActor r (record a { job = j; owning = o })
+has_actor-still r a j o h = record { text = h.text; device = h.device; is_text = h.is_text; role = h.role; is_device = h.is_device; description = h.description }
 
-pub has_actor-owning : (r : RecordView) (a : ActorView) (o : Owning) → HasActor r a → HasActor r (record a { owning = o })
-has_actor-owning r a o h = record { text = h.text; device = h.device; is_text = h.is_text; role = h.role; is_device = h.is_device; description = h.description }
+-- By whatever makes calls and feedback calls by a port and a pass
+
+module _ {S : Type 0} {K : Ghosts UdevView Description UEntry} (port : S → PortOf UdevView UEntry) (pass : S → Pass UdevView Description UEntry K) (agains : S → ℕ) (feeds : Feeding S)
+    (by : (before after : S) (room : ℕ) (answer : Fed) (events : List Event) → feeds before after room answer events → IsFedBy (port before) (port after) (pass before) (pass after) room answer events) where
+  abbrev told : S → EvdevView
+  told s = told_by step_made (port s) (pass s) (agains s)
+
+  -- the pass is one of the same port, with the same share
+  pub worked-back : (role : Role) (before after : S) → IsFreshPass (port before) (pass before) → IsReadyAt (port after) (pass after) → IsActedOn told feeds role before after → HasPass (port before) (Some (pass after))
+  worked-back role before after fresh ready (inr calls) = (pass-back (port before) (port after) (pass before) (pass after) (agains before) (agains after) fresh calls.1 ready).back
+  worked-back role before after fresh ready (inl (owner, calls, made)) =
+      let same : port after ≡ port before = calls-keep feeds port (λ b a room answer events h. (by b a room answer events h).0) before after calls made in
+      let share : (view_of (pass after)).share ≡ (view_of (pass before)).share =
+      calls-keep feeds (λ (s : S). (view_of (pass s)).share) (λ b a room answer events h. (by b a room answer events h).1.turn.share) before after calls made in
+      record {
+        pass = pass after;
+        is_pass = refl;
+        ready = subst (λ (p : PortOf UdevView UEntry). IsReadyAt p (pass after)) same ready;
+        share = share ∙ fresh.share;
+      }
+
+  -- and the lines were done
+  pub worked-done : (r : RecordView) (wait : Option Waiting) (before after : S) (old new : ActorView) → IsFreshPass (port before) (pass before) → IsReadyAt (port after) (pass after) → IsAtStart (port before) r old
+      → new ≡ record old { job = new.job; owning = new.owning } → IsActedOn told feeds old.role before after → ActsAll told feeds before after r wait old new
+      → HasDoneLines new.role r (description_of (port before)) wait new (view_of (pass after))
+  worked-done r wait before after old new fresh ready start still acted all = by_role acted
+    where
+      d : Description
+      d = description_of (port before)
+
+      v : PassView Description UEntry
+      v = view_of (pass after)
+
+      role : new.role ≡ old.role
+      role = ap (λ (a : ActorView). a.role) still
+
+      owned : old.role ≡ Owner → HasOwnedLines r d new v
+      owned owner =
+          let lines : List Line = lines_by old.actor r.lines in
+          let acts = all-owned told feeds r wait before after old new owner all in
+          let stays : new ≡ record old { owning = new.owning } = owner-stays told feeds r wait lines before after old new owner acts in
+          let fed : HasFedLines d (rooms_of lines) v new.owning =
+          all-lines told feeds r wait (λ (s : S). description_of (port s)) (λ (s : S). view_of (pass s))
+          (λ b a room answer events h. (let t = by b a room answer events h in (ap description_of t.0, t.1)))
+          lines [] before after old new owner (ap (λ (o : Owning). o.stop) start.owning)
+          (no-calls d (view_of (pass before)) old.owning fresh.seen fresh.own start.owning) acts in
+          record {
+            fed = subst (λ (n : ℕ). HasFedLines d (rooms_of (lines_by n r.lines)) v new.owning) (sym (ap (λ (a : ActorView). a.actor) still)) fed;
+            job = ap (λ (a : ActorView). a.job) stays ∙ start.job ∙ (λ i. first_job (owner i) (start.description i));
+          }
+
+      by_role : IsActedOn told feeds old.role before after → HasDoneLines new.role r d wait new v
+      by_role (inl (owner, calls, made)) = subst (λ (x : Role). HasDoneLines x r d wait new v) (sym (role ∙ owner)) (owned owner)
+      by_role (inr (caller, left)) =
+          let p = pass before in
+          let its = pass-back (port before) (port after) p (pass after) (agains before) (agains after) fresh left ready in
+          calling-done new.role r d wait new v (ap is_owner role ∙ caller)
+          (subst (λ (a : ActorView). HasWorked r d wait a v) (sym still)
+          (has-worked r d wait old new.job new.owning (told before) (told after) v
+          (ap (steps_among step_made) fresh.seen) (ap (step_places step_made (view_of p).seen) fresh.own)
+          left.leaves.description refl refl its.others (view_of p).turns refl refl start.description start.job (all-called told feeds r wait before after old new caller all)))
 
 pub on-ok : {T E : Type 0} (P : Type 0) (result : Result T E) (b : Bool) → b ≡ is_ok result → b ≡ true → OnOk result P → P
 on-ok P (Ok x) b same good h = h

@@ -31,7 +31,7 @@ mod device_run;
 mod gathered;
 mod job_gate;
 mod one_job;
-mod owner_client;
+mod owned_client;
 mod playing;
 mod worker;
 mod workers;

@@ -1,16 +1,13 @@
 //! A job on a thread.
-ghost use Rattle.std.specs.Prelude.{◌≡◌, true, false, Option, Some};
-ghost use Rattle.inp_actors.specs.declared.role.Role.TheVariants.{Owner};
-ghost use Rattle.inp_actors.specs.Command.{is_owner};
-ghost use Rattle.inp_script.specs.declared.waiting.Waiting.{Waiting};
+ghost use Rattle.std.specs.Prelude.{◌≡◌, true, Some};
 ghost use Rattle.inp_script.specs.Doing.{IsWaiting};
 ghost use Rattle.inp_threads.specs.Worker.{IsAtStart, IsFreshPass, IsReadyWorker, IsWorked, actor_number};
 
 use crate::job_gate::JobGate;
 use crate::one_job::OneJob;
-use crate::owner_client::OwnerClient;
-use inp_actors::{Record, Role};
-use inp_runs::{do_lines, feed_lines};
+use crate::owned_client::OwnedClient;
+use inp_actors::Record;
+use inp_runs::do_lines;
 use inp_script::{Actor, Gated, Waiting};
 use inp_turn::Pass;
 use inp_uinput::{UClient, UPort, Udev};
@@ -48,16 +45,11 @@ impl Worker {
         let Some(pass) = self.pass.take() else {
             return;
         };
-        match rec.actors().get(self.number as usize).role {
-            Role::Owner => self.own(rt, port, rec, gate, pass),
-            Role::Source | Role::Client | Role::Tap | Role::Joy => {
-                self.call(rt, port, rec, waiting, gate, pass)
-            }
-        }
+        self.work_by(rt, port, rec, waiting, gate, pass);
     }
 
-    // Does all lines of an actor that makes calls of an evdev.
-    fn call<R: Wait, J: JobGate>(
+    // The same by this pass.
+    fn work_by<R: Wait, J: JobGate>(
         &mut self,
         rt: &R,
         port: &UPort,
@@ -69,7 +61,6 @@ impl Worker {
         requires fresh { IsFreshPass port.now pass }
         requires start { IsAtStart port.now rec.now self.old.actor }
         requires number { self.old.actor.actor ≡ self.old.number }
-        requires caller { is_owner self.old.actor.role ≡ false }
         requires waiting { IsWaiting rec.now self.old.actor waiting }
         requires known { J.knows gate.now self.old.number ≡ true }
         ensures worked { IsWorked port.now rec.now (Some waiting) self.new }
@@ -85,39 +76,9 @@ impl Worker {
             gate,
             job: self.number,
         };
-        let mut dev = Gated::new(client, &one, self.number);
+        let mut dev = Gated::new(OwnedClient { client }, &one, self.number);
         let done = do_lines(&mut self.actor, &mut dev, rec, self.number, Some(waiting));
         self.is_done = done.is_ok();
-        self.pass = Some(dev.inner.pass);
-    }
-
-    // Does all lines of an owner, which makes feedback calls alone. No line of it waits.
-    fn own<R: Wait, J: JobGate>(
-        &mut self,
-        rt: &R,
-        port: &UPort,
-        rec: &Record,
-        gate: &J,
-        pass: Pass<Udev>,
-    )
-        requires fresh { IsFreshPass port.now pass }
-        requires start { IsAtStart port.now rec.now self.old.actor }
-        requires number { self.old.actor.actor ≡ self.old.number }
-        requires owner { self.old.actor.role ≡ Owner }
-        requires known { J.knows gate.now self.old.number ≡ true }
-        ensures worked { (wait : Option Waiting) → IsWorked port.now rec.now wait self.new }
-        ensures number { actor_number self.new ≡ actor_number self.old }
-    {
-        let mut dev = OwnerClient {
-            port,
-            rt,
-            pass,
-            gate,
-            job: self.number,
-            calls: 0,
-        };
-        let done = feed_lines(&mut self.actor, &mut dev, rec, self.number);
-        self.is_done = done.is_ok();
-        self.pass = Some(dev.pass);
+        self.pass = Some(dev.inner.client.pass);
     }
 }

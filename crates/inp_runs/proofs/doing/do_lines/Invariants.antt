@@ -1,9 +1,12 @@
-use Rattle.std.proofs.Common.{◌≡◌}
-use Rattle.inp_runs.proofs.DoingAll.{HasDoneFirst}
+use Rattle.std.proofs.Common.{◌≡◌, take}
+use Rattle.inp_script.specs.Acting.{IsActedOn}
+use Rattle.inp_runs.specs.DoingAll.{AreActed}
+use Rattle.inp_runs.specs.Job.{lines_by}
 use Rattle.inp_runs.proofs.doing.do_lines.Given as goal
 
 abbrev pub invariant-loop-line : goal.invariant-loop-line
 invariant-loop-line g l = record {
-  done : HasDoneFirst (g.E.Evdev.told l.initial.dev) (g.E.Evdev.told l.dev) l.rec l.wait l.initial.actor l.line l.actor.job;
-  actor : l.actor ≡ record l.initial.actor { job = l.actor.job };
+  done : AreActed g.D.Evdev.told g.D.Feeds.feeds l.initial.dev l.dev l.rec l.wait (lines_by l.number (take l.line l.rec.lines)) l.initial.actor l.actor;
+  actor : l.actor ≡ record l.initial.actor { job = l.actor.job; owning = l.actor.owning };
+  left : IsActedOn g.D.Evdev.told g.D.Feeds.feeds l.initial.actor.role l.initial.dev l.dev;
 }
