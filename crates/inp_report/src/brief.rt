@@ -40,7 +40,7 @@ pub fn summary(
 {
     let mut text = Page::new(alloc);
     push_summary(&mut text, number, count, rec, runs)?;
-    Ok(text.into_bytes())
+    text.into_bytes()
 }
 
 #[tactic(auto, unfolding(crate::specs::Summary::summary))]

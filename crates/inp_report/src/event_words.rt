@@ -1,5 +1,5 @@
 //! The words before the value of an event.
-ghost use Rattle.std.specs.Prelude.{◌≡◌, ◌<◌, ◌++◌, length, IfOk, OnOk};
+ghost use Rattle.std.specs.Prelude.{◌≡◌, ◌<◌, ◌++◌, length, replicate, None, IfOk, OnOk, IfSome};
 ghost use Rattle.inp_report.specs.Words.{event_label};
 
 use inp_model::NoMemory;
@@ -26,7 +26,10 @@ pub(crate) struct KnownWords {
 }
 
 impl KnownWords {
-    pub(crate) fn new(alloc: Global) -> Result<KnownWords, NoMemory> {
+    // No words are known.
+    pub(crate) fn new(alloc: Global) -> Result<KnownWords, NoMemory>
+        ensures none { IfOk result (λ words. words.known.items ≡ replicate 32 None) }
+    {
         let mut known = Vec::with_capacity(alloc, PLACES)?;
         for _ in 0..PLACES {
             known.push(None)?;
@@ -34,34 +37,36 @@ impl KnownWords {
         Ok(KnownWords { known })
     }
 
-    // Appends the words of a type and a code, and keeps them.
-    #[inline]
-    pub(crate) fn push(&mut self, text: &mut Page, kind: u16, code: u16) -> Result<(), NoMemory>
-        ensures pushed { OnOk result (text.new ≡ text.old ++ event_label kind code) }
+    // The words of a type and a code, where they are known.
+    #[inline(always)]
+    pub(crate) fn get(&self, kind: u16, code: u16) -> Option<&Phrase>
+        ensures words { IfSome result (λ words. words.now ≡ event_label kind code) }
     {
-        let place = place_of(kind, code);
-        if let Some(event) = &self.known[place] {
+        if let Some(event) = &self.known[place_of(kind, code)] {
             if event.kind == kind && event.code == code {
-                return text.push_phrase(&event.words);
+                return Some(&event.words);
             }
         }
-        self.write(text, place, kind, code)
+        None
     }
 
-    fn write(&mut self, text: &mut Page, place: usize, kind: u16, code: u16) -> Result<(), NoMemory>
-        requires place { place < 32 }
+    // Appends the words of a type and a code, and keeps them.
+    #[cold]
+    #[inline(never)]
+    pub(crate) fn write(&mut self, text: &mut Page, kind: u16, code: u16) -> Result<(), NoMemory>
         ensures pushed { OnOk result (text.new ≡ text.old ++ event_label kind code) }
     {
         let start = text.len();
         push_event_words(text, kind, code)?;
         if let Some(words) = text.phrase_from(start) {
-            self.known[place] = Some(EventWords { kind, code, words });
+            self.known[place_of(kind, code)] = Some(EventWords { kind, code, words });
         }
         Ok(())
     }
 }
 
 // The place of a type and a code: codes that follow each other have places of their own, and so have types.
+#[inline(always)]
 fn place_of(kind: u16, code: u16) -> usize
     ensures place { result < 32 }
 {

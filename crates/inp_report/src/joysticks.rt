@@ -28,7 +28,7 @@ pub fn joy_report(alloc: Global, rec: &Record, joys: &JoyRuns) -> Result<Vec<u8>
 {
     let mut text = Page::new(alloc);
     push_joysticks(&mut text, rec, joys)?;
-    Ok(text.into_bytes())
+    text.into_bytes()
 }
 
 #[tactic(auto, unfolding(crate::specs::JoyReport::joy_report))]

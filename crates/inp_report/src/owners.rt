@@ -26,7 +26,7 @@ pub fn owner_report(alloc: Global, rec: &Record, owners: &OwnerRuns) -> Result<V
 {
     let mut text = Page::new(alloc);
     push_owners(&mut text, rec, owners)?;
-    Ok(text.into_bytes())
+    text.into_bytes()
 }
 
 #[tactic(auto, unfolding(crate::specs::OwnerReport::owner_report))]

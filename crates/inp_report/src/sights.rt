@@ -25,13 +25,13 @@ pub(crate) fn push_sights(text: &mut Page, sights: &[Sight]) -> Result<(), NoMem
     Ok(())
 }
 
-#[tactic(auto, unfolding(crate::specs::Sights::sight_line, crate::specs::Sights::stamp_text))]
+#[tactic(auto, unfolding(crate::specs::Sights::sight_line))]
 fn push_sight(text: &mut Page, took: &mut TookWords, sight: &Sight) -> Result<(), NoMemory>
     ensures pushed { OnOk result (text.new ≡ text.old ++ sight_line sight.now) }
 {
     match sight {
         Sight::Call { step, reply } => push_call(text, *step, reply)?,
-        Sight::Took { event } => took.push(text, *event)?,
+        Sight::Took { event } => return took.push(text, *event),
         Sight::Made { event } => {
             text.push_str("made ")?;
             push_event(text, *event)?;

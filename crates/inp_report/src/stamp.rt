@@ -1,62 +1,63 @@
 //! The words before the event of a `took` line.
-ghost use Rattle.std.specs.Prelude.{◌≡◌, ◌++◌, OnOk};
+ghost use Rattle.std.specs.Prelude.{◌≡◌};
 ghost use Rattle.inp_report.specs.Sights.{stamp_text};
 
-use crate::words::push_numbered;
-use inp_model::NoMemory;
-use inp_texts::{Page, Phrase};
+use inp_texts::Phrase;
 
 /// The words before the event of a `took` line. All events of a frame have one place and one time, so these words are
-/// written once for a frame, and copied for its further events.
+/// made once for a frame, and copied for its further events.
 #[derive(Drop)]
-struct Stamp {
+pub(crate) struct Stamp {
     place: u32,
     time: u64,
     words: Phrase,
     ghost says: { words ≡ stamp_text place time },
 }
 
-/// The stamp that was written last, if there was one.
-#[derive(Drop)]
-pub(crate) struct LastStamp {
-    stamp: Option<Stamp>,
+impl Stamp {
+    // The words of the place and the time 0.
+    pub(crate) fn new() -> Stamp
+        ensures words { result.words ≡ stamp_text 0 0 }
+    {
+        let mut words = Phrase::new();
+        write_stamp(&mut words, 0, 0);
+        Stamp {
+            place: 0,
+            time: 0,
+            words,
+        }
+    }
+
+    // Makes the words of a place and a time, unless it has them.
+    #[inline(always)]
+    pub(crate) fn turn_to(&mut self, place: u32, time: u64)
+        ensures words { self.new.words ≡ stamp_text place time }
+    {
+        if self.place != place || self.time != time {
+            write_stamp(&mut self.words, place, time);
+            self.place = place;
+            self.time = time;
+        }
+    }
+
+    #[inline(always)]
+    pub(crate) fn words(&self) -> &Phrase
+        ensures words { result.now ≡ self.now.words }
+    {
+        &self.words
+    }
 }
 
-impl LastStamp {
-    pub(crate) fn new() -> LastStamp {
-        LastStamp { stamp: None }
-    }
-
-    // Appends the words of a place and a time, and keeps them.
-    #[inline]
-    pub(crate) fn push(&mut self, text: &mut Page, place: u32, time: u64) -> Result<(), NoMemory>
-        ensures pushed { OnOk result (text.new ≡ text.old ++ stamp_text place time) }
-    {
-        if let Some(stamp) = &self.stamp {
-            if stamp.place == place && stamp.time == time {
-                return text.push_phrase(&stamp.words);
-            }
-        }
-        self.write(text, place, time)
-    }
-
-    fn write(&mut self, text: &mut Page, place: u32, time: u64) -> Result<(), NoMemory>
-        ensures pushed { OnOk result (text.new ≡ text.old ++ stamp_text place time) }
-    {
-        let start = text.len();
-        push_stamp(text, place, time)?;
-        if let Some(words) = text.phrase_from(start) {
-            self.stamp = Some(Stamp { place, time, words });
-        }
-        Ok(())
-    }
-}
-
+// Writes the words of a place and a time over a phrase. There is room: they have two numbers and seven bytes more.
+#[inline(never)]
 #[tactic(auto, unfolding(crate::specs::Sights::stamp_text))]
-fn push_stamp(text: &mut Page, place: u32, time: u64) -> Result<(), NoMemory>
-    ensures pushed { OnOk result (text.new ≡ text.old ++ stamp_text place time) }
+fn write_stamp(words: &mut Phrase, place: u32, time: u64)
+    ensures words { words.new ≡ stamp_text place time }
 {
-    push_numbered(text, "took ", u64::from(place))?;
-    push_numbered(text, " ", time)?;
-    text.push_str(" ")
+    words.clear();
+    words.push_str("took ");
+    words.push_number(u64::from(place));
+    words.push_str(" ");
+    words.push_number(time);
+    words.push_str(" ");
 }

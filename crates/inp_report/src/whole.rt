@@ -27,7 +27,7 @@ pub fn report(alloc: Global, rec: &Record, runs: &Runs, history: bool) -> Result
 {
     let mut text = Page::new(alloc);
     push_runs(&mut text, rec, runs, history)?;
-    Ok(text.into_bytes())
+    text.into_bytes()
 }
 
 fn push_runs(text: &mut Page, rec: &Record, runs: &Runs, history: bool) -> Result<(), NoMemory>

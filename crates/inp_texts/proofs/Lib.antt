@@ -1,3 +1,4 @@
+mod Decimals
 mod Hexadecimals
 mod Pages
 pub mod Written

@@ -1,8 +1,8 @@
 -- What stands on a page: where it is cut off within what was written last, and after what a formatter writes.
-use Rattle.std.proofs.Common.{◌≡◌, ℕ, ◌+◌, ◌≤◌, List, ◌++◌, length, take, drop, ap, sym, ◌∙◌, arith, Option, Some, None}
+use Rattle.std.proofs.Common.{◌≡◌, ℕ, ◌+◌, ◌<◌, ◌≤◌, List, [], ◌∷◌, ◌++◌, set, append_assoc, length, take, drop, ap, sym, ◌∙◌, arith, Option, Some, None}
 use Rattle.std.specs.Fmt.{WritesText, AppendsText}
 use Rattle.std.proofs.lemmas.Fmt.{contents_after_writes}
-use Rattle.std.proofs.lemmas.List.{take-append-le, length-append, length-take-le, take-append-drop}
+use Rattle.std.proofs.lemmas.List.{take_more_set, take-append-le, length-append, length-take-le, take-append-drop}
 use Rattle.std.proofs.Math.Seq.{take-append-add}
 
 take-of-take : (n m : ℕ) (xs : List ℕ) → n ≤ length (take m xs) → take n xs ≡ take n (take m xs)
@@ -34,3 +34,13 @@ pub appended-writes : (shown : Option (List ℕ)) (before after : List ℕ) → 
 appended-writes None before after written = tt
 appended-writes (Some words) before after written =
     contents_after_writes (λ (b w a : List ℕ). a ≡ b ++ w) (λ (l : List ℕ). l) (λ b w a more. more) before words after written
+
+regrouped : (old first second number : List ℕ) → (((old ++ first) ++ second) ++ number) ++ 10 ∷ [] ≡ old ++ (first ++ (second ++ (number ++ 10 ∷ [])))
+regrouped old first second number = simp append_assoc
+
+-- what four stores behind each other make, where the last one is of a line feed
+pub line-stored : (b₀ b₁ b₂ b₃ old first second number : List ℕ) (a₀ a₁ a₂ a₃ : ℕ) → take a₀ b₀ ≡ old → take a₁ b₁ ≡ take a₀ b₀ ++ first → take a₂ b₂ ≡ take a₁ b₁ ++ second → take a₃ b₃ ≡ take a₂ b₂ ++ number → a₃ < length b₃ → take (a₃ + 1) (set b₃ a₃ 10) ≡ old ++ (first ++ (second ++ (number ++ 10 ∷ [])))
+line-stored b₀ b₁ b₂ b₃ old first second number a₀ a₁ a₂ a₃ e₀ e₁ e₂ e₃ inside =
+    take_more_set b₃ a₃ 10 inside
+    ∙ ap (λ (l : List ℕ). l ++ 10 ∷ []) (e₃ ∙ ap (λ (l : List ℕ). l ++ number) (e₂ ∙ ap (λ (l : List ℕ). l ++ second) (e₁ ∙ ap (λ (l : List ℕ). l ++ first) e₀)))
+    ∙ regrouped old first second number

@@ -13,7 +13,9 @@
 mod bits_text;
 mod clock_text;
 mod code_text;
+mod digits;
 mod kind_text;
+mod lines;
 mod numbers;
 mod page;
 mod phrase;

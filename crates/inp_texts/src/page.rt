@@ -1,88 +1,82 @@
 //! A text that is written piece by piece.
-ghost use Rattle.std.specs.Prelude.{◌≡◌, ◌≤◌, ◌+◌, [], ◌++◌, length, take, drop, OnOk, IfSome};
-ghost use Rattle.std.specs.Fmt.{AppendsText};
+ghost use Rattle.std.specs.Prelude.{◌≡◌, ◌≤◌, ◌+◌, [], ◌∷◌, ◌++◌, length, drop, decimal, OnOk, OnErr, IfOk, IfSome, IsSome, ◌↔◌};
+ghost use Rattle.std.specs.Fmt.{AppendsText, signed_decimal};
 
+use crate::lines::Lines;
 use crate::phrase::Phrase;
 use inp_model::NoMemory;
 use std::alloc::Global;
 use std::fmt::{self, Display, Write};
 use std::marker::Model;
 
-/// How many bytes a page has at least once something was written on it (this project's choice).
-const FIRST_ROOM: usize = 4096;
-
 /// A text that is written piece by piece. A contract sees the bytes that were written.
 ///
-/// Room is asked for by doubling, so most pieces are stored with no call. The bytes past the text are 0.
+/// Pieces go into a buffer of a fixed size, and from there into the text, some two thousand bytes at a time.
 #[derive(Drop)]
 pub struct Page {
-    bytes: Vec<u8>,
-    len: usize,
+    text: Vec<u8>,
+    lines: Lines,
 }
 
 impl Model for Page {
-    ghost use Rattle.std.specs.Prelude.{◌≤◌, ℕ, List, length, take};
+    ghost use Rattle.std.specs.Prelude.{ℕ, List, ◌++◌};
 
     ghost Value = { List ℕ };
 
-    ghost view = { λ page. take page.len page.bytes.items };
-
-    ghost invariant = { λ page. page.len ≤ length page.bytes.items };
+    ghost view = { λ page. page.text.items ++ page.lines };
 }
 
 impl Page {
-    /// An empty page. It takes no memory.
+    /// An empty page. It takes no memory of the allocator.
     pub fn new(alloc: Global) -> Page
         ensures empty { result ≡ [] }
     {
         Page {
-            bytes: Vec::new(alloc),
-            len: 0,
+            text: Vec::new(alloc),
+            lines: Lines::new(),
         }
     }
 
     /// Where its memory comes from.
     pub fn allocator(&self) -> Global {
-        *self.bytes.allocator()
+        *self.text.allocator()
     }
 
     /// How many bytes were written.
     pub fn len(&self) -> usize
         ensures { result ≡ length self.now }
     {
-        self.len
+        self.text.len() + self.lines.as_slice().len()
     }
 
     /// The bytes that were written.
-    pub fn into_bytes(self) -> Vec<u8>
-        ensures bytes { result.items ≡ self }
+    ///
+    /// # Errors
+    ///
+    /// `NoMemory` where there is none for the last of them.
+    pub fn into_bytes(self) -> Result<Vec<u8>, NoMemory>
+        ensures bytes { IfOk result (λ bytes. bytes.items ≡ self) }
     {
-        let Page { mut bytes, len } = self;
-        bytes.truncate(len);
-        bytes
+        let Page { mut text, lines } = self;
+        text.extend_from_slice(lines.as_slice())?;
+        Ok(text)
     }
 
     /// Appends words. Words that the caller writes out are stored at once, with no loop.
     ///
     /// # Errors
     ///
-    /// `NoMemory` where there is none for them.
+    /// `NoMemory` where there is none for them, and the page is as before.
     #[inline(always)]
     pub fn push_str(&mut self, words: &str) -> Result<(), NoMemory>
         ensures pushed { OnOk result (self.new ≡ self.old ++ words.now) }
+        ensures kept { OnErr result (self.new ≡ self.old) }
     {
-        self.push_bytes(words.as_bytes())
-    }
-
-    #[inline(always)]
-    pub(crate) fn push_bytes(&mut self, words: &[u8]) -> Result<(), NoMemory>
-        ensures pushed { OnOk result (self.new ≡ self.old ++ words.now) }
-    {
-        if self.bytes.len() - self.len < words.len() {
-            grow(&mut self.bytes, words.len())?;
+        let words = words.as_bytes();
+        if self.lines.spare() < words.len() {
+            return push_apart(&mut self.text, &mut self.lines, words);
         }
-        store(&mut self.bytes, self.len, words);
-        self.len += words.len();
+        self.lines.push_bytes(words);
         Ok(())
     }
 
@@ -90,14 +84,65 @@ impl Page {
     ///
     /// # Errors
     ///
-    /// `NoMemory` where there is none for it.
+    /// `NoMemory` where there is none for it, and the page is as before.
     #[inline(always)]
     pub fn push_phrase(&mut self, phrase: &Phrase) -> Result<(), NoMemory>
         ensures pushed { OnOk result (self.new ≡ self.old ++ phrase.now) }
+        ensures kept { OnErr result (self.new ≡ self.old) }
     {
-        let start = self.len;
-        self.push_bytes(phrase.padded())?;
-        self.len = start + phrase.len();
+        make_room(&mut self.text, &mut self.lines, 48)?;
+        self.lines.push_phrase(phrase);
+        Ok(())
+    }
+
+    /// Appends a number in decimal, without leading zeros.
+    ///
+    /// # Errors
+    ///
+    /// `NoMemory` where there is none for the digits, and the page is as before.
+    #[inline]
+    pub fn push_number(&mut self, number: u64) -> Result<(), NoMemory>
+        ensures pushed { OnOk result (self.new ≡ self.old ++ decimal number) }
+        ensures kept { OnErr result (self.new ≡ self.old) }
+    {
+        make_room(&mut self.text, &mut self.lines, 20)?;
+        self.lines.push_number(number);
+        Ok(())
+    }
+
+    /// Appends a number in decimal, behind `-` where it is negative, without leading zeros.
+    ///
+    /// # Errors
+    ///
+    /// `NoMemory` where there is none for the digits, and the page is as before.
+    #[inline]
+    pub fn push_signed(&mut self, number: i32) -> Result<(), NoMemory>
+        ensures pushed { OnOk result (self.new ≡ self.old ++ signed_decimal number) }
+        ensures kept { OnErr result (self.new ≡ self.old) }
+    {
+        make_room(&mut self.text, &mut self.lines, 11)?;
+        self.lines.push_signed(number);
+        Ok(())
+    }
+
+    /// Appends a line: two phrases, a number, behind `-` where it is negative, and a line feed. Room is asked for once.
+    ///
+    /// # Errors
+    ///
+    /// `NoMemory` where there is none for it, and the page is as before.
+    #[inline(always)]
+    pub fn push_line(
+        &mut self,
+        first: &Phrase,
+        second: &Phrase,
+        number: i32,
+    ) -> Result<(), NoMemory>
+        ensures pushed { OnOk result (self.new
+            ≡ self.old ++ (first.now ++ (second.now ++ (signed_decimal number ++ 10 ∷ [])))) }
+        ensures kept { OnErr result (self.new ≡ self.old) }
+    {
+        make_room(&mut self.text, &mut self.lines, 108)?;
+        self.lines.push_line(first, second, number);
         Ok(())
     }
 
@@ -115,12 +160,18 @@ impl Page {
         }
     }
 
-    /// What was written from a place on, as a phrase; `None` where that is longer than a phrase may be.
+    /// What was written from a place on, as a phrase; `None` exactly where that is longer than a phrase may be.
     pub fn phrase_from(&self, start: usize) -> Option<Phrase>
         requires start { start ≤ length self.now }
         ensures phrase { IfSome result (λ phrase. phrase ≡ drop start self.now) }
+        ensures short { IsSome result ↔ (length (drop start self.now) ≤ 48) }
     {
-        Phrase::of(&self.bytes[start..self.len])
+        let kept = self.text.len();
+        if start < kept {
+            Phrase::of(&self.text[start..], self.lines.as_slice())
+        } else {
+            Phrase::of(&[], &self.lines.as_slice()[start - kept..])
+        }
     }
 }
 
@@ -137,27 +188,39 @@ impl Write for Page {
     }
 }
 
-// Makes room for so many bytes more, by doubling.
-#[cold]
-#[inline(never)]
-fn grow(bytes: &mut Vec<u8>, more: usize) -> Result<(), NoMemory>
-    ensures kept { take (length bytes.old.items) bytes.new.items ≡ bytes.old.items }
-    ensures grown { length bytes.old.items ≤ length bytes.new.items }
-    ensures room { OnOk result (length bytes.old.items + more ≤ length bytes.new.items) }
+// Makes room for so many bytes behind what waits.
+#[inline(always)]
+fn make_room(text: &mut Vec<u8>, lines: &mut Lines, room: usize) -> Result<(), NoMemory>
+    requires most { room ≤ 2048 }
+    ensures same { text.new.items ++ lines.new ≡ text.old.items ++ lines.old }
+    ensures room { OnOk result (length lines.new + room ≤ 2048) }
 {
-    let doubled = bytes.len().max(FIRST_ROOM).checked_mul(2).ok_or(NoMemory)?;
-    let room = doubled.checked_add(more).ok_or(NoMemory)?;
-    bytes.resize(room, 0)?;
+    if lines.spare() < room {
+        flush(text, lines)?;
+    }
     Ok(())
 }
 
-// Stores words from a place on.
-#[inline(always)]
-pub(crate) fn store(bytes: &mut [u8], at: usize, words: &[u8])
-    requires room { at + length words.now ≤ length bytes.old }
-    ensures stored { take (at + length words.now) bytes.new ≡ take at bytes.old ++ words.now }
+// Appends words behind what waits, with nothing that waits any more.
+#[cold]
+#[inline(never)]
+fn push_apart(text: &mut Vec<u8>, lines: &mut Lines, words: &[u8]) -> Result<(), NoMemory>
+    ensures pushed { OnOk result (text.new.items ++ lines.new ≡ (text.old.items ++ lines.old) ++ words.now) }
+    ensures kept { OnErr result (text.new.items ++ lines.new ≡ text.old.items ++ lines.old) }
 {
-    for (index, byte) in words.iter().enumerate() {
-        bytes[at + index] = *byte;
-    }
+    flush(text, lines)?;
+    text.extend_from_slice(words)?;
+    Ok(())
+}
+
+// Moves what waits into the text.
+#[cold]
+#[inline(never)]
+fn flush(text: &mut Vec<u8>, lines: &mut Lines) -> Result<(), NoMemory>
+    ensures same { text.new.items ++ lines.new ≡ text.old.items ++ lines.old }
+    ensures empty { OnOk result (lines.new ≡ []) }
+{
+    text.extend_from_slice(lines.as_slice())?;
+    lines.clear();
+    Ok(())
 }

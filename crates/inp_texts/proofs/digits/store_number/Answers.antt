@@ -1,0 +1,21 @@
+-- Four digits more.
+use Rattle.std.proofs.Common.{◌≡◌, ℕ, ◌+◌, arith}
+use Rattle.inp_texts.proofs.Decimals.{decimal-length-four, four-more}
+use Rattle.inp_texts.proofs.digits.store_number.Goals as goal
+
+pub store_front-next-requires : goal.store_front-next-requires
+store_front-next-requires c =
+    let more = decimal-length-four c.args.number c.if-number-lt10000.false c.ranges.number.fits in record { room = omega arith }
+
+pub store_four-requires-clause-room : goal.store_four-requires-clause-room
+store_four-requires-clause-room c =
+    let more = decimal-length-four c.args.number c.if-number-lt10000.false c.ranges.number.fits in
+    omega (arith, c.store_front-next.ensures.end, c.store_front-next.auto.bytes)
+
+pub returns-clause-end : goal.returns-clause-end
+returns-clause-end c =
+    let more = decimal-length-four c.args.number c.if-number-lt10000.false c.ranges.number.fits in omega arith
+
+pub returns-clause-stored : goal.returns-clause-stored
+returns-clause-stored c =
+    four-more c.args.number _ _ _ c.if-number-lt10000.false c.ranges.number.fits c.store_front-next.ensures.stored c.store_four.ensures.stored
