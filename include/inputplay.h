@@ -36,7 +36,10 @@ extern "C" {
 /** The most events that one INPUTPLAY_READ may ask for. */
 #define INPUTPLAY_READ_MAX 4096u
 
-/** The client of a reader that has opened none. */
+/** The most events that wait for the owner of a device. */
+#define INPUTPLAY_FEEDBACK_MAX 15u
+
+/** The client of a reader or a joystick client that has opened none. */
 #define INPUTPLAY_NO_CLIENT UINT32_MAX
 
 /** The statuses of calls. */
@@ -144,7 +147,18 @@ enum {
     INPUTPLAY_NEXT_FULL = 7       /**< The history is as long as it may be. */
 };
 
-/** What is kept: a device with its reader, or a record. It begins as INPUTPLAY_NOTHING. */
+/** What the joystick client answers. */
+enum {
+    INPUTPLAY_JOY_RECORD = 0,    /**< A record was handed out. */
+    INPUTPLAY_JOY_FRAME = 1,     /**< A frame ended (SYN_REPORT). */
+    INPUTPLAY_JOY_AGAIN = 2,     /**< Nothing is there (-EAGAIN). */
+    INPUTPLAY_JOY_NO_DEVICE = 3, /**< The client was revoked (-ENODEV). */
+    INPUTPLAY_JOY_CLOSED = 4,    /**< The client is not open. */
+    INPUTPLAY_JOY_FULL = 5,      /**< The history is as long as it may be. */
+    INPUTPLAY_JOY_MORE = 6       /**< Many calls were made and none gave an answer; the next read goes on. */
+};
+
+/** What is kept: a device with its reader and joystick client, or a record with its text. It begins as INPUTPLAY_NOTHING. */
 typedef struct inputplay_handle {
     uint32_t kind;
     void *at;
@@ -192,6 +206,20 @@ typedef struct inputplay_event {
     uint32_t place;
 } inputplay_event;
 
+/** An event with its moment. */
+typedef struct inputplay_stamped {
+    uint16_t type;
+    uint16_t code;
+    int32_t value;
+    uint64_t now;
+} inputplay_stamped;
+
+/** How the buttons and axes of a joystick client stand: bit k of the 64 for button k, and the value of each axis. */
+typedef struct inputplay_picture {
+    uint64_t buttons;
+    int16_t axes[64];
+} inputplay_picture;
+
 /**
  * @return the version of the library's interface, to be compared with INPUTPLAY_ABI before any other call.
  */
@@ -234,6 +262,33 @@ uint32_t inputplay_step(inputplay_handle *handle, const inputplay_step_t *step, 
  */
 uint32_t inputplay_inject(inputplay_handle *handle, uint16_t type, uint16_t code, int32_t value, uint64_t now, uint32_t *at,
                           uint32_t *why);
+
+/**
+ * Injects events, each at its own moment, as many of them as the history has room for. They follow each other in the history.
+ *
+ * @param events, event_count the events, at most INPUTPLAY_READ_MAX
+ * @param from the place of the first one, which is the history's length before it
+ * @param count how many were entered
+ *
+ * @return INPUTPLAY_OK, INPUTPLAY_BAD_HANDLE or INPUTPLAY_BAD_ARGUMENT: a moment is too late, or there are too many; then none
+ * is entered
+ */
+uint32_t inputplay_inject_all(inputplay_handle *handle, const inputplay_stamped *events, size_t event_count, uint32_t *from,
+                              uint32_t *count);
+
+/**
+ * The owner of the device takes the first of the events that wait for it (a read of /dev/uinput): what clients wrote to its
+ * lights, sounds and settings. The last INPUTPLAY_FEEDBACK_MAX wait.
+ *
+ * @param events, event_count room for the events, which have no time and no place; as many are taken as fit
+ * @param at the history's length
+ * @param count how many were taken
+ * @param full 1 where as many calls are kept as the history may have steps; then nothing changes. Else 0
+ *
+ * @return INPUTPLAY_OK or INPUTPLAY_BAD_HANDLE
+ */
+uint32_t inputplay_feedback(inputplay_handle *handle, inputplay_event *events, size_t event_count, uint32_t *at,
+                            uint32_t *count, uint32_t *full);
 
 /**
  * Opens a client for the device's reader and asks for its whole state (libevdev_set_fd). An older client of the reader is not
@@ -290,6 +345,44 @@ uint32_t inputplay_reader_slot_value(inputplay_handle *handle, uint32_t slot, ui
 uint32_t inputplay_reader_state(inputplay_handle *handle, uint32_t *client, uint32_t *phase, int32_t *slot);
 
 /**
+ * A call on the device that the reader made in its last start or next, in order, those answered -EAGAIN left out.
+ *
+ * @param index which call, from 0; there are at most 64
+ * @param step, reply the step and its reply, without the events and values that were read
+ *
+ * @return INPUTPLAY_OK, INPUTPLAY_BAD_HANDLE or INPUTPLAY_BAD_ARGUMENT: it made fewer
+ */
+uint32_t inputplay_reader_call(inputplay_handle *handle, size_t index, inputplay_step_t *step, inputplay_reply *reply);
+
+/**
+ * Opens a client for the device's joystick client (an open of /dev/input/js0) and asks for its whole state. After it a startup
+ * is handed out: how each button and axis stands.
+ *
+ * @param client, why as for inputplay_reader_start()
+ *
+ * @return INPUTPLAY_OK or INPUTPLAY_BAD_HANDLE
+ */
+uint32_t inputplay_joy_start(inputplay_handle *handle, uint32_t *client, uint32_t *why);
+
+/**
+ * The joystick client's next record or answer (a read of one struct js_event).
+ *
+ * @param record where a record was handed out the bytes of the struct js_event; else they stay
+ * @param told which answer it is, from INPUTPLAY_JOY_RECORD on
+ * @param place the place in the history of the step that ended a frame; 0 at another answer
+ *
+ * @return INPUTPLAY_OK or INPUTPLAY_BAD_HANDLE
+ */
+uint32_t inputplay_joy_read(inputplay_handle *handle, uint8_t record[8], uint32_t *told, uint32_t *place);
+
+/**
+ * How the buttons and axes stand, as the records since the last startup began tell.
+ *
+ * @return INPUTPLAY_OK or INPUTPLAY_BAD_HANDLE
+ */
+uint32_t inputplay_joy_picture(inputplay_handle *handle, inputplay_picture *picture);
+
+/**
  * Makes a record of its text. Its stream lines have no events until inputplay_record_load() gives them.
  *
  * @param handle, line, cause as for inputplay_device_new()
@@ -307,6 +400,35 @@ uint32_t inputplay_record_new(const uint8_t *text, size_t text_len, inputplay_ha
  * INPUTPLAY_NO_MEMORY
  */
 uint32_t inputplay_record_load(inputplay_handle *handle, uint32_t line, const uint8_t *bytes, size_t byte_count);
+
+/**
+ * Copies the name of the file that a `stream` or `stream16` line names, as many bytes as fit, without a NUL behind it.
+ *
+ * @param line as for inputplay_record_load()
+ * @param len how many bytes the name has
+ *
+ * @return INPUTPLAY_OK, INPUTPLAY_BAD_HANDLE or INPUTPLAY_BAD_ARGUMENT: the line takes no stream
+ */
+uint32_t inputplay_record_file(inputplay_handle *handle, uint32_t line, uint8_t *out, size_t out_len, size_t *len);
+
+/**
+ * Makes the record's text in the newest version (`--migrate`), and keeps it as the record's text. The record stays as it is.
+ *
+ * @param len how many bytes the text has
+ *
+ * @return INPUTPLAY_OK, INPUTPLAY_BAD_HANDLE or INPUTPLAY_NO_MEMORY
+ */
+uint32_t inputplay_record_migrate(inputplay_handle *handle, size_t *len);
+
+/**
+ * Copies the text that was made of a record last, from a byte on, as many bytes as fit. A record of which none was made has an
+ * empty one.
+ *
+ * @param left how many bytes there are from there on
+ *
+ * @return INPUTPLAY_OK, INPUTPLAY_BAD_HANDLE or INPUTPLAY_BAD_ARGUMENT: the text has fewer bytes
+ */
+uint32_t inputplay_record_text(inputplay_handle *handle, size_t from, uint8_t *out, size_t out_len, size_t *left);
 
 /**
  * The type and the code that have a name, as EV_KEY and 30 for KEY_A. The names are those of <linux/input-event-codes.h>, one

@@ -145,6 +145,8 @@ static void stepping(inputplay_handle *h) {
 
 static void reading(inputplay_handle *h) {
     inputplay_event event;
+    inputplay_step_t step;
+    inputplay_reply reply;
     uint32_t told = 77, client = 77, why = 77, phase = 77;
     int32_t value = 77, slot = 77;
     memset(&event, 77, sizeof event);
@@ -155,6 +157,12 @@ static void reading(inputplay_handle *h) {
     SAME(INPUTPLAY_OK, inputplay_reader_start(h, &client, &why));
     SAME(1, client);
     SAME(0, why);
+    SAME(INPUTPLAY_OK, inputplay_reader_call(h, 1, &step, &reply));
+    SAME(INPUTPLAY_GET_KEYS, step.step);
+    SAME(1, step.client);
+    SAME(INPUTPLAY_BITS, reply.reply);
+    SAME(INPUTPLAY_BAD_ARGUMENT, inputplay_reader_call(h, 64, &step, &reply));
+    SAME(INPUTPLAY_GET_KEYS, step.step);
     SAME(INPUTPLAY_BAD_ARGUMENT, inputplay_reader_next(h, 2, &event, &told));
     SAME(INPUTPLAY_OK, inputplay_reader_next(h, INPUTPLAY_NORMAL, &event, &told));
     SAME(INPUTPLAY_NEXT_AGAIN, told);
@@ -180,6 +188,63 @@ static void reading(inputplay_handle *h) {
     SAME(INPUTPLAY_NEXT_SYNCED, told);
 }
 
+/* Many events at once: all, none where one is too late, and as many as there is room for. */
+static void injecting(void) {
+    inputplay_handle h = INPUTPLAY_NOTHING;
+    inputplay_stamped many[3] = {{1, 30, 1, 5}, {0, 0, 0, 6}, {1, 30, 0, 7}};
+    static const char *const SHORT = "inputrecord 1\ndevice pad\ncap EV_KEY KEY_A\ncap EV_LED LED_CAPSL\nlog 4\nsource s\n";
+    inputplay_event events[2] = {{7, 7, 7, 7, 7}, {7, 7, 7, 7, 7}};
+    uint32_t line, cause, from = 77, count = 77, at, full = 77;
+    SAME(INPUTPLAY_BAD_HANDLE, inputplay_inject_all(&h, many, 3, &from, &count));
+    SAME(INPUTPLAY_BAD_HANDLE, inputplay_feedback(&h, events, 2, &at, &count, &full));
+    SAME(INPUTPLAY_OK, inputplay_device_new(bytes_of(SHORT), strlen(SHORT), 0, &h, &line, &cause));
+    many[2].now = INPUTPLAY_MOMENT_MAX + 1;
+    SAME(INPUTPLAY_BAD_ARGUMENT, inputplay_inject_all(&h, many, 3, &from, &count));
+    SAME(77, from);
+    many[2].now = INPUTPLAY_MOMENT_MAX;
+    SAME(INPUTPLAY_OK, inputplay_inject_all(&h, many, 3, &from, &count));
+    SAME(0, from);
+    SAME(3, count);
+    SAME(INPUTPLAY_OK, inputplay_inject_all(&h, many, 3, &from, &count));
+    SAME(3, from);
+    SAME(1, count);
+    SAME(INPUTPLAY_OK, inputplay_feedback(&h, events, 2, &at, &count, &full));
+    SAME(4, at);
+    SAME(0, count);
+    SAME(0, full);
+    SAME(7, events[0].type);
+    inputplay_free(&h);
+}
+
+/* A joystick client hands out its startup, and then what happens. */
+static void joying(inputplay_handle *h) {
+    uint32_t client = 77, why = 77, told = 77, place = 77, at;
+    uint8_t record_out[8] = {7, 7, 7, 7, 7, 7, 7, 7};
+    static const uint8_t axis[8] = {5, 0, 0, 0, 9, 0, 2, 0};
+    inputplay_picture picture;
+    SAME(INPUTPLAY_OK, inputplay_joy_read(h, record_out, &told, &place));
+    SAME(INPUTPLAY_JOY_CLOSED, told);
+    SAME(7, record_out[0]);
+    SAME(INPUTPLAY_OK, inputplay_joy_start(h, &client, &why));
+    SAME(0, why);
+    SAME(1, client != 77);
+    do
+        SAME(INPUTPLAY_OK, inputplay_joy_read(h, record_out, &told, &place));
+    while (told == INPUTPLAY_JOY_RECORD);
+    SAME(INPUTPLAY_JOY_AGAIN, told);
+    SAME(INPUTPLAY_OK, inputplay_inject(h, 3, 0, 9, 5000, &at, &why));
+    SAME(INPUTPLAY_OK, inputplay_inject(h, 0, 0, 0, 5000, &at, &why));
+    SAME(INPUTPLAY_OK, inputplay_joy_read(h, record_out, &told, &place));
+    SAME(INPUTPLAY_JOY_RECORD, told);
+    SAME(0, memcmp(record_out, axis, 8));
+    SAME(INPUTPLAY_OK, inputplay_joy_read(h, record_out, &told, &place));
+    SAME(INPUTPLAY_JOY_FRAME, told);
+    SAME(at, place);
+    SAME(INPUTPLAY_OK, inputplay_joy_picture(h, &picture));
+    SAME(9, picture.axes[0]);
+    SAME(0, picture.buttons);
+}
+
 static void loading(void) {
     inputplay_handle h = INPUTPLAY_NOTHING;
     uint32_t line, cause;
@@ -190,6 +255,40 @@ static void loading(void) {
     SAME(INPUTPLAY_OK, inputplay_record_load(&h, 0, key, 24));
     no_device(&h);
     inputplay_free(&h);
+}
+
+/* A record's lines name files, and its text is read piece by piece. */
+static void migrating(void) {
+    inputplay_handle h = INPUTPLAY_NOTHING;
+    uint32_t line, cause;
+    uint8_t out[8] = "#######";
+    size_t len = 77, left;
+    SAME(INPUTPLAY_OK, inputplay_record_new(bytes_of(STREAM), strlen(STREAM), &h, &line, &cause));
+    SAME(INPUTPLAY_BAD_ARGUMENT, inputplay_record_file(&h, 1, out, 8, &len));
+    SAME(77, len);
+    SAME(INPUTPLAY_OK, inputplay_record_file(&h, 0, out, 3, &len));
+    SAME(4, len);
+    SAME(0, memcmp(out, "key####", 8));
+    SAME(INPUTPLAY_OK, inputplay_record_text(&h, 0, out, 8, &left));
+    SAME(0, left);
+    SAME(INPUTPLAY_OK, inputplay_record_migrate(&h, &len));
+    SAME(strlen(STREAM), len);
+    SAME(INPUTPLAY_OK, inputplay_record_text(&h, 5, out, 3, &left));
+    SAME(len - 5, left);
+    SAME(0, memcmp(out, "rec####", 8));
+    SAME(INPUTPLAY_BAD_ARGUMENT, inputplay_record_text(&h, len + 1, out, 8, &left));
+    inputplay_free(&h);
+}
+
+/* A handle that keeps no record. */
+static void no_record(inputplay_handle *h) {
+    uint8_t out[1];
+    size_t len = 77;
+    SAME(INPUTPLAY_BAD_HANDLE, inputplay_record_load(h, 0, bytes_of(""), 0));
+    SAME(INPUTPLAY_BAD_HANDLE, inputplay_record_file(h, 0, out, 1, &len));
+    SAME(INPUTPLAY_BAD_HANDLE, inputplay_record_migrate(h, &len));
+    SAME(INPUTPLAY_BAD_HANDLE, inputplay_record_text(h, 0, out, 1, &len));
+    SAME(77, len);
 }
 
 static void naming(void) {
@@ -215,13 +314,16 @@ int main(void) {
     SAME(INPUTPLAY_ABI, inputplay_abi());
     no_device(&h);
     making();
-    SAME(INPUTPLAY_BAD_HANDLE, inputplay_record_load(&h, 0, bytes_of(""), 0));
+    no_record(&h);
     SAME(INPUTPLAY_OK, inputplay_device_new(bytes_of(PAD), strlen(PAD), 0, &h, &line, &cause));
-    SAME(INPUTPLAY_BAD_HANDLE, inputplay_record_load(&h, 0, bytes_of(""), 0));
+    no_record(&h);
     stepping(&h);
     reading(&h);
+    joying(&h);
     inputplay_free(&h);
+    injecting();
     loading();
+    migrating();
     naming();
     return failures != 0;
 }

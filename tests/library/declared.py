@@ -2,7 +2,7 @@
 
 import re
 
-TOP_TYPES = {"u16": "uint16_t", "u32": "uint32_t", "u64": "uint64_t", "i32": "int32_t", "CInfo": "inputplay_info"}
+TOP_TYPES = {"u16": "uint16_t", "u32": "uint32_t", "u64": "uint64_t", "i16": "int16_t", "i32": "int32_t", "CInfo": "inputplay_info"}
 
 # The header's struct and the crate's file.
 STRUCTS = {
@@ -10,6 +10,8 @@ STRUCTS = {
     "inputplay_step_t": "c_step",
     "inputplay_reply": "c_reply",
     "inputplay_event": "c_event",
+    "inputplay_stamped": "c_stamped",
+    "inputplay_picture": "c_picture",
 }
 
 # Fields that are spelled otherwise, since `type` is a word of the crate's language, and `now` one of its contracts.
@@ -23,6 +25,7 @@ NUMBERS = [
     ("replies to steps", "src/c_reply.rt", r"Reply::(\w+) \{[^}]*\} => CReply \{(?:\s*reply: (\d+),)?"),
     ("a step was refused", "src/c_reply.rt", r"Refusal::(\w+) => (\d+),"),
     ("the reader answers", "src/reading.rt", r"Next::(\w+)(?: \{ \.\. \})? => (\d+),"),
+    ("the joystick client answers", "src/joystick.rt", r"JoyRead::(\w+)(?: \{ \.\. \})? => (\d+),"),
 ]
 
 # Names that differ, since C has one name space.
@@ -64,7 +67,7 @@ def numbers_of_header(header, about):
     """The numbers of the enum whose comment says what it is about."""
     body = re.search(rf"/\*\*[^*]*{about}[^*]*\*/\nenum \{{(.*?)\n\}};", header, re.S | re.I).group(1)
     pairs = {plain(name): int(number) for name, number in re.findall(r"INPUTPLAY_(\w+) = (\d+)", body)}
-    return {name[4:] if name.startswith("NEXT") else name: number for name, number in pairs.items()}
+    return {re.sub("^(NEXT|JOY)", "", name): number for name, number in pairs.items()}
 
 
 def numbers_of_crate(text, form):

@@ -37,10 +37,11 @@ static const char *const TEXT = "inputrecord 2\ndevice pad\ncap EV_KEY KEY_A\nax
                                 "client c\njoy j\ndo c open\ndo j open\ndo s stream keys\ndo c follow\ndo j read 5\n";
 static const uint8_t KEY[48] = {1, 0, 0, 0, 0, 0, 0, 0, 0, 0, 0, 0, 0, 0, 0, 0, 1, 0, 30, 0, 1, 0, 0, 0, 1};
 
-enum { DEVICE, START, RECORD, LOAD, CALLS };
+enum { DEVICE, START, RECORD, LOAD, MIGRATE, CALLS };
 
 static uint32_t call(int which, inputplay_handle *h) {
     uint32_t a, b, status;
+    size_t len;
     switch (which) {
     case DEVICE:
         return inputplay_device_new((const uint8_t *)TEXT, strlen(TEXT), 0, h, &a, &b);
@@ -49,6 +50,8 @@ static uint32_t call(int which, inputplay_handle *h) {
         return b == 10 ? INPUTPLAY_NO_MEMORY : status;
     case RECORD:
         return inputplay_record_new((const uint8_t *)TEXT, strlen(TEXT), h, &a, &b);
+    case MIGRATE:
+        return inputplay_record_migrate(h, &len);
     default:
         return inputplay_record_load(h, 2, KEY, 48);
     }
@@ -58,7 +61,7 @@ static uint32_t call(int which, inputplay_handle *h) {
 static void prepare(int which, inputplay_handle *h) {
     if (which == START)
         call(DEVICE, h);
-    if (which == LOAD)
+    if (which == LOAD || which == MIGRATE)
         call(RECORD, h);
 }
 

@@ -8,17 +8,19 @@
         print(list(reader), reader["KEY_A"])
 
 A `Device` answers as evdev does: `open` gives a `Client`, which reads what a program would read. Its `Reader` keeps a
-state and synchronises after a loss, as libevdev does. A `Record` is played as a whole. The rules are in the project's
+state and synchronises after a loss, as libevdev does, and its `Joystick` hands out numbered buttons and axes, as the
+kernel's joydev does. A `Record` names the files of its streams, and is written in the newest version. The rules are in the project's
 docs/RULES.md and docs/READER.md, and that the library keeps them is proved; this package is tested, and not proved.
 """
 
-from ._device import Answer, Axis, Client, Device, Phase, Reader, Replies, Reply, Steps
+from ._device import Answer, Axis, Client, Device, JoyAnswer, JoyRecord, Joystick, Phase, Reader, Replies, Reply, Steps
 from ._errors import CallRefused, Cause, InputplayError, RefusedRecord, Status, StepRefused, Why
 from ._event import Event, Type, code_of, name_of
 from ._record import Record
 
 __version__ = "1.0.0"
 __all__ = [
-    "Answer", "Axis", "CallRefused", "Cause", "Client", "Device", "Event", "InputplayError", "Phase", "Reader", "Record",
-    "RefusedRecord", "Replies", "Reply", "Status", "StepRefused", "Steps", "Type", "Why", "code_of", "name_of",
+    "Answer", "Axis", "CallRefused", "Cause", "Client", "Device", "Event", "InputplayError", "JoyAnswer", "JoyRecord",
+    "Joystick", "Phase", "Reader", "Record", "RefusedRecord", "Replies", "Reply", "Status", "StepRefused", "Steps", "Type",
+    "Why", "code_of", "name_of",
 ]

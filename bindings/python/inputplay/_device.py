@@ -1,15 +1,17 @@
 """Devices, their clients and their readers."""
 
-from ctypes import byref, c_int32, c_uint32
+from ctypes import byref, c_int32, c_uint8, c_uint32
 from enum import IntEnum
-from typing import Iterator, List, NamedTuple, Optional, Set, Union
+from struct import unpack
+from typing import Iterable, Iterator, List, NamedTuple, Optional, Set, Tuple, Union
 
-from ._errors import RefusedRecord, Status, StepRefused, check
+from ._errors import RefusedRecord, Status, StepRefused, Why, check
 from ._event import Event, Type, code_pair, event_of
-from ._library import Handle, Info, RawEvent, RawReply, Step, bytes_at, library
+from ._library import Handle, Info, RawEvent, RawPicture, RawReply, Stamped, Step, bytes_at, library
 
 READ_MAX = 4096
 CELLS_MAX = 14 * 256
+FEEDBACK_MAX = 15
 NO_CLIENT = 0xFFFF_FFFF
 
 
@@ -92,6 +94,27 @@ class Answer(IntEnum):
     NO_DEVICE = 5
     CLOSED = 6
     FULL = 7
+
+
+class JoyAnswer(IntEnum):
+    """What a joystick client answers, as a read of /dev/input/js0 does."""
+
+    RECORD = 0
+    FRAME = 1
+    AGAIN = 2
+    NO_DEVICE = 3
+    CLOSED = 4
+    FULL = 5
+    MORE = 6
+
+
+class JoyRecord(NamedTuple):
+    """What happened to a button (type 1) or an axis (type 2), with 128 added in a startup (struct js_event)."""
+
+    time: int
+    value: int
+    type: int
+    number: int
 
 
 class Phase(IntEnum):
@@ -208,6 +231,33 @@ class Device(Kept):
             self.inject(*event, now=now)
         return self.inject("SYN_REPORT", 0, now=now)
 
+    def inject_all(self, events: Iterable[Tuple[int, int, int, int]]) -> int:
+        """Injects events, each a tuple of its type, code, value and moment, and gives how many the history had room for."""
+        content = [Stamped(*event) for event in events]
+        count = c_uint32()
+        entered = 0
+        for first in range(0, len(content), READ_MAX):
+            part = content[first : first + READ_MAX]
+            stamps, at = (Stamped * len(part))(*part), c_uint32()
+            check(library.inputplay_inject_all(byref(self._handle), stamps, len(part), byref(at), byref(count)))
+            entered += count.value
+        return entered
+
+    def feedback(self, count: int = FEEDBACK_MAX) -> List[Event]:
+        """The first of the events that wait for the device's owner, at most so many (a read of /dev/uinput)."""
+        raw, at, taken, full = (RawEvent * FEEDBACK_MAX)(), c_uint32(), c_uint32(), c_uint32()
+        room = min(count, FEEDBACK_MAX)
+        check(
+            library.inputplay_feedback(byref(self._handle), raw, room, byref(at), byref(taken), byref(full))
+        )
+        if full.value:
+            raise StepRefused(Why.LOG_FULL, at.value)
+        return [event_of(event) for event in raw[: taken.value]]
+
+    def joystick(self) -> "Joystick":
+        """Starts the device's joystick client, as the kernel's joydev is one."""
+        return Joystick(self)
+
     def open(self) -> "Client":
         """Opens a client, as a program opens the device's file."""
         return Client(self, self.must(Steps.OPEN).client)
@@ -307,6 +357,17 @@ class Reader:
             else:
                 raise EOFError(answer.name.lower().replace("_", "-"))
 
+    def calls(self) -> List[Steps]:
+        """The calls on the device that its start or its last `next` made, in order, those answered Again left out."""
+        made = []
+        while True:
+            step, reply = Step(), RawReply()
+            status = library.inputplay_reader_call(byref(self.device._handle), len(made), byref(step), byref(reply))
+            if status == Status.BAD_ARGUMENT:
+                return made
+            check(status)
+            made.append(Steps(step.step))
+
     def force_sync(self) -> None:
         """Synchronises before the next event."""
         check(library.inputplay_reader_force_sync(byref(self.device._handle)))
@@ -351,3 +412,51 @@ class Reader:
     def slot(self) -> int:
         """The current slot."""
         return self._state()[2]
+
+
+class Joystick:
+    """The joystick client of a device: numbered buttons and axes, as the kernel's joydev hands them out."""
+
+    def __init__(self, device: Device):
+        self.device = device
+        client, why = c_uint32(), c_uint32()
+        check(library.inputplay_joy_start(byref(device._handle), byref(client), byref(why)))
+        if why.value:
+            raise StepRefused(why.value, 0)
+        self.client = client.value
+
+    def __repr__(self) -> str:
+        return f"<Joystick of client {self.client}>"
+
+    def read(self) -> Tuple[JoyAnswer, Optional[JoyRecord], int]:
+        """The answer of one read, its record, if there is one, and the place where a frame ended, or 0."""
+        raw, told, place = (c_uint8 * 8)(), c_uint32(), c_uint32()
+        check(library.inputplay_joy_read(byref(self.device._handle), raw, byref(told), byref(place)))
+        answer = JoyAnswer(told.value)
+        return answer, JoyRecord(*unpack("<IhBB", raw)) if answer == JoyAnswer.RECORD else None, place.value
+
+    def __iter__(self) -> Iterator[JoyRecord]:
+        while True:
+            answer, record, _place = self.read()
+            if record is not None:
+                yield record
+            elif answer == JoyAnswer.AGAIN:
+                return
+            elif answer not in (JoyAnswer.FRAME, JoyAnswer.MORE):
+                raise EOFError(answer.name.lower().replace("_", "-"))
+
+    def _picture(self) -> RawPicture:
+        raw = RawPicture()
+        check(library.inputplay_joy_picture(byref(self.device._handle), byref(raw)))
+        return raw
+
+    @property
+    def buttons(self) -> Set[int]:
+        """The numbers of the buttons that are down."""
+        buttons = self._picture().buttons
+        return {number for number in range(64) if buttons >> number & 1}
+
+    @property
+    def axes(self) -> List[int]:
+        """The values of the axes, by their numbers; those that the device does not have are 0."""
+        return list(self._picture().axes)

@@ -2,7 +2,7 @@
 
 import ctypes
 import os
-from ctypes import POINTER, c_int32, c_size_t, c_uint8, c_uint16, c_uint32, c_uint64, c_void_p
+from ctypes import POINTER, c_int16, c_int32, c_size_t, c_uint8, c_uint16, c_uint32, c_uint64, c_void_p
 from pathlib import Path
 
 ABI = 1
@@ -64,6 +64,18 @@ class RawEvent(ctypes.Structure):
     ]
 
 
+class Stamped(ctypes.Structure):
+    """An event with its moment."""
+
+    _fields_ = [("type", c_uint16), ("code", c_uint16), ("value", c_int32), ("now", c_uint64)]
+
+
+class RawPicture(ctypes.Structure):
+    """How the buttons and axes of a joystick client stand."""
+
+    _fields_ = [("buttons", c_uint64), ("axes", c_int16 * 64)]
+
+
 HANDLE, U32, I32, BYTES = POINTER(Handle), POINTER(c_uint32), POINTER(c_int32), POINTER(c_uint8)
 
 ARGUMENTS = {
@@ -73,14 +85,23 @@ ARGUMENTS = {
         HANDLE, POINTER(Step), POINTER(RawReply), POINTER(RawEvent), c_size_t, I32, c_size_t,
     ],
     "inputplay_inject": [HANDLE, c_uint16, c_uint16, c_int32, c_uint64, U32, U32],
+    "inputplay_inject_all": [HANDLE, POINTER(Stamped), c_size_t, U32, U32],
+    "inputplay_feedback": [HANDLE, POINTER(RawEvent), c_size_t, U32, U32, U32],
+    "inputplay_joy_start": [HANDLE, U32, U32],
+    "inputplay_joy_read": [HANDLE, BYTES, U32, U32],
+    "inputplay_joy_picture": [HANDLE, POINTER(RawPicture)],
     "inputplay_reader_start": [HANDLE, U32, U32],
     "inputplay_reader_next": [HANDLE, c_uint32, POINTER(RawEvent), U32],
     "inputplay_reader_force_sync": [HANDLE],
     "inputplay_reader_value": [HANDLE, c_uint16, c_uint16, I32],
     "inputplay_reader_slot_value": [HANDLE, c_uint32, c_uint16, I32],
     "inputplay_reader_state": [HANDLE, U32, U32, I32],
+    "inputplay_reader_call": [HANDLE, c_size_t, POINTER(Step), POINTER(RawReply)],
     "inputplay_record_new": [BYTES, c_size_t, HANDLE, U32, U32],
     "inputplay_record_load": [HANDLE, c_uint32, BYTES, c_size_t],
+    "inputplay_record_file": [HANDLE, c_uint32, BYTES, c_size_t, POINTER(c_size_t)],
+    "inputplay_record_migrate": [HANDLE, POINTER(c_size_t)],
+    "inputplay_record_text": [HANDLE, c_size_t, BYTES, c_size_t, POINTER(c_size_t)],
     "inputplay_code_of": [BYTES, c_size_t, POINTER(c_uint16), POINTER(c_uint16)],
     "inputplay_name_of": [c_uint16, c_uint16, BYTES, c_size_t, POINTER(c_size_t)],
     "inputplay_free": [HANDLE],

@@ -3,7 +3,7 @@
 import unittest
 
 import inputplay
-from inputplay import Answer, Cause, Device, Event, Phase, Record, RefusedRecord, Status, StepRefused, Type, Why
+from inputplay import Answer, Cause, Device, Event, JoyAnswer, Phase, Record, RefusedRecord, Status, StepRefused, Type, Why
 
 PAD = """inputrecord 1
 device pad
@@ -12,6 +12,14 @@ axis ABS_X 3 0 255 0 0 0
 axis ABS_MT_POSITION_X 0 0 99 0 0 0
 slots 2
 log 700
+source s
+"""
+JOYSTICK = """inputrecord 1
+device pad
+cap EV_KEY BTN_A
+cap EV_LED LED_CAPSL
+axis ABS_X 3 0 255 0 0 0
+log 100
 source s
 """
 STREAM = "inputrecord 2\ndevice pad\ncap EV_KEY KEY_A\nlog 9\nsource s\ndo s stream16 keys\n"
@@ -72,6 +80,22 @@ class Devices(unittest.TestCase):
             self.pad.inject("KEY_A", 1)
         self.assertEqual((Why.LOG_FULL, 700), (refused.exception.why, refused.exception.at))
 
+    def test_many_events_are_injected_in_order(self):
+        client = self.pad.open()
+        self.assertEqual(2, self.pad.inject_all([(1, 30, 1, 7), (0, 0, 0, 8)]))
+        self.assertEqual([Event(1, 30, 1, 8, 2), Event(0, 0, 0, 8, 2)], client.read())
+        with self.assertRaises(inputplay.CallRefused):
+            self.pad.inject_all([(1, 30, 0, 9), (0, 0, 0, 2**63)])
+        self.assertEqual(697, self.pad.inject_all((1, 30, i % 2, 9) for i in range(5000)))
+
+    def test_an_owner_takes_what_was_written(self):
+        with Device(JOYSTICK) as pad:
+            client = pad.open()
+            pad.must(inputplay.Steps.WRITE, client=client.number, type=Type.EV_LED, code=1, value=1, now=3)
+            self.assertEqual([], pad.feedback(0))
+            self.assertEqual([Event(Type.EV_LED, 1, 1)], pad.feedback())
+            self.assertEqual([], pad.feedback())
+
     def test_what_is_closed_is_refused(self):
         with Device(PAD) as pad:
             reader = pad.reader()
@@ -109,10 +133,31 @@ class Readers(unittest.TestCase):
         with self.assertRaises(KeyError):
             self.reader["REL_X"]
 
+    def test_it_tells_its_calls(self):
+        steps = inputplay.Steps
+        queries = [steps.OPEN, steps.GET_KEYS, steps.GET_AXIS, steps.SYNC_SLOTS]
+        self.assertEqual(queries, self.reader.calls())
+        self.pad.frame(("KEY_A", 1))
+        self.reader.next()
+        self.assertEqual([steps.READ], self.reader.calls())
+
     def test_it_is_told_to_synchronise(self):
         self.reader.force_sync()
         self.assertEqual(Phase.NEEDED, self.reader.phase)
         self.assertEqual([], list(self.reader))
+
+
+class Joysticks(unittest.TestCase):
+    def test_it_hands_out_buttons_and_axes(self):
+        with Device(JOYSTICK) as pad:
+            joystick = pad.joystick()
+            self.assertEqual([(0, 0, 129, 0), (0, 3, 130, 0)], list(joystick))
+            place = pad.frame(("BTN_A", 1), ("ABS_X", 9), now=5000)
+            self.assertEqual((JoyAnswer.RECORD, (5, 1, 1, 0), 0), joystick.read())
+            self.assertEqual((JoyAnswer.RECORD, (5, 9, 2, 0), 0), joystick.read())
+            self.assertEqual((JoyAnswer.FRAME, None, place), joystick.read())
+            self.assertEqual((JoyAnswer.AGAIN, None, 0), joystick.read())
+            self.assertEqual(({0}, 9), (joystick.buttons, joystick.axes[0]))
 
 
 class Records(unittest.TestCase):
@@ -126,6 +171,10 @@ class Records(unittest.TestCase):
         record.load(0, bytes.fromhex("0100000020a1070001001e0001000000"))
         with record.device() as pad:
             self.assertEqual(0, pad.inject("KEY_A", 1))
+
+    def test_a_record_is_migrated(self):
+        with Record(PAD) as record:
+            self.assertEqual(PAD.replace("inputrecord 1", "inputrecord 2"), record.migrate())
 
     def test_a_text_that_is_none_is_told(self):
         for text, line, cause in (("", 1, Cause.BAD_HEADER), (PAD + "do s jump\n", 9, Cause.BAD_COMMAND)):

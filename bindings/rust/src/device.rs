@@ -1,7 +1,7 @@
 //! Devices, their clients and their readers.
 
 use crate::errors::{check, check_made, check_step, Error, NotMade};
-use crate::sys::{self, Event, Handle, Reply, Step};
+use crate::sys::{self, Event, Handle, Picture, Reply, Stamped, Step};
 
 /// The type of the events that separate frames.
 pub const EV_SYN: u16 = 0;
@@ -54,6 +54,26 @@ pub enum Next {
     Closed,
     /// The history is full.
     Full,
+}
+
+/// What a joystick client answers.
+#[derive(Clone, Copy, Debug, PartialEq, Eq)]
+#[non_exhaustive]
+pub enum JoyRead {
+    /// A record was handed out: the bytes of a `struct js_event`.
+    Record([u8; 8]),
+    /// A frame ended: the place of the step that ended it.
+    Frame(u32),
+    /// Nothing is there.
+    Again,
+    /// The client was revoked.
+    NoDevice,
+    /// The client is not open.
+    Closed,
+    /// The history is full.
+    Full,
+    /// Many calls were made and none gave an answer; the next read goes on.
+    More,
 }
 
 /// Whether a reader is to synchronise.
@@ -124,6 +144,68 @@ impl Device {
         Ok(at)
     }
 
+    /// Injects events, each at its own moment, at most 4096, and gives how many the history had room for.
+    pub fn inject_all(&mut self, events: &[Stamped]) -> Result<u32, Error> {
+        let (mut from, mut count) = (0, 0);
+        // SAFETY: the array is as long as it says, and the others are places of their own.
+        check(unsafe {
+            sys::inputplay_inject_all(&mut self.handle, events.as_ptr(), events.len(), &mut from, &mut count)
+        })?;
+        Ok(count)
+    }
+
+    /// The first of the events that wait for the device's owner, as many as fit: how many were taken, or `None` where as many
+    /// calls are kept as may be.
+    pub fn feedback(&mut self, events: &mut [Event]) -> Option<usize> {
+        let (mut at, mut count, mut full) = (0, 0, 0);
+        // SAFETY: the array is as long as it says, and the others are places of their own. A device is kept, so no other
+        // status comes than 0.
+        let _ = unsafe {
+            sys::inputplay_feedback(
+                &mut self.handle,
+                events.as_mut_ptr(),
+                events.len(),
+                &mut at,
+                &mut count,
+                &mut full,
+            )
+        };
+        (full == 0).then_some(count as usize)
+    }
+
+    /// Opens a client for the joystick client and asks for its whole state; gives the client's number.
+    pub fn start_joystick(&mut self) -> Result<u32, Error> {
+        let (mut client, mut why) = (0, 0);
+        // SAFETY: all are places of their own.
+        check(unsafe { sys::inputplay_joy_start(&mut self.handle, &mut client, &mut why) })?;
+        check_step(why)?;
+        Ok(client)
+    }
+
+    /// The joystick client's next record or answer.
+    pub fn read_joystick(&mut self) -> JoyRead {
+        let (mut record, mut told, mut place) = ([0; 8], 0, 0);
+        // SAFETY: all are places of their own. A device is kept, so no other status comes than 0.
+        let _ = unsafe { sys::inputplay_joy_read(&mut self.handle, record.as_mut_ptr(), &mut told, &mut place) };
+        match told {
+            0 => JoyRead::Record(record),
+            1 => JoyRead::Frame(place),
+            2 => JoyRead::Again,
+            3 => JoyRead::NoDevice,
+            4 => JoyRead::Closed,
+            5 => JoyRead::Full,
+            _ => JoyRead::More,
+        }
+    }
+
+    /// How the buttons and axes stand, as the joystick client's records tell.
+    pub fn picture(&mut self) -> Picture {
+        let mut picture = Picture { buttons: 0, axes: [0; 64] };
+        // SAFETY: both are places of their own. A device is kept, so no other status comes than 0.
+        let _ = unsafe { sys::inputplay_joy_picture(&mut self.handle, &mut picture) };
+        picture
+    }
+
     /// Injects the SYN_REPORT that ends a frame.
     pub fn report(&mut self, now: u64) -> Result<u32, Error> {
         self.inject(EV_SYN, 0, 0, now)
@@ -192,6 +274,14 @@ impl Device {
     pub fn events(&mut self) -> Events<'_> {
         let mode = if self.reader_state().1 == Phase::Plain { Mode::Normal } else { Mode::Sync };
         Events { device: self, mode }
+    }
+
+    /// The call of this number, from 0, that the reader's start or its last `next` made, if it made so many.
+    pub fn reader_call(&mut self, index: usize) -> Option<(Step, Reply)> {
+        let (mut step, mut reply) = (Step::default(), Reply::default());
+        // SAFETY: all are places of their own.
+        let status = unsafe { sys::inputplay_reader_call(&mut self.handle, index, &mut step, &mut reply) };
+        check(status).ok().map(|()| (step, reply))
     }
 
     /// Has the reader synchronise before its next event.

@@ -21,10 +21,10 @@ mod errors;
 mod record;
 mod sys;
 
-pub use device::{Client, Device, Events, Mode, Next, Phase, EV_ABS, EV_KEY, EV_LED, EV_SW, EV_SYN, NO_CLIENT};
+pub use device::{Client, Device, Events, JoyRead, Mode, Next, Phase, EV_ABS, EV_KEY, EV_LED, EV_SW, EV_SYN, NO_CLIENT};
 pub use errors::{Cause, Error, NotMade, Refusal};
 pub use record::Record;
-pub use sys::{Event, Info as Axis, Reply, Step};
+pub use sys::{Event, Info as Axis, Picture, Reply, Stamped, Step};
 
 /// Whether the library that was linked has the interface that this crate is written for.
 pub fn is_right_version() -> bool {

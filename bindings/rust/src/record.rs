@@ -26,6 +26,36 @@ impl Record {
         // SAFETY: the bytes are as many as it says, and the handle is a place of its own.
         check(unsafe { sys::inputplay_record_load(&mut self.handle, line, bytes.as_ptr(), bytes.len()) })
     }
+
+    /// Copies the name of the file that a stream line names, as much as fits, and gives how many bytes it has; `None` where
+    /// the line takes no stream.
+    pub fn file(&mut self, line: u32, out: &mut [u8]) -> Option<usize> {
+        let mut len = 0;
+        // SAFETY: the array is as long as it says, and the others are places of their own.
+        let status = unsafe {
+            sys::inputplay_record_file(&mut self.handle, line, out.as_mut_ptr(), out.len(), &mut len)
+        };
+        (status == 0).then_some(len)
+    }
+
+    /// Makes the record's text in the newest version its text, and gives how many bytes it has.
+    pub fn migrate(&mut self) -> Result<usize, Error> {
+        let mut len = 0;
+        // SAFETY: both are places of their own.
+        check(unsafe { sys::inputplay_record_migrate(&mut self.handle, &mut len) })?;
+        Ok(len)
+    }
+
+    /// Copies the text that was made last, from a byte on, as much as fits, and gives how many bytes there are from there on;
+    /// `None` where it has fewer.
+    pub fn text(&mut self, from: usize, out: &mut [u8]) -> Option<usize> {
+        let mut left = 0;
+        // SAFETY: the array is as long as it says, and the others are places of their own.
+        let status = unsafe {
+            sys::inputplay_record_text(&mut self.handle, from, out.as_mut_ptr(), out.len(), &mut left)
+        };
+        (status == 0).then_some(left)
+    }
 }
 
 impl Drop for Record {

@@ -1,6 +1,8 @@
 //! The library through this crate: a flooded reader, a grab, refusals, and a whole record.
 
-use inputplay::{Cause, Device, Error, Mode, Next, NotMade, Phase, Record, Refusal, EV_ABS, EV_KEY};
+use inputplay::{
+    Cause, Device, Error, JoyRead, Mode, Next, NotMade, Phase, Record, Refusal, Stamped, EV_ABS, EV_KEY,
+};
 
 const PAD: &str = "inputrecord 1\ndevice pad\ncap EV_KEY KEY_A\naxis ABS_X 0 0 255 0 0 0\nlog 1000\nsource s\n";
 const KEY_A: u16 = 30;
@@ -19,6 +21,8 @@ fn a_reader_synchronises_after_a_loss() {
     }
     assert!(matches!(pad.next(Mode::Normal), Next::Dropped(_)));
     assert_eq!(pad.reader_state().1, Phase::Needed);
+    assert_eq!(pad.reader_call(0).map(|(step, reply)| (step.step, reply.reply)), Some((4, 2)));
+    assert_eq!(pad.reader_call(1), None);
     let last = pad.events().last();
     assert!(last.is_some());
     assert_eq!(pad.value(EV_KEY, KEY_A), Some(1));
@@ -57,6 +61,40 @@ fn a_record_takes_the_bytes_of_its_streams() {
     assert_eq!(record.load(1, &[]), Err(Error::BadArgument));
     assert_eq!(record.load(0, &[0; 23]), Err(Error::BadStream));
     assert_eq!(record.load(0, &[0; 24]), Ok(()));
+    let mut name = [0; 8];
+    assert_eq!((record.file(0, &mut name), &name), (Some(4), b"keys\0\0\0\0"));
+    assert_eq!(record.file(1, &mut name), None);
+}
+
+#[test]
+fn a_record_is_migrated() {
+    let mut record = Record::new(PAD).unwrap();
+    let len = record.migrate().unwrap();
+    let mut text = [0; 15];
+    assert_eq!(record.text(0, &mut text), Some(len));
+    assert_eq!(&text, b"inputrecord 2\nd");
+}
+
+#[test]
+fn many_events_are_injected_in_order() {
+    let mut pad = Device::new(PAD, 0).unwrap();
+    pad.start_reader().unwrap();
+    let press = Stamped { kind: EV_KEY, code: KEY_A, value: 1, now: 7 };
+    assert_eq!(pad.inject_all(&[press, Stamped { now: 8, ..Stamped::default() }]), Ok(2));
+    assert_eq!(pad.events().map(|event| (event.code, event.time)).collect::<Vec<_>>(), [(KEY_A, 8), (0, 8)]);
+    assert_eq!(pad.inject_all(&[Stamped { now: u64::MAX, ..press }]), Err(Error::BadArgument));
+    assert_eq!(pad.inject_all(&[press; 1000]).map(|count| count < 1000), Ok(true));
+    assert_eq!(pad.feedback(&mut []), Some(0));
+}
+
+#[test]
+fn a_joystick_hands_out_its_startup() {
+    let mut pad = Device::new(PAD, 0).unwrap();
+    assert_eq!(pad.read_joystick(), JoyRead::Closed);
+    pad.start_joystick().unwrap();
+    assert_eq!(pad.read_joystick(), JoyRead::Record([0, 0, 0, 0, 0, 0, 130, 0]));
+    assert_eq!(pad.read_joystick(), JoyRead::Again);
+    assert_eq!(pad.picture().axes[0], 0);
 }
 
 #[test]

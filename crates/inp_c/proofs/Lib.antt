@@ -3,3 +3,6 @@ mod Pointer
 mod Copying
 mod ReadByStep
 mod Along
+mod Timely
+mod Rest
+mod Fed

@@ -8,7 +8,14 @@ pub mod Told
 pub mod Status
 pub mod Stepping
 pub mod ReaderCalls
+pub mod ToldStep
 pub mod Viewing
+pub mod Injecting
+pub mod Feeding
+pub mod Joystick
 pub mod Making
 pub mod Loading
+pub mod Streams
+pub mod Texts
+pub mod Migrating
 pub mod Naming

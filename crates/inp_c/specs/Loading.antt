@@ -41,3 +41,4 @@ pub record IsToldLoad (before after : Option Kept) (line : ℕ) (bytes : List �
   pub events : events_at old.recorded line bytes ≡ Some stamps
   pub recorded : new.recorded ≡ with_stream old.recorded line stamps
   pub marked : new.loaded.items ≡ slice_set old.loaded.items index true
+  pub text : new.text ≡ old.text

@@ -1,5 +1,5 @@
 -- Devices and records that are made of a text, and what C is told of a text that is none.
-use Rattle.std.specs.Prelude.{◌≡◌, ◌≢◌, ◌<◌, ◌≤◌, ℕ, false, List, length, replicate, slice_get, Option, Some, None, Result, Ok, Err}
+use Rattle.std.specs.Prelude.{◌≡◌, ◌≢◌, ◌<◌, ◌≤◌, ℕ, false, List, [], length, replicate, slice_get, Option, Some, None, Result, Ok, Err}
 use Rattle.inp_edge.specs.declared.input.TheConstants.{INPUT_LIMIT}
 use Rattle.inp_actors.specs.Record.{RecordView}
 use Rattle.inp_actors.specs.declared.device_text.DeviceText.{DeviceText}
@@ -11,7 +11,7 @@ use Rattle.inp_c.specs.declared.kept_device.KeptDevice.{KeptDevice}
 use Rattle.inp_c.specs.declared.kept_record.KeptRecord.{KeptRecord}
 use Rattle.inp_c.specs.declared.status.TheConstants.{OK, REFUSED, BAD_ARGUMENT, TOO_LONG, IN_USE}
 use Rattle.inp_c.specs.Cause.{cause_number}
-use Rattle.inp_c.specs.Fresh.{fresh_udev, IsFreshReader}
+use Rattle.inp_c.specs.Fresh.{fresh_udev, IsFreshReader, IsFreshJoy}
 
 -- the text is refused: this is the first line that has no meaning, and the number of its cause
 pub record IsRefusedText (text : List ℕ) (line cause : ℕ) : Type 0 where
@@ -48,7 +48,8 @@ pub record IsMakingAnswer (before : Option Kept) (text : List ℕ) (status line 
   pub no_line : status ≢ REFUSED → line ≡ 0
   pub no_cause : status ≢ REFUSED → cause ≡ 0
 
--- what is kept is the device of this number of a record, with a history that is empty and a reader that has not started
+-- what is kept is the device of this number of a record, with a history that is empty, and a reader and a joystick client that
+-- have not started
 pub record IsDeviceKept (recorded : RecordView) (number : ℕ) (after : Option Kept) : Type 0 where
   pub text : DeviceText
   pub device : KeptDevice
@@ -56,6 +57,7 @@ pub record IsDeviceKept (recorded : RecordView) (number : ℕ) (after : Option K
   pub is : after ≡ Some (Device device)
   pub udev : device.udev ≡ fresh_udev text.caps
   pub reader : IsFreshReader text.caps device.reader
+  pub joy : IsFreshJoy text.caps device.joy
 
 -- a text is a record, and what is kept is its device of this number
 pub record IsDeviceMade (text : List ℕ) (number : ℕ) (after : Option Kept) : Type 0 where
@@ -69,12 +71,13 @@ pub record LacksDevice (text : List ℕ) (number : ℕ) : Type 0 where
   pub means : meaning text ≡ Ok recorded
   pub past_end : length recorded.devices ≤ number
 
--- what is kept is this record, none of whose streams has its bytes
+-- what is kept is this record, none of whose streams has its bytes, and no text was made of it
 pub record IsRecordKept (recorded : RecordView) (after : Option Kept) : Type 0 where
   pub kept : KeptRecord
   pub is : after ≡ Some (Record kept)
   pub recorded_is : kept.recorded ≡ recorded
   pub none_loaded : kept.loaded.items ≡ replicate (length recorded.streams) false
+  pub no_text : kept.text.items ≡ []
 
 -- a text is a record, and it is kept
 pub record IsRecordMade (text : List ℕ) (after : Option Kept) : Type 0 where

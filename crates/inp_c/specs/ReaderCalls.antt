@@ -30,6 +30,7 @@ pub record IsKeptStart (old new : KeptDevice) (answer : Started) : Type 0 where
   pub left : LeavesMade (seen_by_reader old.udev) (seen_by_reader new.udev) new.reader.made
   pub agains : new.udev.agains ≡ old.udev.agains
   pub description : new.udev.description ≡ old.udev.description
+  pub joy : new.joy ≡ old.joy
 
 -- The reader went on: its calls on the device are those of its next event, and this is its answer.
 pub record IsKeptNext (old new : KeptDevice) (mode : Mode) (answer : Next) : Type 0 where
@@ -37,6 +38,7 @@ pub record IsKeptNext (old new : KeptDevice) (mode : Mode) (answer : Next) : Typ
   pub left : LeavesMade (seen_by_reader old.udev) (seen_by_reader new.udev) new.reader.made
   pub agains : new.udev.agains ≡ agains_after_next answer old.udev.agains
   pub description : new.udev.description ≡ old.udev.description
+  pub joy : new.joy ≡ old.joy
 
 -- the mode of this number
 abbrev pub mode_numbered : ℕ → Option Mode
@@ -102,3 +104,4 @@ pub record IsForced (before after : Option Kept) : Type 0 where
   pub is : after ≡ Some (Device new)
   pub reader : new.reader ≡ record old.reader { reading = with_sync_needed old.reader.reading }
   pub udev : new.udev ≡ old.udev
+  pub joy : new.joy ≡ old.joy

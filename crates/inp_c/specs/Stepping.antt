@@ -23,13 +23,14 @@ abbrev pub read_count : Reply → ℕ
 read_count (Took at count) = count
 read_count _ = 0
 
--- A kept device made the step with this answer, which is the one-thread device's, and its reader stays.
+-- A kept device made the step with this answer, which is the one-thread device's, and its reader and joystick client stay.
 pub record IsDeviceAnswer (old new : KeptDevice) (x : Step) (given : Answer) : Type 0 where
   pub exact : IsAnswer old.udev.description (steps_in old.udev.kept) x given
   pub kept : new.udev.kept ≡ kept_after_step given.reply x old.udev.kept
   pub description : new.udev.description ≡ old.udev.description
   pub agains : new.udev.agains ≡ agains_after given.reply old.udev.agains
   pub reader : new.reader ≡ old.reader
+  pub joy : new.joy ≡ old.joy
 
 -- The same, with the buffer for events and C's array of values, to whose fronts the answer is written.
 pub record IsKeptStep (old new : KeptDevice) (x : Step) (reply : Reply) (cells new_cells : List ℤ) : Type 0 where

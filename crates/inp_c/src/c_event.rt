@@ -1,9 +1,9 @@
 //! An event, as C has it.
 ghost use Rattle.std.specs.Prelude.{◌≡◌, ◌≤◌, length, map};
 ghost use Rattle.inp_model.specs.Reply.{written};
-ghost use Rattle.inp_c.specs.Told.{told_event};
+ghost use Rattle.inp_c.specs.Told.{told_event, told_untimed};
 
-use inp_model::Taken;
+use inp_model::{Event, Taken};
 use std::mem::size_of;
 
 /// An event as a client reads it.
@@ -35,6 +35,17 @@ pub(crate) fn c_event(taken: Taken) -> CEvent
         time: taken.time,
         place: taken.place,
     }
+}
+
+/// An event without a time, as C has it.
+pub(crate) fn untimed(event: Event) -> CEvent
+    ensures { result ≡ told_untimed event }
+{
+    c_event(Taken {
+        event,
+        time: 0,
+        place: 0,
+    })
 }
 
 /// Copies events to the front of C's array.

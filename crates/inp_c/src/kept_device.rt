@@ -1,28 +1,37 @@
 //! A device, as a handle keeps it.
-ghost use Rattle.std.specs.Prelude.{◌≡◌, ◌≤◌, length, vec_len, IfOk};
+ghost use Rattle.std.specs.Prelude.{◌≡◌, ◌≤◌, true, length, map, vec_len, IfOk};
 ghost use Rattle.inp_model.specs.declared.stamped.TheConstants.{MOMENT_MAX};
 ghost use Rattle.inp_model.specs.Step.{moment_of};
 ghost use Rattle.inp_actors.specs.declared.command.TheConstants.{READ_MAX};
 
+use crate::c_stamped::{CStamped, copy_stamps};
 use inp_actors::READ_MAX;
 use inp_caps::Caps;
-use inp_model::{EV_SYN, Event, NoMemory, Reply, SYN_REPORT, Step, Taken};
+use inp_joy::{Joy, JoyRead};
+use inp_model::{EV_SYN, Event, Injected, NoMemory, Reply, SYN_REPORT, Stamped, Step, Taken};
 use inp_reader::{Mode, Next, Reader, Started};
 use inp_uinput::Udev;
 use std::alloc::Global;
 
-/// What the places of a new buffer hold.
+/// What the places of new buffers hold.
+const NO_EVENT: Event = Event {
+    kind: EV_SYN,
+    code: SYN_REPORT,
+    value: 0,
+};
+
 const NOTHING: Taken = Taken {
-    event: Event {
-        kind: EV_SYN,
-        code: SYN_REPORT,
-        value: 0,
-    },
+    event: NO_EVENT,
     time: 0,
     place: 0,
 };
 
-/// A device with its reader, and a buffer for what a step reads.
+const NO_STAMP: Stamped = Stamped {
+    event: NO_EVENT,
+    now: 0,
+};
+
+/// A device with its reader and its joystick client, a buffer for what a step reads, and one for events to be injected.
 #[derive(Drop)]
 pub struct KeptDevice {
     /// The device.
@@ -31,25 +40,42 @@ pub struct KeptDevice {
     pub out: Vec<Taken>,
     /// The reader, which is of the device's description.
     pub reader: Reader,
+    /// The joystick client, which is of the device's description.
+    pub joy: Joy,
+    /// The buffer that events to be injected are written to.
+    pub stamps: Vec<Stamped>,
     ghost out_len: { vec_len out ≡ READ_MAX },
+    ghost stamps_len: { vec_len stamps ≡ READ_MAX },
     ghost same: { reader.description ≡ udev.description },
+    ghost same_joy: { joy.description ≡ udev.description },
 }
 
 impl KeptDevice {
     ghost use Rattle.inp_model.specs.Reply.{HasRoom};
     ghost use Rattle.inp_c.specs.Stepping.{IsKeptStep};
     ghost use Rattle.inp_c.specs.ReaderCalls.{IsKeptStart, IsKeptNext};
-    ghost use Rattle.inp_c.specs.Fresh.{fresh_udev, IsFreshReader};
+    ghost use Rattle.inp_c.specs.Fresh.{fresh_udev, IsFreshReader, IsFreshJoy};
+    ghost use Rattle.inp_c.specs.Injecting.{stamped_of_c, are_timely, IsKeptInjectAll};
+    ghost use Rattle.inp_c.specs.Joystick.{IsKeptJoyStart, IsKeptJoyRead};
 
     /// A device of this description that keeps nothing yet, with a reader that has not started.
     pub(crate) fn new(alloc: Global, caps: Caps) -> Result<KeptDevice, NoMemory>
         ensures udev { IfOk result (λ kept. kept.udev ≡ fresh_udev caps) }
         ensures reader { IfOk result (λ kept. IsFreshReader caps kept.reader) }
+        ensures joy { IfOk result (λ kept. IsFreshJoy caps kept.joy) }
     {
         let out = vec![in alloc; NOTHING; READ_MAX as usize]?;
+        let stamps = vec![in alloc; NO_STAMP; READ_MAX as usize]?;
         let reader = Reader::new(alloc, &caps)?;
+        let joy = Joy::new(alloc, &caps)?;
         let udev = Udev::new(alloc, caps)?;
-        Ok(KeptDevice { udev, out, reader })
+        Ok(KeptDevice {
+            udev,
+            out,
+            reader,
+            joy,
+            stamps,
+        })
     }
 
     /// Makes a step. What it reads stands in the buffer.
@@ -59,6 +85,16 @@ impl KeptDevice {
         ensures { IsKeptStep self.old self.new step result cells.old cells.new }
     {
         self.udev.step(step, &mut self.out, cells)
+    }
+
+    /// Injects events, each at its own moment.
+    pub(crate) fn inject_all(&mut self, events: &[CStamped]) -> Injected
+        requires few { length events.now ≤ READ_MAX }
+        requires timely { are_timely events.now ≡ true }
+        ensures { IsKeptInjectAll self.old self.new (map stamped_of_c events.now) result }
+    {
+        copy_stamps(events, &mut self.stamps);
+        self.udev.inject_all(&self.stamps[..events.len()])
     }
 
     /// Starts the reader.
@@ -73,5 +109,19 @@ impl KeptDevice {
         ensures { IsKeptNext self.old self.new mode result }
     {
         self.reader.next(&mut self.udev, mode)
+    }
+
+    /// Starts the joystick client.
+    pub(crate) fn joy_start(&mut self) -> Started
+        ensures { IsKeptJoyStart self.old self.new result }
+    {
+        self.joy.start(&mut self.udev)
+    }
+
+    /// The joystick client's next record or answer.
+    pub(crate) fn joy_read(&mut self, record_out: &mut [u8; 8]) -> JoyRead
+        ensures { IsKeptJoyRead self.old self.new result record_out.old record_out.new }
+    {
+        self.joy.read(&mut self.udev, record_out)
     }
 }

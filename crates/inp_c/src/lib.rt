@@ -4,9 +4,8 @@
 //! (`tools/build --library`); `include/inputplay.h` declares what it exports, and docs/LIBRARY.md says how it is used. The
 //! crate has no rule of its own: each export hands what C passes to a function of a crate below, and tells what came of it.
 //!
-//! C holds a [`Handle`](handle::Handle), which begins as zeros. It keeps nothing, or a device with its reader, a record, or
-//! the bytes of a report. Each export takes what it keeps, a box, and puts it back; [`inputplay_free`](free::inputplay_free)
-//! frees it.
+//! C holds a [`Handle`](handle::Handle), which begins as zeros. It keeps nothing, or a device with its reader, or a record
+//! with its text. Each export takes what it keeps, a box, and puts it back; [`inputplay_free`](free::inputplay_free) frees it.
 //!
 //! Its contract speaks of the contents of the handle (`specs/Contents.antt`). Each export says by its clauses which status it
 //! answers, what it leaves in the handle and what it writes, exactly: `status` is an equation, or says of each status when it
@@ -20,22 +19,31 @@
 mod bytes;
 mod c_event;
 mod c_info;
+mod c_picture;
 mod c_reply;
+mod c_stamped;
 mod c_step;
 mod cause;
+mod feeding;
 mod free;
 mod handle;
+mod injecting;
+mod joystick;
 mod kept;
 mod kept_device;
 mod kept_record;
 mod loading;
 mod loose;
 mod making;
+mod migrating;
 mod naming;
 mod parsing;
 mod parts;
 mod reading;
 mod status;
+mod step_told;
 mod stepping;
+mod streams;
+mod texts;
 mod version;
 mod viewing;

@@ -95,7 +95,13 @@ fn keep_record(alloc: Global, recorded: Record, handle: &mut Handle) -> u32
     let Ok(loaded) = vec![in alloc; false; recorded.stream_count()] else {
         return NO_MEMORY;
     };
-    match Box::new(alloc, Kept::Record(KeptRecord { recorded, loaded })) {
+    let text = Vec::new(alloc);
+    let record = KeptRecord {
+        recorded,
+        loaded,
+        text,
+    };
+    match Box::new(alloc, Kept::Record(record)) {
         Ok(kept) => {
             *handle = Handle::of(kept);
             OK

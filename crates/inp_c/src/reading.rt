@@ -3,14 +3,12 @@ ghost use Rattle.std.specs.Prelude.{◌≡◌, ◌≢◌, Some};
 ghost use Rattle.inp_c.specs.Contents.{contents};
 ghost use Rattle.inp_c.specs.Status.{device_status};
 ghost use Rattle.inp_c.specs.ReaderCalls.{IsToldStart, IsToldNext, IsForced, mode_numbered, start_refusal, next_number, next_event, next_status};
-ghost use Rattle.inp_c.specs.Told.{told_untimed};
 
-use crate::c_event::{CEvent, c_event};
+use crate::c_event::{CEvent, c_event, untimed};
 use crate::c_reply::number_of;
 use crate::handle::Handle;
 use crate::kept::Kept;
 use crate::status::{BAD_ARGUMENT, BAD_HANDLE, OK};
-use inp_model::{Event, Taken};
 use inp_reader::{Mode, Next, Started};
 use std::alloc::Global;
 
@@ -55,7 +53,7 @@ fn start_in(kept: &mut Kept, client: &mut u32, why: &mut u32) -> u32
 }
 
 /// Why a start was refused, or 0.
-fn start_refusal(started: Started) -> u32
+pub(crate) fn start_refusal(started: Started) -> u32
     ensures { result ≡ start_refusal started }
 {
     match started {
@@ -144,17 +142,6 @@ fn next_event(next: Next, had: CEvent) -> CEvent
         Next::Sync { event } => untimed(event),
         _ => had,
     }
-}
-
-/// A synthesised event, as C has it.
-fn untimed(event: Event) -> CEvent
-    ensures { result ≡ told_untimed event }
-{
-    c_event(Taken {
-        event,
-        time: 0,
-        place: 0,
-    })
 }
 
 /// Makes the reader synchronise before its next event.

@@ -9,4 +9,5 @@ returns-clause-made c = λ _. record {
   is = refl;
   reader = c.force_sync.ensures.needed;
   udev = refl;
+  joy = refl;
 }
