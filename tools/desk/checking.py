@@ -7,11 +7,11 @@ from desk.command import Wrong
 from desk.expectations import AT_END, FLAG_KINDS, expectations_of
 from desk.places import Places
 from desk.played import play
-from desk.program import PLAYED, folder_of
+from desk.program import PLAYED
 from desk.recordfile import read_text
 from desk.reportlines import Line, Report, without_history
 from desk.slips import refusal_text
-from desk.source import as_file, shown
+from desk.source import Given
 
 LOST = ("EV_SYN", "SYN_DROPPED")
 OF_A_VIEW = (AT_END, "agrees")
@@ -39,10 +39,10 @@ class Played:
     """A record that was played once, with its history."""
 
     def __init__(self, path, player):
-        self.name, self.player, self.folder, self.path = shown(path), player, folder_of(path), as_file(path)
-        self.text = read_text(self.path)
+        self.given, self.player = Given(path), player
+        self.name, self.folder, self.text = self.given.name, self.given.folder, read_text(self.given.path)
         self.expectations = expectations_of(self.text)
-        self.status, self.written = player.play(self.path, self.folder, ["--history"])
+        self.status, self.written = player.play(self.given.path, self.folder, ["--history"])
         self.report, self.places = None, {}
         if self.status in PLAYED:
             self.report = Report(self.written)
@@ -72,7 +72,7 @@ class Played:
     def client(self, name):
         """A client, as it was compared with its device."""
         if self.devices is None:
-            self.devices = play(self.path, self.player)
+            self.devices = play(self.given, self.player)
         return next(each for device in self.devices for each in device.readers() if each.name == name)
 
 

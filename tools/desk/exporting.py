@@ -26,15 +26,15 @@ class Source:
     """The device of a record that is exported, its sources' events in the order of the record, and notes on
     what is left out."""
 
-    def __init__(self, path, folder, text, chosen):
-        self.path, self.folder = path, folder
+    def __init__(self, given, text, chosen):
+        self.path, self.folder = given.name, given.folder
         lines = text.split("\n")
         try:
             recordings = parse(text)
         except Wrong as wrong:
-            raise Wrong(f"{path}: {wrong}") from None
+            raise Wrong(f"{self.path}: {wrong}") from None
         names = [recording.device.name for recording in recordings]
-        self.number = index_of(path, names, chosen)
+        self.number = index_of(self.path, names, chosen)
         self.device, self.notes, self.events = recordings[self.number].device, [], []
         self.left_out = {}
         roles = self.sources_of(lines)

@@ -19,7 +19,6 @@ import tempfile
 from desk.command import Wrong
 from desk.progress import progress
 from desk.recordfile import stream_names
-from desk.source import folder_of  # noqa: F401  (who plays a record needs its folder)
 
 REPOSITORY = os.path.dirname(os.path.dirname(os.path.dirname(os.path.abspath(__file__))))
 BUILT = os.path.join(REPOSITORY, "crates", "inp_main", "out", "inp_main")
