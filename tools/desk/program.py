@@ -37,7 +37,6 @@ TOOLCHAIN_LINES = ("checked: ", "races: ", "run=", "interpreter: ")
 LAST_LINE = re.compile(r"^run=([a-z-]+)(?: status=(\d+))?.*proved=no$")
 BUILD = "build the program with bin/inputplay, which plays it at once"
 TOO_LONG = re.compile(r"more than \d+ bytes|the limit on each|standard output")
-TOO_SLOW = re.compile(r"seconds|did not end|time")
 
 
 class Player:
