@@ -3,7 +3,7 @@
 import os
 
 from desk.belief import thing_text
-from desk.command import Wrong
+from desk.command import Wrong, counted
 from desk.expectations import AT_END, FLAG_KINDS, expectations_of
 from desk.places import Places
 from desk.played import play
@@ -220,11 +220,7 @@ def of_takes(played, expectation, part):
     if any(is_such(expectation, line) for line in part.sight):
         return Outcome(expectation)
     events = sum(line.words[0] in ("took", "made", "fed") for line in part.sight)
-    return Outcome(expectation, *played.end(part), f"it did not come among {events_text(events)}")
-
-
-def events_text(count):
-    return f"{count} event{'' if count == 1 else 's'}"
+    return Outcome(expectation, *played.end(part), f"it did not come among {counted(events, 'event')}")
 
 
 def of_drops(played, expectation, part):

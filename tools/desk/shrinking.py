@@ -12,10 +12,11 @@ import shutil
 import subprocess
 import tempfile
 
-from desk.command import Wrong
+from desk.command import Wrong, counted
 from desk.expectations import words_of as words_of_expectation
 from desk.exporting import stream_events
 from desk.names import event_text
+from desk.progress import progress
 from desk.recordfile import RECORD_SIZES, stream_names, words_of
 
 PLACE = "{}"
@@ -131,8 +132,9 @@ def shorter(parts, keeps, tell):
     return parts
 
 
-def shrink(given, text, words, seconds, says=None, tell=lambda what, count, runs: None):
-    """The short record's text, the status, and how many runs there were. `tell` is told how far it is."""
+def shrink(given, text, words, seconds, says=None):
+    """The short record's text, the status, and how many runs there were."""
+    progress.tell("the command is run on the whole record")
     with tempfile.TemporaryDirectory(prefix="shrink") as folder:
         command = Command(words, given, os.path.realpath(folder), seconds, says)
         wanted = command.end(text)
@@ -153,10 +155,15 @@ def shrink(given, text, words, seconds, says=None, tell=lambda what, count, runs
         if not keeps(text_of([lines])):
             return text, status, command.runs
         lines = lines_of_streams(given, lines, keeps)
-        parts = shorter(frames_of(lines), keeps, lambda count: tell("frames", count, command.runs))
-        parts = [[line] for part in parts for line in part]
-        parts = shorter(parts, keeps, lambda count: tell("lines", count, command.runs))
-        return text_of(parts), status, command.runs
+        for what, parts_of in (("frames", frames_of), ("lines", lambda lines: [[line] for line in lines])):
+            parts = shorter(parts_of(lines), keeps, lambda count: tell(what, count, command.runs))
+            lines = [line for part in parts for line in part]
+        return text_of([lines]), status, command.runs
+
+
+def tell(what, count, runs):
+    """Says how far it is."""
+    progress.tell(f"{count} {what} are left, {counted(runs, 'run')}")
 
 
 def lines_of_streams(given, lines, keeps):
