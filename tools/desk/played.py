@@ -123,7 +123,6 @@ def play(given, player):
     status, written = player.play(given.path, folder, ["--history"])
     if status not in PLAYED:
         raise Wrong(f"{given.name}: {refusal_text(text, written, status, folder)}")
-    progress.tell(f"{given.name}: its report of {len(written)} bytes is read")
     record, report = Record(text), read_report(written)
     add_parts_behind(report, parts_behind(written), record)
     histories = [device.history for device in report]
