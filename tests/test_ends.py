@@ -7,7 +7,7 @@ import subprocess
 import sys
 import time
 
-from desk_cases import DATA, PROGRAM, TOOLS, TOP, DeskCase, needs_program
+from desk_cases import DATA, PROGRAM, TOOLS, TOP, DeskCase, heed_stops, needs_program
 
 RECORD, OTHER = TOP / "examples" / "stuck_key.rec", TOP / "examples" / "one_key.rec"
 CAPTURE = DATA / "lid.evtest"
@@ -88,7 +88,7 @@ class Stopped(EndsCase):
         """The status and the last line of a tool that is stopped while a program runs."""
         started = subprocess.Popen(
             [sys.executable, TOOLS / tool, *words], env={**os.environ, "INPUTPLAY": str(program)}, text=True,
-            stdout=subprocess.PIPE, stderr=subprocess.PIPE, start_new_session=True,
+            stdout=subprocess.PIPE, stderr=subprocess.PIPE, start_new_session=True, preexec_fn=heed_stops,
         )
         self.wait_for(self.folder / "runs")
         os.killpg(started.pid, signal.SIGINT)
@@ -118,7 +118,8 @@ class Stopped(EndsCase):
     def test_while_a_tool_starts(self):
         """What the tools share is loaded first, and from then on a stop is told by no traceback."""
         text = "import os, signal, sys; sys.path.insert(0, sys.argv[1]); import desk; os.kill(os.getpid(), signal.SIGINT)"
-        done = subprocess.run([sys.executable, "-Bc", text, TOOLS], capture_output=True, text=True, check=False)
+        words = [sys.executable, "-Bc", text, TOOLS]
+        done = subprocess.run(words, capture_output=True, text=True, check=False, preexec_fn=heed_stops)
         self.assertEqual((-signal.SIGINT, "", ""), (done.returncode, done.stdout, done.stderr))
 
     def test_where_a_stop_is_ignored(self):
