@@ -10,6 +10,8 @@ distance: where it changes from one pair to the next, the times differ.
 import bisect
 from itertools import groupby
 
+from desk.progress import progress
+
 # So many entries of an actor may be left over; what follows is told as one difference.
 GREATEST_DISTANCE = 500
 
@@ -198,6 +200,7 @@ class Parts:
     """An actor's entries in both reports, in pairs: (first, second), one of both None where it has no other."""
 
     def __init__(self, first, second):
+        progress.tell(f"what {first.name} saw is compared")
         one, other = items_of(first), items_of(second)
         self.device = first.device.name if first.device else None
         self.name, self.same, self.others = first.name, [], []
