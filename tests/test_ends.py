@@ -60,9 +60,16 @@ class Output(EndsCase):
     def test_a_full_device(self):
         self.each(self.all, self.fails_on_a_full_device)
 
-    def test_help_on_a_full_device(self):
+    def test_help(self):
+        """It tells how the tool ends."""
+        def tells(tool, words):
+            status, text, said = self.run_tool(tool, *words)
+            self.assertEqual((0, []), (status, said))
+            for end in ("Status", "2", "stdout failed" if tool == "play" else "standard output failed", "130: stopped"):
+                self.assertIn(end, " ".join(text.split()))
+
         helps = sorted({(tool, ("--help",)) for tool, _ in self.all})
-        self.each(helps, lambda tool, words: self.assertEqual(0, self.run_tool(tool, *words)[0]))
+        self.each(helps, tells)
         self.each(helps, self.fails_on_a_full_device)
 
     def test_a_closed_output(self):
