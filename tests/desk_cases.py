@@ -4,6 +4,7 @@ import contextlib
 import importlib.util
 import io
 import os
+import signal
 import struct
 import subprocess
 import sys
@@ -23,6 +24,11 @@ def load(tool):
     module = importlib.util.module_from_spec(importlib.util.spec_from_loader(loader.name, loader))
     loader.exec_module(module)
     return module
+
+
+def heed_stops():
+    """For a new process: a stop from the keyboard is not ignored, as it is behind `&` in a script."""
+    signal.signal(signal.SIGINT, signal.SIG_DFL)
 
 
 def raw_events(data, size=24):

@@ -30,9 +30,11 @@ class Desk(FolderCase):
         last = came.stdout.splitlines()[-1]
         found = re.fullmatch(r"(\d+) runs \(2 random, 2 captures, 2 mutated\), none that fails", last)
         self.assertTrue(found, last)
-        self.assertEqual(int(found[1]), sum(int(line.split()[0]) for line in came.stdout.splitlines()[:-1]))
+        *ends, parts, _ = came.stdout.splitlines()
+        self.assertEqual(int(found[1]), sum(int(line.split()[0]) for line in ends))
+        self.assertRegex(parts, r"^of the random records \d have filters, \d have joysticks, \d have an owner$")
         for tool in ("play", "stuck", "draw", "check", "compare", "export", "describe", "record"):
-            self.assertRegex(came.stdout, rf"\b{tool} +status \d\n")
+            self.assertRegex(came.stdout, rf"\b{tool} +status \d +\d+\.\d s\n")
 
     def test_what_fails(self):
         fails = load().what_fails

@@ -8,13 +8,21 @@ from html.parser import HTMLParser
 
 from desk_cases import PROGRAM, TOP, DeskCase
 
-from desk.paper import COLOURS, RULES, UPON
+from desk.paper import COLOURS, RULES
 
 EXAMPLES = TOP / "examples"
 RECORDS = TOP / "tests" / "records"
 SVG = "{http://www.w3.org/2000/svg}"
 VOID = ("meta", "input")
 ENV = {**os.environ, "INPUTPLAY": PROGRAM}
+
+# What a rule draws with, and what it is drawn upon. (Bars of `open` and `contact` have marks upon them.)
+UPON = {
+    "paper": ("faint", "ink", "device", "second", "held", "read", "ask", "loss", "grab", "mask", "revoked",
+              "parted", "eaten"),
+    "open": ("read", "ask", "loss", "grab", "mask", "ink", "eaten"),
+    "contact": ("device", "second"),
+}
 
 
 class Balanced(HTMLParser):

@@ -1,6 +1,7 @@
 """bin/inputplay and tools/install: the program by its name, built where it is not there; in a tree of its own."""
 
 import os
+import pty
 import shutil
 import subprocess
 
@@ -79,6 +80,18 @@ class Inputplay(TreeCase):
         # and once
         self.run_tree("bin/inputplay", "x.rec")
         self.assertEqual(4, len(self.asked_for()))
+
+    def test_how_far_a_build_is_stands_on_a_terminal(self):
+        terminal, other = pty.openpty()
+        self.addCleanup(os.close, terminal)
+        env = {**os.environ, "PATH": self.path, "ASKED": str(self.asked), "FAILS": ""}
+        words = [self.tree / "bin" / "inputplay", "x.rec"]
+        done = subprocess.run(words, env=env, cwd=self.folder, stdout=subprocess.PIPE, stderr=other, check=False)
+        os.close(other)
+        said = os.read(terminal, 65536).decode().replace("\x1b[K", "")
+        self.assertEqual((6, b"played: x.rec\n"), (done.returncode, done.stdout), said)
+        self.assertIn("\rinputplay: 0 of 4 crates are built, 0:00: low\r", said)
+        self.assertTrue(said.endswith("\r"), said)
 
     def test_a_build_that_fails(self):
         status, written, lines = self.run_tree("bin/inputplay", "x.rec", FAILS="middle")

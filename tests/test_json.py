@@ -34,16 +34,18 @@ def causes():
 
 class Page(PlayCase):
     def check(self, name, texts, common=()):
-        """The objects of these texts are those that the section tells."""
-        told, found = fields(name), set()
+        """The objects of these texts are those that the section tells. What it tells and none of them has, as
+        (kind, field), or as a kind alone."""
+        told, found = fields(name), {}
         for text in texts:
             for line in text.splitlines():
                 each = json.loads(line)
                 kind = each.pop("kind")
-                found.add(kind)
+                found.setdefault(kind, set()).update(each)
                 more = {*each} - told[kind] - {*common}
                 self.assertEqual(set(), more, f"{name}: {kind}: {line}")
-        return set(told) - found
+        missing = {(kind, field) for kind in found for field in told[kind] - found[kind]}
+        return missing | (set(told) - set(found))
 
     def test_play(self):
         letter = self.file("letter.rec", "dear all\n")

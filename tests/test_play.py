@@ -10,7 +10,7 @@ import struct
 import subprocess
 import time
 
-from desk_cases import PROGRAM, TOOLS, TOP, DeskCase, needs_program
+from desk_cases import PROGRAM, TOOLS, TOP, DeskCase, heed_stops, needs_program
 from desk.slips import SLIPS
 
 EXAMPLES = TOP / "examples"
@@ -257,6 +257,7 @@ class Words(PlayCase):
                     stderr=subprocess.PIPE,
                     text=True,
                     start_new_session=True,
+                    preexec_fn=heed_stops,
                 )
                 time.sleep(1)
                 os.killpg(started.pid, signal.SIGINT)

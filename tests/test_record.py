@@ -656,6 +656,13 @@ class Parts(DeskCase):
         first = "the first that is not is EV_KEY KEY_A 1 at 0.001000 s"
         self.assertIn(f"test: 2 of 4 events as captured; {first}", said)
 
+    def test_verify_goes_on_behind_an_event_that_came_otherwise(self):
+        """A frame has one time: of a capture that has two in one an event comes later, and the others as captured."""
+        events = [(0, 1, 30, 1), (10, 0, 0, 0), *((time + 1000, *rest) for time, *rest in frames([(1, 30, 0)], [(1, 30, 1)]))]
+        said = self.noted(1, self.file("odd", KEYS + evtest_text(events)))
+        first = "the first that is not is EV_KEY KEY_A 1 at 0.000000 s"
+        self.assertIn(f"test: 5 of 6 events as captured; {first}; 1 event came that was not captured", said)
+
     def noted(self, wanted, *words):
         """The last note of a record that is verified."""
         status, text, lines = self.tool("record", *words, "--verify")

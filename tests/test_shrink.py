@@ -24,7 +24,7 @@ class Shrink(DeskCase):
 
     def test_a_command_that_looks_at_the_text(self):
         """No program is needed for that."""
-        text = self.shrunk(RECORD, "grep", "-q", "event 7 EV_KEY KEY_B", note="of 44 lines 1 line are left")
+        text = self.shrunk(RECORD, "grep", "-q", "event 7 EV_KEY KEY_B", note="1 of 44 lines is left")
         self.assertEqual("do s event 7 EV_KEY KEY_B 1\n", text)
 
     def test_braces_stand_for_the_record(self):

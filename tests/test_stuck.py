@@ -7,10 +7,13 @@ import random
 import re
 import stat
 import subprocess
+from unittest import mock
 
 from desk_cases import PROGRAM, TOOLS, TOP, DeskCase, needs_program
 from desk.played import play
 from desk.program import Player
+from desk.progress import Progress
+from desk.source import Given
 
 EXAMPLES, RECORDS = TOP / "examples", TOP / "tests" / "records"
 KEYBOARD = """inputrecord 1
@@ -485,7 +488,7 @@ class Filters(StuckCase):
         for seed in range(12):
             with self.subTest(seed):
                 text = random_filtered(random.Random(seed))
-                played = play(self.file("case.rec", text), Player())[0]
+                played = play(Given(self.file("case.rec", text)), Player())[0]
                 frames = played.state.frames
                 left = [e for f in frames for e, by in zip(f.events, f.eaten) if by is None and e[0] != "EV_SYN"]
                 taken = [entry[3] for entry in played.clients[0].part.sight if entry[0] == "took"]
@@ -732,6 +735,19 @@ device kbd steps """
     def test_a_file_that_is_no_record(self):
         made = "make a record of it with tools/record"
         self.refused("stuck", TOP / "tests" / "data" / "lid.evtest", because=f"this is what evtest prints: {made}")
+
+    def test_how_far_it_is(self):
+        """Of a long record each part of the work says what it is, and how much of it is done."""
+        told = []
+        tell = mock.patch.object(Progress, "tell", lambda _, *words: told.append(words))
+        with tell, mock.patch("desk.report.TOLD_EVERY", 20), mock.patch("desk.partings.TOLD_EVERY", 5):
+            self.written("stuck", EXAMPLES / "stuck_key.rec")
+        whole = subprocess.run([PROGRAM, "--history", EXAMPLES / "stuck_key.rec"], capture_output=True, check=True)
+        lines = len(whole.stdout.splitlines())
+        self.assertEqual(("stuck_key.rec is played",), told[0])
+        self.assertEqual([("the report is read, line", done, lines) for done in range(0, lines, 20)], told[1 : 1 - -lines // 20])
+        compared = [words[1:] for words in told if words[0] == "desktop is compared with its device, entry"]
+        self.assertEqual([(0, 12), (5, 12), (10, 12)], compared)
 
     def test_waiting_is_told_on_a_terminal_alone(self):
         needs_program(self)

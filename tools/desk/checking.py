@@ -3,15 +3,15 @@
 import os
 
 from desk.belief import thing_text
-from desk.command import Wrong
+from desk.command import Wrong, counted
 from desk.expectations import AT_END, FLAG_KINDS, expectations_of
 from desk.places import Places
 from desk.played import play
-from desk.program import PLAYED, folder_of
+from desk.program import PLAYED
 from desk.recordfile import read_text
 from desk.reportlines import Line, Report, without_history
 from desk.slips import refusal_text
-from desk.source import as_file, shown
+from desk.source import Given
 
 LOST = ("EV_SYN", "SYN_DROPPED")
 OF_A_VIEW = (AT_END, "agrees")
@@ -39,10 +39,10 @@ class Played:
     """A record that was played once, with its history."""
 
     def __init__(self, path, player):
-        self.name, self.player, self.folder, self.path = shown(path), player, folder_of(path), as_file(path)
-        self.text = read_text(self.path)
+        self.given, self.player = Given(path), player
+        self.name, self.folder, self.text = self.given.name, self.given.folder, read_text(self.given.path)
         self.expectations = expectations_of(self.text)
-        self.status, self.written = player.play(self.path, self.folder, ["--history"])
+        self.status, self.written = player.play(self.given.path, self.folder, ["--history"])
         self.report, self.places = None, {}
         if self.status in PLAYED:
             self.report = Report(self.written)
@@ -72,7 +72,7 @@ class Played:
     def client(self, name):
         """A client, as it was compared with its device."""
         if self.devices is None:
-            self.devices = play(self.path, self.player)
+            self.devices = play(self.given, self.player)
         return next(each for device in self.devices for each in device.readers() if each.name == name)
 
 
@@ -220,11 +220,7 @@ def of_takes(played, expectation, part):
     if any(is_such(expectation, line) for line in part.sight):
         return Outcome(expectation)
     events = sum(line.words[0] in ("took", "made", "fed") for line in part.sight)
-    return Outcome(expectation, *played.end(part), f"it did not come among {events_text(events)}")
-
-
-def events_text(count):
-    return f"{count} event{'' if count == 1 else 's'}"
+    return Outcome(expectation, *played.end(part), f"it did not come among {counted(events, 'event')}")
 
 
 def of_drops(played, expectation, part):

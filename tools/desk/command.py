@@ -2,6 +2,7 @@
 
 import argparse
 import os
+import signal
 import sys
 
 from desk.progress import progress
@@ -22,6 +23,11 @@ class Words(argparse.ArgumentParser):
     def error(self, message):
         raise Wrong(message)
 
+    def print_help(self, file=None):
+        status = write(self.prog, self.format_help())
+        if status:
+            sys.exit(status)
+
 
 def say(program, text):
     """One line on standard error, whatever characters a file's own names have."""
@@ -38,6 +44,8 @@ def say(program, text):
 def write(program, text):
     """Writes a text to standard output; the status of the command's end."""
     progress.clear()
+    if not text:
+        return 0
     if sys.stdout is None:
         say(program, "standard output is closed")
         return CUT_OFF
@@ -60,16 +68,31 @@ def forget_output():
     os.dup2(os.open(os.devnull, os.O_WRONLY), sys.stdout.fileno())
 
 
-def ends(program, body):
-    """Does what a command does, and ends in its status: that which it gives, 2 for wrong input, and 130 where
-    it is stopped from the keyboard."""
-    progress.begin(program)
+def stop_by(handler):
+    """What a stop from the keyboard does from now on. Where it is ignored it stays so."""
+    if signal.getsignal(signal.SIGINT) is not signal.SIG_IGN:
+        signal.signal(signal.SIGINT, handler)
+
+
+def status_of(program, body):
+    """The status of what a command does: that which it gives, or 2 for wrong input."""
     try:
-        status = body()
+        return body()
     except Wrong as wrong:
         say(program, str(wrong))
-        status = WRONG
+        return WRONG
+
+
+def ends(program, body):
+    """Does what a command does, and ends in its status: 130 where it is stopped from the keyboard. Before and
+    behind that a stop ends the process at once."""
+    progress.begin(program)
+    try:
+        stop_by(signal.default_int_handler)
+        status = status_of(program, body)
+        stop_by(signal.SIG_DFL)
     except KeyboardInterrupt:
+        stop_by(signal.SIG_DFL)
         say(program, "stopped")
         status = STOPPED
     progress.end()

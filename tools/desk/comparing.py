@@ -10,6 +10,8 @@ distance: where it changes from one pair to the next, the times differ.
 import bisect
 from itertools import groupby
 
+from desk.progress import progress
+
 # So many entries of an actor may be left over; what follows is told as one difference.
 GREATEST_DISTANCE = 500
 
@@ -119,37 +121,37 @@ def pairs_of(first, second):
 def shortest(first, second):
     """The same for what differs at both ends: the shortest way through both lists, by steps that leave one over.
     Beyond a distance the rest is not paired."""
-    furthest, trace = {1: 0}, []
-    for distance in range(min(len(first) + len(second), GREATEST_DISTANCE) + 1):
-        trace.append(dict(furthest))
-        for line in range(-distance, distance + 1, 2):
-            at = furthest[before(furthest, line, distance)] + (before(furthest, line, distance) < line)
-            while at < len(first) and at - line < len(second) and first[at] == second[at - line]:
-                at += 1
+    most = min(len(first) + len(second), GREATEST_DISTANCE)
+    # (how far the way goes on each diagonal, the middle one being that of equal indices)
+    middle, furthest, trace = most + 1, [-1] * (2 * most + 3), []
+    furthest[middle + 1] = 0
+    for distance in range(most + 1):
+        trace.append(furthest[middle - distance - 1 : middle + distance + 2])
+        for line in range(middle - distance, middle + distance + 1, 2):
+            at = max(furthest[line + 1], furthest[line - 1] + 1)
+            other = at - line + middle
+            while at < len(first) and other < len(second) and first[at] == second[other]:
+                at, other = at + 1, other + 1
             furthest[line] = at
-            if at >= len(first) and at - line >= len(second):
+            if at >= len(first) and other >= len(second):
                 return way_back(trace, len(first), len(second)), True
-    within = [line for line, at in furthest.items() if at <= len(first) and 0 <= at - line <= len(second)]
-    line = max(within, key=lambda line: 2 * furthest[line] - line)
-    return way_back(trace, furthest[line], furthest[line] - line), False
-
-
-def before(furthest, line, distance):
-    """The diagonal from which the way to another one comes."""
-    is_from_above = line == -distance or (line != distance and furthest[line - 1] < furthest[line + 1])
-    return line + 1 if is_from_above else line - 1
+    ends = [(furthest[line], furthest[line] - line + middle) for line in range(middle - most, middle + most + 1, 2)]
+    within = [(at, other) for at, other in ends if at <= len(first) and 0 <= other <= len(second)]
+    return way_back(trace, *max(within, key=sum)), False
 
 
 def way_back(trace, at, other):
     """The pairs on the way that ends at two indices."""
     pairs = []
     for distance in range(len(trace) - 1, -1, -1):
-        came = before(trace[distance], at - other, distance)
-        begin = trace[distance][came]
-        while at > begin and other > begin - came:
+        furthest, line = trace[distance], at - other + distance + 1
+        is_from_above = furthest[line - 1] < furthest[line + 1]
+        begin = furthest[line + 1 if is_from_above else line - 1]
+        left = begin - (at - other) - (1 if is_from_above else -1)
+        while at > begin and other > left:
             at, other = at - 1, other - 1
             pairs.append((at, other))
-        at, other = begin, begin - came
+        at, other = begin, left
     return pairs[::-1]
 
 
@@ -198,6 +200,7 @@ class Parts:
     """An actor's entries in both reports, in pairs: (first, second), one of both None where it has no other."""
 
     def __init__(self, first, second):
+        progress.tell(f"what {first.name} saw is compared")
         one, other = items_of(first), items_of(second)
         self.device = first.device.name if first.device else None
         self.name, self.same, self.others = first.name, [], []

@@ -13,7 +13,7 @@ from desk.files import read_bytes
 from desk.names import ABS, KEY, LED, SW, SYN, TYPES, code_text, kind_text, number_of_code, number_of_kind
 from desk.recording import GREATEST, LEAST, Event
 from desk.recordfile import RECORD_SIZES, words_of
-from desk.recordlines import DEVICE_WORDS, ROLES, parse
+from desk.recordlines import DEVICE_WORDS, parse
 
 # How many bytes of bits evemu writes of a type, from which on the kernel has no more codes.
 COUNTS = {SYN: 0x10, KEY: 0x300, 2: 0x10, ABS: 0x40, 4: 8, 0x15: 0x80, SW: 0x11, LED: 0x10, 0x12: 8, 0x14: 2}
@@ -26,15 +26,15 @@ class Source:
     """The device of a record that is exported, its sources' events in the order of the record, and notes on
     what is left out."""
 
-    def __init__(self, path, folder, text, chosen):
-        self.path, self.folder = path, folder
+    def __init__(self, given, text, chosen):
+        self.path, self.folder = given.name, given.folder
         lines = text.split("\n")
         try:
             recordings = parse(text)
         except Wrong as wrong:
-            raise Wrong(f"{path}: {wrong}") from None
+            raise Wrong(f"{self.path}: {wrong}") from None
         names = [recording.device.name for recording in recordings]
-        self.number = index_of(path, names, chosen)
+        self.number = index_of(self.path, names, chosen)
         self.device, self.notes, self.events = recordings[self.number].device, [], []
         self.left_out = {}
         roles = self.sources_of(lines)

@@ -4,6 +4,7 @@ import re
 
 from desk import evemu, evtest, kinds, libinput, procfs, raw, recordlines, source
 from desk.command import Wrong
+from desk.progress import progress
 
 # The first that recognises a text reads it.
 FORMS = [
@@ -51,11 +52,13 @@ def refuse_other_kinds(data):
 
 def read(path, chosen=None, raw_size=None):
     """The recording of a file, the chosen one where it has several."""
+    progress.tell(f"{source.shown(path)} is read")
     return told_of(path, lambda: choose(recordings_of(read_bytes(path), raw_size), chosen))
 
 
 def read_all(path):
     """All recordings of a file."""
+    progress.tell(f"{source.shown(path)} is read")
     return told_of(path, lambda: recordings_of(read_bytes(path)))
 
 

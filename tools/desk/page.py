@@ -8,6 +8,7 @@ from desk.lanes import Lanes, sections_between
 from desk.pagescript import SCRIPT
 from desk.paper import style
 from desk.picture import AXIS, height_of, no_picture, panes, picture
+from desk.progress import progress
 from desk.scale import WIDTH, Scale
 from desk.shapes import mark_shape
 from desk.told import device_lines
@@ -85,6 +86,7 @@ class DevicePart:
     def both_ways(self, begin, end, ranges=()):
         """A picture over places and one over moments; the page shows one of them."""
         rows, said = sections_between(self.sections, begin, end), self.said(begin, end)
+        progress.tell(f"{said[0]} is drawn")
         parts = []
         for kind, is_over_time in (("place", False), ("time", True)):
             scale, ident = Scale(begin, end, self.moments, is_over_time), f"{self.ident}-{begin}-{end}-{kind}"

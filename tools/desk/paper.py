@@ -13,14 +13,6 @@ COLOURS = {
     "parted": ("#c92a61", "#f47ba4"), "eaten": ("#0b7285", "#4fc4d6"),
 }
 
-# What a rule draws with, and what it is drawn upon. (Bars of `open` and `contact` have marks upon them.)
-UPON = {
-    "paper": ("faint", "ink", "device", "second", "held", "read", "ask", "loss", "grab", "mask", "revoked",
-              "parted", "eaten"),
-    "open": ("read", "ask", "loss", "grab", "mask", "ink", "eaten"),
-    "contact": ("device", "second"),
-}
-
 RULES = """text { font: 11px sans-serif; fill: var(--ink) } text.faint { fill: var(--faint) } text.number {
 font-size: 10px; fill: var(--device) } text.second { stroke: none; fill: var(--second); font-size: 10px }
 .heading { font-weight: bold } .paper { fill: var(--paper) } .grid { stroke: var(--grid) } .rule { stroke:

@@ -64,7 +64,7 @@ class Walk:
         `at_end`."""
         for number, entry in enumerate(self.part.sight):
             if number % TOLD_EVERY == 0:
-                progress.tell(f"{self.part.name} is compared with its device", number, len(self.part.sight))
+                progress.tell(f"{self.part.name} is compared with its device, entry", number, len(self.part.sight))
             getattr(self, "see_" + entry[0])(number, *entry[1:])
         self.check()
         return self.finish(len(self.part.sight))

@@ -11,13 +11,11 @@ from desk.command import Wrong
 from desk.joysticks import JoyWalk
 from desk.owners import Owner
 from desk.partings import Walk
-from desk.program import PLAYED, folder_of
+from desk.program import PLAYED
 from desk.progress import progress
 from desk.recordfile import RECORD_SIZES, Record, read_text
 from desk.report import parts_behind, read_report
 from desk.slips import refusal_text
-from desk.source import as_file, shown
-
 
 # The command by which an actor reads all that is queued.
 READS = {"client": "follow", "tap": "read 4096", "joy": "read 100000"}
@@ -119,20 +117,17 @@ def add_parts_behind(devices, parts, record):
         (device.joysticks if part.role == "joy" else device.owners).append(part)
 
 
-def play(path, player):
+def play(given, player):
     """Plays a record and asks for its devices' states; the played devices."""
-    folder, name = folder_of(path), shown(path)
-    path = as_file(path)
-    text = read_text(path)
-    status, written = player.play(path, folder, ["--history"])
+    text, folder = read_text(given.path), given.folder
+    status, written = player.play(given.path, folder, ["--history"])
     if status not in PLAYED:
-        raise Wrong(f"{name}: {refusal_text(text, written, status, folder)}")
-    progress.tell(f"{name}: its report of {len(written)} bytes is read")
+        raise Wrong(f"{given.name}: {refusal_text(text, written, status, folder)}")
     record, report = Record(text), read_report(written)
     add_parts_behind(report, parts_behind(written), record)
     histories = [device.history for device in report]
     states = [devicestate.DeviceState(*pair) for pair in zip(record.devices, histories)]
-    progress.tell(f"{name}: the devices are played alone, {sum(map(len, histories))} steps")
+    progress.tell(f"{given.name}: the devices are played alone, {sum(map(len, histories))} steps")
     devicestate.ask(states, player)
     unread = Unread(text, record, folder, player, report)
     steps = [source_steps(record, number, device.history, folder) for number, device in enumerate(report)]

@@ -19,7 +19,6 @@ import tempfile
 from desk.command import Wrong
 from desk.progress import progress
 from desk.recordfile import stream_names
-from desk.source import folder_of  # noqa: F401  (who plays a record needs its folder)
 
 REPOSITORY = os.path.dirname(os.path.dirname(os.path.dirname(os.path.abspath(__file__))))
 BUILT = os.path.join(REPOSITORY, "crates", "inp_main", "out", "inp_main")
@@ -38,7 +37,6 @@ TOOLCHAIN_LINES = ("checked: ", "races: ", "run=", "interpreter: ")
 LAST_LINE = re.compile(r"^run=([a-z-]+)(?: status=(\d+))?.*proved=no$")
 BUILD = "build the program with bin/inputplay, which plays it at once"
 TOO_LONG = re.compile(r"more than \d+ bytes|the limit on each|standard output")
-TOO_SLOW = re.compile(r"seconds|did not end|time")
 
 
 class Player:

@@ -24,7 +24,7 @@ class Progress:
     def tell(self, what, done=None, total=None):
         """What is done now, and how much of it."""
         self.what = what
-        self.share = f", {done} of {total}" if total else ""
+        self.share = f" {done} of {total}" if total else ""
         if self.thread is None and sys.stderr is not None and sys.stderr.isatty():
             self.thread = threading.Thread(target=self.show_on, daemon=True)
             self.thread.start()

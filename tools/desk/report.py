@@ -4,6 +4,11 @@ The lines of a report are described in docs/FORMATS.md, "The report". Events are
 value), types and codes as they are written and the value as a number; all other words stay words.
 """
 
+from desk.progress import progress
+
+# How many lines are read between two words of how far it is.
+TOLD_EVERY = 65536
+
 VIEW_WORDS = ("keys", "switches", "leds", "buttons", "axes", "current", "slot")
 
 # The actors whose parts stand behind all devices.
@@ -86,8 +91,10 @@ def add_line(devices, words):
 
 def read_report(text):
     """The devices of a report, without the parts that stand behind all of them."""
-    devices = []
-    for line in text.splitlines():
+    devices, lines = [], text.splitlines()
+    for number, line in enumerate(lines):
+        if number % TOLD_EVERY == 0:
+            progress.tell("the report is read, line", number, len(lines))
         words = line.split(" ")
         if words[0] in BEHIND:
             break

@@ -3,7 +3,7 @@
 import json
 from xml.sax.saxutils import escape, quoteattr
 
-from desk.command import Wrong
+from desk.command import Wrong, counted
 from desk.places import seconds_text
 
 
@@ -40,17 +40,13 @@ def plain(text):
     return " ".join(text.split()).encode("ascii", "backslashreplace").decode()
 
 
-def count_text(count, one, several):
-    return f"{count} {one if count == 1 else several}"
-
-
 def lines_for_people(records):
     """A line for each expectation that failed, and one that counts."""
     lines = [f"{name_of(checked, outcome)}: {failure_text(outcome)}"
              for checked in records for outcome in checked.failed()]
     held = sum(outcome.is_held for checked in records for outcome in checked.outcomes)
-    of_all = count_text(held + len(lines), "expectation", "expectations")
-    lines.append(f"{held} of {of_all} held, in {count_text(len(records), 'record', 'records')}")
+    of_all = counted(held + len(lines), "expectation")
+    lines.append(f"{held} of {of_all} held, in {counted(len(records), 'record')}")
     return "".join(plain(line) + "\n" for line in lines)
 
 

@@ -12,10 +12,11 @@ import shutil
 import subprocess
 import tempfile
 
-from desk.command import Wrong
+from desk.command import Wrong, counted
 from desk.expectations import words_of as words_of_expectation
 from desk.exporting import stream_events
 from desk.names import event_text
+from desk.progress import progress
 from desk.recordfile import RECORD_SIZES, stream_names, words_of
 
 PLACE = "{}"
@@ -26,17 +27,16 @@ class Command:
     """The command: its words, `{}` standing for the record, and a folder of its own with the files that the
     record names."""
 
-    def __init__(self, words, path, folder, seconds, says):
+    def __init__(self, words, given, folder, seconds, says):
         self.words = words if any(PLACE in word for word in words) else [*words, PLACE]
         self.says = None if says is None else says.encode()
         self.folder, self.seconds, self.runs = folder, seconds, 0
-        self.path = os.path.join(folder, os.path.basename(path))
-        self.copy_files(path)
+        self.path = os.path.join(folder, os.path.basename(given.path))
+        self.copy_files(given)
 
-    def copy_files(self, path):
-        source = os.path.dirname(os.path.abspath(path))
-        for name in named_files(path):
-            origin, copy = os.path.join(source, name), os.path.join(self.folder, name)
+    def copy_files(self, given):
+        for name in named_files(given.path):
+            origin, copy = os.path.join(given.folder, name), os.path.join(self.folder, name)
             is_inside = os.path.normpath(copy).startswith(self.folder + os.sep)
             if is_inside and os.path.isfile(origin):
                 os.makedirs(os.path.dirname(copy), exist_ok=True)
@@ -132,15 +132,16 @@ def shorter(parts, keeps, tell):
     return parts
 
 
-def shrink(path, text, words, seconds, says=None, tell=lambda what, count, runs: None):
-    """The short record's text, the status, and how many runs there were. `tell` is told how far it is."""
+def shrink(given, text, words, seconds, says=None):
+    """The short record's text, the status, and how many runs there were."""
+    progress.tell("the command is run on the whole record")
     with tempfile.TemporaryDirectory(prefix="shrink") as folder:
-        command = Command(words, path, os.path.realpath(folder), seconds, says)
+        command = Command(words, given, os.path.realpath(folder), seconds, says)
         wanted = command.end(text)
         if not wanted[1]:
-            raise Wrong(f"{path}: the command does not say {says!r}")
+            raise Wrong(f"{given.name}: the command does not say {says!r}")
         if wanted != command.end(text):
-            raise Wrong(f"{path}: the command ends otherwise when it is run again")
+            raise Wrong(f"{given.name}: the command ends otherwise when it is run again")
         status, tried = wanted[0], {}
 
         def keeps(candidate):
@@ -153,19 +154,24 @@ def shrink(path, text, words, seconds, says=None, tell=lambda what, count, runs:
         lines = lines[:-1] if not lines[-1] else lines
         if not keeps(text_of([lines])):
             return text, status, command.runs
-        lines = lines_of_streams(path, lines, keeps)
-        parts = shorter(frames_of(lines), keeps, lambda count: tell("frames", count, command.runs))
-        parts = [[line] for part in parts for line in part]
-        parts = shorter(parts, keeps, lambda count: tell("lines", count, command.runs))
-        return text_of(parts), status, command.runs
+        lines = lines_of_streams(given, lines, keeps)
+        for what, parts_of in (("frames", frames_of), ("lines", lambda lines: [[line] for line in lines])):
+            parts = shorter(parts_of(lines), keeps, lambda count: tell(what, count, command.runs))
+            lines = [line for part in parts for line in part]
+        return text_of([lines]), status, command.runs
 
 
-def lines_of_streams(path, lines, keeps):
+def tell(what, count, runs):
+    """Says how far it is."""
+    progress.tell(f"{count} {what} are left, {counted(runs, 'run')}")
+
+
+def lines_of_streams(given, lines, keeps):
     """The lines with the events of streams in them, where the status stays."""
-    if not stream_names(path):
+    if not stream_names(given.path):
         return lines
     try:
-        opened = with_events(lines, os.path.dirname(os.path.abspath(path)))
+        opened = with_events(lines, given.folder)
     except Wrong:
         return lines
     text = text_of([opened])

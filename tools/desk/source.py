@@ -56,3 +56,11 @@ def folder_of(path):
     """The folder in which a record is played, which has the files of its `stream` lines: for standard input
     the present one."""
     return os.getcwd() if path == INPUT else os.path.dirname(os.path.abspath(path))
+
+
+class Given:
+    """A record that a command is given: the name by which it is told, the folder that has the files which it
+    names, and the file that has it."""
+
+    def __init__(self, path):
+        self.name, self.folder, self.path = shown(path), folder_of(path), as_file(path)

@@ -5,7 +5,8 @@ import shutil
 
 from desk.command import Wrong
 from desk.output import write_bytes
-from desk.program import SOURCE, Player, folder_of
+from desk.program import SOURCE, Player
+from desk.source import folder_of
 
 WITH_VALUE = ("--idle", "--make", "--count")
 

@@ -1,6 +1,7 @@
 """Plays a record that was made, with one reader that follows behind each frame, and says how many events of the
 capture it took as they were captured."""
 
+import bisect
 import copy
 import os
 import tempfile
@@ -37,8 +38,9 @@ def taken_by(text):
     return [(entry[2], *entry[3]) for entry in part.sight if entry[0] == "took"]
 
 
-def as_report(event):
-    return event.time, kind_text(event.kind), code_text(event.kind, event.code), event.value
+def as_report(event, ahead):
+    """An event as a reader takes it whose clock is so far ahead of the moments."""
+    return event.time + ahead, kind_text(event.kind), code_text(event.kind, event.code), event.value
 
 
 def verify(record):
@@ -48,22 +50,30 @@ def verify(record):
     were not captured, and are not counted. Times are told from the first event on.
     """
     events = [(event, frame.was_captured) for frame in record.frames for event in frame.all_events()]
-    came, index, count, missed = taken_by(verifying(record)), 0, 0, None
-    ahead = realtime_of(record)
-    for event, was_captured in events:
-        time, *rest = as_report(event)
-        is_there = index < len(came) and came[index] == (time + ahead, *rest)
-        index += is_there
-        count += is_there and was_captured
-        if not is_there and was_captured and missed is None:
-            missed = event
-    total = sum(was_captured for _, was_captured in events)
-    said = f"{count} of {counted(total, 'event')} as captured"
+    came = taken_by(verifying(record))
+    found = found_in_order([as_report(event, realtime_of(record)) for event, _ in events], came)
+    captured = [(event, is_there) for (event, was_captured), is_there in zip(events, found) if was_captured]
+    missed, count = [event for event, is_there in captured if not is_there], len(captured)
+    said = f"{count - len(missed)} of {counted(count, 'event')} as captured"
     if missed:
-        said += f"; the first that is not is {event_text(missed[1:])} at {seconds(missed.time)}"
-    if index < len(came):
-        said += f"; {counted(len(came) - index, 'event')} came that were not captured"
-    return count == total and index == len(came), f"{record.name}: {said}"
+        said += f"; the first that is not is {event_text(missed[0][1:])} at {seconds(missed[0].time)}"
+    more = len(came) - sum(found)
+    if more:
+        said += f"; {counted(more, 'event')} came that {'was' if more == 1 else 'were'} not captured"
+    return not missed and not more, f"{record.name}: {said}"
+
+
+def found_in_order(wanted, came):
+    """Of each event that is wanted, whether it came, behind those before it."""
+    places, index, found = {}, 0, []
+    for place, event in enumerate(came):
+        places.setdefault(event, []).append(place)
+    for event in wanted:
+        there = places.get(event, [])
+        at = bisect.bisect_left(there, index)
+        found.append(at < len(there))
+        index = there[at] + 1 if found[-1] else index
+    return found
 
 
 def realtime_of(record):

@@ -8,6 +8,7 @@ from desk.command import Wrong
 from desk.description import comments, description_lines, hint_of, slots_of, version_of
 from desk.evtest import WHY_GRABBED
 from desk.names import ABS, SYN, TRACKING_ID, event_text
+from desk.progress import progress
 from desk.readers import DRIVER, Acts
 from desk.recording import Event
 from desk.renamed import hide_keys
@@ -221,6 +222,7 @@ def parts_between_losses(frames):
 
 def record_of(recording, name, readers, options, base=None, driver=DRIVER):
     """The record of a recording's device and its events. `options` are what was asked for of it."""
+    progress.tell(f"the record of {name} is made, of {len(recording.events)} events")
     device = copy.deepcopy(recording.device)
     capture = Capture(recording, device, options.hidden_keys, base)
     if options.hide_keys:
