@@ -2,6 +2,7 @@ pub mod Computing
 pub mod Talks
 pub mod SaysInTurn
 pub mod Queues
+pub mod Runs
 pub mod Axes
 pub mod SaysSessions
 pub mod Synthesising
@@ -24,6 +25,7 @@ pub mod PastsAtCalls
 pub mod StandsAfterTalks
 pub mod Supported
 pub mod SpareAgrees
+pub mod RunsStand
 pub mod Agreeing
 pub mod TalksKeepSpare
 pub mod RefusedStarts

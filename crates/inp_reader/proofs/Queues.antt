@@ -1,6 +1,7 @@
 -- A part of a buffer, from one index to another.
 use Rattle.std.proofs.Common.{◌≡◌, ℕ, suc, ◌+◌, ◌-◌, ◌<◌, ◌≤◌, List, [], ◌∷◌, length, take, drop, get_or, sym, ap, ◌∙◌, arith, IsTrue, nat_eq, add-one, length-drop, length-take, Some}
 use Rattle.std.proofs.lemmas.Bool.Decides.{nat_tests}
+use Rattle.std.proofs.lemmas.List.{drop-drop, drop-take}
 use Rattle.std.proofs.lemmas.Option.{get_or_from_slice_get}
 use Rattle.std.proofs.Math.Seq.{drop-cons}
 use Rattle.std.specs.List.{slice_get}
@@ -28,6 +29,14 @@ no_part buffer first end h =
     let same : first ≡ end = grind (arith, nat_tests, h) in
     let none : end - first ≡ 0 = omega (arith, same) in
     ap (λ n. take n (drop first buffer)) none
+
+-- what is behind the first items of a part
+pub part-rest : {A : Type 0} (buffer : List A) (first end count : ℕ) → count ≤ end - first → take (end - (first + count)) (drop (first + count) buffer) ≡ drop count (take (end - first) (drop first buffer))
+part-rest buffer first end count h =
+    let n : end - first ≡ count + (end - (first + count)) = omega (arith, h) in
+    ap (λ xs. take (end - (first + count)) xs) (sym (drop-drop count first buffer))
+    ∙ sym (drop-take count (end - (first + count)) (drop first buffer))
+    ∙ ap (λ k. drop count (take k (drop first buffer))) (sym n)
 
 pub is_same : (m n : ℕ) → m ≡ n → IsTrue (nat_eq m n)
 is_same m n h = grind (arith, nat_tests, h)

@@ -1,6 +1,6 @@
 -- What a reader keeps, and what `start` and `next` ask and answer (docs/READER.md, "The reader").
-use Rattle.std.specs.Prelude.{ℕ, ◌+◌, ◌-◌, Bool, if◌then◌else◌, nat_lt, List, [], ◌∷◌, ◌++◌, map, filter, Result, Ok, Err}
-use Rattle.std.specs.List.{range_with_len}
+use Rattle.std.specs.Prelude.{ℕ, zero, suc, ◌+◌, ◌-◌, Bool, true, false, if◌then◌else◌, nat_lt, List, [], ◌∷◌, ◌++◌, length, map, filter, drop, Result, Ok, Err}
+use Rattle.std.specs.List.{range_with_len, list_any}
 use Rattle.inp_model.specs.declared.event.TheConstants.{EV_KEY, EV_ABS, EV_SW, EV_LED, ABS_MAX}
 use Rattle.inp_model.specs.declared.multi_touch.TheConstants.{ABS_MT_SLOT, ABS_MT_TOOL_Y}
 use Rattle.inp_model.specs.declared.event.Event.{Event}
@@ -13,7 +13,7 @@ use Rattle.inp_model.specs.declared.reply.Refusal.TheVariants.{BadClient, NoDevi
 use Rattle.inp_model.specs.Description.{Description, has_kind, supports}
 use Rattle.inp_model.specs.Reply.{Answer, is_accepted}
 use Rattle.inp_recon.specs.declared.view.View.{View}
-use Rattle.inp_recon.specs.View.{view_after_event, view_after_answer}
+use Rattle.inp_recon.specs.View.{view_after_event, view_after_events, view_after_answer}
 use Rattle.inp_recon.specs.Synchronised.{is_dropped}
 use Rattle.inp_reader.specs.declared.call_made.CallMade.{CallMade}
 use Rattle.inp_reader.specs.declared.mode.Mode.{Mode}
@@ -142,6 +142,34 @@ read_or_hand_out r (taken ∷ rest) = finish (hand_out_event r taken rest)
 
 unfoldable pub read_talk : Reading → Talk (Next × Reading)
 read_talk r = read_or_hand_out r r.queue
+
+-- Handing out in one go what was read
+
+-- the first events of a queue, at most so many, and none behind a loss
+unfoldable pub first_run : ℕ → List Taken → List Taken
+first_run zero q = []
+first_run (suc most) [] = []
+first_run (suc most) (taken ∷ q) = taken ∷ (if is_dropped taken.event then [] else first_run most q)
+
+abbrev pub is_plain_phase : Phase → Bool
+is_plain_phase Plain = true
+is_plain_phase Needed = false
+is_plain_phase Handing = false
+
+-- what so many `next` in mode Normal would hand out without a call, one after another
+abbrev pub queued_run : ℕ → Reading → List Taken
+queued_run most r = if is_plain_phase r.phase then first_run most r.queue else []
+
+abbrev pub has_loss : List Taken → Bool
+has_loss run = list_any (λ (t : Taken). is_dropped t.event) run
+
+-- this run, the first events of the queue, was handed out
+abbrev pub after_run : Reading → List Taken → Reading
+after_run r run = record r {
+  queue = drop (length run) r.queue;
+  view = view_after_events r.view (map (λ (t : Taken). t.event) run);
+  phase = if has_loss run then Needed else r.phase;
+}
 
 -- Synchronising
 

@@ -57,6 +57,7 @@ mod phase;
 mod queue;
 mod reader;
 mod rows;
+mod run;
 mod session;
 mod started;
 mod stops;

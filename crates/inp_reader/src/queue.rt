@@ -1,5 +1,5 @@
 //! The events that a reader has read and not handed out.
-ghost use Rattle.std.specs.Prelude.{◌≡◌, ◌↔◌, [], ◌∷◌, IsTrue, IfSome, IfNone, length};
+ghost use Rattle.std.specs.Prelude.{◌≡◌, ◌≤◌, ◌↔◌, [], ◌∷◌, drop, IsTrue, IfSome, IfNone, length};
 ghost use Rattle.inp_reader.specs.Asking.{MakesRead};
 
 use inp_model::{Evdev, Event, Reply, Step, Taken};
@@ -75,6 +75,21 @@ impl Queue {
         let first = self.buffer[self.next];
         self.next += 1;
         Some(first)
+    }
+
+    // The events, first to last.
+    pub(crate) fn as_slice(&self) -> &[Taken]
+        ensures { result.now ≡ self.now }
+    {
+        &self.buffer[self.next..self.end]
+    }
+
+    // Drops the first events, so many.
+    pub(crate) fn skip(&mut self, count: usize)
+        requires few { count ≤ length self.old }
+        ensures { self.new ≡ drop count self.old }
+    {
+        self.next += count;
     }
 
     // Reads at most 64 of a client's events into an empty queue.

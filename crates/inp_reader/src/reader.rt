@@ -8,7 +8,8 @@ ghost use Rattle.inp_reader.specs.Leaving.{LeavesMade, agains_after_next};
 ghost use Rattle.inp_reader.specs.Effort.{effort, IsLess, is_idle};
 ghost use Rattle.inp_reader.specs.Standing.{Stands, IsAlone, is_needed, has_opened};
 ghost use Rattle.inp_reader.specs.Showing.{AnswerShows};
-ghost use Rattle.inp_reader.specs.Reading.{start_talk, next_talk, with_sync_needed};
+ghost use Rattle.inp_model.specs.Evdev.{EvdevView};
+ghost use Rattle.inp_reader.specs.Reading.{start_talk, next_talk, queued_run, after_run, with_sync_needed};
 ghost use Rattle.inp_reader.specs.Starting.{client_opened, after_refused_query};
 
 use crate::asker::Asker;
@@ -19,7 +20,7 @@ use crate::session::Session;
 use crate::synthesis::{Synthesis, synthesised_most};
 use crate::{CallMade, Mode, Next, Phase, Started};
 use inp_caps::Caps;
-use inp_model::{Evdev, NoMemory};
+use inp_model::{Evdev, NoMemory, Taken};
 use inp_recon::View;
 use std::alloc::Global;
 use std::marker::Model;
@@ -181,6 +182,29 @@ impl Reader {
     {
         self.session.asker.made.clear();
         self.session.next(dev, &self.caps, mode)
+    }
+
+    /// The events that [`next`](Reader::next) in Normal mode would hand out one after another without a call of the device:
+    /// in phase Plain those that were read and not handed out, at most so many, and none behind a SYN_DROPPED; in another
+    /// phase none.
+    pub fn queued(&self, most: u32) -> &[Taken]
+        ensures run { result.now ≡ queued_run most self.now.reading }
+    {
+        self.session.queued(most)
+    }
+
+    /// Hands out all of [`queued`](Reader::queued) in one go, as so many calls of [`next`](Reader::next) would: the view takes
+    /// these events over, and a SYN_DROPPED, which is the last of them, makes the phase Needed.
+    ///
+    /// It makes no call. A reader that stood at the end of a history stands there still.
+    pub fn take_queued(&mut self, most: u32)
+        ensures reading { self.new.reading ≡ after_run self.old.reading (queued_run most self.old.reading) }
+        ensures made { self.new.made ≡ [] }
+        ensures reader { self.new.description ≡ self.old.description }
+        ensures stands { (told : EvdevView) → Stands told self.old → Stands told self.new }
+    {
+        self.session.asker.made.clear();
+        self.session.take_queued(most);
     }
 
     /// Makes the phase Needed, so that the next call of [`next`](Reader::next) synchronises first (libevdev's

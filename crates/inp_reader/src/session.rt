@@ -2,7 +2,7 @@
 ghost use Rattle.std.specs.Prelude.{◌≡◌, ◌≤◌, ◌<◌, ◌+◌, false, [], ◌++◌, length};
 ghost use Rattle.inp_model.specs.declared.step.Step.TheVariants.{Read};
 ghost use Rattle.inp_reader.specs.Asking.{MakesRead, asked_result};
-ghost use Rattle.inp_reader.specs.Reading.{ask_each, queries, start_talk, after_queries, after_read, read_talk, hand_out, handing, as_plain, after_sync, sync_talk, go_on, go_on_after, plain_talk, next_talk, with_sync_needed};
+ghost use Rattle.inp_reader.specs.Reading.{ask_each, queries, start_talk, after_queries, after_read, first_run, queued_run, after_run, read_talk, hand_out, handing, as_plain, after_sync, sync_talk, go_on, go_on_after, plain_talk, next_talk, with_sync_needed};
 ghost use Rattle.inp_reader.specs.Says.{Says, kept_call};
 ghost use Rattle.inp_reader.specs.Session.{reading_of, IsSession};
 ghost use Rattle.inp_reader.specs.Standing.{is_needed};
@@ -10,11 +10,12 @@ ghost use Rattle.inp_reader.specs.Talk.{ask, finish, and_then};
 
 use crate::asker::Asker;
 use crate::queue::Queue;
+use crate::run::{Run, take_events};
 use crate::stops::{is_dropped, start_stop_of, stop_of};
 use crate::synthesis::Synthesis;
 use crate::{Mode, Next, Phase, Started};
 use inp_caps::Caps;
-use inp_model::{Evdev, Reply, Step};
+use inp_model::{Evdev, Reply, Step, Taken};
 use inp_recon::View;
 
 /// All that a reader keeps but the description.
@@ -55,6 +56,46 @@ impl Session {
                     Next::Success { event }
                 }
             }
+        }
+    }
+
+    // The events that could be handed out without a call, at most so many.
+    pub(crate) fn queued(&self, most: u32) -> &[Taken]
+        ensures run { result.now ≡ queued_run most (reading_of self.now) }
+    {
+        match self.phase {
+            Phase::Plain => {
+                let queue = self.queue.as_slice();
+                &queue[..Run::first(queue, most).count]
+            }
+            Phase::Needed | Phase::Handing => &[],
+        }
+    }
+
+    // Hands them out.
+    pub(crate) fn take_queued(&mut self, most: u32)
+        ensures reading { reading_of self.new ≡ after_run (reading_of self.old) (queued_run most (reading_of self.old)) }
+        ensures asker { self.new.asker ≡ self.old.asker }
+        ensures cells { length self.new.view.cells ≡ length self.old.view.cells }
+    {
+        match self.phase {
+            Phase::Plain => self.take_run(most),
+            Phase::Needed | Phase::Handing => {}
+        }
+    }
+
+    // Hands out the first events of the queue, at most so many, and none behind a loss.
+    fn take_run(&mut self, most: u32)
+        ensures reading { reading_of self.new ≡ after_run (reading_of self.old) (first_run most self.old.queue) }
+        ensures asker { self.new.asker ≡ self.old.asker }
+        ensures cells { length self.new.view.cells ≡ length self.old.view.cells }
+    {
+        let queue = self.queue.as_slice();
+        let run = Run::first(queue, most);
+        take_events(&mut self.view, &queue[..run.count]);
+        self.queue.skip(run.count);
+        if run.is_lost {
+            self.phase = Phase::Needed;
         }
     }
 

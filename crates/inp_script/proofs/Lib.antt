@@ -8,6 +8,7 @@ pub mod Replies
 pub mod Tapping
 pub mod Noted
 pub mod Turns
+pub mod QueuedRuns
 pub mod Rounds
 pub mod Lines
 pub mod Runs

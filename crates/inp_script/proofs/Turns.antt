@@ -59,7 +59,7 @@ patience-idle None ends n h = absurd cc
 patience-idle (Some waiting) ends n h =
     (cond_both (nat_lt ends waiting.sources) _ _ (λ x. x ≡ Some n → n ≡ waiting.idle) (λ _ e. cc) (λ _ e. absurd cc)) h
 
-less_anew : (wait : Option Waiting) (after before agains : ℕ) (progress : Progress) → after < before → progress.agains ≡ 0 → total_effort wait after progress.agains < total_effort wait before agains
+pub less_anew : (wait : Option Waiting) (after before agains : ℕ) (progress : Progress) → after < before → progress.agains ≡ 0 → total_effort wait after progress.agains < total_effort wait before agains
 less_anew wait after before agains progress h e = omega (arith, total-less wait after before agains h, ap (λ (n : ℕ). total_effort wait after n) e)
 
 goes_on-less : (wait : Option Waiting) (left : Option ℕ) (agains : ℕ) (next : Next) (j k : Job) (progress : Progress) (after before : ℕ) → turn_after wait left agains next j ≡ goes_on (going progress k) → IsLess next after before → total_effort wait after progress.agains < total_effort wait before agains

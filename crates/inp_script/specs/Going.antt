@@ -1,5 +1,5 @@
 -- How the progress of a line that hands out events is kept.
-use Rattle.std.specs.Prelude.{◌^◌, ◌<◌}
+use Rattle.std.specs.Prelude.{◌≡◌, ◌^◌, ◌<◌}
 use Rattle.inp_script.specs.declared.client.Progress.{Progress}
 use Rattle.inp_script.specs.declared.client.Turn.{Turn as KeptTurn}
 use Rattle.inp_script.specs.declared.client.Turn.TheVariants.{GoesOn, Ends}
@@ -17,3 +17,8 @@ turn_of Ends j = ends_with j
 abbrev pub IsPatient : KeptTurn → Type 0
 IsPatient (GoesOn progress) = progress.agains < 2 ^ 32
 IsPatient Ends = Unit {0}
+
+-- a line that goes on counts answers Again anew
+abbrev pub IsAnew : KeptTurn → Type 0
+IsAnew (GoesOn progress) = progress.agains ≡ 0
+IsAnew Ends = Unit {0}

@@ -13,6 +13,7 @@ pub mod Fold
 pub mod Joystick
 pub mod Tap
 pub mod Going
+pub mod Handing
 pub mod Effort
 pub mod Reaching
 pub mod RoleState

@@ -1,15 +1,16 @@
 //! What a client does, which reads by a reader.
-ghost use Rattle.std.specs.Prelude.{◌≡◌, ◌<◌, ◌^◌, ℕ, suc, true, OnOk, IfOk, Some};
+ghost use Rattle.std.specs.Prelude.{◌≡◌, ◌<◌, ◌^◌, ℕ, suc, true, OnOk, IfOk, IfSome, IfNone, Some};
 ghost use Rattle.inp_reader.specs.Effort.{effort};
 ghost use Rattle.inp_reader.specs.Reading.{Reading};
-ghost use Rattle.inp_script.specs.Client.{start_job, client_talk, hand_talk, next_round, turn_after, after_again, patience, handed, is_done, one_less, mode_of};
+ghost use Rattle.inp_script.specs.Client.{start_job, client_talk, hand_talk, next_round, rounds, turn_after, after_again, patience, handed, is_done, one_less, mode_of};
 ghost use Rattle.inp_actors.specs.declared.role.Role.TheVariants.{Client};
 ghost use Rattle.inp_actors.specs.Command.{is_command_of, is_in_range};
 ghost use Rattle.inp_script.specs.Doing.{Begins, Holds, HandsOut, DoesClientCommand};
 ghost use Rattle.inp_script.specs.Line.{call_if, step_of};
 ghost use Rattle.inp_script.specs.Job.{Job};
 ghost use Rattle.inp_script.specs.Effort.{total_effort, Shrinks};
-ghost use Rattle.inp_script.specs.Going.{going, turn_of, IsPatient};
+ghost use Rattle.inp_script.specs.Going.{going, turn_of, IsPatient, IsAnew};
+ghost use Rattle.inp_script.specs.Handing.{most_of, less_by, HandsRun, IsAdvanced};
 ghost use Rattle.inp_script.specs.Noting.{job_of};
 
 use crate::notes::Notes;
@@ -82,6 +83,39 @@ fn handed(left: Option<u32>) -> Turn
         Some(n) => Turn::GoesOn {
             progress: Progress {
                 left: Some(n - 1),
+                agains: 0,
+            },
+        },
+    }
+}
+
+// The most events that a line may be handed in one go.
+fn most_of(left: Option<u32>) -> u32
+    ensures { result ≡ most_of left }
+{
+    match left {
+        None => u32::MAX,
+        Some(n) => n.max(1),
+    }
+}
+
+// A line after so many events were handed out.
+fn handed_run(left: Option<u32>, count: usize) -> Turn
+    ensures turn { (j : Job) → handed (less_by count left) j ≡ turn_of result j }
+    ensures patient { IsPatient result }
+    ensures anew { IsAnew result }
+{
+    match left {
+        None => Turn::GoesOn {
+            progress: Progress {
+                left: None,
+                agains: 0,
+            },
+        },
+        Some(n) if n as usize <= count => Turn::Ends,
+        Some(n) => Turn::GoesOn {
+            progress: Progress {
+                left: Some(n - count as u32),
                 agains: 0,
             },
         },
@@ -193,6 +227,57 @@ fn ask_reader<E: Evdev>(
     notes.note_next(wait, progress, next)
 }
 
+// Hands out in one go what a reader has read, up to a loss, where it has anything.
+fn hand_queued(
+    reader: &mut Reader,
+    notes: &mut Notes,
+    left: Option<u32>,
+) -> Result<Option<Turn>, NoMemory>
+    ensures none { IfOk result (λ turn. IfNone turn ((reader.new ≡ reader.old) × (notes.new ≡ notes.old))) }
+    ensures some { IfOk result (λ turn. IfSome turn (λ t. HandsRun left
+        (job_of reader.old.reading notes.old) t (job_of reader.new.reading notes.new))) }
+    ensures reader { reader.new.description ≡ reader.old.description }
+{
+    let most = most_of(left);
+    let run = reader.queued(most);
+    if run.is_empty() {
+        return Ok(None);
+    }
+    let count = run.len();
+    notes.push_taken(run)?;
+    reader.take_queued(most);
+    Ok(Some(handed_run(left, count)))
+}
+
+// Hands out what a reader has read, or else asks it once for its next event.
+fn advance<E: Evdev>(
+    dev: &mut E,
+    reader: &mut Reader,
+    notes: &mut Notes,
+    wait: Option<Waiting>,
+    skips: bool,
+    progress: Progress,
+) -> Result<Turn, NoMemory>
+    requires description { (E.told dev.old).description ≡ reader.old.description }
+    requires patient { progress.agains < 2 ^ 32 }
+    ensures turn { IfOk result (λ turn. IsAdvanced (E.told dev.old) (E.told dev.new)
+        reader.old.description wait skips (going progress (job_of reader.old.reading notes.old))
+        (turn_of turn (job_of reader.new.reading notes.new))) }
+    ensures begun { (n : ℕ) × Begins (E.told dev.old) (E.told dev.new)
+        (rounds reader.old.description wait skips n
+        (going progress (job_of reader.old.reading notes.old))) }
+    ensures patient { IfOk result IsPatient }
+    ensures shrinks { let before = effort (E.told dev.old) reader.old.reading in
+        IfOk result (Shrinks wait (total_effort wait before progress.agains)
+        (effort (E.told dev.new) reader.new.reading)) }
+    ensures reader { reader.new.description ≡ reader.old.description }
+{
+    match hand_queued(reader, notes, progress.left)? {
+        Some(turn) => Ok(turn),
+        None => ask_reader(dev, reader, notes, wait, skips, progress),
+    }
+}
+
 // Asks a reader for its events until the line ends: after so many, where there is a number.
 fn hand_out<E: Evdev>(
     dev: &mut E,
@@ -219,7 +304,7 @@ fn hand_out<E: Evdev>(
         agains: 0,
     };
     loop {
-        match ask_reader(dev, reader, notes, wait, skips, progress)? {
+        match advance(dev, reader, notes, wait, skips, progress)? {
             Turn::GoesOn { progress: next } => progress = next,
             Turn::Ends => return Ok(()),
         }

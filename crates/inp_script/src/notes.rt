@@ -21,7 +21,7 @@ pub(crate) struct Notes {
 
 impl Notes {
     // Adds the events that a call read.
-    fn push_taken(&mut self, events: &[Taken]) -> Result<(), NoMemory>
+    pub(crate) fn push_taken(&mut self, events: &[Taken]) -> Result<(), NoMemory>
         ensures { OnOk result
             (self.new ≡ record self.old { sight = self.old.sight ++ map taken_sight events.now }) }
     {
