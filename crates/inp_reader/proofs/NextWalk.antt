@@ -303,3 +303,8 @@ next-asks-rules d client mode P of = record {
 pub next-asks : (P : Step → Type 0) (d : Description) (mode : Mode) (r : Reading) → OfNext d r.client P → Asks P (next_talk d mode r)
 next-asks P d mode r of =
     meets-asks P (next_talk d mode r) (next-meets (λ (s : Unit {0}) (x : Step). P x) AnyAnswer (λ (s : Unit {0}) (o : Reading). r.client ≡ o.client) (λ (s : Unit {0}) (o : Next × Reading). Unit {0}) d mode (next-asks-rules d r.client mode P of) tt r refl)
+
+-- in phase Plain a `next` hands out the first event of the queue, and makes no call
+pub next-queued : (d : Description) (r : Reading) (t : Taken) (q : List Taken) → r.phase ≡ Plain → r.queue ≡ t ∷ q → next_talk d Normal r ≡ finish (hand_out_event r t q)
+unfolding read_talk
+next-queued d r t q plain queue = ap (λ (p : Phase). talk_in d Normal p r) plain ∙ ap (λ (ts : List Taken). read_or_hand_out r ts) queue

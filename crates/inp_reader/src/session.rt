@@ -76,6 +76,7 @@ impl Session {
     pub(crate) fn take_queued(&mut self, most: u32)
         ensures reading { reading_of self.new ≡ after_run (reading_of self.old) (queued_run most (reading_of self.old)) }
         ensures asker { self.new.asker ≡ self.old.asker }
+        ensures room { self.new.left.room ≡ self.old.left.room }
         ensures cells { length self.new.view.cells ≡ length self.old.view.cells }
     {
         match self.phase {
@@ -88,6 +89,7 @@ impl Session {
     fn take_run(&mut self, most: u32)
         ensures reading { reading_of self.new ≡ after_run (reading_of self.old) (first_run most self.old.queue) }
         ensures asker { self.new.asker ≡ self.old.asker }
+        ensures room { self.new.left.room ≡ self.old.left.room }
         ensures cells { length self.new.view.cells ≡ length self.old.view.cells }
     {
         let queue = self.queue.as_slice();

@@ -10,13 +10,16 @@ use Rattle.inp_model.specs.Leaves.{AreCalls}
 use Rattle.inp_model.specs.Run.{Call}
 use Rattle.inp_recon.specs.View.{view_after_event, view_after_events}
 use Rattle.inp_recon.specs.Synchronised.{is_dropped}
+use Rattle.inp_reader.specs.declared.mode.Mode.{Mode}
+use Rattle.inp_reader.specs.declared.mode.Mode.TheVariants.{Normal}
 use Rattle.inp_reader.specs.declared.next.Next.{Next}
 use Rattle.inp_reader.specs.declared.next.Next.TheVariants.{Success, Dropped}
 use Rattle.inp_reader.specs.declared.phase.Phase.{Phase}
 use Rattle.inp_reader.specs.declared.phase.Phase.TheVariants.{Plain, Needed, Handing}
-use Rattle.inp_reader.specs.Reading.{Reading, first_run, queued_run, after_run, has_loss, hand_out_event, read_or_hand_out, read_talk, next_talk, talk_in, is_plain_phase}
+use Rattle.inp_reader.specs.Reading.{Reading, first_run, queued_run, after_run, has_loss, hand_out_event, next_talk, is_plain_phase}
 use Rattle.inp_reader.specs.Effort.{effort, held_back}
 use Rattle.inp_reader.specs.Talk.{Talk, finish, and_then, LeadsTo}
+use Rattle.inp_reader.proofs.NextWalk.{next-queued}
 use Rattle.inp_reader.proofs.RunsStand.{queue-run}
 use Rattle.inp_script.specs.declared.client.Progress.{Progress}
 use Rattle.inp_script.specs.declared.client.Turn.{Turn as KeptTurn}
@@ -34,10 +37,12 @@ use Rattle.inp_script.proofs.Turns.{less_anew}
 
 -- A round with an event of the queue makes no call
 
-next-queued : (d : Description) (skips : Bool) (r : Reading) (t : Taken) (q : List Taken) → r.phase ≡ Plain → r.queue ≡ t ∷ q → next_talk d (mode_of skips r.phase) r ≡ finish (hand_out_event r t q)
-unfolding read_talk
-next-queued d true r t q plain queue = ap (λ (p : Phase). talk_in d (mode_of true p) p r) plain ∙ ap (λ (ts : List Taken). read_or_hand_out r ts) queue
-next-queued d false r t q plain queue = ap (λ (p : Phase). talk_in d (mode_of false p) p r) plain ∙ ap (λ (ts : List Taken). read_or_hand_out r ts) queue
+mode-plain : (skips : Bool) (phase : Phase) → phase ≡ Plain → mode_of skips phase ≡ Normal
+mode-plain true phase h = ap (λ (p : Phase). mode_of true p) h
+mode-plain false phase h = ap (λ (p : Phase). mode_of false p) h
+
+next-handed : (d : Description) (skips : Bool) (r : Reading) (t : Taken) (q : List Taken) → r.phase ≡ Plain → r.queue ≡ t ∷ q → next_talk d (mode_of skips r.phase) r ≡ finish (hand_out_event r t q)
+next-handed d skips r t q plain queue = ap (λ (mode : Mode). next_talk d mode r) (mode-plain skips r.phase plain) ∙ next-queued d r t q plain queue
 
 -- the job after the first event of the queue
 abbrev with_event : Job → Taken → List Taken → Job
@@ -56,7 +61,7 @@ event-round : (d : Description) (wait : Option Waiting) (skips : Bool) (left : O
 unfolding next_round
 event-round d wait skips left agains j t q plain queue =
     let g : Going = record { job = j; left = left; agains = agains } in
-    ap (λ (talk : Talk (Next × Reading)). and_then (noted talk j.sight) (λ (o : (Next × Reading) × List Sight). finish (after_next wait g o))) (next-queued d skips j.reading t q plain queue)
+    ap (λ (talk : Talk (Next × Reading)). and_then (noted talk j.sight) (λ (o : (Next × Reading) × List Sight). finish (after_next wait g o))) (next-handed d skips j.reading t q plain queue)
     ∙ ap (λ (turn : Turn). finish turn) (after-event wait left agains j t q)
 
 event-rounds : (d : Description) (wait : Option Waiting) (skips : Bool) (left : Option ℕ) (agains n : ℕ) (j : Job) (t : Taken) (q : List Taken) → j.reading.phase ≡ Plain → j.reading.queue ≡ t ∷ q

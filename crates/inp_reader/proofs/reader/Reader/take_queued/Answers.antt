@@ -14,6 +14,7 @@ invariant_of-self c = record {
   asked = ap (λ (a : Asker). length a.view.cells) c.take_queued.ensures.asker ∙ c.self.invariant.asked;
   cells = ap (λ (a : Asker). length a.cells) c.take_queued.ensures.asker ∙ c.self.invariant.cells;
   few = omega (arith, ap (λ (a : Asker). length a.made) c.take_queued.ensures.asker, ap length c.clear.ensures);
+  room = omega (arith, c.self.invariant.room, c.take_queued.ensures.room);
   slots = c.self.invariant.slots;
   described = c.self.invariant.described;
   spare = subst (λ (r : Reading). HasSpare c.self.inside.caps r) (sym c.take_queued.ensures.reading) (keeps-run c.self.inside.caps c.args.most (reading_of c.self.inside.session) c.self.invariant.spare);

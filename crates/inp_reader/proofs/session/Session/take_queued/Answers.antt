@@ -8,5 +8,6 @@ pub returns-in-Needed : goal.returns-in-Needed
 returns-in-Needed c = record {
   reading = no-run c.args.most (reading_of c.args.self.now) (not-plain c.args.self.now.phase c.in-Needed.is);
   asker = refl;
+  room = refl;
   cells = refl;
 }
