@@ -30,7 +30,7 @@ use Rattle.inp_script.specs.declared.waiting.Waiting.{Waiting}
 use Rattle.inp_script.specs.Client.{Going, Turn, goes_on, ends_with, handed, one_less, is_done, mode_of, next_round, after_next, turn_after, with_sight, on_turn, rounds}
 use Rattle.inp_script.specs.Effort.{total_effort, Shrinks}
 use Rattle.inp_script.specs.Going.{turn_of}
-use Rattle.inp_script.specs.Handing.{most_of, less_by, with_run, HandsRun, IsAdvanced}
+use Rattle.inp_script.specs.Handing.{most_of, less_by, job_after_run, HandsRun, IsAdvanced}
 use Rattle.inp_script.specs.Job.{Job}
 use Rattle.inp_script.specs.Sight.{noted, taken_sight}
 use Rattle.inp_script.proofs.Turns.{less_anew}
@@ -76,7 +76,7 @@ run-nothing : (r : Reading) → after_run r [] ≡ r
 unfolding view_after_events
 run-nothing r = refl
 
-job-nothing : (j : Job) → with_run j [] ≡ j
+job-nothing : (j : Job) → job_after_run j [] ≡ j
 job-nothing j =
     ap (λ (r : Reading). record j { reading = r; sight = j.sight ++ [] }) (run-nothing j.reading)
     ∙ ap (λ (sight : List Sight). record j { sight = sight }) (append-nil j.sight)
@@ -140,12 +140,12 @@ fits-goes_on most (Some n) j h =
 
 -- the rounds of a run, behind which so many more may come
 abbrev Takes : Description → Option Waiting → Bool → ℕ → Option ℕ → Job → List Taken → Talk (Option Job) → Type 0
-Takes d wait skips n left j run talk = talk ≡ on_turn (rounds d wait skips n) (handed (less_by (length run) left) (with_run j run))
+Takes d wait skips n left j run talk = talk ≡ on_turn (rounds d wait skips n) (handed (less_by (length run) left) (job_after_run j run))
 
-job-loss : (j : Job) (t : Taken) (q : List Taken) → j.reading.queue ≡ t ∷ q → is_dropped t.event ≡ true → with_event j t q ≡ with_run j (t ∷ [])
+job-loss : (j : Job) (t : Taken) (q : List Taken) → j.reading.queue ≡ t ∷ q → is_dropped t.event ≡ true → with_event j t q ≡ job_after_run j (t ∷ [])
 job-loss j t q queue lost = ap (λ (r : Reading). record j { reading = r; sight = j.sight ++ Took t ∷ [] }) (run-loss j.reading t q queue lost)
 
-job-event : (j : Job) (t : Taken) (q run : List Taken) → j.reading.queue ≡ t ∷ q → is_dropped t.event ≡ false → with_run (with_event j t q) run ≡ with_run j (t ∷ run)
+job-event : (j : Job) (t : Taken) (q run : List Taken) → j.reading.queue ≡ t ∷ q → is_dropped t.event ≡ false → job_after_run (with_event j t q) run ≡ job_after_run j (t ∷ run)
 job-event j t q run queue kept =
     ap (λ (r : Reading). record j { reading = r; sight = (j.sight ++ Took t ∷ []) ++ map taken_sight run }) (run-event j.reading t q run queue kept)
     ∙ ap (λ (sight : List Sight). record j { reading = after_run j.reading (t ∷ run); sight = sight }) (append_assoc j.sight (Took t ∷ []) (map taken_sight run))
@@ -170,7 +170,7 @@ from-event d wait skips n most t q left agains j plain queue rest =
         ap (λ (m : ℕ). rounds d wait skips m here) (let same : suc (length more) + n ≡ suc (length more + n) = omega arith in same)
         ∙ event-rounds d wait skips left agains (length more + n) j t q plain queue
         ∙ rest k (ap (λ (o : Next × Reading). o.1.phase) (hand-kept j.reading t q kept) ∙ plain) (ap (λ (o : Next × Reading). o.1.queue) (hand-kept j.reading t q kept))
-        ∙ ap (λ (l : Option ℕ). on_turn (rounds d wait skips n) (handed l (with_run k more))) (left-more (length more) left)
+        ∙ ap (λ (l : Option ℕ). on_turn (rounds d wait skips n) (handed l (job_after_run k more))) (left-more (length more) left)
         ∙ ap (λ (o : Job). on_turn (rounds d wait skips n) (handed (less_by (suc (length more)) left) o)) (job-event j t q more queue kept))
 
 no-events : (d : Description) (wait : Option Waiting) (skips : Bool) (n : ℕ) (left : Option ℕ) (j : Job) → Takes d wait skips n left j [] (on_turn (rounds d wait skips (0 + n)) (handed left j))

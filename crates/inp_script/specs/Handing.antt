@@ -25,13 +25,13 @@ less_by count None = None
 less_by count (Some n) = Some (n - count)
 
 -- a job that took these events, the first of its reader's queue
-abbrev pub with_run : Job → List Taken → Job
-with_run j run = record j { reading = after_run j.reading run; sight = j.sight ++ map taken_sight run }
+abbrev pub job_after_run : Job → List Taken → Job
+job_after_run j run = record j { reading = after_run j.reading run; sight = j.sight ++ map taken_sight run }
 
 -- A run of events was handed out and noted.
 pub record HandsRun (left : Option ℕ) (old : Job) (turn : KeptTurn) (new : Job) : Type 0 where
   pub some : 1 ≤ length (queued_run (most_of left) old.reading)
-  pub taken : new ≡ with_run old (queued_run (most_of left) old.reading)
+  pub taken : new ≡ job_after_run old (queued_run (most_of left) old.reading)
   pub goes : handed (less_by (length (queued_run (most_of left) old.reading)) left) new ≡ turn_of turn new
   pub patient : IsPatient turn
   pub anew : IsAnew turn
