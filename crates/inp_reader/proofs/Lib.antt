@@ -33,3 +33,4 @@ pub mod ReadCounts
 pub mod LessEffort
 pub mod UseAlone
 pub mod ShowsDevice
+pub mod Rooms
